@@ -1,0 +1,26 @@
+-- A device whose call of a chosen number fails.
+use Rattle.std.specs.Prelude.{◌≡◌, ℕ, ◌+◌, ◌-◌, ◌^◌, ◌==◌, ◌&&◌, Bool, List, IsTrue, min}
+use Rattle.std.specs.List.{concat}
+use Rattle.block_device.specs.Device.{Device, capped, IsRead, IsWritten, run_of, spliced, sectors_of}
+
+-- Over an inner device: left is the number of the call that fails, counted from the next one, and 0 where
+-- none does. What failed calls asked for is counted on top of what the inner device counts.
+abbrev pub failing : Device → ℕ → ℕ → ℕ → ℕ → Device
+failing inner left failed_reads failed_writes failed = record inner {
+  never_fails = (left == 0) && inner.never_fails;
+  reads = capped (inner.reads + failed_reads);
+  writes = capped (inner.writes + failed_writes);
+  failures = capped (inner.failures + failed);
+}
+
+-- a read of the inner device
+pub record IsInnerRead (old : Device) (first n : ℕ) (ok : Bool) (new : Device) (bytes : List ℕ) : Type 0 where
+  pub moved : IsRead old n ok new
+  pub answer : IsTrue ok → IsTrue old.steady → bytes ≡ concat (run_of old.image first n)
+  pub sure : IsTrue old.never_fails → IsTrue ok
+
+-- a write of the inner device
+pub record IsInnerWrite (old : Device) (first n : ℕ) (ok : Bool) (new : Device) (bytes : List ℕ) : Type 0 where
+  pub moved : IsWritten old first n ok new
+  pub image : IsTrue ok → IsTrue old.steady → new.image ≡ spliced old.image first (sectors_of n bytes)
+  pub sure : IsTrue old.never_fails → IsTrue ok

@@ -1,0 +1,61 @@
+// A device of sectors, as the layers above see it.
+ghost use Rattle.std.specs.Prelude.{◌≡◌, ◌≤◌, ◌^◌, ◌/◌, length, is_ok, OnOk, OnErr, IsOk, IsTrue};
+ghost use Rattle.std.specs.List.{concat};
+ghost use Rattle.block_device.specs.Device.{Device, IsInside, IsWhole, IsRead, IsWritten, HasFailed, run_of, spliced, sectors_of};
+
+use thiserror::Error;
+
+/// The device failed in this call, and counted the failure.
+#[derive(Clone, Copy, Debug, PartialEq, Eq, Error)]
+#[error("the device failed")]
+pub struct DeviceFault;
+
+/// A device of 512-byte sectors.
+///
+/// Its counters saturate at the greatest `u64`. After a failed read `out` may hold anything; after a
+/// failed write the sectors of its range may, and no other sector of a steady device is changed.
+pub trait BlockDev {
+    /// What a proof sees of the device.
+    ghost state: { Self → Device };
+
+    /// How many sectors there are. It never changes.
+    fn sectors(&self) -> u64
+        ensures size { result ≡ (state self.now).size }
+        ensures small { result ≤ 2 ^ 54 };
+
+    /// Whether it may be written. It never changes.
+    fn writable(&self) -> bool
+        ensures { result ≡ (state self.now).may_write };
+
+    /// Reads the sectors from `first` on that fill `out`, a positive multiple of 512 bytes.
+    fn read(&mut self, first: u64, out: &mut [u8]) -> Result<(), DeviceFault>
+        requires { IsInside (state self.old) first (length out.old) }
+        ensures moved { IsRead (state self.old) (length out.old / 512) (is_ok result) (state self.new) }
+        ensures bytes { OnOk result (IsTrue (state self.old).steady → out.new ≡ concat (run_of (state self.old).image first (length out.old / 512))) }
+        ensures sure { IsTrue (state self.old).never_fails → IsOk result }
+        ensures fault { OnErr result (HasFailed (state self.old) (state self.new)) };
+
+    /// Writes the sectors from `first` on, a positive multiple of 512 bytes.
+    fn write(&mut self, first: u64, bytes: &[u8]) -> Result<(), DeviceFault>
+        requires range { IsInside (state self.old) first (length bytes.now) }
+        requires allowed { IsTrue (state self.old).may_write }
+        ensures moved { IsWritten (state self.old) first (length bytes.now / 512) (is_ok result) (state self.new) }
+        ensures image { OnOk result (IsTrue (state self.old).steady → (state self.new).image ≡ spliced (state self.old).image first (sectors_of (length bytes.now / 512) bytes.now)) }
+        ensures sure { IsTrue (state self.old).never_fails → IsOk result }
+        ensures fault { OnErr result (HasFailed (state self.old) (state self.new)) };
+
+    /// How many sectors reads have asked for, in failed calls too.
+    fn reads(&self) -> u64
+        ensures { result ≡ (state self.now).reads };
+
+    /// How many sectors writes have asked for, in failed calls too.
+    fn writes(&self) -> u64
+        ensures { result ≡ (state self.now).writes };
+
+    /// How many calls have failed.
+    fn failures(&self) -> u64
+        ensures { result ≡ (state self.now).failures };
+
+    /// The image has as many sectors as the device, each of 512 bytes.
+    ghost whole: { (d : Self) → IsWhole (state d) };
+}

@@ -1,0 +1,104 @@
+// A device that fails once.
+ghost use Rattle.std.specs.Prelude.{◌≡◌, ◌≢◌, ◌/◌, ◌-◌, length, is_ok, IsTrue, IsOk, IsErr, OnOk, OnErr};
+ghost use Rattle.std.specs.List.{concat};
+ghost use Rattle.block_device.specs.Device.{IsInside, IsRead, IsWritten, HasFailed, capped, run_of, spliced, sectors_of};
+ghost use Rattle.block_device.specs.Failing.{failing, IsInnerRead, IsInnerWrite};
+
+use crate::{BlockDev, DeviceFault};
+
+/// The call of read or write of number `left`, counted from 1, fails: it counts one failure and the
+/// sectors asked for, and the inner device isn't asked. Every other call is the inner device's.
+#[derive(Drop)]
+pub struct FailAt<D> {
+    pub inner: D,
+    pub left: u64,
+    pub failed_reads: u64,
+    pub failed_writes: u64,
+    pub failed: u64,
+}
+
+impl<D> FailAt<D> {
+    /// The `k`-th call fails, and none where `k` is 0.
+    pub fn new(inner: D, k: u64) -> FailAt<D>
+        ensures { result ≡ record { inner = inner; left = k; failed_reads = 0; failed_writes = 0; failed = 0 } }
+    {
+        FailAt {
+            inner,
+            left: k,
+            failed_reads: 0,
+            failed_writes: 0,
+            failed: 0,
+        }
+    }
+}
+
+impl<D: BlockDev> BlockDev for FailAt<D> {
+    ghost state = { λ f. failing (D.state f.inner) f.left f.failed_reads f.failed_writes f.failed };
+
+    ghost whole = { λ f. record { length = (D.whole f.inner).length; sectors = (D.whole f.inner).sectors } };
+
+    fn sectors(&self) -> u64 {
+        self.inner.sectors()
+    }
+
+    fn writable(&self) -> bool {
+        self.inner.writable()
+    }
+
+    fn read(&mut self, first: u64, out: &mut [u8]) -> Result<(), DeviceFault>
+        requires { IsInside (⟦<FailAt<D> as BlockDev>⟧.state self.old) first (length out.old) }
+        ensures moved { IsRead (⟦<FailAt<D> as BlockDev>⟧.state self.old) (length out.old / 512) (is_ok result) (⟦<FailAt<D> as BlockDev>⟧.state self.new) }
+        ensures bytes { OnOk result (IsTrue (⟦<FailAt<D> as BlockDev>⟧.state self.old).steady → out.new ≡ concat (run_of (⟦<FailAt<D> as BlockDev>⟧.state self.old).image first (length out.old / 512))) }
+        ensures sure { IsTrue (⟦<FailAt<D> as BlockDev>⟧.state self.old).never_fails → IsOk result }
+        ensures fault { OnErr result (HasFailed (⟦<FailAt<D> as BlockDev>⟧.state self.old) (⟦<FailAt<D> as BlockDev>⟧.state self.new)) }
+
+        // The call that fails leaves the inner device as it was, and every other is the inner device's.
+        ensures fails { self.old.left ≡ 1 → IsErr result × (D.state self.new.inner ≡ D.state self.old.inner) }
+        ensures passes { self.old.left ≢ 1 → IsInnerRead (D.state self.old.inner) first (length out.old / 512) (is_ok result) (D.state self.new.inner) out.new }
+        ensures left { self.new.left ≡ self.old.left - 1 }
+    {
+        if self.left == 1 {
+            self.left = 0;
+            self.failed_reads = self.failed_reads.saturating_add(out.len() as u64 / 512);
+            self.failed = self.failed.saturating_add(1);
+            return Err(DeviceFault);
+        }
+        self.left = self.left.saturating_sub(1);
+        self.inner.read(first, out)
+    }
+
+    fn write(&mut self, first: u64, bytes: &[u8]) -> Result<(), DeviceFault>
+        requires range { IsInside (⟦<FailAt<D> as BlockDev>⟧.state self.old) first (length bytes.now) }
+        requires allowed { IsTrue (⟦<FailAt<D> as BlockDev>⟧.state self.old).may_write }
+        ensures moved { IsWritten (⟦<FailAt<D> as BlockDev>⟧.state self.old) first (length bytes.now / 512) (is_ok result) (⟦<FailAt<D> as BlockDev>⟧.state self.new) }
+        ensures image { OnOk result (IsTrue (⟦<FailAt<D> as BlockDev>⟧.state self.old).steady → (⟦<FailAt<D> as BlockDev>⟧.state self.new).image ≡ spliced (⟦<FailAt<D> as BlockDev>⟧.state self.old).image first (sectors_of (length bytes.now / 512) bytes.now)) }
+        ensures sure { IsTrue (⟦<FailAt<D> as BlockDev>⟧.state self.old).never_fails → IsOk result }
+        ensures fault { OnErr result (HasFailed (⟦<FailAt<D> as BlockDev>⟧.state self.old) (⟦<FailAt<D> as BlockDev>⟧.state self.new)) }
+
+        // The call that fails leaves the inner device as it was, and every other is the inner device's.
+        ensures fails { self.old.left ≡ 1 → IsErr result × (D.state self.new.inner ≡ D.state self.old.inner) }
+        ensures passes { self.old.left ≢ 1 → IsInnerWrite (D.state self.old.inner) first (length bytes.now / 512) (is_ok result) (D.state self.new.inner) bytes.now }
+        ensures left { self.new.left ≡ self.old.left - 1 }
+    {
+        if self.left == 1 {
+            self.left = 0;
+            self.failed_writes = self.failed_writes.saturating_add(bytes.len() as u64 / 512);
+            self.failed = self.failed.saturating_add(1);
+            return Err(DeviceFault);
+        }
+        self.left = self.left.saturating_sub(1);
+        self.inner.write(first, bytes)
+    }
+
+    fn reads(&self) -> u64 {
+        self.inner.reads().saturating_add(self.failed_reads)
+    }
+
+    fn writes(&self) -> u64 {
+        self.inner.writes().saturating_add(self.failed_writes)
+    }
+
+    fn failures(&self) -> u64 {
+        self.inner.failures().saturating_add(self.failed)
+    }
+}

@@ -1,0 +1,123 @@
+// A device in memory.
+ghost use Rattle.std.specs.Prelude.{◌≡◌, ◌≤◌, ◌^◌, ◌/◌, ◌*◌, ◌+◌, ◌%◌, ℕ, ◌++◌, take, drop, length, replicate, true, refl, IfOk, map};
+ghost use Rattle.std.specs.List.{concat, range_with_len};
+ghost use Rattle.block_device.specs.Device.{sectors_of, in_memory, zeros_image, ramp_image, filled};
+ghost use Rattle.block_device.specs.Whole.{whole_bytes};
+
+use crate::{BlockDev, DeviceFault};
+use std::alloc::{AllocError, Global};
+
+/// Bytes in memory as sectors, of which a trailing part of a sector isn't seen. It is steady and never
+/// fails.
+#[derive(Drop)]
+pub struct MemoryDev {
+    bytes: Vec<u8>,
+    writable: bool,
+    reads: u64,
+    writes: u64,
+}
+
+impl MemoryDev {
+    /// A device of the whole sectors of `bytes`.
+    pub fn new(bytes: Vec<u8>, writable: bool) -> MemoryDev
+        ensures { ⟦<MemoryDev as BlockDev>⟧.state result ≡ in_memory (sectors_of (length bytes.items / 512) bytes.items) writable }
+    {
+        MemoryDev {
+            bytes,
+            writable,
+            reads: 0,
+            writes: 0,
+        }
+    }
+
+    /// A device of which sector k is filled with the byte k modulo 256.
+    pub fn ramp(alloc: Global, sectors: u32, writable: bool) -> Result<MemoryDev, AllocError>
+        ensures { IfOk result (λ m. ⟦<MemoryDev as BlockDev>⟧.state m ≡ in_memory (ramp_image sectors) writable) }
+    {
+        let bytes = ramp_bytes(alloc, sectors)?;
+        Ok(MemoryDev::new(bytes, writable))
+    }
+
+    /// A device of zero bytes.
+    pub fn zeros(alloc: Global, sectors: u32, writable: bool) -> Result<MemoryDev, AllocError>
+        ensures { IfOk result (λ m. ⟦<MemoryDev as BlockDev>⟧.state m ≡ in_memory (zeros_image sectors) writable) }
+    {
+        let bytes = zero_bytes(alloc, sectors as usize * 512)?;
+        Ok(MemoryDev::new(bytes, writable))
+    }
+}
+
+fn zero_bytes(alloc: Global, length: usize) -> Result<Vec<u8>, AllocError>
+    ensures { IfOk result (λ v. v.items ≡ replicate length 0) }
+{
+    vec![in alloc; 0u8; length]
+}
+
+// The sectors of a ramp, one after another.
+fn ramp_bytes(alloc: Global, sectors: u32) -> Result<Vec<u8>, AllocError>
+    ensures { IfOk result (λ v. v.items ≡ concat (ramp_image sectors)) }
+{
+    let mut bytes = Vec::with_capacity(alloc, sectors as usize * 512)?;
+    for k in 0..sectors {
+        bytes.extend_from_slice(&[(k % 256) as u8; 512])?;
+    }
+    Ok(bytes)
+}
+
+impl BlockDev for MemoryDev {
+    ghost state = { λ m. record {
+      size = length m.bytes.items / 512;
+      may_write = m.writable;
+      steady = true;
+      never_fails = true;
+      image = sectors_of (length m.bytes.items / 512) m.bytes.items;
+      reads = m.reads;
+      writes = m.writes;
+      failures = 0;
+    } };
+
+    ghost whole = { λ m. whole_bytes (⟦<MemoryDev as BlockDev>⟧.state m) m.bytes.items refl refl };
+
+    fn sectors(&self) -> u64 {
+        self.bytes.len() as u64 / 512
+    }
+
+    fn writable(&self) -> bool {
+        self.writable
+    }
+
+    fn read(&mut self, first: u64, out: &mut [u8]) -> Result<(), DeviceFault> {
+        let start = first as usize * 512;
+        let n = out.len();
+        self.reads = self.reads.saturating_add(n as u64 / 512);
+        out.copy_from_slice(&self.bytes[start..start + n]);
+        Ok(())
+    }
+
+    fn write(&mut self, first: u64, bytes: &[u8]) -> Result<(), DeviceFault> {
+        let start = first as usize * 512;
+        self.writes = self.writes.saturating_add(bytes.len() as u64 / 512);
+        put(&mut self.bytes, start, bytes);
+        Ok(())
+    }
+
+    fn reads(&self) -> u64 {
+        self.reads
+    }
+
+    fn writes(&self) -> u64 {
+        self.writes
+    }
+
+    fn failures(&self) -> u64 {
+        0
+    }
+}
+
+// Puts bytes in the place of others.
+fn put(bytes: &mut Vec<u8>, at: usize, part: &[u8])
+    requires { at + length part.now ≤ length bytes.old.items }
+    ensures { bytes.new.items ≡ take at bytes.old.items ++ part.now ++ drop (at + length part.now) bytes.old.items }
+{
+    bytes[at..at + part.len()].copy_from_slice(part);
+}

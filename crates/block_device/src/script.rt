@@ -1,0 +1,114 @@
+// A device that answers what a script says.
+ghost use Rattle.std.specs.Prelude.{◌≡◌, ◌≤◌, ◌^◌, ◌/◌, ◌+◌, ℕ, length, true, false, refl, is_ok, IsOk, IsErr, IsTrue, OnErr, OnOk, map};
+ghost use Rattle.std.specs.List.{concat};
+ghost use Rattle.block_device.specs.Device.{IsInside, IsRead, HasFailed, capped, run_of, zeros_image};
+ghost use Rattle.block_device.specs.Script.{answer_of};
+ghost use Rattle.block_device.specs.Whole.{whole_zeros};
+
+use crate::{BlockDev, DeviceFault};
+use std::marker::Model;
+
+/// Its i-th read gives the i-th answer, cut or filled with zeros to the length asked for, and zeros after
+/// the last, wherever it is read. It isn't writable and not steady, and never fails.
+#[derive(Drop)]
+pub struct ScriptDev {
+    sectors: u64,
+    answers: Vec<Vec<u8>>,
+    given: usize,
+    reads: u64,
+}
+
+impl Model for ScriptDev {
+    ghost use Rattle.std.specs.Prelude.{◌≤◌, ◌^◌, map};
+    ghost use Rattle.block_device.specs.Script.{Script};
+
+    ghost Value = { Script };
+
+    ghost view = { λ s. record { sectors = s.sectors; answers = map (λ v. v.items) s.answers.items; given = s.given; reads = s.reads } };
+
+    ghost invariant = { λ s. s.sectors ≤ 2 ^ 54 };
+}
+
+impl ScriptDev {
+    /// A device of at most 2^54 sectors with these answers.
+    pub fn new(sectors: u64, answers: Vec<Vec<u8>>) -> ScriptDev
+        requires { sectors ≤ 2 ^ 54 }
+        ensures { result ≡ record { sectors = sectors; answers = map (λ v. v.items) answers.items; given = 0; reads = 0 } }
+    {
+        ScriptDev {
+            sectors,
+            answers,
+            given: 0,
+            reads: 0,
+        }
+    }
+}
+
+// The answer of that number, cut or filled with zeros.
+fn answer(answers: &[Vec<u8>], number: usize, out: &mut [u8])
+    ensures { out.new ≡ answer_of (map (λ v. v.items) answers.now) number (length out.old) }
+{
+    out.fill(0);
+    if let Some(bytes) = answers.get(number) {
+        let n = bytes.len().min(out.len());
+        out[..n].copy_from_slice(&bytes[..n]);
+    }
+}
+
+impl BlockDev for ScriptDev {
+    ghost state = { λ s. record {
+      size = s.sectors;
+      may_write = false;
+      steady = false;
+      never_fails = true;
+      image = zeros_image s.sectors;
+      reads = s.reads;
+      writes = 0;
+      failures = 0;
+    } };
+
+    ghost whole = { λ s. whole_zeros (⟦<ScriptDev as BlockDev>⟧.state s) refl };
+
+    fn sectors(&self) -> u64 {
+        self.sectors
+    }
+
+    fn writable(&self) -> bool {
+        false
+    }
+
+    fn read(&mut self, _first: u64, out: &mut [u8]) -> Result<(), DeviceFault>
+        requires { IsInside (⟦<ScriptDev as BlockDev>⟧.state self.old) _first (length out.old) }
+        ensures moved { IsRead (⟦<ScriptDev as BlockDev>⟧.state self.old) (length out.old / 512) (is_ok result) (⟦<ScriptDev as BlockDev>⟧.state self.new) }
+        ensures ok { IsOk result }
+        ensures bytes { out.new ≡ answer_of self.old.answers self.old.given (length out.old) }
+        ensures answers { self.new.answers ≡ self.old.answers }
+        ensures given { self.new.given ≡ capped (self.old.given + 1) }
+    {
+        self.reads = self.reads.saturating_add(out.len() as u64 / 512);
+        answer(&self.answers, self.given, out);
+        self.given = self.given.saturating_add(1);
+        Ok(())
+    }
+
+    // The device isn't writable, so no caller by the trait gets here: what the trait asks can't hold. These
+    // clauses ask nothing, since a contract that no call can meet is refused.
+    fn write(&mut self, _first: u64, _bytes: &[u8]) -> Result<(), DeviceFault>
+        ensures refused { IsErr result }
+        ensures same { self.new ≡ self.old }
+    {
+        Err(DeviceFault)
+    }
+
+    fn reads(&self) -> u64 {
+        self.reads
+    }
+
+    fn writes(&self) -> u64 {
+        0
+    }
+
+    fn failures(&self) -> u64 {
+        0
+    }
+}
