@@ -1,0 +1,10 @@
+pub mod ExampleRows
+pub mod Bytewise
+pub mod SubByteLaws
+pub mod FieldLaws
+pub mod ColumnLaws
+pub mod StateLaws
+pub mod RoundLaws
+pub mod KeyScheduleLaws
+pub mod CipherLaws
+pub mod AesKeyLaws

@@ -1,0 +1,15 @@
+-- What the fields of an `AesKey` hold.
+use Rattle.std.specs.Prelude.{◌≡◌, ℕ, ◌+◌, ◌-◌, ◌*◌, ◌⊎◌, List, take}
+use Rattle.aes_block.specs.declared.aes_key.AesKey.TheInside.{Inside}
+use Rattle.aes_block.specs.State.{IsBytes}
+use Rattle.aes_block.specs.KeyExpansion.{key_schedule}
+
+-- the key: the first Nk = Nr - 6 words of the schedule
+abbrev pub key_of : Inside → List ℕ
+key_of k = take (4 * (k.rounds - 6)) k.schedule
+
+-- 10 or 14 rounds, and the first bytes of the array are the key's schedule
+pub record HoldsSchedule (k : Inside) : Type 0 where
+  pub rounds : (k.rounds ≡ 10) ⊎ (k.rounds ≡ 14)
+  pub bytes : IsBytes k.schedule
+  pub schedule : take (16 * (k.rounds + 1)) k.schedule ≡ key_schedule (key_of k)

@@ -1,0 +1,60 @@
+//! An AES key.
+
+ghost use Rattle.std.specs.Prelude.{◌≡◌, ◌↔◌, ◌+◌, ◌-◌, ◌*◌, length, take, IsSome, IfSome};
+ghost use Rattle.aes_block.specs.Key.{IsKeyLength};
+ghost use Rattle.aes_block.specs.Cipher.{cipher, inverse_cipher};
+
+use crate::cipher::{cipher_with, inverse_cipher_with};
+use crate::key_expansion::{MAX_SCHEDULE, expand};
+use std::marker::Model;
+
+/// A key of 16 or 32 bytes, with its key schedule. Contracts see it as those bytes.
+#[derive(Drop)]
+pub struct AesKey {
+    rounds: usize,
+    schedule: [u8; MAX_SCHEDULE],
+}
+
+impl Model for AesKey {
+    ghost use Rattle.std.specs.Prelude.{ℕ, List};
+
+    ghost Value = { List ℕ };
+
+    ghost use Rattle.aes_block.specs.AesKey.{key_of, HoldsSchedule};
+
+    ghost view = { key_of };
+
+    ghost invariant = { HoldsSchedule };
+}
+
+impl AesKey {
+    /// The key of these bytes; None unless they are 16 or 32.
+    pub fn new(key: &[u8]) -> Option<AesKey>
+        ensures found { IsSome result ↔ IsKeyLength (length key.now) }
+        ensures value { IfSome result (λ k. k ≡ key.now) }
+    {
+        match key.len() {
+            16 | 32 => Some(AesKey {
+                rounds: key.len() / 4 + 6,
+                schedule: expand(key),
+            }),
+            _ => None,
+        }
+    }
+
+    /// The block enciphered.
+    pub fn encrypt(&self, block: &[u8; 16]) -> [u8; 16]
+        ensures value { result ≡ cipher self.now block.now }
+        ensures inverse { inverse_cipher self.now result ≡ block.now }
+    {
+        cipher_with(self.rounds, &self.schedule[..16 * (self.rounds + 1)], block)
+    }
+
+    /// The block deciphered.
+    pub fn decrypt(&self, block: &[u8; 16]) -> [u8; 16]
+        ensures value { result ≡ inverse_cipher self.now block.now }
+        ensures inverse { cipher self.now result ≡ block.now }
+    {
+        inverse_cipher_with(self.rounds, &self.schedule[..16 * (self.rounds + 1)], block)
+    }
+}

@@ -1,0 +1,84 @@
+//! The key expansion (FIPS 197, 5.2). Words lie one after the other, four bytes each.
+
+ghost use Rattle.std.specs.Prelude.{◌≡◌, ◌+◌, ◌-◌, ◌*◌, ◌/◌, ◌<◌, ◌≤◌, ◌⊎◌, length, take};
+ghost use Rattle.aes_block.specs.KeyExpansion.{word, rot_word, sub_word, add_words, round_constant, key_term, rounds, key_schedule};
+ghost use Rattle.aes_block.specs.Key.{IsKeyLength};
+
+use crate::field::power_of_x;
+use crate::s_box::sub_byte;
+
+/// The most bytes of a key schedule: 15 round keys of 16.
+pub const MAX_SCHEDULE: usize = 240;
+
+type Word = [u8; 4];
+
+fn word(bytes: &[u8], i: usize) -> Word
+    requires { 4 * i + 4 ≤ length bytes.now }
+    ensures { result ≡ word bytes.now i }
+{
+    [
+        bytes[4 * i],
+        bytes[4 * i + 1],
+        bytes[4 * i + 2],
+        bytes[4 * i + 3],
+    ]
+}
+
+/// ROTWORD (5.2).
+fn rot_word(w: Word) -> Word
+    ensures { result ≡ rot_word w }
+{
+    [w[1], w[2], w[3], w[0]]
+}
+
+/// SUBWORD (5.2).
+fn sub_word(w: Word) -> Word
+    ensures { result ≡ sub_word w }
+{
+    w.map(sub_byte)
+}
+
+fn add_words(v: Word, w: Word) -> Word
+    ensures { result ≡ add_words v w }
+{
+    [v[0] ^ w[0], v[1] ^ w[1], v[2] ^ w[2], v[3] ^ w[3]]
+}
+
+/// The round constant of index `j` (5.2).
+fn round_constant(j: usize) -> Word
+    requires { 0 < j }
+    ensures { result ≡ round_constant j }
+{
+    [power_of_x(j - 1), 0, 0, 0]
+}
+
+/// What is added to word `i - nk` to give word `i`, where `w` is word `i - 1` (5.2).
+fn key_term(nk: usize, w: Word, i: usize) -> Word
+    requires positive { 0 < nk }
+    requires past_key { nk ≤ i }
+    ensures { result ≡ key_term nk w i }
+{
+    if i % nk == 0 {
+        add_words(sub_word(rot_word(w)), round_constant(i / nk))
+    } else if nk == 8 && i % nk == 4 {
+        sub_word(w)
+    } else {
+        w
+    }
+}
+
+/// The key schedule of a key (5.2), and what fills the array.
+pub fn expand(key: &[u8]) -> [u8; MAX_SCHEDULE]
+    requires { IsKeyLength (length key.now) }
+    ensures { take (16 * (rounds key.now + 1)) result ≡ key_schedule key.now }
+{
+    let nk = key.len() / 4;
+    let mut schedule = [0; MAX_SCHEDULE];
+    schedule[..key.len()].copy_from_slice(key);
+    for i in nk..4 * (nk + 7) {
+        let term = key_term(nk, word(&schedule, i - 1), i);
+        let next = add_words(word(&schedule, i - nk), term);
+        schedule[4 * i..4 * i + 4].copy_from_slice(&next);
+    }
+    schedule
+}
