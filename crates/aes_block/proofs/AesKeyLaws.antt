@@ -6,7 +6,7 @@ use Rattle.aes_block.specs.State.{IsBytes, IsBlock}
 use Rattle.aes_block.specs.KeyExpansion.{rounds}
 use Rattle.aes_block.specs.Cipher.{cipher_with, cipher, inverse_cipher_with, inverse_cipher}
 use Rattle.aes_block.specs.AesKey.{key_of, HoldsSchedule}
-use Rattle.aes_block.proofs.KeyScheduleLaws.{IsBytes-take}
+use Rattle.aes_block.proofs.BytesLaws.{IsBytes-take}
 use Rattle.aes_block.proofs.CipherLaws.{inverse_cipher-cipher, cipher-inverse_cipher}
 
 -- 10 and 14 are at least 10 and at most 14

@@ -2,12 +2,13 @@
 use Rattle.std.proofs.Common.{◌≡◌, ℕ, zero, suc, ◌+◌, ◌-◌, ◌*◌, ◌/◌, ◌%◌, ◌<◌, ◌≤◌, ◌==◌, ◌&&◌, Bool, true, false, cond, List, [], ◌∷◌, ◌++◌, length, take, drop, map, get_or, bit_xor, sym, ap, ◌∙◌, inl, inr, refl, arith}
 use Rattle.std.specs.List.{range_with_len}
 use Rattle.std.proofs.lemmas.Bool.{cases_lt}
-use Rattle.std.proofs.lemmas.List.{append-nil, append_assoc, take_at, get_or_past, get_or-take, get_or-drop, get_or-map, get_or_append_left, get_or-append_right, length-map, length-take, drop-take, take-take}
+use Rattle.std.proofs.lemmas.List.{append-nil, append_assoc, take_at, get_or_past, get_or-map, length-map, drop-take, take-take}
 use Rattle.std.proofs.lemmas.List.FromFn.{length-map-range_with_len, get_or-map-range_with_len}
 use Rattle.aes_block.specs.Field.{sub_byte, power_of_x}
 use Rattle.aes_block.specs.State.{IsBytes}
 use Rattle.aes_block.specs.KeyExpansion.{word, rot_word, sub_word, add_words, round_constant, key_term, with_word, expansion, key_schedule, round_key, key_words, rounds}
 use Rattle.aes_block.specs.Key.{IsKeyLength}
+use Rattle.aes_block.proofs.BytesLaws.{IsBytes-take, IsBytes-drop, IsBytes-append}
 use Rattle.aes_block.proofs.FieldLaws.{xor_byte, power_of_x_lt}
 use Rattle.aes_block.proofs.SubByteLaws.{sub_byte_lt}
 
@@ -58,21 +59,6 @@ pub key_words_between : (n : ℕ) → IsKeyLength n → (n ≡ 4 * (n / 4)) × (
 key_words_between n h = elim h [ inl e ↦ rw e (omega arith, omega arith, omega arith) | inr e ↦ rw e (omega arith, omega arith, omega arith) ]
 
 -- ---- bytes
-
-pub IsBytes-take : (bytes : List ℕ) (n : ℕ) → IsBytes bytes → IsBytes (take n bytes)
-IsBytes-take bytes n h i = elim (cases_lt i n) [
-  | inl lt ↦ let at = get_or-take n bytes i 0 lt in omega (arith, at, h i)
-  | inr le ↦ let at = get_or_past (take n bytes) i 0 (omega (arith, length-take n bytes, le)) in omega (arith, at)
-]
-
-pub IsBytes-drop : (bytes : List ℕ) (n : ℕ) → IsBytes bytes → IsBytes (drop n bytes)
-IsBytes-drop bytes n h i = let at = get_or-drop n bytes i 0 in omega (arith, at, h (n + i))
-
-pub IsBytes-append : (xs ys : List ℕ) → IsBytes xs → IsBytes ys → IsBytes (xs ++ ys)
-IsBytes-append xs ys hx hy i = elim (cases_lt i (length xs)) [
-  | inl lt ↦ let at = get_or_append_left xs ys 0 i lt in omega (arith, at, hx i)
-  | inr le ↦ let at = get_or-append_right xs ys (length xs) i 0 refl le in omega (arith, at, hy (i - length xs))
-]
 
 IsBytes-sub_word : (w : List ℕ) → IsBytes w → IsBytes (sub_word w)
 IsBytes-sub_word w h i = elim (cases_lt i (length w)) [

@@ -1,5 +1,6 @@
 pub mod ExampleRows
 pub mod Bytewise
+pub mod BytesLaws
 pub mod SubByteLaws
 pub mod FieldLaws
 pub mod ColumnLaws

@@ -1,6 +1,6 @@
 //! An AES key.
 
-ghost use Rattle.std.specs.Prelude.{◌≡◌, ◌↔◌, ◌+◌, ◌-◌, ◌*◌, length, take, IsSome, IfSome};
+ghost use Rattle.std.specs.Prelude.{◌≡◌, ◌↔◌, length, IsSome, IfSome};
 ghost use Rattle.aes_block.specs.Key.{IsKeyLength};
 ghost use Rattle.aes_block.specs.Cipher.{cipher, inverse_cipher};
 

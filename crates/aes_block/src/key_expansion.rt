@@ -1,6 +1,6 @@
 //! The key expansion (FIPS 197, 5.2). Words lie one after the other, four bytes each.
 
-ghost use Rattle.std.specs.Prelude.{◌≡◌, ◌+◌, ◌-◌, ◌*◌, ◌/◌, ◌<◌, ◌≤◌, ◌⊎◌, length, take};
+ghost use Rattle.std.specs.Prelude.{◌≡◌, ◌+◌, ◌*◌, ◌<◌, ◌≤◌, length, take};
 ghost use Rattle.aes_block.specs.KeyExpansion.{word, rot_word, sub_word, add_words, round_constant, key_term, rounds, key_schedule};
 ghost use Rattle.aes_block.specs.Key.{IsKeyLength};
 

@@ -1,6 +1,6 @@
 //! The transformations of a round (FIPS 197, 5.1.1 to 5.1.4) and their inverses (5.3.1 to 5.3.4).
 
-ghost use Rattle.std.specs.Prelude.{◌≡◌, ℕ, ◌<◌, length};
+ghost use Rattle.std.specs.Prelude.{◌≡◌, ℕ, ◌<◌};
 ghost use Rattle.aes_block.specs.State.{byte_at};
 ghost use Rattle.aes_block.specs.Rounds.{sub_bytes, shift_rows, mixed_byte, mix_columns, add_round_key, inv_shift_rows, inv_sub_bytes, unmixed_byte, inv_mix_columns};
 

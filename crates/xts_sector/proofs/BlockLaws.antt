@@ -1,0 +1,127 @@
+-- Sequences of blocks: a unit is its blocks, and a loop over them adds one at a time.
+use Rattle.std.proofs.Common.{◌≡◌, ℕ, zero, suc, ◌+◌, ◌-◌, ◌*◌, ◌<◌, ◌≤◌, List, ◌++◌, length, take, drop, get_or, bit_xor, sym, ap, ◌∙◌, inl, inr, refl, arith}
+use Rattle.std.specs.Int.Bits.{xor_assoc, xor_self, xor_zero_r}
+use Rattle.std.proofs.lemmas.Bool.{cases_lt}
+use Rattle.std.proofs.lemmas.Nat.{xor_lt}
+use Rattle.std.proofs.lemmas.List.{length-append, length-drop, take_all, take-append-le, drop_at, drop-append-le, drop-drop, get_or_past}
+use Rattle.std.proofs.Math.Seq.{take-add}
+use Rattle.std.proofs.lemmas.List.FromFn.{length-map-range_with_len, get_or-map-range_with_len, fill_by_all}
+use Rattle.std.proofs.lemmas.Slice.{take-put_mid, drop-put_mid}
+use borrow.Rule.Slice.PartMut.{put_mid}
+use Rattle.aes_block.specs.State.{IsBytes, IsBlock}
+use Rattle.xts_sector.specs.Blocks.{block, joined, add_blocks}
+
+-- ---- joined blocks
+
+pub joined-same : (f g : ℕ → List ℕ) (m : ℕ) → ((j : ℕ) → j < m → f j ≡ g j) → joined f m ≡ joined g m
+unfolding joined
+joined-same f g zero same = refl
+joined-same f g (suc m) same =
+    let front = joined-same f g m (λ j h. same j (omega arith)) in
+    let last = same m (omega arith) in
+    cc (front, last)
+
+pub length-joined : (f : ℕ → List ℕ) (m : ℕ) → ((j : ℕ) → j < m → length (f j) ≡ 16) → length (joined f m) ≡ 16 * m
+unfolding joined
+length-joined f zero long = omega arith
+length-joined f (suc m) long =
+    omega (arith, length-append (joined f m) (f m), length-joined f m (λ j h. long j (omega arith)), long m (omega arith))
+
+-- block j of joined blocks is the j-th
+pub block-joined : (f : ℕ → List ℕ) (m j : ℕ) → ((j : ℕ) → j < m → length (f j) ≡ 16) → j < m → block (joined f m) j ≡ f j
+unfolding joined
+block-joined f zero j long h = absurd (omega arith)
+block-joined f (suc m) j long h =
+    let front = length-joined f m (λ i k. long i (omega arith)) in
+    elim (cases_lt j m) [
+      | inl below ↦
+          let at = drop-append-le (16 * j) (joined f m) (f m) (omega (arith, front)) in
+          let rest = take-append-le 16 (drop (16 * j) (joined f m)) (f m) (omega (arith, front, length-drop (16 * j) (joined f m))) in
+          ap (take 16) at ∙ rest ∙ block-joined f m j (λ i k. long i (omega arith)) below
+      | inr above ↦
+          let last : j ≡ m = omega arith in
+          let at = drop_at (joined f m) (f m) (16 * j) (omega (arith, front)) in
+          let fits : length (f m) ≤ 16 = omega (arith, long m (omega arith)) in
+          ap (take 16) at ∙ take_all 16 (f m) fits ∙ ap f (sym last)
+    ]
+
+-- the first k blocks of a unit, joined, are its first bytes
+pub joined-block : (unit : List ℕ) (k : ℕ) → 16 * k ≤ length unit → joined (block unit) k ≡ take (16 * k) unit
+unfolding joined
+joined-block unit zero h = refl
+joined-block unit (suc k) h =
+    let front = joined-block unit k (omega arith) in
+    let more = take-add (16 * k) 16 unit in
+    let e : 16 * suc k ≡ 16 * k + 16 = omega arith in
+    ap (λ xs. xs ++ block unit k) front ∙ sym more ∙ ap (λ n. take n unit) (sym e)
+
+pub joined_more : (f : ℕ → List ℕ) (m : ℕ) → joined f (m + 1) ≡ joined f m ++ f m
+unfolding joined
+joined_more f m =
+    let e : m + 1 ≡ suc m = omega arith in
+    rw e refl
+
+-- ---- sums of blocks
+
+pub length-add_blocks : (a b : List ℕ) → length (add_blocks a b) ≡ 16
+unfolding add_blocks
+length-add_blocks a b = length-map-range_with_len (λ k. bit_xor (get_or a k 0) (get_or b k 0)) 0 16
+
+pub get_or-add_blocks : (a b : List ℕ) (k : ℕ) → k < 16 → get_or (add_blocks a b) k 0 ≡ bit_xor (get_or a k 0) (get_or b k 0)
+unfolding add_blocks
+get_or-add_blocks a b k h = get_or-map-range_with_len (λ k. bit_xor (get_or a k 0) (get_or b k 0)) 0 16 k k 0 h (omega arith)
+
+pub IsBlock-add_blocks : (a b : List ℕ) → IsBytes a → IsBytes b → IsBlock (add_blocks a b)
+IsBlock-add_blocks a b ha hb = record {
+  len = length-add_blocks a b;
+  bytes = λ i. elim (cases_lt i 16) [
+    | inl h ↦ let at = get_or-add_blocks a b i h in omega (arith, at, xor_lt 8 (get_or a i 0) (get_or b i 0) (ha i) (hb i))
+    | inr h ↦ let at = get_or_past (add_blocks a b) i 0 (omega (arith, length-add_blocks a b, h)) in omega (arith, at)
+  ];
+}
+
+xor_twice : (a b : ℕ) → bit_xor (bit_xor a b) b ≡ a
+xor_twice a b =
+    let e1 = xor_assoc a b b in
+    let e2 = xor_self b in
+    let e3 = xor_zero_r a in
+    cc (e1, e2, e3)
+
+-- what is added twice is gone
+pub add_blocks-add_blocks : (a b : List ℕ) → length a ≡ 16 → add_blocks (add_blocks a b) b ≡ a
+unfolding add_blocks
+add_blocks-add_blocks a b len =
+    sym (fill_by_all (λ k. bit_xor (get_or (add_blocks a b) k 0) (get_or b k 0)) a 16 0 len
+    (λ k h.
+    let at = get_or-add_blocks a b k h in
+    let twice = xor_twice (get_or a k 0) (get_or b k 0) in
+    cc (at, twice)))
+
+-- ---- a loop that writes over each block
+
+-- what a step leaves of a unit: the first blocks written, and the rest as it was
+pub record IsWritten (blocks : ℕ → List ℕ) (old now : List ℕ) (m : ℕ) : Type 0 where
+  pub front : take (16 * m) now ≡ joined blocks m
+  pub rest : drop (16 * m) now ≡ drop (16 * m) old
+
+pub IsWritten-none : (blocks : ℕ → List ℕ) (old : List ℕ) → IsWritten blocks old old 0
+unfolding joined
+IsWritten-none blocks old = record { front = refl; rest = refl }
+
+-- the block that comes next is still as it was
+pub block-written : (blocks : ℕ → List ℕ) (old now : List ℕ) (m : ℕ) → IsWritten blocks old now m → block now m ≡ block old m
+block-written blocks old now m written = ap (take 16) written.rest
+
+pub IsWritten-more : (blocks : ℕ → List ℕ) (old now out : List ℕ) (m : ℕ) → 16 * m + 16 ≤ length now → out ≡ blocks m → length out ≡ 16
+    → IsWritten blocks old now m → IsWritten blocks old (put_mid (16 * m) (16 * m + 16 - 16 * m) now out) (m + 1)
+IsWritten-more blocks old now out m fits same long written =
+    let next : 16 * (m + 1) ≡ 16 * m + 16 = omega arith in
+    let put = take-put_mid (16 * m) (16 * m + 16 - 16 * m) now out (16 * (m + 1)) (omega (arith, long)) (omega arith) in
+    let past = drop-put_mid (16 * m) (16 * m + 16 - 16 * m) now out (16 * (m + 1)) (omega arith) (omega arith) (omega (arith, long)) in
+    record {
+      front = put ∙ ap (λ xs. xs ++ out) written.front ∙ ap (λ xs. joined blocks m ++ xs) same ∙ sym (joined_more blocks m);
+      rest = past ∙ ap (λ n. drop n now) next ∙ sym (drop-drop 16 (16 * m) now) ∙ ap (drop 16) written.rest ∙ drop-drop 16 (16 * m) old ∙ ap (λ n. drop n old) (sym next);
+    }
+
+pub IsWritten-all : (blocks : ℕ → List ℕ) (old now : List ℕ) (m : ℕ) → length now ≡ 16 * m → IsWritten blocks old now m → now ≡ joined blocks m
+IsWritten-all blocks old now m len written = sym (take_all (16 * m) now (omega (arith, len))) ∙ written.front

@@ -1,0 +1,12 @@
+use Rattle.std.proofs.Common.{◌≡◌}
+use Rattle.xts_sector.specs.Blocks.{block}
+use Rattle.xts_sector.specs.Tweak.{times_alpha_power}
+use Rattle.xts_sector.specs.Xts.{encrypted_block}
+use Rattle.xts_sector.proofs.BlockLaws.{IsWritten}
+use Rattle.xts_sector.proofs.encryption.encrypt_blocks.Given as goal
+
+abbrev pub invariant-loop-j : goal.invariant-loop-j
+invariant-loop-j l = record {
+  tweak : l.tweak ≡ times_alpha_power l.j l.fn.first;
+  written : IsWritten (λ i. encrypted_block l.key (times_alpha_power i l.fn.first) (block l.fn.unit i)) l.fn.unit l.unit l.j;
+}

@@ -1,0 +1,4 @@
+pub mod Blocks
+pub mod Tweak
+pub mod Xts
+pub mod XtsKey

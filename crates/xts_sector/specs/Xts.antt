@@ -1,0 +1,37 @@
+-- XTS-AES on data units of whole blocks (IEEE 1619-2007, 5.3 and 5.4).
+use Rattle.std.specs.Prelude.{◌≡◌, ℕ, ◌/◌, ◌⊎◌, List, length, take, drop}
+use Rattle.aes_block.specs.Cipher.{cipher, inverse_cipher}
+use Rattle.xts_sector.specs.Blocks.{block, joined, add_blocks}
+use Rattle.xts_sector.specs.Tweak.{unit_number, times_alpha_power}
+
+-- a key's length in bytes: that of two AES keys
+abbrev pub IsKeyLength : ℕ → Type 0
+IsKeyLength n = (n ≡ 32) ⊎ (n ≡ 64)
+
+-- Key1, for the data
+abbrev pub data_key : List ℕ → List ℕ
+data_key key = take (length key / 2) key
+
+-- Key2, for the tweak
+abbrev pub tweak_key : List ℕ → List ℕ
+tweak_key key = drop (length key / 2) key
+
+-- 5.3.1: the tweak T of block j of the unit n
+unfoldable pub tweak : List ℕ → ℕ → ℕ → List ℕ
+tweak key n j = times_alpha_power j (cipher (tweak_key key) (unit_number n))
+
+-- 5.3.1: a block enciphered under Key1 with the tweak t
+unfoldable pub encrypted_block : List ℕ → List ℕ → List ℕ → List ℕ
+encrypted_block key1 t p = add_blocks (cipher key1 (add_blocks p t)) t
+
+-- 5.4.1: a block deciphered under Key1 with the tweak t
+unfoldable pub decrypted_block : List ℕ → List ℕ → List ℕ → List ℕ
+decrypted_block key1 t c = add_blocks (inverse_cipher key1 (add_blocks c t)) t
+
+-- 5.3.2: the unit n of whole blocks enciphered
+unfoldable pub encrypted : List ℕ → ℕ → List ℕ → List ℕ
+encrypted key n unit = joined (λ j. encrypted_block (data_key key) (tweak key n j) (block unit j)) (length unit / 16)
+
+-- 5.4.2: the unit n of whole blocks deciphered
+unfoldable pub decrypted : List ℕ → ℕ → List ℕ → List ℕ
+decrypted key n unit = joined (λ j. decrypted_block (data_key key) (tweak key n j) (block unit j)) (length unit / 16)

@@ -1,0 +1,13 @@
+//! XTS-AES on data units of whole blocks (IEEE 1619-2007), over the block cipher of `aes_block`.
+#![tactic(auto)]
+
+mod blocks;
+mod decryption;
+mod encryption;
+mod tweak;
+mod xts_key;
+
+pub use xts_key::XtsKey;
+
+#[cfg(test)]
+mod tests;

@@ -1,0 +1,92 @@
+//! Vectors of IEEE 1619 and of OpenSSL, both ways.
+
+ghost use Rattle.std.specs.Prelude.{◌<◌};
+
+mod vectors;
+
+use super::*;
+use std::alloc::{AllocError, Global};
+use std::test::Fail;
+use vectors::{LONG_VECTORS, VECTORS};
+
+/// The value of a hexadecimal digit.
+fn nibble(digit: u8) -> u8
+    ensures { result < 16 }
+{
+    match digit {
+        b'0'..=b'9' => digit - b'0',
+        b'a'..=b'f' => digit - b'a' + 10,
+        _ => 0,
+    }
+}
+
+fn bytes_of(alloc: Global, text: &str) -> Result<Vec<u8>, AllocError> {
+    let digits = text.as_bytes();
+    let mut bytes = Vec::new(alloc);
+    for i in 0..digits.len() / 2 {
+        bytes.push(16 * nibble(digits[2 * i]) + nibble(digits[2 * i + 1]))?;
+    }
+    Ok(bytes)
+}
+
+#[test]
+fn vectors_both_ways(rt: HostRuntime) -> Result<(), Fail> {
+    for (i, vector) in VECTORS.iter().enumerate() {
+        let key = XtsKey::new(&bytes_of(rt.alloc(), vector.key)?).ok_or("a key was refused")?;
+        let plaintext = bytes_of(rt.alloc(), vector.plaintext)?;
+        let ciphertext = bytes_of(rt.alloc(), vector.ciphertext)?;
+        let mut unit = plaintext.clone()?;
+        assert!(rt; unit.len() % 16 == 0);
+        key.encrypt(vector.number, &mut unit);
+        assert_eq!(rt;
+            unit.as_slice(),
+            ciphertext.as_slice(),
+            "encrypt, vector {i}"
+        );
+        key.decrypt(vector.number, &mut unit);
+        assert_eq!(rt;
+            unit.as_slice(),
+            plaintext.as_slice(),
+            "decrypt, vector {i}"
+        );
+    }
+    Ok(())
+}
+
+#[test]
+fn long_vectors_both_ways(rt: HostRuntime) -> Result<(), Fail> {
+    for (i, vector) in LONG_VECTORS.iter().enumerate() {
+        let key = XtsKey::new(&bytes_of(rt.alloc(), vector.key)?).ok_or("a key was refused")?;
+        let first = bytes_of(rt.alloc(), vector.first)?;
+        let last = bytes_of(rt.alloc(), vector.last)?;
+        let mut plaintext = Vec::new(rt.alloc());
+        for k in 0..vector.len {
+            plaintext.push((k % 251) as u8)?;
+        }
+        let mut unit = plaintext.clone()?;
+        assert!(rt; unit.len() % 16 == 0 && unit.len() >= 16);
+        key.encrypt(vector.number, &mut unit);
+        assert_eq!(rt; &unit[..16], first.as_slice(), "first block, vector {i}");
+        assert_eq!(rt;
+            &unit[unit.len() - 16..],
+            last.as_slice(),
+            "last block, vector {i}"
+        );
+        key.decrypt(vector.number, &mut unit);
+        assert_eq!(rt;
+            unit.as_slice(),
+            plaintext.as_slice(),
+            "decrypt, vector {i}"
+        );
+    }
+    Ok(())
+}
+
+#[test]
+fn key_lengths(rt: HostRuntime) {
+    let bytes = [7; 80];
+    for len in 0..80_usize {
+        let taken = XtsKey::new(&bytes[..len]).is_some();
+        assert_eq!(rt; taken, len == 32 || len == 64, "{len} bytes");
+    }
+}
