@@ -36,5 +36,5 @@ for folder in "$top"/scripts/memory/*/; do
     echo "$(basename "$folder"): $((number - 1)) refusals"
     if [ $wrong = 0 ]; then passed=$((passed + 1)); else failed=$((failed + 1)); fi
 done
-echo "refused memory: $passed passed, $failed failed"
+echo "memory: $passed passed, $failed failed"
 [ $failed = 0 ]

@@ -3,14 +3,14 @@ use Rattle.std.specs.Prelude.{◌≡◌, ℕ, ◌+◌, ◌-◌, ◌^◌, ◌==�
 use Rattle.std.specs.List.{concat}
 use Rattle.block_device.specs.Device.{Device, capped, IsRead, IsWritten, run_of, spliced, sectors_of}
 
--- Over an inner device: left is the number of the call that fails, counted from the next one, and 0 where
--- none does. What failed calls asked for is counted on top of what the inner device counts.
+-- Over an inner device: the number of the call that fails, counted from the next one, and 0 where none does.
+-- What failed calls asked for is counted on top of what the inner device counts.
 abbrev pub failing : Device → ℕ → ℕ → ℕ → ℕ → Device
-failing inner left failed_reads failed_writes failed = record inner {
-  never_fails = (left == 0) && inner.never_fails;
-  reads = capped (inner.reads + failed_reads);
-  writes = capped (inner.writes + failed_writes);
-  failures = capped (inner.failures + failed);
+failing inner calls_to_failure sectors_of_failed_reads sectors_of_failed_writes failed_calls = record inner {
+  never_fails = (calls_to_failure == 0) && inner.never_fails;
+  reads = capped (inner.reads + sectors_of_failed_reads);
+  writes = capped (inner.writes + sectors_of_failed_writes);
+  failures = capped (inner.failures + failed_calls);
 }
 
 -- a read of the inner device

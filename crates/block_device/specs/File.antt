@@ -1,5 +1,5 @@
 -- Files as devices: why one isn't opened, and what a proof sees of an open one.
-use Rattle.std.specs.Prelude.{ℕ, Bool, false}
+use Rattle.std.specs.Prelude.{◌≡◌, ◌⊎◌, ◌<◌, ◌^◌, ℕ, Bool, false}
 use Rattle.std.specs.declared.io.ErrorKind.{ErrorKind}
 use Rattle.std.specs.declared.io.ErrorKind.TheVariants.{NotFound, PermissionDenied, ReadOnlyFilesystem, OutOfMemory}
 use Rattle.block_device.specs.declared.file.OpenFault.{OpenFault}
@@ -14,7 +14,11 @@ fault_of ReadOnlyFilesystem = faults.NotAllowed
 fault_of OutOfMemory = faults.NoMemory
 fault_of _ = faults.OtherFault
 
--- A file that was just opened, as so many sectors. Nothing is known of what it holds.
+-- why an open file of so many sectors isn't taken
+abbrev pub IsRefused : ℕ → Type 0 → OpenFault → Type 0
+IsRefused sectors IsFile fault = ((fault ≡ faults.OtherFault) × (IsFile → ⊥)) ⊎ ((fault ≡ faults.TooLarge) × (2 ^ 54 < sectors))
+
+-- A file that was just opened, as so many sectors. No clause ties the image to what a read gives.
 abbrev pub opened : ℕ → Bool → Device
 opened sectors writable = record {
   size = sectors;

@@ -15,54 +15,54 @@ pub enum AnyDev {
 impl BlockDev for AnyDev {
     ghost state = { elim [ Memory m ↦ ⟦<MemoryDev as BlockDev>⟧.state m | File f ↦ ⟦<FileDev as BlockDev>⟧.state f ] };
 
-    ghost whole = { elim [ Memory m ↦ whole_bytes (⟦<MemoryDev as BlockDev>⟧.state m) m.bytes.items refl refl | File f ↦ whole_zeros (⟦<FileDev as BlockDev>⟧.state f) refl ] };
+    ghost whole = { elim [ Memory m ↦ whole_bytes (⟦<MemoryDev as BlockDev>⟧.state m) m.bytes.items refl refl | File f ↦ whole_zeros (⟦<AnyDev as BlockDev>⟧.state (File f)) refl ] };
 
     fn sectors(&self) -> u64 {
         match self {
-            AnyDev::Memory(m) => m.sectors(),
-            AnyDev::File(f) => f.sectors(),
+            AnyDev::Memory(memory) => memory.sectors(),
+            AnyDev::File(file) => file.sectors(),
         }
     }
 
     fn writable(&self) -> bool {
         match self {
-            AnyDev::Memory(m) => m.writable(),
-            AnyDev::File(f) => f.writable(),
+            AnyDev::Memory(memory) => memory.writable(),
+            AnyDev::File(file) => file.writable(),
         }
     }
 
     fn read(&mut self, first: u64, out: &mut [u8]) -> Result<(), DeviceFault> {
         match self {
-            AnyDev::Memory(m) => m.read(first, out),
-            AnyDev::File(f) => f.read(first, out),
+            AnyDev::Memory(memory) => memory.read(first, out),
+            AnyDev::File(file) => file.read(first, out),
         }
     }
 
     fn write(&mut self, first: u64, bytes: &[u8]) -> Result<(), DeviceFault> {
         match self {
-            AnyDev::Memory(m) => m.write(first, bytes),
-            AnyDev::File(f) => f.write(first, bytes),
+            AnyDev::Memory(memory) => memory.write(first, bytes),
+            AnyDev::File(file) => file.write(first, bytes),
         }
     }
 
     fn reads(&self) -> u64 {
         match self {
-            AnyDev::Memory(m) => m.reads(),
-            AnyDev::File(f) => f.reads(),
+            AnyDev::Memory(memory) => memory.reads(),
+            AnyDev::File(file) => file.reads(),
         }
     }
 
     fn writes(&self) -> u64 {
         match self {
-            AnyDev::Memory(m) => m.writes(),
-            AnyDev::File(f) => f.writes(),
+            AnyDev::Memory(memory) => memory.writes(),
+            AnyDev::File(file) => file.writes(),
         }
     }
 
     fn failures(&self) -> u64 {
         match self {
-            AnyDev::Memory(m) => m.failures(),
-            AnyDev::File(f) => f.failures(),
+            AnyDev::Memory(memory) => memory.failures(),
+            AnyDev::File(file) => file.failures(),
         }
     }
 }

@@ -5,7 +5,7 @@ ghost use Rattle.block_device.specs.Device.{Device, IsInside, IsWhole, IsRead, I
 
 use thiserror::Error;
 
-/// The device failed in this call, and counted the failure.
+/// The device failed in this call, and counted the failure unless its counter stood at its end.
 #[derive(Clone, Copy, Debug, PartialEq, Eq, Error)]
 #[error("the device failed")]
 pub struct DeviceFault;

@@ -6,34 +6,37 @@ ghost use Rattle.block_device.specs.Failing.{failing, IsInnerRead, IsInnerWrite}
 
 use crate::{BlockDev, DeviceFault};
 
-/// The call of read or write of number `left`, counted from 1, fails: it counts one failure and the
-/// sectors asked for, and the inner device isn't asked. Every other call is the inner device's.
+/// One chosen call of read or write fails: it counts one failure and the sectors asked for, and the inner
+/// device isn't asked. Every other call is passed on, and does what the trait promises of the inner device.
 #[derive(Drop)]
 pub struct FailAt<D> {
+    /// The device that all other calls go to.
     pub inner: D,
-    pub left: u64,
-    pub failed_reads: u64,
-    pub failed_writes: u64,
-    pub failed: u64,
+    /// The number of the call that fails, counted from the next one; 0 where none does.
+    pub calls_to_failure: u64,
+    /// What this device counts on top of what the inner one does.
+    pub sectors_of_failed_reads: u64,
+    pub sectors_of_failed_writes: u64,
+    pub failed_calls: u64,
 }
 
 impl<D> FailAt<D> {
     /// The `k`-th call fails, and none where `k` is 0.
     pub fn new(inner: D, k: u64) -> FailAt<D>
-        ensures { result ≡ record { inner = inner; left = k; failed_reads = 0; failed_writes = 0; failed = 0 } }
+        ensures { result ≡ record { inner = inner; calls_to_failure = k; sectors_of_failed_reads = 0; sectors_of_failed_writes = 0; failed_calls = 0 } }
     {
         FailAt {
             inner,
-            left: k,
-            failed_reads: 0,
-            failed_writes: 0,
-            failed: 0,
+            calls_to_failure: k,
+            sectors_of_failed_reads: 0,
+            sectors_of_failed_writes: 0,
+            failed_calls: 0,
         }
     }
 }
 
 impl<D: BlockDev> BlockDev for FailAt<D> {
-    ghost state = { λ f. failing (D.state f.inner) f.left f.failed_reads f.failed_writes f.failed };
+    ghost state = { λ f. failing (D.state f.inner) f.calls_to_failure f.sectors_of_failed_reads f.sectors_of_failed_writes f.failed_calls };
 
     ghost whole = { λ f. record { length = (D.whole f.inner).length; sectors = (D.whole f.inner).sectors } };
 
@@ -52,18 +55,20 @@ impl<D: BlockDev> BlockDev for FailAt<D> {
         ensures sure { IsTrue (⟦<FailAt<D> as BlockDev>⟧.state self.old).never_fails → IsOk result }
         ensures fault { OnErr result (HasFailed (⟦<FailAt<D> as BlockDev>⟧.state self.old) (⟦<FailAt<D> as BlockDev>⟧.state self.new)) }
 
-        // The call that fails leaves the inner device as it was, and every other is the inner device's.
-        ensures fails { self.old.left ≡ 1 → IsErr result × (D.state self.new.inner ≡ D.state self.old.inner) }
-        ensures passes { self.old.left ≢ 1 → IsInnerRead (D.state self.old.inner) first (length out.old / 512) (is_ok result) (D.state self.new.inner) out.new }
-        ensures left { self.new.left ≡ self.old.left - 1 }
+        // The call that fails leaves the inner device as it was, and every other is passed on to it.
+        ensures fails { self.old.calls_to_failure ≡ 1 → IsErr result × (D.state self.new.inner ≡ D.state self.old.inner) }
+        ensures passes { self.old.calls_to_failure ≢ 1 → IsInnerRead (D.state self.old.inner) first (length out.old / 512) (is_ok result) (D.state self.new.inner) out.new }
+        ensures calls { self.new.calls_to_failure ≡ self.old.calls_to_failure - 1 }
     {
-        if self.left == 1 {
-            self.left = 0;
-            self.failed_reads = self.failed_reads.saturating_add(out.len() as u64 / 512);
-            self.failed = self.failed.saturating_add(1);
+        if self.calls_to_failure == 1 {
+            self.calls_to_failure = 0;
+            self.sectors_of_failed_reads = self
+                .sectors_of_failed_reads
+                .saturating_add(out.len() as u64 / 512);
+            self.failed_calls = self.failed_calls.saturating_add(1);
             return Err(DeviceFault);
         }
-        self.left = self.left.saturating_sub(1);
+        self.calls_to_failure = self.calls_to_failure.saturating_sub(1);
         self.inner.read(first, out)
     }
 
@@ -75,30 +80,36 @@ impl<D: BlockDev> BlockDev for FailAt<D> {
         ensures sure { IsTrue (⟦<FailAt<D> as BlockDev>⟧.state self.old).never_fails → IsOk result }
         ensures fault { OnErr result (HasFailed (⟦<FailAt<D> as BlockDev>⟧.state self.old) (⟦<FailAt<D> as BlockDev>⟧.state self.new)) }
 
-        // The call that fails leaves the inner device as it was, and every other is the inner device's.
-        ensures fails { self.old.left ≡ 1 → IsErr result × (D.state self.new.inner ≡ D.state self.old.inner) }
-        ensures passes { self.old.left ≢ 1 → IsInnerWrite (D.state self.old.inner) first (length bytes.now / 512) (is_ok result) (D.state self.new.inner) bytes.now }
-        ensures left { self.new.left ≡ self.old.left - 1 }
+        // The call that fails leaves the inner device as it was, and every other is passed on to it.
+        ensures fails { self.old.calls_to_failure ≡ 1 → IsErr result × (D.state self.new.inner ≡ D.state self.old.inner) }
+        ensures passes { self.old.calls_to_failure ≢ 1 → IsInnerWrite (D.state self.old.inner) first (length bytes.now / 512) (is_ok result) (D.state self.new.inner) bytes.now }
+        ensures calls { self.new.calls_to_failure ≡ self.old.calls_to_failure - 1 }
     {
-        if self.left == 1 {
-            self.left = 0;
-            self.failed_writes = self.failed_writes.saturating_add(bytes.len() as u64 / 512);
-            self.failed = self.failed.saturating_add(1);
+        if self.calls_to_failure == 1 {
+            self.calls_to_failure = 0;
+            self.sectors_of_failed_writes = self
+                .sectors_of_failed_writes
+                .saturating_add(bytes.len() as u64 / 512);
+            self.failed_calls = self.failed_calls.saturating_add(1);
             return Err(DeviceFault);
         }
-        self.left = self.left.saturating_sub(1);
+        self.calls_to_failure = self.calls_to_failure.saturating_sub(1);
         self.inner.write(first, bytes)
     }
 
     fn reads(&self) -> u64 {
-        self.inner.reads().saturating_add(self.failed_reads)
+        self.inner
+            .reads()
+            .saturating_add(self.sectors_of_failed_reads)
     }
 
     fn writes(&self) -> u64 {
-        self.inner.writes().saturating_add(self.failed_writes)
+        self.inner
+            .writes()
+            .saturating_add(self.sectors_of_failed_writes)
     }
 
     fn failures(&self) -> u64 {
-        self.inner.failures().saturating_add(self.failed)
+        self.inner.failures().saturating_add(self.failed_calls)
     }
 }

@@ -1,12 +1,14 @@
 // A device in a file.
-ghost use Rattle.std.specs.Prelude.{◌≡◌, ◌↔◌, ◌<◌, ◌≤◌, ◌^◌, ◌/◌, ℕ, false, refl, IfOk, MatchResult};
+ghost use Rattle.std.specs.Prelude.{◌≡◌, ◌≤◌, ◌^◌, ◌/◌, ℕ, false, refl, IfOk, IfErr};
 ghost use Rattle.std.specs.declared.io.ErrorKind.{ErrorKind};
 ghost use Rattle.block_device.specs.Device.{Device, zeros_image};
-ghost use Rattle.block_device.specs.File.{fault_of, opened};
+ghost use Rattle.std.specs.Fs.{metadata_len, file_type, IsFile};
+ghost use Rattle.block_device.specs.File.{fault_of, opened, IsRefused};
 ghost use Rattle.block_device.specs.Whole.{whole_zeros};
 
 use crate::{BlockDev, DeviceFault};
-use std::fs::{File, OpenFile, OpenOptions};
+use std::fs;
+use std::fs::{File, Metadata, OpenFile, OpenOptions};
 use std::io::ErrorKind;
 use std::os::unix::fs::FileExt;
 use std::rt::Files;
@@ -26,7 +28,7 @@ pub enum OpenFault {
     /// The file has more than 2^54 sectors.
     #[error("too large")]
     TooLarge = 3,
-    /// Anything else: the path leads to a directory, or the system failed.
+    /// Anything else: the path leads to no regular file, or the system failed.
     #[error("other fault")]
     OtherFault = 4,
     /// Memory ran out.
@@ -34,11 +36,12 @@ pub enum OpenFault {
     NoMemory = 5,
 }
 
-/// A file as sectors, of which a trailing part of a sector isn't seen.
+/// A regular file as sectors, of which a trailing part of a sector isn't seen.
 ///
-/// Reads and writes are positioned, and short ones are continued, so that no call depends on an earlier
-/// one. That the file holds what was written until it is read is not proved: no contract says what a file
-/// gives, so this device is never called steady.
+/// Reads and writes are positioned: no call moves a position that another one uses. Short ones are continued
+/// by the standard library. That the file holds what was written until it is read is not proved, since no
+/// contract says what a file gives: this device is never called steady. Tests over real files show that bytes
+/// written are read back, that a trailing part stays as it is, and that no failure is counted where none came.
 #[derive(Drop)]
 pub struct FileDev {
     file: File,
@@ -59,13 +62,18 @@ impl FileDev {
     ) -> Result<FileDev, OpenFault>
         ensures { IfOk result (λ f. (⟦<FileDev as BlockDev>⟧.state f) ≡ opened (⟦<FileDev as BlockDev>⟧.state f).size writable) }
     {
+        // Opening a pipe would wait for its other end, so what isn't a file is refused before.
+        match fs::metadata(rt, path) {
+            Ok(metadata) if metadata.is_file() => {}
+            Ok(_) => return Err(OpenFault::OtherFault),
+            Err(e) => return Err(fault_of(e.kind())),
+        }
         let file = match OpenOptions::new().read(true).write(writable).open(rt, path) {
             Ok(file) => file,
             Err(e) => return Err(fault_of(e.kind())),
         };
         match file.metadata() {
-            Ok(metadata) if metadata.is_dir() => Err(OpenFault::OtherFault),
-            Ok(metadata) => of_length(file, metadata.len(), writable),
+            Ok(metadata) => device_of(file, &metadata, writable),
             Err(e) => Err(fault_of(e.kind())),
         }
     }
@@ -83,11 +91,15 @@ fn fault_of(kind: ErrorKind) -> OpenFault
     }
 }
 
-// The device of an open file of that many bytes.
-fn of_length(file: File, length: u64, writable: bool) -> Result<FileDev, OpenFault>
-    ensures { MatchResult result (λ f. ⟦<FileDev as BlockDev>⟧.state f ≡ opened (length / 512) writable) (λ e. (e ≡ OpenFault.TooLarge) × (2 ^ 54 < length / 512)) }
+// The device of an open file, by what the system says of it.
+fn device_of(file: File, metadata: &Metadata, writable: bool) -> Result<FileDev, OpenFault>
+    ensures ok { IfOk result (λ f. IsFile (file_type metadata.now) × (⟦<FileDev as BlockDev>⟧.state f ≡ opened (metadata_len metadata.now / 512) writable)) }
+    ensures err { IfErr result (λ e. IsRefused (metadata_len metadata.now / 512) (IsFile (file_type metadata.now)) e) }
 {
-    let sectors = length / 512;
+    if !metadata.is_file() {
+        return Err(OpenFault::OtherFault);
+    }
+    let sectors = metadata.len() / 512;
     if sectors > MAX_SECTORS {
         return Err(OpenFault::TooLarge);
     }
@@ -155,5 +167,29 @@ impl BlockDev for FileDev {
 
     fn failures(&self) -> u64 {
         self.failures
+    }
+}
+
+#[cfg(test)]
+mod tests {
+    use super::*;
+    use std::test::Fail;
+
+    #[test]
+    fn a_refused_write_is_a_fault(rt: HostRuntime) -> Result<(), Fail> {
+        fs::write(&rt, "kept_open", [1u8; 1024].as_slice())?;
+        let file = File::open(&rt, "kept_open")?;
+        let metadata = file.metadata()?;
+        let mut dev = device_of(file, &metadata, true)?;
+        assert_eq!(rt; dev.sectors(), 2);
+        assert!(rt; dev.writable());
+        assert_eq!(rt; dev.write(0, &[2u8; 1024]), Err(DeviceFault));
+        assert_eq!(rt; (dev.writes(), dev.failures()), (2, 1));
+        assert_eq!(rt;
+            fs::read(&rt, "kept_open")?.as_slice(),
+            [1u8; 1024].as_slice()
+        );
+        fs::remove_file(&rt, "kept_open")?;
+        Ok(())
     }
 }

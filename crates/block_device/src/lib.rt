@@ -1,4 +1,4 @@
-//! Block devices: sectors of 512 bytes in memory, in files, and in tests.
+//! Block devices of 512-byte sectors: in memory, in files, and devices for tests.
 #![tactic(auto)]
 
 mod any;

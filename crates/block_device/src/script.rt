@@ -9,12 +9,13 @@ use crate::{BlockDev, DeviceFault};
 use std::marker::Model;
 
 /// Its i-th read gives the i-th answer, cut or filled with zeros to the length asked for, and zeros after
-/// the last, wherever it is read. It isn't writable and not steady, and never fails.
+/// the last, wherever it is read. It isn't writable and not steady, and no read fails. A write, which no caller
+/// by the trait may ask for, answers a fault, counts nothing and changes nothing.
 #[derive(Drop)]
 pub struct ScriptDev {
     sectors: u64,
     answers: Vec<Vec<u8>>,
-    given: usize,
+    calls: usize,
     reads: u64,
 }
 
@@ -24,7 +25,7 @@ impl Model for ScriptDev {
 
     ghost Value = { Script };
 
-    ghost view = { λ s. record { sectors = s.sectors; answers = map (λ v. v.items) s.answers.items; given = s.given; reads = s.reads } };
+    ghost view = { λ s. record { sectors = s.sectors; answers = map (λ v. v.items) s.answers.items; calls = s.calls; reads = s.reads } };
 
     ghost invariant = { λ s. s.sectors ≤ 2 ^ 54 };
 }
@@ -33,12 +34,12 @@ impl ScriptDev {
     /// A device of at most 2^54 sectors with these answers.
     pub fn new(sectors: u64, answers: Vec<Vec<u8>>) -> ScriptDev
         requires { sectors ≤ 2 ^ 54 }
-        ensures { result ≡ record { sectors = sectors; answers = map (λ v. v.items) answers.items; given = 0; reads = 0 } }
+        ensures { result ≡ record { sectors = sectors; answers = map (λ v. v.items) answers.items; calls = 0; reads = 0 } }
     {
         ScriptDev {
             sectors,
             answers,
-            given: 0,
+            calls: 0,
             reads: 0,
         }
     }
@@ -81,13 +82,13 @@ impl BlockDev for ScriptDev {
         requires { IsInside (⟦<ScriptDev as BlockDev>⟧.state self.old) _first (length out.old) }
         ensures moved { IsRead (⟦<ScriptDev as BlockDev>⟧.state self.old) (length out.old / 512) (is_ok result) (⟦<ScriptDev as BlockDev>⟧.state self.new) }
         ensures ok { IsOk result }
-        ensures bytes { out.new ≡ answer_of self.old.answers self.old.given (length out.old) }
+        ensures bytes { out.new ≡ answer_of self.old.answers self.old.calls (length out.old) }
         ensures answers { self.new.answers ≡ self.old.answers }
-        ensures given { self.new.given ≡ capped (self.old.given + 1) }
+        ensures calls { self.new.calls ≡ capped (self.old.calls + 1) }
     {
         self.reads = self.reads.saturating_add(out.len() as u64 / 512);
-        answer(&self.answers, self.given, out);
-        self.given = self.given.saturating_add(1);
+        answer(&self.answers, self.calls, out);
+        self.calls = self.calls.saturating_add(1);
         Ok(())
     }
 

@@ -1,4 +1,4 @@
-// What no clause says: calls that succeed, bytes that files hold, refusals of real files.
+// Calls that succeed, what real files hold and refuse, and that the clauses say what was meant.
 use crate::{AnyDev, BlockDev, DeviceFault, FailAt, FileDev, MemoryDev, OpenFault, ScriptDev};
 use std::fs;
 use std::fs::Permissions;
@@ -23,7 +23,11 @@ fn round_trip<D: BlockDev>(rt: &impl Abort, dev: &mut D) -> Result<(), Fail> {
     for (at, byte) in [(0u64, 0u8), (1, 0xab), (2, 0xab), (3, 0xcd)] {
         assert_eq!(rt; sector(rt, dev, at)?, [byte; 512], "at {at}");
     }
-    assert_eq!(rt; dev.reads(), 4);
+    assert_eq!(rt; dev.sectors(), 4);
+    let mut two = [0x55u8; 1024];
+    dev.read(1, &mut two)?;
+    assert_eq!(rt; two, [0xabu8; 1024]);
+    assert_eq!(rt; dev.reads(), 6);
     assert_eq!(rt; dev.writes(), 3);
     assert_eq!(rt; dev.failures(), 0);
     Ok(())
@@ -42,6 +46,38 @@ fn devices_keep_what_is_written(rt: HostRuntime) -> Result<(), Fail> {
     let held = fs::read(&rt, "image")?;
     assert_eq!(rt; held.len(), 2048);
     assert_eq!(rt; &held[512..1536], [0xabu8; 1024].as_slice());
+    fs::remove_file(&rt, "image")?;
+    Ok(())
+}
+
+#[test]
+fn each_call_at_its_type(rt: HostRuntime) -> Result<(), Fail> {
+    let mut memory = MemoryDev::zeros(rt.alloc(), 2, true)?;
+    assert_eq!(rt; memory.write(1, &[7u8; 512]), Ok(()));
+    assert_eq!(rt; sector(&rt, &mut memory, 1)?, [7u8; 512]);
+    let mut any = AnyDev::Memory(memory);
+    assert_eq!(rt; any.sectors(), 2);
+    let mut out = [0u8; 512];
+    assert_eq!(rt; any.read(1, &mut out), Ok(()));
+    assert_eq!(rt; out, [7u8; 512]);
+    assert_eq!(rt; any.sectors(), 2);
+    assert!(rt; any.writable());
+    assert_eq!(rt; any.write(0, &[8u8; 512]), Ok(()));
+    assert_eq!(rt; (any.reads(), any.writes(), any.failures()), (2, 2, 0));
+    Ok(())
+}
+
+#[test]
+fn sectors_lie_beyond_4_gib(rt: HostRuntime) -> Result<(), Fail> {
+    let far = (1u64 << 32) / 512 + 5;
+    let file = fs::create(&rt, "far")?;
+    file.set_len((far + 1) * 512)?;
+    let mut dev = FileDev::open(&rt, "far", true)?;
+    assert_eq!(rt; dev.sectors(), far + 1);
+    assert_eq!(rt; dev.write(far, &[0xeeu8; 512]), Ok(()));
+    assert_eq!(rt; sector(&rt, &mut dev, far)?, [0xeeu8; 512]);
+    assert_eq!(rt; sector(&rt, &mut dev, 5)?, [0u8; 512]);
+    fs::remove_file(&rt, "far")?;
     Ok(())
 }
 
@@ -68,6 +104,16 @@ fn a_trailing_part_of_a_sector_is_not_seen(rt: HostRuntime) -> Result<(), Fail> 
         assert_eq!(rt; dev.sectors(), sectors, "at {length}");
         assert!(rt; !dev.writable());
     }
+    let mut dev = FileDev::open(&rt, "image", true)?;
+    assert_eq!(rt; dev.sectors(), 1);
+    assert_eq!(rt; sector(&rt, &mut dev, 0)?, [9u8; 512]);
+    assert_eq!(rt; dev.sectors(), 1);
+    assert!(rt; dev.writable());
+    assert_eq!(rt; dev.write(0, &[4u8; 512]), Ok(()));
+    let held = fs::read(&rt, "image")?;
+    assert_eq!(rt; held.len(), 513);
+    assert_eq!(rt; held[512], 9);
+    fs::remove_file(&rt, "image")?;
     Ok(())
 }
 
@@ -87,6 +133,7 @@ fn files_are_refused(rt: HostRuntime) -> Result<(), Fail> {
         ("absent", false, OpenFault::NotFound),
         ("absent", true, OpenFault::NotFound),
         ("kept/below", false, OpenFault::OtherFault),
+        ("/dev/null", false, OpenFault::OtherFault),
         ("directory", false, OpenFault::OtherFault),
         ("directory", true, OpenFault::OtherFault),
         ("kept", true, OpenFault::NotAllowed),
@@ -105,6 +152,9 @@ fn files_are_refused(rt: HostRuntime) -> Result<(), Fail> {
         sector(&rt, &mut FileDev::open(&rt, "kept", false)?, 0)?,
         [1u8; 512]
     );
+    fs::remove_file(&rt, "kept")?;
+    fs::remove_file(&rt, "hidden")?;
+    fs::remove_dir(&rt, "directory")?;
     Ok(())
 }
 
@@ -120,6 +170,7 @@ fn a_file_cut_short_fails(rt: HostRuntime) -> Result<(), Fail> {
     assert_eq!(rt; dev.read(0, &mut out), Ok(()));
     assert_eq!(rt; dev.reads(), 3);
     assert_eq!(rt; dev.failures(), 1);
+    fs::remove_file(&rt, "image")?;
     Ok(())
 }
 
@@ -165,9 +216,9 @@ fn one_call_fails(rt: HostRuntime) -> Result<(), Fail> {
 #[test]
 fn counters_stop_at_their_end(rt: HostRuntime) -> Result<(), Fail> {
     let mut dev = FailAt::new(MemoryDev::zeros(rt.alloc(), 4, true)?, 1);
-    dev.failed_reads = u64::MAX - 1;
-    dev.failed_writes = u64::MAX;
-    dev.failed = u64::MAX;
+    dev.sectors_of_failed_reads = u64::MAX - 1;
+    dev.sectors_of_failed_writes = u64::MAX;
+    dev.failed_calls = u64::MAX;
     let mut out = [0u8; 1024];
     assert_eq!(rt; dev.read(0, &mut out), Err(DeviceFault));
     assert_eq!(rt; dev.read(0, &mut out), Ok(()));
@@ -195,5 +246,23 @@ fn a_script_is_answered(rt: HostRuntime) -> Result<(), Fail> {
     assert_eq!(rt; (dev.reads(), dev.failures()), (3, 0));
     let mut silent = ScriptDev::new(1, Vec::new(alloc));
     assert_eq!(rt; sector(&rt, &mut silent, 0)?, [0u8; 512]);
+    Ok(())
+}
+
+#[test]
+fn a_script_is_answered_between_failures(rt: HostRuntime) -> Result<(), Fail> {
+    let alloc = rt.alloc();
+    let mut answers = Vec::new(alloc);
+    answers.push(vec![in alloc; 1u8; 512]?)?;
+    answers.push(vec![in alloc; 2u8; 512]?)?;
+    let mut dev = FailAt::new(ScriptDev::new(2, answers), 2);
+    let mut out = [0u8; 512];
+    assert_eq!(rt; dev.read(0, &mut out), Ok(()));
+    assert_eq!(rt; out, [1u8; 512]);
+    assert_eq!(rt; dev.read(0, &mut out), Err(DeviceFault));
+    assert_eq!(rt; dev.read(0, &mut out), Ok(()));
+    assert_eq!(rt; out, [2u8; 512]);
+    assert_eq!(rt; dev.inner.write(0, &[0u8; 512]), Err(DeviceFault));
+    assert_eq!(rt; (dev.reads(), dev.writes(), dev.failures()), (3, 0, 1));
     Ok(())
 }
