@@ -1,0 +1,5 @@
+use Rattle.hash_tree.proofs.LawLemmas.{places-inside}
+use Rattle.hash_tree.proofs.laws.places_lie_inside.Goals as goal
+
+pub returns : goal.returns
+returns c = places-inside

@@ -1,0 +1,5 @@
+use Rattle.hash_tree.proofs.ShapeFacts.{slot-inside}
+use Rattle.hash_tree.proofs.laws.slots_lie_inside.Goals as goal
+
+pub returns : goal.returns
+returns c = slot-inside

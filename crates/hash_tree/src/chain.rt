@@ -1,0 +1,56 @@
+// A data block with the hash blocks on the way to it.
+ghost use Rattle.std.specs.Prelude.{◌↔◌, ◌<◌, ◌^◌, IsTrue, length, map};
+ghost use Rattle.hash_tree.specs.Chain.{IsGood, HangsFrom};
+
+use crate::{Salt, Shape, digest, digest_in};
+use std::marker::Model;
+
+/// A data block with its number, and the hash blocks on the way to it, from the top level down to level 0.
+#[derive(Drop)]
+pub struct Chain {
+    pub index: u64,
+    pub content: Vec<u8>,
+    pub path: Vec<Vec<u8>>,
+}
+
+impl Model for Chain {
+    ghost use Rattle.std.specs.Prelude.{map};
+    ghost use Rattle.hash_tree.specs.Chain.{ChainRecord};
+
+    ghost Value = { ChainRecord };
+
+    ghost view = { λ c. record { index = c.index; content = c.content.items; path = map (λ b. b.items) c.path.items } };
+}
+
+impl Chain {
+    /// Whether the chain leads from that root to the data block of its number.
+    pub fn holds(&self, shape: &Shape, salt: &Salt, root: &[u8; 32]) -> bool
+        ensures { IsTrue result ↔ IsGood shape.now salt.now root.now self.now }
+    {
+        self.index < shape.blocks()
+            && self.path.len() == shape.levels() as usize
+            && hangs(shape, salt, root, self.index, &self.path, &self.content)
+    }
+}
+
+/// Whether the path, and at last the content, hang from the digest that is expected.
+fn hangs(
+    shape: &Shape,
+    salt: &Salt,
+    expected: &[u8; 32],
+    index: u64,
+    path: &[Vec<u8>],
+    content: &[u8],
+) -> bool
+    requires { length path.now < 2 ^ 32 }
+    ensures { IsTrue result ↔ HangsFrom shape.now salt.now index expected.now (map (λ b. b.items) path.now) content.now }
+{
+    let Some((block, below)) = path.split_first() else {
+        return content.len() == shape.data_block() as usize && digest(salt, content) == *expected;
+    };
+    if block.len() != shape.hash_block() as usize || digest(salt, block) != *expected {
+        return false;
+    }
+    let next = digest_in(block, shape.slot_on_path(below.len() as u32, index));
+    hangs(shape, salt, &next, index, below, content)
+}

@@ -1,0 +1,21 @@
+//! Hash trees as dm-verity stores them: shapes, digests, chains of blocks up to the root, and where two chains differ.
+#![tactic(auto)]
+
+mod chain;
+mod difference;
+mod digests;
+pub mod laws;
+mod packing;
+mod salt;
+mod shape;
+#[cfg(test)]
+mod tests;
+#[cfg(test)]
+mod vectors;
+
+pub use chain::Chain;
+pub use difference::{Place, collide};
+pub use digests::{digest, digest_in};
+pub use packing::area;
+pub use salt::Salt;
+pub use shape::{Shape, ShapeFault};

@@ -1,0 +1,92 @@
+// The area: a tree's hash blocks as they are stored.
+ghost use Rattle.std.specs.Prelude.{◌≡◌, ◌+◌, ◌-◌, ◌*◌, ◌≤◌, ◌<◌, ◌/◌, ◌%◌, ◌++◌, length, map, replicate, IfOk, OnOk, IsTrue};
+ghost use Rattle.std.specs.List.{concat};
+ghost use Rattle.hash_tree.specs.Digests.{digest};
+ghost use Rattle.hash_tree.specs.Shape.{is_block_size};
+ghost use Rattle.hash_tree.specs.Tree.{area, root, cut};
+
+use crate::{Salt, Shape, digest};
+use std::alloc::{AllocError, Global};
+
+/// The whole area and the root over the data blocks' digests; each block is made once.
+pub fn area(
+    alloc: Global,
+    shape: &Shape,
+    salt: &Salt,
+    digests: &[[u8; 32]],
+) -> Result<(Vec<u8>, [u8; 32]), AllocError>
+    requires { length digests.now ≡ shape.now.blocks }
+    ensures area { IfOk result (λ r. r.0.items ≡ concat (area shape.now.hash_block salt.now digests.now)) }
+    ensures root { IfOk result (λ r. r.1 ≡ root shape.now.hash_block salt.now digests.now) }
+{
+    let hash_block = shape.hash_block() as usize;
+    let size = shape.area_blocks() as usize * hash_block;
+    let mut bytes = vec![in alloc; 0u8; size]?;
+    let root = build(alloc, hash_block, salt, digests, &mut bytes)?;
+    Ok((bytes, root))
+}
+
+/// Writes the tree over some digests, level by level from the end, and gives its root.
+fn build(
+    alloc: Global,
+    hash_block: usize,
+    salt: &Salt,
+    digests: &[[u8; 32]],
+    out: &mut [u8],
+) -> Result<[u8; 32], AllocError>
+    requires size { IsTrue (is_block_size hash_block) }
+    requires some { 0 < length digests.now }
+    requires room { length out.old ≡ hash_block * length (area hash_block salt.now digests.now) }
+    ensures area { OnOk result (out.new ≡ concat (area hash_block salt.now digests.now)) }
+    ensures root { IfOk result (λ r. r ≡ root hash_block salt.now digests.now) }
+{
+    if digests.len() == 1 {
+        return Ok(digests[0]);
+    }
+    let above = level_start(hash_block, digests.len(), out.len());
+    put_digests(digests, &mut out[above..]);
+    let next = digests_of(alloc, hash_block, salt, &out[above..])?;
+    build(alloc, hash_block, salt, &next, &mut out[..above])
+}
+
+/// Where a level begins that holds so many digests and has its end there.
+fn level_start(hash_block: usize, digests: usize, end: usize) -> usize
+    requires size { 32 ≤ hash_block }
+    requires room { hash_block * ((digests - 1) / (hash_block / 32) + 1) ≤ end }
+    requires some { 0 < digests }
+    ensures { result + hash_block * ((digests - 1) / (hash_block / 32) + 1) ≡ end }
+{
+    end - hash_block * ((digests - 1) / (hash_block / 32) + 1)
+}
+
+/// Writes the digests and fills the rest with zeros.
+fn put_digests(digests: &[[u8; 32]], out: &mut [u8])
+    requires { 32 * length digests.now ≤ length out.old }
+    ensures { out.new ≡ concat digests.now ++ replicate (length out.old - 32 * length digests.now) 0 }
+{
+    let mut end = 0;
+    for digest in digests {
+        out[end..end + 32].copy_from_slice(digest);
+        end += 32;
+    }
+    out[end..].fill(0);
+}
+
+/// The digests of the blocks that stand in a row.
+fn digests_of(
+    alloc: Global,
+    hash_block: usize,
+    salt: &Salt,
+    blocks: &[u8],
+) -> Result<Vec<[u8; 32]>, AllocError>
+    requires size { 0 < hash_block }
+    requires whole { length blocks.now % hash_block ≡ 0 }
+    ensures { IfOk result (λ v. v.items ≡ map (digest salt.now) (cut hash_block blocks.now)) }
+{
+    let count = blocks.len() / hash_block;
+    let mut digests = Vec::with_capacity(alloc, count)?;
+    for i in 0..count {
+        digests.push(digest(salt, &blocks[i * hash_block..(i + 1) * hash_block]))?;
+    }
+    Ok(digests)
+}
