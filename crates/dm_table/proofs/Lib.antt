@@ -1,0 +1,9 @@
+pub mod CutLemmas
+pub mod NumberLemmas
+pub mod LineLemmas
+pub mod ReadLemmas
+pub mod GrammarLemmas
+pub mod StackLemmas
+pub mod PrintLemmas
+pub mod PrintLaw
+mod TextRows

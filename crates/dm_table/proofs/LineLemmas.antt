@@ -1,0 +1,81 @@
+-- Lines and targets, fault by fault.
+use Rattle.std.proofs.Common.{◌≡◌, ℕ, ◌+◌, ◌*◌, ◌==◌, Bool, true, false, List, [], ◌∷◌, length, codes, Result, Ok, Err, ok_or, refl, ap, sym, ◌∙◌, eqb}
+use Rattle.std.specs.Str.{bytes_eq}
+use Rattle.std.proofs.lemmas.Bool.{cond-true, cond-false, ne_eqb, eq-eqb}
+use Rattle.dm_table.specs.declared.table.Base.{Base}
+use Rattle.dm_table.specs.declared.table.Line.{Line}
+use Rattle.dm_table.specs.declared.table.Target.{Target}
+use Rattle.dm_table.specs.declared.table.Target.TheVariants.{Linear, Striped, Zero, Error}
+use Rattle.dm_table.specs.declared.fault.TextKind.{TextKind}
+use Rattle.dm_table.specs.declared.fault.TextKind.TheVariants as kinds
+use Rattle.dm_table.specs.Words.{Word}
+use Rattle.dm_table.specs.Numbers.{number}
+use Rattle.dm_table.specs.Reading.{Read, ◌>>=◌}
+use Rattle.dm_table.specs.Lines.{number_at, linear_at, stripes_at, chunk_at, pairs_at, bases_at, striped_at, bare, target_at, line_of}
+
+-- a striped line at each of its faults
+pub striped-stripes : (count size : Word) (pairs : List Word) (kind : TextKind) → stripes_at count ≡ Err kind → striped_at (count ∷ size ∷ pairs) ≡ Err kind
+unfolding striped_at
+striped-stripes count size pairs kind e =
+    ap (λ r. r >>= (λ n. chunk_at size >>= (λ chunk. pairs_at n pairs >>= (λ bases. Ok (Striped chunk bases))))) e
+
+pub striped-chunk : (count size : Word) (pairs : List Word) (n : ℕ) (kind : TextKind) → stripes_at count ≡ Ok n → chunk_at size ≡ Err kind → striped_at (count ∷ size ∷ pairs) ≡ Err kind
+unfolding striped_at
+striped-chunk count size pairs n kind e f =
+    ap (λ r. r >>= (λ n. chunk_at size >>= (λ chunk. pairs_at n pairs >>= (λ bases. Ok (Striped chunk bases))))) e
+    ∙ ap (λ r. r >>= (λ chunk. pairs_at n pairs >>= (λ bases. Ok (Striped chunk bases)))) f
+
+pub striped-pairs : (count size : Word) (pairs : List Word) (n chunk : ℕ) → stripes_at count ≡ Ok n → chunk_at size ≡ Ok chunk → striped_at (count ∷ size ∷ pairs) ≡ (pairs_at n pairs >>= (λ bases. Ok (Striped chunk bases)))
+unfolding striped_at
+striped-pairs count size pairs n chunk e f =
+    ap (λ r. r >>= (λ n. chunk_at size >>= (λ chunk. pairs_at n pairs >>= (λ bases. Ok (Striped chunk bases))))) e
+    ∙ ap (λ r. r >>= (λ chunk. pairs_at n pairs >>= (λ bases. Ok (Striped chunk bases)))) f
+
+pub striped-count : (count size : Word) (pairs : List Word) (n chunk : ℕ) → stripes_at count ≡ Ok n → chunk_at size ≡ Ok chunk → (length pairs ≡ 2 * n → ⊥) → striped_at (count ∷ size ∷ pairs) ≡ Err kinds.ArgCount
+striped-count count size pairs n chunk e f ne =
+    striped-pairs count size pairs n chunk e f
+    ∙ ap (λ r. r >>= (λ bases. Ok (Striped chunk bases))) (cond-false (eqb (length pairs) (2 * n)) (bases_at pairs) (Err kinds.ArgCount) (ne_eqb (length pairs) (2 * n) ne))
+
+pub striped-bases : (count size : Word) (pairs : List Word) (n chunk : ℕ) → stripes_at count ≡ Ok n → chunk_at size ≡ Ok chunk → length pairs ≡ 2 * n → striped_at (count ∷ size ∷ pairs) ≡ (bases_at pairs >>= (λ bases. Ok (Striped chunk bases)))
+striped-bases count size pairs n chunk e f same =
+    striped-pairs count size pairs n chunk e f
+    ∙ ap (λ r. r >>= (λ bases. Ok (Striped chunk bases))) (cond-true (eqb (length pairs) (2 * n)) (bases_at pairs) (Err kinds.ArgCount) (eq-eqb (length pairs) (2 * n) same))
+
+-- a line at each of its faults
+pub line-start : (start count type : Word) (arguments : List Word) (kind : TextKind) → number_at start ≡ Err kind → line_of (start ∷ count ∷ type ∷ arguments) ≡ Err kind
+unfolding line_of
+line-start start count type arguments kind e =
+    ap (λ r. r >>= (λ first. number_at count >>= (λ sectors. target_at type arguments >>= (λ target. Ok (record { start = first; length = sectors; target = target }))))) e
+
+pub line-length : (start count type : Word) (arguments : List Word) (n : ℕ) (kind : TextKind) → number_at start ≡ Ok n → number_at count ≡ Err kind → line_of (start ∷ count ∷ type ∷ arguments) ≡ Err kind
+unfolding line_of
+line-length start count type arguments n kind e f =
+    ap (λ r. r >>= (λ first. number_at count >>= (λ sectors. target_at type arguments >>= (λ target. Ok (record { start = first; length = sectors; target = target }))))) e
+    ∙ ap (λ r. r >>= (λ sectors. target_at type arguments >>= (λ target. Ok (record { start = n; length = sectors; target = target })))) f
+
+pub line-target : (start count type : Word) (arguments : List Word) (n m : ℕ) → number_at start ≡ Ok n → number_at count ≡ Ok m → line_of (start ∷ count ∷ type ∷ arguments) ≡ (target_at type arguments >>= (λ target. Ok (record { start = n; length = m; target = target })))
+unfolding line_of
+line-target start count type arguments n m e f =
+    ap (λ r. r >>= (λ first. number_at count >>= (λ sectors. target_at type arguments >>= (λ target. Ok (record { start = first; length = sectors; target = target }))))) e
+    ∙ ap (λ r. r >>= (λ sectors. target_at type arguments >>= (λ target. Ok (record { start = n; length = sectors; target = target })))) f
+
+-- the types of targets, each behind those before it
+pub target-linear : (type : Word) (arguments : List Word) → bytes_eq type (codes "linear") ≡ true → target_at type arguments ≡ linear_at arguments
+unfolding target_at
+target-linear type arguments linear = cond-true _ _ _ linear
+
+pub target-striped : (type : Word) (arguments : List Word) → bytes_eq type (codes "linear") ≡ false → bytes_eq type (codes "striped") ≡ true → target_at type arguments ≡ striped_at arguments
+unfolding target_at
+target-striped type arguments linear striped = cond-false _ _ _ linear ∙ cond-true _ _ _ striped
+
+pub target-zero : (type : Word) (arguments : List Word) → bytes_eq type (codes "linear") ≡ false → bytes_eq type (codes "striped") ≡ false → bytes_eq type (codes "zero") ≡ true → target_at type arguments ≡ bare Zero arguments
+unfolding target_at
+target-zero type arguments linear striped zeros = cond-false _ _ _ linear ∙ cond-false _ _ _ striped ∙ cond-true _ _ _ zeros
+
+pub target-error : (type : Word) (arguments : List Word) → bytes_eq type (codes "linear") ≡ false → bytes_eq type (codes "striped") ≡ false → bytes_eq type (codes "zero") ≡ false → bytes_eq type (codes "error") ≡ true → target_at type arguments ≡ bare Error arguments
+unfolding target_at
+target-error type arguments linear striped zeros errors = cond-false _ _ _ linear ∙ cond-false _ _ _ striped ∙ cond-false _ _ _ zeros ∙ cond-true _ _ _ errors
+
+pub target-other : (type : Word) (arguments : List Word) → bytes_eq type (codes "linear") ≡ false → bytes_eq type (codes "striped") ≡ false → bytes_eq type (codes "zero") ≡ false → bytes_eq type (codes "error") ≡ false → target_at type arguments ≡ Err kinds.Target
+unfolding target_at
+target-other type arguments linear striped zeros errors = cond-false _ _ _ linear ∙ cond-false _ _ _ striped ∙ cond-false _ _ _ zeros ∙ cond-false _ _ _ errors

@@ -1,0 +1,10 @@
+-- Printed words, lines and tables.
+use Rattle.std.proofs.Common.{◌≡◌, ℕ, ◌+◌, ◌<◌, ◌≤◌, Bool, true, false, List, [], ◌∷◌, ◌++◌, length, flat_map, Result, Ok, Err, refl, ap, sym, ◌∙◌, append_assoc, append-nil, arith}
+use Rattle.std.specs.List.{join_with_byte}
+use Rattle.dm_table.specs.Words.{Word}
+use Rattle.dm_table.specs.Print.{spaced}
+
+-- words joined by one space are the first, and each other after a space
+pub join-spaced : (word : Word) (more : List Word) → join_with_byte 32 (word ∷ more) ≡ word ++ flat_map spaced more
+join-spaced word [] = sym (append-nil word)
+join-spaced word (next ∷ more) = ap (λ rest. word ++ 32 ∷ rest) (join-spaced next more)

@@ -1,0 +1,15 @@
+use Rattle.std.proofs.Common.{◌≡◌, sym, ◌∙◌, ap, take, drop, arith}
+use Rattle.std.proofs.lemmas.List.{take_rest}
+use Rattle.dm_table.specs.Words.{words}
+use Rattle.dm_table.proofs.CutLemmas.{words-first, words-empty}
+use Rattle.dm_table.proofs.cut.Words.next_word.Goals as goal
+
+pub returns-then-end-eq0 : goal.returns-then-end-eq0
+returns-then-end-eq0 c =
+    let found = simp take_rest at c.word_len-end.ensures.value in
+    sym c.self.view_is ∙ words-empty c.self.inside.rest.now _ _ c.white_len.ensures.value found c.if-end-eq0.true
+
+pub returns : goal.returns
+returns c =
+    let found = simp take_rest at c.word_len-end.ensures.value in
+    simp take_rest (sym c.self.view_is ∙ words-first c.self.inside.rest.now _ _ c.white_len.ensures.value found c.if-end-eq0.false)

@@ -1,0 +1,44 @@
+use Rattle.std.proofs.Common.{◌≡◌, true, false, codes, ap, sym, ◌∙◌}
+use Rattle.std.specs.Str.{bytes_eq}
+use Rattle.dm_table.specs.Lines.{linear_at, striped_at}
+use Rattle.dm_table.proofs.LineLemmas.{target-linear, target-striped, target-zero, target-error, target-other}
+use Rattle.dm_table.proofs.target.read_target.Goals as goal
+
+pub returns-then-eq : goal.returns-then-eq
+returns-then-eq c =
+    let type = c.args.kind.now in
+    let linear : bytes_eq type (codes "linear") ≡ true = sym (c.eq.ensures ∙ ap (bytes_eq type) c.as_slice.ensures) ∙ c.if-eq.true in
+    rw (target-linear type c.args.arguments linear) c.read_linear.ensures
+
+pub returns-then-eq-2 : goal.returns-then-eq-2
+returns-then-eq-2 c =
+    let type = c.args.kind.now in
+    let linear : bytes_eq type (codes "linear") ≡ false = sym (c.eq.ensures ∙ ap (bytes_eq type) c.as_slice.ensures) ∙ c.if-eq.false in
+    let striped : bytes_eq type (codes "striped") ≡ true = sym (c.eq-else-eq.ensures ∙ ap (bytes_eq type) c.as_slice-else-eq.ensures) ∙ c.if-eq-2.true in
+    rw (target-striped type c.args.arguments linear striped) c.read_striped.ensures
+
+pub returns-then-eq-3 : goal.returns-then-eq-3
+returns-then-eq-3 c =
+    let type = c.args.kind.now in
+    let linear : bytes_eq type (codes "linear") ≡ false = sym (c.eq.ensures ∙ ap (bytes_eq type) c.as_slice.ensures) ∙ c.if-eq.false in
+    let striped : bytes_eq type (codes "striped") ≡ false = sym (c.eq-else-eq.ensures ∙ ap (bytes_eq type) c.as_slice-else-eq.ensures) ∙ c.if-eq-2.false in
+    let zeros : bytes_eq type (codes "zero") ≡ true = sym (c.eq-else-eq-2.ensures ∙ ap (bytes_eq type) c.as_slice-else-eq-2.ensures) ∙ c.if-eq-3.true in
+    rw (target-zero type c.args.arguments linear striped zeros) c.read_bare.ensures
+
+pub returns-then-eq-4 : goal.returns-then-eq-4
+returns-then-eq-4 c =
+    let type = c.args.kind.now in
+    let linear : bytes_eq type (codes "linear") ≡ false = sym (c.eq.ensures ∙ ap (bytes_eq type) c.as_slice.ensures) ∙ c.if-eq.false in
+    let striped : bytes_eq type (codes "striped") ≡ false = sym (c.eq-else-eq.ensures ∙ ap (bytes_eq type) c.as_slice-else-eq.ensures) ∙ c.if-eq-2.false in
+    let zeros : bytes_eq type (codes "zero") ≡ false = sym (c.eq-else-eq-2.ensures ∙ ap (bytes_eq type) c.as_slice-else-eq-2.ensures) ∙ c.if-eq-3.false in
+    let errors : bytes_eq type (codes "error") ≡ true = sym (c.eq-else-eq-3.ensures ∙ ap (bytes_eq type) c.as_slice-else-eq-3.ensures) ∙ c.if-eq-4.true in
+    rw (target-error type c.args.arguments linear striped zeros errors) c.read_bare-then-eq-4.ensures
+
+pub returns-else-eq-4 : goal.returns-else-eq-4
+returns-else-eq-4 c =
+    let type = c.args.kind.now in
+    let linear : bytes_eq type (codes "linear") ≡ false = sym (c.eq.ensures ∙ ap (bytes_eq type) c.as_slice.ensures) ∙ c.if-eq.false in
+    let striped : bytes_eq type (codes "striped") ≡ false = sym (c.eq-else-eq.ensures ∙ ap (bytes_eq type) c.as_slice-else-eq.ensures) ∙ c.if-eq-2.false in
+    let zeros : bytes_eq type (codes "zero") ≡ false = sym (c.eq-else-eq-2.ensures ∙ ap (bytes_eq type) c.as_slice-else-eq-2.ensures) ∙ c.if-eq-3.false in
+    let errors : bytes_eq type (codes "error") ≡ false = sym (c.eq-else-eq-3.ensures ∙ ap (bytes_eq type) c.as_slice-else-eq-3.ensures) ∙ c.if-eq-4.false in
+    target-other type c.args.arguments linear striped zeros errors

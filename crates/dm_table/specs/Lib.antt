@@ -1,0 +1,9 @@
+pub mod Words
+pub mod Numbers
+pub mod Names
+pub mod Reading
+pub mod Lines
+pub mod Grammar
+pub mod TableText
+pub mod StackText
+pub mod Print

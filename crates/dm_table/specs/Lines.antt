@@ -1,0 +1,86 @@
+-- A table line: its start, its length, its target and the target's arguments, checked from left to right.
+use Rattle.std.specs.Prelude.{ℕ, ◌*◌, Bool, ◌&&◌, ◌==◌, nat_le, if◌then◌else◌, List, [], ◌∷◌, length, codes, ok_or, Result, Ok, Err}
+use Rattle.std.specs.Str.{bytes_eq}
+use Rattle.dm_table.specs.declared.table.Base.{Base}
+use Rattle.dm_table.specs.declared.table.Line.{Line}
+use Rattle.dm_table.specs.declared.table.Target.{Target}
+use Rattle.dm_table.specs.declared.table.Target.TheVariants.{Linear, Striped, Zero, Error}
+use Rattle.dm_table.specs.declared.fault.TextKind.{TextKind}
+use Rattle.dm_table.specs.declared.fault.TextKind.TheVariants as kinds
+use Rattle.dm_table.specs.Words.{Word}
+use Rattle.dm_table.specs.Numbers.{number, kept}
+use Rattle.dm_table.specs.Names.{is_device}
+use Rattle.dm_table.specs.Reading.{Read, ◌>>=◌}
+
+abbrev pub device_at : Word → Read Word
+device_at word = if is_device word then Ok word else Err kinds.Name
+
+abbrev pub number_at : Word → Read ℕ
+number_at word = ok_or (number word) kinds.Number
+
+-- `<dev> <offset>`
+unfoldable pub base_at : Word → Word → Read Base
+base_at name offset = do
+  device ← device_at name
+  sector ← number_at offset
+  Ok (record { device = device; offset = sector })
+
+-- exactly `<dev> <offset>`
+unfoldable pub linear_at : List Word → Read Target
+linear_at (name ∷ offset ∷ []) = do
+  base ← base_at name offset
+  Ok (Linear base)
+linear_at words = Err kinds.ArgCount
+
+-- pairs `<dev> <offset>`
+abbrev pub bases_at : List Word → Read (List Base)
+bases_at [] = Ok []
+bases_at (name ∷ []) = Err kinds.ArgCount
+bases_at (name ∷ offset ∷ more) = do
+  base ← base_at name offset
+  bases ← bases_at more
+  Ok (base ∷ bases)
+
+-- 1 to 16 devices
+abbrev pub stripes_at : Word → Read ℕ
+stripes_at word = ok_or (kept (λ n. nat_le 1 n && nat_le n 16) (number word)) kinds.StripeCount
+
+-- a chunk of at least one sector
+abbrev pub chunk_at : Word → Read ℕ
+chunk_at word = ok_or (kept (λ n. nat_le 1 n) (number word)) kinds.ZeroChunk
+
+-- exactly n pairs, which are counted before any is looked at
+abbrev pub pairs_at : ℕ → List Word → Read (List Base)
+pairs_at n pairs = if length pairs == 2 * n then bases_at pairs else Err kinds.ArgCount
+
+-- `<num devs> <chunk>`, and that many pairs `<dev> <offset>`
+unfoldable pub striped_at : List Word → Read Target
+striped_at (count ∷ size ∷ pairs) = do
+  n ← stripes_at count
+  chunk ← chunk_at size
+  bases ← pairs_at n pairs
+  Ok (Striped chunk bases)
+striped_at words = Err kinds.ArgCount
+
+-- a target without arguments
+unfoldable pub bare : Target → List Word → Read Target
+bare target [] = Ok target
+bare target (word ∷ more) = Err kinds.ArgCount
+
+-- the target of that type with those arguments
+unfoldable pub target_at : Word → List Word → Read Target
+target_at type arguments =
+    if bytes_eq type (codes "linear") then linear_at arguments
+    else if bytes_eq type (codes "striped") then striped_at arguments
+    else if bytes_eq type (codes "zero") then bare Zero arguments
+    else if bytes_eq type (codes "error") then bare Error arguments
+    else Err kinds.Target
+
+-- `<start_sector> <num_sectors> <target_type> <target_args>`
+unfoldable pub line_of : List Word → Read Line
+line_of (start ∷ count ∷ type ∷ arguments) = do
+  first ← number_at start
+  sectors ← number_at count
+  target ← target_at type arguments
+  Ok (record { start = first; length = sectors; target = target })
+line_of words = Err kinds.ArgCount

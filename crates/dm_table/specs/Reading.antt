@@ -1,0 +1,34 @@
+-- What is read, or the fault.
+use Rattle.std.specs.Prelude.{◌≡◌, ℕ, Result, Ok, Err}
+use Rattle.dm_table.specs.declared.fault.ParseFault.{ParseFault}
+use Rattle.dm_table.specs.declared.fault.ParseFault.TheVariants as parse
+use Rattle.dm_table.specs.declared.fault.LineFault.{LineFault}
+use Rattle.dm_table.specs.declared.fault.LineFault.TheVariants as line_fault
+use Rattle.dm_table.specs.declared.fault.TextFault.{TextFault}
+use Rattle.dm_table.specs.declared.fault.TextKind.{TextKind}
+
+-- what a part of a line says, or the kind of its first fault
+abbrev pub Read : Type 0 → Type 0
+Read A = Result A TextKind
+
+infixl 10 ◌>>=◌
+abbrev pub ◌>>=◌ : {A B E : Type 0} → Result A E → (A → Result B E) → Result B E
+Ok x >>= f = f x
+Err e >>= f = Err e
+
+-- the fault stands at that entry and line
+abbrev pub at_place : {A : Type 0} → ℕ → ℕ → Read A → Result A TextFault
+at_place entry line (Ok x) = Ok x
+at_place entry line (Err kind) = Err (record { entry = entry; line = line; kind = kind })
+
+-- the result is the grammar's answer for the text, unless memory ran out
+abbrev pub IsAnswer : {A : Type 0} → Result A ParseFault → Result A TextFault → Type 0
+IsAnswer (Ok value) answer = answer ≡ Ok value
+IsAnswer (Err (parse.Text fault)) answer = answer ≡ Err fault
+IsAnswer (Err parse.NoMemory) answer = Unit {0}
+
+-- the same of a part of a line, which does not know its place
+abbrev pub IsReading : {A : Type 0} → Result A LineFault → Read A → Type 0
+IsReading (Ok value) answer = answer ≡ Ok value
+IsReading (Err (line_fault.Kind kind)) answer = answer ≡ Err kind
+IsReading (Err line_fault.NoMemory) answer = Unit {0}

@@ -1,0 +1,25 @@
+//! Device-mapper tables and stack texts: read from their texts, and tables printed.
+#![tactic(auto)]
+
+mod cut;
+mod fault;
+mod line;
+mod name;
+mod numbers;
+mod print;
+mod stack;
+mod stack_text;
+mod table;
+mod table_text;
+mod target;
+#[cfg(test)]
+mod tests;
+
+pub use crate::cut::Words;
+pub use crate::fault::{ParseFault, TextFault, TextKind};
+pub use crate::numbers::number;
+pub use crate::print::print_table;
+pub use crate::stack::{Entry, StackText};
+pub use crate::stack_text::parse_stack;
+pub use crate::table::{Base, Bases, Line, Name, Table, Target};
+pub use crate::table_text::parse_table;

@@ -1,0 +1,20 @@
+//! Numbers in a text.
+ghost use Rattle.std.specs.Prelude.{◌≡◌};
+ghost use Rattle.dm_table.specs.Numbers.{number};
+
+/// The value of one or more decimal digits, if it is below 2^64.
+pub fn number(word: &[u8]) -> Option<u64>
+    ensures { result ≡ number word.now }
+{
+    if word.is_empty() {
+        return None;
+    }
+    let mut value: u64 = 0;
+    'digits: for byte in word {
+        if !byte.is_ascii_digit() {
+            return None;
+        }
+        value = value.checked_mul(10)?.checked_add(u64::from(*byte - b'0'))?;
+    }
+    Some(value)
+}

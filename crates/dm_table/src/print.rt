@@ -1,0 +1,109 @@
+//! Tables printed as text.
+ghost use Rattle.std.specs.Prelude.{◌≡◌, ◌∷◌, ◌++◌, [], OnOk, IfOk, Ok, decimal, flat_map};
+ghost use Rattle.dm_table.specs.declared.table.Target.TheVariants.{Linear, Striped};
+ghost use Rattle.dm_table.specs.TableText.{table_of};
+ghost use Rattle.dm_table.specs.Print.{base_words, line_text, spaced, table_text, target_words};
+
+use crate::table::{Base, Line, Table, Target};
+use std::alloc::{AllocError, Global};
+
+/// Prints each line on a line of its own, ended by a newline. `show_keys` has no effect on these
+/// targets, which have no key. It fails only where memory does.
+pub fn print_table(alloc: Global, table: &Table, show_keys: bool) -> Result<Vec<u8>, AllocError>
+    ensures text { IfOk result (λ text. text.items ≡ table_text table.now) }
+    ensures reads_back { IfOk result (λ text. table_of text.items ≡ Ok table.now) }
+{
+    let _ = show_keys;
+    let mut text = Vec::new(alloc);
+    for line in table.lines() {
+        print_line(alloc, &mut text, line)?;
+    }
+    Ok(text)
+}
+
+fn print_line(alloc: Global, text: &mut Vec<u8>, line: &Line) -> Result<(), AllocError>
+    ensures { OnOk result (text.new.items ≡ text.old.items ++ (line_text line.now ++ 10 ∷ [])) }
+{
+    push_number(alloc, text, line.start)?;
+    push_spaced_number(alloc, text, line.length)?;
+    print_target(alloc, text, &line.target)?;
+    text.push(b'\n')?;
+    Ok(())
+}
+
+fn print_target(alloc: Global, text: &mut Vec<u8>, target: &Target) -> Result<(), AllocError>
+    ensures { OnOk result
+        (text.new.items ≡ text.old.items ++ flat_map spaced (target_words target.now)) }
+{
+    match target {
+        Target::Linear(base) => print_linear(alloc, text, base),
+        Target::Striped { chunk, bases } => print_striped(alloc, text, *chunk, bases.as_slice()),
+        Target::Zero => push_spaced(text, b"zero"),
+        Target::Error => push_spaced(text, b"error"),
+    }
+}
+
+fn print_linear(alloc: Global, text: &mut Vec<u8>, base: &Base) -> Result<(), AllocError>
+    ensures { OnOk result
+        (text.new.items ≡ text.old.items ++ flat_map spaced (target_words (Linear base.now))) }
+{
+    push_spaced(text, b"linear")?;
+    print_base(alloc, text, base)?;
+    Ok(())
+}
+
+fn print_striped(
+    alloc: Global,
+    text: &mut Vec<u8>,
+    chunk: u64,
+    bases: &[Base],
+) -> Result<(), AllocError>
+    ensures { OnOk result
+        (text.new.items ≡ text.old.items
+        ++ flat_map spaced (target_words (Striped chunk bases.now))) }
+{
+    push_spaced(text, b"striped")?;
+    push_spaced_number(alloc, text, bases.len() as u64)?;
+    push_spaced_number(alloc, text, chunk)?;
+    print_bases(alloc, text, bases)?;
+    Ok(())
+}
+
+fn print_bases(alloc: Global, text: &mut Vec<u8>, bases: &[Base]) -> Result<(), AllocError>
+    ensures { OnOk result
+        (text.new.items ≡ text.old.items ++ flat_map spaced (flat_map base_words bases.now)) }
+{
+    for base in bases {
+        print_base(alloc, text, base)?;
+    }
+    Ok(())
+}
+
+fn print_base(alloc: Global, text: &mut Vec<u8>, base: &Base) -> Result<(), AllocError>
+    ensures { OnOk result
+        (text.new.items ≡ text.old.items ++ flat_map spaced (base_words base.now)) }
+{
+    push_spaced(text, base.device.as_slice())?;
+    push_spaced_number(alloc, text, base.offset)
+}
+
+fn push_spaced(text: &mut Vec<u8>, word: &[u8]) -> Result<(), AllocError>
+    ensures { OnOk result (text.new.items ≡ text.old.items ++ 32 ∷ word.now) }
+{
+    text.push(b' ')?;
+    text.extend_from_slice(word)
+}
+
+fn push_spaced_number(alloc: Global, text: &mut Vec<u8>, number: u64) -> Result<(), AllocError>
+    ensures { OnOk result (text.new.items ≡ text.old.items ++ 32 ∷ decimal number) }
+{
+    text.push(b' ')?;
+    push_number(alloc, text, number)
+}
+
+fn push_number(alloc: Global, text: &mut Vec<u8>, number: u64) -> Result<(), AllocError>
+    ensures { OnOk result (text.new.items ≡ text.old.items ++ decimal number) }
+{
+    let digits = format!(in alloc; "{number}")?;
+    text.extend_from_slice(digits.as_bytes())
+}

@@ -1,0 +1,88 @@
+//! The devices that a stack text names.
+ghost use Rattle.std.specs.Prelude.{◌≡◌, length};
+ghost use Rattle.dm_table.specs.Reading.{IsAnswer};
+ghost use Rattle.dm_table.specs.StackText.{IsStackOfGrammar, single_of};
+
+use crate::fault::{ParseFault, TextFault, TextKind};
+use crate::name::is_mapped_name;
+use crate::table::{Name, Table};
+use std::alloc::Global;
+use std::marker::Model;
+
+/// One device. The number counts the text's entries from 1, skipped ones too.
+#[derive(Debug, Drop)]
+pub struct Entry {
+    pub number: u32,
+    pub name: Name,
+    pub writable: bool,
+    pub table: Table,
+}
+
+/// The devices of a stack text, in the order written.
+#[derive(Debug, Drop)]
+pub struct StackText {
+    entries: Vec<Entry>,
+}
+
+impl Model for StackText {
+    ghost use Rattle.std.specs.Prelude.{List};
+    ghost use Rattle.dm_table.specs.declared.stack.Entry.{Entry};
+    ghost use Rattle.dm_table.specs.StackText.{IsStackOfGrammar};
+
+    ghost Value = { List Entry };
+
+    ghost view = { λ t. t.entries.items };
+
+    ghost invariant = { λ t. IsStackOfGrammar t.entries.items };
+}
+
+impl StackText {
+    pub(crate) fn new(entries: Vec<Entry>) -> StackText
+        requires { IsStackOfGrammar entries.items }
+        ensures { result ≡ entries.items }
+    {
+        StackText { entries }
+    }
+
+    /// The one device of that name, as entry 1. A name that is no mapped name is the fault `Name` of
+    /// entry 1, line 0, and the table is dropped.
+    pub fn single(
+        alloc: Global,
+        name: &[u8],
+        writable: bool,
+        table: Table,
+    ) -> Result<StackText, ParseFault>
+        ensures { IsAnswer result (single_of name.now writable table) }
+    {
+        if !is_mapped_name(name) {
+            return Err(ParseFault::Text(TextFault {
+                entry: 1,
+                line: 0,
+                kind: TextKind::Name,
+            }));
+        }
+        let name = Name::new(alloc, name)?;
+        let mut entries = Vec::with_capacity(alloc, 1)?;
+        entries.push(Entry {
+            number: 1,
+            name,
+            writable,
+            table,
+        })?;
+        Ok(StackText { entries })
+    }
+
+    /// How many devices there are.
+    pub fn entries(&self) -> usize
+        ensures { result ≡ length self.now }
+    {
+        self.entries.len()
+    }
+
+    pub fn as_slice(&self) -> &[Entry]
+        ensures value { result.now ≡ self.now }
+        ensures grammar { IsStackOfGrammar self.now }
+    {
+        self.entries.as_slice()
+    }
+}

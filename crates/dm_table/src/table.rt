@@ -1,0 +1,198 @@
+//! A device's table, as it was read.
+ghost use Rattle.std.specs.Prelude.{◌≡◌, List, ℕ, ◌∷◌, [], ◌++◌, length, IfOk};
+ghost use Rattle.dm_table.specs.Grammar.{IsTableOfGrammar};
+
+use std::alloc::{AllocError, Global};
+use std::marker::Model;
+
+/// The bytes of a name, as they were written.
+#[derive(Debug, Drop)]
+pub struct Name {
+    bytes: Vec<u8>,
+}
+
+impl Model for Name {
+    ghost use Rattle.std.specs.Prelude.{List, ℕ};
+
+    ghost Value = { List ℕ };
+
+    ghost view = { λ n. n.bytes.items };
+}
+
+impl Name {
+    pub(crate) fn new(alloc: Global, bytes: &[u8]) -> Result<Name, AllocError>
+        ensures { IfOk result (λ name. name ≡ bytes.now) }
+    {
+        let bytes = Vec::from_slice(alloc, bytes)?;
+        Ok(Name { bytes })
+    }
+
+    pub fn as_slice(&self) -> &[u8]
+        ensures { result.now ≡ self.now }
+    {
+        self.bytes.as_slice()
+    }
+}
+
+/// The device beneath a range, by the name that was written, and the sector there at which the
+/// range begins.
+#[derive(Debug, Drop)]
+pub struct Base {
+    pub device: Name,
+    pub offset: u64,
+}
+
+impl Base {
+    pub(crate) fn try_clone(&self, alloc: Global) -> Result<Base, AllocError>
+        ensures { IfOk result (λ base. base ≡ self.now) }
+    {
+        let device = Name::new(alloc, self.device.as_slice())?;
+        Ok(Base {
+            device,
+            offset: self.offset,
+        })
+    }
+}
+
+/// The devices of a striped line, 1 to 16 of them.
+#[derive(Debug, Drop)]
+pub struct Bases {
+    list: Vec<Base>,
+}
+
+impl Model for Bases {
+    ghost use Rattle.std.specs.Prelude.{List};
+    ghost use Rattle.dm_table.specs.declared.table.Base.{Base};
+
+    ghost Value = { List Base };
+
+    ghost view = { λ s. s.list.items };
+}
+
+impl Bases {
+    pub(crate) fn with_capacity(alloc: Global, count: usize) -> Result<Bases, AllocError>
+        ensures { IfOk result (λ bases. bases ≡ []) }
+    {
+        let list = Vec::with_capacity(alloc, count)?;
+        Ok(Bases { list })
+    }
+
+    pub(crate) fn push(&mut self, base: Base) -> Result<(), AllocError>
+        ensures { IfOk result (λ _. self.new ≡ self.old ++ base ∷ []) }
+    {
+        self.list.push(base)?;
+        Ok(())
+    }
+
+    pub fn as_slice(&self) -> &[Base]
+        ensures { result.now ≡ self.now }
+    {
+        self.list.as_slice()
+    }
+
+    pub(crate) fn try_clone(&self, alloc: Global) -> Result<Bases, AllocError>
+        ensures { IfOk result (λ bases. bases ≡ self.now) }
+    {
+        let mut bases = Bases::with_capacity(alloc, self.list.len())?;
+        for base in self.as_slice() {
+            bases.push(base.try_clone(alloc)?)?;
+        }
+        Ok(bases)
+    }
+}
+
+/// What a line does.
+#[derive(Debug, Drop)]
+pub enum Target {
+    /// Sectors of one device, from its offset on.
+    Linear(Base),
+    /// Chunks of so many sectors, on the devices in turn.
+    Striped { chunk: u64, bases: Bases },
+    /// Reads as zeros; what is written is dropped.
+    Zero,
+    /// Every read and every write fails.
+    Error,
+}
+
+impl Target {
+    pub(crate) fn try_clone(&self, alloc: Global) -> Result<Target, AllocError>
+        ensures { IfOk result (λ target. target ≡ self.now) }
+    {
+        Ok(match self {
+            Target::Linear(base) => Target::Linear(base.try_clone(alloc)?),
+            Target::Striped { chunk, bases } => Target::Striped {
+                chunk: *chunk,
+                bases: bases.try_clone(alloc)?,
+            },
+            Target::Zero => Target::Zero,
+            Target::Error => Target::Error,
+        })
+    }
+}
+
+/// One line of a table: the sectors from `start` on, `length` of them.
+#[derive(Debug, Drop)]
+pub struct Line {
+    pub start: u64,
+    pub length: u64,
+    pub target: Target,
+}
+
+impl Line {
+    pub(crate) fn try_clone(&self, alloc: Global) -> Result<Line, AllocError>
+        ensures { IfOk result (λ line. line ≡ self.now) }
+    {
+        let target = self.target.try_clone(alloc)?;
+        Ok(Line {
+            start: self.start,
+            length: self.length,
+            target,
+        })
+    }
+}
+
+/// A device's lines: at least one.
+#[derive(Debug, Drop)]
+pub struct Table {
+    lines: Vec<Line>,
+}
+
+impl Model for Table {
+    ghost use Rattle.std.specs.Prelude.{List};
+    ghost use Rattle.dm_table.specs.declared.table.Line.{Line};
+    ghost use Rattle.dm_table.specs.Grammar.{IsTableOfGrammar};
+
+    ghost Value = { List Line };
+
+    ghost view = { λ t. t.lines.items };
+
+    ghost invariant = { λ t. IsTableOfGrammar t.lines.items };
+}
+
+impl Table {
+    pub(crate) fn new(lines: Vec<Line>) -> Table
+        requires { IsTableOfGrammar lines.items }
+        ensures { result ≡ lines.items }
+    {
+        Table { lines }
+    }
+
+    /// The lines, in the order read.
+    pub fn lines(&self) -> &[Line]
+        ensures value { result.now ≡ self.now }
+        ensures grammar { IsTableOfGrammar self.now }
+    {
+        self.lines.as_slice()
+    }
+
+    /// An equal table. It fails only where memory does.
+    pub fn try_clone(&self, alloc: Global) -> Result<Table, AllocError>
+        ensures { IfOk result (λ table. table ≡ self.now) }
+    {
+        let mut lines = Vec::with_capacity(alloc, self.lines.len())?;
+        for line in self.lines() {
+            lines.push(line.try_clone(alloc)?)?;
+        }
+        Ok(Table { lines })
+    }
+}
