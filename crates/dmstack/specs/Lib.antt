@@ -1,0 +1,4 @@
+pub mod Commands
+pub mod Session
+pub mod Stacks
+pub mod Texts

@@ -1,0 +1,28 @@
+-- The line of a sector.
+use Rattle.std.proofs.Common.{◌≡◌, ℕ, ◌+◌, ◌<◌, ◌≤◌, Bool, cond, nat_lt, List, [], ◌∷◌, Option, Some, sym, ap, ◌∙◌, arith, inl, inr}
+use Rattle.std.specs.Prelude.{find}
+use Rattle.std.specs.List.{enumerate_from}
+use Rattle.std.proofs.lemmas.Bool.{cases_lt, lt-ltb, le-ltb}
+use Rattle.dm_table.specs.declared.table.Line.{Line}
+
+abbrev pub end_of : Line → ℕ
+end_of line = line.start + line.length
+
+abbrev pub found_from : ℕ → List Line → ℕ → Option (ℕ × Line)
+found_from k lines s = find (λ p. nat_lt s (p.1.start + p.1.length)) (enumerate_from k lines)
+
+here : (k : ℕ) (line : Line) (lines : List Line) (s : ℕ) → s < end_of line → found_from k (line ∷ lines) s ≡ Some (k, line)
+here k line lines s h = ap (λ (b : Bool). cond b (Some (k, line)) (found_from (k + 1) lines s)) (lt-ltb s (line.start + line.length) h)
+
+later : (k : ℕ) (line : Line) (lines : List Line) (s : ℕ) → end_of line ≤ s → found_from k (line ∷ lines) s ≡ found_from (k + 1) lines s
+later k line lines s h = ap (λ (b : Bool). cond b (Some (k, line)) (found_from (k + 1) lines s)) (le-ltb s (line.start + line.length) h)
+
+-- further on in the same line
+pub found-more : (k : ℕ) (lines : List Line) (s t : ℕ) (p : ℕ × Line) → found_from k lines s ≡ Some p → s ≤ t → t < end_of p.1 → found_from k lines t ≡ Some p
+found-more k [] s t p e h below = cc
+found-more k (x ∷ lines) s t p e h below = elim (cases_lt s (end_of x)) [
+  | inl low ↦ let same : (k, x) ≡ p = cc (here k x lines s low) in
+      let inside : t < end_of x = omega (arith, below, ap (λ (q : ℕ × Line). end_of q.1) same) in
+      here k x lines t inside ∙ ap Some same
+  | inr high ↦ later k x lines t (omega (arith, high, h)) ∙ found-more (k + 1) lines s t p (sym (later k x lines s high) ∙ e) h below
+]

@@ -1,0 +1,58 @@
+-- What reads do to the leaves.
+use Rattle.std.specs.Prelude.{◌≡◌, ℕ, ◌+◌, ◌<◌, ◌≤◌, Bool, IsTrue, List, length, map, sum_by, All}
+use Rattle.std.specs.List.{slice_index_or}
+use Rattle.block_device.specs.Device.{Device, HasFailed}
+use Rattle.stack_loader.specs.Records.{LeafRecord}
+use Rattle.stack_engine.specs.Meaning.{Images}
+
+abbrev pub images_of : List Device → Images
+images_of leaves = map (λ l. l.image) leaves
+
+abbrev pub sizes_of : List Device → List ℕ
+sizes_of leaves = map (λ l. l.size) leaves
+
+abbrev pub flags_of : List Device → List Bool
+flags_of leaves = map (λ l. l.may_write) leaves
+
+-- the devices have the sizes and flags of the configuration's leaves, in order
+pub record ServeLeaves (wanted : List LeafRecord) (leaves : List Device) : Type 0 where
+  pub sizes : sizes_of leaves ≡ map (λ l. l.sectors) wanted
+  pub flags : flags_of leaves ≡ map (λ l. l.writable) wanted
+
+-- what their counters have counted
+abbrev pub reads_of : List Device → ℕ
+reads_of leaves = sum_by (λ l. l.reads) leaves
+
+abbrev pub writes_of : List Device → ℕ
+writes_of leaves = sum_by (λ l. l.writes) leaves
+
+abbrev pub AllSteady : List Device → Type 0
+AllSteady leaves = All (λ l. IsTrue l.steady) leaves
+
+-- no leaf ever fails
+abbrev pub AllNeverFail : List Device → Type 0
+AllNeverFail leaves = All (λ l. IsTrue l.never_fails) leaves
+
+-- what no read changes of a leaf
+pub record Fixed : Type 0 where
+  pub size : ℕ
+  pub may_write : Bool
+  pub steady : Bool
+  pub writes : ℕ
+
+abbrev pub fixed : Device → Fixed
+fixed l = record { size = l.size; may_write = l.may_write; steady = l.steady; writes = l.writes }
+
+-- Some reads, of at most so many sectors. The counters are those of the devices, which stop at the greatest u64.
+pub record AreRead (old : List Device) (most : ℕ) (new : List Device) : Type 0 where
+  pub fixed : map fixed new ≡ map fixed old
+  pub reads : reads_of new ≤ reads_of old + most
+  pub failures : (i : ℕ) (d : Device) → (slice_index_or old i d).failures ≤ (slice_index_or new i d).failures
+  pub never_fails : (i : ℕ) (d : Device) → IsTrue (slice_index_or old i d).never_fails → IsTrue (slice_index_or new i d).never_fails
+  pub images : AllSteady old → images_of new ≡ images_of old
+
+-- leaf i failed, and it is none that never fails
+pub record LeafFailed (i : ℕ) (old new : List Device) : Type 0 where
+  pub inside : i < length old
+  pub failed : (d : Device) → HasFailed (slice_index_or old i d) (slice_index_or new i d)
+  pub unsure : (d : Device) → IsTrue (slice_index_or old i d).never_fails → ⊥

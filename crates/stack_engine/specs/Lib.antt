@@ -1,0 +1,11 @@
+pub mod Sectors
+pub mod Meaning
+pub mod May
+pub mod Leaves
+pub mod Reading
+pub mod Sources
+pub mod Stacks
+pub mod LeafLaws
+pub mod Spans
+pub mod Runs
+pub mod Pieces

@@ -1,0 +1,20 @@
+-- A stack and the answer of a read, as contracts see them.
+use Rattle.std.specs.Prelude.{ℕ, List}
+use Rattle.block_device.specs.Device.{Device}
+use Rattle.stack_loader.specs.Records.{Configuration}
+use Rattle.stack_loader.specs.Rules.{IsLoaded}
+use Rattle.stack_engine.specs.Leaves.{ServeLeaves}
+
+-- a configuration, and the devices of its leaves in order
+pub record StackRecord : Type 0 where
+  pub config : Configuration
+  pub leaves : List Device
+
+-- what holds of every stack, whatever its devices answer
+pub record IsSound (c : Configuration) (leaves : List Device) : Type 0 where
+  pub loaded : IsLoaded c
+  pub serve : ServeLeaves c.leaves leaves
+
+-- the bytes of a piece
+pub record AnswerRecord : Type 0 where
+  pub bytes : List ℕ

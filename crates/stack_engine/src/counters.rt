@@ -1,0 +1,19 @@
+// What the leaves have counted.
+ghost use Rattle.std.specs.Prelude.{◌≡◌, map};
+ghost use Rattle.block_device.specs.Device.{capped};
+ghost use Rattle.stack_engine.specs.Leaves.{reads_of, writes_of};
+
+use block_device::BlockDev;
+
+/// How many sectors the devices have read and written.
+pub(crate) fn counted<D: BlockDev>(devices: &[D]) -> (u64, u64)
+    ensures { result ≡ (capped (reads_of (map D.state devices.now)), capped (writes_of (map D.state devices.now))) }
+{
+    let mut reads = 0u64;
+    let mut writes = 0u64;
+    for device in devices {
+        reads = reads.saturating_add(device.reads());
+        writes = writes.saturating_add(device.writes());
+    }
+    (reads, writes)
+}

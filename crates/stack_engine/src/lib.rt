@@ -1,0 +1,17 @@
+//! Reads through stacked devices, piece by piece.
+#![tactic(auto)]
+
+mod answer;
+mod buffer;
+mod counters;
+mod fault;
+mod read;
+mod serve;
+mod source;
+mod stack;
+#[cfg(test)]
+mod tests;
+
+pub use answer::Answer;
+pub use fault::IoFault;
+pub use stack::Stack;

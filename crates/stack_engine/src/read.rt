@@ -1,0 +1,101 @@
+// Reads through the lines of a stack, down to its leaves.
+ghost use Rattle.std.specs.Prelude.{◌≡◌, ◌<◌, ◌≤◌, ◌+◌, ◌*◌, ◌/◌, ◌%◌, length, map, replicate};
+ghost use Rattle.stack_loader.specs.Names.{mapped, size};
+ghost use Rattle.stack_loader.specs.Rules.{IsLoaded};
+ghost use Rattle.stack_engine.specs.Leaves.{ServeLeaves};
+ghost use Rattle.stack_engine.specs.Reading.{Reads};
+ghost use Rattle.stack_engine.specs.Sources.{SourceHolds, ReadsSource};
+
+use crate::fault::IoFault;
+use crate::serve::run_at;
+use crate::source::Source;
+use block_device::BlockDev;
+use stack_loader::{Config, DevId, Lower};
+
+fn fill_zeros(out: &mut [u8])
+    ensures { out.new ≡ replicate (length out.old) 0 }
+{
+    out.fill(0);
+}
+
+/// The sectors of a leaf, by one call of its device.
+fn read_leaf<D: BlockDev>(
+    config: &Config,
+    devices: &mut [D],
+    leaf: u32,
+    first: u64,
+    out: &mut [u8],
+) -> Result<(), IoFault>
+    requires loaded { IsLoaded config.now }
+    requires serve { ServeLeaves config.now.leaves (map D.state devices.old) }
+    requires there { leaf < length devices.old }
+    requires some { 0 < length out.old }
+    requires whole { length out.old % 512 ≡ 0 }
+    requires inside { first + length out.old / 512 ≤ size config.now (Lower.Leaf leaf) }
+    ensures { Reads config.now (Lower.Leaf leaf) first (length out.old / 512)
+        (map D.state devices.old) (map D.state devices.new) result out.new }
+{
+    match devices[leaf as usize].read(first, out) {
+        Ok(()) => Ok(()),
+        Err(_) => Err(IoFault::Device(leaf + 1)),
+    }
+}
+
+/// The sectors of one run.
+#[cycle(read)]
+fn read_run<D: BlockDev>(
+    config: &Config,
+    devices: &mut [D],
+    source: Source,
+    out: &mut [u8],
+) -> Result<(), IoFault>
+    requires loaded { IsLoaded config.now }
+    requires serve { ServeLeaves config.now.leaves (map D.state devices.old) }
+    requires some { 0 < length out.old }
+    requires whole { length out.old % 512 ≡ 0 }
+    requires inside { SourceHolds config.now source (length out.old / 512) }
+    ensures { ReadsSource config.now source (length out.old / 512)
+        (map D.state devices.old) (map D.state devices.new) result out.new }
+{
+    match source {
+        Source::Below { lower, first } => match lower {
+            Lower::Leaf(leaf) => read_leaf(config, devices, leaf, first, out),
+            Lower::Device(d) => read_device(config, devices, d, first, out),
+        },
+        Source::Zeros => {
+            fill_zeros(out);
+            Ok(())
+        }
+        Source::Fails => Err(IoFault::ErrorTarget),
+    }
+}
+
+/// The sectors of a mapped device, run by run.
+#[cycle(read)]
+pub(crate) fn read_device<D: BlockDev>(
+    config: &Config,
+    devices: &mut [D],
+    d: DevId,
+    first: u64,
+    out: &mut [u8],
+) -> Result<(), IoFault>
+    requires loaded { IsLoaded config.now }
+    requires serve { ServeLeaves config.now.leaves (map D.state devices.old) }
+    requires some { 0 < length out.old }
+    requires whole { length out.old % 512 ≡ 0 }
+    requires inside { first + length out.old / 512 ≤ size config.now (mapped d.0) }
+    ensures { Reads config.now (mapped d.0) first (length out.old / 512)
+        (map D.state devices.old) (map D.state devices.new) result out.new }
+{
+    let mut at = 0;
+    while at < out.len() {
+        let rest = (out.len() - at) as u64 / 512;
+        let run = run_at(config, d, first + at as u64 / 512, rest);
+        let end = at + run.count as usize * 512;
+        match read_run(config, devices, run.source, &mut out[at..end]) {
+            Ok(()) => at = end,
+            Err(fault) => return Err(fault),
+        }
+    }
+    Ok(())
+}

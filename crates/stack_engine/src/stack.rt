@@ -1,0 +1,119 @@
+// A stack: a configuration, and the devices of its leaves.
+ghost use Rattle.std.specs.Prelude.{◌≡◌, ◌<◌, ◌≤◌, ◌+◌, ◌*◌, ◌^◌, map, IsOk, IfOk, IfErr, OnOk, OnErr, None, Some, Err};
+ghost use Rattle.block_device.specs.Device.{capped};
+ghost use Rattle.stack_loader.specs.Names.{mapped, size};
+ghost use Rattle.stack_loader.specs.Descend.{read_cost};
+ghost use Rattle.stack_loader.specs.Rules.{after_load, first_refusal};
+ghost use Rattle.stack_loader.specs.declared.refusal.Refusal.{Refusal};
+ghost use Rattle.stack_engine.specs.Meaning.{span, sector};
+ghost use Rattle.stack_engine.specs.May.{MayBe, MayFault};
+ghost use Rattle.stack_engine.specs.Leaves.{ServeLeaves, AreRead, AllSteady, images_of, reads_of, writes_of};
+ghost use Rattle.stack_engine.specs.Reading.{Ends, Answers};
+ghost use Rattle.stack_engine.specs.Stacks.{StackRecord, IsSound};
+
+use crate::answer::Answer;
+use crate::buffer::zero_sectors;
+use crate::counters::counted;
+use crate::fault::IoFault;
+use crate::read::read_device;
+use block_device::BlockDev;
+use dm_table::StackText;
+use stack_loader::{Config, DevId, LoadFault};
+use std::alloc::Global;
+use std::marker::Model;
+
+/// A configuration, and the devices of its leaves in order.
+#[derive(Drop)]
+pub struct Stack<D: BlockDev> {
+    alloc: Global,
+    config: Config,
+    devices: Vec<D>,
+}
+
+impl<D: BlockDev> Model for Stack<D> {
+    ghost use Rattle.std.specs.Prelude.{map};
+    ghost use Rattle.stack_engine.specs.Stacks.{StackRecord, IsSound};
+
+    ghost Value = { StackRecord };
+
+    ghost view = { λ s. record { config = s.config; leaves = map D.state s.devices.items } };
+
+    ghost invariant = { λ s. IsSound s.config (map D.state s.devices.items) };
+}
+
+impl<D: BlockDev> Stack<D> {
+    /// A stack of that configuration, whose leaves the devices are, in order. It fails only where memory
+    /// does, and hands both back.
+    pub fn new(
+        alloc: Global,
+        config: Config,
+        devices: Vec<D>,
+        capacity: u32,
+    ) -> Result<Stack<D>, (Config, Vec<D>)>
+        requires { ServeLeaves config.leaves (map D.state devices.items) }
+        ensures ok { IfOk result (λ s. s ≡ record { config = config; leaves = map D.state devices.items }) }
+        ensures err { IfErr result (λ p. (p.0 ≡ config) × (p.1 ≡ devices)) }
+        ensures sure { IsOk result }
+    {
+        let _ = capacity;
+        let _loaded = config.count();
+        Ok(Stack {
+            alloc,
+            config,
+            devices,
+        })
+    }
+
+    /// The n sectors of a device from `first` on.
+    pub fn read_piece(&mut self, d: DevId, first: u64, n: u32) -> Result<Answer, IoFault>
+        requires some { 1 ≤ n }
+        requires most { n ≤ 128 }
+        requires inside { first + n ≤ size self.old.config (mapped d.0) }
+        ensures config { self.new.config ≡ self.old.config }
+        ensures moved { AreRead self.old.leaves (n * read_cost self.old.config (mapped d.0)) self.new.leaves }
+        ensures may { Ends (λ answer. MayBe self.old.config (mapped d.0) first n answer.bytes) (MayFault self.old.config (mapped d.0) first n)
+            self.old.leaves self.new.leaves result }
+        ensures exact { AllSteady self.old.leaves → Answers (λ answer. answer.bytes) (span (sector self.old.config (images_of self.old.leaves) (mapped d.0)) first n) result }
+    {
+        let mut bytes = match zero_sectors(self.alloc, n) {
+            Ok(bytes) => bytes,
+            Err(_) => return Err(IoFault::NoMemory),
+        };
+        match read_device(
+            &self.config,
+            self.devices.as_mut_slice(),
+            d,
+            first,
+            bytes.as_mut_slice(),
+        ) {
+            Err(fault) => Err(fault),
+            Ok(()) => Ok(Answer { bytes }),
+        }
+    }
+
+    /// Puts the devices of a text in, all or none.
+    pub fn load(&mut self, text: &StackText) -> Result<(), LoadFault>
+        ensures ok { OnOk result (first_refusal self.old.config text.now ≡ None) }
+        ensures after { OnOk result (self.new ≡ record { config = after_load self.old.config text.now; leaves = self.old.leaves }) }
+        ensures refused { (r : Refusal) → result ≡ Err (LoadFault.Refused r) → first_refusal self.old.config text.now ≡ Some r }
+        ensures same { OnErr result (self.new ≡ self.old) }
+    {
+        let outcome = self.config.load(text);
+        let _loaded = self.config.count();
+        outcome
+    }
+
+    pub fn config(&self) -> &Config
+        ensures value { result.now ≡ self.now.config }
+        ensures sound { IsSound self.now.config self.now.leaves }
+    {
+        &self.config
+    }
+
+    /// How many sectors the leaves have read and written, each sum at most the greatest `u64`.
+    pub fn moved(&self) -> (u64, u64)
+        ensures { result ≡ (capped (reads_of self.now.leaves), capped (writes_of self.now.leaves)) }
+    {
+        counted(self.devices.as_slice())
+    }
+}

@@ -1,0 +1,17 @@
+pub mod Records
+pub mod Names
+pub mod Descend
+pub mod Lines
+pub mod Rules
+pub mod Leaves
+pub mod Kept
+pub mod Passing
+pub mod Heights
+pub mod Places
+pub mod Index
+pub mod Facts
+pub mod Unroll
+pub mod Valid
+pub mod ValidLines
+pub mod ValidLowers
+pub mod ValidCosts

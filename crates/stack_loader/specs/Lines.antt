@@ -1,0 +1,47 @@
+-- The lines of a device by their sectors and numbers.
+use Rattle.std.specs.Prelude.{◌≡◌, ℕ, ◌+◌, ◌≤◌, ◌<◌, List, [], ◌∷◌, find, nat_lt, slice_get, Option, Some, option_and_then}
+use Rattle.std.specs.List.{enumerate_from}
+use Rattle.std.specs.Option.{option_map_or}
+use Rattle.dm_table.specs.declared.table.Line.{Line}
+use Rattle.stack_loader.specs.declared.lower.Lower.{Lower}
+use Rattle.stack_loader.specs.Records.{Configuration}
+use Rattle.stack_loader.specs.Names.{lines_of, names, named}
+
+-- the first line that ends past sector s of its device, after its number from 0
+abbrev pub line_in : List Line → ℕ → Option (ℕ × Line)
+line_in lines s = find (λ p. nat_lt s (p.1.start + p.1.length)) (enumerate_from 0 lines)
+
+abbrev pub line_at : Configuration → ℕ → ℕ → Option (ℕ × Line)
+line_at c d s = line_in (lines_of c d) s
+
+-- line l of device d is that line
+abbrev pub IsLine : Configuration → ℕ → ℕ → Line → Type 0
+IsLine c d l line = slice_get (lines_of c d) l ≡ Some line
+
+-- lines that follow each other from a sector on, none of them empty
+abbrev pub Follow : ℕ → List Line → Type 0
+Follow start [] = Unit {0}
+Follow start (line ∷ more) = (line.start ≡ start) × (0 < line.length) × Follow (start + line.length) more
+
+-- line l, where there is one, starts at or before sector s, or after it
+abbrev pub StartsBy : List Line → ℕ → ℕ → Type 0
+StartsBy lines l s = (line : Line) → slice_get lines l ≡ Some line → line.start ≤ s
+
+abbrev pub StartsAfter : List Line → ℕ → ℕ → Type 0
+StartsAfter lines l s = (line : Line) → slice_get lines l ≡ Some line → s < line.start
+
+-- sector s of a device with those lines lies in line l, which has left sectors from there on
+pub record IsIn (lines : List Line) (s l left : ℕ) : Type 0 where
+  pub line : Line
+  pub is : line_in lines s ≡ Some (l, line)
+  pub at : slice_get lines l ≡ Some line
+  pub start : line.start ≤ s
+  pub ends : s + left ≡ line.start + line.length
+  pub some : 0 < left
+
+-- the names in line l of device d, and what the i-th of them means
+abbrev pub names_at : Configuration → ℕ → ℕ → List (List ℕ)
+names_at c d l = option_map_or (λ line. names line.target) (slice_get (lines_of c d) l) []
+
+abbrev pub lower_at : Configuration → ℕ → ℕ → ℕ → Option Lower
+lower_at c d l i = option_and_then (named c) (slice_get (names_at c d l) i)

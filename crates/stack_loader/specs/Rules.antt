@@ -1,0 +1,194 @@
+-- Which loads are refused, and by which rule first.
+use Rattle.std.specs.Prelude.{◌≡◌, ◌≤◌, IsTrue, All, ℕ, zero, suc, ◌+◌, ◌-◌, ◌*◌, ◌/◌, ◌%◌, ◌^◌, Bool, true, false, not, ◌&&◌, ◌||◌, ◌==◌, nat_lt, is_none, List, [], ◌∷◌, ◌++◌, length, map, take, filter, flat_map, Option, Some, None, if◌then◌else◌, find}
+use Rattle.std.specs.List.{list_any, enumerate_from, starts_with, IsDistinct}
+use Rattle.std.specs.Option.{option_map_or}
+use Rattle.std.specs.Str.{bytes_eq}
+use Rattle.dm_table.specs.declared.stack.Entry.{Entry}
+use Rattle.dm_table.specs.declared.table.Base.{Base}
+use Rattle.dm_table.specs.declared.table.Line.{Line}
+use Rattle.dm_table.specs.declared.table.Target.{Target}
+use Rattle.dm_table.specs.declared.table.Target.TheVariants.{Linear, Striped, Zero, Error}
+use Rattle.dm_table.specs.Names.{is_mapped_name, is_name_of, is_leaf_byte, mapper}
+use Rattle.stack_loader.specs.declared.lower.Lower.{Lower}
+use Rattle.stack_loader.specs.declared.lower.Lower.TheVariants.{Leaf as leaf, Device as device}
+use Rattle.stack_loader.specs.declared.refusal.LoadKind.{LoadKind}
+use Rattle.stack_loader.specs.declared.refusal.LoadKind.TheVariants.{DuplicateName, TooMany, NoSuchDevice, StandsOnItself, ZeroLength, Gap, TooLarge, StripesDontDivide, BeyondDevice, LowerReadOnly, TooDeep, CostTooLarge}
+use Rattle.stack_loader.specs.declared.refusal.Refusal.{Refusal}
+use Rattle.stack_loader.specs.Records.{Configuration, DeviceRecord, LeafRecord}
+use Rattle.stack_loader.specs.Names.{mapped, named, names, lowers, sectors_of, size, may_write, device_named}
+use Rattle.stack_loader.specs.Descend.{depth, read_cost, most_devices}
+
+-- ---- the configuration to come
+
+-- the device, with the table and flag of the entry that has its name
+abbrev pub replaced : List Entry → DeviceRecord → DeviceRecord
+replaced text d = option_map_or (λ e. record d { writable = e.writable; table = e.table }) (find (λ e. bytes_eq e.name d.name) text) d
+
+abbrev pub created : Entry → DeviceRecord
+created e = record { name = e.name; writable = e.writable; table = e.table }
+
+-- the present devices in order, and then the new ones in the text's order
+abbrev pub after_load : Configuration → List Entry → Configuration
+after_load c text = record c {
+  devices = map (replaced text) c.devices ++ map created (filter (λ e. is_none (device_named c e.name)) text);
+}
+
+-- ---- the rules, each at a device and line that count from 1
+
+abbrev pub refuse : LoadKind → ℕ → ℕ → Bool → Option Refusal
+refuse kind d l applies = if applies then Some (record { kind = kind; device = d; line = l }) else None
+
+-- at each entry whose name an earlier one has
+abbrev pub duplicate_names : List (List ℕ) → List Entry → List (Option Refusal)
+duplicate_names earlier [] = []
+duplicate_names earlier (e ∷ more) = refuse DuplicateName e.number 0 (list_any (bytes_eq e.name) earlier) ∷ duplicate_names (e.name ∷ earlier) more
+
+abbrev pub most_lines : ℕ
+most_lines = 256
+
+abbrev pub is_mapped : ℕ → Lower → Bool
+is_mapped e (leaf i) = false
+is_mapped e (device d) = e == d.0
+
+-- a chain of at most n lines leads from a leaf or device to device e
+abbrev pub leads : Configuration → ℕ → ℕ → Lower → Bool
+leads c zero e from = false
+leads c (suc n) e (leaf i) = false
+leads c (suc n) e (device d) = list_any (λ lower. is_mapped e lower || leads c n e lower) (lowers c d.0)
+
+-- a chain that leads from a device to itself and meets none twice is no longer than there are devices
+unfoldable pub stands_on_itself : Configuration → ℕ → Bool
+stands_on_itself c d = leads c most_devices d (mapped d)
+
+-- the most sectors of a device, the most leaf sectors that a read of one moves, and the most depth
+abbrev pub most_sectors : ℕ
+most_sectors = 2 ^ 54
+
+abbrev pub most_cost : ℕ
+most_cost = 2 ^ 32
+
+abbrev pub most_depth : ℕ
+most_depth = 8
+
+-- a range of the named device that ends there ends past it
+abbrev pub ends_past : Configuration → List ℕ → ℕ → Bool
+ends_past c name end = option_map_or (λ lower. nat_lt (size c lower) end) (named c name) true
+
+-- a mapped range, or a stripe's share, ends past the named device
+abbrev pub is_beyond : Configuration → ℕ → Target → Bool
+is_beyond c len (Linear base) = ends_past c base.device (base.offset + len)
+is_beyond c len (Striped chunk bases) = list_any (λ base. ends_past c base.device (base.offset + len / length bases)) bases
+is_beyond c len Zero = false
+is_beyond c len Error = false
+
+-- the devices that a target names, each with the sector at which the range begins
+abbrev pub bases_of : Target → List Base
+bases_of (Linear base) = base ∷ []
+bases_of (Striped chunk bases) = bases
+bases_of Zero = []
+bases_of Error = []
+
+-- how many sectors of each of them a line takes
+abbrev pub share : ℕ → Target → ℕ
+share len (Linear base) = len
+share len (Striped chunk bases) = len / length bases
+share len Zero = len
+share len Error = len
+
+-- the length is no multiple of stripes times chunk
+abbrev pub is_undivided : ℕ → Target → Bool
+is_undivided len (Linear base) = false
+is_undivided len (Striped chunk bases) = not (len % (length bases * chunk) == 0)
+is_undivided len Zero = false
+is_undivided len Error = false
+
+-- the line names a leaf or device that may not be written
+abbrev pub names_read_only : Configuration → Target → Bool
+names_read_only c target = list_any (λ name. option_map_or (λ lower. not (may_write c lower)) (named c name) false) (names target)
+
+-- the rules of line l of device d, where the lines before it have so many sectors
+abbrev pub line_rules : Configuration → Bool → ℕ → ℕ → ℕ → Line → List (Option Refusal)
+line_rules c writable d l before line =
+    refuse ZeroLength d l (line.length == 0)
+    ∷ refuse Gap d l (not (line.start == before))
+    ∷ refuse TooLarge d l (nat_lt most_sectors (line.start + line.length))
+    ∷ refuse StripesDontDivide d l (is_undivided line.length line.target)
+    ∷ refuse BeyondDevice d l (is_beyond c line.length line.target)
+    ∷ refuse LowerReadOnly d l (writable && names_read_only c line.target)
+    ∷ []
+
+-- what a rule says of each device in order
+abbrev pub each_device : Configuration → (ℕ → DeviceRecord → List (Option Refusal)) → List (Option Refusal)
+each_device c rules = flat_map (λ p. rules p.0 p.1) (enumerate_from 1 c.devices)
+
+-- each line whose names don't all mean a leaf or device
+abbrev pub unknown_in : Configuration → ℕ → List Line → List (Option Refusal)
+unknown_in c d lines = flat_map (λ p. refuse NoSuchDevice d p.0 (list_any (λ name. is_none (named c name)) (names p.1.target)) ∷ []) (enumerate_from 1 lines)
+
+abbrev pub unknown_names : Configuration → List (Option Refusal)
+unknown_names c = each_device c (λ d x. unknown_in c d x.table)
+
+-- each device that stands on itself
+abbrev pub circles : Configuration → List (Option Refusal)
+circles c = each_device c (λ d x. refuse StandsOnItself d 0 (stands_on_itself c (d - 1)) ∷ [])
+
+-- the rules of each line of device d
+abbrev pub table_rules : Configuration → ℕ → DeviceRecord → List (Option Refusal)
+table_rules c d x = flat_map (λ p. line_rules c x.writable d p.0 (sectors_of (take (p.0 - 1) x.table)) p.1) (enumerate_from 1 x.table)
+
+-- the rules on the whole configuration, and then those on each line
+abbrev pub is_too_many : List DeviceRecord → Bool
+is_too_many devices = nat_lt most_devices (length devices) || list_any (λ d. nat_lt most_lines (length d.table)) devices
+
+abbrev pub device_rules : Configuration → List (Option Refusal)
+device_rules c = refuse TooMany 0 0 (is_too_many c.devices) ∷ unknown_names c ++ circles c ++ each_device c (table_rules c)
+
+abbrev pub depth_rules : Configuration → List (Option Refusal)
+depth_rules c = each_device c (λ d x. refuse TooDeep d 0 (nat_lt most_depth (depth c (mapped (d - 1)))) ∷ [])
+
+abbrev pub cost_rules : Configuration → List (Option Refusal)
+cost_rules c = each_device c (λ d x. refuse CostTooLarge d 0 (nat_lt most_cost (read_cost c (mapped (d - 1)))) ∷ [])
+
+-- all rules but that on the names in the text, in their order
+abbrev pub rules : Configuration → List (Option Refusal)
+rules c = device_rules c ++ depth_rules c ++ cost_rules c
+
+-- the first refusal of a list
+abbrev pub first : List (Option Refusal) → Option Refusal
+first [] = None
+first (None ∷ more) = first more
+first (Some refusal ∷ more) = Some refusal
+
+-- the rules on a load, in their order
+abbrev pub load_rules : Configuration → List Entry → List (Option Refusal)
+load_rules c text = duplicate_names [] text ++ rules (after_load c text)
+
+-- the first refusal of a load
+unfoldable pub first_refusal : Configuration → List Entry → Option Refusal
+first_refusal c text = first (load_rules c text)
+
+-- no rule refuses it
+unfoldable pub IsValid : Configuration → Type 0
+IsValid c = first (rules c) ≡ None
+
+-- a name that a table may give a leaf: 1 to 255 bytes, which don't begin as the path of a mapped device does
+unfoldable pub is_leaf_name : List ℕ → Bool
+is_leaf_name name = is_name_of 255 is_leaf_byte name && not (starts_with ◌==◌ name mapper)
+
+-- the most leaves
+abbrev pub most_leaves : ℕ
+most_leaves = 64
+
+-- at most 64 leaves, each with a leaf name of its own and at most 2^54 sectors
+pub record AreLeaves (leaves : List LeafRecord) : Type 0 where
+  pub count : length leaves ≤ most_leaves
+  pub distinct : IsDistinct bytes_eq (map (λ l. l.name) leaves)
+  pub names : All (λ l. IsTrue (is_leaf_name l.name)) leaves
+  pub sizes : All (λ l. l.sectors ≤ most_sectors) leaves
+
+-- a configuration that loads have made: each name once, and no rule refuses it
+pub record IsLoaded (c : Configuration) : Type 0 where
+  pub leaves : AreLeaves c.leaves
+  pub distinct : IsDistinct bytes_eq (map (λ d. d.name) c.devices)
+  pub mapped : All (λ d. IsTrue (is_mapped_name d.name)) c.devices
+  pub valid : IsValid c

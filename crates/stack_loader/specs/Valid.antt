@@ -1,0 +1,70 @@
+-- What a valid configuration gives.
+use Rattle.std.proofs.Common.{◌≡◌, ◌+◌, ◌-◌, ◌≤◌, ◌<◌, ℕ, zero, suc, List, [], ◌∷◌, ◌++◌, refl, Bool, true, false, Option, Some, None, length, arith, nat_lt}
+use Rattle.std.specs.Prelude.{flat_map, slice_get}
+use Rattle.std.specs.List.{AllByRecursion, enumerate_from}
+use Rattle.stack_loader.specs.Records.{Configuration, DeviceRecord}
+use Rattle.stack_loader.specs.declared.lower.Lower.{Lower}
+use Rattle.stack_loader.specs.declared.lower.Lower.TheVariants.{Leaf as leaf, Device as device}
+use Rattle.stack_loader.specs.declared.refusal.LoadKind.TheVariants.{TooDeep}
+use Rattle.stack_loader.specs.declared.refusal.Refusal.{Refusal}
+use Rattle.stack_loader.specs.Names.{mapped}
+use Rattle.stack_loader.specs.Descend.{depth, descend}
+use Rattle.stack_loader.specs.Rules.{IsValid, first, device_rules, depth_rules, cost_rules, refuse, most_depth}
+
+-- a list in which nothing refuses
+parts : (xs ys : List (Option Refusal)) → first (xs ++ ys) ≡ None → (first xs ≡ None) × (first ys ≡ None)
+parts [] ys h = (refl, h)
+parts (None ∷ xs) ys h = parts xs ys h
+parts (Some r ∷ xs) ys h = let clash : Some r ≡ None = h in cc
+
+each : {X : Type 0} (f : X → List (Option Refusal)) (xs : List X) → first (flat_map f xs) ≡ None → AllByRecursion (λ x. first (f x) ≡ None) xs
+each f [] h = tt
+each f (x ∷ xs) h = let both : (first (f x) ≡ None) × (first (flat_map f xs) ≡ None) = parts (f x) (flat_map f xs) h in (both.0, each f xs both.1)
+
+shallow-one : (d n : ℕ) → first (refuse TooDeep d 0 (nat_lt most_depth n) ∷ []) ≡ None → n ≤ most_depth
+shallow-one d n h = go (nat_lt most_depth n) refl h
+  where
+    go : (b : Bool) → nat_lt most_depth n ≡ b → first (refuse TooDeep d 0 b ∷ []) ≡ None → n ≤ most_depth
+    go true e h = let refused : Refusal = record { kind = TooDeep; device = d; line = 0 } in let clash : Some refused ≡ None = h in cc
+    go false e h = Rattle.std.proofs.lemmas.Bool.ltb-false most_depth n e
+
+in_order : (c : Configuration) (k : ℕ) (devices : List DeviceRecord)
+    → AllByRecursion (λ p. first (refuse TooDeep p.0 0 (nat_lt most_depth (depth c (mapped (p.0 - 1)))) ∷ []) ≡ None) (enumerate_from (k + 1) devices)
+    → (d : ℕ) → k ≤ d → d < k + length devices → depth c (mapped d) ≤ most_depth
+in_order c k [] all d low high = let no_room : ⊥ = omega (arith, low, high) in absurd no_room
+in_order c k (x ∷ xs) all d low high = go (Rattle.std.proofs.Math.Decide.dec_le d k) (λ above. in_order c (k + 1) xs all.1 d above (omega (arith, high)))
+  where
+    go : Dec (d ≤ k) → (k + 1 ≤ d → depth c (mapped d) ≤ most_depth) → depth c (mapped d) ≤ most_depth
+    go (yes below) later =
+        let here : d ≡ (k + 1) - 1 = omega (arith, below, low) in
+        rw here (shallow-one (k + 1) (depth c (mapped ((k + 1) - 1))) all.0)
+    go (no above) later = later (grind (arith, above))
+
+pub past_end : (d : ℕ) (devices : List DeviceRecord) → length devices ≤ d → slice_get devices d ≡ None
+past_end d [] h = refl
+past_end zero (x ∷ xs) h = let no_room : ⊥ = omega (arith, h) in absurd no_room
+past_end (suc d) (x ∷ xs) h = past_end d xs (omega (arith, h))
+
+pub depth-leaf : (c : Configuration) (i : ℕ) → depth c (leaf i) ≡ 0
+unfolding descend
+depth-leaf c i = refl
+
+pub depth-past : (c : Configuration) (d : ℕ) → slice_get c.devices d ≡ None → depth c (mapped d) ≡ 1
+unfolding descend
+depth-past c d none = rw none refl
+
+-- in a valid configuration no depth is above 8
+pub depth-low : (c : Configuration) → IsValid c → (x : Lower) → depth c x ≤ most_depth
+unfolding IsValid
+depth-low c valid (leaf i) = rw depth-leaf (omega arith)
+depth-low c valid (device d) = go (Rattle.std.proofs.Math.Decide.dec_le (length c.devices) d.0)
+  where
+    deep : first (depth_rules c) ≡ None
+    deep = (parts (device_rules c) (depth_rules c) (parts (device_rules c ++ depth_rules c) (cost_rules c) valid).0).1
+
+    all : AllByRecursion (λ p. first (refuse TooDeep p.0 0 (nat_lt most_depth (depth c (mapped (p.0 - 1)))) ∷ []) ≡ None) (enumerate_from 1 c.devices)
+    all = each (λ p. refuse TooDeep p.0 0 (nat_lt most_depth (depth c (mapped (p.0 - 1)))) ∷ []) (enumerate_from 1 c.devices) deep
+
+    go : Dec (length c.devices ≤ d.0) → depth c (device d) ≤ most_depth
+    go (yes past) = rw (depth-past c d.0 (past_end d.0 c.devices past)) (omega arith)
+    go (no inside) = in_order c 0 c.devices all d.0 (omega arith) (grind (arith, inside))

@@ -1,0 +1,116 @@
+// A configuration to come, checked by all rules.
+ghost use Rattle.std.specs.Prelude.{◌≡◌, ◌≤◌, length, nat_lt};
+ghost use Rattle.std.specs.List.{list_any};
+ghost use Rattle.stack_loader.specs.Records.{configuration};
+ghost use Rattle.stack_loader.specs.Passing.{IsPassed};
+ghost use Rattle.stack_loader.specs.Facts.{AreFacts, IsNext};
+ghost use Rattle.stack_loader.specs.Rules.{rules, load_rules, is_too_many, most_leaves, most_lines};
+
+use crate::circles::circle_refusal;
+use crate::heights::{MOST_DEVICES, first_above, heights};
+use crate::leaf::Leaf;
+use crate::lowers::DeviceLowers;
+use crate::mapped::Mapped;
+use crate::next::{duplicate, next_devices};
+use crate::refusal::{LoadFault, LoadKind, Refusal};
+use crate::resolve::lowers_of;
+use crate::rules::lines_refusal;
+use dm_table::Entry;
+use std::alloc::Global;
+
+const MOST_LINES: usize = 256;
+
+const MOST_DEPTH: u64 = 8;
+
+const MOST_COST: u64 = 1 << 32;
+
+/// What is computed once of a configuration.
+#[derive(Drop)]
+pub(crate) struct Facts {
+    pub(crate) depths: Vec<u64>,
+    pub(crate) read_costs: Vec<u64>,
+    pub(crate) write_costs: Vec<u64>,
+    pub(crate) lowers: Vec<DeviceLowers>,
+}
+
+fn has_long_table(devices: &[Mapped]) -> bool
+    ensures { result ≡ list_any (λ d. nat_lt most_lines (length d.table)) devices.now }
+{
+    devices
+        .iter()
+        .any(|device| device.table().lines().len() > MOST_LINES)
+}
+
+fn is_too_many(devices: &[Mapped]) -> bool
+    ensures { result ≡ is_too_many devices.now }
+{
+    devices.len() > MOST_DEVICES as usize || has_long_table(devices)
+}
+
+/// The facts of a configuration, or the first rule that refuses it.
+pub(crate) fn check(alloc: Global, leaves: &[Leaf], devices: &[Mapped]) -> Result<Facts, LoadFault>
+    requires { length leaves.now ≤ most_leaves }
+    ensures { let c = configuration leaves.now devices.now in IsPassed result (rules c) (AreFacts c) }
+{
+    if is_too_many(devices) {
+        return Err(LoadFault::Refused(Refusal {
+            kind: LoadKind::TooMany,
+            device: 0,
+            line: 0,
+        }));
+    }
+    let lowers = lowers_of(alloc, leaves, devices)?;
+    let depths = heights(alloc, 0, 1, lowers.as_slice())?;
+    let circle = circle_refusal(alloc, lowers.as_slice(), depths.as_slice())?;
+    match circle {
+        Some(refusal) => return Err(LoadFault::Refused(refusal)),
+        None => {}
+    }
+    match lines_refusal(leaves, devices, lowers.as_slice()) {
+        Some(refusal) => return Err(LoadFault::Refused(refusal)),
+        None => {}
+    }
+    match first_above(depths.as_slice(), MOST_DEPTH, LoadKind::TooDeep) {
+        Some(refusal) => return Err(LoadFault::Refused(refusal)),
+        None => {}
+    }
+    let read_costs = heights(alloc, 1, 0, lowers.as_slice())?;
+    match first_above(read_costs.as_slice(), MOST_COST, LoadKind::CostTooLarge) {
+        Some(refusal) => return Err(LoadFault::Refused(refusal)),
+        None => {}
+    }
+    let write_costs = heights(alloc, 1, 0, lowers.as_slice())?;
+    Ok(Facts {
+        depths,
+        read_costs,
+        write_costs,
+        lowers,
+    })
+}
+
+/// The devices after a load, and what is computed of them.
+#[derive(Drop)]
+pub(crate) struct Next {
+    pub(crate) devices: Vec<Mapped>,
+    pub(crate) facts: Facts,
+}
+
+/// The configuration after a load, or the first rule that refuses it.
+pub(crate) fn next_load(
+    alloc: Global,
+    leaves: &[Leaf],
+    devices: &[Mapped],
+    entries: &[Entry],
+) -> Result<Next, LoadFault>
+    requires { length leaves.now ≤ most_leaves }
+    ensures { let c = configuration leaves.now devices.now in IsPassed result (load_rules c entries.now) (IsNext c entries.now) }
+{
+    let refusal = duplicate(alloc, entries)?;
+    match refusal {
+        Some(refusal) => return Err(LoadFault::Refused(refusal)),
+        None => {}
+    }
+    let devices = next_devices(alloc, devices, entries)?;
+    let facts = check(alloc, leaves, devices.as_slice())?;
+    Ok(Next { devices, facts })
+}

@@ -1,0 +1,63 @@
+// Devices that stand on themselves.
+ghost use Rattle.std.specs.Prelude.{◌≡◌, ◌==◌, ◌<◌, ◌≤◌, length, slice_index, slice_set, nat_le, IfOk};
+ghost use Rattle.std.specs.List.{list_any};
+ghost use Rattle.stack_loader.specs.Records.{Configuration};
+ghost use Rattle.stack_loader.specs.Descend.{depth, most_devices};
+ghost use Rattle.stack_loader.specs.Heights.{marks};
+ghost use Rattle.stack_loader.specs.Kept.{AreLowers, each_mapped};
+ghost use Rattle.stack_loader.specs.Rules.{first, circles};
+
+use crate::heights::{MOST_DEVICES, constant, round};
+use crate::lowers::DeviceLowers;
+use crate::refusal::{LoadKind, Refusal};
+use std::alloc::{AllocError, Global};
+
+fn mark(values: &mut Vec<u64>, d: usize)
+    requires { d < length values.old.items }
+    ensures { values.new.items ≡ slice_set values.old.items d 1 }
+{
+    values[d] = 1;
+}
+
+/// Whether a chain of lines leads from the device to itself, by as many rounds as there may be devices.
+fn is_marked(alloc: Global, lowers: &[DeviceLowers], d: usize) -> Result<bool, AllocError>
+    requires { d < length lowers.now }
+    ensures { IfOk result (λ marked. marked ≡ (slice_index (marks lowers.now d most_devices) d == 1)) }
+{
+    let mut values = constant(alloc, lowers, 0)?;
+    for _round in 0..MOST_DEVICES {
+        mark(&mut values, d);
+        values = round(alloc, 0, 0, lowers, values.as_slice())?;
+    }
+    Ok(values[d] == 1)
+}
+
+fn is_deep(depths: &[u64]) -> bool
+    ensures { result ≡ list_any (λ n. nat_le most_devices n) depths.now }
+{
+    depths.iter().any(|depth| *depth >= 64)
+}
+
+/// The first device that stands on itself. Where no depth comes to the number of devices, there is none.
+pub(crate) fn circle_refusal(
+    alloc: Global,
+    lowers: &[DeviceLowers],
+    depths: &[u64],
+) -> Result<Option<Refusal>, AllocError>
+    requires { length lowers.now ≤ most_devices }
+    ensures { (c : Configuration) → AreLowers c lowers.now → depths.now ≡ each_mapped (depth c) (length c.devices) → IfOk result (λ refusal. refusal ≡ first (circles c)) }
+{
+    if !is_deep(depths) {
+        return Ok(None);
+    }
+    for d in 0..lowers.len() {
+        if is_marked(alloc, lowers, d)? {
+            return Ok(Some(Refusal {
+                kind: LoadKind::StandsOnItself,
+                device: d as u32 + 1,
+                line: 0,
+            }));
+        }
+    }
+    Ok(None)
+}

@@ -1,0 +1,175 @@
+// A loaded configuration.
+ghost use Rattle.std.specs.Prelude.{◌≡◌, ◌<◌, length, slice_get, None, Some, [], IfOk, IfErr, OnOk, OnErr, Err, option_map};
+ghost use Rattle.stack_loader.specs.Names.{device_named, name_of, lines_of, mapped, size, may_write};
+ghost use Rattle.stack_loader.specs.Descend.{depth, read_cost, write_cost};
+ghost use Rattle.stack_loader.specs.Lines.{IsIn, names_at, lower_at};
+ghost use Rattle.stack_loader.specs.Leaves.{first_fault};
+ghost use Rattle.stack_loader.specs.declared.refusal.Refusal.{Refusal};
+ghost use Rattle.stack_loader.specs.Rules.{IsLoaded, after_load, first_refusal};
+
+use crate::check::next_load;
+use crate::leaf::Leaf;
+use crate::leaves::leaves_fault;
+use crate::lower::{DevId, Lower};
+use crate::lowers::DeviceLowers;
+use crate::mapped::{Mapped, place_of};
+use crate::refusal::{ConfigFault, LoadFault};
+use crate::sectors::line_of;
+use dm_table::{StackText, Table};
+use std::alloc::Global;
+use std::marker::Model;
+
+/// Leaves, and the mapped devices that loads have put on them.
+#[derive(Drop)]
+pub struct Config {
+    alloc: Global,
+    leaves: Vec<Leaf>,
+    devices: Vec<Mapped>,
+    depths: Vec<u64>,
+    read_costs: Vec<u64>,
+    write_costs: Vec<u64>,
+    lowers: Vec<DeviceLowers>,
+}
+
+impl Model for Config {
+    ghost use Rattle.stack_loader.specs.Records.{Configuration};
+    ghost use Rattle.stack_loader.specs.Kept.{IsKept};
+
+    ghost Value = { Configuration };
+
+    ghost view = { λ c. record { leaves = c.leaves.items; devices = c.devices.items } };
+
+    ghost invariant = { λ c.
+        IsKept (record { leaves = c.leaves.items; devices = c.devices.items })
+        c.depths.items c.read_costs.items c.write_costs.items c.lowers.items };
+}
+
+impl Config {
+    /// A configuration of these leaves and no mapped device.
+    pub fn new(alloc: Global, leaves: Vec<Leaf>) -> Result<Config, ConfigFault>
+        ensures ok { IfOk result (λ c. c ≡ record { leaves = leaves.items; devices = [] }) }
+        ensures leaves { OnOk result (first_fault leaves.items ≡ None) }
+        ensures err { IfErr result (λ fault. first_fault leaves.items ≡ Some fault) }
+    {
+        match leaves_fault(leaves.as_slice()) {
+            Some(fault) => Err(fault),
+            None => Ok(Config {
+                alloc,
+                leaves,
+                devices: Vec::new(alloc),
+                depths: Vec::new(alloc),
+                read_costs: Vec::new(alloc),
+                write_costs: Vec::new(alloc),
+                lowers: Vec::new(alloc),
+            }),
+        }
+    }
+
+    /// Creates each device that the text names, or replaces its table and flag: all or none.
+    pub fn load(&mut self, text: &StackText) -> Result<(), LoadFault>
+        ensures ok { OnOk result (first_refusal self.old text.now ≡ None) }
+        ensures after { OnOk result (self.new ≡ after_load self.old text.now) }
+        ensures refused { (r : Refusal) → result ≡ Err (LoadFault.Refused r) → first_refusal self.old text.now ≡ Some r }
+        ensures same { OnErr result (self.new ≡ self.old) }
+    {
+        let next = next_load(
+            self.alloc,
+            self.leaves.as_slice(),
+            self.devices.as_slice(),
+            text.as_slice(),
+        )?;
+        self.devices = next.devices;
+        self.depths = next.facts.depths;
+        self.read_costs = next.facts.read_costs;
+        self.write_costs = next.facts.write_costs;
+        self.lowers = next.facts.lowers;
+        Ok(())
+    }
+
+    /// How many mapped devices there are.
+    pub fn count(&self) -> usize
+        ensures value { result ≡ length self.now.devices }
+        ensures loaded { IsLoaded self.now }
+    {
+        self.devices.len()
+    }
+
+    /// The mapped device of that name.
+    pub fn device(&self, name: &[u8]) -> Option<DevId>
+        ensures { result ≡ option_map (λ d. record { 0 = d }) (device_named self.now name.now) }
+    {
+        let place = place_of(self.devices.as_slice(), name)?;
+        Some(DevId(place as u32))
+    }
+
+    pub fn name(&self, d: DevId) -> &[u8]
+        requires { d.0 < length self.now.devices }
+        ensures { result.now ≡ name_of self.now d.0 }
+    {
+        self.devices[d.0 as usize].name()
+    }
+
+    /// Its size in sectors.
+    pub fn sectors(&self, d: DevId) -> u64
+        requires { d.0 < length self.now.devices }
+        ensures { result ≡ size self.now (mapped d.0) }
+    {
+        self.devices[d.0 as usize].size() as u64
+    }
+
+    pub fn writable(&self, d: DevId) -> bool
+        requires { d.0 < length self.now.devices }
+        ensures { result ≡ may_write self.now (mapped d.0) }
+    {
+        self.devices[d.0 as usize].writable()
+    }
+
+    /// One more than the depth of the deepest device that it names; a leaf has depth 0.
+    pub fn depth(&self, d: DevId) -> u32
+        requires { d.0 < length self.now.devices }
+        ensures { result ≡ depth self.now (mapped d.0) }
+    {
+        self.depths[d.0 as usize] as u32
+    }
+
+    /// The most leaf sectors that reading one sector moves.
+    pub fn read_cost(&self, d: DevId) -> u64
+        requires { d.0 < length self.now.devices }
+        ensures { result ≡ read_cost self.now (mapped d.0) }
+    {
+        self.read_costs[d.0 as usize]
+    }
+
+    /// The most leaf sectors that writing one sector moves.
+    pub fn write_cost(&self, d: DevId) -> u64
+        requires { d.0 < length self.now.devices }
+        ensures { result ≡ write_cost self.now (mapped d.0) }
+    {
+        self.write_costs[d.0 as usize]
+    }
+
+    pub fn table(&self, d: DevId) -> &Table
+        requires { d.0 < length self.now.devices }
+        ensures { result.now ≡ lines_of self.now d.0 }
+    {
+        self.devices[d.0 as usize].table()
+    }
+
+    /// The number of the line in which a sector lies, from 0, and the sectors left in it from there on.
+    pub fn line_at(&self, d: DevId, sector: u64) -> (u32, u64)
+        requires device { d.0 < length self.now.devices }
+        requires sector { sector < size self.now (mapped d.0) }
+        ensures { IsIn (lines_of self.now d.0) sector result.0 result.1 }
+    {
+        line_of(self.devices[d.0 as usize].table(), sector)
+    }
+
+    /// What the i-th name of a line means, from 0.
+    pub fn lower(&self, d: DevId, line: u32, i: u32) -> Lower
+        requires device { d.0 < length self.now.devices }
+        requires name { i < length (names_at self.now d.0 line) }
+        ensures { lower_at self.now d.0 line i ≡ Some result }
+    {
+        self.lowers[d.0 as usize].at(line as usize, i as usize)
+    }
+}

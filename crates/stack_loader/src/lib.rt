@@ -1,0 +1,26 @@
+//! Configurations of stacked devices: checked as a whole, and loaded all or none.
+#![tactic(auto)]
+
+mod check;
+mod circles;
+mod config;
+mod heights;
+mod index;
+mod leaf;
+mod leaves;
+mod lower;
+mod lowers;
+mod mapped;
+mod next;
+mod refusal;
+mod resolve;
+mod rules;
+mod sectors;
+
+pub use config::Config;
+pub use leaf::Leaf;
+pub use lower::{DevId, Lower};
+pub use refusal::{ConfigFault, LoadFault, LoadKind, Refusal};
+
+#[cfg(test)]
+mod tests;

@@ -1,0 +1,101 @@
+// Why leaves or a load are refused.
+ghost use Rattle.std.specs.Prelude.{◌≡◌};
+ghost use Rattle.stack_loader.specs.declared.refusal.LoadFault.TheVariants as load_fault;
+
+use std::alloc::{AllocError, AllocFailed};
+use thiserror::Error;
+
+/// Why leaves aren't taken, in the order of the checks.
+#[derive(Clone, Copy, Debug, PartialEq, Eq, Error)]
+pub enum ConfigFault {
+    /// Two leaves have one name.
+    #[error("DuplicateLeaf")]
+    DuplicateLeaf = 1,
+    /// There are more than 64 leaves.
+    #[error("TooMany")]
+    TooMany = 2,
+    /// A name is no leaf name.
+    #[error("BadName")]
+    BadName = 3,
+    /// A leaf has more than 2^54 sectors.
+    #[error("TooLarge")]
+    TooLarge = 4,
+    /// Memory ran out.
+    #[error("NoMemory")]
+    NoMemory = 5,
+}
+
+/// The rule by which a load is refused, in the order of the rules.
+#[derive(Clone, Copy, Debug, PartialEq, Eq, Error)]
+pub enum LoadKind {
+    /// Two entries have one name.
+    #[error("DuplicateName")]
+    DuplicateName = 1,
+    /// There would be more than 64 devices, or a device has more than 256 lines.
+    #[error("TooMany")]
+    TooMany = 2,
+    /// A line names no leaf and no device.
+    #[error("NoSuchDevice")]
+    NoSuchDevice = 3,
+    /// A chain of lines leads from the device to itself.
+    #[error("StandsOnItself")]
+    StandsOnItself = 4,
+    /// A line has no sectors.
+    #[error("ZeroLength")]
+    ZeroLength = 5,
+    /// A line doesn't start where the lines before it end.
+    #[error("Gap")]
+    Gap = 6,
+    /// A line ends past 2^54 sectors.
+    #[error("TooLarge")]
+    TooLarge = 7,
+    /// The length of a striped line is no multiple of stripes times chunk.
+    #[error("StripesDontDivide")]
+    StripesDontDivide = 8,
+    /// A range or a stripe's share ends past the device that it names.
+    #[error("BeyondDevice")]
+    BeyondDevice = 9,
+    /// A line of a writable device names a read-only leaf or device.
+    #[error("LowerReadOnly")]
+    LowerReadOnly = 13,
+    /// A device stands on more than 8 levels of devices.
+    #[error("TooDeep")]
+    TooDeep = 14,
+    /// Reading a sector could move more than 2^32 leaf sectors.
+    #[error("CostTooLarge")]
+    CostTooLarge = 15,
+}
+
+/// The first refusal of a load. Devices and lines count from 1.
+///
+/// For `DuplicateName` the device is the number of the entry in the text, skipped entries counted; for
+/// `TooMany` device and line are 0; where a rule is about a whole device the line is 0.
+#[derive(Clone, Copy, Debug, PartialEq, Eq)]
+pub struct Refusal {
+    pub kind: LoadKind,
+    pub device: u32,
+    pub line: u32,
+}
+
+/// Why a text isn't loaded.
+#[derive(Clone, Copy, Debug, PartialEq, Eq)]
+pub enum LoadFault {
+    Refused(Refusal),
+    NoMemory,
+}
+
+impl From<AllocError> for LoadFault {
+    ghost from_gives = { λ _ fault. fault ≡ load_fault.NoMemory };
+
+    fn from(_error: AllocError) -> LoadFault {
+        LoadFault::NoMemory
+    }
+}
+
+impl<T: Drop> From<AllocFailed<T>> for LoadFault {
+    ghost from_gives = { λ _ fault. fault ≡ load_fault.NoMemory };
+
+    fn from(_refused: AllocFailed<T>) -> LoadFault {
+        LoadFault::NoMemory
+    }
+}

@@ -1,0 +1,91 @@
+// What the names of each line mean.
+ghost use Rattle.std.specs.Prelude.{◌≡◌, ◌<◌, ◌≤◌, ◌^◌, length, map, All, IfOk};
+ghost use Rattle.stack_loader.specs.Records.{Configuration, configuration};
+ghost use Rattle.stack_loader.specs.Descend.{most_devices};
+ghost use Rattle.stack_loader.specs.Index.{IsIndex};
+ghost use Rattle.stack_loader.specs.Kept.{AreLowers};
+ghost use Rattle.stack_loader.specs.Passing.{IsPassed, AreFound, RowsMean};
+ghost use Rattle.stack_loader.specs.Rules.{bases_of, unknown_in, unknown_names, most_leaves, most_lines};
+
+use crate::index::Index;
+use crate::leaf::Leaf;
+use crate::lowers::{DeviceLowers, LineLowers};
+use crate::mapped::Mapped;
+use crate::refusal::{LoadFault, LoadKind, Refusal};
+use dm_table::{Base, Line, Target};
+use std::alloc::{AllocError, Global};
+use std::slice;
+
+/// The devices that a target names, with their offsets.
+pub(crate) fn bases_of(target: &Target) -> &[Base]
+    ensures { result.now ≡ bases_of target.now }
+{
+    match target {
+        Target::Linear(base) => slice::from_ref(base),
+        Target::Striped { bases, .. } => bases.as_slice(),
+        Target::Zero | Target::Error => &[],
+    }
+}
+
+/// What the names mean, or nothing where one has no meaning.
+fn line_lowers(
+    alloc: Global,
+    index: &Index,
+    bases: &[Base],
+) -> Result<Option<LineLowers>, AllocError>
+    ensures { (c : Configuration) → IsIndex c index.now → IfOk result (λ found. AreFound c found (map (λ b. b.device) bases.now)) }
+{
+    let mut list = Vec::with_capacity(alloc, bases.len())?;
+    for base in bases {
+        match index.named(base.device.as_slice()) {
+            Some(lower) => list.push(lower)?,
+            None => return Ok(None),
+        }
+    }
+    Ok(Some(LineLowers::new(list)))
+}
+
+/// What the names of a device's lines mean. The device is the d-th from 1.
+fn device_lowers(
+    alloc: Global,
+    index: &Index,
+    lines: &[Line],
+    d: u32,
+) -> Result<DeviceLowers, LoadFault>
+    requires { length lines.now < 2 ^ 32 }
+    ensures { (c : Configuration) → IsIndex c index.now → IsPassed result (unknown_in c d lines.now) (λ rows. RowsMean c rows lines.now) }
+{
+    let mut rows = Vec::with_capacity(alloc, lines.len())?;
+    for (i, line) in lines.iter().enumerate() {
+        match line_lowers(alloc, index, bases_of(&line.target))? {
+            Some(row) => rows.push(row)?,
+            None => {
+                return Err(LoadFault::Refused(Refusal {
+                    kind: LoadKind::NoSuchDevice,
+                    device: d,
+                    line: i as u32 + 1,
+                }));
+            }
+        }
+    }
+    Ok(DeviceLowers::new(rows))
+}
+
+/// What all names mean.
+pub(crate) fn lowers_of(
+    alloc: Global,
+    leaves: &[Leaf],
+    devices: &[Mapped],
+) -> Result<Vec<DeviceLowers>, LoadFault>
+    requires leaves { length leaves.now ≤ most_leaves }
+    requires devices { length devices.now ≤ most_devices }
+    requires lines { All (λ d. length d.table ≤ most_lines) devices.now }
+    ensures { let c = configuration leaves.now devices.now in IsPassed result (unknown_names c) (λ lowers. AreLowers c lowers.items) }
+{
+    let index = Index::new(alloc, leaves, devices)?;
+    let mut lowers = Vec::with_capacity(alloc, devices.len())?;
+    for (i, device) in devices.iter().enumerate() {
+        lowers.push(device_lowers(alloc, &index, device.table().lines(), i as u32 + 1)?)?;
+    }
+    Ok(lowers)
+}
