@@ -3,7 +3,8 @@
 #
 # A case is a folder: `args` (the words, one a line), `stdin`, and `allowed`: on each line a status and the lines
 # of an output, joined by `/`. The first is what a run without a refusal gives; the others are what may come where
-# one was met.
+# one was met. Where there is a script `before`, it makes the files of each run, in an empty folder; where there is
+# a script `after`, what it prints comes after the output.
 set -eu
 top=$(dirname "$(dirname "$(readlink -f "$0")")")
 program=$top/crates/dmstack/out/dmstack
@@ -15,14 +16,19 @@ cc -shared -fPIC -O2 -o "$room/refuse.so" "$top/scripts/refuse_alloc.c" -ldl
 # The status and the output of the run in which allocation $2 of case $1 is refused.
 outcome() {
     local status=0
-    mapfile -t words < "$1/args"
-    REFUSE=$2 REFUSE_MET=$room/met LD_PRELOAD=$room/refuse.so "$program" "${words[@]}" < "$1/stdin" > "$room/out" || status=$?
-    printf '%s %s' "$status" "$(tr '\n' '/' < "$room/out" | sed 's,/$,,')"
+    rm -rf "$room/files"
+    mkdir "$room/files"
+    cd "$room/files"
+    [ ! -e "$1/before" ] || bash "$1/before"
+    REFUSE=$2 REFUSE_MET=$room/met LD_PRELOAD=$room/refuse.so "$program" "${words[@]}" < "$1/stdin" > "$room/out" 2> "$room/errors" || status=$?
+    [ ! -e "$1/after" ] || bash "$1/after" >> "$room/out"
+    printf '%s %s' "$status" "$(cat "$room/out" "$room/errors" | tr '\n' '/' | sed 's,/$,,')"
 }
 
 passed=0 failed=0
-for folder in "$top"/scripts/memory/*/; do
+for folder in "$top"/scripts/memory/*; do
     number=0 wrong=0
+    mapfile -t words < "$folder/args"
     while :; do
         number=$((number + 1))
         rm -f "$room/met"
