@@ -1,5 +1,5 @@
 use Rattle.std.proofs.Common.{◌∙◌}
-use Rattle.block_device.proofs.Sectors.{ramp-more}
+use Rattle.block_device.specs.Sectors.{ramp-more}
 use Rattle.block_device.proofs.memory.ramp_bytes.Goals as goal
 
 pub loop-k-preserved : goal.loop-k-preserved

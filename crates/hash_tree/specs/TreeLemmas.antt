@@ -10,8 +10,8 @@ use Rattle.sha2.proofs.Facts256.{length-sha256}
 use Rattle.hash_tree.specs.Digests.{digest, digest_in}
 use Rattle.hash_tree.specs.Shape.{ShapeRecord, per_block, area_blocks}
 use Rattle.hash_tree.specs.Tree.{pack, digests_above, root_in, root, area_in, area}
-use Rattle.hash_tree.proofs.ShapeLemmas.{over, div_ceil-suc, area_blocks-one, area_blocks-up}
-use Rattle.hash_tree.proofs.PackingLemmas.{AllOf, length-concat, piece-concat, padded, cut-sized, length-cut, get_or-cut}
+use Rattle.hash_tree.specs.ShapeLemmas.{over, div_ceil-suc, area_blocks-one, area_blocks-up}
+use Rattle.hash_tree.specs.PackingLemmas.{AllOf, length-concat, piece-concat, padded, cut-sized, length-cut, get_or-cut}
 
 pub length-digest : (salt block : List ℕ) → length (digest salt block) ≡ 32
 unfolding digest

@@ -7,11 +7,11 @@ use Rattle.std.proofs.lemmas.Option.{slice_get-get_or}
 use Rattle.hash_tree.specs.Shape.{ShapeRecord, IsShape, per_block, levels, level_blocks, blocks_above, position, area_blocks, area_end}
 use Rattle.hash_tree.specs.Tree.{area, level}
 use Rattle.hash_tree.specs.Laws.{HasBlock, AreDigests, StandsInShape}
-use Rattle.hash_tree.proofs.ShapeLemmas.{over, levels-one, levels-up, level_blocks-first, level_blocks-up, area_blocks-one, area_blocks-up, blocks_above-first, blocks_above-up, place-lt}
-use Rattle.hash_tree.proofs.ShapeFaults.{per_block-wide}
-use Rattle.hash_tree.proofs.ShapeFacts.{two as two_of, over-same, position-lt, above-lt}
-use Rattle.hash_tree.proofs.TreeLemmas.{area-sized}
-use Rattle.hash_tree.proofs.TreeFacts.{top-none, length-area_of, length-level, area-place}
+use Rattle.hash_tree.specs.ShapeLemmas.{over, levels-one, levels-up, level_blocks-first, level_blocks-up, area_blocks-one, area_blocks-up, blocks_above-first, blocks_above-up, place-lt}
+use Rattle.hash_tree.specs.ShapeFaults.{per_block-wide}
+use Rattle.hash_tree.specs.ShapeFacts.{two as two_of, over-same, position-lt, above-lt}
+use Rattle.hash_tree.specs.TreeLemmas.{area-sized}
+use Rattle.hash_tree.specs.TreeFacts.{top-none, length-area_of, length-level, area-place}
 
 module _ (s : ShapeRecord) (two : 2 ≤ per_block s) where
   below-top : (l m : ℕ) → l < levels (over s (suc m)) → 0 < m / per_block s ^ l

@@ -4,8 +4,8 @@ use Rattle.std.proofs.Math.Nat.{mul-le-mul_right, div-le_self, div-mul-le_self, 
 use Rattle.std.proofs.lemmas.Bool.{cases_lt}
 use Rattle.std.proofs.lemmas.Nat.{mod_below, le-div}
 use Rattle.hash_tree.specs.Shape.{ShapeRecord, IsShape, divisions, per_block, levels, level_blocks, blocks_above, position, slot, ancestor, area_blocks, area_end, end_of}
-use Rattle.hash_tree.proofs.ShapeLemmas.{divisions-steps, over, pow_pos, levels-le, level_blocks-over, blocks_above-is, place-lt}
-use Rattle.hash_tree.proofs.ShapeFaults.{per_block-wide, blocks-le, area_end-le}
+use Rattle.hash_tree.specs.ShapeLemmas.{divisions-steps, over, pow_pos, levels-le, level_blocks-over, blocks_above-is, place-lt}
+use Rattle.hash_tree.specs.ShapeFaults.{per_block-wide, blocks-le, area_end-le}
 
 pub quotient-le : (m n k : ℕ) → 0 < k → m ≤ n → m / k ≤ n / k
 quotient-le m n k some less = le-div (m / k) n k some (omega (arith, div-mul-le_self m k, less))

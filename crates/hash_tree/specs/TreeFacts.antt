@@ -6,11 +6,11 @@ use Rattle.std.proofs.lemmas.List.Elements.{All-map}
 use Rattle.hash_tree.specs.Digests.{digest}
 use Rattle.hash_tree.specs.Shape.{ShapeRecord, IsShape, per_block, levels, level_blocks, blocks_above, area_blocks}
 use Rattle.hash_tree.specs.Tree.{pack, digests_above, root, area, level}
-use Rattle.hash_tree.proofs.ShapeLemmas.{over, levels-one, levels-up, level_blocks-over, level_blocks-first, level_blocks-up, blocks_above-first, blocks_above-up, place-lt}
-use Rattle.hash_tree.proofs.ShapeFaults.{per_block-wide}
-use Rattle.hash_tree.proofs.ShapeFacts.{two as two_of, over-same}
-use Rattle.hash_tree.proofs.PackingLemmas.{AllOf}
-use Rattle.hash_tree.proofs.TreeLemmas.{length-digest, length-pack, pack-sized, above-sized, length-above, root-one, root-up, area-up, length-area}
+use Rattle.hash_tree.specs.ShapeLemmas.{over, levels-one, levels-up, level_blocks-over, level_blocks-first, level_blocks-up, blocks_above-first, blocks_above-up, place-lt}
+use Rattle.hash_tree.specs.ShapeFaults.{per_block-wide}
+use Rattle.hash_tree.specs.ShapeFacts.{two as two_of, over-same}
+use Rattle.hash_tree.specs.PackingLemmas.{AllOf}
+use Rattle.hash_tree.specs.TreeLemmas.{length-digest, length-pack, pack-sized, above-sized, length-above, root-one, root-up, area-up, length-area}
 
 module _ (s : ShapeRecord) (two : 2 ≤ per_block s) (whole : s.hash_block ≡ 32 * per_block s) (salt : List ℕ) where
   -- level l has as many blocks as the shape says
