@@ -1,5 +1,7 @@
 #!/usr/bin/env bash
-# Measures the program beside `cat`, as ratios of medians of interleaved runs. Not a part of the gate.
+# Measures reads and printing beside system tools, as ratios of medians of interleaved runs. Not a part of the gate.
+#
+# A ratio is the tool's time divided by the program's: 1 is as fast, less is slower.
 set -eu
 top=$(dirname "$(dirname "$(readlink -f "$0")")")
 room=$(mktemp -d)
@@ -9,39 +11,56 @@ cd "$room"
 program=$top/crates/dmstack/out/dmstack
 runs=7
 
-milliseconds() {
+microseconds() {
     local start end
     start=$(date +%s%N)
     "$@" > /dev/null
     end=$(date +%s%N)
-    echo $(((end - start) / 1000000))
+    echo $(((end - start) / 1000))
 }
 
 median() { sort -n | sed -n "$((runs / 2 + 1))p"; }
 
-# compare NAME INPUT SECTORS: a session over that input, beside cat of what it writes
+session() { "$program" session "${bindings[@]}" < input; }
+
+# compare NAME TOOL..: a session over the file `input`, beside a tool
 compare() {
-    "$program" session D=ramp:4096 < "$2" > written
+    local name=$1 ours tool
+    shift
     : > ours
-    : > cats
+    : > tools
     for _ in $(seq $runs); do
-        milliseconds "$program" session D=ramp:4096 < "$2" >> ours
-        milliseconds cat written < /dev/null >> cats
+        microseconds session >> ours
+        microseconds "$@" >> tools
     done
-    local ours cats
     ours=$(median < ours)
-    cats=$(median < cats)
-    echo "$1: $ours ms for $3 sectors and $(stat -c %s written) bytes ($((ours ? $3 * 1000 / ours : 0)) sectors a second); cat of the same bytes: $cats ms"
+    tool=$(median < tools)
+    awk -v name="$name" -v ours="$ours" -v tool="$tool" -v what="$1" \
+        'BEGIN { printf "%s: %.2f (%.1f ms, %s %.1f ms)\n", name, tool / ours, ours / 1000, what, tool / 1000 }'
 }
 
+bindings=(D=ramp:4096)
 {
     echo 'load a,,,ro,0 4096 linear D 0'
     for i in $(seq 0 99999); do echo "read a $((i % 4096)) 1"; done
-} > one_sector
-compare 'one sector a read' one_sector 100000
+} > input
+session > written
+compare '100,000 reads of one sector, beside cat of what is printed' cat written
 
 {
     echo 'load a,,,ro,0 4096 linear D 0'
     for i in $(seq 0 499); do echo "read a $((i % 2048)) 2048"; done
-} > runs_of_2048
-compare '2,048 sectors a read' runs_of_2048 1024000
+} > input
+session > written
+compare '500 reads of 2,048 sectors, beside cat of what is printed' cat written
+
+# An image of 64 MiB in two halves, whose chunks of 64 KiB take turns, read through `linear` over `striped`.
+head -c 33554432 /dev/urandom > first
+head -c 33554432 /dev/urandom > second
+cat first second > both
+bindings=(A=ro:first B=ro:second)
+{
+    echo 'load s,,,ro,0 131072 striped 2 128 A 0 B 0;top,,,ro,0 131072 linear /dev/mapper/s 0'
+    for i in $(seq 0 63); do echo "read top $((i * 2048)) 2048"; done
+} > input
+compare 'an image of 64 MiB through linear over striped, beside od' od -An -v -tx1 -w512 both

@@ -1,11 +1,11 @@
 -- The pieces of a read, one after another, as one read.
-use Rattle.std.proofs.Common.{◌≡◌, ◌≤◌, ℕ, ◌+◌, List, [], refl, ◌∙◌, subst, arith, Result, Ok, Err}
+use Rattle.std.proofs.Common.{◌≡◌, ◌≤◌, ℕ, ◌+◌, List, [], ◌++◌, refl, ◌∙◌, subst, arith, Result, Ok, Err}
 use Rattle.stack_loader.specs.Names.{mapped}
 use Rattle.stack_loader.specs.Records.{Configuration}
 use Rattle.stack_engine.specs.declared.fault.IoFault.{IoFault}
 use Rattle.stack_engine.specs.declared.fault.IoFault.TheVariants.{ErrorTarget, Mismatch, Device, NoMemory}
-use Rattle.stack_engine.specs.Pieces.{GetsPiece, no-reads, more-reads, fault-reads}
-use Rattle.stack_engine.specs.Reading as reading
+use Rattle.stack_engine.specs.Found.{FoundRecord}
+use Rattle.stack_engine.specs.Pieces.{GetsPiece, GetsPieces, no-pieces, more-pieces, fault-pieces}
 use Rattle.stack_engine.specs.Stacks.{StackRecord, AnswerRecord}
 use Rattle.dmstack.specs.Stacks.{EachPiece, Reads, reads_none, reads_more, ReadsAll, run_at, ReadsWhole}
 
@@ -15,7 +15,8 @@ record SoFar (w : StackRecord) (d first count : ℕ) (bytes : List ℕ) (v : Sta
   at : s ≡ first + count_read
   rest : count_read + left ≡ count
   config : v.config ≡ w.config
-  reads : reading.Reads w.config (mapped d) first count_read w.leaves v.leaves (Ok tt) bytes
+  chains : List FoundRecord
+  reads : GetsPieces w.config (mapped d) first count_read w.leaves v.leaves (Ok (record { bytes = bytes; chains = chains }))
 
 -- a piece as the engine's record, under the first stack's configuration
 as-piece : (c : Configuration) (v : StackRecord) (d s t n : ℕ) (answer : Result AnswerRecord IoFault) (w' : StackRecord) → v.config ≡ c → s ≡ t → EachPiece v d s n answer w'
@@ -33,7 +34,8 @@ so-far w d first count bytes v s left reads_none = record {
   at = omega arith;
   rest = omega arith;
   config = refl;
-  reads = no-reads w.config (mapped d) first w.leaves;
+  chains = [];
+  reads = no-pieces w.config (mapped d) first w.leaves;
 }
 so-far w d first count bytes v s left (reads_more {bytes = before} {v = mid} {s = t} {left = rest} got w' before_it some piece) =
     let p = so-far w d first count before mid t rest before_it in
@@ -44,26 +46,27 @@ so-far w d first count bytes v s left (reads_more {bytes = before} {v = mid} {s 
       at = omega (arith, p.at);
       rest = omega (arith, p.rest, within);
       config = piece.any.config ∙ p.config;
-      reads = more-reads w.config (mapped d) first p.count_read n w.leaves mid.leaves w'.leaves before got p.reads
+      chains = p.chains ++ got.chains;
+      reads = more-pieces w.config (mapped d) first p.count_read n w.leaves mid.leaves w'.leaves (record { bytes = before; chains = p.chains }) got p.reads
           (as-piece w.config mid d t (first + p.count_read) n (Ok got) w' p.config p.at piece);
     }
 
-whole-err : (w : StackRecord) (d first count : ℕ) (fault : IoFault) (w' : StackRecord) (rest : List ℕ) → w'.config ≡ w.config
-    → reading.Reads w.config (mapped d) first count w.leaves w'.leaves (Err fault) rest → ReadsWhole w d first count (Err fault) w'
-whole-err w d first count ErrorTarget w' rest same r = record { config = same; moved = r.moved; may = r.may; exact = r.exact }
-whole-err w d first count Mismatch w' rest same r = record { config = same; moved = r.moved; may = r.may; exact = r.exact }
-whole-err w d first count (Device i) w' rest same r = record { config = same; moved = r.moved; may = r.may; exact = r.exact }
-whole-err w d first count NoMemory w' rest same r = record { config = same; moved = r.moved; may = r.may; exact = r.exact }
+whole-err : (w : StackRecord) (d first count : ℕ) (fault : IoFault) (w' : StackRecord) → w'.config ≡ w.config
+    → GetsPieces w.config (mapped d) first count w.leaves w'.leaves (Err fault) → ReadsWhole w d first count (Err fault) w'
+whole-err w d first count ErrorTarget w' same r = record { config = same; moved = r.moved; may = r.may; exact = r.exact }
+whole-err w d first count Mismatch w' same r = record { config = same; moved = r.moved; may = r.may; exact = r.exact }
+whole-err w d first count (Device i) w' same r = record { config = same; moved = r.moved; may = r.may; exact = r.exact }
+whole-err w d first count NoMemory w' same r = record { config = same; moved = r.moved; may = r.may; exact = r.exact }
 
 pub whole : (w : StackRecord) (d first count : ℕ) (answer : Result (List ℕ) IoFault) (w' : StackRecord) → ReadsAll EachPiece w d first count answer w' → ReadsWhole w d first count answer w'
 whole w d first count (Ok bytes) w' r =
     let p = so-far w d first count bytes w' r.0 0 r.1 in
     let all : p.count_read ≡ count = omega (arith, p.rest) in
-    let one = subst (λ k. reading.Reads w.config (mapped d) first k w.leaves w'.leaves (Ok tt) bytes) all p.reads in
-    record { config = p.config; moved = one.moved; may = one.may; exact = one.exact }
+    let one = subst (λ k. GetsPieces w.config (mapped d) first k w.leaves w'.leaves (Ok (record { bytes = bytes; chains = p.chains }))) all p.reads in
+    record { config = p.config; moved = one.moved; may = (p.chains, one.may); exact = one.exact }
 whole w d first count (Err fault) w' r =
     let p = so-far w d first count r.0 r.1 r.2 r.3 r.4 in
     let within : run_at r.1.config d r.2 r.3 ≤ r.3 = run-within r.1.config d r.2 r.3 in
-    whole-err w d first count fault w' [] (r.6.any.config ∙ p.config)
-    (fault-reads w.config (mapped d) first p.count_read (run_at r.1.config d r.2 r.3) count w.leaves r.1.leaves w'.leaves r.0 [] fault (omega (arith, p.rest, within)) p.reads
+    whole-err w d first count fault w' (r.6.any.config ∙ p.config)
+    (fault-pieces w.config (mapped d) first p.count_read (run_at r.1.config d r.2 r.3) count w.leaves r.1.leaves w'.leaves (record { bytes = r.0; chains = p.chains }) fault (omega (arith, p.rest, within)) p.reads
     (as-piece w.config r.1 d r.2 (first + p.count_read) (run_at r.1.config d r.2 r.3) (Err fault) w' p.config p.at r.6))

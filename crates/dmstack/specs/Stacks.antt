@@ -14,7 +14,8 @@ use Rattle.stack_loader.specs.Lines.{line_at}
 use Rattle.stack_loader.specs.Rules.{first_refusal, after_load}
 use Rattle.stack_engine.specs.declared.fault.IoFault.{IoFault}
 use Rattle.stack_engine.specs.Meaning.{span, sector}
-use Rattle.stack_engine.specs.May.{MayBe, MayFault}
+use Rattle.stack_engine.specs.Found.{FoundRecord}
+use Rattle.stack_engine.specs.May.{MayRead, MayBe, MayFault}
 use Rattle.stack_engine.specs.Leaves.{images_of, AllSteady, AreRead}
 use Rattle.stack_engine.specs.Reading.{Ends, Answers}
 use Rattle.stack_engine.specs.Stacks.{StackRecord, AnswerRecord}
@@ -38,7 +39,7 @@ Piece = StackRecord → ℕ → ℕ → ℕ → Result AnswerRecord IoFault → 
 pub record AnyPiece (w : StackRecord) (d first n : ℕ) (answer : Result AnswerRecord IoFault) (w' : StackRecord) : Type 0 where
   pub config : w'.config ≡ w.config
   pub moved : AreRead w.leaves (n * read_cost w.config (mapped d)) w'.leaves
-  pub may : Ends (λ got. MayBe w.config (mapped d) first n got.bytes) (MayFault w.config (mapped d) first n) w.leaves w'.leaves answer
+  pub may : Ends (λ got. MayBe w.config (mapped d) first n got.bytes got.chains) (MayFault w.config (mapped d) first n) w.leaves w'.leaves answer
 
 -- over steady leaves: what the stack means
 pub record SteadyPiece (w : StackRecord) (d first n : ℕ) (answer : Result AnswerRecord IoFault) (w' : StackRecord) : Type 0 where
@@ -103,12 +104,13 @@ device_of c name first count = device_for c (device_named c name) first count
 abbrev pub Reading : Type 1
 Reading = StackRecord → ℕ → ℕ → ℕ → Result (List ℕ) IoFault → StackRecord → Type 0
 
--- A read as a whole: what it moved, what it may answer whatever the leaves are, and over steady leaves
--- all its bytes as the stack means them, or the error of the least sector that has one.
+-- A read as a whole: what it moved, what it may answer whatever the leaves are (with its pieces' chains
+-- joined), and over steady leaves all its bytes as the stack means them, or the error of the least sector
+-- that has one.
 pub record ReadsWhole (w : StackRecord) (d first count : ℕ) (answer : Result (List ℕ) IoFault) (w' : StackRecord) : Type 0 where
   pub config : w'.config ≡ w.config
   pub moved : AreRead w.leaves (count * read_cost w.config (mapped d)) w'.leaves
-  pub may : Ends (MayBe w.config (mapped d) first count) (MayFault w.config (mapped d) first count) w.leaves w'.leaves answer
+  pub may : Ends (λ bytes. (chains : List FoundRecord) × MayRead w.config (mapped d) first count bytes chains) (MayFault w.config (mapped d) first count) w.leaves w'.leaves answer
   pub exact : AllSteady w.leaves → Answers (λ bytes. bytes) (span (sector w.config (images_of w.leaves) (mapped d)) first count) answer
 
 -- ---- replies

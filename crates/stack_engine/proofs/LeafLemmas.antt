@@ -37,7 +37,12 @@ AreRead-set leaves i n ok old new h at grows r = record {
         subst (λ (x : Device). IsTrue x.never_fails) (sym a) (r.same.never_fails (subst (λ (x : Device). IsTrue x.never_fails) b was))
     | inr other ↦ subst (λ (x : Device). IsTrue x.never_fails) (sym (get_or-set_other leaves i j new d other)) was
   ];
-  images = λ steady. same_map (λ x. x.image) leaves i old new h at (r.image (subst (λ (x : Device). IsTrue x.steady) at (steady i old h)));
+  images = λ j d steady. elim (cases_eq j i) [
+    | inl same ↦ let a : get_or (set leaves i new) j d ≡ new = ap (λ (k : ℕ). get_or (set leaves i new) k d) same ∙ get_or-set_same leaves i new d h in
+        let b : get_or leaves j d ≡ old = ap (λ (k : ℕ). get_or leaves k d) same ∙ get_or_default leaves i d old h ∙ at in
+        ap (λ (x : Device). x.image) a ∙ r.image (subst (λ (x : Device). IsTrue x.steady) b steady) ∙ sym (ap (λ (x : Device). x.image) b)
+    | inr other ↦ ap (λ (x : Device). x.image) (get_or-set_other leaves i j new d other)
+  ];
 }
 
 -- ---- a device that is there, with the size that the configuration says

@@ -1,5 +1,6 @@
 pub mod SectorLaws
 pub mod LineLaws
+pub mod EntryLaws
 pub mod Loaded
 pub mod Costs
 pub mod LeafLemmas

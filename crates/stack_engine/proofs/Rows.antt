@@ -9,6 +9,7 @@ use Rattle.stack_loader.specs.Records.{Configuration, DeviceRecord, LeafRecord}
 use Rattle.stack_loader.specs.Names.{mapped}
 use Rattle.stack_loader.specs.Descend.{descend, read_cost}
 use Rattle.stack_engine.specs.Meaning.{Outcome, sector, span, error_target, mismatch, zero_sector}
+use Rattle.stack_engine.specs.Found.{FoundRecord}
 use Rattle.stack_engine.specs.May.{May, Meets}
 
 abbrev leaf_of : List ℕ → ℕ → LeafRecord
@@ -39,9 +40,9 @@ unfolding descend zero_sector
 reads_ramp_and_zeros = (refl, refl, refl)
 
 -- whatever the leaf answers
-may_ramp_and_zeros : (bytes : List ℕ) → May ramp_and_zeros (mapped 0) 4 bytes ≡ (bytes ≡ zero_sector)
+may_ramp_and_zeros : (chains : List FoundRecord) (bytes : List ℕ) → May ramp_and_zeros chains (mapped 0) 4 bytes ≡ (bytes ≡ zero_sector)
 unfolding descend
-may_ramp_and_zeros bytes = refl
+may_ramp_and_zeros chains bytes = refl
 
 -- ---- chunks of eight on two leaves in turn
 

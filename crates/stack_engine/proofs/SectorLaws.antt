@@ -20,7 +20,8 @@ use Rattle.stack_loader.specs.Valid.{depth-low}
 use Rattle.stack_engine.specs.Sectors.{OnLine, on_found, sector_rule, by_sector}
 use Rattle.stack_engine.specs.Meaning.{Fault, error_target, Images, beneath, asked, line_sector, leaf_sector, sector}
 use Rattle.stack_engine.proofs.LineLaws.{found-more}
-use Rattle.stack_engine.specs.May.{LineMay, May, Gives, LineMeets, Meets}
+use Rattle.stack_engine.specs.Found.{FoundRecord}
+use Rattle.stack_engine.specs.May.{LineMay, May, line_entries, entries_at, Gives, LineMeets, Meets}
 
 -- it asks only of the devices that the line names
 abbrev pub AsksOfNames {ℓ} : {X : Type ℓ} → OnLine X → Type ℓ
@@ -107,11 +108,17 @@ line_sector-asks at at' d l (Striped chunk bases) s all = asked-same (Err error_
 line_sector-asks at at' d l Zero s all = refl
 line_sector-asks at at' d l Error s all = refl
 
-LineMay-asks : AsksOfNames {X = List ℕ → Type 0} LineMay
-LineMay-asks at at' d l (Linear base) s all = asked-same {X = List ℕ → Type 0} (λ bytes. ⊥) at at' (Linear base) s all
-LineMay-asks at at' d l (Striped chunk bases) s all = asked-same {X = List ℕ → Type 0} (λ bytes. ⊥) at at' (Striped chunk bases) s all
-LineMay-asks at at' d l Zero s all = refl
-LineMay-asks at at' d l Error s all = refl
+LineMay-asks : (chains : List FoundRecord) → AsksOfNames {X = List ℕ → Type 0} (LineMay chains)
+LineMay-asks chains at at' d l (Linear base) s all = asked-same {X = List ℕ → Type 0} (λ bytes. ⊥) at at' (Linear base) s all
+LineMay-asks chains at at' d l (Striped chunk bases) s all = asked-same {X = List ℕ → Type 0} (λ bytes. ⊥) at at' (Striped chunk bases) s all
+LineMay-asks chains at at' d l Zero s all = refl
+LineMay-asks chains at at' d l Error s all = refl
+
+line_entries-asks : AsksOfNames line_entries
+line_entries-asks at at' d l (Linear base) s all = asked-same [] at at' (Linear base) s all
+line_entries-asks at at' d l (Striped chunk bases) s all = asked-same [] at at' (Striped chunk bases) s all
+line_entries-asks at at' d l Zero s all = refl
+line_entries-asks at at' d l Error s all = refl
 
 LineMeets-asks : (fault : Fault) → AsksOfNames {X = Type 0} (LineMeets fault)
 LineMeets-asks fault at at' d l target s all = ap (λ (A : Type 0). Gives fault target ⊎ A) (asked-same {X = Type 0} ⊥ at at' target s all)
@@ -122,8 +129,11 @@ module _ (c : Configuration) (valid : IsValid c) (d s j l : ℕ) (line : Line) (
   pub sector-line : (images : Images) → sector c images (mapped d) (s + j) ≡ line_sector (by_name c (λ t. Err error_target) (sector c images)) d l line.target (s - line.start + j)
   sector-line images = by_sector-line c (Err error_target) (leaf_sector images) line_sector line_sector-asks valid d s j l line found start inside
 
-  pub May-line : ◌≡◌ {A = List ℕ → Type 0} (May c (mapped d) (s + j)) (LineMay (by_name c (λ t bytes. ⊥) (May c)) d l line.target (s - line.start + j))
-  May-line = by_sector-line {X = List ℕ → Type 0} c (λ bytes. ⊥) (λ i s. IsSector) LineMay LineMay-asks valid d s j l line found start inside
+  pub May-line : (chains : List FoundRecord) → ◌≡◌ {A = List ℕ → Type 0} (May c chains (mapped d) (s + j)) (LineMay chains (by_name c (λ t bytes. ⊥) (May c chains)) d l line.target (s - line.start + j))
+  May-line chains = by_sector-line {X = List ℕ → Type 0} c (λ bytes. ⊥) (λ i s. IsSector) (LineMay chains) (LineMay-asks chains) valid d s j l line found start inside
+
+  pub entries-line : entries_at c (mapped d) (s + j) ≡ line_entries (by_name c (λ t. []) (entries_at c)) d l line.target (s - line.start + j)
+  entries-line = by_sector-line c [] (λ i s. []) line_entries line_entries-asks valid d s j l line found start inside
 
   pub Meets-line : (fault : Fault) → ◌≡◌ {A = Type 0} (Meets c fault (mapped d) (s + j)) (LineMeets fault (by_name c (λ t. ⊥) (Meets c fault)) d l line.target (s - line.start + j))
   Meets-line fault = by_sector-line {X = Type 0} c ⊥ (λ i s. ⊥) (LineMeets fault) (LineMeets-asks fault) valid d s j l line found start inside
@@ -134,6 +144,6 @@ pub sector-leaf : (c : Configuration) (images : Images) (i s : ℕ) → sector c
 unfolding descend
 sector-leaf c images i s = refl
 
-pub May-leaf : (c : Configuration) (i s : ℕ) (bytes : List ℕ) → IsSector bytes → May c (leaf i) s bytes
+pub May-leaf : (c : Configuration) (chains : List FoundRecord) (i s : ℕ) (bytes : List ℕ) → IsSector bytes → May c chains (leaf i) s bytes
 unfolding descend
-May-leaf c i s bytes h = h
+May-leaf c chains i s bytes h = h

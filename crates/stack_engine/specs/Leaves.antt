@@ -43,13 +43,14 @@ pub record Fixed : Type 0 where
 abbrev pub fixed : Device → Fixed
 fixed l = record { size = l.size; may_write = l.may_write; steady = l.steady; writes = l.writes }
 
--- Some reads, of at most so many sectors. The counters are those of the devices, which stop at the greatest u64.
+-- Some reads, of at most so many sectors. The counters are those of the devices, which stop at the greatest
+-- u64. A steady leaf keeps its image, whatever the others are.
 pub record AreRead (old : List Device) (most : ℕ) (new : List Device) : Type 0 where
   pub fixed : map fixed new ≡ map fixed old
   pub reads : reads_of new ≤ reads_of old + most
   pub failures : (i : ℕ) (d : Device) → (slice_index_or old i d).failures ≤ (slice_index_or new i d).failures
   pub never_fails : (i : ℕ) (d : Device) → IsTrue (slice_index_or old i d).never_fails → IsTrue (slice_index_or new i d).never_fails
-  pub images : AllSteady old → images_of new ≡ images_of old
+  pub images : (i : ℕ) (d : Device) → IsTrue (slice_index_or old i d).steady → (slice_index_or new i d).image ≡ (slice_index_or old i d).image
 
 -- leaf i failed, and it is none that never fails
 pub record LeafFailed (i : ℕ) (old new : List Device) : Type 0 where

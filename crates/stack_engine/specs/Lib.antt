@@ -1,11 +1,13 @@
 pub mod Sectors
 pub mod Meaning
+pub mod Found
 pub mod May
 pub mod Leaves
 pub mod Reading
 pub mod Sources
 pub mod Stacks
 pub mod LeafLaws
+pub mod FoundLaws
 pub mod Spans
 pub mod Runs
 pub mod Pieces

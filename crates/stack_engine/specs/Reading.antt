@@ -7,8 +7,10 @@ use Rattle.stack_loader.specs.Descend.{read_cost}
 use Rattle.stack_engine.specs.declared.fault.IoFault.{IoFault}
 use Rattle.stack_engine.specs.declared.fault.IoFault.TheVariants as io
 use Rattle.stack_engine.specs.Meaning.{Fault, error_target, mismatch, Outcome, Images, span, sector}
-use Rattle.stack_engine.specs.May.{IsRun, SomeOf, May, Meets}
+use Rattle.stack_engine.specs.Sectors.{SomeOf}
+use Rattle.stack_engine.specs.May.{IsRun, May, entries_at, Meets}
 use Rattle.stack_engine.specs.Leaves.{images_of, AllSteady, AreRead, LeafFailed}
+use Rattle.stack_engine.specs.Found.{FoundRecord, Entry, Grown, AllKept}
 
 -- Whatever the leaves answer: with an x that is so, or by a fault that may come. The number of a leaf
 -- that failed counts from 1.
@@ -38,7 +40,19 @@ abbrev pub Fills : (ℕ → List ℕ → Type 0) → (Fault → ℕ → Type 0) 
 Fills Is May at cost first n old new result bytes =
     Gets {A = Unit} (λ _. IsRun Is first n bytes) (λ fault. SomeOf (May fault) first n) (λ _. bytes) (λ images. span (at images) first n) (n * cost) old new result
 
+-- The same where chains were found before it, and are after it. Each sector may be its bytes with the latter.
+pub record Finds (Is : List FoundRecord → ℕ → List ℕ → Type 0) (May : Fault → ℕ → Type 0) (entries : ℕ → List Entry) (at : Images → ℕ → Outcome) (cost first n : ℕ) (c : Configuration)
+    (old new : List Device) (before after : List FoundRecord) (result : Result Unit IoFault) (bytes : List ℕ) : Type 0 where
+  pub fills : Fills (Is after) May at cost first n old new result bytes
+  pub grown : Grown entries first n before after
+  pub kept : AllKept c new after
+
 -- n sectors of a leaf or device, from the first on
-abbrev pub Reads : Configuration → Lower → ℕ → ℕ → List Device → List Device → Result Unit IoFault → List ℕ → Type 0
-Reads c lower first n old new result bytes =
-    Fills (May c lower) (λ fault. Meets c fault lower) (λ images. sector c images lower) (read_cost c lower) first n old new result bytes
+abbrev pub Reads : Configuration → Lower → ℕ → ℕ → List Device → List Device → List FoundRecord → List FoundRecord → Result Unit IoFault → List ℕ → Type 0
+Reads c lower first n old new before after result bytes =
+    Finds (λ chains. May c chains lower) (λ fault. Meets c fault lower) (entries_at c lower) (λ images. sector c images lower) (read_cost c lower) first n c old new before after result bytes
+
+-- the same of a leaf, which finds no chain, whatever was found before it
+abbrev pub ReadsLeaf : Configuration → Lower → ℕ → ℕ → List Device → List Device → Result Unit IoFault → List ℕ → Type 0
+ReadsLeaf c lower first n old new result bytes =
+    (found : List FoundRecord) → AllKept c old found → Reads c lower first n old new found found result bytes

@@ -1,5 +1,5 @@
 -- What is said of a sector by what is said of the sectors beneath it.
-use Rattle.std.specs.Prelude.{ℕ, ◌-◌, List, Option, Some, None}
+use Rattle.std.specs.Prelude.{ℕ, ◌+◌, ◌-◌, ◌<◌, List, Option, Some, None}
 use Rattle.dm_table.specs.declared.table.Line.{Line}
 use Rattle.dm_table.specs.declared.table.Target.{Target}
 use Rattle.stack_loader.specs.declared.lower.Lower.{Lower}
@@ -25,3 +25,7 @@ sector_rule c none on_leaf on_line below (device d) s = on_found none (on_line (
 -- what is said of a sector of a leaf or device, where on_leaf says it of leaves and on_line of lines
 abbrev pub by_sector {ℓ} : {X : Type ℓ} → Configuration → X → (ℕ → ℕ → X) → OnLine X → Lower → ℕ → X
 by_sector c none on_leaf on_line = descend (λ s. none) (sector_rule c none on_leaf on_line)
+
+-- some of the n sectors from the first on
+abbrev pub SomeOf : (ℕ → Type 0) → ℕ → ℕ → Type 0
+SomeOf P first n = (j : ℕ) × (j < n) × P (first + j)

@@ -1,5 +1,5 @@
 -- Where the sectors of a device come from, as the engine reads them: from a lower device, as zeros, or not at all.
-use Rattle.std.specs.Prelude.{◌≡◌, ℕ, ◌+◌, ◌-◌, ◌<◌, ◌≤◌, List, Some, Result, Ok, Err}
+use Rattle.std.specs.Prelude.{◌≡◌, ℕ, ◌+◌, ◌-◌, ◌<◌, ◌≤◌, List, [], Some, Result, Ok, Err}
 use Rattle.block_device.specs.Device.{Device}
 use Rattle.dm_table.specs.declared.table.Line.{Line}
 use Rattle.dm_table.specs.declared.table.Target.{Target}
@@ -13,8 +13,9 @@ use Rattle.stack_engine.specs.declared.fault.IoFault.{IoFault}
 use Rattle.stack_engine.specs.declared.source.Source.{Source}
 use Rattle.stack_engine.specs.declared.source.Source.TheVariants.{Below, Zeros, Fails}
 use Rattle.stack_engine.specs.Meaning.{Fault, error_target, Outcome, Images, beneath, sector, zero_sector}
-use Rattle.stack_engine.specs.May.{May, Meets, Gives}
-use Rattle.stack_engine.specs.Reading.{Fills}
+use Rattle.stack_engine.specs.Found.{FoundRecord, Entry}
+use Rattle.stack_engine.specs.May.{May, entries_at, Meets, Gives}
+use Rattle.stack_engine.specs.Reading.{Finds}
 
 -- n sectors of a line, from its sector w on, lie on those of a lower device from the first on
 pub record LieOn (c : Configuration) (target : Target) (w n : ℕ) (lower : Lower) (first : ℕ) : Type 0 where
@@ -52,11 +53,17 @@ source_sector c images (Below lower first) j = sector c images lower (first + j)
 source_sector c images Zeros j = Ok zero_sector
 source_sector c images Fails j = Err error_target
 
--- what it may be
-abbrev pub SourceMay : Configuration → Source → ℕ → List ℕ → Type 0
-SourceMay c (Below lower first) j bytes = May c lower (first + j) bytes
-SourceMay c Zeros j bytes = bytes ≡ zero_sector
-SourceMay c Fails j bytes = ⊥
+-- what it may be with these chains
+abbrev pub SourceMay : Configuration → List FoundRecord → Source → ℕ → List ℕ → Type 0
+SourceMay c chains (Below lower first) j bytes = May c chains lower (first + j) bytes
+SourceMay c chains Zeros j bytes = bytes ≡ zero_sector
+SourceMay c chains Fails j bytes = ⊥
+
+-- the entries on its way
+abbrev pub source_entries : Configuration → Source → ℕ → List Entry
+source_entries c (Below lower first) j = entries_at c lower (first + j)
+source_entries c Zeros j = []
+source_entries c Fails j = []
 
 -- the fault that its way may meet
 abbrev pub SourceMeets : Configuration → Source → Fault → ℕ → Type 0
@@ -83,6 +90,6 @@ SourceHolds c Zeros n = Unit {0}
 SourceHolds c Fails n = Unit {0}
 
 -- a read of its first n sectors
-abbrev pub ReadsSource : Configuration → Source → ℕ → List Device → List Device → Result Unit IoFault → List ℕ → Type 0
-ReadsSource c source n old new result bytes =
-    Fills (SourceMay c source) (SourceMeets c source) (λ images. source_sector c images source) (source_cost c source) 0 n old new result bytes
+abbrev pub ReadsSource : Configuration → Source → ℕ → List Device → List Device → List FoundRecord → List FoundRecord → Result Unit IoFault → List ℕ → Type 0
+ReadsSource c source n old new before after result bytes =
+    Finds (λ chains. SourceMay c chains source) (SourceMeets c source) (source_entries c source) (λ images. source_sector c images source) (source_cost c source) 0 n c old new before after result bytes

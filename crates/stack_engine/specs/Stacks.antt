@@ -3,6 +3,7 @@ use Rattle.std.specs.Prelude.{ℕ, List}
 use Rattle.block_device.specs.Device.{Device}
 use Rattle.stack_loader.specs.Records.{Configuration}
 use Rattle.stack_loader.specs.Rules.{IsLoaded}
+use Rattle.stack_engine.specs.Found.{FoundRecord}
 use Rattle.stack_engine.specs.Leaves.{ServeLeaves}
 
 -- a configuration, and the devices of its leaves in order
@@ -15,6 +16,7 @@ pub record IsSound (c : Configuration) (leaves : List Device) : Type 0 where
   pub loaded : IsLoaded c
   pub serve : ServeLeaves c.leaves leaves
 
--- the bytes of a piece
+-- the bytes of a piece, and the chains that were found
 pub record AnswerRecord : Type 0 where
   pub bytes : List ℕ
+  pub chains : List FoundRecord

@@ -1,10 +1,13 @@
 // What a read answers.
+use crate::found::Found;
 use std::marker::Model;
 
-/// The bytes of a piece, 512 for each of its sectors.
-#[derive(Debug, Drop)]
+/// The bytes of a piece, 512 for each of its sectors, and the chains that show them: one for each block of a
+/// verity line, the topmost on a sector's way.
+#[derive(Drop)]
 pub struct Answer {
     pub bytes: Vec<u8>,
+    pub chains: Vec<Found>,
 }
 
 impl Model for Answer {
@@ -12,5 +15,5 @@ impl Model for Answer {
 
     ghost Value = { AnswerRecord };
 
-    ghost view = { λ a. record { bytes = a.bytes.items } };
+    ghost view = { λ a. record { bytes = a.bytes.items; chains = a.chains.items } };
 }

@@ -3,8 +3,10 @@
 
 mod answer;
 mod buffer;
+mod cache;
 mod counters;
 mod fault;
+mod found;
 mod read;
 mod serve;
 mod source;
@@ -14,4 +16,5 @@ mod tests;
 
 pub use answer::Answer;
 pub use fault::IoFault;
+pub use found::Found;
 pub use stack::Stack;

@@ -3,10 +3,13 @@ ghost use Rattle.std.specs.Prelude.{◌≡◌, ◌<◌, ◌≤◌, ◌+◌, ◌*
 ghost use Rattle.stack_loader.specs.Names.{mapped, size};
 ghost use Rattle.stack_loader.specs.Rules.{IsLoaded};
 ghost use Rattle.stack_engine.specs.Leaves.{ServeLeaves};
-ghost use Rattle.stack_engine.specs.Reading.{Reads};
+ghost use Rattle.stack_engine.specs.Found.{AllKept};
+ghost use Rattle.stack_engine.specs.Reading.{Reads, ReadsLeaf};
 ghost use Rattle.stack_engine.specs.Sources.{SourceHolds, ReadsSource};
 
+use crate::cache::Cache;
 use crate::fault::IoFault;
+use crate::found::Found;
 use crate::serve::run_at;
 use crate::source::Source;
 use block_device::BlockDev;
@@ -32,7 +35,7 @@ fn read_leaf<D: BlockDev>(
     requires some { 0 < length out.old }
     requires whole { length out.old % 512 ≡ 0 }
     requires inside { first + length out.old / 512 ≤ size config.now (Lower.Leaf leaf) }
-    ensures { Reads config.now (Lower.Leaf leaf) first (length out.old / 512)
+    ensures { ReadsLeaf config.now (Lower.Leaf leaf) first (length out.old / 512)
         (map D.state devices.old) (map D.state devices.new) result out.new }
 {
     match devices[leaf as usize].read(first, out) {
@@ -46,21 +49,24 @@ fn read_leaf<D: BlockDev>(
 fn read_run<D: BlockDev>(
     config: &Config,
     devices: &mut [D],
+    cache: &mut Cache,
     source: Source,
     out: &mut [u8],
+    found: &mut Vec<Found>,
 ) -> Result<(), IoFault>
     requires loaded { IsLoaded config.now }
     requires serve { ServeLeaves config.now.leaves (map D.state devices.old) }
     requires some { 0 < length out.old }
     requires whole { length out.old % 512 ≡ 0 }
     requires inside { SourceHolds config.now source (length out.old / 512) }
+    requires kept { AllKept config.now (map D.state devices.old) found.old.items }
     ensures { ReadsSource config.now source (length out.old / 512)
-        (map D.state devices.old) (map D.state devices.new) result out.new }
+        (map D.state devices.old) (map D.state devices.new) found.old.items found.new.items result out.new }
 {
     match source {
         Source::Below { lower, first } => match lower {
             Lower::Leaf(leaf) => read_leaf(config, devices, leaf, first, out),
-            Lower::Device(d) => read_device(config, devices, d, first, out),
+            Lower::Device(d) => read_device(config, devices, cache, d, first, out, found),
         },
         Source::Zeros => {
             fill_zeros(out);
@@ -75,24 +81,27 @@ fn read_run<D: BlockDev>(
 pub(crate) fn read_device<D: BlockDev>(
     config: &Config,
     devices: &mut [D],
+    cache: &mut Cache,
     d: DevId,
     first: u64,
     out: &mut [u8],
+    found: &mut Vec<Found>,
 ) -> Result<(), IoFault>
     requires loaded { IsLoaded config.now }
     requires serve { ServeLeaves config.now.leaves (map D.state devices.old) }
     requires some { 0 < length out.old }
     requires whole { length out.old % 512 ≡ 0 }
     requires inside { first + length out.old / 512 ≤ size config.now (mapped d.0) }
+    requires kept { AllKept config.now (map D.state devices.old) found.old.items }
     ensures { Reads config.now (mapped d.0) first (length out.old / 512)
-        (map D.state devices.old) (map D.state devices.new) result out.new }
+        (map D.state devices.old) (map D.state devices.new) found.old.items found.new.items result out.new }
 {
     let mut at = 0;
     while at < out.len() {
         let rest = (out.len() - at) as u64 / 512;
         let run = run_at(config, d, first + at as u64 / 512, rest);
         let end = at + run.count as usize * 512;
-        match read_run(config, devices, run.source, &mut out[at..end]) {
+        match read_run(config, devices, cache, run.source, &mut out[at..end], found) {
             Ok(()) => at = end,
             Err(fault) => return Err(fault),
         }

@@ -13,6 +13,7 @@ ghost use Rattle.stack_engine.specs.Stacks.{StackRecord, IsSound};
 
 use crate::answer::Answer;
 use crate::buffer::zero_sectors;
+use crate::cache::Cache;
 use crate::counters::counted;
 use crate::fault::IoFault;
 use crate::read::read_device;
@@ -28,6 +29,7 @@ pub struct Stack<D: BlockDev> {
     alloc: Global,
     config: Config,
     devices: Vec<D>,
+    cache: Cache,
 }
 
 impl<D: BlockDev> Model for Stack<D> {
@@ -55,23 +57,23 @@ impl<D: BlockDev> Stack<D> {
         ensures err { IfErr result (λ p. (p.0 ≡ config) × (p.1 ≡ devices)) }
         ensures sure { IsOk result }
     {
-        let _ = capacity;
         let _loaded = config.count();
         Ok(Stack {
             alloc,
             config,
             devices,
+            cache: Cache::new(capacity),
         })
     }
 
-    /// The n sectors of a device from `first` on.
+    /// The n sectors of a device from `first` on, and the chains of the verity lines on their way.
     pub fn read_piece(&mut self, d: DevId, first: u64, n: u32) -> Result<Answer, IoFault>
         requires some { 1 ≤ n }
         requires most { n ≤ 128 }
         requires inside { first + n ≤ size self.old.config (mapped d.0) }
         ensures config { self.new.config ≡ self.old.config }
         ensures moved { AreRead self.old.leaves (n * read_cost self.old.config (mapped d.0)) self.new.leaves }
-        ensures may { Ends (λ answer. MayBe self.old.config (mapped d.0) first n answer.bytes) (MayFault self.old.config (mapped d.0) first n)
+        ensures may { Ends (λ answer. MayBe self.old.config (mapped d.0) first n answer.bytes answer.chains) (MayFault self.old.config (mapped d.0) first n)
             self.old.leaves self.new.leaves result }
         ensures exact { AllSteady self.old.leaves → Answers (λ answer. answer.bytes) (span (sector self.old.config (images_of self.old.leaves) (mapped d.0)) first n) result }
     {
@@ -79,15 +81,18 @@ impl<D: BlockDev> Stack<D> {
             Ok(bytes) => bytes,
             Err(_) => return Err(IoFault::NoMemory),
         };
+        let mut chains = Vec::new(self.alloc);
         match read_device(
             &self.config,
             self.devices.as_mut_slice(),
+            &mut self.cache,
             d,
             first,
             bytes.as_mut_slice(),
+            &mut chains,
         ) {
             Err(fault) => Err(fault),
-            Ok(()) => Ok(Answer { bytes }),
+            Ok(()) => Ok(Answer { bytes, chains }),
         }
     }
 

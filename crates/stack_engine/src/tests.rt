@@ -1,5 +1,5 @@
 // Stacks made of texts, and pieces read from them.
-ghost use Rattle.std.specs.Prelude.{◌≡◌, ◌<◌, ◌^◌, ◌-◌, ◌∷◌, [], length, IfOk};
+ghost use Rattle.std.specs.Prelude.{◌≡◌, ◌∷◌, [], IfOk};
 
 use crate::{Answer, IoFault, Stack};
 use block_device::{BlockDev, FailAt, MemoryDev, ScriptDev};
@@ -18,9 +18,10 @@ fn pair<T: Drop>(alloc: Global, a: T, b: T) -> Result<Vec<T>, AllocError>
 }
 
 /// The stack of a text over the leaves `A` and `B`.
-fn stack_of<D: BlockDev + Drop>(alloc: Global, a: D, b: D, text: &[u8]) -> Result<Stack<D>, Fail>
-    requires { length text.now < 2 ^ 32 - 1 }
-{
+fn stack_of<D: BlockDev + Drop>(alloc: Global, a: D, b: D, text: &[u8]) -> Result<Stack<D>, Fail> {
+    if text.len() > 1 << 20 {
+        return Err(Fail::from("the text is too long"));
+    }
     let leaf_a = Leaf {
         name: vec![in alloc; b'A']?,
         sectors: a.sectors(),
@@ -38,6 +39,15 @@ fn stack_of<D: BlockDev + Drop>(alloc: Global, a: D, b: D, text: &[u8]) -> Resul
     let text = parse_stack(alloc, text)?;
     stack.load(&text).map_err(|_| "not loaded")?;
     Ok(stack)
+}
+
+/// Whether the text's devices were loaded.
+fn loads<D: BlockDev>(alloc: Global, stack: &mut Stack<D>, text: &[u8]) -> Result<bool, Fail> {
+    if text.len() > 1 << 20 {
+        return Err(Fail::from("the text is too long"));
+    }
+    let text = parse_stack(alloc, text)?;
+    Ok(stack.load(&text).is_ok())
 }
 
 /// The piece of a device, if it lies inside.
@@ -94,6 +104,20 @@ fn reads_linear_and_zero_lines(rt: HostRuntime) -> Result<(), Fail> {
     assert!(rt; is_filled(&read(&mut stack, b"a", 0, 8), &[2, 3, 4, 5, 0, 0, 0, 0]));
     assert!(rt; read(&mut stack, b"a", 7, 2).is_none());
     assert_eq!(rt; stack.moved(), (5, 0));
+    Ok(())
+}
+
+#[test]
+fn hands_out_no_chain_of_lines_without_trees(rt: HostRuntime) -> Result<(), Fail> {
+    let alloc = rt.alloc();
+    let a = MemoryDev::ramp(alloc, 8, true)?;
+    let b = MemoryDev::zeros(alloc, 8, true)?;
+    let mut stack = stack_of(alloc, a, b, b"s,,,rw,0 8 striped 2 2 A 0 B 0,8 4 zero")?;
+    let Some(Ok(answer)) = read(&mut stack, b"s", 0, 12) else {
+        return Err(Fail::from("no answer"));
+    };
+    assert_eq!(rt; answer.bytes.len(), 6144);
+    assert_eq!(rt; answer.chains.len(), 0);
     Ok(())
 }
 
@@ -196,12 +220,76 @@ fn keeps_its_leaves_when_a_table_is_replaced(rt: HostRuntime) -> Result<(), Fail
         b,
         b"mid,,,rw,0 16 linear A 0;top,,,rw,0 16 linear /dev/mapper/mid 0",
     )?;
-    let short = parse_stack(alloc, b"mid,,,rw,0 8 linear A 0")?;
-    assert!(rt; stack.load(&short).is_err());
+    assert!(rt; !loads(alloc, &mut stack, b"mid,,,rw,0 8 linear A 0")?);
+    assert!(rt; !loads(alloc, &mut stack, b"mid,,,rw,0 16 linear /dev/mapper/top 0")?);
     assert!(rt; is_filled(&read(&mut stack, b"top", 15, 1), &[15]));
-    let moved = parse_stack(alloc, b"mid,,,rw,0 8 linear A 8,8 8 zero")?;
-    assert!(rt; stack.load(&moved).is_ok());
+    assert!(rt; loads(alloc, &mut stack, b"mid,,,rw,0 8 linear A 8,8 8 zero")?);
     assert!(rt; is_filled(&read(&mut stack, b"top", 7, 2), &[15, 0]));
     assert_eq!(rt; stack.moved(), (2, 0));
+    Ok(())
+}
+
+#[test]
+fn reads_through_replaced_devices(rt: HostRuntime) -> Result<(), Fail> {
+    let alloc = rt.alloc();
+    let a = MemoryDev::ramp(alloc, 32, true)?;
+    let b = MemoryDev::zeros(alloc, 1, true)?;
+    let text =
+        b"low,,,rw,0 16 linear A 0;mid,,,rw,0 16 linear /dev/mapper/low 0;top,,,rw,0 16 linear /dev/mapper/mid 0";
+    let mut stack = stack_of(alloc, a, b, text)?;
+    assert!(rt; is_filled(&read(&mut stack, b"top", 3, 2), &[3, 4]));
+    assert!(rt; loads(alloc, &mut stack, b"low,,,rw,0 16 linear A 16")?);
+    assert!(rt; is_filled(&read(&mut stack, b"top", 3, 2), &[19, 20]));
+    assert!(rt;
+        loads(
+            alloc,
+            &mut stack,
+            b"mid,,,rw,0 8 linear /dev/mapper/low 8,8 8 zero"
+        )?
+    );
+    assert!(rt; is_filled(&read(&mut stack, b"top", 7, 2), &[31, 0]));
+    assert!(rt;
+        loads(
+            alloc,
+            &mut stack,
+            b"top,,,rw,0 4 error,4 12 linear /dev/mapper/mid 0"
+        )?
+    );
+    assert!(rt; is_fault(&read(&mut stack, b"top", 3, 1), IoFault::ErrorTarget));
+    assert!(rt; is_filled(&read(&mut stack, b"top", 4, 2), &[24, 25]));
+    assert!(rt; is_filled(&read(&mut stack, b"mid", 0, 1), &[24]));
+    Ok(())
+}
+
+#[test]
+fn reads_the_last_sector_of_the_largest_device(rt: HostRuntime) -> Result<(), Fail> {
+    let alloc = rt.alloc();
+    let a = MemoryDev::zeros(alloc, 1, true)?;
+    let b = MemoryDev::zeros(alloc, 1, true)?;
+    let text = b"z,,,rw,0 18014398509481984 zero;t,,,rw,0 18014398509481984 linear /dev/mapper/z 0";
+    let mut stack = stack_of(alloc, a, b, text)?;
+    assert!(rt; is_filled(&read(&mut stack, b"t", 18014398509481982, 2), &[0, 0]));
+    assert!(rt; read(&mut stack, b"t", 18014398509481984, 1).is_none());
+    assert!(rt; !loads(alloc, &mut stack, b"z,,,rw,0 18014398509481985 zero")?);
+    Ok(())
+}
+
+#[test]
+fn reads_the_last_of_256_lines_and_64_devices(rt: HostRuntime) -> Result<(), Fail> {
+    let alloc = rt.alloc();
+    let a = MemoryDev::ramp(alloc, 256, true)?;
+    let b = MemoryDev::zeros(alloc, 1, true)?;
+    let mut text = String::from_str(alloc, "d0,,,rw")?;
+    for i in 0u32..256 {
+        let offset = 255 - i;
+        write!(text, ",{i} 1 linear A {offset}")?;
+    }
+    for d in 1u32..64 {
+        write!(text, ";d{d},,,rw,0 256 linear /dev/mapper/d0 0")?;
+    }
+    let mut stack = stack_of(alloc, a, b, text.as_bytes())?;
+    assert!(rt; is_filled(&read(&mut stack, b"d63", 254, 2), &[1, 0]));
+    assert!(rt; matches!(read(&mut stack, b"d63", 0, 128), Some(Ok(_))));
+    assert_eq!(rt; stack.moved(), (130, 0));
     Ok(())
 }

@@ -18,7 +18,7 @@ returns-in-Ok-clause-ok g c =
       most = c.run_at-n.ensures.left;
       answered = subst (λ k. EachPiece c.args.stack.now c.args.d.0 c.args.sector k (Ok c.in-Ok.piece) c.read_piece.new.self) same each;
       appended = more ∙ ap (λ t. c.args.bytes.now.items ++ t) (c.as_slice.ensures.value ∙ ap (λ a. a.bytes) c.piece.view_is);
-      len = e.may.len;
+      len = e.may.read.run.len;
     }
 
 pub returns-in-Err-clause-err : goal.returns-in-Err-clause-err

@@ -17,7 +17,7 @@ invariant-read_device-loop-at g l = record {
   whole : l.at % 512 ≡ 0;
   within : l.at ≤ length l.out;
   so_far : Reads l.config (mapped l.d.0) l.first (l.at / 512)
-      (map g.D.BlockDev.state l.fn.devices) (map g.D.BlockDev.state l.devices) (Ok tt) (take l.at l.out);
+      (map g.D.BlockDev.state l.fn.devices) (map g.D.BlockDev.state l.devices) l.fn.found.items l.found.items (Ok tt) (take l.at l.out);
 }
 
 abbrev pub decreases-read_device-loop-at : goal.decreases-read_device-loop-at

@@ -1,0 +1,57 @@
+#!/usr/bin/env bash
+# Compares verity images with those of veritysetup, where it is installed. Not a part of the gate.
+#
+# interoperation.sh [STEP]: every pair of block sizes, every STEP-th number of data blocks from 1 to 300 (7 if none is
+# given), and salts of 0, 1, 32 and 256 bytes in turn. Each image is formatted by both: roots and hash images must be equal,
+# each must verify the other's, `dump` must tell the same fields, and `table` the line that a kernel takes.
+set -eu
+step=${1:-7}
+top=$(dirname "$(dirname "$(readlink -f "$0")")")
+"$top/dmstack" session < /dev/null
+program=$top/crates/dmstack/out/dmstack
+room=$(mktemp -d)
+trap 'rm -rf "$room"' EXIT
+cd "$room"
+uuid=6c0b2c0e-5a0d-4b5c-9a44-1d1f6a3b2c7e
+salts=("-" 5a "$(printf '%064d' 7)" "$(seq -f '%02g' 0 99 | tr -d '\n')$(seq -f '%02g' 0 99 | tr -d '\n')$(seq -f '%02g' 0 55 | tr -d '\n')")
+head -c $((300 * 4096)) /dev/urandom > data
+cases=0
+
+fail() {
+    echo "data blocks of $1, hash blocks of $2, $3 data blocks, salt $4: $5"
+    exit 1
+}
+
+# The fields that `veritysetup dump` and ours name alike, one a line.
+fields() {
+    sed -n -e 's/^UUID: *\t*/uuid /p' -e 's/^Hash type: *\t*/hash_type /p' -e 's/^Hash algorithm: *\t*/algorithm /p' \
+        -e 's/^Data block size: *\t*\([0-9]*\).*/data_block \1/p' -e 's/^Hash block size: *\t*\([0-9]*\).*/hash_block \1/p' \
+        -e 's/^Data blocks: *\t*/data_blocks /p' -e 's/^Salt: *\t*/salt /p' | sort
+}
+
+# compare DATA_BLOCK HASH_BLOCK BLOCKS SALT
+compare() {
+    local root line
+    truncate -s 0 theirs ours
+    truncate -s $((302 * 4096)) theirs ours
+    root=$(veritysetup format --data-block-size="$1" --hash-block-size="$2" --data-blocks="$3" --salt="$4" --uuid=$uuid data theirs |
+        sed -n 's/^Root hash: *\t*//p')
+    [ "$("$program" format --data-block "$1" --hash-block "$2" --blocks "$3" --salt="$4" --uuid $uuid data ours | head -n 1)" = "root $root" ] ||
+        fail "$@" 'another root'
+    cmp -s theirs ours || fail "$@" 'another hash image'
+    [ "$("$program" verify data theirs "$root")" = matches ] || fail "$@" 'theirs is not verified'
+    veritysetup verify data ours "$root" > /dev/null || fail "$@" 'ours is not verified'
+    [ "$("$program" dump theirs | sort)" = "$(veritysetup dump ours | fields)" ] || fail "$@" 'other fields'
+    line="0 $(($3 * $1 / 512)) verity 1 DATA HASH $1 $2 $3 1 sha256 $root $4"
+    [ "$("$program" table theirs "$root" DATA HASH)" = "$line" ] || fail "$@" 'another table line'
+    cases=$((cases + 1))
+}
+
+for data_block in 512 1024 2048 4096; do
+    for hash_block in 512 1024 2048 4096; do
+        for blocks in $(seq 1 "$step" 300); do
+            compare $data_block $hash_block "$blocks" "${salts[blocks / step % 4]}"
+        done
+    done
+done
+echo "interoperation: $cases images agree with $(veritysetup --version)"
