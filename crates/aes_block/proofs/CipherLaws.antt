@@ -99,23 +99,6 @@ module _ (w : List ℕ) (bytes : IsBytes w) where
 -- ---- the cipher
 
 module _ (key block : List ℕ) (key_bytes : IsBytes key) (is_block : IsBlock block) where
-  -- the cipher of a block is a block
-  pub IsBlock-cipher : IsBlock (cipher key block)
-  unfolding forth cipher cipher_with
-  IsBlock-cipher =
-      let w = key_schedule key in
-      let bytes = IsBytes-key_schedule key key_bytes in
-      let last = state_after w block (rounds key - 1) in
-      IsBlock-keyed w bytes (forth last) (rounds key) (IsBlock-forth last (IsBlock-state_after w bytes block (rounds key - 1) is_block))
-
-  -- the inverse cipher of a block is a block
-  pub IsBlock-inverse_cipher : IsBlock (inverse_cipher key block)
-  unfolding inverse_cipher inverse_cipher_with
-  IsBlock-inverse_cipher =
-      let w = key_schedule key in
-      let bytes = IsBytes-key_schedule key key_bytes in
-      IsBlock-inverse_rounds w bytes (rounds key - 1) (add_round_key block (round_key w (rounds key))) (IsBlock-keyed w bytes block (rounds key) is_block)
-
   -- the inverse cipher undoes the cipher
   pub inverse_cipher-cipher : inverse_cipher key (cipher key block) ≡ block
   unfolding forth cipher cipher_with inverse_cipher inverse_cipher_with

@@ -16,7 +16,7 @@ cipher_with nr w block = add_round_key (shift_rows (sub_bytes (state_after w blo
 unfoldable pub cipher : List ℕ → List ℕ → List ℕ
 cipher key block = cipher_with (rounds key) (key_schedule key) block
 
--- 5.3: the rounds n to 1 and the last AddRoundKey, from a state whose round key n + 1 is taken off
+-- 5.3: the rounds n to 1 of INVCIPHER on the state s, and then its last round, which has no InvMixColumns
 abbrev pub inverse_rounds : List ℕ → ℕ → List ℕ → List ℕ
 inverse_rounds w zero s = add_round_key (inv_sub_bytes (inv_shift_rows s)) (round_key w 0)
 inverse_rounds w (suc n) s = inverse_rounds w n (inv_mix_columns (add_round_key (inv_sub_bytes (inv_shift_rows s)) (round_key w (suc n))))

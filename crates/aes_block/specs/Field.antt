@@ -35,11 +35,11 @@ abbrev pub parities : (ℕ → ℕ) → ℕ → ℕ
 parities f zero = 0
 parities f (suc n) = parities f n + f n % 2 * 2 ^ n
 
--- 5.1.1: the affine map of SubBytes; indices are modulo 8
+-- 5.1.1: the affine map of SubBytes: bit i is the sum of five bits of b and bit i of 0x63; indices are modulo 8
 unfoldable pub affine : ℕ → ℕ
 affine b = parities (λ i. bit_at b i + bit_at b ((i + 4) % 8) + bit_at b ((i + 5) % 8) + bit_at b ((i + 6) % 8) + bit_at b ((i + 7) % 8) + bit_at 0x63 i) 8
 
--- 5.3.2: the inverse of the affine map
+-- 5.3.2: the inverse of the affine map: bit i is the sum of three bits of b and bit i of 0x05; indices are modulo 8
 unfoldable pub inv_affine : ℕ → ℕ
 inv_affine b = parities (λ i. bit_at b ((i + 2) % 8) + bit_at b ((i + 5) % 8) + bit_at b ((i + 7) % 8) + bit_at 0x05 i) 8
 

@@ -3,7 +3,7 @@ use Rattle.std.specs.Prelude.{ℕ, zero, suc, ◌+◌, ◌-◌, ◌*◌, ◌/◌
 use Rattle.std.specs.List.{range_with_len}
 use Rattle.aes_block.specs.Field.{power_of_x, sub_byte}
 
--- word i
+-- word i of a list of bytes
 abbrev pub word : List ℕ → ℕ → List ℕ
 word bytes i = take 4 (drop (4 * i) bytes)
 
@@ -19,15 +19,15 @@ sub_word w = map sub_byte w
 abbrev pub add_words : List ℕ → List ℕ → List ℕ
 add_words v w = map (λ k. bit_xor (slice_index v k) (slice_index w k)) (range_with_len 0 4)
 
--- 5.2: the round constant of index j
+-- 5.2: the round constant of index j: the byte x^(j - 1) and three zeros
 abbrev pub round_constant : ℕ → List ℕ
 round_constant j = power_of_x (j - 1) ∷ 0 ∷ 0 ∷ 0 ∷ []
 
--- 5.2: what is added to word i - nk to give word i, where w is word i - 1
+-- 5.2: what is added to word i - nk of a key of nk words to give word i, where w is word i - 1
 unfoldable pub key_term : ℕ → List ℕ → ℕ → List ℕ
 key_term nk w i = if i % nk == 0 then add_words (sub_word (rot_word w)) (round_constant (i / nk)) else (if nk == 8 && i % nk == 4 then sub_word w else w)
 
--- the words up to i, and word i
+-- 5.2: the words before word i, and then word i
 unfoldable pub with_word : ℕ → List ℕ → ℕ → List ℕ
 with_word nk words i = words ++ add_words (word words (i - nk)) (key_term nk (word words (i - 1)) i)
 

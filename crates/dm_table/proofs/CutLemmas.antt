@@ -1,11 +1,10 @@
 -- Texts cut into words and pieces, one at a time.
-use Rattle.std.proofs.Common.{◌≡◌, ℕ, ◌+◌, ◌<◌, ◌≤◌, suc, Bool, true, false, not, eqb, ltb, List, [], ◌∷◌, ◌++◌, length, take, drop, get_or, filter, All, Option, Some, None, Bor, refl, sym, ap, ◌∙◌, inl, inr, subst, cond, arith, rules, add-one}
-use Rattle.std.specs.List.{slice_split, prefix_len, position_or_len, onto_first}
-use Rattle.std.proofs.lemmas.Bool.{cases_Bool, cases_lt, cond-true, cond-false, false≢true, lt-ltb}
+use Rattle.std.proofs.Common.{◌≡◌, ℕ, ◌+◌, ◌<◌, ◌≤◌, suc, Bool, true, false, not, eqb, ltb, List, [], ◌∷◌, length, take, drop, get_or, filter, All, Some, None, Bor, refl, sym, ap, ◌∙◌, inl, inr, arith}
+use Rattle.std.specs.List.{slice_split, prefix_len, position_or_len}
+use Rattle.std.proofs.lemmas.Bool.{cases_Bool, cases_lt, cond-true, cond-false, lt-ltb}
 use Rattle.std.proofs.lemmas.List.{drop_more, take_all, drop_all, length-take-le}
-use Rattle.std.proofs.lemmas.List.Splits.{slice_split-cons_yes, slice_split-cons_no, slice_split_none, slice_split_at, slice_split_first}
+use Rattle.std.proofs.lemmas.List.Splits.{slice_split-cons_yes, slice_split_none, slice_split_first}
 use Rattle.std.proofs.lemmas.List.Sums.{prefix_len-le-length, prefix_len_passes, prefix_len_stops}
-use Rattle.std.proofs.lemmas.Grind.{common_steps}
 use Rattle.dm_table.specs.Words.{is_white, words, pieces_left}
 
 not_false : (b : Bool) → not b ≡ true → b ≡ false

@@ -1,6 +1,6 @@
 -- What was read keeps to the grammar's limits.
-use Rattle.std.proofs.Common.{◌≡◌, ℕ, ◌+◌, ◌*◌, ◌^◌, ◌<◌, ◌≤◌, suc, zero, Bool, true, false, not, ◌&&◌, ◌||◌, eqb, ltb, leb, cond, IsTrue, List, [], ◌∷◌, length, get_or, drop, codes, All, Option, Some, None, Result, Ok, Err, ok_or, refl, ap, sym, subst, ◌∙◌, inl, inr, arith}
-use Rattle.std.specs.List.{AllPairs, list_all, starts_with}
+use Rattle.std.proofs.Common.{◌≡◌, ℕ, ◌+◌, ◌*◌, ◌^◌, ◌<◌, ◌≤◌, suc, zero, Bool, true, false, not, ◌&&◌, eqb, ltb, leb, cond, IsTrue, List, [], ◌∷◌, length, codes, All, Option, Some, None, Result, Ok, Err, ok_or, refl, ap, sym, subst, ◌∙◌, inl, inr, arith}
+use Rattle.std.specs.List.{AllPairs, list_all}
 use Rattle.std.specs.Str.{bytes_eq}
 use Rattle.std.specs.Char.{is_ascii_digit}
 use Rattle.std.specs.Str.Parse.{digits_value}
@@ -11,17 +11,15 @@ use Rattle.dm_table.specs.declared.table.Line.{Line}
 use Rattle.dm_table.specs.declared.table.Target.{Target}
 use Rattle.dm_table.specs.declared.table.Target.TheVariants.{Linear, Striped, Zero, Error}
 use Rattle.dm_table.specs.declared.stack.Entry.{Entry}
-use Rattle.dm_table.specs.declared.fault.TextFault.{TextFault}
-use Rattle.dm_table.specs.declared.fault.TextKind.{TextKind}
 use Rattle.dm_table.specs.declared.fault.TextKind.TheVariants as kinds
 use Rattle.dm_table.specs.Words.{Word, is_white, is_text, words, trimmed, lines_of, entries_of, fields_of}
 use Rattle.dm_table.specs.Numbers.{number, kept}
 use Rattle.dm_table.specs.Names.{is_device, is_mapped_name}
 use Rattle.dm_table.specs.Reading.{Read, ◌>>=◌, at_place}
 use Rattle.dm_table.specs.Lines.{device_at, number_at, base_at, linear_at, bases_at, stripes_at, chunk_at, pairs_at, striped_at, bare, target_at, line_of}
-use Rattle.dm_table.specs.Grammar.{IsBaseOfGrammar, IsStripedOfGrammar, IsTargetOfGrammar, IsLineOfGrammar, IsTableOfGrammar}
+use Rattle.dm_table.specs.Grammar.{IsBaseOfGrammar, IsTargetOfGrammar, IsLineOfGrammar, IsTableOfGrammar}
 use Rattle.dm_table.specs.TableText.{is_skipped, table_lines, some_lines, table_of}
-use Rattle.dm_table.specs.StackText.{name_at, minor_at, is_minor, flags_at, entry_lines, Head, head_of, entry_of, entries_from, stack_of, single_of, IsEntryOfGrammar, IsStackOfGrammar}
+use Rattle.dm_table.specs.StackText.{name_at, minor_at, flags_at, entry_lines, Head, head_of, entry_of, entries_from, stack_of, IsEntryOfGrammar, IsStackOfGrammar}
 
 -- a step that was made, and what follows it
 pub bind_ok : {A B E : Type 0} (r : Result A E) (f : A → Result B E) (b : B) → (r >>= f) ≡ Ok b → (a : A) × (r ≡ Ok a) × (f a ≡ Ok b)

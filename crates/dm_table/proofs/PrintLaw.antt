@@ -1,11 +1,10 @@
 -- A printed table reads back as that table.
-use Rattle.std.proofs.Common.{◌≡◌, ℕ, ◌+◌, ◌*◌, ◌^◌, ◌<◌, ◌≤◌, ◌==◌, Bool, true, false, not, ◌&&◌, ◌||◌, eqb, ltb, leb, cond, List, [], ◌∷◌, ◌++◌, length, take, drop, map, filter, flat_map, codes, decimal, All, Option, Some, None, Result, Ok, Err, ok_or, refl, ap, sym, subst, ◌∙◌, inl, inr, append_assoc, append-nil, take-append-drop, arith}
+use Rattle.std.proofs.Common.{◌≡◌, ℕ, ◌+◌, ◌*◌, ◌^◌, ◌<◌, ◌≤◌, ◌==◌, Bool, true, false, not, ◌&&◌, ◌||◌, eqb, ltb, leb, List, [], ◌∷◌, ◌++◌, length, take, drop, filter, flat_map, codes, decimal, All, Some, None, Ok, Err, ok_or, refl, ap, sym, subst, ◌∙◌, inl, inr, append_assoc, take-append-drop, arith}
 use Rattle.std.specs.List.{list_all, slice_split, starts_with, join_with_byte}
 use Rattle.std.specs.Cmp.Lexicographic.{pointwise}
-use Rattle.std.specs.Char.{is_ascii_digit, digit_value}
-use Rattle.std.specs.Str.{bytes_eq}
-use Rattle.std.specs.Str.Parse.{digits_value, AllDigits, IsNumeral}
-use Rattle.std.proofs.lemmas.Bool.{cases_Bool, cond-true, cond-false, and_parts, and_from, ltb-true, leb-true, le-leb, eqb-true, ne_eqb, lt-ltb, eq-eqb}
+use Rattle.std.specs.Char.{is_ascii_digit}
+use Rattle.std.specs.Str.Parse.{digits_value, AllDigits}
+use Rattle.std.proofs.lemmas.Bool.{cases_Bool, cond-true, cond-false, and_parts, and_from, leb-true, le-leb, eqb-true, ne_eqb, lt-ltb}
 use Rattle.std.proofs.lemmas.Fmt.{decimal_is_IsNumeral}
 use Rattle.std.proofs.lemmas.Str.Parse.{digit_from_value}
 use Rattle.std.proofs.lemmas.List.Elements.{All-nil, All-cons, All-head, All-tail, All-append}
@@ -15,15 +14,13 @@ use Rattle.dm_table.specs.declared.table.Base.{Base}
 use Rattle.dm_table.specs.declared.table.Line.{Line}
 use Rattle.dm_table.specs.declared.table.Target.{Target}
 use Rattle.dm_table.specs.declared.table.Target.TheVariants.{Linear, Striped, Zero, Error}
-use Rattle.dm_table.specs.declared.fault.TextFault.{TextFault}
-use Rattle.dm_table.specs.declared.fault.TextKind.{TextKind}
 use Rattle.dm_table.specs.declared.fault.TextKind.TheVariants as kinds
-use Rattle.dm_table.specs.Words.{Word, is_white, is_graphic, is_text, words, lines_of}
+use Rattle.dm_table.specs.Words.{Word, is_white, is_graphic, words, lines_of}
 use Rattle.dm_table.specs.Numbers.{number, kept}
 use Rattle.dm_table.specs.Names.{is_device, is_mapped_name, is_mapped_byte, is_leaf_byte, is_name_of, mapper}
-use Rattle.dm_table.specs.Reading.{Read, ◌>>=◌, at_place}
-use Rattle.dm_table.specs.Lines.{device_at, number_at, base_at, linear_at, bases_at, stripes_at, chunk_at, pairs_at, striped_at, bare, target_at, line_of}
-use Rattle.dm_table.specs.Grammar.{IsBaseOfGrammar, IsStripedOfGrammar, IsTargetOfGrammar, IsLineOfGrammar, IsTableOfGrammar}
+use Rattle.dm_table.specs.Reading.{◌>>=◌, at_place}
+use Rattle.dm_table.specs.Lines.{number_at, base_at, linear_at, bases_at, stripes_at, chunk_at, bare, target_at, line_of}
+use Rattle.dm_table.specs.Grammar.{IsBaseOfGrammar, IsTargetOfGrammar, IsLineOfGrammar, IsTableOfGrammar}
 use Rattle.dm_table.specs.TableText.{is_skipped, table_lines, some_lines, table_of}
 use Rattle.dm_table.specs.Print.{base_words, target_words, line_words, line_text, table_text}
 use Rattle.dm_table.proofs.NumberLemmas.{number-some}

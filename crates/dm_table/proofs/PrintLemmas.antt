@@ -1,5 +1,5 @@
 -- Printed words, lines and tables.
-use Rattle.std.proofs.Common.{◌≡◌, ℕ, ◌+◌, ◌<◌, ◌≤◌, Bool, true, false, List, [], ◌∷◌, ◌++◌, length, flat_map, Result, Ok, Err, refl, ap, sym, ◌∙◌, append_assoc, append-nil, arith}
+use Rattle.std.proofs.Common.{◌≡◌, List, [], ◌∷◌, ◌++◌, flat_map, ap, sym, append-nil}
 use Rattle.std.specs.List.{join_with_byte}
 use Rattle.dm_table.specs.Words.{Word}
 use Rattle.dm_table.specs.Print.{spaced}

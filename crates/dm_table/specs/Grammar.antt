@@ -1,5 +1,5 @@
 -- What holds of every table and stack text that was read.
-use Rattle.std.specs.Prelude.{ℕ, ◌^◌, ◌<◌, ◌≤◌, IsTrue, List, length, All, AllPairs}
+use Rattle.std.specs.Prelude.{ℕ, ◌^◌, ◌<◌, ◌≤◌, IsTrue, List, length, All}
 use Rattle.dm_table.specs.declared.table.Base.{Base}
 use Rattle.dm_table.specs.declared.table.Line.{Line}
 use Rattle.dm_table.specs.declared.table.Target.{Target}

@@ -29,7 +29,7 @@ pub(crate) fn is_blank(text: &[u8]) -> bool
 }
 
 /// How many bytes of white space the text begins with.
-fn white_len(text: &[u8]) -> usize
+pub fn white_len(text: &[u8]) -> usize
     ensures value { result ≡ prefix_len is_white text.now }
     ensures bound { result ≤ length text.now }
 {
@@ -54,7 +54,7 @@ fn trimmed_len(text: &[u8]) -> usize
 }
 
 /// How many bytes stand before the first white space.
-fn word_len(text: &[u8]) -> usize
+pub fn word_len(text: &[u8]) -> usize
     ensures value { result ≡ position_or_len is_white text.now }
     ensures bound { result ≤ length text.now }
 {

@@ -15,7 +15,7 @@ mod target;
 #[cfg(test)]
 mod tests;
 
-pub use crate::cut::Words;
+pub use crate::cut::{Words, white_len, word_len};
 pub use crate::fault::{ParseFault, TextFault, TextKind};
 pub use crate::numbers::number;
 pub use crate::print::print_table;

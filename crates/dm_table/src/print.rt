@@ -5,6 +5,7 @@ ghost use Rattle.dm_table.specs.TableText.{table_of};
 ghost use Rattle.dm_table.specs.Print.{base_words, line_text, spaced, table_text, target_words};
 
 use crate::table::{Base, Line, Table, Target};
+use itoa::Buffer;
 use std::alloc::{AllocError, Global};
 
 /// Prints each line on a line of its own, ended by a newline. `show_keys` has no effect on these
@@ -16,75 +17,70 @@ pub fn print_table(alloc: Global, table: &Table, show_keys: bool) -> Result<Vec<
     let _ = show_keys;
     let mut text = Vec::new(alloc);
     for line in table.lines() {
-        print_line(alloc, &mut text, line)?;
+        print_line(&mut text, line)?;
     }
     Ok(text)
 }
 
-fn print_line(alloc: Global, text: &mut Vec<u8>, line: &Line) -> Result<(), AllocError>
+fn print_line(text: &mut Vec<u8>, line: &Line) -> Result<(), AllocError>
     ensures { OnOk result (text.new.items ≡ text.old.items ++ (line_text line.now ++ 10 ∷ [])) }
 {
-    push_number(alloc, text, line.start)?;
-    push_spaced_number(alloc, text, line.length)?;
-    print_target(alloc, text, &line.target)?;
+    push_number(text, line.start)?;
+    push_spaced_number(text, line.length)?;
+    print_target(text, &line.target)?;
     text.push(b'\n')?;
     Ok(())
 }
 
-fn print_target(alloc: Global, text: &mut Vec<u8>, target: &Target) -> Result<(), AllocError>
+fn print_target(text: &mut Vec<u8>, target: &Target) -> Result<(), AllocError>
     ensures { OnOk result
         (text.new.items ≡ text.old.items ++ flat_map spaced (target_words target.now)) }
 {
     match target {
-        Target::Linear(base) => print_linear(alloc, text, base),
-        Target::Striped { chunk, bases } => print_striped(alloc, text, *chunk, bases.as_slice()),
+        Target::Linear(base) => print_linear(text, base),
+        Target::Striped { chunk, bases } => print_striped(text, *chunk, bases.as_slice()),
         Target::Zero => push_spaced(text, b"zero"),
         Target::Error => push_spaced(text, b"error"),
     }
 }
 
-fn print_linear(alloc: Global, text: &mut Vec<u8>, base: &Base) -> Result<(), AllocError>
+fn print_linear(text: &mut Vec<u8>, base: &Base) -> Result<(), AllocError>
     ensures { OnOk result
         (text.new.items ≡ text.old.items ++ flat_map spaced (target_words (Linear base.now))) }
 {
     push_spaced(text, b"linear")?;
-    print_base(alloc, text, base)?;
+    print_base(text, base)?;
     Ok(())
 }
 
-fn print_striped(
-    alloc: Global,
-    text: &mut Vec<u8>,
-    chunk: u64,
-    bases: &[Base],
-) -> Result<(), AllocError>
+fn print_striped(text: &mut Vec<u8>, chunk: u64, bases: &[Base]) -> Result<(), AllocError>
     ensures { OnOk result
         (text.new.items ≡ text.old.items
         ++ flat_map spaced (target_words (Striped chunk bases.now))) }
 {
     push_spaced(text, b"striped")?;
-    push_spaced_number(alloc, text, bases.len() as u64)?;
-    push_spaced_number(alloc, text, chunk)?;
-    print_bases(alloc, text, bases)?;
+    push_spaced_number(text, bases.len() as u64)?;
+    push_spaced_number(text, chunk)?;
+    print_bases(text, bases)?;
     Ok(())
 }
 
-fn print_bases(alloc: Global, text: &mut Vec<u8>, bases: &[Base]) -> Result<(), AllocError>
+fn print_bases(text: &mut Vec<u8>, bases: &[Base]) -> Result<(), AllocError>
     ensures { OnOk result
         (text.new.items ≡ text.old.items ++ flat_map spaced (flat_map base_words bases.now)) }
 {
     for base in bases {
-        print_base(alloc, text, base)?;
+        print_base(text, base)?;
     }
     Ok(())
 }
 
-fn print_base(alloc: Global, text: &mut Vec<u8>, base: &Base) -> Result<(), AllocError>
+fn print_base(text: &mut Vec<u8>, base: &Base) -> Result<(), AllocError>
     ensures { OnOk result
         (text.new.items ≡ text.old.items ++ flat_map spaced (base_words base.now)) }
 {
     push_spaced(text, base.device.as_slice())?;
-    push_spaced_number(alloc, text, base.offset)
+    push_spaced_number(text, base.offset)
 }
 
 fn push_spaced(text: &mut Vec<u8>, word: &[u8]) -> Result<(), AllocError>
@@ -94,16 +90,16 @@ fn push_spaced(text: &mut Vec<u8>, word: &[u8]) -> Result<(), AllocError>
     text.extend_from_slice(word)
 }
 
-fn push_spaced_number(alloc: Global, text: &mut Vec<u8>, number: u64) -> Result<(), AllocError>
+fn push_spaced_number(text: &mut Vec<u8>, number: u64) -> Result<(), AllocError>
     ensures { OnOk result (text.new.items ≡ text.old.items ++ 32 ∷ decimal number) }
 {
     text.push(b' ')?;
-    push_number(alloc, text, number)
+    push_number(text, number)
 }
 
-fn push_number(alloc: Global, text: &mut Vec<u8>, number: u64) -> Result<(), AllocError>
+fn push_number(text: &mut Vec<u8>, number: u64) -> Result<(), AllocError>
     ensures { OnOk result (text.new.items ≡ text.old.items ++ decimal number) }
 {
-    let digits = format!(in alloc; "{number}")?;
-    text.extend_from_slice(digits.as_bytes())
+    let mut digits = Buffer::new();
+    text.extend_from_slice(digits.format(number).as_bytes())
 }

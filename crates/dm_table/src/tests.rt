@@ -114,6 +114,7 @@ fn examples_of_the_kernel(rt: HostRuntime) -> Result<(), Fail> {
         "dm-linear,,,rw,\n0 32768 linear /dev/sda1 0,\n32768 1024000 linear /dev/sda2 0,\n\
          1056768 204800 linear /dev/sda3 0,\n1261568 512000 linear /dev/sda4 0",
         "dm-striped,,4,ro,0 1638400 striped 4 4096 /dev/sda1 0 /dev/sda2 0 /dev/sda3 0 /dev/sda4 0",
+        "vram,,,rw,0 32768 linear 1:0 0,32768 32768 linear 1:1 0",
     ] {
         assert_eq!(rt;
             stack(rt.alloc(), text.as_bytes()),
@@ -124,6 +125,21 @@ fn examples_of_the_kernel(rt: HostRuntime) -> Result<(), Fail> {
     let identity = printed(rt.alloc(), b"0 21474836480 zero".as_slice())?;
     assert_eq!(rt; identity.as_slice(), b"0 21474836480 zero\n".as_slice());
     Ok(())
+}
+
+// The same guide's examples for targets that are left out: the name is read, the target is not.
+#[test]
+fn examples_of_other_targets(rt: HostRuntime) {
+    for text in [
+        "dm-delay,,4,ro,0 409600 delay /dev/sda1 0 500",
+        "dm-snap-orig,,4,ro,0 409600 snapshot-origin 8:2",
+    ] {
+        assert_eq!(rt;
+            stack(rt.alloc(), text.as_bytes()),
+            Answer::Fault(1, 1, TextKind::Target),
+            "{text}"
+        );
+    }
 }
 
 #[test]

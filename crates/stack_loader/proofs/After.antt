@@ -1,5 +1,5 @@
 -- Names after a load.
-use Rattle.std.proofs.Common.{◌≡◌, ◌+◌, ◌≤◌, ◌<◌, ℕ, zero, suc, List, [], ◌∷◌, ◌++◌, refl, sym, ap, ◌∙◌, Bool, true, false, not, ◌||◌, cond, Option, Some, None, length, map, filter, find, position, arith}
+use Rattle.std.proofs.Common.{◌≡◌, ◌+◌, ℕ, List, [], ◌∷◌, ◌++◌, refl, sym, ap, ◌∙◌, Bool, true, false, cond, Option, Some, None, map, filter, find}
 use Rattle.std.specs.Prelude.{is_none, IsTrue, All}
 use Rattle.std.specs.List.{AllByRecursion, IsDistinct, list_any, position_from}
 use Rattle.std.specs.Option.{option_map_or}
@@ -11,11 +11,10 @@ use Rattle.dm_table.specs.declared.stack.Entry.{Entry}
 use Rattle.dm_table.specs.Names.{is_mapped_name}
 use Rattle.dm_table.specs.StackText.{IsStackOfGrammar, IsEntryOfGrammar}
 use Rattle.stack_loader.specs.declared.refusal.LoadKind.TheVariants.{DuplicateName}
-use Rattle.stack_loader.specs.declared.refusal.Refusal.{Refusal}
 use Rattle.stack_loader.specs.Records.{Configuration, DeviceRecord}
 use Rattle.stack_loader.specs.Names.{device_named}
 use Rattle.stack_loader.specs.ValidLines.{apart}
-use Rattle.stack_loader.specs.Rules.{first, refuse, duplicate_names, replaced, created, after_load, IsLoaded, IsValid, rules}
+use Rattle.stack_loader.specs.Rules.{first, duplicate_names, replaced, created, after_load, IsLoaded, IsValid, rules}
 use Rattle.stack_loader.proofs.LeavesSound.{none-all, over_map, change}
 use Rattle.stack_loader.proofs.Earlier.{bytes_eq-sym}
 

@@ -1,13 +1,12 @@
 -- What stands beneath each device, and values of all devices by it.
-use Rattle.std.proofs.Common.{◌≡◌, ◌+◌, ◌-◌, ◌≤◌, ◌<◌, ℕ, zero, suc, max, List, [], ◌∷◌, ◌++◌, refl, sym, ap, ◌∙◌, Bool, true, false, not, ◌||◌, cond, Option, Some, None, length, drop, take, get_or, map, slice_index, arith}
-use Rattle.std.specs.Prelude.{flat_map, filter_map, slice_get, slice_set, position}
-use Rattle.std.specs.List.{AllByRecursion, list_any, range_with_len}
+use Rattle.std.proofs.Common.{◌≡◌, ◌+◌, ◌<◌, ℕ, zero, suc, max, List, [], ◌∷◌, ◌++◌, refl, sym, ap, ◌∙◌, true, Option, Some, None, length, get_or, map, arith}
+use Rattle.std.specs.Prelude.{flat_map, filter_map, slice_get, position}
+use Rattle.std.specs.List.{AllByRecursion}
 use Rattle.std.specs.Option.{option_map_or, option_map, option_or}
 use Rattle.std.specs.Str.{bytes_eq}
-use Rattle.std.proofs.lemmas.List.{get_or-map, length-map, get_or_past, get_or-set_same, get_or-set_other}
+use Rattle.std.proofs.lemmas.List.{get_or-map, length-map}
 use Rattle.std.proofs.lemmas.List.Quantifiers.{position-Some}
 use Rattle.std.proofs.lemmas.List.FromFn.{fill_by_all, get_or-map-range_with_len}
-use Rattle.std.proofs.Math.Decide.{dec_le}
 use Rattle.dm_table.specs.declared.table.Line.{Line}
 use Rattle.dm_table.specs.declared.table.Base.{Base}
 use Rattle.dm_table.specs.declared.table.Target.{Target}
@@ -15,12 +14,12 @@ use Rattle.dm_table.specs.declared.table.Target.TheVariants.{Linear, Striped, Ze
 use Rattle.stack_loader.specs.declared.lower.Lower.{Lower}
 use Rattle.stack_loader.specs.declared.lower.Lower.TheVariants.{Leaf as leaf, Device as device}
 use Rattle.stack_loader.specs.Records.{Configuration, DeviceRecord}
-use Rattle.stack_loader.specs.Names.{mapped, named, names, lowers, lowers_of, lines_of, path_of}
-use Rattle.stack_loader.specs.Descend.{greatest, after_steps, descend, most_devices, depth, depth_rule, cost_rule, by_name, known, line_read_cost, line_write_cost, read_cost, write_cost}
+use Rattle.stack_loader.specs.Names.{mapped, named, names, lowers, lines_of, path_of}
+use Rattle.stack_loader.specs.Descend.{greatest, after_steps, descend, most_devices, depth, depth_rule, cost_rule, by_name, line_read_cost, line_write_cost, read_cost, write_cost}
 use Rattle.stack_loader.specs.Heights.{value_of, greatest_of, round, rounds}
 use Rattle.stack_loader.specs.Kept.{AreLowers, meanings, each_mapped}
 use Rattle.stack_loader.specs.Passing.{Mean, RowsMean}
-use Rattle.stack_loader.proofs.Lists.{same_row, slice_get-past}
+use Rattle.stack_loader.proofs.Lists.{same_row}
 
 -- ---- the rows of each device
 

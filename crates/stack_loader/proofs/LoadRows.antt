@@ -8,7 +8,7 @@ use Rattle.dm_table.specs.declared.table.Target.TheVariants.{Linear, Striped, Ze
 use Rattle.stack_loader.specs.declared.refusal.LoadKind.{LoadKind}
 use Rattle.stack_loader.specs.declared.refusal.LoadKind.TheVariants.{DuplicateName, NoSuchDevice, StandsOnItself, ZeroLength, Gap, TooLarge, StripesDontDivide, BeyondDevice, LowerReadOnly, TooDeep}
 use Rattle.stack_loader.specs.declared.refusal.Refusal.{Refusal}
-use Rattle.stack_loader.specs.Records.{Configuration, DeviceRecord, LeafRecord}
+use Rattle.stack_loader.specs.Records.{Configuration, LeafRecord}
 use Rattle.stack_loader.specs.Descend.{descend, depth, read_cost, write_cost}
 use Rattle.stack_loader.specs.Names.{mapped}
 use Rattle.stack_loader.specs.Rules.{first_refusal, stands_on_itself}

@@ -1,19 +1,18 @@
 -- From the check of a load to the loaded configuration.
-use Rattle.std.proofs.Common.{◌≡◌, List, Option, Some, None, Result, Ok, Err, refl, sym, ap, subst, ◌∙◌}
+use Rattle.std.proofs.Common.{◌≡◌, List, Option, Some, None, sym, subst}
 use Rattle.dm_table.specs.declared.stack.Entry.{Entry}
 use Rattle.dm_table.specs.StackText.{IsStackOfGrammar}
 use Rattle.stack_loader.specs.declared.check.Facts.{Facts}
 use Rattle.stack_loader.specs.declared.check.Next.{Next}
 use Rattle.stack_loader.specs.declared.refusal.LoadFault.{LoadFault}
-use Rattle.stack_loader.specs.declared.refusal.LoadFault.TheVariants.{Refused, NoMemory}
+use Rattle.stack_loader.specs.declared.refusal.LoadFault.TheVariants.{Refused}
 use Rattle.stack_loader.specs.declared.refusal.Refusal.{Refusal}
 use Rattle.stack_loader.specs.Records.{Configuration, DeviceRecord, LeafRecord, configuration}
 use Rattle.stack_loader.specs.Facts.{AreFacts, IsNext}
 use Rattle.stack_loader.specs.Kept.{IsKept}
-use Rattle.stack_loader.specs.Passing.{IsFirst, IsPassed}
+use Rattle.stack_loader.specs.Passing.{IsFirst}
 use Rattle.stack_loader.specs.Rules.{first, rules, after_load, IsLoaded}
 use Rattle.stack_loader.proofs.After.{loaded-after}
-use Rattle.stack_loader.proofs.Passed.{IsFirst-passed}
 
 pub moved : (P : Configuration → List Entry → Type 0) (l m : List LeafRecord) (d e : List DeviceRecord) (t u : List Entry) → l ≡ m → d ≡ e → t ≡ u → P (configuration l d) t → P (configuration m e) u
 moved P l m d e t u same-leaves same-devices same-text h =

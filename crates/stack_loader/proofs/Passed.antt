@@ -1,5 +1,5 @@
 -- What a check answers where one of its parts refuses.
-use Rattle.std.proofs.Common.{◌≡◌, ◌+◌, ◌<◌, ℕ, List, Option, Some, None, Result, Ok, Err, length, drop, get_or, refl, sym, ◌∙◌}
+use Rattle.std.proofs.Common.{◌≡◌, ◌<◌, ℕ, List, Option, Err, length, drop, get_or}
 use Rattle.stack_loader.specs.declared.refusal.LoadFault.{LoadFault}
 use Rattle.stack_loader.specs.declared.refusal.LoadFault.TheVariants.{Refused, NoMemory}
 use Rattle.stack_loader.specs.declared.refusal.Refusal.{Refusal}

@@ -1,7 +1,7 @@
 -- Chains of lines that lead from a device to itself.
-use Rattle.std.proofs.Common.{◌≡◌, ◌+◌, ◌-◌, ◌≤◌, ◌<◌, ℕ, zero, suc, max, List, [], ◌∷◌, ◌++◌, refl, sym, ap, ◌∙◌, Bool, true, false, not, ◌||◌, ◌==◌, cond, ◌⊎◌, inl, inr, Option, Some, None, length, drop, take, get_or, map, slice_index, nat_lt, nat_le, arith}
+use Rattle.std.proofs.Common.{◌≡◌, ◌+◌, ◌-◌, ◌≤◌, ◌<◌, ℕ, zero, suc, max, List, [], ◌∷◌, refl, sym, ap, ◌∙◌, Bool, true, false, ◌||◌, ◌==◌, ◌⊎◌, inl, inr, Option, Some, None, length, drop, get_or, map, slice_index, nat_le, arith}
 use Rattle.std.specs.Prelude.{flat_map, slice_set, slice_get}
-use Rattle.std.specs.List.{AllByRecursion, list_any, enumerate_from, range_with_len}
+use Rattle.std.specs.List.{AllByRecursion, list_any, enumerate_from}
 use Rattle.std.proofs.lemmas.List.{get_or-set_same, get_or-set_other, get_or_default, length-map}
 use Rattle.std.proofs.lemmas.List.FromFn.{get_or-map-range_with_len, length-map-range_with_len}
 use Rattle.std.proofs.lemmas.Bool.Decides.{nat_tests}
@@ -11,13 +11,13 @@ use Rattle.stack_loader.specs.declared.lower.Lower.TheVariants.{Leaf as leaf, De
 use Rattle.stack_loader.specs.declared.refusal.LoadKind.TheVariants.{StandsOnItself}
 use Rattle.stack_loader.specs.declared.refusal.Refusal.{Refusal}
 use Rattle.stack_loader.specs.Records.{Configuration, DeviceRecord}
-use Rattle.stack_loader.specs.Names.{mapped, lowers, lowers_of, lines_of}
-use Rattle.stack_loader.specs.Descend.{greatest, most_devices, depth, descend}
+use Rattle.stack_loader.specs.Names.{mapped, lowers}
+use Rattle.stack_loader.specs.Descend.{greatest, most_devices, depth}
 use Rattle.stack_loader.specs.Heights.{value_of, greatest_of, round, marks}
 use Rattle.stack_loader.specs.Kept.{AreLowers, each_mapped}
 use Rattle.stack_loader.specs.Unroll.{Falls, falls-at}
 use Rattle.stack_loader.specs.Rules.{first, refuse, circles, stands_on_itself, leads, is_mapped}
-use Rattle.stack_loader.proofs.Beneath.{IsInside, round-mapped, value-mapped, constant}
+use Rattle.stack_loader.proofs.Beneath.{IsInside, round-mapped, constant}
 use Rattle.stack_loader.specs.Valid.{depth-leaf, depth-past, past_end}
 use Rattle.stack_loader.specs.ValidLines.{or-false}
 use Rattle.stack_loader.proofs.Lists.{slice_get-read}
@@ -195,6 +195,16 @@ marks-zero tables d = refl
 pub marks-suc : (tables : List (List (List Lower))) (d n : ℕ) → marks tables d (n + 1) ≡ round 0 0 tables (slice_set (marks tables d n) d 1)
 unfolding marks
 marks-suc tables d n = let same : n + 1 ≡ suc n = omega arith in rw same refl
+
+-- a round that changes nothing is the last that does
+pub marks-stay : (tables : List (List (List Lower))) (d k : ℕ) → marks tables d (k + 1) ≡ marks tables d k → (m : ℕ) → k ≤ m → marks tables d m ≡ marks tables d k
+unfolding marks
+marks-stay tables d k same zero low = let none : 0 ≡ k = omega (arith, low) in ap (marks tables d) none
+marks-stay tables d k same (suc m) low = go (dec_le k m) (marks-stay tables d k same m)
+  where
+    go : Dec (k ≤ m) → (k ≤ m → marks tables d m ≡ marks tables d k) → marks tables d (suc m) ≡ marks tables d k
+    go (yes below) more = ap (λ v. round 0 0 tables (slice_set v d 1)) (more below) ∙ sym (marks-suc tables d k) ∙ same
+    go (no above) more = let here : suc m ≡ k = grind (arith, low, above) in ap (marks tables d) here
 
 pub length-marks : (tables : List (List (List Lower))) (d n : ℕ) → length (marks tables d n) ≡ length tables
 unfolding marks

@@ -1,5 +1,5 @@
 -- Depths and costs by rounds over all devices at once.
-use Rattle.std.specs.Prelude.{ℕ, zero, suc, ◌+◌, List, map, flat_map, slice_index, slice_set}
+use Rattle.std.specs.Prelude.{ℕ, zero, suc, ◌+◌, List, map, slice_index, slice_set}
 use Rattle.stack_loader.specs.declared.lower.Lower.{Lower}
 use Rattle.stack_loader.specs.declared.lower.Lower.TheVariants.{Leaf as leaf, Device as device}
 use Rattle.stack_loader.specs.Descend.{greatest}

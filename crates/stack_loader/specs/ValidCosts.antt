@@ -1,5 +1,5 @@
 -- The equations of costs in a valid configuration.
-use Rattle.std.proofs.Common.{◌≡◌, ◌+◌, ◌≤◌, ◌<◌, ℕ, zero, suc, max, List, [], ◌∷◌, ◌++◌, refl, sym, ap, ◌∙◌, Option, Some, None, length, map, arith}
+use Rattle.std.proofs.Common.{◌≡◌, ◌≤◌, ℕ, zero, suc, max, List, [], ◌∷◌, refl, sym, ap, ◌∙◌, Option, Some, None, map, arith}
 use Rattle.std.specs.Prelude.{slice_get, filter_map, flat_map}
 use Rattle.std.specs.List.{AllByRecursion, cons_option}
 use Rattle.std.proofs.Math.Nat.{le-max_left, le-max_right}
@@ -12,7 +12,7 @@ use Rattle.stack_loader.specs.declared.lower.Lower.TheVariants.{Leaf as leaf, De
 use Rattle.stack_loader.specs.Records.{Configuration}
 use Rattle.stack_loader.specs.Names.{mapped, named, names, lowers_of, lines_of}
 use Rattle.stack_loader.specs.Descend.{depth, greatest, known, by_name, cost_rule, line_read_cost, line_write_cost, read_cost, write_cost}
-use Rattle.stack_loader.specs.Unroll.{AllOf, all_none, all_and, IsLocal, descend-rule, falls-at}
+use Rattle.stack_loader.specs.Unroll.{AllOf, all_and, IsLocal, descend-rule, falls-at}
 use Rattle.stack_loader.specs.Valid.{depth-low}
 use Rattle.stack_loader.specs.ValidLowers.{in-append, filter-append, cons-tail}
 use Rattle.stack_loader.specs.Rules.{IsValid}

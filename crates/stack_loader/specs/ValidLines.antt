@@ -1,15 +1,15 @@
 -- What a valid configuration gives of each line.
 use Rattle.std.proofs.Common.{◌≡◌, ◌+◌, ◌-◌, ◌≤◌, ◌<◌, ℕ, zero, suc, List, [], ◌∷◌, ◌++◌, refl, Bool, true, false, not, ◌&&◌, ◌||◌, ◌==◌, Option, Some, None, length, take, arith, nat_lt}
-use Rattle.std.specs.Prelude.{flat_map, slice_get, is_none}
+use Rattle.std.specs.Prelude.{flat_map, slice_get}
 use Rattle.std.specs.List.{enumerate_from, list_any}
 use Rattle.std.proofs.lemmas.Bool.Decides.{nat_tests}
 use Rattle.std.proofs.lemmas.List.Sums.{sum_by-cons}
 use Rattle.dm_table.specs.declared.table.Line.{Line}
 use Rattle.stack_loader.specs.Records.{Configuration, DeviceRecord}
 use Rattle.stack_loader.specs.declared.refusal.LoadKind.{LoadKind}
-use Rattle.stack_loader.specs.declared.refusal.LoadKind.TheVariants.{TooMany, NoSuchDevice, StandsOnItself, ZeroLength, Gap, TooLarge, StripesDontDivide, BeyondDevice, LowerReadOnly}
+use Rattle.stack_loader.specs.declared.refusal.LoadKind.TheVariants.{TooMany, ZeroLength, Gap, TooLarge, StripesDontDivide, BeyondDevice, LowerReadOnly}
 use Rattle.stack_loader.specs.declared.refusal.Refusal.{Refusal}
-use Rattle.stack_loader.specs.Names.{named, names, sectors_of}
+use Rattle.stack_loader.specs.Names.{sectors_of}
 use Rattle.stack_loader.specs.Lines.{Follow}
 use Rattle.stack_loader.specs.Descend.{most_devices}
 use Rattle.stack_loader.specs.Rules.{IsValid, first, each_device, device_rules, depth_rules, cost_rules, unknown_names, circles, table_rules, line_rules, refuse, is_too_many, most_lines, most_sectors, is_undivided, is_beyond, names_read_only}

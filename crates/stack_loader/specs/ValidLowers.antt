@@ -1,5 +1,5 @@
 -- What a valid configuration gives of the devices that a line names.
-use Rattle.std.proofs.Common.{◌≡◌, ◌+◌, ◌/◌, ◌≤◌, ◌<◌, ℕ, zero, suc, List, [], ◌∷◌, ◌++◌, refl, sym, ap, ◌∙◌, Bool, true, false, ◌||◌, Option, Some, None, length, arith, nat_lt}
+use Rattle.std.proofs.Common.{◌≡◌, ◌+◌, ◌/◌, ◌≤◌, ◌<◌, ℕ, zero, suc, List, [], ◌∷◌, ◌++◌, refl, sym, ap, ◌∙◌, Bool, true, false, Option, Some, None, length, arith, nat_lt}
 use Rattle.std.specs.Prelude.{slice_get, filter_map, flat_map}
 use Rattle.std.specs.List.{AllByRecursion, list_any}
 use Rattle.std.specs.Option.{option_map_or}
@@ -9,11 +9,11 @@ use Rattle.dm_table.specs.declared.table.Line.{Line}
 use Rattle.dm_table.specs.declared.table.Target.TheVariants.{Linear, Striped}
 use Rattle.stack_loader.specs.declared.lower.Lower.{Lower}
 use Rattle.stack_loader.specs.Records.{Configuration, DeviceRecord}
-use Rattle.stack_loader.specs.Names.{mapped, named, names, lowers, lowers_of, lines_of, size}
+use Rattle.stack_loader.specs.Names.{mapped, named, names, lowers_of, lines_of, size}
 use Rattle.stack_loader.specs.Descend.{depth}
 use Rattle.stack_loader.specs.Unroll.{falls-at}
 use Rattle.stack_loader.specs.Valid.{depth-low}
-use Rattle.stack_loader.specs.ValidLines.{IsSound, sound, or-false}
+use Rattle.stack_loader.specs.ValidLines.{sound, or-false}
 use Rattle.stack_loader.specs.Rules.{IsValid, ends_past}
 
 -- ---- depths

@@ -12,22 +12,30 @@ use crate::lowers::DeviceLowers;
 use crate::refusal::{LoadKind, Refusal};
 use std::alloc::{AllocError, Global};
 
-fn mark(values: &mut Vec<u64>, d: usize)
-    requires { d < length values.old.items }
-    ensures { values.new.items ≡ slice_set values.old.items d 1 }
+/// The values with the mark of the device.
+fn with_mark(alloc: Global, values: &[u64], d: usize) -> Result<Vec<u64>, AllocError>
+    requires { d < length values.now }
+    ensures { IfOk result (λ v. v.items ≡ slice_set values.now d 1) }
 {
-    values[d] = 1;
+    let mut marked = Vec::from_slice(alloc, values)?;
+    marked[d] = 1;
+    Ok(marked)
 }
 
-/// Whether a chain of lines leads from the device to itself, by as many rounds as there may be devices.
+/// Whether a chain of lines leads from the device to itself, by as many rounds as there may be
+/// devices, or fewer where a round changes nothing.
 fn is_marked(alloc: Global, lowers: &[DeviceLowers], d: usize) -> Result<bool, AllocError>
     requires { d < length lowers.now }
     ensures { IfOk result (λ marked. marked ≡ (slice_index (marks lowers.now d most_devices) d == 1)) }
 {
     let mut values = constant(alloc, lowers, 0)?;
     for _round in 0..MOST_DEVICES {
-        mark(&mut values, d);
-        values = round(alloc, 0, 0, lowers, values.as_slice())?;
+        let marked = with_mark(alloc, values.as_slice(), d)?;
+        let next = round(alloc, 0, 0, lowers, marked.as_slice())?;
+        if next.as_slice() == values.as_slice() {
+            return Ok(values[d] == 1);
+        }
+        values = next;
     }
     Ok(values[d] == 1)
 }

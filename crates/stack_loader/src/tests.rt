@@ -1,8 +1,13 @@
 // Worked loads: the expected answers are those of the rules, worked out by hand.
+mod first_refusal;
+mod leaves;
+mod lines;
+mod replaced;
+
 use crate::config::Config;
 use crate::leaf::Leaf;
 use crate::lower::DevId;
-use crate::refusal::{ConfigFault, LoadFault, LoadKind, Refusal};
+use crate::refusal::{LoadFault, LoadKind, Refusal};
 use dm_table::parse_stack;
 use std::alloc::Global;
 use std::test::Fail;
@@ -35,33 +40,6 @@ fn load(alloc: Global, config: &mut Config, text: &[u8]) -> Result<Option<Refusa
 
 fn refused(kind: LoadKind, device: u32, line: u32) -> Option<Refusal> {
     Some(Refusal { kind, device, line })
-}
-
-#[test]
-fn takes_leaves_with_names_of_their_own(rt: HostRuntime) -> Result<(), Fail> {
-    let alloc = rt.alloc();
-    let mut leaves = Vec::new(alloc);
-    leaves.push(leaf(alloc, b"A", 1, true)?)?;
-    leaves.push(leaf(alloc, b"A", 1, true)?)?;
-    assert_eq!(rt;
-        Config::new(alloc, leaves).err(),
-        Some(ConfigFault::DuplicateLeaf)
-    );
-    let mut leaves = Vec::new(alloc);
-    leaves.push(leaf(alloc, b"/dev/mapper/a", 1, true)?)?;
-    assert_eq!(rt;
-        Config::new(alloc, leaves).err(),
-        Some(ConfigFault::BadName)
-    );
-    let mut leaves = Vec::new(alloc);
-    leaves.push(leaf(alloc, b"A", (1 << 54) + 1, true)?)?;
-    assert_eq!(rt;
-        Config::new(alloc, leaves).err(),
-        Some(ConfigFault::TooLarge)
-    );
-    let config = over(alloc, b"A", 1 << 54)?;
-    assert_eq!(rt; config.count(), 0);
-    Ok(())
 }
 
 #[test]
@@ -274,29 +252,5 @@ fn adds_without_wrapping(rt: HostRuntime) -> Result<(), Fail> {
         load(alloc, &mut config, b"a,,,rw,0 1 striped 1 1 D 0")?,
         None
     );
-    Ok(())
-}
-
-#[test]
-fn finds_lines_and_lower_devices(rt: HostRuntime) -> Result<(), Fail> {
-    let alloc = rt.alloc();
-    let mut config = over(alloc, b"D", 16)?;
-    assert_eq!(rt;
-        load(
-            alloc,
-            &mut config,
-            b"a,,,rw,0 4 zero,4 8 linear D 0,12 2 error;b,,,ro,0 14 linear /dev/mapper/a 0"
-        )?,
-        None
-    );
-    assert_eq!(rt; config.count(), 2);
-    assert_eq!(rt; config.sectors(DevId(0)), 14);
-    assert_eq!(rt; config.line_at(DevId(0), 0), (0, 4));
-    assert_eq!(rt; config.line_at(DevId(0), 3), (0, 1));
-    assert_eq!(rt; config.line_at(DevId(0), 4), (1, 8));
-    assert_eq!(rt; config.line_at(DevId(0), 11), (1, 1));
-    assert_eq!(rt; config.line_at(DevId(0), 13), (2, 1));
-    assert_eq!(rt; config.depth(DevId(1)), 2);
-    assert!(rt; !config.writable(DevId(1)));
     Ok(())
 }

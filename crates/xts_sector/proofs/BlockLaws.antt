@@ -2,13 +2,11 @@
 use Rattle.std.proofs.Common.{◌≡◌, ℕ, zero, suc, ◌+◌, ◌-◌, ◌*◌, ◌<◌, ◌≤◌, List, ◌++◌, length, take, drop, get_or, bit_xor, sym, ap, ◌∙◌, inl, inr, refl, arith}
 use Rattle.std.specs.Int.Bits.{xor_assoc, xor_self, xor_zero_r}
 use Rattle.std.proofs.lemmas.Bool.{cases_lt}
-use Rattle.std.proofs.lemmas.Nat.{xor_lt}
-use Rattle.std.proofs.lemmas.List.{length-append, length-drop, take_all, take-append-le, drop_at, drop-append-le, drop-drop, get_or_past}
+use Rattle.std.proofs.lemmas.List.{length-append, length-drop, take_all, take-append-le, drop_at, drop-append-le, drop-drop}
 use Rattle.std.proofs.Math.Seq.{take-add}
 use Rattle.std.proofs.lemmas.List.FromFn.{length-map-range_with_len, get_or-map-range_with_len, fill_by_all}
 use Rattle.std.proofs.lemmas.Slice.{take-put_mid, drop-put_mid}
 use borrow.Rule.Slice.PartMut.{put_mid}
-use Rattle.aes_block.specs.State.{IsBytes, IsBlock}
 use Rattle.xts_sector.specs.Blocks.{block, joined, add_blocks}
 
 -- ---- joined blocks
@@ -70,15 +68,6 @@ length-add_blocks a b = length-map-range_with_len (λ k. bit_xor (get_or a k 0) 
 pub get_or-add_blocks : (a b : List ℕ) (k : ℕ) → k < 16 → get_or (add_blocks a b) k 0 ≡ bit_xor (get_or a k 0) (get_or b k 0)
 unfolding add_blocks
 get_or-add_blocks a b k h = get_or-map-range_with_len (λ k. bit_xor (get_or a k 0) (get_or b k 0)) 0 16 k k 0 h (omega arith)
-
-pub IsBlock-add_blocks : (a b : List ℕ) → IsBytes a → IsBytes b → IsBlock (add_blocks a b)
-IsBlock-add_blocks a b ha hb = record {
-  len = length-add_blocks a b;
-  bytes = λ i. elim (cases_lt i 16) [
-    | inl h ↦ let at = get_or-add_blocks a b i h in omega (arith, at, xor_lt 8 (get_or a i 0) (get_or b i 0) (ha i) (hb i))
-    | inr h ↦ let at = get_or_past (add_blocks a b) i 0 (omega (arith, length-add_blocks a b, h)) in omega (arith, at)
-  ];
-}
 
 xor_twice : (a b : ℕ) → bit_xor (bit_xor a b) b ≡ a
 xor_twice a b =

@@ -28,10 +28,18 @@ encrypted_block key1 t p = add_blocks (cipher key1 (add_blocks p t)) t
 unfoldable pub decrypted_block : List ℕ → List ℕ → List ℕ → List ℕ
 decrypted_block key1 t c = add_blocks (inverse_cipher key1 (add_blocks c t)) t
 
+-- 5.3.2: a unit of whole blocks enciphered under Key1, block j with the tweak `tweaks j`
+unfoldable pub encrypted_blocks : List ℕ → (ℕ → List ℕ) → List ℕ → List ℕ
+encrypted_blocks key1 tweaks unit = joined (λ j. encrypted_block key1 (tweaks j) (block unit j)) (length unit / 16)
+
+-- 5.4.2: a unit of whole blocks deciphered under Key1, block j with the tweak `tweaks j`
+unfoldable pub decrypted_blocks : List ℕ → (ℕ → List ℕ) → List ℕ → List ℕ
+decrypted_blocks key1 tweaks unit = joined (λ j. decrypted_block key1 (tweaks j) (block unit j)) (length unit / 16)
+
 -- 5.3.2: the unit n of whole blocks enciphered
 unfoldable pub encrypted : List ℕ → ℕ → List ℕ → List ℕ
-encrypted key n unit = joined (λ j. encrypted_block (data_key key) (tweak key n j) (block unit j)) (length unit / 16)
+encrypted key n unit = encrypted_blocks (data_key key) (tweak key n) unit
 
 -- 5.4.2: the unit n of whole blocks deciphered
 unfoldable pub decrypted : List ℕ → ℕ → List ℕ → List ℕ
-decrypted key n unit = joined (λ j. decrypted_block (data_key key) (tweak key n j) (block unit j)) (length unit / 16)
+decrypted key n unit = decrypted_blocks (data_key key) (tweak key n) unit

@@ -1,16 +1,16 @@
 //! Decryption of a unit under one AES key (IEEE 1619-2007, 5.4).
 
-ghost use Rattle.std.specs.Prelude.{◌≡◌, ◌/◌, ◌%◌, length};
-ghost use Rattle.xts_sector.specs.Blocks.{block, joined};
+ghost use Rattle.std.specs.Prelude.{◌≡◌, ◌%◌, length};
 ghost use Rattle.xts_sector.specs.Tweak.{times_alpha_power};
-ghost use Rattle.xts_sector.specs.Xts.{decrypted_block};
+ghost use Rattle.xts_sector.specs.Xts.{decrypted_block, encrypted_block, decrypted_blocks, encrypted_blocks};
 
 use crate::blocks::{Block, add_blocks, block};
 use crate::tweak::times_alpha;
 use aes_block::AesKey;
 
 fn decrypted_block(key: &AesKey, tweak: &Block, ciphertext: &Block) -> Block
-    ensures { result ≡ decrypted_block key.now tweak.now ciphertext.now }
+    ensures value { result ≡ decrypted_block key.now tweak.now ciphertext.now }
+    ensures inverse { encrypted_block key.now tweak.now result ≡ ciphertext.now }
 {
     add_blocks(&key.decrypt(&add_blocks(ciphertext, tweak)), tweak)
 }
@@ -18,8 +18,8 @@ fn decrypted_block(key: &AesKey, tweak: &Block, ciphertext: &Block) -> Block
 /// Decrypts a unit of whole blocks, whose first block has the tweak `first`.
 pub fn decrypt_blocks(key: &AesKey, first: Block, unit: &mut [u8])
     requires { length unit.old % 16 ≡ 0 }
-    ensures { unit.new
-        ≡ joined (λ j. decrypted_block key.now (times_alpha_power j first) (block unit.old j)) (length unit.old / 16) }
+    ensures value { unit.new ≡ decrypted_blocks key.now (λ j. times_alpha_power j first) unit.old }
+    ensures inverse { encrypted_blocks key.now (λ j. times_alpha_power j first) unit.new ≡ unit.old }
 {
     let mut tweak = first;
     for j in 0..unit.len() / 16 {

@@ -2,12 +2,14 @@
 
 ghost use Rattle.std.specs.Prelude.{◌<◌};
 
+mod units_of_4096;
 mod vectors;
 
 use super::*;
 use std::alloc::{AllocError, Global};
+use std::process::Abort;
 use std::test::Fail;
-use vectors::{LONG_VECTORS, VECTORS};
+use vectors::{LONG_VECTORS, VECTORS, Vector};
 
 /// The value of a hexadecimal digit.
 fn nibble(digit: u8) -> u8
@@ -29,9 +31,9 @@ fn bytes_of(alloc: Global, text: &str) -> Result<Vec<u8>, AllocError> {
     Ok(bytes)
 }
 
-#[test]
-fn vectors_both_ways(rt: HostRuntime) -> Result<(), Fail> {
-    for (i, vector) in VECTORS.iter().enumerate() {
+/// Encrypts and decrypts the unit of each vector.
+fn both_ways(rt: &(impl Abort + AllocGlobal), vectors: &[Vector]) -> Result<(), Fail> {
+    for (i, vector) in vectors.iter().enumerate() {
         let key = XtsKey::new(&bytes_of(rt.alloc(), vector.key)?).ok_or("a key was refused")?;
         let plaintext = bytes_of(rt.alloc(), vector.plaintext)?;
         let ciphertext = bytes_of(rt.alloc(), vector.ciphertext)?;
@@ -51,6 +53,26 @@ fn vectors_both_ways(rt: HostRuntime) -> Result<(), Fail> {
         );
     }
     Ok(())
+}
+
+#[test]
+fn vectors_both_ways(rt: HostRuntime) -> Result<(), Fail> {
+    both_ways(&rt, &VECTORS)
+}
+
+#[test]
+fn units_of_4096_both_ways(rt: HostRuntime) -> Result<(), Fail> {
+    both_ways(
+        &rt,
+        &[
+            units_of_4096::short_key_unit_0(),
+            units_of_4096::short_key_unit_2_32(),
+            units_of_4096::short_key_last_unit(),
+            units_of_4096::long_key_unit_0(),
+            units_of_4096::long_key_unit_2_32(),
+            units_of_4096::long_key_last_unit(),
+        ],
+    )
 }
 
 #[test]

@@ -1,4 +1,4 @@
-use Rattle.std.proofs.Common.{◌-◌, length, take, drop, sym, ◌∙◌, ap, refl}
+use Rattle.std.proofs.Common.{◌-◌, length, take, drop, ◌∙◌, ap}
 use Rattle.std.specs.List.{suffix_len}
 use Rattle.std.proofs.lemmas.List.{take_rest}
 use Rattle.dm_table.specs.Words.{is_white, trimmed}

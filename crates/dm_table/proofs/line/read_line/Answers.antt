@@ -1,4 +1,4 @@
-use Rattle.std.proofs.Common.{◌≡◌, ◌∷◌, [], Ok, Err, ok_or, ap, sym, ◌∙◌}
+use Rattle.std.proofs.Common.{◌∷◌, Ok, Err, ok_or, ap, sym, ◌∙◌}
 use Rattle.dm_table.specs.declared.fault.TextKind.TheVariants as kinds
 use Rattle.dm_table.specs.Reading.{◌>>=◌}
 use Rattle.dm_table.specs.Lines.{line_of}

@@ -1,4 +1,4 @@
-use Rattle.std.proofs.Common.{sym, ◌∙◌, ap, ◌&&◌, false}
+use Rattle.std.proofs.Common.{sym, ◌∙◌, ap, ◌&&◌}
 use Rattle.std.specs.List.{list_all}
 use Rattle.dm_table.specs.Names.{is_mapped_name, is_mapped_byte}
 use Rattle.dm_table.proofs.name.is_mapped_name.Goals as goal

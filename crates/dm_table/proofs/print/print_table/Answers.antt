@@ -1,4 +1,4 @@
-use Rattle.std.proofs.Common.{◌≡◌, Ok, ap, sym, ◌∙◌, take_all}
+use Rattle.std.proofs.Common.{ap, ◌∙◌, take_all}
 use Rattle.dm_table.specs.Print.{table_text}
 use Rattle.dm_table.specs.TableText.{table_of}
 use Rattle.dm_table.proofs.PrintLaw.{table-printed}

@@ -1,8 +1,8 @@
-use Rattle.std.proofs.Common.{◌≡◌, ◌+◌, ◌≤◌, ◌<◌, ◌∷◌, ◌==◌, [], List, ℕ, length, Ok, Err, ap, sym, ◌∙◌, subst, All, arith}
+use Rattle.std.proofs.Common.{◌+◌, ◌≤◌, ◌∷◌, ◌==◌, List, ℕ, length, Ok, ap, sym, ◌∙◌, subst, All, arith}
 use Rattle.std.proofs.lemmas.List.Elements.{All-head, All-tail}
-use Rattle.dm_table.specs.Words.{is_text, is_white, entries_of}
+use Rattle.dm_table.specs.Words.{entries_of}
 use Rattle.dm_table.specs.Reading.{◌>>=◌}
-use Rattle.dm_table.specs.StackText.{entries_from, stack_of}
+use Rattle.dm_table.specs.StackText.{entries_from}
 use Rattle.dm_table.proofs.ReadLemmas.{after, after-nil, after_end, after_push, exit_text}
 use Rattle.dm_table.proofs.GrammarLemmas.{stack-grammar}
 use Rattle.dm_table.proofs.StackLemmas.{stack-not_text, stack-entries, entries_from-full, entries_from-blank, length-pieces, All-pieces}

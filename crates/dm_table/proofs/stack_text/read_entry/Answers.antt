@@ -1,7 +1,7 @@
-use Rattle.std.proofs.Common.{◌≡◌, ◌∷◌, ◌==◌, length, Ok, Err, ap, sym, ◌∙◌, arith}
+use Rattle.std.proofs.Common.{◌==◌, length, Ok, ap, sym, ◌∙◌, arith}
 use Rattle.dm_table.specs.Words.{fields_of}
 use Rattle.dm_table.specs.Reading.{◌>>=◌}
-use Rattle.dm_table.specs.StackText.{head_of, entry_of, entry_lines}
+use Rattle.dm_table.specs.StackText.{head_of}
 use Rattle.dm_table.proofs.ReadLemmas.{exit_text}
 use Rattle.dm_table.proofs.StackLemmas.{entry-head, entry-lines, length-head, length-pieces}
 use Rattle.dm_table.proofs.stack_text.read_entry.Goals as goal

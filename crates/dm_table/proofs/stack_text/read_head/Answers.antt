@@ -1,4 +1,4 @@
-use Rattle.std.proofs.Common.{◌≡◌, ◌∷◌, [], false, true, Ok, Err, ap, sym, ◌∙◌}
+use Rattle.std.proofs.Common.{◌∷◌, Ok, Err, ap, sym, ◌∙◌}
 use Rattle.dm_table.specs.Names.{is_mapped_name}
 use Rattle.dm_table.specs.Words.{trimmed}
 use Rattle.dm_table.specs.Reading.{◌>>=◌}

@@ -1,4 +1,4 @@
-use Rattle.std.proofs.Common.{◌≡◌, ◌+◌, [], Ok, ap, ◌∙◌}
+use Rattle.std.proofs.Common.{◌+◌, ap, ◌∙◌}
 use Rattle.dm_table.specs.StackText.{entry_lines}
 use Rattle.dm_table.proofs.ReadLemmas.{after, after_end}
 use Rattle.dm_table.proofs.GrammarLemmas.{entry_table-grammar}

@@ -1,10 +1,9 @@
-use Rattle.std.proofs.Common.{◌≡◌, ◌+◌, ◌∷◌, ◌==◌, [], length, Ok, Err, ap, sym, ◌∙◌, eqb-true, arith}
+use Rattle.std.proofs.Common.{◌+◌, ◌∷◌, ◌==◌, length, Ok, ap, sym, ◌∙◌, eqb-true, arith}
 use Rattle.std.proofs.lemmas.Bool.{eqb-false}
-use Rattle.dm_table.specs.declared.fault.TextKind.TheVariants as kinds
-use Rattle.dm_table.specs.Words.{is_text, lines_of}
+use Rattle.dm_table.specs.Words.{lines_of}
 use Rattle.dm_table.specs.Reading.{◌>>=◌, at_place}
 use Rattle.dm_table.specs.Lines.{line_of}
-use Rattle.dm_table.specs.TableText.{table_lines, some_lines, is_skipped, table_of}
+use Rattle.dm_table.specs.TableText.{table_lines, some_lines}
 use Rattle.dm_table.proofs.ReadLemmas.{after, after-nil, after_end, exit_text}
 use Rattle.dm_table.proofs.GrammarLemmas.{table-grammar}
 use Rattle.dm_table.proofs.StackLemmas.{table-not_text, table-lines, table_lines-full, length-pieces, some_lines-some, some_lines-none}

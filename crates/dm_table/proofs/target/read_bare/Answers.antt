@@ -1,4 +1,4 @@
-use Rattle.std.proofs.Common.{◌≡◌, Err, ap, sym, ◌∙◌}
+use Rattle.std.proofs.Common.{Err, ap, sym, ◌∙◌}
 use Rattle.dm_table.specs.Lines.{bare}
 use Rattle.dm_table.proofs.ReadLemmas.{exit_kind}
 use Rattle.dm_table.proofs.target.read_bare.Goals as goal

@@ -1,4 +1,4 @@
-use Rattle.std.proofs.Common.{◌≡◌, ◌∷◌, [], Ok, Err, ap, sym, ◌∙◌}
+use Rattle.std.proofs.Common.{◌∷◌, Ok, Err, ap, sym, ◌∙◌}
 use Rattle.dm_table.specs.declared.table.Target.TheVariants.{Linear}
 use Rattle.dm_table.specs.Reading.{◌>>=◌}
 use Rattle.dm_table.specs.Lines.{linear_at}

@@ -1,6 +1,5 @@
 use Rattle.std.proofs.Common.{◌≡◌, true, false, codes, ap, sym, ◌∙◌}
 use Rattle.std.specs.Str.{bytes_eq}
-use Rattle.dm_table.specs.Lines.{linear_at, striped_at}
 use Rattle.dm_table.proofs.LineLemmas.{target-linear, target-striped, target-zero, target-error, target-other}
 use Rattle.dm_table.proofs.target.read_target.Goals as goal
 

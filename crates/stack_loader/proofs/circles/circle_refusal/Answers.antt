@@ -1,4 +1,4 @@
-use Rattle.std.proofs.Common.{◌≡◌, sym, ◌∙◌, arith}
+use Rattle.std.proofs.Common.{sym, ◌∙◌}
 use Rattle.stack_loader.proofs.Turns.{circles-none, circle-found, circle-more, circle-end}
 use Rattle.stack_loader.proofs.circles.circle_refusal.Goals as goal
 

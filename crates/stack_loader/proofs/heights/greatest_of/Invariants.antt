@@ -1,6 +1,5 @@
-use Rattle.std.proofs.Common.{◌≡◌, max, map, drop}
-use Rattle.stack_loader.specs.Descend.{greatest}
-use Rattle.stack_loader.specs.Heights.{value_of, greatest_of}
+use Rattle.std.proofs.Common.{◌≡◌, max, drop}
+use Rattle.stack_loader.specs.Heights.{greatest_of}
 use Rattle.stack_loader.proofs.heights.greatest_of.Given as goal
 
 abbrev pub invariant-loop-row : goal.invariant-loop-row

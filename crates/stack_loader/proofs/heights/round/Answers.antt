@@ -1,4 +1,4 @@
-use Rattle.std.proofs.Common.{◌≡◌, ◌+◌, ◌^◌, ◌≤◌, ◌<◌, ℕ, ap, ◌∙◌, arith}
+use Rattle.std.proofs.Common.{◌+◌, ◌^◌, ap, ◌∙◌, arith}
 use Rattle.stack_loader.specs.Heights.{greatest_of}
 use Rattle.stack_loader.proofs.Rounds.{greatest_of-low, round_more}
 use Rattle.stack_loader.proofs.heights.round.Goals as goal

@@ -1,4 +1,4 @@
-use Rattle.std.proofs.Common.{◌≡◌, ◌+◌, map, take}
+use Rattle.std.proofs.Common.{◌≡◌, take}
 use Rattle.stack_loader.specs.Heights.{round}
 use Rattle.stack_loader.proofs.heights.round.Given as goal
 

@@ -1,9 +1,9 @@
-use Rattle.std.proofs.Common.{◌≡◌, List, ℕ, ◌++◌, ◌∷◌, [], map, position, sym, ap, ◌∙◌}
+use Rattle.std.proofs.Common.{List, ℕ, ◌++◌, ◌∷◌, [], map, position, sym, ap, ◌∙◌}
 use Rattle.std.specs.Prelude.{is_none}
 use Rattle.std.specs.Str.{bytes_eq}
 use Rattle.dm_table.specs.declared.stack.Entry.{Entry}
 use Rattle.stack_loader.specs.Records.{DeviceRecord}
-use Rattle.stack_loader.specs.Rules.{replaced, created}
+use Rattle.stack_loader.specs.Rules.{replaced}
 use Rattle.stack_loader.proofs.Earlier.{new_more, old_more, none-of}
 use Rattle.stack_loader.proofs.next.next_devices.Goals as goal
 use Rattle.stack_loader.proofs.next.next_devices.Goals.{then-is_none+in_ok-new+in_ok-push-2, else-is_none}

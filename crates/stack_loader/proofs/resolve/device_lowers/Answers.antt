@@ -1,4 +1,4 @@
-use Rattle.std.proofs.Common.{◌≡◌, ◌+◌, Some, take, refl, arith}
+use Rattle.std.proofs.Common.{◌≡◌, ◌+◌, take, refl}
 use Rattle.std.proofs.lemmas.List.{take_all}
 use Rattle.stack_loader.specs.declared.refusal.LoadKind.TheVariants.{NoSuchDevice}
 use Rattle.stack_loader.specs.Rules.{first, unknown_in}

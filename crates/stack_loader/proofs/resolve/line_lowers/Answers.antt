@@ -1,4 +1,4 @@
-use Rattle.std.proofs.Common.{◌≡◌, take, arith}
+use Rattle.std.proofs.Common.{◌≡◌, take}
 use Rattle.std.proofs.lemmas.List.{take_all}
 use Rattle.stack_loader.proofs.Meanings.{mean_more, mean_none}
 use Rattle.stack_loader.proofs.resolve.line_lowers.Goals as goal

@@ -1,8 +1,8 @@
-use Rattle.std.proofs.Common.{◌≡◌, ◌<◌, ◌∙◌, arith}
+use Rattle.std.proofs.Common.{◌∙◌, arith}
 use Rattle.stack_loader.specs.declared.lower.Lower.TheVariants.{Leaf as leaf}
-use Rattle.stack_loader.specs.Records.{Configuration, configuration}
+use Rattle.stack_loader.specs.Records.{configuration}
 use Rattle.stack_loader.proofs.Meanings.{length-bases}
-use Rattle.stack_loader.proofs.Beyond.{AtBase, beyond-here, beyond-step, beyond-none}
+use Rattle.stack_loader.proofs.Beyond.{beyond-here, beyond-step, beyond-none}
 use Rattle.stack_loader.proofs.rules.is_beyond.Goals as goal
 
 pub bounds-lowers-i : goal.bounds-lowers-i

@@ -1,5 +1,4 @@
-use Rattle.std.proofs.Common.{◌≡◌, ◌+◌, ap, ◌∙◌, sym, refl, Some, None, [], arith}
-use Rattle.std.proofs.lemmas.List.{get_or_read}
+use Rattle.std.proofs.Common.{◌+◌, sym, refl}
 use Rattle.stack_loader.specs.Records.{Configuration, configuration}
 use Rattle.stack_loader.specs.Rules.{first, each_device, table_rules}
 use Rattle.stack_loader.proofs.Meanings.{table-at}

@@ -4,7 +4,7 @@ use Rattle.dm_table.specs.declared.table.Line.{Line}
 use Rattle.dm_table.specs.Grammar.{IsLineOfGrammar}
 use Rattle.stack_loader.specs.Records.{Configuration, configuration}
 use Rattle.stack_loader.specs.Names.{sectors_of}
-use Rattle.stack_loader.specs.Rules.{first, line_rules, table_rules}
+use Rattle.stack_loader.specs.Rules.{first, line_rules}
 use Rattle.stack_loader.proofs.Meanings.{row-at, length-rows}
 use Rattle.stack_loader.proofs.Scan.{scan, scan_found, scan_more, scan_end}
 use Rattle.stack_loader.proofs.Tables.{line_of_table}

@@ -1,7 +1,6 @@
 use Rattle.std.proofs.Common.{◌≡◌, ◌≤◌, ◌*◌, ◌^◌, ◌+◌, drop, take}
 use Rattle.stack_loader.specs.Records.{configuration}
 use Rattle.stack_loader.specs.Names.{sectors_of}
-use Rattle.stack_loader.specs.Rules.{first, table_rules}
 use Rattle.stack_loader.proofs.Scan.{scan}
 use Rattle.stack_loader.proofs.Tables.{line_of_table}
 use Rattle.stack_loader.proofs.rules.table_refusal.Given as goal

@@ -1,7 +1,7 @@
-use Rattle.std.proofs.Common.{◌≡◌}
+use Rattle.std.proofs.Common.{◌≡◌, ℕ, ◌<◌}
 use Rattle.xts_sector.specs.Blocks.{block}
 use Rattle.xts_sector.specs.Tweak.{times_alpha_power}
-use Rattle.xts_sector.specs.Xts.{encrypted_block}
+use Rattle.xts_sector.specs.Xts.{encrypted_block, decrypted_block}
 use Rattle.xts_sector.proofs.BlockLaws.{IsWritten}
 use Rattle.xts_sector.proofs.encryption.encrypt_blocks.Given as goal
 
@@ -9,4 +9,6 @@ abbrev pub invariant-loop-j : goal.invariant-loop-j
 invariant-loop-j l = record {
   tweak : l.tweak ≡ times_alpha_power l.j l.fn.first;
   written : IsWritten (λ i. encrypted_block l.key (times_alpha_power i l.fn.first) (block l.fn.unit i)) l.fn.unit l.unit l.j;
+  undone : (i : ℕ) → i < l.j
+      → decrypted_block l.key (times_alpha_power i l.fn.first) (encrypted_block l.key (times_alpha_power i l.fn.first) (block l.fn.unit i)) ≡ block l.fn.unit i;
 }

@@ -1,6 +1,5 @@
-use Rattle.std.proofs.Common.{◌≡◌, sym, ◌∙◌, ap, take, drop, arith}
+use Rattle.std.proofs.Common.{sym, ◌∙◌}
 use Rattle.std.proofs.lemmas.List.{take_rest}
-use Rattle.dm_table.specs.Words.{words}
 use Rattle.dm_table.proofs.CutLemmas.{words-first, words-empty}
 use Rattle.dm_table.proofs.cut.Words.next_word.Goals as goal
 

@@ -1,4 +1,4 @@
-use Rattle.std.proofs.Common.{◌≡◌, ◌≤◌, arith, sym, ◌∙◌, ap}
+use Rattle.std.proofs.Common.{arith, sym, ◌∙◌, ap}
 use Rattle.stack_loader.specs.Records.{Configuration}
 use Rattle.stack_loader.specs.ValidLines.{size-low}
 use Rattle.stack_loader.specs.Names.{sectors_of}

@@ -1,23 +1,20 @@
-use Rattle.std.proofs.Common.{◌≡◌, ap, ◌∙◌, rules}
-use Rattle.aes_block.specs.State.{IsBytes}
+use Rattle.std.proofs.Common.{◌≡◌, sym, ap, ◌∙◌}
 use Rattle.aes_block.specs.Cipher.{cipher}
-use Rattle.xts_sector.specs.Xts.{encrypted, decrypted}
-use Rattle.xts_sector.specs.XtsKey.{key_of}
-use Rattle.xts_sector.proofs.XtsKeyLaws.{encrypted-key_of, encrypted_undone}
+use Rattle.xts_sector.specs.Tweak.{unit_number}
+use Rattle.xts_sector.proofs.XtsKeyLaws.{encrypted-key_of, decrypted-key_of}
 use Rattle.xts_sector.proofs.xts_key.XtsKey.encrypt.Goals as goal
 use Rattle.xts_sector.proofs.xts_key.XtsKey.encrypt.Goals.{After-encrypt_blocks}
 
--- the unit that is left
-unit_is : (c : After-encrypt_blocks) → c.encrypt_blocks.new.unit ≡ encrypted (key_of c.self.inside) c.args.number c.args.unit.now
-unit_is c =
-    let first = c.encrypt-first.ensures.value ∙ ap (cipher c.self.inside.tweak_key) c.unit_number.ensures in
-    c.encrypt_blocks.ensures ∙ encrypted-key_of c.self.inside c.self.invariant c.args.number c.args.unit.now c.encrypt-first.result first
+-- the tweak of the first block
+first_is : (c : After-encrypt_blocks) → c.encrypt-first.result ≡ cipher c.self.inside.tweak_key (unit_number c.args.number)
+first_is c = c.encrypt-first.ensures.value ∙ ap (cipher c.self.inside.tweak_key) c.unit_number.ensures
 
 pub returns-clause-value : goal.returns-clause-value
-returns-clause-value c = rw (← c.self.view_is) (unit_is (goal.at.returns-clause-value c).After-encrypt_blocks)
+returns-clause-value c =
+    let first = first_is (goal.at.returns-clause-value c).After-encrypt_blocks in
+    rw (← c.self.view_is) (c.encrypt_blocks.ensures.value ∙ encrypted-key_of c.self.inside c.self.invariant c.args.number c.args.unit.now c.encrypt-first.result first)
 
 pub returns-clause-inverse : goal.returns-clause-inverse
 returns-clause-inverse c =
-    let bytes : IsBytes c.args.unit.now = search rules in
-    rw (← c.self.view_is)
-    (ap (decrypted (key_of c.self.inside) c.args.number) (unit_is (goal.at.returns-clause-inverse c).After-encrypt_blocks) ∙ encrypted_undone c.self.inside c.self.invariant c.args.number c.args.unit.now bytes c.requires)
+    let first = first_is (goal.at.returns-clause-inverse c).After-encrypt_blocks in
+    rw (← c.self.view_is) (sym (decrypted-key_of c.self.inside c.self.invariant c.args.number c.encrypt_blocks.new.unit c.encrypt-first.result first) ∙ c.encrypt_blocks.ensures.inverse)
