@@ -12,7 +12,7 @@ use Rattle.stack_engine.specs.Leaves.{AllSteady}
 use Rattle.stack_engine.specs.LeafLaws.{AllSteady-kept}
 use Rattle.stack_engine.specs.Stacks.{StackRecord}
 use Rattle.dmstack.specs.declared.request.SubmitFault.{SubmitFault}
-use Rattle.dmstack.specs.Commands.{Asked, nothing, load, read, usage, asked}
+use Rattle.dmstack.specs.Commands.{Asked, nothing, load, read, cost, table, moved, usage, asked}
 use Rattle.dmstack.specs.declared.session.SessionFault.{SessionFault}
 use Rattle.dmstack.specs.Session.{Replying, Run, WritesSession, AnswersWhole, IsSession}
 use Rattle.dmstack.proofs.ReadingLemmas.{if_some_map}
@@ -80,7 +80,7 @@ IsSession-as r q P f first input input' output output' result p s = record {
   ok = ok-as r q P f first input output output' result p s.ok;
   too_long = λ is. if_some_map input (λ bytes. (16777216 < length bytes) × AnswersWhole r first (take 16777216 bytes) output output') (λ bytes. (16777216 < length bytes) × AnswersWhole q first (take 16777216 bytes) output output')
       (λ bytes k. (k.0, AnswersWhole-as r q P f first (take 16777216 bytes) output output' p k.1)) (s.too_long is);
-  read_fault = λ is. let seen = s.read_fault is in (seen.0, seen.1, AnswersWhole-as r q P f first seen.0 output output' p seen.2);
+  read_fault = λ is. let seen = s.read_fault is in (seen.0, seen.1, seen.2, AnswersWhole-as r q P f first seen.0 output output' p seen.3);
 }
 
 -- ---- reads in another way
@@ -106,6 +106,10 @@ does-as : (R Q : Reading) (P : List Device → Type 0) → ((w : StackRecord) (d
     → (w : StackRecord) (a : Asked) (reply : List ℕ) (w' : StackRecord) → P w.leaves → Does R w a reply w' → Does Q w a reply w' × P w'.leaves
 does-as R Q P f w nothing reply w' p r = (r, subst (λ (x : StackRecord). P x.leaves) (sym r.1) p)
 does-as R Q P f w usage reply w' p r = (r, subst (λ (x : StackRecord). P x.leaves) (sym r.1) p)
+does-as R Q P f w (cost name) reply w' p r = (r, subst (λ (x : StackRecord). P x.leaves) (sym r.1) p)
+does-as R Q P f w (table name) reply w' p (inl r) = (inl r, subst (λ (x : StackRecord). P x.leaves) (sym r.1) p)
+does-as R Q P f w (table name) reply w' p (inr none) = (inr none, subst (λ (x : StackRecord). P x.leaves) (sym none.1) p)
+does-as R Q P f w moved reply w' p r = (r, subst (λ (x : StackRecord). P x.leaves) (sym r.1) p)
 does-as R Q P f w (load text) reply w' p (inl r) =
     (inl r, subst P (sym (ap (λ (o : Outcome). o.left.leaves) r ∙ load-leaves w (stack_of text))) p)
 does-as R Q P f w (load text) reply w' p (inr none) = (inr none, subst (λ (x : StackRecord). P x.leaves) (sym none.1) p)

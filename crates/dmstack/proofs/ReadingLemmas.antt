@@ -1,5 +1,5 @@
 -- What a session has read, and how often it asked.
-use Rattle.std.proofs.Common.{Bool, true, false, ◌≡◌, ℕ, ◌+◌, ◌<◌, ◌≤◌, List, [], ◌++◌, length, take, refl, ap, sym, ◌∙◌, append_assoc, append-nil, arith, subst, length-append}
+use Rattle.std.proofs.Common.{◌≡◌, ℕ, ◌+◌, ◌<◌, ◌≤◌, List, [], ◌++◌, length, take, refl, ap, sym, ◌∙◌, append_assoc, append-nil, arith, subst, length-append}
 use Rattle.std.specs.Prelude.{Some, None, Option, IfSome}
 use Rattle.std.specs.Io.KnownBytes.{Appends, Consumes, Keeps, IsAtEnd}
 use Rattle.std.proofs.KnownBytes.{Consumes-nil, Consumes-trans, Consumes-kept}
@@ -15,11 +15,6 @@ pub record Reading {S : Type 0} (replies : Replying S) (first : S) (bytes0 bytes
   pub consumed : Consumes bytes0 bytes1 taken
   pub counted : length taken + left ≡ 16777216
   pub whole : WritesWhole replies first taken text0 text1 now rest
-
--- each turn took a byte, unless one failed
-abbrev pub Lags : Bool → ℕ → ℕ → Type 0
-Lags true turn left = Unit {0}
-Lags false turn left = turn + left ≤ 16777216
 
 pub reading_starts : {S : Type 0} (replies : Replying S) (first : S) (bytes text : Option (List ℕ)) → Reading replies first bytes bytes text text 16777216 first []
 reading_starts replies first bytes text = record {
@@ -106,20 +101,3 @@ reading_too_long {replies = replies} {first = first} {left = left} {bytes0 = byt
     (long, (new, tail, subst (λ t. WritesWhole replies first t text0 text2 new tail) (sym cut) (serves_more (take left piece) r.whole w))) in
     subst (λ t. (16777216 < length t) × AnswersWhole replies first (take 16777216 t) text0 text2) (sym seen.1) all)
     (front_taken bytes0 bytes2 (r.taken ++ piece) (Consumes-trans bytes0 bytes1 bytes2 r.taken piece r.consumed c))
-
-pub lags_starts : (failed : Bool) → Lags failed 0 16777216
-lags_starts true = tt
-lags_starts false = omega arith
-
-pub lags_byte : (was is : Bool) (turn left after n : ℕ) → Lags was turn left → is ≡ was → after + n ≡ left → 0 < n → Lags is (turn + 1) after
-lags_byte true is turn left after n p e s pos = subst (λ t. Lags t (turn + 1) after) (sym e) tt
-lags_byte false is turn left after n p e s pos =
-    let q : Lags false (turn + 1) after = omega (arith, p, s, pos) in
-    subst (λ t. Lags t (turn + 1) after) (sym e) q
-
-pub lags_fault : (is : Bool) (turn left : ℕ) → is ≡ true → Lags is turn left
-lags_fault is turn left e = subst (λ t. Lags t turn left) (sym e) tt
-
-pub lags_out : (failed : Bool) (left : ℕ) → Lags failed 16777217 left → failed ≡ true
-lags_out true left p = refl
-lags_out false left p = absurd (omega (arith, p))

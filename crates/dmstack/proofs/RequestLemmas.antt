@@ -1,6 +1,7 @@
 -- Reads of devices.
 use Rattle.std.proofs.Common.{◌≡◌, ◌⊎◌, ◌<◌, ◌≤◌, ℕ, ◌+◌, ◌-◌, true, false, Bool, List, ◌++◌, refl, ap, sym, ◌∙◌, subst, arith, inl, inr, nat_lt, ◌==◌, Result, Ok, Err, Option, Some, None}
 use Rattle.std.specs.Prelude.{option_map, OnOk, IfErr, IsErrAnd}
+use Rattle.std.specs.Option.{option_map_or}
 use Rattle.std.specs.Io.KnownBytes.{Appends}
 use Rattle.std.proofs.lemmas.Bool.{lt-ltb}
 use Rattle.stack_loader.specs.declared.lower.DevId.{DevId}
@@ -11,8 +12,8 @@ use Rattle.stack_engine.specs.declared.fault.IoFault.TheVariants.{NoMemory}
 use Rattle.stack_engine.specs.Stacks.{StackRecord}
 use Rattle.dmstack.specs.declared.request.SubmitFault.TheVariants.{NoSuchDevice, OutOfRange, Length}
 use Rattle.dmstack.specs.Commands.{Asked, read}
-use Rattle.dmstack.specs.Texts.{answer_text, io_text}
-use Rattle.dmstack.specs.Stacks.{EachPiece, Reads, reads_more, ReadsAll, IsRefusedOrRead, Does, device_for, device_of, NextPiece}
+use Rattle.dmstack.specs.Texts.{answer_text, io_text, submit_text}
+use Rattle.dmstack.specs.Stacks.{said_of, EachPiece, Reads, reads_more, ReadsAll, IsRefusedOrRead, Does, device_for, device_of, NextPiece}
 
 -- ---- names
 
@@ -27,6 +28,16 @@ named-some (Some x) d e =
     let same : Some d ≡ Some one = e in
     let inner : d ≡ one = cc in
     ap (λ y. Some y.0) (sym inner)
+
+-- what is said of a name that no device has
+pub said_of-none : (c : Configuration) (name : List ℕ) (text : ℕ → List ℕ) → None ≡ option_map {U = DevId} (λ d. record { 0 = d }) (device_named c name)
+    → submit_text NoSuchDevice ≡ said_of c name text
+said_of-none c name text e = ap (λ o. option_map_or text o (submit_text NoSuchDevice)) (sym (named-none (device_named c name) e))
+
+-- what is said of a device
+pub said_of-some : (c : Configuration) (name : List ℕ) (text : ℕ → List ℕ) (d : DevId) → Some d ≡ option_map {U = DevId} (λ d. record { 0 = d }) (device_named c name)
+    → text d.0 ≡ said_of c name text
+said_of-some c name text d e = ap (λ o. option_map_or text o (submit_text NoSuchDevice)) (sym (named-some (device_named c name) d e))
 
 -- ---- the checks
 

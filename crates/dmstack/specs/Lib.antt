@@ -2,3 +2,4 @@ pub mod Commands
 pub mod Session
 pub mod Stacks
 pub mod Texts
+pub mod Told

@@ -1,10 +1,12 @@
 -- A whole session: the lines of an input, and the replies to them, one after another. How one line is
 -- replied to is a parameter, `replies`: from the first state, the line may get the reply and leave the second.
-use Rattle.std.specs.Prelude.{◌≡◌, ◌≢◌, ◌≤◌, ◌<◌, ℕ, List, [], ◌∷◌, ◌++◌, length, take, All, flat_map, Option, Result, IfSome, IfOk, IsErrOf}
+use Rattle.std.specs.Prelude.{◌≡◌, ◌≢◌, ◌≤◌, ◌<◌, ◌+◌, ◌⊎◌, true, false, ℕ, List, [], ◌∷◌, ◌++◌, length, take, All, flat_map, Option, Result, IfSome, IfOk, OnOk, IsErrOf}
 use Rattle.std.specs.Io.KnownBytes.{Appends, Consumes}
 use Rattle.dmstack.specs.declared.session.SessionFault.{SessionFault}
-use Rattle.dmstack.specs.declared.session.SessionFault.TheVariants.{TooLong, ReadFault}
+use Rattle.dmstack.specs.declared.session.SessionFault.TheVariants.{TooLong, ReadFault, WriteFault}
 use Rattle.dmstack.specs.declared.session.TheConstants.{LIMIT}
+use Rattle.block_device.specs.Device.{capped}
+use Rattle.dmstack.specs.Told.{ToldRecord}
 
 -- a text with its newline
 abbrev pub ended : List ℕ → List ℕ
@@ -69,5 +71,16 @@ pub record IsSession {S : Type 0} (replies : Replying S) (first : S) (input inpu
   pub ok : IfOk result (λ last. IfSome input (λ bytes. (length bytes ≤ LIMIT) × WritesSession replies first bytes output output' last))
   -- the replies to the whole lines within the limit are written
   pub too_long : IsErrOf result TooLong → IfSome input (λ bytes. (LIMIT < length bytes) × AnswersWhole replies first (take LIMIT bytes) output output')
-  -- the replies to the whole lines of what was taken are written
-  pub read_fault : IsErrOf result ReadFault → (taken : List ℕ) × Consumes input input' taken × AnswersWhole replies first taken output output'
+  -- the replies to the whole lines of what was taken are written, which isn't past the limit
+  pub read_fault : IsErrOf result ReadFault → (taken : List ℕ) × (length taken ≤ LIMIT) × Consumes input input' taken × AnswersWhole replies first taken output output'
+
+-- Why a session ended, where neither its reader nor its writer had failed before.
+pub record HasCause {S R W : Type 0} (reader reader' : ToldRecord R) (writer' : ToldRecord W) (result : Result S SessionFault) : Type 0 where
+  -- no call failed
+  pub ok : OnOk result ((reader'.failed ≡ false) × (writer'.failed ≡ false))
+  -- the reader failed, or was asked once for each byte of the limit and once more
+  pub read_fault : IsErrOf result ReadFault → (reader'.failed ≡ true) ⊎ (capped (reader.asked + (LIMIT + 1)) ≤ reader'.asked)
+  -- the writer failed
+  pub write_fault : IsErrOf result WriteFault → writer'.failed ≡ true
+  -- the reader is never asked more often
+  pub asked : reader'.asked ≤ reader.asked + (LIMIT + 1)

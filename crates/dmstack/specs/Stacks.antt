@@ -1,28 +1,29 @@
--- A session's stack as it goes from one line to the next, and what loads and reads reply.
+-- A session's stack as it goes from one line to the next, and what its commands reply.
 use Rattle.std.specs.Prelude.{◌≡◌, ◌⊎◌, ℕ, ◌+◌, ◌-◌, ◌*◌, ◌<◌, ◌≤◌, ◌||◌, ◌==◌, nat_lt, min, List, [], ◌++◌, length, Option, Some, None, Result, Ok, Err, if◌then◌else◌}
 use Rattle.std.specs.Option.{option_map_or}
-use Rattle.block_device.specs.Device.{Device}
+use Rattle.block_device.specs.Device.{Device, capped}
 use Rattle.dm_table.specs.declared.stack.Entry.{Entry}
 use Rattle.dm_table.specs.declared.fault.TextFault.{TextFault}
 use Rattle.dm_table.specs.Words.{Word}
 use Rattle.dm_table.specs.StackText.{stack_of}
+use Rattle.dm_table.specs.Print.{table_text}
 use Rattle.stack_loader.specs.declared.refusal.Refusal.{Refusal}
 use Rattle.stack_loader.specs.Records.{Configuration}
-use Rattle.stack_loader.specs.Names.{mapped, device_named, size}
-use Rattle.stack_loader.specs.Descend.{read_cost}
+use Rattle.stack_loader.specs.Names.{mapped, device_named, lines_of, size}
+use Rattle.stack_loader.specs.Descend.{depth, read_cost, write_cost}
 use Rattle.stack_loader.specs.Lines.{line_at}
 use Rattle.stack_loader.specs.Rules.{first_refusal, after_load}
 use Rattle.stack_engine.specs.declared.fault.IoFault.{IoFault}
 use Rattle.stack_engine.specs.Meaning.{span, sector}
 use Rattle.stack_engine.specs.Found.{FoundRecord}
 use Rattle.stack_engine.specs.May.{MayRead, MayBe, MayFault}
-use Rattle.stack_engine.specs.Leaves.{images_of, AllSteady, AreRead}
+use Rattle.stack_engine.specs.Leaves.{images_of, reads_of, writes_of, AllSteady, AreRead}
 use Rattle.stack_engine.specs.Reading.{Ends, Answers}
 use Rattle.stack_engine.specs.Stacks.{StackRecord, AnswerRecord}
 use Rattle.dmstack.specs.declared.request.SubmitFault.{SubmitFault}
 use Rattle.dmstack.specs.declared.request.SubmitFault.TheVariants.{NoSuchDevice, OutOfRange, Length}
-use Rattle.dmstack.specs.Commands.{Asked, nothing, load, read, usage, asked}
-use Rattle.dmstack.specs.Texts.{usage_text, no_memory, loaded_text, fault_text, refusal_text, submit_text, answer_text}
+use Rattle.dmstack.specs.Commands.{Asked, nothing, load, read, cost, table, moved, usage, asked}
+use Rattle.dmstack.specs.Texts.{usage_text, no_memory, loaded_text, fault_text, refusal_text, submit_text, answer_text, cost_text, moved_text}
 
 -- a configuration over its leaves' devices
 abbrev pub stack_over : Configuration → List Device → StackRecord
@@ -138,16 +139,39 @@ abbrev pub load_outcome : StackRecord → Result (List Entry) TextFault → Outc
 load_outcome w (Ok entries) = loaded w entries (first_refusal w.config entries)
 load_outcome w (Err fault) = outcome (fault_text fault) w
 
+-- this text, and nothing changes
+abbrev pub Says : List ℕ → StackRecord → List ℕ → StackRecord → Type 0
+Says text w reply w' = (reply ≡ text) × (w' ≡ w)
+
 -- memory ran out, and nothing happened
 abbrev pub RunsOut : StackRecord → List ℕ → StackRecord → Type 0
-RunsOut w reply w' = (reply ≡ no_memory) × (w' ≡ w)
+RunsOut w reply w' = Says no_memory w reply w'
+
+-- what is said of the device of that name, where there is one
+abbrev pub said_of : Configuration → Word → (ℕ → List ℕ) → List ℕ
+said_of c name text = option_map_or text (device_named c name) (submit_text NoSuchDevice)
+
+-- its size, depth and costs
+abbrev pub cost_of : Configuration → ℕ → List ℕ
+cost_of c d = cost_text (size c (mapped d)) (depth c (mapped d)) (read_cost c (mapped d)) (write_cost c (mapped d))
+
+-- its table
+abbrev pub table_of : Configuration → ℕ → List ℕ
+table_of c d = table_text (lines_of c d)
+
+-- what the leaves have read and written
+abbrev pub moved_by : List Device → List ℕ
+moved_by leaves = moved_text (capped (reads_of leaves)) (capped (writes_of leaves))
 
 -- what is asked may get this reply
 abbrev pub Does : Reading → StackRecord → Asked → List ℕ → StackRecord → Type 0
-Does reads w nothing reply w' = (reply ≡ []) × (w' ≡ w)
-Does reads w usage reply w' = (reply ≡ usage_text) × (w' ≡ w)
+Does reads w nothing reply w' = Says [] w reply w'
+Does reads w usage reply w' = Says usage_text w reply w'
 Does reads w (load text) reply w' = (outcome reply w' ≡ load_outcome w (stack_of text)) ⊎ RunsOut w reply w'
 Does reads w (read name first count) reply w' = IsRefusedOrRead reads w (device_of w.config name first count) first count reply w' ⊎ RunsOut w reply w'
+Does reads w (cost name) reply w' = Says (said_of w.config name (cost_of w.config)) w reply w'
+Does reads w (table name) reply w' = Says (said_of w.config name (table_of w.config)) w reply w' ⊎ RunsOut w reply w'
+Does reads w moved reply w' = Says (moved_by w.leaves) w reply w'
 
 -- the line may get this reply
 pub record Replies (reads : Reading) (w : StackRecord) (line reply : List ℕ) (w' : StackRecord) : Type 0 where

@@ -104,3 +104,13 @@ io_text io.NoMemory = no_memory
 abbrev pub answer_text : ℕ → Result (List ℕ) IoFault → List ℕ
 answer_text first (Ok bytes) = sector_lines (length bytes / 512) first bytes
 answer_text first (Err fault) = io_text fault
+
+-- a device's size and depth, and the most leaf sectors that one sector read and one written move
+abbrev pub cost_text : ℕ → ℕ → ℕ → ℕ → List ℕ
+cost_text sectors depth read write =
+    codes "sectors " ++ (decimal sectors ++ (codes " depth " ++ (decimal depth
+    ++ (codes " read " ++ (decimal read ++ (codes " write " ++ (decimal write ++ codes "\n")))))))
+
+-- how many sectors the leaves have read and written
+abbrev pub moved_text : ℕ → ℕ → List ℕ
+moved_text reads writes = codes "moved " ++ (decimal reads ++ (codes " " ++ (decimal writes ++ codes "\n")))

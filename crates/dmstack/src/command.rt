@@ -1,10 +1,9 @@
 // What a line of a session asks for.
-ghost use Rattle.std.specs.Prelude.{◌≡◌, ◌≤◌, length};
-ghost use Rattle.std.specs.List.{prefix_len, position_or_len};
-ghost use Rattle.dm_table.specs.Words.{is_white};
-ghost use Rattle.dmstack.specs.Commands.{after_word, asked, meant, read_of, IsWithin};
+ghost use Rattle.std.specs.Prelude.{◌≡◌, ◌≤◌, length, option_map};
+ghost use Rattle.dmstack.specs.Commands.{after_word, alone, asked, cost, meant, moved, named_by, only, read_of, table, IsWithin};
 
-use dm_table::{Words, number};
+use crate::verb::{Verb, verb_of};
+use dm_table::{Words, number, white_len, word_len};
 
 /// What a line asks for.
 #[derive(Clone, Copy, Debug, PartialEq, Eq)]
@@ -19,25 +18,33 @@ pub enum Command<'a> {
         first: u64,
         count: u64,
     },
+    /// The size, the depth and the costs of the device of that name.
+    Cost(&'a [u8]),
+    /// The table of the device of that name.
+    Table(&'a [u8]),
+    /// How much the leaves have moved.
+    Moved,
     /// The line is no command.
     Usage,
 }
 
-/// `load TEXT`, where the text is the rest of the line, or `read NAME FIRST COUNT`.
+/// `load TEXT`, where the text is the rest of the line, `read NAME FIRST COUNT`, `cost NAME`,
+/// `table NAME` or `moved`.
 pub fn command_of(line: &[u8]) -> Command<'_>
     ensures value { meant result ≡ asked line.now }
     ensures short { IsWithin (length line.now) result }
 {
     let mut words = Words::new(line);
-    let Some(verb) = words.next_word() else {
+    let Some(word) = words.next_word() else {
         return Command::Nothing;
     };
-    if verb == b"load".as_slice() {
-        Command::Load(after_word(line))
-    } else if verb == b"read".as_slice() {
-        read_of(words)
-    } else {
-        Command::Usage
+    match verb_of(word) {
+        Some(Verb::Load) => Command::Load(after_word(line)),
+        Some(Verb::Read) => read_of(words),
+        Some(Verb::Cost) => cost_of(words),
+        Some(Verb::Table) => table_of(words),
+        Some(Verb::Moved) => moved_of(words),
+        None => Command::Usage,
     }
 }
 
@@ -60,36 +67,48 @@ fn read_of(mut words: Words<'_>) -> Command<'_>
     Command::Read { name, first, count }
 }
 
-fn is_white(byte: u8) -> bool
-    ensures { result ≡ is_white byte }
+// `NAME`
+fn cost_of(words: Words<'_>) -> Command<'_>
+    ensures value { meant result ≡ named_by cost words.entry }
+    ensures short { IsWithin 0 result }
 {
-    byte == b' ' || byte == b'\t' || byte == b'\r' || byte == b'\n'
+    match only_word(words) {
+        Some(name) => Command::Cost(name),
+        None => Command::Usage,
+    }
 }
 
-// How many bytes of white space the text begins with.
-fn white_len(text: &[u8]) -> usize
-    ensures value { result ≡ prefix_len is_white text.now }
-    ensures bound { result ≤ length text.now }
+// `NAME`
+fn table_of(words: Words<'_>) -> Command<'_>
+    ensures value { meant result ≡ named_by table words.entry }
+    ensures short { IsWithin 0 result }
 {
-    'bytes: for (at, byte) in text.iter().enumerate() {
-        if !is_white(*byte) {
-            return at;
-        }
+    match only_word(words) {
+        Some(name) => Command::Table(name),
+        None => Command::Usage,
     }
-    text.len()
 }
 
-// How many bytes stand before the first white space.
-fn word_len(text: &[u8]) -> usize
-    ensures value { result ≡ position_or_len is_white text.now }
-    ensures bound { result ≤ length text.now }
+// No further word.
+fn moved_of(mut words: Words<'_>) -> Command<'_>
+    ensures value { meant result ≡ alone moved words.entry }
+    ensures short { IsWithin 0 result }
 {
-    'bytes: for (at, byte) in text.iter().enumerate() {
-        if is_white(*byte) {
-            return at;
-        }
+    match words.next_word() {
+        None => Command::Moved,
+        Some(_) => Command::Usage,
     }
-    text.len()
+}
+
+// The one word that is left.
+fn only_word<'a>(mut words: Words<'a>) -> Option<&'a [u8]>
+    ensures { option_map (λ word. word.now) result ≡ only words.entry }
+{
+    let word = words.next_word()?;
+    match words.next_word() {
+        None => Some(word),
+        Some(_) => None,
+    }
 }
 
 // The rest of a line after its first word.

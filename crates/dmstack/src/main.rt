@@ -11,6 +11,7 @@ mod session;
 #[cfg(test)]
 mod tests;
 mod told;
+mod verb;
 
 use crate::program::command;
 use crate::told::Told;

@@ -1,5 +1,5 @@
 // The whole program: its words, a reader and a writer in, the status out.
-ghost use Rattle.std.specs.Prelude.{map, IfOk};
+ghost use Rattle.std.specs.Prelude.{◌≡◌, false, map, IfOk};
 ghost use Rattle.stack_engine.specs.Leaves.{ServeLeaves};
 
 use crate::bindings::{Bound, binding_of};
@@ -61,7 +61,10 @@ pub fn command<R: AllocGlobal, S: Read, W: Write>(
     words: &[String],
     reader: &mut Told<S>,
     writer: &mut Told<W>,
-) -> u8 {
+) -> u8
+    requires reader { reader.old.failed ≡ false }
+    requires writer { writer.old.failed ≡ false }
+{
     let alloc = rt.alloc();
     let Ok(grammar) = grammar(alloc) else {
         return say(writer, b"no memory\n", REFUSED);
@@ -80,7 +83,10 @@ fn dispatch<S: Read, W: Write>(
     matches: &ArgMatches<'_>,
     reader: &mut Told<S>,
     writer: &mut Told<W>,
-) -> u8 {
+) -> u8
+    requires reader { reader.old.failed ≡ false }
+    requires writer { writer.old.failed ≡ false }
+{
     let Some(("session", found)) = matches.subcommand() else {
         return say(writer, b"usage\n", USAGE);
     };
@@ -135,7 +141,10 @@ fn serve<S: Read, W: Write>(
     capacity: u32,
     reader: &mut Told<S>,
     writer: &mut Told<W>,
-) -> u8 {
+) -> u8
+    requires reader { reader.old.failed ≡ false }
+    requires writer { writer.old.failed ≡ false }
+{
     let Ok(bound) = bind_all(alloc, bindings) else {
         return say(writer, b"no memory\n", REFUSED);
     };

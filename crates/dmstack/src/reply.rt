@@ -2,14 +2,15 @@
 ghost use Rattle.std.specs.Prelude.{true, ◌≡◌, ◌+◌, ◌*◌, ◌/◌, ◌%◌, ◌≤◌, ◌<◌, decimal, ◌^◌, ◌==◌, ◌++◌, codes, length, slice_index, OnOk, OnErr};
 ghost use Rattle.std.specs.List.{list_all};
 ghost use Rattle.std.specs.Io.KnownBytes.{Appends};
-ghost use Rattle.dmstack.specs.Texts.{usage_text, no_memory, loaded_text, fault_text, refusal_text, submit_text, io_text, text_kind, load_kind, submit_kind, sector_line, sector_lines};
+ghost use Rattle.dmstack.specs.Texts.{usage_text, no_memory, loaded_text, fault_text, refusal_text, submit_text, io_text, text_kind, load_kind, submit_kind, sector_line, sector_lines, moved_text};
+ghost use Rattle.dmstack.specs.Stacks.{cost_of};
 
 use crate::request::SubmitFault;
 use crate::session::SessionFault;
 use crate::told::Told;
 use dm_table::{TextFault, TextKind};
 use stack_engine::IoFault;
-use stack_loader::{LoadKind, Refusal};
+use stack_loader::{Config, DevId, LoadKind, Refusal};
 use std::io::Write;
 
 const SECTOR: usize = 512;
@@ -269,4 +270,55 @@ pub fn say_sectors<W: Write>(
         rest = after;
     }
     Ok(())
+}
+
+/// `sectors S depth D read R write W`
+pub fn say_cost<W: Write>(
+    writer: &mut Told<W>,
+    config: &Config,
+    d: DevId,
+) -> Result<(), SessionFault>
+    requires { d.0 < length config.now.devices }
+    ensures ok { OnOk result (Appends (W.contents writer.old.inner) (W.contents writer.new.inner) (cost_of config.now d.0)) }
+    ensures told { OnOk result (writer.new.failed ≡ writer.old.failed) }
+    ensures failed { OnErr result (writer.new.failed ≡ true) }
+    ensures kind { OnErr result (result ≡ Err SessionFault.WriteFault) }
+{
+    let sectors = config.sectors(d);
+    let depth = config.depth(d);
+    let read = config.read_cost(d);
+    let write = config.write_cost(d);
+    match writer.print(format_args!(
+        "sectors {sectors} depth {depth} read {read} write {write}\n"
+    )) {
+        Ok(()) => Ok(()),
+        Err(_) => Err(SessionFault::WriteFault),
+    }
+}
+
+/// The lines of a printed table.
+pub fn say_table<W: Write>(writer: &mut Told<W>, text: &[u8]) -> Result<(), SessionFault>
+    ensures ok { OnOk result (Appends (W.contents writer.old.inner) (W.contents writer.new.inner) text.now) }
+    ensures told { OnOk result (writer.new.failed ≡ writer.old.failed) }
+    ensures failed { OnErr result (writer.new.failed ≡ true) }
+    ensures kind { OnErr result (result ≡ Err SessionFault.WriteFault) }
+{
+    say(writer, text)
+}
+
+/// `moved R W`
+pub fn say_moved<W: Write>(
+    writer: &mut Told<W>,
+    reads: u64,
+    writes: u64,
+) -> Result<(), SessionFault>
+    ensures ok { OnOk result (Appends (W.contents writer.old.inner) (W.contents writer.new.inner) (moved_text reads writes)) }
+    ensures told { OnOk result (writer.new.failed ≡ writer.old.failed) }
+    ensures failed { OnErr result (writer.new.failed ≡ true) }
+    ensures kind { OnErr result (result ≡ Err SessionFault.WriteFault) }
+{
+    match writer.print(format_args!("moved {reads} {writes}\n")) {
+        Ok(()) => Ok(()),
+        Err(_) => Err(SessionFault::WriteFault),
+    }
 }

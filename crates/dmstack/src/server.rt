@@ -1,21 +1,21 @@
 // The lines of a session, served by a stack.
-ghost use Rattle.std.specs.Prelude.{true, ◌≡◌, ◌≤◌, ◌<◌, ◌+◌, ℕ, List, length, take, map, OnOk, OnErr, IfOk, IfSome, IsErrOf};
+ghost use Rattle.std.specs.Prelude.{true, false, ◌≡◌, ◌≤◌, ◌<◌, ◌+◌, ℕ, List, length, take, map, OnOk, OnErr, IfOk, IfSome, IsErrOf};
 ghost use Rattle.std.specs.Io.KnownBytes.{Appends, Consumes};
 ghost use Rattle.stack_engine.specs.Leaves.{AllSteady, ServeLeaves};
-ghost use Rattle.dmstack.specs.Session.{WritesSession, AnswersWhole, IsSession};
-ghost use Rattle.dmstack.specs.Commands.{load, read};
+ghost use Rattle.dmstack.specs.Session.{WritesSession, AnswersWhole, IsSession, HasCause};
+ghost use Rattle.dmstack.specs.Commands.{load, read, cost, table, moved};
 ghost use Rattle.dmstack.specs.Stacks.{AnyPiece, SteadyPiece, EachPiece, ReadsAll, ReadsWhole, Does, Replies, stack_over};
 
 use crate::command::{Command, command_of};
 use crate::reply::{
-    say_io_fault, say_loaded, say_no_memory, say_refusal, say_sectors, say_submit_fault,
-    say_text_fault, say_usage,
+    say_cost, say_io_fault, say_loaded, say_moved, say_no_memory, say_refusal, say_sectors,
+    say_submit_fault, say_table, say_text_fault, say_usage,
 };
-use crate::request::{device_of, read_sectors};
+use crate::request::{SubmitFault, device_of, read_sectors};
 use crate::session::{LIMIT, LineServer, SessionFault, serve_all};
 use crate::told::Told;
 use block_device::BlockDev;
-use dm_table::{ParseFault, parse_stack};
+use dm_table::{ParseFault, parse_stack, print_table};
 use stack_engine::Stack;
 use stack_loader::{Config, LoadFault};
 use std::alloc::Global;
@@ -72,6 +72,63 @@ fn serve_read<D: BlockDev, W: Write>(
     }
 }
 
+// Replies with the size, the depth and the costs of a device.
+fn serve_cost<D: BlockDev, W: Write>(
+    stack: &Stack<D>,
+    name: &[u8],
+    writer: &mut Told<W>,
+) -> Result<(), SessionFault>
+    ensures ok { OnOk result ((reply : List ℕ) × Does (ReadsAll EachPiece) stack.now (cost name.now) reply stack.now
+        × Appends (W.contents writer.old.inner) (W.contents writer.new.inner) reply) }
+    ensures told { OnOk result (writer.new.failed ≡ writer.old.failed) }
+    ensures failed { OnErr result (writer.new.failed ≡ true) }
+    ensures kind { OnErr result (result ≡ Err SessionFault.WriteFault) }
+{
+    let config = stack.config();
+    match config.device(name) {
+        Some(d) => say_cost(writer, config, d),
+        None => say_submit_fault(writer, SubmitFault::NoSuchDevice),
+    }
+}
+
+// Replies with the table of a device, without its keys.
+fn serve_table<D: BlockDev, W: Write>(
+    alloc: Global,
+    stack: &Stack<D>,
+    name: &[u8],
+    writer: &mut Told<W>,
+) -> Result<(), SessionFault>
+    ensures ok { OnOk result ((reply : List ℕ) × Does (ReadsAll EachPiece) stack.now (table name.now) reply stack.now
+        × Appends (W.contents writer.old.inner) (W.contents writer.new.inner) reply) }
+    ensures told { OnOk result (writer.new.failed ≡ writer.old.failed) }
+    ensures failed { OnErr result (writer.new.failed ≡ true) }
+    ensures kind { OnErr result (result ≡ Err SessionFault.WriteFault) }
+{
+    let config = stack.config();
+    let Some(d) = config.device(name) else {
+        return say_submit_fault(writer, SubmitFault::NoSuchDevice);
+    };
+    match print_table(alloc, config.table(d), false) {
+        Ok(text) => say_table(writer, text.as_slice()),
+        Err(_) => say_no_memory(writer),
+    }
+}
+
+// Replies with what the leaves have read and written.
+fn serve_moved<D: BlockDev, W: Write>(
+    stack: &Stack<D>,
+    writer: &mut Told<W>,
+) -> Result<(), SessionFault>
+    ensures ok { OnOk result ((reply : List ℕ) × Does (ReadsAll EachPiece) stack.now moved reply stack.now
+        × Appends (W.contents writer.old.inner) (W.contents writer.new.inner) reply) }
+    ensures told { OnOk result (writer.new.failed ≡ writer.old.failed) }
+    ensures failed { OnErr result (writer.new.failed ≡ true) }
+    ensures kind { OnErr result (result ≡ Err SessionFault.WriteFault) }
+{
+    let (reads, writes) = stack.moved();
+    say_moved(writer, reads, writes)
+}
+
 impl<D: BlockDev> LineServer for Stack<D> {
     ghost replies = { Replies (ReadsAll EachPiece) };
 
@@ -87,6 +144,9 @@ impl<D: BlockDev> LineServer for Stack<D> {
             Command::Read { name, first, count } => {
                 serve_read(alloc, self, name, first, count, writer)
             }
+            Command::Cost(name) => serve_cost(self, name, writer),
+            Command::Table(name) => serve_table(alloc, self, name, writer),
+            Command::Moved => serve_moved(self, writer),
             Command::Usage => say_usage(writer),
         }
     }
@@ -101,7 +161,10 @@ fn serve_session<D: BlockDev + Drop, R: Read, W: Write>(
     reader: &mut Told<R>,
     writer: &mut Told<W>,
 ) -> Result<Stack<D>, SessionFault>
-    requires { ServeLeaves config.leaves (map D.state devices.items) }
+    requires leaves { ServeLeaves config.leaves (map D.state devices.items) }
+    requires reader { reader.old.failed ≡ false }
+    requires writer { writer.old.failed ≡ false }
+
     // All was read and served, and what is written is the replies.
     ensures ok { IfOk result (λ last. IfSome (R.remaining reader.old.inner) (λ input. (length input ≤ LIMIT)
         × WritesSession (Replies (ReadsAll EachPiece)) (stack_over config (map D.state devices.items)) input (W.contents writer.old.inner) (W.contents writer.new.inner) last)) }
@@ -111,14 +174,10 @@ fn serve_session<D: BlockDev + Drop, R: Read, W: Write>(
         × AnswersWhole (Replies (ReadsAll EachPiece)) (stack_over config (map D.state devices.items)) (take LIMIT input) (W.contents writer.old.inner) (W.contents writer.new.inner)) }
 
     // The replies to the whole lines of what was taken are written.
-    ensures read_fault { IsErrOf result SessionFault.ReadFault → (taken : List ℕ)
+    ensures read_fault { IsErrOf result SessionFault.ReadFault → (taken : List ℕ) × (length taken ≤ LIMIT)
         × Consumes (R.remaining reader.old.inner) (R.remaining reader.new.inner) taken
         × AnswersWhole (Replies (ReadsAll EachPiece)) (stack_over config (map D.state devices.items)) taken (W.contents writer.old.inner) (W.contents writer.new.inner) }
-    ensures read_failed { IsErrOf result SessionFault.ReadFault → reader.new.failed ≡ true }
-    ensures write_failed { IsErrOf result SessionFault.WriteFault → writer.new.failed ≡ true }
-
-    // The reader is asked once for each byte of the limit, and once more.
-    ensures asked { reader.new.asked ≤ reader.old.asked + (LIMIT + 1) }
+    ensures cause { HasCause reader.old reader.new writer.new result }
 {
     let Ok(mut stack) = Stack::new(alloc, config, devices, capacity) else {
         return Err(SessionFault::NoMemory);
@@ -139,7 +198,10 @@ pub fn session<D: BlockDev + Drop, R: Read, W: Write>(
     reader: &mut Told<R>,
     writer: &mut Told<W>,
 ) -> Result<Stack<D>, SessionFault>
-    requires { ServeLeaves config.leaves (map D.state devices.items) }
+    requires leaves { ServeLeaves config.leaves (map D.state devices.items) }
+    requires reader { reader.old.failed ≡ false }
+    requires writer { writer.old.failed ≡ false }
+
     // Whatever the leaves answer.
     ensures any { IsSession (Replies (ReadsAll AnyPiece)) (stack_over config (map D.state devices.items))
         (R.remaining reader.old.inner) (R.remaining reader.new.inner) (W.contents writer.old.inner) (W.contents writer.new.inner) result }
@@ -151,11 +213,7 @@ pub fn session<D: BlockDev + Drop, R: Read, W: Write>(
     // Each read as a whole, both at once.
     ensures whole { IsSession (Replies ReadsWhole) (stack_over config (map D.state devices.items))
         (R.remaining reader.old.inner) (R.remaining reader.new.inner) (W.contents writer.old.inner) (W.contents writer.new.inner) result }
-    ensures read_failed { IsErrOf result SessionFault.ReadFault → reader.new.failed ≡ true }
-    ensures write_failed { IsErrOf result SessionFault.WriteFault → writer.new.failed ≡ true }
-
-    // The reader is asked once for each byte of the limit, and once more.
-    ensures asked { reader.new.asked ≤ reader.old.asked + (LIMIT + 1) }
+    ensures cause { HasCause reader.old reader.new writer.new result }
 {
     serve_session(alloc, config, devices, capacity, reader, writer)
 }

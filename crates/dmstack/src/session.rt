@@ -1,7 +1,7 @@
 // A session: reads the input, cuts it into lines, and has each line served.
-ghost use Rattle.std.specs.Prelude.{true, ◌≡◌, ◌≢◌, ℕ, ◌+◌, ◌≤◌, ◌<◌, List, [], ◌∷◌, ◌++◌, length, take, IfSome, IfOk, OnOk, OnErr, MatchOption, IsErrOf, ◌⊎◌};
+ghost use Rattle.std.specs.Prelude.{true, false, ◌≡◌, ◌≢◌, ℕ, ◌+◌, ◌≤◌, ◌<◌, List, [], ◌∷◌, ◌++◌, length, take, IfSome, IfOk, OnOk, OnErr, MatchOption, IsErrOf, ◌⊎◌};
 ghost use Rattle.std.specs.Io.KnownBytes.{Appends, Keeps, Consumes};
-ghost use Rattle.dmstack.specs.Session.{IsOneLine, WritesSession, WritesWhole, AnswersWhole};
+ghost use Rattle.dmstack.specs.Session.{IsOneLine, WritesSession, WritesWhole, AnswersWhole, HasCause};
 
 use crate::told::Told;
 use std::alloc::Global;
@@ -17,7 +17,7 @@ const PIECE: usize = 4096;
 /// Why a session ended early.
 #[derive(Clone, Copy, Debug, PartialEq, Eq, Error)]
 pub enum SessionFault {
-    /// The reader failed, or gave too little at each of 2^24 + 1 calls.
+    /// The reader failed, or was asked 2^24 + 1 times before its end.
     #[error("the reader failed")]
     ReadFault = 1,
     /// The writer failed.
@@ -172,6 +172,9 @@ pub fn serve_all<S: LineServer, R: Read, W: Write>(
     reader: &mut Told<R>,
     writer: &mut Told<W>,
 ) -> Result<(), SessionFault>
+    requires reader { reader.old.failed ≡ false }
+    requires writer { writer.old.failed ≡ false }
+
     // All was read and served, and what is written is the replies.
     ensures ok { OnOk result (IfSome (R.remaining reader.old.inner) (λ input. (length input ≤ LIMIT)
         × WritesSession S.replies server.old input (W.contents writer.old.inner) (W.contents writer.new.inner) server.new)) }
@@ -181,14 +184,10 @@ pub fn serve_all<S: LineServer, R: Read, W: Write>(
         × AnswersWhole S.replies server.old (take LIMIT input) (W.contents writer.old.inner) (W.contents writer.new.inner)) }
 
     // The replies to the whole lines of what was taken are written.
-    ensures read_fault { IsErrOf result SessionFault.ReadFault → (taken : List ℕ)
+    ensures read_fault { IsErrOf result SessionFault.ReadFault → (taken : List ℕ) × (length taken ≤ LIMIT)
         × Consumes (R.remaining reader.old.inner) (R.remaining reader.new.inner) taken
         × AnswersWhole S.replies server.old taken (W.contents writer.old.inner) (W.contents writer.new.inner) }
-    ensures read_failed { IsErrOf result SessionFault.ReadFault → reader.new.failed ≡ true }
-    ensures write_failed { IsErrOf result SessionFault.WriteFault → writer.new.failed ≡ true }
-
-    // The reader is asked once for each byte of the limit, and once more.
-    ensures asked { reader.new.asked ≤ reader.old.asked + (LIMIT + 1) }
+    ensures cause { HasCause reader.old reader.new writer.new result }
 {
     let mut rest = Vec::new(alloc);
     let mut left = LIMIT;

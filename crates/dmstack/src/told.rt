@@ -2,17 +2,27 @@
 ghost use Rattle.std.specs.Prelude.{◌≡◌, ◌+◌, min, true, false, OnOk, MatchResult, IfSome};
 ghost use Rattle.std.specs.Io.{ReadsAtMost};
 ghost use Rattle.std.specs.Io.KnownBytes.{ReadConsumes, Appends, Keeps};
+ghost use Rattle.dmstack.specs.Told.{Remembers};
 
 use std::fmt::Display;
 use std::io;
 use std::io::{Read, Write};
+use std::marker::Model;
 
-/// A reader or a writer, how often it was asked to read, and whether it ever failed.
+/// A reader or a writer, how often it was asked to read, and whether a call has failed.
 #[derive(Drop)]
 pub struct Told<T> {
-    pub inner: T,
-    pub asked: u64,
-    pub failed: bool,
+    inner: T,
+    asked: u64,
+    failed: bool,
+}
+
+impl<T> Model for Told<T> {
+    ghost use Rattle.dmstack.specs.Told.{ToldRecord};
+
+    ghost Value = { ToldRecord T };
+
+    ghost view = { λ t. record { inner = t.inner; asked = t.asked; failed = t.failed } };
 }
 
 impl<T> Told<T> {
@@ -25,21 +35,47 @@ impl<T> Told<T> {
             failed: false,
         }
     }
+
+    pub fn into_inner(self) -> T
+        ensures { result ≡ self.inner }
+    {
+        let Told {
+            inner,
+            asked: _,
+            failed: _,
+        } = self;
+        inner
+    }
+
+    /// How often it was asked to read.
+    pub fn asked(&self) -> u64
+        ensures { result ≡ self.now.asked }
+    {
+        self.asked
+    }
+
+    pub fn failed(&self) -> bool
+        ensures { result ≡ self.now.failed }
+    {
+        self.failed
+    }
 }
 
 impl<R: Read> Told<R> {
-    /// One read.
+    /// One read. A call that was interrupted is no failure: it may be made again.
     pub fn ask(&mut self, buffer: &mut [u8]) -> io::Result<usize>
         ensures bound { ReadsAtMost result buffer.new }
         ensures bytes { ReadConsumes (R.remaining self.old.inner) (R.remaining self.new.inner) result buffer.new }
         ensures asked { self.new.asked ≡ min (self.old.asked + 1) u64.MAX }
-        ensures failed { MatchResult result (λ _. self.new.failed ≡ self.old.failed) (λ _. self.new.failed ≡ true) }
+        ensures failed { Remembers result self.old.failed self.new.failed }
     {
         self.asked = self.asked.saturating_add(1);
         match self.inner.read(buffer) {
             Ok(n) => Ok(n),
             Err(error) => {
-                self.failed = true;
+                if error.kind() != io::ErrorKind::Interrupted {
+                    self.failed = true;
+                }
                 Err(error)
             }
         }

@@ -1,8 +1,7 @@
-use Rattle.std.proofs.Common.{◌≡◌, true, false, [], ◌∷◌, codes, ap, sym, ◌∙◌}
-use Rattle.std.specs.Str.{bytes_eq}
+use Rattle.std.proofs.Common.{◌≡◌, [], ap, sym, ◌∙◌}
 use Rattle.dm_table.specs.Words.{words}
 use Rattle.dmstack.specs.Commands.{load}
-use Rattle.dmstack.proofs.CommandLemmas.{asked-nothing, asked-load, asked-read, asked-other}
+use Rattle.dmstack.proofs.CommandLemmas.{asked-nothing, asked-words}
 use Rattle.dmstack.proofs.command.command_of.Goals as goal
 
 pub returns-in_default-clause-value : goal.returns-in_default-clause-value
@@ -10,25 +9,36 @@ returns-in_default-clause-value c =
     let none : words c.args.line.now ≡ [] = sym c.new-words.ensures ∙ c.in_default.ensures in
     sym (asked-nothing c.args.line.now none)
 
-pub returns-then-eq-clause-value : goal.returns-then-eq-clause-value
-returns-then-eq-clause-value c =
-    let verb = c.in-Some.verb.now in
-    let cut : words c.args.line.now ≡ c.in-Some.verb.now ∷ c.next_word.new.self = sym c.new-words.ensures ∙ c.in-Some.ensures in
-    let is : bytes_eq c.in-Some.verb.now (codes "load") ≡ true = sym (c.eq.ensures ∙ ap (bytes_eq verb) c.as_slice.ensures) ∙ c.if-eq.true in
-    ap load c.after_word.ensures.value ∙ sym (asked-load c.args.line.now verb c.next_word.new.self cut is)
+pub returns-in-Some-Load-clause-value : goal.returns-in-Some-Load-clause-value
+returns-in-Some-Load-clause-value c =
+    let verb = rw c.in-Some-Load.field-0-is at c.in-Some-Load.ensures in
+    ap load c.after_word.ensures.value
+    ∙ sym (asked-words c.args.line.now c.in-Some.word.now c.next_word.new.self _ (sym c.new-words.ensures ∙ c.in-Some.ensures) verb)
 
-pub returns-then-eq-2-clause-value : goal.returns-then-eq-2-clause-value
-returns-then-eq-2-clause-value c =
-    let verb = c.in-Some.verb.now in
-    let cut : words c.args.line.now ≡ c.in-Some.verb.now ∷ c.next_word.new.self = sym c.new-words.ensures ∙ c.in-Some.ensures in
-    let no : bytes_eq c.in-Some.verb.now (codes "load") ≡ false = sym (c.eq.ensures ∙ ap (bytes_eq verb) c.as_slice.ensures) ∙ c.if-eq.false in
-    let is : bytes_eq c.in-Some.verb.now (codes "read") ≡ true = sym (c.eq-else-eq.ensures ∙ ap (bytes_eq verb) c.as_slice-else-eq.ensures) ∙ c.if-eq-2.true in
-    c.read_of.ensures.value ∙ sym (asked-read c.args.line.now verb c.next_word.new.self cut no is)
+pub returns-in-Some-Read-clause-value : goal.returns-in-Some-Read-clause-value
+returns-in-Some-Read-clause-value c =
+    let verb = rw c.in-Some-Read.field-0-is at c.in-Some-Read.ensures in
+    c.read_of.ensures.value
+    ∙ sym (asked-words c.args.line.now c.in-Some.word.now c.next_word.new.self _ (sym c.new-words.ensures ∙ c.in-Some.ensures) verb)
 
-pub returns-else-eq-2-clause-value : goal.returns-else-eq-2-clause-value
-returns-else-eq-2-clause-value c =
-    let verb = c.in-Some.verb.now in
-    let cut : words c.args.line.now ≡ c.in-Some.verb.now ∷ c.next_word.new.self = sym c.new-words.ensures ∙ c.in-Some.ensures in
-    let no : bytes_eq c.in-Some.verb.now (codes "load") ≡ false = sym (c.eq.ensures ∙ ap (bytes_eq verb) c.as_slice.ensures) ∙ c.if-eq.false in
-    let neither : bytes_eq c.in-Some.verb.now (codes "read") ≡ false = sym (c.eq-else-eq.ensures ∙ ap (bytes_eq verb) c.as_slice-else-eq.ensures) ∙ c.if-eq-2.false in
-    sym (asked-other c.args.line.now verb c.next_word.new.self cut no neither)
+pub returns-in-Some-Cost-clause-value : goal.returns-in-Some-Cost-clause-value
+returns-in-Some-Cost-clause-value c =
+    let verb = rw c.in-Some-Cost.field-0-is at c.in-Some-Cost.ensures in
+    c.cost_of.ensures.value
+    ∙ sym (asked-words c.args.line.now c.in-Some.word.now c.next_word.new.self _ (sym c.new-words.ensures ∙ c.in-Some.ensures) verb)
+
+pub returns-in-Some-Table-clause-value : goal.returns-in-Some-Table-clause-value
+returns-in-Some-Table-clause-value c =
+    let verb = rw c.in-Some-Table.field-0-is at c.in-Some-Table.ensures in
+    c.table_of.ensures.value
+    ∙ sym (asked-words c.args.line.now c.in-Some.word.now c.next_word.new.self _ (sym c.new-words.ensures ∙ c.in-Some.ensures) verb)
+
+pub returns-in-Some-Moved-clause-value : goal.returns-in-Some-Moved-clause-value
+returns-in-Some-Moved-clause-value c =
+    let verb = rw c.in-Some-Moved.field-0-is at c.in-Some-Moved.ensures in
+    c.moved_of.ensures.value
+    ∙ sym (asked-words c.args.line.now c.in-Some.word.now c.next_word.new.self _ (sym c.new-words.ensures ∙ c.in-Some.ensures) verb)
+
+pub returns-in-None-clause-value : goal.returns-in-None-clause-value
+returns-in-None-clause-value c =
+    sym (asked-words c.args.line.now c.in-Some.word.now c.next_word.new.self _ (sym c.new-words.ensures ∙ c.in-Some.ensures) c.in-None.ensures)

@@ -1,8 +1,9 @@
-use Rattle.std.proofs.Common.{rules, ◌≡◌, ◌+◌, ◌<◌, length, take, arith, refl, ◌∙◌, subst}
+use Rattle.std.proofs.Common.{rules, ◌≡◌, ◌<◌, length, take, arith, ◌∙◌, subst}
 use Rattle.std.specs.Io.KnownBytes.{Consumes}
+use Rattle.std.proofs.lemmas.Grind.{common_steps}
 use Rattle.dmstack.specs.declared.session.SessionFault.TheVariants.{TooLong}
 use Rattle.dmstack.proofs.SessionLemmas.{on_ok, same_error, Appends-kept}
-use Rattle.dmstack.proofs.ReadingLemmas.{reading_starts, reading_more, reading_kept, reading_flushed, reading_ends, reading_too_long, lags_starts, lags_byte, lags_fault}
+use Rattle.dmstack.proofs.ReadingLemmas.{reading_starts, reading_more, reading_kept, reading_flushed, reading_ends, reading_too_long}
 use Rattle.dmstack.proofs.session.serve_all.Goals as goal
 use Rattle.dmstack.proofs.session.serve_all.Goals.{in-Ok+in-Ok-absorb, in-Err+else-ne}
 
@@ -11,8 +12,9 @@ loop-turn-init g c = record {
   reading = rw c.new-rest.ensures.items (reading_starts g.S.LineServer.replies c.args.server.now (g.R.Read.remaining c.args.reader.now.inner) (g.W.Write.contents c.args.writer.now.inner));
   small = rw c.new-rest.ensures.items (omega arith);
   asked = omega arith;
-  lags = lags_starts c.args.reader.now.failed;
-  told = refl;
+  turns = omega arith;
+  failed = c.requires.reader;
+  told = c.requires.writer;
   room = search rules;
 }
 
@@ -42,15 +44,13 @@ loop-turn-preserved g c =
     let flushed = reading_flushed (g.W.Write.contents c.flush.new.writer.inner) c.loop-turn.invariant.reading c.in_ok-flush.ensures.bytes in
     elim c.match-ask.branch [
       | in-Ok+in-Ok-absorb w ↦ (let seen = w.in-Ok-absorb.ensures in let e = w.in-Ok.ensures in
-          let positive : 0 < w.in-Ok.n = search rules in
-          let counted : w.in-Ok.n ≡ length (take w.in-Ok.n c.ask.new.buffer) = e.bound.1 in
           record {
             reading = rw (w.writer-is, w.server-is, w.rest-is, w.left-is) (reading_more (g.R.Read.remaining c.ask.new.self.inner) (g.W.Write.contents w.absorb.new.writer.inner) w.in-Ok-absorb.after w.absorb.new.server w.absorb.new.rest.items (take w.in-Ok.n c.ask.new.buffer)
                 flushed e.bytes.0 seen.ok.0 seen.ok.1);
             small = rw (w.rest-is, w.left-is) seen.room;
             asked = omega (arith, c.loop-turn.invariant.asked, c.ask.ensures.asked);
-            lags = rw w.left-is (lags_byte c.loop-turn.reader.failed c.ask.new.self.failed c.loop-turn._turn c.loop-turn.left w.in-Ok-absorb.after w.in-Ok.n
-                c.loop-turn.invariant.lags e.failed (omega (arith, seen.ok.0, counted)) positive);
+            turns = omega (arith, c.loop-turn.invariant.turns, c.ask.ensures.asked);
+            failed = e.failed.ok ∙ c.loop-turn.invariant.failed;
             told = rw w.writer-is (seen.told ∙ c.in_ok-flush.ensures.told ∙ c.loop-turn.invariant.told);
             room = omega (arith, c.loop-turn.invariant.room, c.ask.auto.buffer);
           })
@@ -58,7 +58,8 @@ loop-turn-preserved g c =
         reading = rw (w.writer-is, w.server-is, w.rest-is, w.left-is) (reading_kept (g.R.Read.remaining c.ask.new.self.inner) flushed w.in-Err.ensures.bytes);
         small = rw (w.rest-is, w.left-is) c.loop-turn.invariant.small;
         asked = omega (arith, c.loop-turn.invariant.asked, c.ask.ensures.asked);
-        lags = rw w.left-is (lags_fault c.ask.new.self.failed (c.loop-turn._turn + 1) c.loop-turn.left w.in-Err.ensures.failed);
+        turns = omega (arith, c.loop-turn.invariant.turns, c.ask.ensures.asked);
+        failed = e.failed.interrupted (grind (arith, common_steps)) ∙ c.loop-turn.invariant.failed;
         told = rw w.writer-is (c.in_ok-flush.ensures.told ∙ c.loop-turn.invariant.told);
         room = omega (arith, c.loop-turn.invariant.room, c.ask.auto.buffer);
       })
