@@ -1,0 +1,30 @@
+//! Benchmarks. Each prints its name, how fast our work ran as a ratio to the least work of its kind, and its time.
+#![tactic(auto)]
+
+mod compared;
+mod verity;
+
+use crate::compared::compare;
+use crate::verity::{Area, Digests, Format, Images, Verify};
+use std::env;
+
+fn main(rt: HostRuntime) -> anyhow::Result<()> {
+    let alloc = rt.alloc();
+    let words: Vec<String> = env::args(&rt)?.collect(alloc)?;
+    let words: Vec<&str> = words.iter().map(|word| word.as_str()).collect(alloc)?;
+    match words.as_slice() {
+        [_, "digest"] => compare(&rt, "digest", &mut Digests::new(alloc)?),
+        [_, "area"] => compare(&rt, "area", &mut Area::new(alloc)?),
+        [_, "format", data, hash] => compare(
+            &rt,
+            "format",
+            &mut Format(Images::open(&rt, data, hash)?),
+        ),
+        [_, "verify", data, hash] => compare(
+            &rt,
+            "verify",
+            &mut Verify::new(alloc, Images::open(&rt, data, hash)?)?,
+        ),
+        _ => Ok(println!(rt; "digest, area, format DATA HASH, or verify DATA HASH")?),
+    }
+}

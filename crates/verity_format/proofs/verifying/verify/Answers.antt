@@ -1,0 +1,111 @@
+use Rattle.std.proofs.Common.{◌≡◌, ◌≤◌, ◌+◌, ◌*◌, ◌/◌, ◌∙◌, ℕ, List, Some, None, Bool, true, false, refl, sym, ap, subst, arith, length}
+use Rattle.std.specs.List.{concat}
+use Rattle.std.specs.Str.{bytes_eq}
+use Rattle.std.proofs.lemmas.Slice.Eq.{bytes_eq-Decides}
+use Rattle.hash_tree.specs.Shape.{area_blocks}
+use Rattle.hash_tree.specs.Difference.{FirstDiffer}
+use Rattle.verity_format.specs.Superblock.{SuperRecord, shape_of}
+use Rattle.verity_format.specs.Image.{area_over, root_over}
+use Rattle.verity_format.specs.Verifying.{stored_area, AreaStands, IsFirstOther}
+use Rattle.verity_format.proofs.AreaSteps.{area-stands, area-same, area-differs, other-same}
+use Rattle.verity_format.proofs.Sizes.{tree-room}
+use Rattle.verity_format.proofs.DeviceSteps.{steady-then}
+use Rattle.verity_format.proofs.verifying.verify.Goals as goal
+
+pub first_difference-requires-clause-inside : goal.first_difference-requires-clause-inside
+first_difference-requires-clause-inside g c = λ some.
+    let s = c.in_ok-superblock.superblock in
+    let found = c.in_ok-superblock.ensures.found in
+    let n : c.area_blocks.result ≡ area_blocks (shape_of s) = c.area_blocks.ensures.value ∙ ap area_blocks c.shape-shape.ensures.value in
+    let size : length c.deref_mut.result.now ≡ s.hash_block = c.deref_mut.ensures.len ∙ c.in_ok-block.ensures.len ∙ c.hash_block.ensures.value ∙ ap (λ t. t.hash_block) c.shape-shape.ensures.value in
+    let room : area_blocks (shape_of s) * (s.hash_block / 512) + s.hash_block / 512 ≤ (g.H.BlockDev.state c.fitting_superblock.new.hash_dev).size =
+    tree-room (shape_of s) c.shape-shape.ensures.valid refl _ (omega (arith, found.1.tree_fits, c.fitting_superblock.ensures.read.same.size)) (omega (arith, n, some)) in
+    rw (n, size) room
+
+-- what was found, told of the superblock's own blocks
+pub returns-in-Some-clause-ok : goal.returns-in-Some-clause-ok
+returns-in-Some-clause-ok g c =
+    let s : SuperRecord = c.in_ok-superblock.superblock in
+    let found = c.in_ok-superblock.ensures.found in
+    let hash_image = (g.H.BlockDev.state c.args.hash_dev.now).image in
+    let data_image = (g.D.BlockDev.state c.args.data_dev.now).image in (
+      found.0,
+      (
+        found.1.first,
+        found.1.fit,
+        λ data_steady hash_steady.
+            let stands = area-stands (shape_of s) c.shape-shape.ensures.valid s.salt data_image in
+            let n : c.area_blocks.result ≡ area_blocks (shape_of s) = c.area_blocks.ensures.value ∙ ap area_blocks c.shape-shape.ensures.value in
+            let size : length c.deref_mut.result.now ≡ s.hash_block = c.deref_mut.ensures.len ∙ c.in_ok-block.ensures.len ∙ c.hash_block.ensures.value ∙ ap (λ t. t.hash_block) c.shape-shape.ensures.value in
+            let bytes : c.deref.result.now ≡ concat (area_over (shape_of s) s.salt data_image) =
+            c.deref.ensures.value ∙ (c.in_ok-area.ensures.tree data_steady).0 ∙ ap (λ t. concat (area_over t c.salt.result data_image)) c.shape-shape.ensures.value ∙ ap (λ salt. concat (area_over (shape_of s) salt data_image)) c.salt.ensures in
+            let at : IsFirstOther hash_image s.hash_block (area_blocks (shape_of s)) (concat (area_over (shape_of s) s.salt data_image)) (Some c.in-Some.found) =
+            other-same _ hash_image _ s.hash_block _ (area_blocks (shape_of s)) _ (concat (area_over (shape_of s) s.salt data_image)) (Some c.in-Some.found)
+            (c.fitting_superblock.ensures.read.image hash_steady) size n bytes
+            (rw c.in-Some.is at (c.in_ok-found.ensures.found (steady-then c.fitting_superblock.ensures.read.same hash_steady))) in
+            let differ : FirstDiffer (stored_area s hash_image) (area_over (shape_of s) s.salt data_image) c.in-Some.found =
+            area-differs hash_image s.hash_block (area_blocks (shape_of s)) (area_over (shape_of s) s.salt data_image) stands.sized stands.total c.in-Some.found at in
+            (c.in-Some.found, (refl, subst (λ (t : SuperRecord). FirstDiffer (stored_area t hash_image) (area_over (shape_of t) t.salt data_image) c.in-Some.found) found.1.value differ)),
+      ),
+    )
+
+unlike : (a b : List ℕ) (r : Bool) → r ≡ bytes_eq a b → r ≡ false → a ≡ b → ⊥
+unlike a b r test differs same = let equal : r ≡ true = test ∙ (bytes_eq-Decides a b).1 same in cc
+
+pub returns-then-not-is_same-clause-ok : goal.returns-then-not-is_same-clause-ok
+returns-then-not-is_same-clause-ok g c =
+    let s : SuperRecord = c.in_ok-superblock.superblock in
+    let found = c.in_ok-superblock.ensures.found in
+    let hash_image = (g.H.BlockDev.state c.args.hash_dev.now).image in
+    let data_image = (g.D.BlockDev.state c.args.data_dev.now).image in (
+      found.0,
+      (
+        found.1.first,
+        found.1.fit,
+        λ data_steady hash_steady.
+            let stands = area-stands (shape_of s) c.shape-shape.ensures.valid s.salt data_image in
+            let n : c.area_blocks.result ≡ area_blocks (shape_of s) = c.area_blocks.ensures.value ∙ ap area_blocks c.shape-shape.ensures.value in
+            let size : length c.deref_mut.result.now ≡ s.hash_block = c.deref_mut.ensures.len ∙ c.in_ok-block.ensures.len ∙ c.hash_block.ensures.value ∙ ap (λ t. t.hash_block) c.shape-shape.ensures.value in
+            let tree = c.in_ok-area.ensures.tree data_steady in
+            let bytes : c.deref.result.now ≡ concat (area_over (shape_of s) s.salt data_image) =
+            c.deref.ensures.value ∙ tree.0 ∙ ap (λ t. concat (area_over t c.salt.result data_image)) c.shape-shape.ensures.value ∙ ap (λ salt. concat (area_over (shape_of s) salt data_image)) c.salt.ensures in
+            let at : IsFirstOther hash_image s.hash_block (area_blocks (shape_of s)) (concat (area_over (shape_of s) s.salt data_image)) None =
+            other-same _ hash_image _ s.hash_block _ (area_blocks (shape_of s)) _ (concat (area_over (shape_of s) s.salt data_image)) None
+            (c.fitting_superblock.ensures.read.image hash_steady) size n bytes
+            (rw c.in_default.is at (c.in_ok-found.ensures.found (steady-then c.fitting_superblock.ensures.read.same hash_steady))) in
+            let same : AreaStands s data_image hash_image = area-same hash_image s.hash_block (area_blocks (shape_of s)) (area_over (shape_of s) s.salt data_image) stands.sized stands.total at in
+            let expected : c.in_ok-area.expected ≡ root_over (shape_of s) s.salt data_image =
+            tree.1 ∙ ap (λ t. root_over t c.salt.result data_image) c.shape-shape.ensures.value ∙ ap (λ salt. root_over (shape_of s) salt data_image) c.salt.ensures in
+            subst (λ (t : SuperRecord). AreaStands t data_image hash_image × (root_over (shape_of t) t.salt data_image ≡ c.args.root.now → ⊥)) found.1.value
+            (same, λ e. unlike c.in_ok-area.expected c.args.root.now c.is_same.result c.is_same.ensures c.if-not-is_same.true (expected ∙ e)),
+      ),
+    )
+
+pub returns-clause-ok : goal.returns-clause-ok
+returns-clause-ok g c =
+    let s : SuperRecord = c.in_ok-superblock.superblock in
+    let found = c.in_ok-superblock.ensures.found in
+    let hash_image = (g.H.BlockDev.state c.args.hash_dev.now).image in
+    let data_image = (g.D.BlockDev.state c.args.data_dev.now).image in (
+      found.0,
+      (
+        found.1.first,
+        found.1.fit,
+        λ data_steady hash_steady.
+            let stands = area-stands (shape_of s) c.shape-shape.ensures.valid s.salt data_image in
+            let n : c.area_blocks.result ≡ area_blocks (shape_of s) = c.area_blocks.ensures.value ∙ ap area_blocks c.shape-shape.ensures.value in
+            let size : length c.deref_mut.result.now ≡ s.hash_block = c.deref_mut.ensures.len ∙ c.in_ok-block.ensures.len ∙ c.hash_block.ensures.value ∙ ap (λ t. t.hash_block) c.shape-shape.ensures.value in
+            let tree = c.in_ok-area.ensures.tree data_steady in
+            let bytes : c.deref.result.now ≡ concat (area_over (shape_of s) s.salt data_image) =
+            c.deref.ensures.value ∙ tree.0 ∙ ap (λ t. concat (area_over t c.salt.result data_image)) c.shape-shape.ensures.value ∙ ap (λ salt. concat (area_over (shape_of s) salt data_image)) c.salt.ensures in
+            let at : IsFirstOther hash_image s.hash_block (area_blocks (shape_of s)) (concat (area_over (shape_of s) s.salt data_image)) None =
+            other-same _ hash_image _ s.hash_block _ (area_blocks (shape_of s)) _ (concat (area_over (shape_of s) s.salt data_image)) None
+            (c.fitting_superblock.ensures.read.image hash_steady) size n bytes
+            (rw c.in_default.is at (c.in_ok-found.ensures.found (steady-then c.fitting_superblock.ensures.read.same hash_steady))) in
+            let same : AreaStands s data_image hash_image = area-same hash_image s.hash_block (area_blocks (shape_of s)) (area_over (shape_of s) s.salt data_image) stands.sized stands.total at in
+            let expected : c.in_ok-area.expected ≡ root_over (shape_of s) s.salt data_image =
+            tree.1 ∙ ap (λ t. root_over t c.salt.result data_image) c.shape-shape.ensures.value ∙ ap (λ salt. root_over (shape_of s) salt data_image) c.salt.ensures in
+            subst (λ (t : SuperRecord). AreaStands t data_image hash_image × (root_over (shape_of t) t.salt data_image ≡ c.args.root.now)) found.1.value
+            (same, sym expected ∙ (bytes_eq-Decides c.in_ok-area.expected c.args.root.now).0 (sym c.is_same.ensures ∙ c.if-not-is_same.false)),
+      ),
+    )

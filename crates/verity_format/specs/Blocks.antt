@@ -1,0 +1,24 @@
+-- Blocks of a device, and what calls of read or of write alone do to one.
+use Rattle.std.specs.Prelude.{◌≡◌, ℕ, ◌*◌, ◌/◌, IsTrue, List, map, drop}
+use Rattle.std.specs.List.{concat, range_with_len}
+use Rattle.block_device.specs.Device.{Device, IsSameDevice, run_of}
+
+-- block i of that size: its sectors joined
+unfoldable pub block_at : List (List ℕ) → ℕ → ℕ → List ℕ
+block_at image size i = concat (run_of image (i * (size / 512)) (size / 512))
+
+-- n blocks of that size, from block first on
+abbrev pub blocks_at : List (List ℕ) → ℕ → ℕ → ℕ → List (List ℕ)
+blocks_at image size first n = map (block_at image size) (range_with_len first n)
+
+-- calls of read alone: nothing was written
+pub record IsOnlyRead (old new : Device) : Type 0 where
+  pub same : IsSameDevice old new
+  pub writes : new.writes ≡ old.writes
+  pub image : IsTrue old.steady → new.image ≡ old.image
+
+-- calls of write alone, each within the first n sectors
+pub record IsOnlyWritten (old : Device) (n : ℕ) (new : Device) : Type 0 where
+  pub same : IsSameDevice old new
+  pub reads : new.reads ≡ old.reads
+  pub after : IsTrue old.steady → drop n new.image ≡ drop n old.image

@@ -1,0 +1,31 @@
+-- The chain of a data block as it stands on two devices.
+use Rattle.std.specs.Prelude.{◌⊎◌, ℕ, zero, suc, ◌+◌, List, [], ◌∷◌}
+use Rattle.block_device.specs.Device.{Device, HasFailed}
+use Rattle.hash_tree.specs.Shape.{ShapeRecord, levels, position, ancestor}
+use Rattle.hash_tree.specs.Chain.{ChainRecord}
+use Rattle.verity_format.specs.declared.chains.ChainFault.{ChainFault}
+use Rattle.verity_format.specs.declared.chains.ChainFault.TheVariants.{Device as DeviceFailed, NoMemory}
+use Rattle.verity_format.specs.Blocks.{block_at}
+
+-- the hash blocks above data block i as they stand, of the n levels from n - 1 down
+abbrev pub stored_path : ShapeRecord → List (List ℕ) → ℕ → ℕ → List (List ℕ)
+stored_path shape image zero i = []
+stored_path shape image (suc l) i = block_at image shape.hash_block (position shape l (ancestor shape (l + 1) i)) ∷ stored_path shape image l i
+
+-- data block i and the hash blocks on the way to it as they stand
+unfoldable pub stored_chain : ShapeRecord → List (List ℕ) → List (List ℕ) → ℕ → ChainRecord
+stored_chain shape data_image hash_image i = record {
+  index = i;
+  content = block_at data_image shape.data_block i;
+  path = stored_path shape hash_image (levels shape) i;
+}
+
+-- one of the two devices failed in the call; of memory nothing can be said
+abbrev pub IsChainCause : Device → Device → Device → Device → ChainFault → Type 0
+IsChainCause data_dev hash_dev data_dev' hash_dev' DeviceFailed = HasFailed data_dev data_dev' ⊎ HasFailed hash_dev hash_dev'
+IsChainCause data_dev hash_dev data_dev' hash_dev' NoMemory = Unit {0}
+
+-- the device failed in the call; of memory nothing can be said
+abbrev pub IsBlockCause : Device → Device → ChainFault → Type 0
+IsBlockCause old new DeviceFailed = HasFailed old new
+IsBlockCause old new NoMemory = Unit {0}

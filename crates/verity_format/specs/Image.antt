@@ -1,0 +1,41 @@
+-- The tree over a data image, and the hash image that holds it.
+use Rattle.std.specs.Prelude.{ℕ, ◌+◌, ◌-◌, List, ◌++◌, map, replicate}
+use Rattle.std.specs.List.{concat}
+use Rattle.block_device.specs.Device.{spliced, sectors_of as cut_into}
+use Rattle.hash_tree.specs.Digests.{digest}
+use Rattle.hash_tree.specs.Shape.{ShapeRecord, sectors_of, area_blocks, area_end}
+use Rattle.hash_tree.specs.Tree.{area, root}
+use Rattle.verity_format.specs.Superblock.{SuperRecord, shape_of, spelling}
+use Rattle.verity_format.specs.Blocks.{blocks_at}
+
+-- the digests of the data blocks
+abbrev pub digests_of : ShapeRecord → List ℕ → List (List ℕ) → List (List ℕ)
+digests_of shape salt image = map (digest salt) (blocks_at image shape.data_block 0 shape.blocks)
+
+-- the hash blocks of the tree over a data image, and its root digest
+abbrev pub area_over : ShapeRecord → List ℕ → List (List ℕ) → List (List ℕ)
+area_over shape salt image = area shape.hash_block salt (digests_of shape salt image)
+
+abbrev pub root_over : ShapeRecord → List ℕ → List (List ℕ) → List ℕ
+root_over shape salt image = root shape.hash_block salt (digests_of shape salt image)
+
+-- how many sectors the data blocks take
+abbrev pub data_sectors : ShapeRecord → ℕ
+data_sectors shape = sectors_of shape.blocks shape.data_block
+
+-- how many sectors there are up to the tree's end, or 0 where the tree has no block
+abbrev pub tree_sectors : ShapeRecord → ℕ
+tree_sectors shape = sectors_of (area_end shape) shape.hash_block
+
+-- how many sectors formatting writes: hash block 0 and the tree's
+abbrev pub image_sectors : ShapeRecord → ℕ
+image_sectors shape = sectors_of (1 + area_blocks shape) shape.hash_block
+
+-- what hash block 0 holds: the superblock, and zeros
+abbrev pub first_block : SuperRecord → List ℕ
+first_block s = spelling s ++ replicate (s.hash_block - 512) 0
+
+-- a hash image after formatting: the superblock, zeros up to hash block 1 and the area, and what else stood there
+abbrev pub formatted : SuperRecord → List (List ℕ) → List (List ℕ) → List (List ℕ)
+formatted s data_image hash_image =
+    spliced hash_image 0 (cut_into (image_sectors (shape_of s)) (first_block s ++ concat (area_over (shape_of s) s.salt data_image)))

@@ -1,0 +1,9 @@
+pub mod Superblock
+pub mod Inside
+pub mod Blocks
+pub mod Image
+pub mod Access
+pub mod Formatting
+pub mod Verifying
+pub mod Chain
+pub mod Line

@@ -1,0 +1,160 @@
+// Reading a superblock.
+ghost use Rattle.std.specs.Prelude.{◌≡◌, ◌+◌, ◌≤◌, ◌==◌, ◌↔◌, length, IfOk, IsSome, IfSome, slice_range, codes, position};
+ghost use Rattle.std.specs.Result.{result_err};
+ghost use Rattle.std.specs.Str.{bytes_eq};
+ghost use Rattle.std.specs.List.{before_first};
+ghost use Rattle.hash_tree.specs.Shape.{is_block_size};
+ghost use Rattle.verity_format.specs.Superblock.{SuperRecord, IsSuperblock, Carries, number16, number32, number64, spelling, super_fault, read_of};
+
+use crate::Superblock;
+use hash_tree::{Salt, Shape};
+use thiserror::Error;
+
+/// The first field that is wrong, in the order in which the fields are looked at.
+#[derive(Clone, Copy, Debug, PartialEq, Eq, Error)]
+pub enum SuperFault {
+    /// The first 8 bytes are not `verity` and two zero bytes.
+    #[error("Signature")]
+    Signature,
+    /// The version is not 1.
+    #[error("Version")]
+    Version,
+    /// The hash type is not 1.
+    #[error("HashType")]
+    HashType,
+    /// The algorithm, up to its first zero byte, is not `sha256`.
+    #[error("Algorithm")]
+    Algorithm,
+    /// The data block size is none of 512, 1024, 2048 and 4096.
+    #[error("DataBlockSize")]
+    DataBlockSize,
+    /// The hash block size is none of 512, 1024, 2048 and 4096.
+    #[error("HashBlockSize")]
+    HashBlockSize,
+    /// There is no data block, or the data or the tree ends beyond 2^54 sectors.
+    #[error("DataBlocks")]
+    DataBlocks,
+    /// The salt has more than 256 bytes.
+    #[error("SaltSize")]
+    SaltSize,
+}
+
+/// The superblock that the bytes carry, or the first field that is wrong.
+pub fn decode(bytes: &[u8; 512]) -> Result<Superblock, SuperFault>
+    ensures ok { IfOk result (λ s. Carries s bytes.now) }
+    ensures err { result_err result ≡ super_fault bytes.now }
+    // what carries a superblock is read as that one, and so is what `encode` wrote
+    ensures carried { (s : SuperRecord) → Carries s bytes.now → result ≡ Ok s }
+    ensures written { (s : SuperRecord) → IsSuperblock s → bytes.now ≡ spelling s → result ≡ Ok s }
+{
+    fields(bytes)
+}
+
+// The record in the fields, or the first field that is wrong.
+#[tactic(auto, unfolding(crate::specs::Superblock::super_fault, crate::specs::Superblock::read_of))]
+fn fields(bytes: &[u8; 512]) -> Result<Superblock, SuperFault>
+    ensures value { IfOk result (λ s. s ≡ read_of bytes.now) }
+    ensures err { result_err result ≡ super_fault bytes.now }
+{
+    if &bytes[..8] != b"verity\0\0".as_slice() {
+        return Err(SuperFault::Signature);
+    }
+    if number32(bytes, 8) != 1 {
+        return Err(SuperFault::Version);
+    }
+    if number32(bytes, 12) != 1 {
+        return Err(SuperFault::HashType);
+    }
+    if !is_sha256(&bytes[32..64]) {
+        return Err(SuperFault::Algorithm);
+    }
+    let data_block = number32(bytes, 64);
+    if !is_block_size(data_block) {
+        return Err(SuperFault::DataBlockSize);
+    }
+    let hash_block = number32(bytes, 68);
+    if !is_block_size(hash_block) {
+        return Err(SuperFault::HashBlockSize);
+    }
+    let Ok(shape) = Shape::new(data_block, hash_block, number64(bytes, 72), 1) else {
+        return Err(SuperFault::DataBlocks);
+    };
+    let Some(salt) = salt_of(bytes) else {
+        return Err(SuperFault::SaltSize);
+    };
+    Ok(Superblock::with_shape(uuid_of(bytes), shape, salt))
+}
+
+// The salt, unless it is too long.
+fn salt_of(bytes: &[u8; 512]) -> Option<Salt>
+    ensures found { IsSome result ↔ (number16 bytes.now 80 ≤ 256) }
+    ensures value { IfSome result (λ s. s ≡ slice_range bytes.now 88 (88 + number16 bytes.now 80)) }
+{
+    let size = number16(bytes, 80) as usize;
+    if size > 256 {
+        return None;
+    }
+    Salt::new(&bytes[88..88 + size])
+}
+
+fn uuid_of(bytes: &[u8; 512]) -> [u8; 16]
+    ensures { result ≡ slice_range bytes.now 16 32 }
+{
+    let mut uuid = [0; 16];
+    uuid.copy_from_slice(&bytes[16..32]);
+    uuid
+}
+
+fn number16(bytes: &[u8], at: usize) -> u16
+    requires { at + 2 ≤ length bytes.now }
+    ensures { result ≡ number16 bytes.now at }
+{
+    let mut number = [0; 2];
+    number.copy_from_slice(&bytes[at..at + 2]);
+    u16::from_le_bytes(number)
+}
+
+fn number32(bytes: &[u8], at: usize) -> u32
+    requires { at + 4 ≤ length bytes.now }
+    ensures { result ≡ number32 bytes.now at }
+{
+    let mut number = [0; 4];
+    number.copy_from_slice(&bytes[at..at + 4]);
+    u32::from_le_bytes(number)
+}
+
+fn number64(bytes: &[u8], at: usize) -> u64
+    requires { at + 8 ≤ length bytes.now }
+    ensures { result ≡ number64 bytes.now at }
+{
+    let mut number = [0; 8];
+    number.copy_from_slice(&bytes[at..at + 8]);
+    u64::from_le_bytes(number)
+}
+
+fn is_block_size(size: u32) -> bool
+    ensures { result ≡ is_block_size size }
+{
+    size == 512 || size == 1024 || size == 2048 || size == 4096
+}
+
+// Whether the field holds `sha256` up to its first zero byte.
+fn is_sha256(field: &[u8]) -> bool
+    ensures { result ≡ bytes_eq (before_first (λ b. b == 0) field.now) (codes "sha256") }
+{
+    before_zero(field) == b"sha256".as_slice()
+}
+
+// What stands before the first zero byte, or all where there is none.
+fn before_zero(field: &[u8]) -> &[u8]
+    ensures { result.now ≡ before_first (λ b. b == 0) field.now }
+{
+    let end = first_zero(field).unwrap_or(field.len());
+    &field[..end]
+}
+
+fn first_zero(field: &[u8]) -> Option<usize>
+    ensures { result ≡ position (λ b. b == 0) field.now }
+{
+    field.iter().position(|b| *b == 0)
+}

@@ -1,0 +1,19 @@
+//! Verity images: the superblock, making a hash image over a data image, and checking one.
+#![tactic(auto)]
+
+mod access;
+mod chains;
+mod decoding;
+mod formatting;
+mod superblock;
+mod table;
+#[cfg(test)]
+mod tests;
+mod verifying;
+
+pub use chains::{ChainFault, read_chain};
+pub use decoding::{SuperFault, decode};
+pub use formatting::{FormatFault, format, format_with};
+pub use superblock::Superblock;
+pub use table::table_line;
+pub use verifying::{Verdict, VerifyFault, read_superblock, verify};

@@ -1,0 +1,133 @@
+// The superblock, and how it is written.
+ghost use Rattle.std.specs.Prelude.{◌≡◌, ◌+◌, ◌≤◌, ◌++◌, length, take, drop, IfOk};
+ghost use Rattle.std.specs.Result.{result_err};
+ghost use Rattle.hash_tree.specs.Shape.{IsShape, first_fault};
+ghost use Rattle.verity_format.specs.Superblock.{shape_of, shape_after, IsSuperblock, Carries, spelling};
+
+use hash_tree::{Salt, Shape, ShapeFault};
+use std::marker::Model;
+
+/// What stands before the tree of a hash image: an identifier, the block sizes in bytes, the number of
+/// data blocks, and the salt. The tree begins at hash block 1.
+#[derive(Clone, Copy)]
+pub struct Superblock {
+    uuid: [u8; 16],
+    shape: Shape,
+    salt: Salt,
+}
+
+impl Model for Superblock {
+    ghost use Rattle.verity_format.specs.Superblock.{SuperRecord};
+
+    ghost Value = { SuperRecord };
+
+    ghost use Rattle.verity_format.specs.Inside.{seen, IsInside, inside_of, inside_of-seen};
+
+    ghost view = { seen };
+
+    ghost invariant = { IsInside };
+
+    ghost inverse = { inside_of };
+
+    ghost inverse_ok = { inside_of-seen };
+}
+
+impl Superblock {
+    /// The superblock of these parts, or the first fault of its tree's shape.
+    pub fn new(
+        uuid: [u8; 16],
+        data_block: u32,
+        hash_block: u32,
+        blocks: u64,
+        salt: Salt,
+    ) -> Result<Superblock, ShapeFault>
+        ensures value { IfOk result (λ s. s ≡ record { uuid = uuid; data_block = data_block; hash_block = hash_block; blocks = blocks; salt = salt }) }
+        ensures fault { result_err result ≡ first_fault (shape_after data_block hash_block blocks) }
+    {
+        let shape = Shape::new(data_block, hash_block, blocks, 1)?;
+        Ok(Superblock::with_shape(uuid, shape, salt))
+    }
+
+    // The superblock of a tree that begins at hash block 1.
+    pub(crate) fn with_shape(uuid: [u8; 16], shape: Shape, salt: Salt) -> Superblock
+        requires start { shape.start ≡ 1 }
+        requires valid { IsShape shape }
+        ensures { result ≡ record { uuid = uuid; data_block = shape.data_block; hash_block = shape.hash_block; blocks = shape.blocks; salt = salt } }
+    {
+        Superblock { uuid, shape, salt }
+    }
+
+    /// The identifier, in the order of its text.
+    pub fn uuid(&self) -> [u8; 16]
+        ensures value { result ≡ self.now.uuid }
+        ensures size { length self.now.uuid ≡ 16 }
+    {
+        self.uuid
+    }
+
+    /// The size of a data block in bytes.
+    pub fn data_block(&self) -> u32
+        ensures { result ≡ self.now.data_block }
+    {
+        self.shape.data_block()
+    }
+
+    /// The size of a hash block in bytes.
+    pub fn hash_block(&self) -> u32
+        ensures { result ≡ self.now.hash_block }
+    {
+        self.shape.hash_block()
+    }
+
+    /// How many data blocks there are.
+    pub fn blocks(&self) -> u64
+        ensures { result ≡ self.now.blocks }
+    {
+        self.shape.blocks()
+    }
+
+    /// What each block's digest begins with.
+    pub fn salt(&self) -> Salt
+        ensures { result ≡ self.now.salt }
+    {
+        self.salt
+    }
+
+    /// The shape of the tree, which begins at hash block 1.
+    pub fn shape(&self) -> Shape
+        ensures value { result ≡ shape_of self.now }
+        ensures valid { IsShape (shape_of self.now) }
+    {
+        self.shape
+    }
+
+    /// The 512 bytes at the beginning of a hash image. Every byte that no field uses is zero.
+    pub fn encode(&self) -> [u8; 512]
+        ensures value { result ≡ spelling self.now }
+        ensures carried { Carries self.now result }
+    {
+        let shape = self.shape();
+        let salt = self.salt();
+        let salt = salt.bytes();
+        let mut bytes = [0; 512];
+        put(&mut bytes, 0, b"verity\0\0");
+        put(&mut bytes, 8, &1u32.to_le_bytes());
+        put(&mut bytes, 12, &1u32.to_le_bytes());
+        put(&mut bytes, 16, &self.uuid());
+        put(&mut bytes, 32, b"sha256");
+        put(&mut bytes, 64, &shape.data_block().to_le_bytes());
+        put(&mut bytes, 68, &shape.hash_block().to_le_bytes());
+        put(&mut bytes, 72, &shape.blocks().to_le_bytes());
+        put(&mut bytes, 80, &(salt.len() as u16).to_le_bytes());
+        put(&mut bytes, 88, salt);
+        bytes
+    }
+}
+
+// Writes the part at that place.
+pub(crate) fn put(bytes: &mut [u8], at: usize, part: &[u8])
+    requires { at + length part.now ≤ length bytes.old }
+    ensures { bytes.new ≡ take at bytes.old ++ part.now ++ drop (at + length part.now) bytes.old }
+{
+    bytes[at..at + part.len()].copy_from_slice(part);
+}

@@ -1,0 +1,180 @@
+// Comparing a hash image with a data image.
+ghost use Rattle.std.specs.Prelude.{◌≡◌, ℕ, List, ◌+◌, ◌*◌, ◌/◌, ◌^◌, ◌<◌, ◌≤◌, IsTrue, OnOk, OnErr, IfOk, IfErr, IfSome, length};
+ghost use Rattle.std.specs.Str.{bytes_eq};
+ghost use Rattle.block_device.specs.Device.{HasFailed};
+ghost use Rattle.hash_tree.specs.Shape.{is_block_size};
+ghost use Rattle.verity_format.specs.Blocks.{IsOnlyRead};
+ghost use Rattle.verity_format.specs.Verifying.{IsVerifyCause, IsFound, IsReadFrom, IsReadCause, IsFoundSuper, IsSuperCause, IsFirstOther};
+
+use crate::access::{TreeFault, data_sectors, read_block, tree_over, tree_sectors};
+use crate::{SuperFault, Superblock, decode};
+use block_device::{BlockDev, DeviceFault};
+use std::alloc::{AllocError, Global};
+use thiserror::Error;
+
+/// What was found.
+#[derive(Clone, Copy, Debug, PartialEq, Eq)]
+pub enum Verdict {
+    /// The tree over the data stands on the hash device, and its root is the one given.
+    Matches,
+    /// The tree stands there, and its root is another one.
+    RootDiffers,
+    /// The least hash block that differs, counted from the beginning of the hash device.
+    AreaDiffers(u64),
+}
+
+/// Why the devices were not compared.
+#[derive(Clone, Copy, Debug, PartialEq, Eq, Error)]
+pub enum VerifyFault {
+    /// The hash device does not begin with a superblock.
+    #[error(transparent)]
+    Super(SuperFault),
+    /// There is no sector for the superblock, or the data or the tree goes past its device.
+    #[error("TooSmall")]
+    TooSmall,
+    /// One of the two devices failed in the call.
+    #[error("Device")]
+    Device,
+    /// A growth was refused.
+    #[error("NoMemory")]
+    NoMemory,
+}
+
+impl From<DeviceFault> for VerifyFault {
+    ghost use Rattle.verity_format.specs.declared.verifying.VerifyFault.TheVariants.{Device as DeviceFailed};
+
+    ghost from_gives = { λ _ e. e ≡ DeviceFailed };
+
+    fn from(_fault: DeviceFault) -> VerifyFault {
+        VerifyFault::Device
+    }
+}
+
+impl From<AllocError> for VerifyFault {
+    ghost use Rattle.verity_format.specs.declared.verifying.VerifyFault.TheVariants.{NoMemory};
+
+    ghost from_gives = { λ _ e. e ≡ NoMemory };
+
+    fn from(_error: AllocError) -> VerifyFault {
+        VerifyFault::NoMemory
+    }
+}
+
+impl From<SuperFault> for VerifyFault {
+    ghost use Rattle.verity_format.specs.declared.verifying.VerifyFault.TheVariants.{Super};
+
+    ghost from_gives = { λ f e. e ≡ Super f };
+
+    fn from(fault: SuperFault) -> VerifyFault {
+        VerifyFault::Super(fault)
+    }
+}
+
+impl From<TreeFault> for VerifyFault {
+    ghost use Rattle.verity_format.specs.Verifying.{verify_fault_of};
+
+    ghost from_gives = { λ f e. e ≡ verify_fault_of f };
+
+    fn from(fault: TreeFault) -> VerifyFault {
+        match fault {
+            TreeFault::Device => VerifyFault::Device,
+            TreeFault::NoMemory => VerifyFault::NoMemory,
+        }
+    }
+}
+
+/// Compares the tree over the data device with the one on the hash device, and its root with the one given.
+///
+/// Both devices are read once, block by block. What stands between the superblock and hash block 1 is
+/// not compared.
+pub fn verify<D: BlockDev, H: BlockDev>(
+    alloc: Global,
+    data_dev: &mut D,
+    hash_dev: &mut H,
+    root: &[u8; 32],
+) -> Result<Verdict, VerifyFault>
+    ensures data { IsOnlyRead (D.state data_dev.old) (D.state data_dev.new) }
+    ensures hash { IsOnlyRead (H.state hash_dev.old) (H.state hash_dev.new) }
+    ensures ok { IfOk result (IsFound (D.state data_dev.old) (H.state hash_dev.old) root.now) }
+    ensures err { IfErr result (IsVerifyCause (D.state data_dev.old) (H.state hash_dev.old) (D.state data_dev.new) (H.state hash_dev.new)) }
+{
+    let superblock = fitting_superblock(data_dev, hash_dev)?;
+    let shape = superblock.shape();
+    let (area, expected) = tree_over(alloc, data_dev, &shape, &superblock.salt())?;
+    let mut block = vec![in alloc; 0u8; shape.hash_block() as usize]?;
+    if let Some(found) = first_difference(hash_dev, &mut block, &area, shape.area_blocks())? {
+        return Ok(Verdict::AreaDiffers(1 + found));
+    }
+    if !is_same(&expected, root) {
+        return Ok(Verdict::RootDiffers);
+    }
+    Ok(Verdict::Matches)
+}
+
+fn is_same(a: &[u8], b: &[u8]) -> bool
+    ensures { result ≡ bytes_eq a.now b.now }
+{
+    a == b
+}
+
+/// The superblock at the beginning of the hash device. It is refused as `verify` refuses it: the first wrong
+/// field, or `TooSmall` where there is no sector.
+pub fn read_superblock<H: BlockDev>(hash_dev: &mut H) -> Result<Superblock, VerifyFault>
+    ensures read { IsOnlyRead (H.state hash_dev.old) (H.state hash_dev.new) }
+    ensures found { IfOk result (λ s. (sector : List ℕ) × IsReadFrom (H.state hash_dev.old) sector s) }
+    ensures counted { OnOk result ((H.state hash_dev.new).failures ≡ (H.state hash_dev.old).failures) }
+    ensures err { IfErr result (IsReadCause (H.state hash_dev.old) (H.state hash_dev.new)) }
+{
+    if hash_dev.sectors() == 0 {
+        return Err(VerifyFault::TooSmall);
+    }
+    let mut sector = [0u8; 512];
+    read_block(hash_dev, 0, &mut sector)?;
+    Ok(decode(&sector)?)
+}
+
+// The superblock, where the data and the tree that it speaks of fit the devices.
+fn fitting_superblock<D: BlockDev, H: BlockDev>(
+    data_dev: &D,
+    hash_dev: &mut H,
+) -> Result<Superblock, VerifyFault>
+    ensures read { IsOnlyRead (H.state hash_dev.old) (H.state hash_dev.new) }
+    ensures found { IfOk result (IsFoundSuper (D.state data_dev.now) (H.state hash_dev.old)) }
+    ensures counted { OnOk result ((H.state hash_dev.new).failures ≡ (H.state hash_dev.old).failures) }
+    ensures err { IfErr result (IsSuperCause (D.state data_dev.now) (H.state hash_dev.old) (H.state hash_dev.new)) }
+{
+    let superblock = read_superblock(hash_dev)?;
+    let shape = superblock.shape();
+    if data_dev.sectors() < data_sectors(&shape) || hash_dev.sectors() < tree_sectors(&shape) {
+        return Err(VerifyFault::TooSmall);
+    }
+    Ok(superblock)
+}
+
+// The first of the blocks in a row that differs from its hash block, of which the first is block 1.
+fn first_difference<H: BlockDev>(
+    hash_dev: &mut H,
+    block: &mut [u8],
+    area: &[u8],
+    blocks: u64,
+) -> Result<Option<u64>, DeviceFault>
+    requires size { IsTrue (is_block_size (length block.old)) }
+    requires whole { length area.now ≡ blocks * length block.old }
+    requires inside { 0 < blocks → blocks * (length block.old / 512) + length block.old / 512 ≤ (H.state hash_dev.old).size }
+    requires few { blocks * (length block.old / 512) ≤ 2 ^ 54 }
+    ensures read { IsOnlyRead (H.state hash_dev.old) (H.state hash_dev.new) }
+    ensures found { IfOk result (λ o. IsTrue (H.state hash_dev.old).steady → IsFirstOther (H.state hash_dev.old).image (length block.old) blocks area.now o) }
+    ensures bound { IfOk result (λ o. IfSome o (λ k. k < blocks)) }
+    ensures counted { OnOk result ((H.state hash_dev.new).failures ≡ (H.state hash_dev.old).failures) }
+    ensures fault { OnErr result (HasFailed (H.state hash_dev.old) (H.state hash_dev.new)) }
+{
+    let size = block.len();
+    for i in 0..blocks {
+        read_block(hash_dev, 1 + i, block)?;
+        let at = i as usize * size;
+        if &block[..] != &area[at..at + size] {
+            return Ok(Some(i));
+        }
+    }
+    Ok(None)
+}
