@@ -36,6 +36,19 @@ pub enum OpenFault {
     NoMemory = 5,
 }
 
+impl From<ErrorKind> for OpenFault {
+    ghost from_gives = { λ kind fault. fault ≡ fault_of kind };
+
+    fn from(kind: ErrorKind) -> OpenFault {
+        match kind {
+            ErrorKind::NotFound => OpenFault::NotFound,
+            ErrorKind::PermissionDenied | ErrorKind::ReadOnlyFilesystem => OpenFault::NotAllowed,
+            ErrorKind::OutOfMemory => OpenFault::NoMemory,
+            _ => OpenFault::OtherFault,
+        }
+    }
+}
+
 /// A regular file as sectors, of which a trailing part of a sector isn't seen.
 ///
 /// Reads and writes are positioned: no call moves a position that another one uses. Short ones are continued
@@ -66,28 +79,16 @@ impl FileDev {
         match fs::metadata(rt, path) {
             Ok(metadata) if metadata.is_file() => {}
             Ok(_) => return Err(OpenFault::OtherFault),
-            Err(e) => return Err(fault_of(e.kind())),
+            Err(e) => return Err(OpenFault::from(e.kind())),
         }
         let file = match OpenOptions::new().read(true).write(writable).open(rt, path) {
             Ok(file) => file,
-            Err(e) => return Err(fault_of(e.kind())),
+            Err(e) => return Err(OpenFault::from(e.kind())),
         };
         match file.metadata() {
             Ok(metadata) => device_of(file, &metadata, writable),
-            Err(e) => Err(fault_of(e.kind())),
+            Err(e) => Err(OpenFault::from(e.kind())),
         }
-    }
-}
-
-// Why a file isn't opened, by what the system says.
-fn fault_of(kind: ErrorKind) -> OpenFault
-    ensures { result ≡ fault_of kind }
-{
-    match kind {
-        ErrorKind::NotFound => OpenFault::NotFound,
-        ErrorKind::PermissionDenied | ErrorKind::ReadOnlyFilesystem => OpenFault::NotAllowed,
-        ErrorKind::OutOfMemory => OpenFault::NoMemory,
-        _ => OpenFault::OtherFault,
     }
 }
 

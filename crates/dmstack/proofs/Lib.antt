@@ -6,3 +6,7 @@ pub mod CommandLemmas
 pub mod RequestLemmas
 pub mod Corollaries
 pub mod WholeLemmas
+pub mod BindingLemmas
+pub mod LoadingLemmas
+pub mod WordLemmas
+pub mod EndingLemmas

@@ -1,5 +1,9 @@
+pub mod Bindings
 pub mod Commands
+pub mod Endings
+pub mod Loading
 pub mod Session
 pub mod Stacks
 pub mod Texts
 pub mod Told
+pub mod Words

@@ -1,82 +1,73 @@
-// The devices that a command line binds to names.
-ghost use Rattle.std.specs.Prelude.{◌≡◌, map, OnOk};
-ghost use Rattle.stack_engine.specs.Leaves.{ServeLeaves};
+// The names that a command line binds to devices.
+ghost use Rattle.std.specs.Prelude.{◌≡◌, option_map};
+ghost use Rattle.dmstack.specs.Bindings.{backed_by, backing_meant, backing_of, binding_meant, binding_of, sectors_at};
 
-use block_device::{AnyDev, BlockDev, MemoryDev};
 use dm_table::number;
-use stack_loader::Leaf;
-use std::alloc::{AllocError, Global};
 
 const MOST_SECTORS: u64 = 65536;
 
-/// What a new device holds.
+/// What stands behind a name: a file, or new sectors in memory.
 #[derive(Clone, Copy, Debug, PartialEq, Eq)]
-enum Filling {
-    Zeros,
-    Ramp,
+pub enum Backing<'a> {
+    File { path: &'a str, writable: bool },
+    Zeros(u32),
+    Ramp(u32),
 }
 
 /// A name and the device that it stands for.
 #[derive(Clone, Copy, Debug, PartialEq, Eq)]
 pub struct Binding<'a> {
-    name: &'a str,
-    filling: Filling,
-    sectors: u32,
+    pub name: &'a str,
+    pub backing: Backing<'a>,
 }
 
-/// `NAME=zero:N` or `NAME=ramp:N`, cut at the first `=`, with N from 1 to 65,536 sectors.
-pub fn binding_of(word: &str) -> Option<Binding<'_>> {
-    let (name, device) = word.split_once('=')?;
-    let (kind, count) = device.split_once(':')?;
-    let filling = match kind {
-        "zero" => Filling::Zeros,
-        "ramp" => Filling::Ramp,
-        _ => return None,
-    };
-    let sectors = number(count.as_bytes())?;
+/// `NAME=rw:FILE`, `NAME=ro:FILE`, `NAME=zero:N` or `NAME=ramp:N`, cut at the first `=`.
+pub fn binding_of(word: &str) -> Option<Binding<'_>>
+    ensures { option_map binding_meant result ≡ binding_of word.now }
+{
+    let (name, text) = word.split_once('=')?;
+    let backing = backing_of(text)?;
+    Some(Binding { name, backing })
+}
+
+// `rw:FILE`, `ro:FILE`, `zero:N` or `ramp:N`
+fn backing_of(text: &str) -> Option<Backing<'_>>
+    ensures { option_map backing_meant result ≡ backing_of text.now }
+{
+    let (kind, rest) = text.split_once(':')?;
+    backed_by(kind.as_bytes(), rest)
+}
+
+// What stands behind the colon, by the kind that stands before it.
+fn backed_by<'a>(kind: &[u8], rest: &'a str) -> Option<Backing<'a>>
+    ensures { option_map backing_meant result ≡ backed_by kind.now rest.now }
+{
+    if kind == b"rw".as_slice() {
+        Some(Backing::File {
+            path: rest,
+            writable: true,
+        })
+    } else if kind == b"ro".as_slice() {
+        Some(Backing::File {
+            path: rest,
+            writable: false,
+        })
+    } else if kind == b"zero".as_slice() {
+        Some(Backing::Zeros(sectors_at(rest)?))
+    } else if kind == b"ramp".as_slice() {
+        Some(Backing::Ramp(sectors_at(rest)?))
+    } else {
+        None
+    }
+}
+
+// From 1 to 65,536 sectors.
+fn sectors_at(word: &str) -> Option<u32>
+    ensures { result ≡ sectors_at word.now }
+{
+    let sectors = number(word.as_bytes())?;
     if sectors < 1 || sectors > MOST_SECTORS {
         return None;
     }
-    Some(Binding {
-        name,
-        filling,
-        sectors: sectors as u32,
-    })
-}
-
-/// Leaves, and their devices in the same order.
-#[derive(Drop)]
-pub struct Bound {
-    pub leaves: Vec<Leaf>,
-    pub devices: Vec<AnyDev>,
-}
-
-impl Bound {
-    pub fn new(alloc: Global) -> Bound
-        ensures { ServeLeaves result.leaves.items (map ⟦<AnyDev as BlockDev>⟧.state result.devices.items) }
-    {
-        Bound {
-            leaves: Vec::new(alloc),
-            devices: Vec::new(alloc),
-        }
-    }
-
-    /// Adds the device of a binding.
-    pub fn bind(&mut self, alloc: Global, binding: Binding<'_>) -> Result<(), AllocError>
-        requires { ServeLeaves self.old.leaves.items (map ⟦<AnyDev as BlockDev>⟧.state self.old.devices.items) }
-        ensures { OnOk result (ServeLeaves self.new.leaves.items (map ⟦<AnyDev as BlockDev>⟧.state self.new.devices.items)) }
-    {
-        let device = AnyDev::Memory(match binding.filling {
-            Filling::Zeros => MemoryDev::zeros(alloc, binding.sectors, true)?,
-            Filling::Ramp => MemoryDev::ramp(alloc, binding.sectors, true)?,
-        });
-        let leaf = Leaf {
-            name: Vec::from_slice(alloc, binding.name.as_bytes())?,
-            sectors: device.sectors(),
-            writable: device.writable(),
-        };
-        self.leaves.push(leaf)?;
-        self.devices.push(device)?;
-        Ok(())
-    }
+    Some(sectors as u32)
 }

@@ -3,7 +3,17 @@
 
 mod bindings;
 mod command;
+mod fault;
+#[cfg(test)]
+mod file_tests;
+mod grammar;
+mod load;
+mod loading;
+mod opening;
 mod program;
+#[cfg(test)]
+mod program_tests;
+mod read;
 mod reply;
 mod request;
 mod server;
@@ -12,29 +22,36 @@ mod session;
 mod tests;
 mod told;
 mod verb;
+mod words;
 
-use crate::program::command;
+use crate::fault::CommandFault;
+use crate::program::{command, end};
 use crate::told::Told;
-use std::io::BufWriter;
+use std::io::{BufWriter, ErrorKind};
 use std::process::ExitCode;
 use std::{env, io};
 
 fn main(rt: HostRuntime) -> ExitCode {
-    let (Ok(words), Ok(buffered)) = (words_of(&rt), BufWriter::new(rt.alloc(), io::writer(&rt)))
-    else {
+    let Ok(buffered) = BufWriter::new(rt.alloc(), io::writer(&rt)) else {
         let _ = print!(rt; "no memory\n");
         return ExitCode::from(1);
     };
     let mut reader = Told::new(rt.reader());
     let mut writer = Told::new(buffered);
-    let status = command(&rt, words.as_slice(), &mut reader, &mut writer);
+    let status = match words_of(&rt) {
+        Ok(words) => command(&rt, words.as_slice(), &mut reader, &mut writer),
+        Err(error) if error.kind() == ErrorKind::OutOfMemory => {
+            end(&mut writer, CommandFault::NoMemory)
+        }
+        Err(_) => end(&mut writer, CommandFault::Usage),
+    };
     match writer.flush() {
         Ok(()) => ExitCode::from(status),
         Err(_) => ExitCode::from(1),
     }
 }
 
-// The words behind the program's name.
+// The words behind the program's name. One that is not UTF-8 is an error of another kind than memory.
 fn words_of<R: std::rt::Env + AllocGlobal>(rt: &R) -> io::Result<Vec<String>> {
     let mut words = env::args(rt)?;
     let _ = words.next();

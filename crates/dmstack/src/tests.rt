@@ -63,7 +63,6 @@ fn usage(rt: HostRuntime) -> Result<(), Fail> {
         "session D=zero:0",
         "session D=zero:+1",
         "session D=zero:65537",
-        "session D=ro:image",
         "session D=zero:1 -E=zero:1",
         "session --cache",
         "session --cache +1 D=zero:1",

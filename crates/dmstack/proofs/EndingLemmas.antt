@@ -1,0 +1,17 @@
+-- Commands that end early.
+use Rattle.std.proofs.Common.{List, ℕ, Option, refl}
+use Rattle.dmstack.specs.declared.fault.CommandFault.{CommandFault}
+use Rattle.dmstack.specs.declared.fault.CommandFault.TheVariants.{Usage, NoMemory, TooLong, Open, Leaves, Text, Load, Submit, Io, Session}
+use Rattle.dmstack.specs.Endings.{IsQuiet}
+
+pub quiet : (fault : CommandFault) (bytes : Option (List ℕ)) → IsQuiet fault bytes bytes
+quiet Usage bytes = refl
+quiet NoMemory bytes = refl
+quiet TooLong bytes = refl
+quiet (Open fault path) bytes = refl
+quiet (Leaves fault) bytes = refl
+quiet (Text fault) bytes = refl
+quiet (Load refusal) bytes = refl
+quiet (Submit fault) bytes = refl
+quiet (Io fault) bytes = refl
+quiet (Session fault) bytes = tt
