@@ -1,7 +1,7 @@
 -- Commands that end early.
-use Rattle.std.proofs.Common.{List, ℕ, Option, refl}
+use Rattle.std.proofs.Common.{◌≡◌, List, ℕ, Option, refl}
 use Rattle.dmstack.specs.declared.fault.CommandFault.{CommandFault}
-use Rattle.dmstack.specs.declared.fault.CommandFault.TheVariants.{Usage, NoMemory, TooLong, Open, Leaves, Text, Load, Submit, Io, Session}
+use Rattle.dmstack.specs.declared.fault.CommandFault.TheVariants.{Usage, NoMemory, TooLong, Open, Leaves, Text, Load, Submit, Io, Format, Verify, Differs, Random, Session}
 use Rattle.dmstack.specs.Endings.{IsQuiet}
 
 pub quiet : (fault : CommandFault) (bytes : Option (List ℕ)) → IsQuiet fault bytes bytes
@@ -14,4 +14,8 @@ quiet (Text fault) bytes = refl
 quiet (Load refusal) bytes = refl
 quiet (Submit fault) bytes = refl
 quiet (Io fault) bytes = refl
+quiet (Format fault) bytes = refl
+quiet (Verify fault) bytes = refl
+quiet (Differs verdict) bytes = refl
+quiet Random bytes = refl
 quiet (Session fault) bytes = tt

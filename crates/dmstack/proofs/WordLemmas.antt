@@ -1,12 +1,12 @@
 -- Bindings of words.
-use Rattle.std.proofs.Common.{◌≡◌, ◌<◌, ℕ, zero, suc, true, false, List, [], ◌∷◌, length, map, drop, get_or, refl, ap, sym, ◌∙◌, arith, Bor, Option, Some, None}
+use Rattle.std.proofs.Common.{◌≡◌, ◌<◌, ◌≤◌, ℕ, zero, suc, Bool, true, false, List, [], ◌∷◌, length, map, drop, take, get_or, refl, ap, sym, ◌∙◌, arith, Bor, Option, Some, None}
 use Rattle.std.specs.Prelude.{◌||◌}
 use Rattle.std.specs.List.{list_any}
 use Rattle.dmstack.specs.declared.fault.CommandFault.{CommandFault}
-use Rattle.dmstack.specs.declared.fault.CommandFault.TheVariants.{Usage, NoMemory, TooLong, Open, Leaves, Text, Load, Submit, Io, Session}
+use Rattle.dmstack.specs.declared.fault.CommandFault.TheVariants.{Usage, NoMemory, TooLong, Open, Leaves, Text, Load, Submit, Io, Format, Verify, Differs, Random, Session}
 use Rattle.dmstack.specs.declared.bindings.Binding.{Binding}
 use Rattle.dmstack.specs.Bindings.{Bound, binding_of, binding_meant}
-use Rattle.dmstack.specs.Words.{IsUsage, asked, asked_of, bindings_of, cache_of, cons, is_option}
+use Rattle.dmstack.specs.Words.{Asked, IsUsage, asked, asked_of, bindings_of, cache_of, cons, is_option}
 
 abbrev pub texts : List (Bor (List ℕ)) → List (List ℕ)
 texts words = map (λ word. word.now) words
@@ -79,4 +79,8 @@ usage-map (Text fault) f h = h
 usage-map (Load refusal) f h = h
 usage-map (Submit fault) f h = h
 usage-map (Io fault) f h = h
+usage-map (Format fault) f h = h
+usage-map (Verify fault) f h = h
+usage-map (Differs verdict) f h = h
+usage-map Random f h = h
 usage-map (Session fault) f h = h

@@ -9,10 +9,12 @@ use Rattle.stack_loader.specs.declared.refusal.ConfigFault.{ConfigFault}
 use Rattle.stack_loader.specs.declared.refusal.ConfigFault.TheVariants as config
 use Rattle.stack_loader.specs.declared.refusal.LoadFault.{LoadFault}
 use Rattle.stack_loader.specs.declared.refusal.LoadFault.TheVariants as load
+use Rattle.stack_engine.specs.declared.fault.IoFault.{IoFault}
 use Rattle.stack_engine.specs.declared.fault.IoFault.TheVariants as io
 use Rattle.dmstack.specs.declared.fault.CommandFault.{CommandFault}
-use Rattle.dmstack.specs.declared.fault.CommandFault.TheVariants.{Usage, NoMemory, TooLong, Open, Leaves, Text, Load, Submit, Io, Session}
+use Rattle.dmstack.specs.declared.fault.CommandFault.TheVariants.{Usage, NoMemory, TooLong, Open, Leaves, Text, Load, Submit, Io, Format, Verify, Differs, Random, Session}
 use Rattle.dmstack.specs.declared.session.SessionFault.TheVariants.{WriteFault}
+use Rattle.dmstack.specs.VerityTexts.{format_text, verify_text, verdict_text}
 use Rattle.dmstack.specs.Texts.{Kind, kind_of, kind_then, usage_text, no_memory, fault_text, refusal_text, submit_text, io_text}
 
 -- how a command ends where a text isn't read, or isn't loaded
@@ -59,13 +61,18 @@ ending_text (Text fault) = fault_text fault
 ending_text (Load refusal) = refusal_text refusal
 ending_text (Submit fault) = submit_text fault
 ending_text (Io fault) = io_text fault
+ending_text (Format fault) = format_text fault
+ending_text (Verify fault) = verify_text fault
+ending_text (Differs verdict) = verdict_text verdict
+ending_text Random = codes "refused random\n"
 ending_text (Session fault) = []
 
--- 2 for words that are no command, 3 for a fault of the stack, else 1
+-- 2 for words that are no command, 3 for a fault of the stack and for images that differ, else 1
 abbrev pub ending_status : CommandFault → ℕ
 ending_status Usage = 2
 ending_status (Io io.NoMemory) = 1
 ending_status (Io fault) = 3
+ending_status (Differs verdict) = 3
 ending_status fault = 1
 
 -- its text was printed, and its status answered

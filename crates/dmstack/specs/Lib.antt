@@ -6,4 +6,5 @@ pub mod Session
 pub mod Stacks
 pub mod Texts
 pub mod Told
+pub mod VerityTexts
 pub mod Words

@@ -3,6 +3,7 @@ ghost use Rattle.std.specs.Prelude.{true, ◌≡◌, codes, Err, OnOk, OnErr};
 ghost use Rattle.std.specs.Io.KnownBytes.{Appends};
 ghost use Rattle.dmstack.specs.declared.fault.CommandFault.TheVariants as command_fault;
 ghost use Rattle.dmstack.specs.Endings.{of_load, of_text, config_kind, config_text, ending_status, ending_text, open_kind, open_text};
+ghost use Rattle.dmstack.specs.VerityTexts.{format_text, verdict_text, verify_text};
 
 use crate::reply::{
     say_io_fault, say_no_memory, say_refusal, say_submit_fault, say_text_fault, say_usage,
@@ -17,6 +18,7 @@ use stack_engine::IoFault;
 use stack_loader::{ConfigFault, LoadFault, Refusal};
 use std::alloc::{AllocError, AllocFailed};
 use std::io::Write;
+use verity_format::{FormatFault, SuperFault, Verdict, VerifyFault};
 
 /// Why a command ends early.
 #[derive(Clone, Copy, Debug, PartialEq, Eq)]
@@ -39,6 +41,14 @@ pub enum CommandFault<'a> {
     Submit(SubmitFault),
     /// The stack answered a fault.
     Io(IoFault),
+    /// The image isn't made.
+    Format(FormatFault),
+    /// The images aren't compared, or there is no superblock.
+    Verify(VerifyFault),
+    /// The images were compared and differ.
+    Differs(Verdict),
+    /// There are no random bytes.
+    Random,
     /// The session failed, or a line can't be written.
     Session(SessionFault),
 }
@@ -114,6 +124,22 @@ impl From<IoFault> for CommandFault<'_> {
     }
 }
 
+impl From<FormatFault> for CommandFault<'_> {
+    ghost from_gives = { λ fault given. given ≡ command_fault.Format fault };
+
+    fn from(fault: FormatFault) -> Self {
+        CommandFault::Format(fault)
+    }
+}
+
+impl From<VerifyFault> for CommandFault<'_> {
+    ghost from_gives = { λ fault given. given ≡ command_fault.Verify fault };
+
+    fn from(fault: VerifyFault) -> Self {
+        CommandFault::Verify(fault)
+    }
+}
+
 impl From<SessionFault> for CommandFault<'_> {
     ghost from_gives = { λ fault given. given ≡ command_fault.Session fault };
 
@@ -130,6 +156,7 @@ pub fn status_of(fault: CommandFault<'_>) -> u8
         CommandFault::Usage => 2,
         CommandFault::Io(IoFault::NoMemory) => 1,
         CommandFault::Io(_) => 3,
+        CommandFault::Differs(_) => 3,
         _ => 1,
     }
 }
@@ -153,6 +180,10 @@ pub fn say_fault<W: Write>(
         CommandFault::Load(refusal) => say_refusal(writer, refusal),
         CommandFault::Submit(fault) => say_submit_fault(writer, fault),
         CommandFault::Io(fault) => say_io_fault(writer, fault),
+        CommandFault::Format(fault) => say_format_fault(writer, fault),
+        CommandFault::Verify(fault) => say_verify_fault(writer, fault),
+        CommandFault::Differs(verdict) => say_difference(writer, verdict),
+        CommandFault::Random => say(writer, b"refused random\n"),
         CommandFault::Session(_) => Ok(()),
     }
 }
@@ -230,5 +261,76 @@ fn say_config_fault<W: Write>(writer: &mut Told<W>, fault: ConfigFault) -> Resul
     match writer.print(format_args!("refused {number} {name}\n")) {
         Ok(()) => Ok(()),
         Err(_) => Err(SessionFault::WriteFault),
+    }
+}
+
+fn say<W: Write>(writer: &mut Told<W>, text: &[u8]) -> Result<(), SessionFault>
+    ensures ok { OnOk result (Appends (W.contents writer.old.inner) (W.contents writer.new.inner) (text.now)) }
+    ensures failed { OnErr result (writer.new.failed ≡ true) }
+    ensures kind { OnErr result (result ≡ Err SessionFault.WriteFault) }
+{
+    match writer.put(text) {
+        Ok(()) => Ok(()),
+        Err(_) => Err(SessionFault::WriteFault),
+    }
+}
+
+// `refused K NAME`, and what a hash image needs.
+fn say_format_fault<W: Write>(writer: &mut Told<W>, fault: FormatFault) -> Result<(), SessionFault>
+    ensures ok { OnOk result (Appends (W.contents writer.old.inner) (W.contents writer.new.inner) (format_text fault)) }
+    ensures failed { OnErr result (writer.new.failed ≡ true) }
+    ensures kind { OnErr result (result ≡ Err SessionFault.WriteFault) }
+{
+    match fault {
+        FormatFault::Shape => say(writer, b"refused 1 Shape\n"),
+        FormatFault::DataTooSmall => say(writer, b"refused 2 DataTooSmall\n"),
+        FormatFault::HashTooSmall { needed } => {
+            match writer.print(format_args!("refused 3 HashTooSmall needed {needed}\n")) {
+                Ok(()) => Ok(()),
+                Err(_) => Err(SessionFault::WriteFault),
+            }
+        }
+        FormatFault::HashReadOnly => say(writer, b"refused 4 HashReadOnly\n"),
+        FormatFault::Device => say(writer, b"refused 5 Device\n"),
+        FormatFault::NoMemory => say_no_memory(writer),
+    }
+}
+
+// `refused K NAME`
+fn say_verify_fault<W: Write>(writer: &mut Told<W>, fault: VerifyFault) -> Result<(), SessionFault>
+    ensures ok { OnOk result (Appends (W.contents writer.old.inner) (W.contents writer.new.inner) (verify_text fault)) }
+    ensures failed { OnErr result (writer.new.failed ≡ true) }
+    ensures kind { OnErr result (result ≡ Err SessionFault.WriteFault) }
+{
+    match fault {
+        VerifyFault::Super(SuperFault::Signature) => say(writer, b"refused 1 Signature\n"),
+        VerifyFault::Super(SuperFault::Version) => say(writer, b"refused 2 Version\n"),
+        VerifyFault::Super(SuperFault::HashType) => say(writer, b"refused 3 HashType\n"),
+        VerifyFault::Super(SuperFault::Algorithm) => say(writer, b"refused 4 Algorithm\n"),
+        VerifyFault::Super(SuperFault::DataBlockSize) => say(writer, b"refused 5 DataBlockSize\n"),
+        VerifyFault::Super(SuperFault::HashBlockSize) => say(writer, b"refused 6 HashBlockSize\n"),
+        VerifyFault::Super(SuperFault::DataBlocks) => say(writer, b"refused 7 DataBlocks\n"),
+        VerifyFault::Super(SuperFault::SaltSize) => say(writer, b"refused 8 SaltSize\n"),
+        VerifyFault::TooSmall => say(writer, b"refused 9 TooSmall\n"),
+        VerifyFault::Device => say(writer, b"refused 10 Device\n"),
+        VerifyFault::NoMemory => say_no_memory(writer),
+    }
+}
+
+// `root differs`, or `area differs at block N`
+fn say_difference<W: Write>(writer: &mut Told<W>, verdict: Verdict) -> Result<(), SessionFault>
+    ensures ok { OnOk result (Appends (W.contents writer.old.inner) (W.contents writer.new.inner) (verdict_text verdict)) }
+    ensures failed { OnErr result (writer.new.failed ≡ true) }
+    ensures kind { OnErr result (result ≡ Err SessionFault.WriteFault) }
+{
+    match verdict {
+        Verdict::Matches => say(writer, b"matches\n"),
+        Verdict::RootDiffers => say(writer, b"root differs\n"),
+        Verdict::AreaDiffers(block) => {
+            match writer.print(format_args!("area differs at block {block}\n")) {
+                Ok(()) => Ok(()),
+                Err(_) => Err(SessionFault::WriteFault),
+            }
+        }
     }
 }

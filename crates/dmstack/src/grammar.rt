@@ -10,6 +10,10 @@ pub fn grammar<'a>(alloc: Global) -> Result<Command<'a>, AllocError> {
         .disable_help_subcommand(true)
         .disable_version_flag(true)
         .subcommand_required(true)
+        .subcommand(formatting(alloc)?)?
+        .subcommand(positional(alloc, "verify")?)?
+        .subcommand(positional(alloc, "dump")?)?
+        .subcommand(positional(alloc, "table")?)?
         .subcommand(positional(alloc, "load")?)?
         .subcommand(cached(alloc, "read")?)?
         .subcommand(cached(alloc, "session")?)
@@ -26,8 +30,20 @@ fn positional<'a>(alloc: Global, name: &'a str) -> Result<Command<'a>, AllocErro
 
 // A command of positional words that may say how many blocks are cached.
 fn cached<'a>(alloc: Global, name: &'a str) -> Result<Command<'a>, AllocError> {
-    let cache = Arg::new(alloc, "cache")
-        .long("cache")
-        .action(ArgAction::Set);
-    positional(alloc, name)?.arg(cache)
+    positional(alloc, name)?.arg(option(alloc, "cache"))
+}
+
+// The command that makes an image, with the image's parts as options.
+fn formatting<'a>(alloc: Global) -> Result<Command<'a>, AllocError> {
+    positional(alloc, "format")?
+        .arg(option(alloc, "data-block"))?
+        .arg(option(alloc, "hash-block"))?
+        .arg(option(alloc, "blocks"))?
+        .arg(option(alloc, "salt"))?
+        .arg(option(alloc, "uuid"))
+}
+
+// An option that has a value.
+fn option<'a>(alloc: Global, name: &'a str) -> Arg<'a> {
+    Arg::new(alloc, name).long(name).action(ArgAction::Set)
 }

@@ -3,9 +3,12 @@
 
 mod bindings;
 mod command;
+mod draw;
+mod dump;
 mod fault;
 #[cfg(test)]
 mod file_tests;
+mod format;
 mod grammar;
 mod load;
 mod loading;
@@ -18,10 +21,15 @@ mod reply;
 mod request;
 mod server;
 mod session;
+mod superblock_text;
 #[cfg(test)]
 mod tests;
 mod told;
 mod verb;
+mod verify;
+#[cfg(test)]
+mod verity_tests;
+mod verity_words;
 mod words;
 
 use crate::fault::CommandFault;

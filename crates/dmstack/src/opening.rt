@@ -1,5 +1,6 @@
 // Opens what a command line names.
 ghost use Rattle.std.specs.Prelude.{◌≡◌, ◌≤◌, ◌^◌, ◌++◌, [], ◌∷◌, length, map, IfOk, OnOk};
+ghost use Rattle.block_device.specs.File.{opened};
 ghost use Rattle.stack_engine.specs.Leaves.{ServeLeaves};
 ghost use Rattle.dmstack.specs.Bindings.{IsDeviceOf, backing_meant, binding_meant, may_write};
 
@@ -38,6 +39,20 @@ pub fn stack_text<'a, R: Files<File = File> + AllocGlobal>(
             fault: OpenFault::OtherFault,
             path,
         }),
+    }
+}
+
+/// The file as a device.
+pub fn open_file<'a, R: Files<File = File>>(
+    rt: &R,
+    path: &'a str,
+    writable: bool,
+) -> Result<FileDev, CommandFault<'a>>
+    ensures { IfOk result (λ f. (⟦<FileDev as BlockDev>⟧.state f) ≡ opened (⟦<FileDev as BlockDev>⟧.state f).size writable) }
+{
+    match FileDev::open(rt, path, writable) {
+        Ok(file) => Ok(file),
+        Err(fault) => Err(CommandFault::Open { fault, path }),
     }
 }
 
@@ -85,10 +100,7 @@ fn open<'a, R: Files<File = File> + AllocGlobal>(
     ensures { IfOk result (λ device. IsDeviceOf (backing_meant backing.entry) (⟦<AnyDev as BlockDev>⟧.state device)) }
 {
     match backing {
-        Backing::File { path, writable } => match FileDev::open(rt, path, writable) {
-            Ok(file) => Ok(AnyDev::File(file)),
-            Err(fault) => Err(CommandFault::Open { fault, path }),
-        },
+        Backing::File { path, writable } => Ok(AnyDev::File(open_file(rt, path, writable)?)),
         Backing::Zeros(sectors) => Ok(AnyDev::Memory(MemoryDev::zeros(rt.alloc(), sectors, true)?)),
         Backing::Ramp(sectors) => Ok(AnyDev::Memory(MemoryDev::ramp(rt.alloc(), sectors, true)?)),
     }

@@ -3,27 +3,33 @@ ghost use Rattle.std.specs.Prelude.{true, false, ◌≡◌, ◌⊎◌, map};
 ghost use Rattle.stack_engine.specs.Leaves.{ServeLeaves};
 ghost use Rattle.dmstack.specs.Endings.{IsEnd};
 
+use crate::dump::{dump, table};
 use crate::fault::{CommandFault, say_fault, status_of};
+use crate::format::format;
 use crate::grammar::grammar;
 use crate::load::load;
 use crate::opening::{Bound, open_all, stack_text};
 use crate::read::read;
 use crate::server::session;
 use crate::told::Told;
-use crate::words::{Words, words_of};
+use crate::verify::verify;
+use crate::words::{Words, has_late_option, words_of};
 use block_device::{AnyDev, BlockDev};
+use clap::ArgMatches;
 use stack_loader::Config;
 use std::alloc::Global;
 use std::fs::File;
 use std::io::{Read, Write};
+use std::random::RandomSource;
 use std::rt::Files;
 
 const DONE: u8 = 0;
 
 const REFUSED: u8 = 1;
 
-/// Runs the words, and answers the status: 0 done, 1 refused, 2 usage, 3 a fault of the stack.
-pub fn command<R: Files<File = File> + AllocGlobal, S: Read, W: Write>(
+/// Runs the words, and answers the status: 0 done, 1 refused, 2 usage, 3 a fault of the stack or
+/// images that differ.
+pub fn command<R: Files<File = File> + AllocGlobal + RandomSource, S: Read, W: Write>(
     rt: &R,
     words: &[String],
     reader: &mut Told<S>,
@@ -48,8 +54,7 @@ pub fn end<W: Write>(writer: &mut Told<W>, fault: CommandFault<'_>) -> u8
     }
 }
 
-// Files are opened in the order of the words, once all words are read.
-fn run<'a, R: Files<File = File> + AllocGlobal, S: Read, W: Write>(
+fn run<'a, R: Files<File = File> + AllocGlobal + RandomSource, S: Read, W: Write>(
     rt: &R,
     words: &'a [String],
     reader: &mut Told<S>,
@@ -60,7 +65,67 @@ fn run<'a, R: Files<File = File> + AllocGlobal, S: Read, W: Write>(
 {
     let alloc = rt.alloc();
     let matches = grammar(alloc)?.try_get_matches_from(words)?;
-    match words_of(alloc, &matches)? {
+    let Some((command, found)) = matches.subcommand() else {
+        return Err(CommandFault::Usage);
+    };
+    match verity_command(command) {
+        Some(verity) => run_verity(rt, verity, found, writer),
+        None => {
+            let words = words_of(alloc, command, found)?;
+            run_stack(rt, words, reader, writer)
+        }
+    }
+}
+
+// The commands on verity images.
+#[derive(Clone, Copy)]
+enum VerityCommand {
+    Format,
+    Verify,
+    Dump,
+    Table,
+}
+
+fn verity_command(name: &str) -> Option<VerityCommand> {
+    match name {
+        "format" => Some(VerityCommand::Format),
+        "verify" => Some(VerityCommand::Verify),
+        "dump" => Some(VerityCommand::Dump),
+        "table" => Some(VerityCommand::Table),
+        _ => None,
+    }
+}
+
+fn run_verity<'a, R: Files<File = File> + AllocGlobal + RandomSource, W: Write>(
+    rt: &R,
+    command: VerityCommand,
+    found: &ArgMatches<'a>,
+    writer: &mut Told<W>,
+) -> Result<(), CommandFault<'a>> {
+    let words = found.get_strs("words").unwrap_or(&[]);
+    if has_late_option(words) {
+        return Err(CommandFault::Usage);
+    }
+    match command {
+        VerityCommand::Format => format(rt, found, words, writer),
+        VerityCommand::Verify => verify(rt, words, writer),
+        VerityCommand::Dump => dump(rt, words, writer),
+        VerityCommand::Table => table(rt, words, writer),
+    }
+}
+
+// A command on stacks. Files are opened in the order of the words, once all words are read.
+fn run_stack<'a, R: Files<File = File> + AllocGlobal, S: Read, W: Write>(
+    rt: &R,
+    words: Words<'a>,
+    reader: &mut Told<S>,
+    writer: &mut Told<W>,
+) -> Result<(), CommandFault<'a>>
+    requires reader { reader.old.failed ≡ false }
+    requires writer { writer.old.failed ≡ false }
+{
+    let alloc = rt.alloc();
+    match words {
         Words::Load { stack, bindings } => {
             let text = stack_text(rt, stack)?;
             let bound = open_all(rt, bindings.as_slice())?;

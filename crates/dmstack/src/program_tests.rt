@@ -3,12 +3,13 @@ use crate::told::Told;
 use std::fs::File;
 use std::io::Write;
 use std::process::Abort;
+use std::random::RandomSource;
 use std::rt::Files;
 use std::test::Fail;
 use std::{fs, io};
 
 // The status and the output of a list of words over an input.
-pub fn run<R: Files<File = File> + AllocGlobal>(
+pub fn run<R: Files<File = File> + AllocGlobal + RandomSource>(
     rt: &R,
     words: &[&str],
     input: &str,
@@ -28,7 +29,7 @@ pub fn run<R: Files<File = File> + AllocGlobal>(
 }
 
 // Runs a line of words, and tests its status and its output.
-pub fn expect<R: Abort + Files<File = File> + AllocGlobal>(
+pub fn expect<R: Abort + Files<File = File> + AllocGlobal + RandomSource>(
     rt: &R,
     line: &str,
     status: u8,

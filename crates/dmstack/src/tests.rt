@@ -9,11 +9,18 @@ mod texts;
 
 use crate::program::command;
 use crate::told::Told;
+use std::fs::File;
 use std::process::Abort;
+use std::random::RandomSource;
+use std::rt::Files;
 use std::test::Fail;
 
 // Runs words over an input, and gives the status and the output.
-fn run<R: AllocGlobal>(rt: &R, words: &str, input: &[u8]) -> Result<(u8, Vec<u8>), Fail> {
+fn run<R: AllocGlobal + Files<File = File> + RandomSource>(
+    rt: &R,
+    words: &str,
+    input: &[u8],
+) -> Result<(u8, Vec<u8>), Fail> {
     let mut list = Vec::new(rt.alloc());
     for word in words.split_whitespace() {
         list.push(word.to_string(rt.alloc())?)?;
@@ -25,7 +32,7 @@ fn run<R: AllocGlobal>(rt: &R, words: &str, input: &[u8]) -> Result<(u8, Vec<u8>
 }
 
 // Runs a session that ends well, and compares what it writes.
-fn expect<R: AllocGlobal + Abort>(
+fn expect<R: Abort + AllocGlobal + Files<File = File> + RandomSource>(
     rt: &R,
     words: &str,
     input: &str,
@@ -38,7 +45,7 @@ fn expect<R: AllocGlobal + Abort>(
 }
 
 // Runs a session over each line, and compares its reply.
-fn expect_each<R: AllocGlobal + Abort>(
+fn expect_each<R: Abort + AllocGlobal + Files<File = File> + RandomSource>(
     rt: &R,
     words: &str,
     rows: &[(&str, &str)],

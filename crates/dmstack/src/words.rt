@@ -44,14 +44,12 @@ pub enum Words<'a> {
     },
 }
 
-/// The command that clap found.
+/// What a command on stacks asks for, by what clap found.
 pub fn words_of<'a>(
     alloc: Global,
-    matches: &ArgMatches<'a>,
+    command: &str,
+    found: &ArgMatches<'a>,
 ) -> Result<Words<'a>, CommandFault<'a>> {
-    let Some((command, found)) = matches.subcommand() else {
-        return Err(CommandFault::Usage);
-    };
     let words = found.get_strs("words").unwrap_or(&[]);
     asked(alloc, command.as_bytes(), found.get_str("cache"), words)
 }
@@ -154,8 +152,8 @@ fn is_option(word: &str) -> bool
     bytes.len() > 1 && bytes[0] == b'-'
 }
 
-// Whether a word behind the first one has the form of an option.
-fn has_late_option(words: &[&str]) -> bool
+/// Whether a word behind the first one has the form of an option.
+pub fn has_late_option(words: &[&str]) -> bool
     ensures { result ≡ list_any (λ word. is_option word.now) (drop 1 words.now) }
 {
     words.iter().skip(1).any(|word| is_option(word))

@@ -45,7 +45,7 @@ impl<D: BlockDev> Model for Stack<D> {
 
 impl<D: BlockDev> Stack<D> {
     /// A stack of that configuration, whose leaves the devices are, in order. It fails only where memory
-    /// does, and hands both back.
+    /// does, and hands both back; today it never does.
     pub fn new(
         alloc: Global,
         config: Config,
@@ -57,6 +57,7 @@ impl<D: BlockDev> Stack<D> {
         ensures err { IfErr result (λ p. (p.0 ≡ config) × (p.1 ≡ devices)) }
         ensures sure { IsOk result }
     {
+        // What holds of every loaded configuration is learned from a call.
         let _loaded = config.count();
         Ok(Stack {
             alloc,
@@ -104,6 +105,7 @@ impl<D: BlockDev> Stack<D> {
         ensures same { OnErr result (self.new ≡ self.old) }
     {
         let outcome = self.config.load(text);
+        // As in `new`.
         let _loaded = self.config.count();
         outcome
     }

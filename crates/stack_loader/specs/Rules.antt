@@ -136,16 +136,19 @@ circles c = each_device c (λ d x. refuse StandsOnItself d 0 (stands_on_itself c
 abbrev pub table_rules : Configuration → ℕ → DeviceRecord → List (Option Refusal)
 table_rules c d x = flat_map (λ p. line_rules c x.writable d p.0 (sectors_of (take (p.0 - 1) x.table)) p.1) (enumerate_from 1 x.table)
 
--- the rules on the whole configuration, and then those on each line
+-- more devices or lines than may stand
 abbrev pub is_too_many : List DeviceRecord → Bool
 is_too_many devices = nat_lt most_devices (length devices) || list_any (λ d. nat_lt most_lines (length d.table)) devices
 
+-- the rules on the whole configuration, and then those on each line
 abbrev pub device_rules : Configuration → List (Option Refusal)
 device_rules c = refuse TooMany 0 0 (is_too_many c.devices) ∷ unknown_names c ++ circles c ++ each_device c (table_rules c)
 
+-- each device whose depth is above the limit
 abbrev pub depth_rules : Configuration → List (Option Refusal)
 depth_rules c = each_device c (λ d x. refuse TooDeep d 0 (nat_lt most_depth (depth c (mapped (d - 1)))) ∷ [])
 
+-- each device whose read cost is above the limit
 abbrev pub cost_rules : Configuration → List (Option Refusal)
 cost_rules c = each_device c (λ d x. refuse CostTooLarge d 0 (nat_lt most_cost (read_cost c (mapped (d - 1)))) ∷ [])
 

@@ -60,6 +60,7 @@ pub(crate) fn check(alloc: Global, leaves: &[Leaf], devices: &[Mapped]) -> Resul
         }));
     }
     let lowers = lowers_of(alloc, leaves, devices)?;
+    // A leaf's depth is 0, and each device adds 1.
     let depths = heights(alloc, 0, 1, lowers.as_slice())?;
     let circle = circle_refusal(alloc, lowers.as_slice(), depths.as_slice())?;
     match circle {
@@ -74,6 +75,8 @@ pub(crate) fn check(alloc: Global, leaves: &[Leaf], devices: &[Mapped]) -> Resul
         Some(refusal) => return Err(LoadFault::Refused(refusal)),
         None => {}
     }
+    // A sector of a leaf costs 1, and these targets add nothing. What they write costs as much as what they read;
+    // the two are kept apart, since other targets differ.
     let read_costs = heights(alloc, 1, 0, lowers.as_slice())?;
     match first_above(read_costs.as_slice(), MOST_COST, LoadKind::CostTooLarge) {
         Some(refusal) => return Err(LoadFault::Refused(refusal)),

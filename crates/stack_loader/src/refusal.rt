@@ -20,7 +20,7 @@ pub enum ConfigFault {
     /// A leaf has more than 2^54 sectors.
     #[error("TooLarge")]
     TooLarge = 4,
-    /// Memory ran out.
+    /// Memory ran out. No call answers it today.
     #[error("NoMemory")]
     NoMemory = 5,
 }
@@ -58,7 +58,7 @@ pub enum LoadKind {
     /// A line of a writable device names a read-only leaf or device.
     #[error("LowerReadOnly")]
     LowerReadOnly = 13,
-    /// A device stands on more than 8 levels of devices.
+    /// A device's depth is above 8: it is 1 more than that of the deepest that it names, and a leaf's is 0.
     #[error("TooDeep")]
     TooDeep = 14,
     /// Reading a sector could move more than 2^32 leaf sectors.
@@ -78,9 +78,13 @@ pub struct Refusal {
 }
 
 /// Why a text isn't loaded.
-#[derive(Clone, Copy, Debug, PartialEq, Eq)]
+#[derive(Clone, Copy, Debug, PartialEq, Eq, Error)]
 pub enum LoadFault {
+    /// A rule refuses the configuration to come.
+    #[error("a rule refuses the load")]
     Refused(Refusal),
+    /// Memory ran out.
+    #[error("NoMemory")]
     NoMemory,
 }
 
