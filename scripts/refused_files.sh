@@ -1,0 +1,49 @@
+#!/usr/bin/env bash
+# What tests can't show: files that may not be read or written, words that are no text, and a standard error that stays
+# empty. Where it runs as root, the program runs as nobody, since root may open every file.
+set -eu
+top=$(dirname "$(dirname "$(readlink -f "$0")")")
+[ -x "$top/crates/dmstack/out/dmstack" ] || "$top/dmstack" session < /dev/null
+room=$(mktemp -d)
+trap 'rm -rf "$room"' EXIT
+cp "$top/crates/dmstack/out/dmstack" "$room"
+cd "$room"
+chmod 755 . dmstack
+as=()
+[ "$(id -u)" != 0 ] || as=(setpriv --reuid 65534 --regid 65534 --clear-groups)
+truncate -s 1024 readable locked
+printf 'a,,,ro,0 1 linear D 0\n' > stack
+cp stack locked_stack
+chmod 444 readable stack
+chmod 000 locked locked_stack
+passed=0 failed=0
+
+# expect STATUS OUTPUT WORD..
+expect() {
+    local status=$1 output=$2 got=0
+    shift 2
+    "${as[@]}" ./dmstack "$@" > out 2> errors < /dev/null || got=$?
+    if [ "$got $(cat out errors)" = "$status $output" ]; then
+        passed=$((passed + 1))
+    else
+        failed=$((failed + 1))
+        printf '%s: status %s, %s\n' "$*" "$got" "$(cat out errors)"
+    fi
+}
+
+root=$(printf '%064d' 0)
+expect 0 '0 all 00' read stack a 0 1 D=ro:readable
+expect 1 'refused 2 NotAllowed locked' read stack a 0 1 D=ro:locked
+expect 1 'refused 2 NotAllowed readable' read stack a 0 1 D=rw:readable
+expect 1 'refused 2 NotAllowed locked_stack' load locked_stack D=ro:readable
+expect 1 'refused 2 NotAllowed locked' session D=ro:locked
+expect 1 'refused 2 NotAllowed locked' format locked readable
+expect 1 'refused 2 NotAllowed readable' format readable readable
+expect 1 'refused 2 NotAllowed locked' verify readable locked "$root"
+expect 1 'refused 2 NotAllowed locked' dump locked
+expect 2 usage $'\xff'
+expect 2 usage session $'D=ro:\xfe'
+expect 2 usage
+expect 2 usage help
+echo "refused files: $passed passed, $failed failed"
+[ $failed = 0 ]
