@@ -232,6 +232,13 @@ fn adds_without_wrapping(rt: HostRuntime) -> Result<(), Fail> {
         )?,
         refused(LoadKind::BeyondDevice, 1, 1)
     );
+    Ok(())
+}
+
+#[test]
+fn divides_stripes(rt: HostRuntime) -> Result<(), Fail> {
+    let alloc = rt.alloc();
+    let mut config = over(alloc, b"D", 1)?;
     assert_eq!(rt;
         load(
             alloc,

@@ -1,6 +1,7 @@
 // Texts with two faults: the first in the order of the rules, the devices and the lines is answered.
-use super::{leaf, load, refused};
+use super::{leaf, load, over, refused};
 use crate::config::Config;
+use crate::heights::first_above;
 use crate::refusal::LoadKind;
 use std::alloc::Global;
 use std::test::Fail;
@@ -46,12 +47,6 @@ fn answers_the_first_rule(rt: HostRuntime) -> Result<(), Fail> {
             3,
             0,
         ),
-        (
-            "a,,,rw,0 32 linear /dev/mapper/a 0",
-            LoadKind::StandsOnItself,
-            2,
-            0,
-        ),
     ] {
         assert_eq!(rt;
             load(alloc, &mut config, text.as_bytes())?,
@@ -59,6 +54,18 @@ fn answers_the_first_rule(rt: HostRuntime) -> Result<(), Fail> {
             "{text}"
         );
     }
+    Ok(())
+}
+
+#[test]
+fn a_circle_goes_before_a_range(rt: HostRuntime) -> Result<(), Fail> {
+    let alloc = rt.alloc();
+    let mut config = stacked(alloc)?;
+    let text = b"a,,,rw,0 32 linear /dev/mapper/a 0";
+    assert_eq!(rt;
+        load(alloc, &mut config, text)?,
+        refused(LoadKind::StandsOnItself, 2, 0)
+    );
     Ok(())
 }
 
@@ -195,8 +202,30 @@ fn adds_around_the_greatest_size(rt: HostRuntime) -> Result<(), Fail> {
             "{lines}"
         );
     }
+    Ok(())
+}
+
+#[test]
+fn takes_the_greatest_size(rt: HostRuntime) -> Result<(), Fail> {
+    let alloc = rt.alloc();
+    let mut config = over(alloc, b"D", 1 << 54)?;
     let text =
         b"a,,,rw,0 18014398509481983 linear D 0,18014398509481983 1 linear D 18014398509481983";
     assert_eq!(rt; load(alloc, &mut config, text)?, None);
+    Ok(())
+}
+
+// Today's targets cost at most 1, so no text reaches this rule.
+#[test]
+fn the_first_cost_above_the_limit(rt: HostRuntime) -> Result<(), Fail> {
+    let costs = [1, 1 << 32, (1 << 32) + 1, (1 << 32) + 2];
+    assert_eq!(rt;
+        first_above(&costs, 1 << 32, LoadKind::CostTooLarge),
+        refused(LoadKind::CostTooLarge, 3, 0)
+    );
+    assert_eq!(rt;
+        first_above(&costs[..2], 1 << 32, LoadKind::CostTooLarge),
+        None
+    );
     Ok(())
 }
