@@ -63,4 +63,4 @@ bindings=(A=ro:first B=ro:second)
     echo 'load s,,,ro,0 131072 striped 2 128 A 0 B 0;top,,,ro,0 131072 linear /dev/mapper/s 0'
     for i in $(seq 0 63); do echo "read top $((i * 2048)) 2048"; done
 } > input
-compare 'an image of 64 MiB through linear over striped, beside od' od -An -v -tx1 -w512 both
+compare 'an image of 64 MiB through linear over striped, beside xxd' xxd -p -c 512 both

@@ -6,6 +6,8 @@
 # each must verify the other's, `dump` must tell the same fields, and `table` the line that a kernel takes.
 set -eu
 step=${1:-7}
+PATH=$PATH:/usr/sbin
+command -v veritysetup > /dev/null || { echo 'veritysetup is not installed'; exit 1; }
 top=$(dirname "$(dirname "$(readlink -f "$0")")")
 "$top/dmstack" session < /dev/null
 program=$top/crates/dmstack/out/dmstack

@@ -39,6 +39,7 @@ for folder in "$top"/scripts/memory/*; do
         fi
         grep -qxF -- "$got" "$folder/allowed" || { echo "$folder: refusal $number: $got"; wrong=1; }
     done
+    [ "$number" -gt 1 ] || { echo "$folder: no allocation was refused"; wrong=1; }
     echo "$(basename "$folder"): $((number - 1)) refusals"
     if [ $wrong = 0 ]; then passed=$((passed + 1)); else failed=$((failed + 1)); fi
 done
