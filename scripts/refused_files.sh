@@ -1,6 +1,6 @@
 #!/usr/bin/env bash
-# What tests can't show: files that may not be read or written, words that are no text, and a standard error that stays
-# empty. Where it runs as root, the program runs as nobody, since root may open every file.
+# What tests can't show: files that may not be read or written, words that are no text, a system without randomness, and a
+# standard error that stays empty. Where it runs as root, the program runs as nobody, since root may open every file.
 set -eu
 top=$(dirname "$(dirname "$(readlink -f "$0")")")
 [ -x "$top/crates/dmstack/out/dmstack" ] || "$top/dmstack" session < /dev/null
@@ -45,5 +45,18 @@ expect 2 usage $'\xff'
 expect 2 usage session $'D=ro:\xfe'
 expect 2 usage
 expect 2 usage help
+
+# Without randomness: only what has to be drawn is refused, and only once the files are open.
+printf '#include <errno.h>\n#include <stddef.h>\nlong getrandom(void *p, size_t n, unsigned f) { errno = ENOSYS; return -1; }\n' > random.c
+cc -shared -fPIC -o random.so random.c
+truncate -s 512 image
+chmod 666 image
+chmod 644 random.so
+export LD_PRELOAD=$room/random.so
+expect 1 'refused random' format --data-block 512 --hash-block 512 readable image
+expect 1 'refused random' format --data-block 512 --hash-block 512 --salt=- readable image
+expect 1 'refused 1 NotFound gone' format readable gone
+expect 1 'refused 3 HashTooSmall needed 2' format --data-block 512 --hash-block 512 --salt=- --uuid 6c0b2c0e-5a0d-4b5c-9a44-1d1f6a3b2c7e readable image
+unset LD_PRELOAD
 echo "refused files: $passed passed, $failed failed"
 [ $failed = 0 ]
