@@ -47,7 +47,7 @@ expect 2 usage
 expect 2 usage help
 
 # Without randomness: only what has to be drawn is refused, and only once the files are open.
-printf '#include <errno.h>\n#include <stddef.h>\nlong getrandom(void *p, size_t n, unsigned f) { errno = ENOSYS; return -1; }\n' > random.c
+printf '#include <errno.h>\n#include <stddef.h>\nint getentropy(void *p, size_t n) { errno = ENOSYS; return -1; }\n' > random.c
 cc -shared -fPIC -o random.so random.c
 truncate -s 512 image
 chmod 666 image
