@@ -3,4 +3,3 @@ pub mod Failing
 pub mod File
 pub mod Script
 pub mod Whole
-pub mod Sectors

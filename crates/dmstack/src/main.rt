@@ -1,40 +1,8 @@
-//! Device-mapper stacks: loads them and serves their sectors over lines of text.
+//! The program: hands the command line, standard input and standard output to `stack_commands`.
 #![tactic(auto)]
 
-mod bindings;
-mod command;
-mod draw;
-mod dump;
-mod fault;
-#[cfg(test)]
-mod file_tests;
-mod format;
-mod grammar;
-mod load;
-mod loading;
-mod opening;
-mod program;
-#[cfg(test)]
-mod program_tests;
-mod read;
-mod reply;
-mod request;
-mod server;
-mod session;
-mod superblock_text;
-#[cfg(test)]
-mod tests;
-mod told;
-mod verb;
-mod verify;
-#[cfg(test)]
-mod verity_tests;
-mod verity_words;
-mod words;
-
-use crate::fault::CommandFault;
-use crate::program::{command, end};
-use crate::told::Told;
+use stack_commands::{CommandFault, command, end};
+use stack_session::Counted;
 use std::io::{BufWriter, ErrorKind};
 use std::process::ExitCode;
 use std::{env, io};
@@ -44,8 +12,8 @@ fn main(rt: HostRuntime) -> ExitCode {
         let _ = print!(rt; "no memory\n");
         return ExitCode::from(1);
     };
-    let mut reader = Told::new(rt.reader());
-    let mut writer = Told::new(buffered);
+    let mut reader = Counted::new(rt.reader());
+    let mut writer = Counted::new(buffered);
     let status = match words_of(&rt) {
         Ok(words) => command(&rt, words.as_slice(), &mut reader, &mut writer),
         Err(error) if error.kind() == ErrorKind::OutOfMemory => {

@@ -9,9 +9,9 @@ use Rattle.std.specs.List.{concat}
 use Rattle.hash_tree.specs.Digests.{digest}
 use Rattle.hash_tree.specs.Shape.{ShapeRecord, per_block, is_block_size}
 use Rattle.hash_tree.specs.Tree.{cut, pack, digests_above, area, root}
-use Rattle.hash_tree.specs.ShapeFaults.{block_size-wide}
-use Rattle.hash_tree.specs.PackingLemmas.{AllOf, length-concat, length-cut, cut-room, concat-cut, cut-concat, cut-sized}
-use Rattle.hash_tree.specs.TreeLemmas.{length-pack, length-above, area-up, root-up}
+use Rattle.hash_tree.proofs.lemmas.ShapeFaultLemmas.{block_size-wide}
+use Rattle.hash_tree.proofs.lemmas.PackingLemmas.{AllOf, length-concat, length-cut, cut-room, concat-cut, cut-concat, cut-sized}
+use Rattle.hash_tree.proofs.lemmas.TreeLemmas.{length-pack, length-above, area-up, root-up}
 
 module _ (size : ℕ) (valid : IsTrue (is_block_size size)) (salt : List ℕ) (ds : List (List ℕ)) (all : AllOf 32 ds) (more : 1 < length ds) where
   shape : ShapeRecord

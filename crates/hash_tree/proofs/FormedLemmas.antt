@@ -9,12 +9,12 @@ use Rattle.hash_tree.specs.Shape.{ShapeRecord, IsShape, per_block, levels, level
 use Rattle.hash_tree.specs.Tree.{root, level}
 use Rattle.hash_tree.specs.Chain.{HangsFrom, IsGood, path_to, formed}
 use Rattle.hash_tree.specs.Laws.{AreBlocks}
-use Rattle.hash_tree.specs.ShapeLemmas.{over, pow_pos}
-use Rattle.hash_tree.specs.ShapeFaults.{per_block-wide}
-use Rattle.hash_tree.specs.ShapeFacts.{quotient-le, two as two_of, over-same, ancestor-none, ancestor-more, ancestor-lt}
-use Rattle.hash_tree.specs.PackingLemmas.{AllOf}
-use Rattle.hash_tree.specs.TreeLemmas.{length-digest, digest_in-pack}
-use Rattle.hash_tree.specs.TreeFacts.{length-level, level-sized, packed_in, level-packed, packed_in-sized, length-packed_in, root-top, top-none}
+use Rattle.hash_tree.proofs.lemmas.ShapeLemmas.{over, pow_pos}
+use Rattle.hash_tree.proofs.lemmas.ShapeFaultLemmas.{per_block-wide}
+use Rattle.hash_tree.proofs.lemmas.ShapeFactLemmas.{quotient-le, two as two_of, over-same, ancestor-none, ancestor-more, ancestor-lt}
+use Rattle.hash_tree.proofs.lemmas.PackingLemmas.{AllOf}
+use Rattle.hash_tree.proofs.lemmas.TreeLemmas.{length-digest, digest_in-pack}
+use Rattle.hash_tree.proofs.lemmas.TreeFactLemmas.{length-level, level-sized, packed_in, level-packed, packed_in-sized, length-packed_in, root-top, top-none}
 
 length-path_to : (s : ShapeRecord) (salt : List ℕ) (ds : List (List ℕ)) (n i : ℕ) → length (path_to s salt ds n i) ≡ n
 length-path_to s salt ds zero i = refl

@@ -1,3 +1,4 @@
+pub mod lemmas
 pub mod Blocks
 pub mod ChainLemmas
 pub mod BuildLemmas

@@ -5,10 +5,3 @@ pub mod Tree
 pub mod Chain
 pub mod Difference
 pub mod Laws
-pub mod ShapeLemmas
-pub mod ShapeFaults
-pub mod ShapeFacts
-pub mod PackingLemmas
-pub mod TreeLemmas
-pub mod TreeFacts
-pub mod LawLemmas

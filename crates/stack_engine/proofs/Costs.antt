@@ -13,9 +13,9 @@ use Rattle.stack_loader.specs.Records.{Configuration}
 use Rattle.stack_loader.specs.Names.{mapped, named, names, lines_of}
 use Rattle.stack_loader.specs.Descend.{descend, most_devices, greatest, depth, known, by_name, line_read_cost, cost_rule, read_cost}
 use Rattle.stack_loader.specs.Lines.{IsLine}
-use Rattle.stack_loader.specs.Unroll.{AllOf, all_and, IsLocal, descend-rule, falls-at}
+use Rattle.stack_loader.proofs.lemmas.UnrollLemmas.{AllOf, all_and, IsLocal, descend-rule, falls-at}
 use Rattle.stack_loader.specs.Rules.{IsValid, most_depth}
-use Rattle.stack_loader.specs.Valid.{depth-low}
+use Rattle.stack_loader.proofs.lemmas.ValidLemmas.{depth-low}
 use Rattle.stack_engine.specs.Meaning.{beneath}
 use Rattle.stack_engine.proofs.SectorLaws.{front, back}
 use Rattle.stack_engine.proofs.Loaded.{at_place, of_beneath}

@@ -1,3 +1,4 @@
+pub mod lemmas
 pub mod SectorLaws
 pub mod LineLaws
 pub mod EntryLaws

@@ -15,9 +15,9 @@ use Rattle.stack_loader.specs.Records.{Configuration, DeviceRecord, LeafRecord}
 use Rattle.stack_loader.specs.Names.{mapped, named, names, lines_of, sectors_of, size}
 use Rattle.stack_loader.specs.Descend.{depth}
 use Rattle.stack_loader.specs.Lines.{IsLine}
-use Rattle.stack_loader.specs.Unroll.{falls-at}
-use Rattle.stack_loader.specs.Valid.{depth-low}
-use Rattle.stack_loader.specs.ValidLines.{sound, size-low}
+use Rattle.stack_loader.proofs.lemmas.UnrollLemmas.{falls-at}
+use Rattle.stack_loader.proofs.lemmas.ValidLemmas.{depth-low}
+use Rattle.stack_loader.proofs.lemmas.ValidLineLemmas.{sound, size-low}
 use Rattle.stack_loader.specs.Rules.{IsValid, IsLoaded, is_undivided, is_beyond, most_sectors, most_depth}
 use Rattle.stack_engine.specs.Meaning.{beneath}
 

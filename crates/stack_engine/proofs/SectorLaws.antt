@@ -14,9 +14,9 @@ use Rattle.stack_loader.specs.Records.{Configuration}
 use Rattle.stack_loader.specs.Names.{mapped, named, names, lines_of}
 use Rattle.stack_loader.specs.Descend.{descend, most_devices, depth, by_name, known}
 use Rattle.stack_loader.specs.Lines.{line_at}
-use Rattle.stack_loader.specs.Unroll.{AllOf, all_none, all_and, IsLocal, descend-rule, falls-at}
+use Rattle.stack_loader.proofs.lemmas.UnrollLemmas.{AllOf, all_none, all_and, IsLocal, descend-rule, falls-at}
 use Rattle.stack_loader.specs.Rules.{IsValid, most_depth}
-use Rattle.stack_loader.specs.Valid.{depth-low}
+use Rattle.stack_loader.proofs.lemmas.ValidLemmas.{depth-low}
 use Rattle.stack_engine.specs.Sectors.{OnLine, on_found, sector_rule, by_sector}
 use Rattle.stack_engine.specs.Meaning.{Fault, error_target, Images, beneath, asked, line_sector, leaf_sector, sector}
 use Rattle.stack_engine.proofs.LineLaws.{found-more}

@@ -22,10 +22,10 @@ use Rattle.stack_engine.specs.Sources.{IsServed, source_sector, SourceMay, sourc
 use Rattle.stack_engine.proofs.SectorLaws.{sector-line, May-line, entries-line, Meets-line}
 use Rattle.stack_engine.proofs.Costs.{cost-falls}
 use Rattle.stack_engine.proofs.Loaded.{depth-falls}
-use Rattle.stack_engine.specs.LeafLaws.{AreRead-none, AreRead-more}
-use Rattle.stack_engine.specs.FoundLaws.{May-mono, Grown-none}
-use Rattle.stack_engine.specs.Spans.{span_zeros, span_fails}
-use Rattle.stack_engine.specs.Runs.{run_ok, run_err, run_as}
+use Rattle.stack_engine.proofs.lemmas.LeafListLemmas.{AreRead-none, AreRead-more}
+use Rattle.stack_engine.proofs.lemmas.FoundLemmas.{May-mono, Grown-none}
+use Rattle.stack_engine.proofs.lemmas.SpanLemmas.{span_zeros, span_fails}
+use Rattle.stack_engine.proofs.lemmas.RunLemmas.{run_ok, run_err, run_as}
 
 -- ---- a line whose sector lies on a lower device passes it on
 

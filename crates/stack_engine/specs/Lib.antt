@@ -6,8 +6,3 @@ pub mod Leaves
 pub mod Reading
 pub mod Sources
 pub mod Stacks
-pub mod LeafLaws
-pub mod FoundLaws
-pub mod Spans
-pub mod Runs
-pub mod Pieces

@@ -13,7 +13,7 @@ use Rattle.dm_table.specs.StackText.{IsStackOfGrammar, IsEntryOfGrammar}
 use Rattle.stack_loader.specs.declared.refusal.LoadKind.TheVariants.{DuplicateName}
 use Rattle.stack_loader.specs.Records.{Configuration, DeviceRecord}
 use Rattle.stack_loader.specs.Names.{device_named}
-use Rattle.stack_loader.specs.ValidLines.{apart}
+use Rattle.stack_loader.proofs.lemmas.ValidLineLemmas.{apart}
 use Rattle.stack_loader.specs.Rules.{first, duplicate_names, replaced, created, after_load, IsLoaded, IsValid, rules}
 use Rattle.stack_loader.proofs.LeavesSound.{none-all, over_map, change}
 use Rattle.stack_loader.proofs.Earlier.{bytes_eq-sym}

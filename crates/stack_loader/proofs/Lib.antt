@@ -1,3 +1,4 @@
+pub mod lemmas
 pub mod Lists
 pub mod Kept
 pub mod LineOf

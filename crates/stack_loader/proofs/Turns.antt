@@ -15,11 +15,11 @@ use Rattle.stack_loader.specs.Names.{mapped, lowers}
 use Rattle.stack_loader.specs.Descend.{greatest, most_devices, depth}
 use Rattle.stack_loader.specs.Heights.{value_of, greatest_of, round, marks}
 use Rattle.stack_loader.specs.Kept.{AreLowers, each_mapped}
-use Rattle.stack_loader.specs.Unroll.{Falls, falls-at}
+use Rattle.stack_loader.proofs.lemmas.UnrollLemmas.{Falls, falls-at}
 use Rattle.stack_loader.specs.Rules.{first, refuse, circles, stands_on_itself, leads, is_mapped}
 use Rattle.stack_loader.proofs.Beneath.{IsInside, round-mapped, constant}
-use Rattle.stack_loader.specs.Valid.{depth-leaf, depth-past, past_end}
-use Rattle.stack_loader.specs.ValidLines.{or-false}
+use Rattle.stack_loader.proofs.lemmas.ValidLemmas.{depth-leaf, depth-past, past_end}
+use Rattle.stack_loader.proofs.lemmas.ValidLineLemmas.{or-false}
 use Rattle.stack_loader.proofs.Lists.{slice_get-read}
 use Rattle.stack_loader.proofs.Kept.{length-lowers}
 use Rattle.stack_loader.proofs.Rounds.{map-low, greatest_of-low}

@@ -10,8 +10,3 @@ pub mod Heights
 pub mod Places
 pub mod Index
 pub mod Facts
-pub mod Unroll
-pub mod Valid
-pub mod ValidLines
-pub mod ValidLowers
-pub mod ValidCosts

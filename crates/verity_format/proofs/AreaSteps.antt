@@ -10,9 +10,9 @@ use Rattle.hash_tree.specs.Shape.{ShapeRecord, IsShape, area_blocks}
 use Rattle.hash_tree.specs.Tree.{area}
 use Rattle.hash_tree.specs.Difference.{FirstDiffer}
 use Rattle.hash_tree.specs.Laws.{StandsInShape}
-use Rattle.hash_tree.specs.PackingLemmas.{AllOf, piece-concat, length-concat}
-use Rattle.hash_tree.specs.TreeLemmas.{length-digest}
-use Rattle.hash_tree.specs.LawLemmas.{stands-in_shape}
+use Rattle.hash_tree.proofs.lemmas.PackingLemmas.{AllOf, piece-concat, length-concat}
+use Rattle.hash_tree.proofs.lemmas.TreeLemmas.{length-digest}
+use Rattle.hash_tree.proofs.lemmas.LawLemmas.{stands-in_shape}
 use Rattle.verity_format.specs.Blocks.{block_at, blocks_at}
 use Rattle.verity_format.specs.Image.{digests_of}
 use Rattle.verity_format.specs.Verifying.{IsSameBlock, IsFirstOther}

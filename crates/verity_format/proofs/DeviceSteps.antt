@@ -4,7 +4,7 @@ use Rattle.std.proofs.Math.Seq.{drop-append-add}
 use Rattle.std.proofs.lemmas.List.{drop-drop, take_at, length-append, append-nil}
 use Rattle.block_device.specs.Device.{Device, IsSameDevice, IsRead, IsWritten, HasFailed, spliced, sectors_of}
 use Rattle.block_device.specs.Whole.{length-sectors_of}
-use Rattle.block_device.specs.Sectors.{sectors_of-append}
+use Rattle.block_device.proofs.lemmas.SectorLemmas.{sectors_of-append}
 use Rattle.verity_format.specs.Blocks.{IsOnlyRead, IsOnlyWritten}
 
 same-none : (d : Device) → IsSameDevice d d

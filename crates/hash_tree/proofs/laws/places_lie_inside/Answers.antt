@@ -1,4 +1,4 @@
-use Rattle.hash_tree.specs.LawLemmas.{places-inside}
+use Rattle.hash_tree.proofs.lemmas.LawLemmas.{places-inside}
 use Rattle.hash_tree.proofs.laws.places_lie_inside.Goals as goal
 
 pub returns : goal.returns

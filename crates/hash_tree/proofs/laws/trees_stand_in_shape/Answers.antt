@@ -1,4 +1,4 @@
-use Rattle.hash_tree.specs.LawLemmas.{stands-in_shape}
+use Rattle.hash_tree.proofs.lemmas.LawLemmas.{stands-in_shape}
 use Rattle.hash_tree.proofs.laws.trees_stand_in_shape.Goals as goal
 
 pub returns : goal.returns

@@ -4,7 +4,7 @@ use Rattle.std.proofs.lemmas.List.Elements.{All-from_get_or}
 use Rattle.std.proofs.lemmas.Result.{on_ok_weaker, IfOk-weaker}
 use Rattle.std.specs.List.{concat}
 use Rattle.hash_tree.specs.Tree.{area, root, digests_above}
-use Rattle.hash_tree.specs.PackingLemmas.{AllOf}
+use Rattle.hash_tree.proofs.lemmas.PackingLemmas.{AllOf}
 use Rattle.hash_tree.proofs.BuildLemmas.{area-single, root-single, level-fits, part-room, next-is, above-is, above-le, area-written, root-same, fewer-above, front-written}
 use Rattle.hash_tree.proofs.packing.+build.Goals as goal
 

@@ -3,9 +3,9 @@ use Rattle.std.proofs.Math.Nat.{mul_comm}
 use Rattle.std.proofs.lemmas.List.Elements.{All-from_get_or}
 use Rattle.hash_tree.specs.Shape.{area_blocks}
 use Rattle.hash_tree.specs.Tree.{area}
-use Rattle.hash_tree.specs.ShapeFacts.{area_bytes}
-use Rattle.hash_tree.specs.PackingLemmas.{AllOf}
-use Rattle.hash_tree.specs.TreeFacts.{length-area_of}
+use Rattle.hash_tree.proofs.lemmas.ShapeFactLemmas.{area_bytes}
+use Rattle.hash_tree.proofs.lemmas.PackingLemmas.{AllOf}
+use Rattle.hash_tree.proofs.lemmas.TreeFactLemmas.{length-area_of}
 use Rattle.hash_tree.proofs.packing.area.Goals as goal
 
 pub overflow_mul-size : goal.overflow_mul-size

@@ -3,7 +3,7 @@ use Rattle.std.proofs.Math.Nat.{mul_comm}
 use Rattle.std.proofs.lemmas.List.{map_more, take_all}
 use Rattle.hash_tree.specs.Digests.{digest}
 use Rattle.hash_tree.specs.Tree.{cut}
-use Rattle.hash_tree.specs.PackingLemmas.{length-cut, get_or-cut_whole, div_ceil-exact}
+use Rattle.hash_tree.proofs.lemmas.PackingLemmas.{length-cut, get_or-cut_whole, div_ceil-exact}
 use Rattle.hash_tree.proofs.packing.digests_of.Goals as goal
 
 pub loop-i-preserved : goal.loop-i-preserved

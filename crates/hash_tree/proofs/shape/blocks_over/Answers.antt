@@ -1,6 +1,6 @@
 use Rattle.std.proofs.Common.{◌≡◌, ◌≤◌, ◌*◌, ◌/◌, ◌-◌, refl, sym, ap, ◌∙◌, arith}
 use Rattle.hash_tree.specs.Shape.{ShapeRecord, per_block, area_blocks}
-use Rattle.hash_tree.specs.ShapeLemmas.{area_blocks-step, area_blocks-end, thrice, over}
+use Rattle.hash_tree.proofs.lemmas.ShapeLemmas.{area_blocks-step, area_blocks-end, thrice, over}
 use Rattle.hash_tree.proofs.shape.blocks_over.Goals as goal
 
 pub loop-count-preserved : goal.loop-count-preserved

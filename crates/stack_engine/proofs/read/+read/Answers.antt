@@ -9,7 +9,7 @@ use Rattle.stack_engine.specs.declared.fault.IoFault.TheVariants.{ErrorTarget}
 use Rattle.stack_engine.specs.declared.source.Source.{Source}
 use Rattle.stack_engine.specs.declared.source.Source.TheVariants.{Below}
 use Rattle.stack_engine.specs.Sources.{SourceHolds, ReadsSource}
-use Rattle.stack_engine.specs.LeafLaws.{leaves_kept}
+use Rattle.stack_engine.proofs.lemmas.LeafListLemmas.{leaves_kept}
 use Rattle.stack_engine.proofs.Loaded.{size-small}
 use Rattle.stack_engine.proofs.Steps.{served-depth, served-holds, below_of, zeros_of, fails_of, device_ok, device_err, same_reads}
 use Rattle.stack_engine.proofs.read.+read.Goals as goal

@@ -8,14 +8,14 @@ use Rattle.stack_engine.specs.Meaning.{sector, zero_sector}
 use Rattle.stack_engine.specs.Found.{FoundRecord, AllKept}
 use Rattle.stack_engine.specs.May.{May, entries_at, Meets}
 use Rattle.stack_engine.specs.Reading.{Fills, Reads}
-use Rattle.stack_engine.specs.FoundLaws.{Grown-none, kept-later}
+use Rattle.stack_engine.proofs.lemmas.FoundLemmas.{Grown-none, kept-later}
 use Rattle.stack_engine.specs.Leaves.{LeafFailed}
 use Rattle.stack_engine.proofs.LeafLemmas.{leaf-size, leaves-few, AreRead-device, image_at, steady_at, LeafFailed-device}
-use Rattle.stack_engine.specs.LeafLaws.{AreRead-more}
-use Rattle.stack_engine.specs.Spans.{span_image}
+use Rattle.stack_engine.proofs.lemmas.LeafListLemmas.{AreRead-more}
+use Rattle.stack_engine.proofs.lemmas.SpanLemmas.{span_image}
 use Rattle.stack_engine.proofs.SectorLaws.{sector-leaf, May-leaf}
 use Rattle.stack_engine.proofs.Costs.{cost-leaf}
-use Rattle.stack_engine.specs.Runs.{leaf-run}
+use Rattle.stack_engine.proofs.lemmas.RunLemmas.{leaf-run}
 use Rattle.stack_engine.proofs.read.read_leaf.Goals as goal
 
 pub read-requires : goal.read-requires

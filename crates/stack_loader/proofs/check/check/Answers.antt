@@ -10,7 +10,7 @@ use Rattle.stack_loader.specs.Heights.{rounds}
 use Rattle.stack_loader.specs.Kept.{AreLowers}
 use Rattle.stack_loader.specs.Passing.{above}
 use Rattle.stack_loader.specs.Rules.{first, rules, unknown_names, most_depth, most_cost}
-use Rattle.stack_loader.specs.ValidLines.{or-false}
+use Rattle.stack_loader.proofs.lemmas.ValidLineLemmas.{or-false}
 use Rattle.stack_loader.proofs.Beneath.{depths-rounds, read_costs-rounds, write_costs-rounds}
 use Rattle.stack_loader.proofs.Passed.{IsFirst-passed, passed-IsFirst}
 use Rattle.stack_loader.proofs.Stages.{Known, unknown-first, circles-first, lines-first, depths-first, costs-first, none-first, depths-above, costs-above, length-values}

@@ -1,7 +1,7 @@
 use Rattle.std.proofs.Common.{ℕ, ◌%◌, ◌∙◌}
 use Rattle.std.proofs.lemmas.List.FromFn.{length-map-range_with_len}
 use Rattle.block_device.specs.Device.{filled, ramp_image}
-use Rattle.block_device.specs.Sectors.{in_memory-concat, each-ramp}
+use Rattle.block_device.proofs.lemmas.SectorLemmas.{in_memory-concat, each-ramp}
 use Rattle.block_device.proofs.memory.MemoryDev.ramp.Goals as goal
 
 pub returns : goal.returns

@@ -2,7 +2,7 @@ use Rattle.std.proofs.Common.{◌∙◌, sym, ap}
 use Rattle.std.proofs.lemmas.List.{length-replicate}
 use Rattle.block_device.specs.Device.{filled, zeros_image}
 use Rattle.block_device.specs.Whole.{each-replicate}
-use Rattle.block_device.specs.Sectors.{in_memory-concat, concat-zeros}
+use Rattle.block_device.proofs.lemmas.SectorLemmas.{in_memory-concat, concat-zeros}
 use Rattle.block_device.proofs.memory.MemoryDev.zeros.Goals as goal
 
 pub returns : goal.returns

@@ -1,7 +1,7 @@
 use Rattle.std.proofs.Common.{◌≡◌, ℕ, ◌+◌, ◌-◌, ◌*◌, ◌/◌, ◌%◌, ◌≤◌, length, take, drop, refl, sym, ap, ◌∙◌, arith}
 use Rattle.block_device.specs.Device.{sectors_of}
 use Rattle.block_device.specs.Whole.{length-sectors_of}
-use Rattle.block_device.specs.Sectors.{after_put, take-spliced, drop-spliced}
+use Rattle.block_device.proofs.lemmas.SectorLemmas.{after_put, take-spliced, drop-spliced}
 use Rattle.block_device.proofs.memory.MemoryDevBlockDev.write.Goals as goal
 
 pub returns-clause-moved : goal.returns-clause-moved

@@ -1,5 +1,5 @@
 use Rattle.std.proofs.Common.{sym}
-use Rattle.hash_tree.specs.ShapeFacts.{ancestor-none, ancestor-more}
+use Rattle.hash_tree.proofs.lemmas.ShapeFactLemmas.{ancestor-none, ancestor-more}
 use Rattle.hash_tree.proofs.shape.Shape.ancestor.Goals as goal
 
 pub loop-init : goal.loop-init

@@ -1,5 +1,5 @@
 use Rattle.std.proofs.Common.{◌∙◌}
-use Rattle.hash_tree.specs.ShapeLemmas.{area_blocks-fields}
+use Rattle.hash_tree.proofs.lemmas.ShapeLemmas.{area_blocks-fields}
 use Rattle.hash_tree.proofs.shape.Shape.area_blocks.Goals as goal
 
 pub returns-clause-value : goal.returns-clause-value

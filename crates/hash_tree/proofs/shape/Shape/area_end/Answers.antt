@@ -1,7 +1,7 @@
 use Rattle.std.proofs.Common.{◌≡◌, ◌<◌, ◌+◌, sym, ◌∙◌, arith}
 use Rattle.hash_tree.specs.Shape.{area_blocks, area_end}
-use Rattle.hash_tree.specs.ShapeFacts.{area_end-is, area_end-none}
-use Rattle.hash_tree.specs.ShapeFaults.{area_end-le}
+use Rattle.hash_tree.proofs.lemmas.ShapeFactLemmas.{area_end-is, area_end-none}
+use Rattle.hash_tree.proofs.lemmas.ShapeFaultLemmas.{area_end-le}
 use Rattle.hash_tree.proofs.shape.Shape.area_end.Goals as goal
 
 sum : (c : goal.Else-blocks-eq0) → c.start-start.result + c.area_blocks-blocks.result ≡ area_end c.args.self.now

@@ -1,6 +1,6 @@
 use Rattle.std.proofs.Common.{◌≡◌, ◌/◌, ◌+◌, sym, arith}
 use Rattle.hash_tree.specs.Shape.{ancestor}
-use Rattle.hash_tree.specs.ShapeFacts.{ancestor-more, ancestor-lt}
+use Rattle.hash_tree.proofs.lemmas.ShapeFactLemmas.{ancestor-more, ancestor-lt}
 use Rattle.hash_tree.proofs.shape.Shape.block_on_path.Goals as goal
 
 number : (c : goal.After-per_block) → c.ancestor.result / c.per_block.result ≡ ancestor c.args.self.now (c.args.level + 1) c.args.index

@@ -1,7 +1,7 @@
 use Rattle.std.proofs.Common.{◌+◌, ◌-◌, sym, arith}
 use Rattle.hash_tree.specs.Shape.{ancestor}
-use Rattle.hash_tree.specs.ShapeFacts.{levels-few, level_blocks-is, ancestor-le}
-use Rattle.hash_tree.specs.ShapeFaults.{blocks-le}
+use Rattle.hash_tree.proofs.lemmas.ShapeFactLemmas.{levels-few, level_blocks-is, ancestor-le}
+use Rattle.hash_tree.proofs.lemmas.ShapeFaultLemmas.{blocks-le}
 use Rattle.hash_tree.proofs.shape.Shape.level_blocks.Goals as goal
 
 pub overflow_add-level : goal.overflow_add-level

@@ -1,7 +1,7 @@
 use Rattle.std.proofs.Common.{◌≡◌, ◌≤◌, ◌/◌, ◌+◌, ◌-◌, suc, sym, ◌∙◌, arith, zero-add}
 use Rattle.hash_tree.specs.Shape.{per_block, levels, divisions}
-use Rattle.hash_tree.specs.ShapeLemmas.{divisions-steps, divisions-step}
-use Rattle.hash_tree.specs.ShapeFacts.{two, levels-is, levels-few}
+use Rattle.hash_tree.proofs.lemmas.ShapeLemmas.{divisions-steps, divisions-step}
+use Rattle.hash_tree.proofs.lemmas.ShapeFactLemmas.{two, levels-is, levels-few}
 use Rattle.hash_tree.proofs.shape.Shape.levels.Goals as goal
 
 pub loop-rest-init : goal.loop-rest-init

@@ -1,7 +1,7 @@
 use Rattle.std.proofs.Common.{◌≡◌, true, false, sym, ap, ◌∙◌, rules}
 use Rattle.hash_tree.specs.Shape.{ShapeRecord, first_fault, is_too_large, sectors_of, area_blocks, area_end, end_of}
-use Rattle.hash_tree.specs.ShapeLemmas.{area_blocks-fields}
-use Rattle.hash_tree.specs.ShapeFaults.{IsShape-from_no_fault}
+use Rattle.hash_tree.proofs.lemmas.ShapeLemmas.{area_blocks-fields}
+use Rattle.hash_tree.proofs.lemmas.ShapeFaultLemmas.{IsShape-from_no_fault}
 use Rattle.hash_tree.proofs.shape.Shape.new.Goals as goal
 
 pub returns-then-is_too_large-2-clause-fault : goal.returns-then-is_too_large-2-clause-fault

@@ -1,8 +1,8 @@
 use Rattle.std.proofs.Common.{◌≡◌, ◌<◌, ◌+◌, sym, ◌∙◌, arith}
 use Rattle.hash_tree.specs.Shape.{level_blocks, area_blocks, area_end, position}
-use Rattle.hash_tree.specs.ShapeLemmas.{over, area_blocks-fields}
-use Rattle.hash_tree.specs.ShapeFacts.{position-is, position-lt}
-use Rattle.hash_tree.specs.ShapeFaults.{area_end-le}
+use Rattle.hash_tree.proofs.lemmas.ShapeLemmas.{over, area_blocks-fields}
+use Rattle.hash_tree.proofs.lemmas.ShapeFactLemmas.{position-is, position-lt}
+use Rattle.hash_tree.proofs.lemmas.ShapeFaultLemmas.{area_end-le}
 use Rattle.hash_tree.proofs.shape.Shape.position.Goals as goal
 
 place : (c : goal.After-start-start) → c.start-start.result + c.blocks_over-above.result + c.args.index ≡ position c.args.self.now c.args.level c.args.index

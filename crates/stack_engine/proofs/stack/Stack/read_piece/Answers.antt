@@ -6,7 +6,7 @@ use Rattle.stack_engine.specs.declared.fault.IoFault.{IoFault}
 use Rattle.stack_engine.specs.Found.{FoundRecord}
 use Rattle.stack_engine.specs.Reading.{Reads}
 use Rattle.stack_engine.specs.Stacks.{StackRecord, IsSound}
-use Rattle.stack_engine.specs.Pieces.{GetsPiece, piece-sound, piece_ok, piece_err}
+use Rattle.stack_engine.proofs.lemmas.PieceLemmas.{GetsPiece, piece-sound, piece_ok, piece_err}
 use Rattle.stack_engine.proofs.stack.Stack.read_piece.Goals.{in-Err-read_device, in-Ok-read_device}
 use Rattle.stack_engine.proofs.stack.Stack.read_piece.Given as given
 use Rattle.stack_engine.proofs.stack.Stack.read_piece.Goals as goal

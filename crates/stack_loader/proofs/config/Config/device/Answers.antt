@@ -2,7 +2,7 @@ use Rattle.std.proofs.Common.{◌≡◌, ◌<◌, ◌≤◌, ℕ, List, Option, 
 use Rattle.std.proofs.lemmas.List.Quantifiers.{position-Some}
 use Rattle.std.specs.Str.{bytes_eq}
 use Rattle.stack_loader.specs.Records.{Configuration, DeviceRecord}
-use Rattle.stack_loader.specs.ValidLines.{few}
+use Rattle.stack_loader.proofs.lemmas.ValidLineLemmas.{few}
 use Rattle.stack_loader.proofs.config.Config.device.Goals as goal
 
 inside : (devices : List DeviceRecord) (name : List ℕ) (place : ℕ) → position (λ d. bytes_eq d.name name) devices ≡ Some place → place < length devices

@@ -1,6 +1,6 @@
 use Rattle.std.proofs.Common.{arith, sym, ◌∙◌, ap}
 use Rattle.stack_loader.specs.Records.{Configuration}
-use Rattle.stack_loader.specs.ValidLines.{size-low}
+use Rattle.stack_loader.proofs.lemmas.ValidLineLemmas.{size-low}
 use Rattle.stack_loader.specs.Names.{sectors_of}
 use Rattle.stack_loader.proofs.Lists.{slice_get-read}
 use Rattle.stack_loader.proofs.Kept.{lines_of-read}

@@ -1,4 +1,0 @@
-use Rattle.dmstack.proofs.read.fetch.Goals as goal
-
-pub returns-in-Err-clause-err : goal.returns-in-Err-clause-err
-returns-in-Err-clause-err c = (c.in_ok-d.d.0, rw (c.config.ensures.value, c.as_bytes.ensures.value) at c.in_ok-d.ensures.found, c.in-Err.ensures.err)

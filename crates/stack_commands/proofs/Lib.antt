@@ -1,0 +1,4 @@
+pub mod BindingLemmas
+pub mod LoadingLemmas
+pub mod WordLemmas
+pub mod EndingLemmas

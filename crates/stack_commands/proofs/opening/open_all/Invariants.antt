@@ -1,0 +1,13 @@
+use Rattle.std.proofs.Common.{◌≡◌, map, take}
+use Rattle.block_device.specs.contracts.any.AnyDevBlockDev.TheImpl.{ghosts}
+use Rattle.stack_engine.specs.Leaves.{ServeLeaves}
+use Rattle.stack_commands.specs.Bindings.{backing_meant, may_write}
+use Rattle.stack_commands.proofs.opening.open_all.Given as goal
+
+-- the leaves and devices so far are those of the bindings so far
+abbrev pub invariant-bindings : goal.invariant-bindings
+invariant-bindings g l = record {
+  served : ServeLeaves l.bound.leaves.items (map ghosts.state l.bound.devices.items);
+  names : map (λ leaf. leaf.name) l.bound.leaves.items ≡ map (λ binding. binding.name.now) (take l.binding-index l.bindings);
+  flags : map (λ device. (ghosts.state device).may_write) l.bound.devices.items ≡ map (λ binding. may_write (backing_meant binding.backing)) (take l.binding-index l.bindings);
+}

@@ -1,0 +1,91 @@
+-- What a command prints where it ends early, and its status.
+use Rattle.std.specs.Prelude.{◌≡◌, ℕ, List, [], ◌++◌, codes, Option}
+use Rattle.std.specs.Io.KnownBytes.{Appends}
+use Rattle.block_device.specs.declared.file.OpenFault.{OpenFault}
+use Rattle.block_device.specs.declared.file.OpenFault.TheVariants as opening
+use Rattle.dm_table.specs.declared.fault.ParseFault.{ParseFault}
+use Rattle.dm_table.specs.declared.fault.ParseFault.TheVariants as parse
+use Rattle.stack_loader.specs.declared.refusal.ConfigFault.{ConfigFault}
+use Rattle.stack_loader.specs.declared.refusal.ConfigFault.TheVariants as config
+use Rattle.stack_loader.specs.declared.refusal.LoadFault.{LoadFault}
+use Rattle.stack_loader.specs.declared.refusal.LoadFault.TheVariants as load
+use Rattle.stack_engine.specs.declared.fault.IoFault.{IoFault}
+use Rattle.stack_engine.specs.declared.fault.IoFault.TheVariants as io
+use Rattle.stack_commands.specs.declared.fault.CommandFault.{CommandFault}
+use Rattle.stack_commands.specs.declared.fault.CommandFault.TheVariants.{Usage, NoMemory, TooLong, Open, Leaves, Text, Load, Submit, Io, Format, Verify, Differs, Random, Session}
+use Rattle.stack_session.specs.declared.lines.SessionFault.TheVariants.{WriteFault}
+use Rattle.stack_commands.specs.VerityTexts.{format_text, verify_text, verdict_text}
+use Rattle.stack_session.specs.Texts.{Kind, kind_of, kind_then, usage_text, no_memory, fault_text, refusal_text, submit_text, io_text}
+
+-- how a command ends where a text isn't read, or isn't loaded
+abbrev pub of_text : ParseFault → CommandFault
+of_text (parse.Text fault) = Text fault
+of_text parse.NoMemory = NoMemory
+
+abbrev pub of_load : LoadFault → CommandFault
+of_load (load.Refused refusal) = Load refusal
+of_load load.NoMemory = NoMemory
+
+abbrev pub open_kind : OpenFault → Kind
+open_kind opening.NotFound = kind_of 1 (codes "NotFound")
+open_kind opening.NotAllowed = kind_of 2 (codes "NotAllowed")
+open_kind opening.TooLarge = kind_of 3 (codes "TooLarge")
+open_kind opening.OtherFault = kind_of 4 (codes "OtherFault")
+open_kind opening.NoMemory = kind_of 5 (codes "NoMemory")
+
+abbrev pub config_kind : ConfigFault → Kind
+config_kind config.DuplicateLeaf = kind_of 1 (codes "DuplicateLeaf")
+config_kind config.TooMany = kind_of 2 (codes "TooMany")
+config_kind config.BadName = kind_of 3 (codes "BadName")
+config_kind config.TooLarge = kind_of 4 (codes "TooLarge")
+config_kind config.NoMemory = kind_of 5 (codes "NoMemory")
+
+-- a file that isn't opened, with its path
+abbrev pub open_text : OpenFault → List ℕ → List ℕ
+open_text opening.NoMemory path = no_memory
+open_text fault path = codes "refused " ++ kind_then (open_kind fault) (codes " " ++ (path ++ codes "\n"))
+
+-- leaves that aren't taken
+abbrev pub config_text : ConfigFault → List ℕ
+config_text config.NoMemory = no_memory
+config_text fault = codes "refused " ++ kind_then (config_kind fault) (codes "\n")
+
+-- what is printed of it; a session's own faults print nothing
+abbrev pub ending_text : CommandFault → List ℕ
+ending_text Usage = usage_text
+ending_text NoMemory = no_memory
+ending_text TooLong = codes "refused input\n"
+ending_text (Open fault path) = open_text fault path.now
+ending_text (Leaves fault) = config_text fault
+ending_text (Text fault) = fault_text fault
+ending_text (Load refusal) = refusal_text refusal
+ending_text (Submit fault) = submit_text fault
+ending_text (Io fault) = io_text fault
+ending_text (Format fault) = format_text fault
+ending_text (Verify fault) = verify_text fault
+ending_text (Differs verdict) = verdict_text verdict
+ending_text Random = codes "refused random\n"
+ending_text (Session fault) = []
+
+-- 2 for words that are no command, 3 for a fault of the stack and for images that differ, else 1
+abbrev pub ending_status : CommandFault → ℕ
+ending_status Usage = 2
+ending_status (Io io.NoMemory) = 1
+ending_status (Io fault) = 3
+ending_status (Differs verdict) = 3
+ending_status fault = 1
+
+-- its text was printed, and its status answered
+abbrev pub IsEnd : CommandFault → Option (List ℕ) → Option (List ℕ) → ℕ → Type 0
+IsEnd fault old new status = (status ≡ ending_status fault) × Appends old new (ending_text fault)
+
+-- want of memory, or a line that can't be written: these may end a command at any time
+abbrev pub MayEnd : CommandFault → Type 0
+MayEnd NoMemory = Unit {0}
+MayEnd (Session fault) = fault ≡ WriteFault
+MayEnd fault = ⊥
+
+-- nothing is written ahead of what ends a command, unless it is the writing that fails
+abbrev pub IsQuiet : CommandFault → Option (List ℕ) → Option (List ℕ) → Type 0
+IsQuiet (Session fault) old new = Unit {0}
+IsQuiet fault old new = new ≡ old

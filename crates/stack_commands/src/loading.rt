@@ -1,0 +1,21 @@
+// Stacks from stack texts over leaves.
+ghost use Rattle.std.specs.Prelude.{◌≡◌, ◌⊎◌, ◌≤◌, ◌^◌, length, Ok, Err, IfOk, IfErr};
+ghost use Rattle.stack_commands.specs.Loading.{loaded};
+
+use crate::fault::CommandFault;
+use dm_table::parse_stack;
+use stack_loader::{Config, Leaf};
+use std::alloc::Global;
+
+/// The configuration that a stack text makes of leaves.
+pub fn loaded<'a>(alloc: Global, leaves: Vec<Leaf>, text: &[u8]) -> Result<Config, CommandFault<'a>>
+    requires { length text.now ≤ 2 ^ 20 }
+    ensures ok { IfOk result (λ config. loaded leaves.items text.now ≡ Ok config) }
+    ensures leaves { IfOk result (λ config. config.leaves ≡ leaves.items) }
+    ensures err { IfErr result (λ fault. (loaded leaves.items text.now ≡ Err fault) ⊎ (fault ≡ CommandFault.NoMemory)) }
+{
+    let mut config = Config::new(alloc, leaves)?;
+    let entries = parse_stack(alloc, text)?;
+    config.load(&entries)?;
+    Ok(config)
+}

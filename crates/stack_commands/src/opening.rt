@@ -1,0 +1,124 @@
+// Opens what a command line names.
+ghost use Rattle.std.specs.Prelude.{◌≡◌, ◌≤◌, ◌^◌, ◌++◌, [], ◌∷◌, length, map, IfOk, OnOk};
+ghost use Rattle.block_device.specs.File.{opened};
+ghost use Rattle.stack_engine.specs.Leaves.{ServeLeaves};
+ghost use Rattle.stack_commands.specs.Bindings.{IsDeviceOf, backing_meant, binding_meant, may_write};
+
+use crate::bindings::{Backing, Binding};
+use crate::fault::CommandFault;
+use block_device::{AnyDev, BlockDev, FileDev, MemoryDev, OpenFault};
+use stack_loader::Leaf;
+use std::alloc::{AllocError, Global};
+use std::fs;
+use std::fs::File;
+use std::io::{ErrorKind, Read};
+use std::rt::Files;
+
+const MOST_TEXT: u64 = 1 << 20;
+
+/// The text of a stack file. The fault tells whether it can't be opened, can't be read or is too long.
+pub fn stack_text<'a, R: Files<File = File> + AllocGlobal>(
+    rt: &R,
+    path: &'a str,
+) -> Result<Vec<u8>, CommandFault<'a>>
+    ensures { IfOk result (λ text. length text.items ≤ 2 ^ 20) }
+{
+    let file = match fs::open(rt, path) {
+        Ok(file) => file,
+        Err(error) => {
+            let fault = OpenFault::from(error.kind());
+            return Err(CommandFault::Open { fault, path });
+        }
+    };
+    let mut text = Vec::new(rt.alloc());
+    match file.take(MOST_TEXT + 1).read_to_end(&mut text) {
+        Ok(_) if text.len() as u64 <= MOST_TEXT => Ok(text),
+        Ok(_) => Err(CommandFault::TooLong),
+        Err(error) if error.kind() == ErrorKind::OutOfMemory => Err(CommandFault::NoMemory),
+        Err(_) => Err(CommandFault::Open {
+            fault: OpenFault::OtherFault,
+            path,
+        }),
+    }
+}
+
+/// The file as a device.
+pub fn open_file<'a, R: Files<File = File>>(
+    rt: &R,
+    path: &'a str,
+    writable: bool,
+) -> Result<FileDev, CommandFault<'a>>
+    ensures { IfOk result (λ f. (⟦<FileDev as BlockDev>⟧.state f) ≡ opened (⟦<FileDev as BlockDev>⟧.state f).size writable) }
+{
+    match FileDev::open(rt, path, writable) {
+        Ok(file) => Ok(file),
+        Err(fault) => Err(CommandFault::Open { fault, path }),
+    }
+}
+
+/// Leaves, and their devices in the same order.
+#[derive(Drop)]
+pub struct Bound {
+    pub leaves: Vec<Leaf>,
+    pub devices: Vec<AnyDev>,
+}
+
+impl Bound {
+    fn new(alloc: Global) -> Bound
+        ensures served { ServeLeaves result.leaves.items (map ⟦<AnyDev as BlockDev>⟧.state result.devices.items) }
+        ensures none { (result.leaves.items ≡ []) × (result.devices.items ≡ []) }
+    {
+        Bound {
+            leaves: Vec::new(alloc),
+            devices: Vec::new(alloc),
+        }
+    }
+
+    // Adds a device under a name.
+    fn bind(&mut self, alloc: Global, name: &str, device: AnyDev) -> Result<(), AllocError>
+        requires { ServeLeaves self.old.leaves.items (map ⟦<AnyDev as BlockDev>⟧.state self.old.devices.items) }
+        ensures served { OnOk result (ServeLeaves self.new.leaves.items (map ⟦<AnyDev as BlockDev>⟧.state self.new.devices.items)) }
+        ensures names { OnOk result (map (λ leaf. leaf.name) self.new.leaves.items ≡ map (λ leaf. leaf.name) self.old.leaves.items ++ name.now ∷ []) }
+        ensures devices { OnOk result (self.new.devices.items ≡ self.old.devices.items ++ device ∷ []) }
+    {
+        let leaf = Leaf {
+            name: Vec::from_slice(alloc, name.as_bytes())?,
+            sectors: device.sectors(),
+            writable: device.writable(),
+        };
+        self.leaves.push(leaf)?;
+        self.devices.push(device)?;
+        Ok(())
+    }
+}
+
+// Opens the file of a binding, or makes its sectors.
+fn open<'a, R: Files<File = File> + AllocGlobal>(
+    rt: &R,
+    backing: Backing<'a>,
+) -> Result<AnyDev, CommandFault<'a>>
+    ensures { IfOk result (λ device. IsDeviceOf (backing_meant backing.entry) (⟦<AnyDev as BlockDev>⟧.state device)) }
+{
+    match backing {
+        Backing::File { path, writable } => Ok(AnyDev::File(open_file(rt, path, writable)?)),
+        Backing::Zeros(sectors) => Ok(AnyDev::Memory(MemoryDev::zeros(rt.alloc(), sectors, true)?)),
+        Backing::Ramp(sectors) => Ok(AnyDev::Memory(MemoryDev::ramp(rt.alloc(), sectors, true)?)),
+    }
+}
+
+/// The leaves and devices of the bindings, opened in their order.
+pub fn open_all<'a, R: Files<File = File> + AllocGlobal>(
+    rt: &R,
+    bindings: &[Binding<'a>],
+) -> Result<Bound, CommandFault<'a>>
+    ensures served { IfOk result (λ bound. ServeLeaves bound.leaves.items (map ⟦<AnyDev as BlockDev>⟧.state bound.devices.items)) }
+    ensures names { IfOk result (λ bound. map (λ leaf. leaf.name) bound.leaves.items ≡ map (λ binding. binding.name.now) bindings.now) }
+    ensures flags { IfOk result (λ bound. map (λ device. (⟦<AnyDev as BlockDev>⟧.state device).may_write) bound.devices.items ≡ map (λ binding. may_write (backing_meant binding.backing)) bindings.now) }
+{
+    let mut bound = Bound::new(rt.alloc());
+    'bindings: for binding in bindings {
+        let device = open(rt, binding.backing)?;
+        bound.bind(rt.alloc(), binding.name, device)?;
+    }
+    Ok(bound)
+}

@@ -1,0 +1,6 @@
+-- What callers may cite.
+pub mod UnrollLemmas
+pub mod ValidLemmas
+pub mod ValidCostLemmas
+pub mod ValidLineLemmas
+pub mod ValidLowerLemmas

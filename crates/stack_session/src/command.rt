@@ -1,0 +1,121 @@
+// What a line of a session asks for.
+ghost use Rattle.std.specs.Prelude.{◌≡◌, ◌≤◌, length, option_map};
+ghost use Rattle.stack_session.specs.Commands.{after_word, alone, asked, cost, meant, moved, named_by, only, read_of, table, IsWithin};
+
+use crate::verb::{Verb, verb_of};
+use dm_table::{Words, number, white_len, word_len};
+
+/// What a line asks for.
+#[derive(Clone, Copy, Debug, PartialEq, Eq)]
+pub enum Command<'a> {
+    /// The line has no word.
+    Nothing,
+    /// A stack text to load.
+    Load(&'a [u8]),
+    /// Sectors of the device of that name.
+    Read {
+        name: &'a [u8],
+        first: u64,
+        count: u64,
+    },
+    /// The size, the depth and the costs of the device of that name.
+    Cost(&'a [u8]),
+    /// The table of the device of that name.
+    Table(&'a [u8]),
+    /// How much the leaves have moved.
+    Moved,
+    /// The line is no command.
+    Usage,
+}
+
+/// `load TEXT`, where the text is the rest of the line, `read NAME FIRST COUNT`, `cost NAME`,
+/// `table NAME` or `moved`.
+pub fn command_of(line: &[u8]) -> Command<'_>
+    ensures value { meant result ≡ asked line.now }
+    ensures short { IsWithin (length line.now) result }
+{
+    let mut words = Words::new(line);
+    let Some(word) = words.next_word() else {
+        return Command::Nothing;
+    };
+    match verb_of(word) {
+        Some(Verb::Load) => Command::Load(after_word(line)),
+        Some(Verb::Read) => read_of(words),
+        Some(Verb::Cost) => cost_of(words),
+        Some(Verb::Table) => table_of(words),
+        Some(Verb::Moved) => moved_of(words),
+        None => Command::Usage,
+    }
+}
+
+// `NAME FIRST COUNT`
+fn read_of(mut words: Words<'_>) -> Command<'_>
+    ensures value { meant result ≡ read_of words.entry }
+    ensures short { IsWithin 0 result }
+{
+    let (Some(name), Some(first), Some(count), None) = (
+        words.next_word(),
+        words.next_word(),
+        words.next_word(),
+        words.next_word(),
+    ) else {
+        return Command::Usage;
+    };
+    let (Some(first), Some(count)) = (number(first), number(count)) else {
+        return Command::Usage;
+    };
+    Command::Read { name, first, count }
+}
+
+// `NAME`
+fn cost_of(words: Words<'_>) -> Command<'_>
+    ensures value { meant result ≡ named_by cost words.entry }
+    ensures short { IsWithin 0 result }
+{
+    match only_word(words) {
+        Some(name) => Command::Cost(name),
+        None => Command::Usage,
+    }
+}
+
+// `NAME`
+fn table_of(words: Words<'_>) -> Command<'_>
+    ensures value { meant result ≡ named_by table words.entry }
+    ensures short { IsWithin 0 result }
+{
+    match only_word(words) {
+        Some(name) => Command::Table(name),
+        None => Command::Usage,
+    }
+}
+
+// No further word.
+fn moved_of(mut words: Words<'_>) -> Command<'_>
+    ensures value { meant result ≡ alone moved words.entry }
+    ensures short { IsWithin 0 result }
+{
+    match words.next_word() {
+        None => Command::Moved,
+        Some(_) => Command::Usage,
+    }
+}
+
+// The one word that is left.
+fn only_word<'a>(mut words: Words<'a>) -> Option<&'a [u8]>
+    ensures { option_map (λ word. word.now) result ≡ only words.entry }
+{
+    let word = words.next_word()?;
+    match words.next_word() {
+        None => Some(word),
+        Some(_) => None,
+    }
+}
+
+// The rest of a line after its first word.
+fn after_word(line: &[u8]) -> &[u8]
+    ensures value { result.now ≡ after_word line.now }
+    ensures short { length result.now ≤ length line.now }
+{
+    let rest = &line[white_len(line)..];
+    &rest[word_len(rest)..]
+}
