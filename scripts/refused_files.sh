@@ -3,7 +3,7 @@
 # standard error that stays empty. Where it runs as root, the program runs as nobody, since root may open every file.
 set -eu
 top=$(dirname "$(dirname "$(readlink -f "$0")")")
-[ -x "$top/crates/dmstack/out/dmstack" ] || "$top/dmstack" session < /dev/null
+"$top/scripts/built.sh" dmstack
 room=$(mktemp -d)
 trap 'rm -rf "$room"' EXIT
 cp "$top/crates/dmstack/out/dmstack" "$room"

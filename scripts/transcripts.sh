@@ -7,7 +7,7 @@
 set -u
 top=$(dirname "$(dirname "$(readlink -f "$0")")")
 program=$top/crates/dmstack/out/dmstack
-[ -x "$program" ] || "$top/dmstack" session < /dev/null || exit 1
+"$top/scripts/built.sh" dmstack || exit 1
 passed=0 failed=0
 
 # Runs the command that was gathered, and compares.

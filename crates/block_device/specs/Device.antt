@@ -1,6 +1,6 @@
 -- Block devices: sectors of 512 bytes, and what a read and a write do to them.
-use Rattle.std.specs.Prelude.{◌≡◌, ◌⊎◌, ℕ, ◌+◌, ◌-◌, ◌*◌, ◌/◌, ◌%◌, ◌^◌, ◌<◌, ◌≤◌, zero, suc, min, Bool, true, false, IsTrue, List, [], ◌∷◌, ◌++◌, length, take, drop, map, replicate, All, if◌then◌else◌}
-use Rattle.std.specs.List.{concat, range_with_len}
+use Rattle.std.specs.Prelude.{◌≡◌, ◌⊎◌, ℕ, ◌+◌, ◌-◌, ◌/◌, ◌%◌, ◌^◌, ◌<◌, ◌≤◌, zero, suc, min, Bool, true, IsTrue, List, [], ◌∷◌, ◌++◌, length, take, drop, map, replicate, All, if◌then◌else◌}
+use Rattle.std.specs.List.{range_with_len}
 
 -- What a proof sees of a device. The image is its sectors. It is steady if a read gives the image and a
 -- successful write changes its range to the bytes written and nothing else.
@@ -76,6 +76,10 @@ pub record IsWritten (old : Device) (first n : ℕ) (ok : Bool) (new : Device) :
   pub failures : new.failures ≡ failures_after old ok
   pub before : IsTrue old.steady → take first new.image ≡ take first old.image
   pub after : IsTrue old.steady → drop (first + n) new.image ≡ drop (first + n) old.image
+
+-- a device whose writes were put on the medium, or of which that failed
+abbrev pub synced : Device → Bool → Device
+synced old ok = record old { failures = failures_after old ok }
 
 -- a sector whose bytes are all the same
 abbrev pub filled : ℕ → List ℕ

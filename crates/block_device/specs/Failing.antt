@@ -1,5 +1,5 @@
 -- A device whose call of a chosen number fails.
-use Rattle.std.specs.Prelude.{◌≡◌, ℕ, ◌+◌, ◌-◌, ◌^◌, ◌==◌, ◌&&◌, Bool, List, IsTrue, min}
+use Rattle.std.specs.Prelude.{◌≡◌, ℕ, ◌+◌, ◌==◌, ◌&&◌, Bool, List, IsTrue}
 use Rattle.std.specs.List.{concat}
 use Rattle.block_device.specs.Device.{Device, capped, IsRead, IsWritten, run_of, spliced, sectors_of}
 

@@ -1,22 +1,23 @@
--- Files as devices: why one isn't opened, and what a proof sees of an open one.
-use Rattle.std.specs.Prelude.{◌≡◌, ◌⊎◌, ◌<◌, ◌^◌, ℕ, Bool, false}
-use Rattle.std.specs.declared.io.ErrorKind.{ErrorKind}
-use Rattle.std.specs.declared.io.ErrorKind.TheVariants.{NotFound, PermissionDenied, ReadOnlyFilesystem, OutOfMemory}
-use Rattle.block_device.specs.declared.file.OpenFault.{OpenFault}
-use Rattle.block_device.specs.declared.file.OpenFault.TheVariants as faults
+-- Files and block devices as devices: which are refused, and what a proof sees of an open one.
+use Rattle.std.specs.Prelude.{◌≡◌, ◌⊎◌, ◌/◌, ◌<◌, ◌^◌, ℕ, Bool, false}
+use Rattle.std.specs.declared.fs.attrs.FileType.{FileType}
+use Rattle.std.specs.declared.fs.attrs.Metadata.{Metadata}
+use Rattle.std.specs.Fs.{file_type, metadata_len, IsFile}
+use Rattle.block_device.specs.declared.open_fault.OpenFault.{OpenFault}
+use Rattle.block_device.specs.declared.open_fault.OpenFault.TheVariants.{TooLarge, OtherFault}
 use Rattle.block_device.specs.Device.{Device, zeros_image}
 
--- the fault that stands for what the system says
-abbrev pub fault_of : ErrorKind → OpenFault
-fault_of NotFound = faults.NotFound
-fault_of PermissionDenied = faults.NotAllowed
-fault_of ReadOnlyFilesystem = faults.NotAllowed
-fault_of OutOfMemory = faults.NoMemory
-fault_of _ = faults.OtherFault
+-- the type is `S_IFBLK`
+abbrev pub IsBlockDevice : FileType → Type 0
+IsBlockDevice t = t.bits ≡ 0o060000
 
--- why an open file of so many sectors isn't taken
-abbrev pub IsRefused : ℕ → Type 0 → OpenFault → Type 0
-IsRefused sectors IsFile fault = ((fault ≡ faults.OtherFault) × (IsFile → ⊥)) ⊎ ((fault ≡ faults.TooLarge) × (2 ^ 54 < sectors))
+-- a file or a block device, and not a directory, a pipe, a socket or a character device
+abbrev pub IsImage : FileType → Type 0
+IsImage t = IsFile t ⊎ IsBlockDevice t
+
+-- why an open file isn't taken; of a block device the system may say anything
+abbrev pub IsRefused : Metadata → OpenFault → Type 0
+IsRefused m fault = ((fault ≡ OtherFault) × (IsImage (file_type m) → ⊥)) ⊎ ((fault ≡ TooLarge) × (2 ^ 54 < metadata_len m / 512)) ⊎ IsBlockDevice (file_type m)
 
 -- A file that was just opened, as so many sectors. No clause ties the image to what a read gives.
 abbrev pub opened : ℕ → Bool → Device

@@ -1,15 +1,42 @@
 // A device in memory or in a file.
-ghost use Rattle.std.specs.Prelude.{◌/◌, length, refl};
+ghost use Rattle.std.specs.Prelude.{◌≡◌, ◌/◌, length, refl, is_ok, IsOk, IsTrue, OnErr};
+ghost use Rattle.block_device.specs.Any.{any_id};
+ghost use Rattle.block_device.specs.Device.{HasFailed, synced};
 ghost use Rattle.block_device.specs.Whole.{whole_bytes, whole_zeros};
 ghost use Rattle.block_device.specs.declared.any.AnyDev.TheVariants.{Memory, File};
 
-use crate::{BlockDev, DeviceFault, FileDev, MemoryDev};
+use crate::{BlockDev, DeviceFault, FileDev, FileId, MemoryDev};
 
 /// A device in memory or in a file: what it holds decides everything.
 #[derive(Drop)]
 pub enum AnyDev {
     Memory(MemoryDev),
     File(FileDev),
+}
+
+impl AnyDev {
+    /// Which file it is, where it is one and the runtime tells it.
+    pub fn id(&self) -> Option<FileId>
+        ensures { result ≡ any_id self.now }
+    {
+        match self {
+            AnyDev::Memory(_) => None,
+            AnyDev::File(file) => file.id(),
+        }
+    }
+
+    /// Has all that was written put on the medium; memory has none.
+    pub fn sync(&mut self) -> Result<(), DeviceFault>
+        ensures moved { ⟦<AnyDev as BlockDev>⟧.state self.new ≡ synced (⟦<AnyDev as BlockDev>⟧.state self.old) (is_ok result) }
+        ensures same { any_id self.new ≡ any_id self.old }
+        ensures sure { IsTrue (⟦<AnyDev as BlockDev>⟧.state self.old).never_fails → IsOk result }
+        ensures fault { OnErr result (HasFailed (⟦<AnyDev as BlockDev>⟧.state self.old) (⟦<AnyDev as BlockDev>⟧.state self.new)) }
+    {
+        match self {
+            AnyDev::Memory(_) => Ok(()),
+            AnyDev::File(file) => file.sync(),
+        }
+    }
 }
 
 impl BlockDev for AnyDev {

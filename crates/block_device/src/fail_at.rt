@@ -7,7 +7,9 @@ ghost use Rattle.block_device.specs.Failing.{failing, IsInnerRead, IsInnerWrite}
 use crate::{BlockDev, DeviceFault};
 
 /// One chosen call of read or write fails: it counts one failure and the sectors asked for, and the inner
-/// device isn't asked. Every other call is passed on, and does what the trait promises of the inner device.
+/// device isn't asked. Every other call is passed on, and does what the trait promises of the inner device. Over
+/// a device that isn't steady no clause says which bytes a read gives: they are the inner device's, which a test
+/// over a script shows.
 #[derive(Drop)]
 pub struct FailAt<D> {
     /// The device that all other calls go to.

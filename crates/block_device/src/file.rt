@@ -1,55 +1,26 @@
 // A device in a file.
-ghost use Rattle.std.specs.Prelude.{◌≡◌, ◌≤◌, ◌^◌, ◌/◌, ℕ, false, refl, IfOk, IfErr};
-ghost use Rattle.std.specs.declared.io.ErrorKind.{ErrorKind};
-ghost use Rattle.block_device.specs.Device.{Device, zeros_image};
+ghost use Rattle.std.specs.Prelude.{◌≡◌, ◌≤◌, ◌^◌, ◌/◌, ◌↔◌, ℕ, false, refl, is_ok, IfOk, IfErr, OnErr, IsTrue, Ok};
 ghost use Rattle.std.specs.Fs.{metadata_len, file_type, IsFile};
-ghost use Rattle.block_device.specs.File.{fault_of, opened, IsRefused};
+ghost use Rattle.block_device.specs.Device.{Device, HasFailed, synced, zeros_image};
+ghost use Rattle.block_device.specs.File.{opened, IsRefused, IsImage, IsBlockDevice};
 ghost use Rattle.block_device.specs.Whole.{whole_zeros};
 
-use crate::{BlockDev, DeviceFault};
+use crate::{BlockDev, DeviceFault, FileId, OpenFault};
 use std::fs;
 use std::fs::{File, Metadata, OpenFile, OpenOptions};
-use std::io::ErrorKind;
-use std::os::unix::fs::FileExt;
+use std::io::{Seek, SeekFrom};
+use std::os::unix::fs::{FileExt, MetadataExt};
 use std::rt::Files;
-use thiserror::Error;
 
 const MAX_SECTORS: u64 = 1 << 54;
 
-/// Why a file isn't opened as a device.
-#[derive(Clone, Copy, Debug, PartialEq, Eq, Error)]
-pub enum OpenFault {
-    /// There is no such file.
-    #[error("not found")]
-    NotFound = 1,
-    /// The file may not be opened so.
-    #[error("not allowed")]
-    NotAllowed = 2,
-    /// The file has more than 2^54 sectors.
-    #[error("too large")]
-    TooLarge = 3,
-    /// Anything else: the path leads to no regular file, or the system failed.
-    #[error("other fault")]
-    OtherFault = 4,
-    /// Memory ran out.
-    #[error("out of memory")]
-    NoMemory = 5,
-}
+// The bits of a mode that tell what kind of file it is, and those of a block device.
+const KIND_BITS: u32 = 0o170_000;
 
-impl From<ErrorKind> for OpenFault {
-    ghost from_gives = { λ kind fault. fault ≡ fault_of kind };
+const BLOCK_DEVICE: u32 = 0o060_000;
 
-    fn from(kind: ErrorKind) -> OpenFault {
-        match kind {
-            ErrorKind::NotFound => OpenFault::NotFound,
-            ErrorKind::PermissionDenied | ErrorKind::ReadOnlyFilesystem => OpenFault::NotAllowed,
-            ErrorKind::OutOfMemory => OpenFault::NoMemory,
-            _ => OpenFault::OtherFault,
-        }
-    }
-}
-
-/// A regular file as sectors, of which a trailing part of a sector isn't seen.
+/// A file or a block device as sectors, of which a trailing part of a sector isn't seen. The size is taken when
+/// it is opened.
 ///
 /// Reads and writes are positioned: no call moves a position that another one uses. Short ones are continued
 /// by the standard library. That the file holds what was written until it is read is not proved, since no
@@ -58,6 +29,7 @@ impl From<ErrorKind> for OpenFault {
 #[derive(Drop)]
 pub struct FileDev {
     file: File,
+    id: Option<FileId>,
     sectors: u64,
     writable: bool,
     reads: u64,
@@ -67,7 +39,10 @@ pub struct FileDev {
 }
 
 impl FileDev {
-    /// Opens the file for reading, and for writing too where `writable` says so.
+    ghost use Rattle.block_device.specs.FileId.{file_id};
+
+    /// Opens the file or block device for reading, and for writing too where `writable` says so. Anything else,
+    /// as a directory, a pipe or a character device, is `OtherFault`.
     pub fn open<R: Files<File = File>>(
         rt: &R,
         path: &str,
@@ -75,9 +50,9 @@ impl FileDev {
     ) -> Result<FileDev, OpenFault>
         ensures { IfOk result (λ f. (⟦<FileDev as BlockDev>⟧.state f) ≡ opened (⟦<FileDev as BlockDev>⟧.state f).size writable) }
     {
-        // Opening a pipe would wait for its other end, so what isn't a file is refused before.
+        // Opening a pipe would wait for its other end, so what is no image is refused before.
         match fs::metadata(rt, path) {
-            Ok(metadata) if metadata.is_file() => {}
+            Ok(metadata) if metadata.is_file() || is_block_device(&metadata) => {}
             Ok(_) => return Err(OpenFault::OtherFault),
             Err(e) => return Err(OpenFault::from(e.kind())),
         }
@@ -90,22 +65,67 @@ impl FileDev {
             Err(e) => Err(OpenFault::from(e.kind())),
         }
     }
+
+    /// Which file it is, where the runtime tells it, and `None` where it doesn't. It never changes.
+    pub fn id(&self) -> Option<FileId>
+        ensures { result ≡ file_id self.now }
+    {
+        self.id
+    }
+
+    /// Has all that was written put on the medium.
+    pub fn sync(&mut self) -> Result<(), DeviceFault>
+        ensures moved { ⟦<FileDev as BlockDev>⟧.state self.new ≡ synced (⟦<FileDev as BlockDev>⟧.state self.old) (is_ok result) }
+        ensures same { file_id self.new ≡ file_id self.old }
+        ensures fault { OnErr result (HasFailed (⟦<FileDev as BlockDev>⟧.state self.old) (⟦<FileDev as BlockDev>⟧.state self.new)) }
+    {
+        match self.file.sync_all() {
+            Ok(()) => Ok(()),
+            Err(_) => {
+                self.failures = self.failures.saturating_add(1);
+                Err(DeviceFault)
+            }
+        }
+    }
+}
+
+fn is_block_device(metadata: &Metadata) -> bool
+    ensures { IsTrue result ↔ IsBlockDevice (file_type metadata.now) }
+{
+    metadata.mode() & KIND_BITS == BLOCK_DEVICE
+}
+
+// How many bytes an open file has: as the system says, or up to a block device's end.
+fn bytes_in(file: &mut File, metadata: &Metadata) -> Result<u64, OpenFault>
+    ensures file { IsFile (file_type metadata.now) → result ≡ Ok (metadata_len metadata.now) }
+    ensures image { IfOk result (λ n. IsImage (file_type metadata.now)) }
+    ensures err { IfErr result (IsRefused metadata.now) }
+{
+    if metadata.is_file() {
+        return Ok(metadata.len());
+    }
+    if !is_block_device(metadata) {
+        return Err(OpenFault::OtherFault);
+    }
+    match file.seek(SeekFrom::End(0)) {
+        Ok(end) => Ok(end),
+        Err(e) => Err(OpenFault::from(e.kind())),
+    }
 }
 
 // The device of an open file, by what the system says of it.
-fn device_of(file: File, metadata: &Metadata, writable: bool) -> Result<FileDev, OpenFault>
-    ensures ok { IfOk result (λ f. IsFile (file_type metadata.now) × (⟦<FileDev as BlockDev>⟧.state f ≡ opened (metadata_len metadata.now / 512) writable)) }
-    ensures err { IfErr result (λ e. IsRefused (metadata_len metadata.now / 512) (IsFile (file_type metadata.now)) e) }
+fn device_of(mut file: File, metadata: &Metadata, writable: bool) -> Result<FileDev, OpenFault>
+    ensures ok { IfOk result (λ f. IsImage (file_type metadata.now) × (⟦<FileDev as BlockDev>⟧.state f ≡ opened (⟦<FileDev as BlockDev>⟧.state f).size writable)) }
+    ensures size { IsFile (file_type metadata.now) → IfOk result (λ f. (⟦<FileDev as BlockDev>⟧.state f).size ≡ metadata_len metadata.now / 512) }
+    ensures err { IfErr result (IsRefused metadata.now) }
 {
-    if !metadata.is_file() {
-        return Err(OpenFault::OtherFault);
-    }
-    let sectors = metadata.len() / 512;
+    let sectors = bytes_in(&mut file, metadata)? / 512;
     if sectors > MAX_SECTORS {
         return Err(OpenFault::TooLarge);
     }
     Ok(FileDev {
         file,
+        id: FileId::of(metadata, is_block_device(metadata)),
         sectors,
         writable,
         reads: 0,

@@ -45,6 +45,20 @@ impl MemoryDev {
         let bytes = zero_bytes(alloc, sectors as usize * 512)?;
         Ok(MemoryDev::new(bytes, writable))
     }
+
+    /// The bytes that it holds, a trailing part of a sector too.
+    pub fn into_bytes(self) -> Vec<u8>
+        ensures size { length result.items / 512 ≡ (⟦<MemoryDev as BlockDev>⟧.state self).size }
+        ensures image { sectors_of (length result.items / 512) result.items ≡ (⟦<MemoryDev as BlockDev>⟧.state self).image }
+    {
+        let MemoryDev {
+            bytes,
+            writable: _,
+            reads: _,
+            writes: _,
+        } = self;
+        bytes
+    }
 }
 
 fn zero_bytes(alloc: Global, length: usize) -> Result<Vec<u8>, AllocError>

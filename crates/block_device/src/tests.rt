@@ -1,4 +1,6 @@
 // Calls that succeed, what real files hold and refuse, and that the clauses say what was meant.
+mod files;
+
 use crate::{AnyDev, BlockDev, DeviceFault, FailAt, FileDev, MemoryDev, OpenFault, ScriptDev};
 use std::fs;
 use std::fs::Permissions;
@@ -92,6 +94,7 @@ fn memory_is_filled(rt: HostRuntime) -> Result<(), Fail> {
     }
     let trailing = MemoryDev::new(vec![in alloc; 7u8; 1023]?, true);
     assert_eq!(rt; trailing.sectors(), 1);
+    assert_eq!(rt; trailing.into_bytes().as_slice(), [7u8; 1023].as_slice());
     assert_eq!(rt; MemoryDev::new(Vec::new(alloc), true).sectors(), 0);
     Ok(())
 }
@@ -134,6 +137,8 @@ fn files_are_refused(rt: HostRuntime) -> Result<(), Fail> {
         ("absent", true, OpenFault::NotFound),
         ("kept/below", false, OpenFault::OtherFault),
         ("/dev/null", false, OpenFault::OtherFault),
+        ("/dev/zero", false, OpenFault::OtherFault),
+        ("/dev/zero", true, OpenFault::OtherFault),
         ("directory", false, OpenFault::OtherFault),
         ("directory", true, OpenFault::OtherFault),
         ("kept", true, OpenFault::NotAllowed),

@@ -12,11 +12,11 @@ use Rattle.dm_table.specs.declared.table.Target.{Target}
 use Rattle.dm_table.specs.declared.table.Target.TheVariants.{Linear, Striped, Zero, Error}
 use Rattle.dm_table.specs.declared.stack.Entry.{Entry}
 use Rattle.dm_table.specs.declared.fault.TextKind.TheVariants as kinds
-use Rattle.dm_table.specs.Words.{Word, is_white, is_text, words, trimmed, lines_of, entries_of, fields_of}
-use Rattle.dm_table.specs.Numbers.{number, kept}
+use Rattle.dm_table.specs.Words.{Word, is_white, is_text, words, trimmed_text, lines_of, entries_of, fields_of}
+use Rattle.dm_table.specs.Numbers.{number, number_if}
 use Rattle.dm_table.specs.Names.{is_device, is_mapped_name}
 use Rattle.dm_table.specs.Reading.{Read, ◌>>=◌, at_place}
-use Rattle.dm_table.specs.Lines.{device_at, number_at, base_at, linear_at, bases_at, stripes_at, chunk_at, pairs_at, striped_at, bare, target_at, line_of}
+use Rattle.dm_table.specs.Lines.{device_at, number_at, base_at, linear_at, bases_at, stripes_at, chunk_at, pairs_at, striped_at, bare_at, target_at, line_of}
 use Rattle.dm_table.specs.Grammar.{IsBaseOfGrammar, IsTargetOfGrammar, IsLineOfGrammar, IsTableOfGrammar}
 use Rattle.dm_table.specs.TableText.{is_skipped, table_lines, some_lines, table_of}
 use Rattle.dm_table.specs.StackText.{name_at, minor_at, flags_at, entry_lines, Head, head_of, entry_of, entries_from, stack_of, IsEntryOfGrammar, IsStackOfGrammar}
@@ -51,9 +51,9 @@ number-fits word n e = kept_value (ltb 0 (length word) && list_all is_ascii_digi
 number_at-fits : (word : Word) (n : ℕ) → number_at word ≡ Ok n → n < 2 ^ 64
 number_at-fits word n e = number-fits word n (ok_or_ok (number word) kinds.Number n e)
 
-kept-some : (test : ℕ → Bool) (o : Option ℕ) (n : ℕ) → kept test o ≡ Some n → (o ≡ Some n) × (test n ≡ true)
-kept-some test None n e = cc
-kept-some test (Some m) n e = elim (cases_Bool (test m)) [
+number_if-some : (test : ℕ → Bool) (o : Option ℕ) (n : ℕ) → number_if test o ≡ Some n → (o ≡ Some n) × (test n ≡ true)
+number_if-some test None n e = cc
+number_if-some test (Some m) n e = elim (cases_Bool (test m)) [
   | inl passes ↦
       let same : m ≡ n = let h = sym (cond-true (test m) (Some m) None passes) ∙ e in cc in
       (ap Some same, subst (λ k. test k ≡ true) same passes)
@@ -97,8 +97,8 @@ striped-grammar (count ∷ size ∷ pairs) target e =
     let n = bind_ok (stripes_at count) _ target e in
     let chunk = bind_ok (chunk_at size) _ target n.2 in
     let bases = bind_ok (pairs_at n.0 pairs) _ target chunk.2 in
-    let stripes = kept-some (λ k. leb 1 k && leb k 16) (number count) n.0 (ok_or_ok _ kinds.StripeCount n.0 n.1) in
-    let sectors = kept-some (λ k. leb 1 k) (number size) chunk.0 (ok_or_ok _ kinds.ZeroChunk chunk.0 chunk.1) in
+    let stripes = number_if-some (λ k. leb 1 k && leb k 16) (number count) n.0 (ok_or_ok _ kinds.StripeCount n.0 n.1) in
+    let sectors = number_if-some (λ k. leb 1 k) (number size) chunk.0 (ok_or_ok _ kinds.ZeroChunk chunk.0 chunk.1) in
     let counted = chosen (eqb (length pairs) (2 * n.0)) (bases_at pairs) kinds.ArgCount bases.0 bases.1 in
     let each = bases-grammar pairs bases.0 counted.1 in
     let limits = and_parts _ _ stripes.1 in
@@ -115,8 +115,8 @@ striped-grammar (count ∷ size ∷ pairs) target e =
       each = each.1;
     })
 
-bare-grammar : (target : Target) (arguments : List Word) (read : Target) → IsTargetOfGrammar target → bare target arguments ≡ Ok read → IsTargetOfGrammar read
-unfolding bare
+bare-grammar : (target : Target) (arguments : List Word) (read : Target) → IsTargetOfGrammar target → bare_at target arguments ≡ Ok read → IsTargetOfGrammar read
+unfolding bare_at
 bare-grammar target [] read h e = subst IsTargetOfGrammar (ok_same target read e) h
 bare-grammar target (word ∷ more) read h e = cc
 
@@ -130,8 +130,8 @@ unfolding target_at
 target-grammar type arguments target e =
     either IsTargetOfGrammar target (bytes_eq type (codes "linear")) (linear_at arguments) _ (linear-grammar arguments target)
     (either IsTargetOfGrammar target (bytes_eq type (codes "striped")) (striped_at arguments) _ (striped-grammar arguments target)
-    (either IsTargetOfGrammar target (bytes_eq type (codes "zero")) (bare Zero arguments) _ (bare-grammar Zero arguments target tt)
-    (either IsTargetOfGrammar target (bytes_eq type (codes "error")) (bare Error arguments) (Err kinds.Target) (bare-grammar Error arguments target tt) (λ h. cc)))) e
+    (either IsTargetOfGrammar target (bytes_eq type (codes "zero")) (bare_at Zero arguments) _ (bare-grammar Zero arguments target tt)
+    (either IsTargetOfGrammar target (bytes_eq type (codes "error")) (bare_at Error arguments) (Err kinds.Target) (bare-grammar Error arguments target tt) (λ h. cc)))) e
 
 pub line-grammar : (ws : List Word) (line : Line) → line_of ws ≡ Ok line → IsLineOfGrammar line
 unfolding line_of
@@ -200,11 +200,11 @@ head-grammar (name ∷ uuid ∷ []) head e = cc
 head-grammar (name ∷ uuid ∷ minor ∷ []) head e = cc
 head-grammar (name ∷ uuid ∷ minor ∷ flags ∷ []) head e = cc
 head-grammar (name ∷ uuid ∷ minor ∷ flags ∷ line ∷ lines) head e =
-    let called = bind_ok (name_at (trimmed name)) _ head e in
-    let numbered = bind_ok (minor_at (trimmed minor)) _ head called.2 in
-    let writable = bind_ok (flags_at (trimmed flags)) _ head numbered.2 in
-    let named = chosen (is_mapped_name (trimmed name)) (Ok (trimmed name)) kinds.Name called.0 called.1 in
-    let same : trimmed name ≡ called.0 = ok_same (trimmed name) called.0 named.1 in
+    let called = bind_ok (name_at (trimmed_text name)) _ head e in
+    let numbered = bind_ok (minor_at (trimmed_text minor)) _ head called.2 in
+    let writable = bind_ok (flags_at (trimmed_text flags)) _ head numbered.2 in
+    let named = chosen (is_mapped_name (trimmed_text name)) (Ok (trimmed_text name)) kinds.Name called.0 called.1 in
+    let same : trimmed_text name ≡ called.0 = ok_same (trimmed_text name) called.0 named.1 in
     subst (λ (h : Head). IsTrue (is_mapped_name h.name) × (first : List ℕ) × (rest : List (List ℕ)) × (h.lines ≡ first ∷ rest)) (ok_same _ head writable.2)
     (subst (λ w. is_mapped_name w ≡ true) same named.0, line, lines, refl)
 

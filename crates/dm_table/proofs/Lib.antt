@@ -5,5 +5,5 @@ pub mod ReadLemmas
 pub mod GrammarLemmas
 pub mod StackLemmas
 pub mod PrintLemmas
-pub mod PrintLaw
-mod TextRows
+pub mod RoundTripLemmas
+mod WorkedTextLemmas

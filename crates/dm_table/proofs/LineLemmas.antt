@@ -7,7 +7,7 @@ use Rattle.dm_table.specs.declared.fault.TextKind.{TextKind}
 use Rattle.dm_table.specs.declared.fault.TextKind.TheVariants as kinds
 use Rattle.dm_table.specs.Words.{Word}
 use Rattle.dm_table.specs.Reading.{◌>>=◌}
-use Rattle.dm_table.specs.Lines.{number_at, linear_at, stripes_at, chunk_at, pairs_at, bases_at, striped_at, bare, target_at, line_of}
+use Rattle.dm_table.specs.Lines.{number_at, linear_at, stripes_at, chunk_at, pairs_at, bases_at, striped_at, bare_at, target_at, line_of}
 
 -- a striped line at each of its faults
 pub striped-stripes : (count size : Word) (pairs : List Word) (kind : TextKind) → stripes_at count ≡ Err kind → striped_at (count ∷ size ∷ pairs) ≡ Err kind
@@ -64,11 +64,11 @@ pub target-striped : (type : Word) (arguments : List Word) → bytes_eq type (co
 unfolding target_at
 target-striped type arguments linear striped = cond-false _ _ _ linear ∙ cond-true _ _ _ striped
 
-pub target-zero : (type : Word) (arguments : List Word) → bytes_eq type (codes "linear") ≡ false → bytes_eq type (codes "striped") ≡ false → bytes_eq type (codes "zero") ≡ true → target_at type arguments ≡ bare Zero arguments
+pub target-zero : (type : Word) (arguments : List Word) → bytes_eq type (codes "linear") ≡ false → bytes_eq type (codes "striped") ≡ false → bytes_eq type (codes "zero") ≡ true → target_at type arguments ≡ bare_at Zero arguments
 unfolding target_at
 target-zero type arguments linear striped zeros = cond-false _ _ _ linear ∙ cond-false _ _ _ striped ∙ cond-true _ _ _ zeros
 
-pub target-error : (type : Word) (arguments : List Word) → bytes_eq type (codes "linear") ≡ false → bytes_eq type (codes "striped") ≡ false → bytes_eq type (codes "zero") ≡ false → bytes_eq type (codes "error") ≡ true → target_at type arguments ≡ bare Error arguments
+pub target-error : (type : Word) (arguments : List Word) → bytes_eq type (codes "linear") ≡ false → bytes_eq type (codes "striped") ≡ false → bytes_eq type (codes "zero") ≡ false → bytes_eq type (codes "error") ≡ true → target_at type arguments ≡ bare_at Error arguments
 unfolding target_at
 target-error type arguments linear striped zeros errors = cond-false _ _ _ linear ∙ cond-false _ _ _ striped ∙ cond-false _ _ _ zeros ∙ cond-true _ _ _ errors
 

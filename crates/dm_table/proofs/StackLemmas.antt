@@ -8,7 +8,7 @@ use Rattle.std.proofs.lemmas.List.Sums.{count_by-le-length}
 use Rattle.dm_table.specs.declared.table.Line.{Line}
 use Rattle.dm_table.specs.declared.fault.TextKind.{TextKind}
 use Rattle.dm_table.specs.declared.fault.TextKind.TheVariants as kinds
-use Rattle.dm_table.specs.Words.{is_white, is_text, words, trimmed, lines_of, entries_of, fields_of}
+use Rattle.dm_table.specs.Words.{is_white, is_text, words, trimmed_text, lines_of, entries_of, fields_of}
 use Rattle.dm_table.specs.Names.{is_mapped_name}
 use Rattle.dm_table.specs.Reading.{Read, ◌>>=◌, at_place}
 use Rattle.dm_table.specs.Lines.{line_of}
@@ -21,31 +21,31 @@ pub onto : {A : Type 0} {xs : List A} {x : A} {ys zs : List A} → xs ≡ x ∷ 
 onto {x = x} e f = e ∙ ap (λ ws. x ∷ ws) f
 
 -- the fields before the lines, at each fault
-pub head-name : (name uuid minor flags line : List ℕ) (lines : List (List ℕ)) → is_mapped_name (trimmed name) ≡ false → head_of (name ∷ uuid ∷ minor ∷ flags ∷ line ∷ lines) ≡ Err kinds.Name
+pub head-name : (name uuid minor flags line : List ℕ) (lines : List (List ℕ)) → is_mapped_name (trimmed_text name) ≡ false → head_of (name ∷ uuid ∷ minor ∷ flags ∷ line ∷ lines) ≡ Err kinds.Name
 unfolding head_of
 head-name name uuid minor flags line lines unnamed =
-    ap (λ r. r >>= (λ called. minor_at (trimmed minor) >>= (λ _. flags_at (trimmed flags) >>= (λ w. Ok (record { name = called; writable = w; lines = line ∷ lines })))))
-    (cond-false (is_mapped_name (trimmed name)) (Ok (trimmed name)) (Err kinds.Name) unnamed)
+    ap (λ r. r >>= (λ called. minor_at (trimmed_text minor) >>= (λ _. flags_at (trimmed_text flags) >>= (λ w. Ok (record { name = called; writable = w; lines = line ∷ lines })))))
+    (cond-false (is_mapped_name (trimmed_text name)) (Ok (trimmed_text name)) (Err kinds.Name) unnamed)
 
-head-named : (name uuid minor flags line : List ℕ) (lines : List (List ℕ)) → is_mapped_name (trimmed name) ≡ true
-    → head_of (name ∷ uuid ∷ minor ∷ flags ∷ line ∷ lines) ≡ (minor_at (trimmed minor) >>= (λ _. flags_at (trimmed flags) >>= (λ w. Ok (record { name = trimmed name; writable = w; lines = line ∷ lines }))))
+head-named : (name uuid minor flags line : List ℕ) (lines : List (List ℕ)) → is_mapped_name (trimmed_text name) ≡ true
+    → head_of (name ∷ uuid ∷ minor ∷ flags ∷ line ∷ lines) ≡ (minor_at (trimmed_text minor) >>= (λ _. flags_at (trimmed_text flags) >>= (λ w. Ok (record { name = trimmed_text name; writable = w; lines = line ∷ lines }))))
 unfolding head_of
 head-named name uuid minor flags line lines named =
-    ap (λ r. r >>= (λ called. minor_at (trimmed minor) >>= (λ _. flags_at (trimmed flags) >>= (λ w. Ok (record { name = called; writable = w; lines = line ∷ lines })))))
-    (cond-true (is_mapped_name (trimmed name)) (Ok (trimmed name)) (Err kinds.Name) named)
+    ap (λ r. r >>= (λ called. minor_at (trimmed_text minor) >>= (λ _. flags_at (trimmed_text flags) >>= (λ w. Ok (record { name = called; writable = w; lines = line ∷ lines })))))
+    (cond-true (is_mapped_name (trimmed_text name)) (Ok (trimmed_text name)) (Err kinds.Name) named)
 
-pub head-minor : (name uuid minor flags line : List ℕ) (lines : List (List ℕ)) → is_mapped_name (trimmed name) ≡ true → is_minor (trimmed minor) ≡ false → head_of (name ∷ uuid ∷ minor ∷ flags ∷ line ∷ lines) ≡ Err kinds.Number
+pub head-minor : (name uuid minor flags line : List ℕ) (lines : List (List ℕ)) → is_mapped_name (trimmed_text name) ≡ true → is_minor (trimmed_text minor) ≡ false → head_of (name ∷ uuid ∷ minor ∷ flags ∷ line ∷ lines) ≡ Err kinds.Number
 head-minor name uuid minor flags line lines named other =
     head-named name uuid minor flags line lines named
-    ∙ ap (λ r. r >>= (λ _. flags_at (trimmed flags) >>= (λ w. Ok (record { name = trimmed name; writable = w; lines = line ∷ lines }))))
-    (cond-false (is_minor (trimmed minor)) (Ok (trimmed minor)) (Err kinds.Number) other)
+    ∙ ap (λ r. r >>= (λ _. flags_at (trimmed_text flags) >>= (λ w. Ok (record { name = trimmed_text name; writable = w; lines = line ∷ lines }))))
+    (cond-false (is_minor (trimmed_text minor)) (Ok (trimmed_text minor)) (Err kinds.Number) other)
 
-pub head-flags : (name uuid minor flags line : List ℕ) (lines : List (List ℕ)) → is_mapped_name (trimmed name) ≡ true → is_minor (trimmed minor) ≡ true
-    → head_of (name ∷ uuid ∷ minor ∷ flags ∷ line ∷ lines) ≡ (flags_at (trimmed flags) >>= (λ w. Ok (record { name = trimmed name; writable = w; lines = line ∷ lines })))
+pub head-flags : (name uuid minor flags line : List ℕ) (lines : List (List ℕ)) → is_mapped_name (trimmed_text name) ≡ true → is_minor (trimmed_text minor) ≡ true
+    → head_of (name ∷ uuid ∷ minor ∷ flags ∷ line ∷ lines) ≡ (flags_at (trimmed_text flags) >>= (λ w. Ok (record { name = trimmed_text name; writable = w; lines = line ∷ lines })))
 head-flags name uuid minor flags line lines named numbered =
     head-named name uuid minor flags line lines named
-    ∙ ap (λ r. r >>= (λ _. flags_at (trimmed flags) >>= (λ w. Ok (record { name = trimmed name; writable = w; lines = line ∷ lines }))))
-    (cond-true (is_minor (trimmed minor)) (Ok (trimmed minor)) (Err kinds.Number) numbered)
+    ∙ ap (λ r. r >>= (λ _. flags_at (trimmed_text flags) >>= (λ w. Ok (record { name = trimmed_text name; writable = w; lines = line ∷ lines }))))
+    (cond-true (is_minor (trimmed_text minor)) (Ok (trimmed_text minor)) (Err kinds.Number) numbered)
 
 pub after_flags : {A : Type 0} (r : Read Bool) (f : Bool → Read A) (kind : TextKind) → r ≡ Err kind → (r >>= f) ≡ Err kind
 after_flags r f kind e = ap (λ r. r >>= f) e
@@ -59,9 +59,9 @@ length-head (name ∷ uuid ∷ []) head e = cc
 length-head (name ∷ uuid ∷ minor ∷ []) head e = cc
 length-head (name ∷ uuid ∷ minor ∷ flags ∷ []) head e = cc
 length-head (name ∷ uuid ∷ minor ∷ flags ∷ line ∷ lines) head e =
-    let called = bind_ok (name_at (trimmed name)) _ head e in
-    let numbered = bind_ok (minor_at (trimmed minor)) _ head called.2 in
-    let writable = bind_ok (flags_at (trimmed flags)) _ head numbered.2 in
+    let called = bind_ok (name_at (trimmed_text name)) _ head e in
+    let numbered = bind_ok (minor_at (trimmed_text minor)) _ head called.2 in
+    let writable = bind_ok (flags_at (trimmed_text flags)) _ head numbered.2 in
     let made : record { name = called.0; writable = writable.0; lines = line ∷ lines } ≡ head = let h = writable.2 in cc in
     subst (λ (h : Head). length h.lines + 4 ≡ length (name ∷ uuid ∷ minor ∷ flags ∷ line ∷ lines)) made (omega arith)
 

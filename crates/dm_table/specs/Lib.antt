@@ -1,4 +1,5 @@
 pub mod Words
+pub mod TextKinds
 pub mod Numbers
 pub mod Names
 pub mod Reading

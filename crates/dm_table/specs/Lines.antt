@@ -7,7 +7,7 @@ use Rattle.dm_table.specs.declared.table.Target.{Target}
 use Rattle.dm_table.specs.declared.table.Target.TheVariants.{Linear, Striped, Zero, Error}
 use Rattle.dm_table.specs.declared.fault.TextKind.TheVariants as kinds
 use Rattle.dm_table.specs.Words.{Word}
-use Rattle.dm_table.specs.Numbers.{number, kept}
+use Rattle.dm_table.specs.Numbers.{number, number_if}
 use Rattle.dm_table.specs.Names.{is_device}
 use Rattle.dm_table.specs.Reading.{Read, ◌>>=◌}
 
@@ -42,11 +42,11 @@ bases_at (name ∷ offset ∷ more) = do
 
 -- 1 to 16 devices
 abbrev pub stripes_at : Word → Read ℕ
-stripes_at word = ok_or (kept (λ n. nat_le 1 n && nat_le n 16) (number word)) kinds.StripeCount
+stripes_at word = ok_or (number_if (λ n. nat_le 1 n && nat_le n 16) (number word)) kinds.StripeCount
 
 -- a chunk of at least one sector
 abbrev pub chunk_at : Word → Read ℕ
-chunk_at word = ok_or (kept (λ n. nat_le 1 n) (number word)) kinds.ZeroChunk
+chunk_at word = ok_or (number_if (λ n. nat_le 1 n) (number word)) kinds.ZeroChunk
 
 -- exactly n pairs, which are counted before any is looked at
 abbrev pub pairs_at : ℕ → List Word → Read (List Base)
@@ -62,17 +62,17 @@ striped_at (count ∷ size ∷ pairs) = do
 striped_at words = Err kinds.ArgCount
 
 -- a target without arguments
-unfoldable pub bare : Target → List Word → Read Target
-bare target [] = Ok target
-bare target (word ∷ more) = Err kinds.ArgCount
+unfoldable pub bare_at : Target → List Word → Read Target
+bare_at target [] = Ok target
+bare_at target (word ∷ more) = Err kinds.ArgCount
 
 -- the target of that type with those arguments
 unfoldable pub target_at : Word → List Word → Read Target
 target_at type arguments =
     if bytes_eq type (codes "linear") then linear_at arguments
     else if bytes_eq type (codes "striped") then striped_at arguments
-    else if bytes_eq type (codes "zero") then bare Zero arguments
-    else if bytes_eq type (codes "error") then bare Error arguments
+    else if bytes_eq type (codes "zero") then bare_at Zero arguments
+    else if bytes_eq type (codes "error") then bare_at Error arguments
     else Err kinds.Target
 
 -- `<start_sector> <num_sectors> <target_type> <target_args>`

@@ -12,6 +12,6 @@ number word =
     then Some (digits_value 10 word) else None
 
 -- the number, if it passes the test
-abbrev pub kept : (ℕ → Bool) → Option ℕ → Option ℕ
-kept test None = None
-kept test (Some n) = if test n then Some n else None
+abbrev pub number_if : (ℕ → Bool) → Option ℕ → Option ℕ
+number_if test None = None
+number_if test (Some n) = if test n then Some n else None

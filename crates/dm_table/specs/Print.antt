@@ -27,5 +27,5 @@ abbrev pub table_text : List Line → List ℕ
 table_text lines = flat_map (λ line. line_text line ++ 10 ∷ []) lines
 
 -- a word after a space
-abbrev pub spaced : Word → List ℕ
-spaced word = 32 ∷ word
+abbrev pub spaced_word : Word → List ℕ
+spaced_word word = 32 ∷ word

@@ -6,7 +6,7 @@ use Rattle.dm_table.specs.declared.table.Line.{Line}
 use Rattle.dm_table.specs.declared.stack.Entry.{Entry}
 use Rattle.dm_table.specs.declared.fault.TextFault.{TextFault}
 use Rattle.dm_table.specs.declared.fault.TextKind.TheVariants as kinds
-use Rattle.dm_table.specs.Words.{Word, is_white, is_text, words, trimmed, entries_of, fields_of}
+use Rattle.dm_table.specs.Words.{Word, is_white, is_text, words, trimmed_text, entries_of, fields_of}
 use Rattle.dm_table.specs.Names.{is_mapped_name}
 use Rattle.dm_table.specs.Reading.{Read, ◌>>=◌, at_place}
 use Rattle.dm_table.specs.Numbers.{number}
@@ -45,10 +45,10 @@ pub record Head : Type 0 where
 -- `<name>,<uuid>,<minor>,<flags>,<table>[,<table>+]`: the uuid may be any text
 unfoldable pub head_of : List (List ℕ) → Read Head
 head_of (name ∷ uuid ∷ minor ∷ flags ∷ line ∷ lines) = do
-  called ← name_at (trimmed name)
-  numbered ← minor_at (trimmed minor)
-  writable ← flags_at (trimmed flags)
-  Ok (record { name = called; writable = writable; lines = line ∷ lines })
+  word ← name_at (trimmed_text name)
+  digits ← minor_at (trimmed_text minor)
+  writable ← flags_at (trimmed_text flags)
+  Ok (record { name = word; writable = writable; lines = line ∷ lines })
 head_of fields = Err kinds.Fields
 
 -- entry e: a fault before its lines stands at line 0
@@ -75,8 +75,8 @@ stack_of text = if not (is_text text) then at_place 0 0 (Err kinds.NotText) else
 -- the one entry of that name
 abbrev pub single_of : Word → Bool → List Line → Result (List Entry) TextFault
 single_of name writable table = do
-  called ← at_place 1 0 (name_at name)
-  Ok (record { number = 1; name = called; writable = writable; table = table } ∷ [])
+  word ← at_place 1 0 (name_at name)
+  Ok (record { number = 1; name = word; writable = writable; table = table } ∷ [])
 
 -- an entry's number counts from 1, and its name is a mapped name
 pub record IsEntryOfGrammar (entry : Entry) : Type 0 where

@@ -24,8 +24,8 @@ unfoldable pub words : List ℕ → List Word
 words text = filter (λ word. nat_lt 0 (length word)) (slice_split is_white text)
 
 -- without the white space at both ends
-unfoldable pub trimmed : List ℕ → List ℕ
-trimmed text = let rest = drop (prefix_len is_white text) text in take (length rest - suffix_len is_white rest) rest
+unfoldable pub trimmed_text : List ℕ → List ℕ
+trimmed_text text = let rest = drop (prefix_len is_white text) text in take (length rest - suffix_len is_white rest) rest
 
 -- the lines of a text, cut at newlines
 unfoldable pub lines_of : List ℕ → List (List ℕ)

@@ -2,7 +2,7 @@
 ghost use Rattle.std.specs.Prelude.{◌≡◌, ◌-◌, ◌≤◌, ◌==◌, List, ℕ, [], ◌∷◌, length, IsTrue, ◌↔◌, MatchOption, MatchResult};
 ghost use Rattle.dm_table.specs.declared.fault.TextKind.TheVariants as kinds;
 ghost use Rattle.std.specs.List.{list_all, position_or_len, prefix_len, slice_split, suffix_len};
-ghost use Rattle.dm_table.specs.Words.{IsCons, is_white, is_text, trimmed, words};
+ghost use Rattle.dm_table.specs.Words.{IsCons, is_white, is_text, trimmed_text, words};
 
 use crate::fault::TextKind;
 use std::marker::Model;
@@ -28,7 +28,7 @@ pub(crate) fn is_blank(text: &[u8]) -> bool
     text.iter().all(|b| is_white(*b))
 }
 
-/// How many bytes of white space the text begins with.
+/// How many bytes of white space (space, tab, carriage return, newline) the text begins with.
 pub fn white_len(text: &[u8]) -> usize
     ensures value { result ≡ prefix_len is_white text.now }
     ensures bound { result ≤ length text.now }
@@ -53,7 +53,7 @@ fn trimmed_len(text: &[u8]) -> usize
     end
 }
 
-/// How many bytes stand before the first white space.
+/// How many bytes stand before the first white space: all of them, if there is none.
 pub fn word_len(text: &[u8]) -> usize
     ensures value { result ≡ position_or_len is_white text.now }
     ensures bound { result ≤ length text.now }
@@ -79,7 +79,8 @@ fn piece_len(text: &[u8], separator: u8) -> usize
     text.len()
 }
 
-/// The words that are left of a text.
+/// The words that are left of a text: the longest runs of bytes that are no white space. Any other
+/// byte is part of a word, also one that no table has.
 #[derive(Drop)]
 pub struct Words<'a> {
     rest: &'a [u8],
@@ -95,15 +96,18 @@ impl<'a> Model for Words<'a> {
 }
 
 impl<'a> Words<'a> {
+    /// All words of the text.
     pub fn new(text: &'a [u8]) -> Words<'a>
         ensures { result ≡ words text.now }
     {
         Words { rest: text }
     }
 
-    /// Takes the first word.
+    /// Takes the first word. Without one it is at its end, and stays there.
     pub fn next_word(&mut self) -> Option<&'a [u8]>
-        ensures { MatchOption result (self.old ≡ []) (λ word. self.old ≡ word.now ∷ self.new) }
+        ensures { MatchOption result
+            ((self.old ≡ []) × (self.new ≡ []))
+            (λ word. self.old ≡ word.now ∷ self.new) }
     {
         let rest = &self.rest[white_len(self.rest)..];
         let end = word_len(rest);
@@ -118,18 +122,19 @@ impl<'a> Words<'a> {
     pub(crate) fn take_word(&mut self) -> Result<&'a [u8], TextKind>
         ensures { MatchResult result
             (λ word. self.old ≡ word.now ∷ self.new)
-            (λ kind. (kind ≡ kinds.ArgCount) × (self.old ≡ [])) }
+            (λ kind. (kind ≡ kinds.ArgCount) × (self.old ≡ []) × (self.new ≡ [])) }
     {
         self.next_word().ok_or(TextKind::ArgCount)
     }
 
     /// There has to be no word.
-    pub(crate) fn end(&mut self) -> Result<(), TextKind>
+    pub(crate) fn end(&self) -> Result<(), TextKind>
         ensures { MatchResult result
-            (λ _. self.old ≡ [])
-            (λ kind. (kind ≡ kinds.ArgCount) × IsCons self.old) }
+            (λ _. self.now ≡ [])
+            (λ kind. (kind ≡ kinds.ArgCount) × IsCons self.now) }
     {
-        match self.next_word() {
+        let mut words = Words { rest: self.rest };
+        match words.next_word() {
             None => Ok(()),
             Some(_) => Err(TextKind::ArgCount),
         }
@@ -175,9 +180,11 @@ impl<'a> Pieces<'a> {
         }
     }
 
-    /// Takes the first piece.
+    /// Takes the first piece. Without one it is at its end, and stays there.
     pub(crate) fn next_piece(&mut self) -> Option<&'a [u8]>
-        ensures { MatchOption result (self.old ≡ []) (λ piece. self.old ≡ piece.now ∷ self.new) }
+        ensures { MatchOption result
+            ((self.old ≡ []) × (self.new ≡ []))
+            (λ piece. self.old ≡ piece.now ∷ self.new) }
     {
         let rest = self.rest?;
         let end = piece_len(rest, self.separator);
@@ -193,15 +200,15 @@ impl<'a> Pieces<'a> {
     pub(crate) fn take_field(&mut self) -> Result<&'a [u8], TextKind>
         ensures { MatchResult result
             (λ field. self.old ≡ field.now ∷ self.new)
-            (λ kind. (kind ≡ kinds.Fields) × (self.old ≡ [])) }
+            (λ kind. (kind ≡ kinds.Fields) × (self.old ≡ []) × (self.new ≡ [])) }
     {
         self.next_piece().ok_or(TextKind::Fields)
     }
 }
 
 /// The text without the white space at both ends.
-pub(crate) fn trimmed(text: &[u8]) -> &[u8]
-    ensures { result.now ≡ trimmed text.now }
+pub(crate) fn trim(text: &[u8]) -> &[u8]
+    ensures { result.now ≡ trimmed_text text.now }
 {
     let rest = &text[white_len(text)..];
     &rest[..trimmed_len(rest)]

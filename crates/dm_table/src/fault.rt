@@ -2,64 +2,83 @@
 ghost use Rattle.std.specs.Prelude.{◌≡◌};
 ghost use Rattle.dm_table.specs.declared.fault.LineFault.TheVariants as line_fault;
 ghost use Rattle.dm_table.specs.declared.fault.ParseFault.TheVariants as parse_fault;
+ghost use Rattle.dm_table.specs.TextKinds.{text_name, text_number};
 
 use std::alloc::{AllocError, AllocFailed};
 use thiserror::Error;
 
-/// The kind of a text's first fault. The numbers are part of the interface.
+/// The kind of a text's first fault. Numbers and names are part of the interface: they are printed.
 #[derive(Clone, Copy, Debug, PartialEq, Eq, Error)]
+#[error("{}", self.name())]
 pub enum TextKind {
     /// A byte that is neither white space nor 0x21 to 0x7e, or is a backslash.
-    #[error("NotText")]
     NotText = 1,
     /// An entry of fewer than five fields, or a table without a line.
-    #[error("Fields")]
     Fields = 2,
     /// A word that is no mapped name, or no device argument.
-    #[error("Name")]
     Name = 3,
     /// Flags other than `ro` and `rw`.
-    #[error("Flags")]
     Flags = 4,
     /// A word that is no number below 2^64.
-    #[error("Number")]
     Number = 5,
     /// An unknown target type.
-    #[error("Target")]
     Target = 6,
     /// Too few or too many words.
-    #[error("ArgCount")]
     ArgCount = 7,
     /// A cipher that is not supported.
-    #[error("Cipher")]
     Cipher = 8,
     /// A key that is not 64 or 128 hexadecimal digits.
-    #[error("Key")]
     Key = 9,
     /// A hash format's version other than 1.
-    #[error("Version")]
     Version = 10,
     /// A block size other than 512, 1024, 2048 and 4096.
-    #[error("BlockSize")]
     BlockSize = 11,
     /// A hash algorithm that is not supported.
-    #[error("Algorithm")]
     Algorithm = 12,
     /// A root digest that is not 64 hexadecimal digits.
-    #[error("Digest")]
     Digest = 13,
     /// A salt that is neither `-` nor 2 to 512 hexadecimal digits in pairs.
-    #[error("Salt")]
     Salt = 14,
     /// An unknown or repeated option.
-    #[error("Option")]
     Option = 15,
     /// A number of stripes that is not 1 to 16.
-    #[error("StripeCount")]
     StripeCount = 16,
     /// A chunk that is no number of at least 1.
-    #[error("ZeroChunk")]
     ZeroChunk = 17,
+}
+
+impl TextKind {
+    /// The number that is printed, 1 to 17.
+    pub fn number(self) -> u8
+        ensures { result ≡ text_number self }
+    {
+        self as u8
+    }
+
+    /// The name that is printed: the variant's.
+    pub fn name(self) -> &'static str
+        ensures { result.now ≡ text_name self }
+    {
+        match self {
+            TextKind::NotText => "NotText",
+            TextKind::Fields => "Fields",
+            TextKind::Name => "Name",
+            TextKind::Flags => "Flags",
+            TextKind::Number => "Number",
+            TextKind::Target => "Target",
+            TextKind::ArgCount => "ArgCount",
+            TextKind::Cipher => "Cipher",
+            TextKind::Key => "Key",
+            TextKind::Version => "Version",
+            TextKind::BlockSize => "BlockSize",
+            TextKind::Algorithm => "Algorithm",
+            TextKind::Digest => "Digest",
+            TextKind::Salt => "Salt",
+            TextKind::Option => "Option",
+            TextKind::StripeCount => "StripeCount",
+            TextKind::ZeroChunk => "ZeroChunk",
+        }
+    }
 }
 
 /// A text's first fault. Entries and lines count from 1; a table text's fault has entry 0, and a
@@ -75,8 +94,10 @@ pub struct TextFault {
 /// Why a text was not read.
 #[derive(Clone, Copy, Debug, PartialEq, Eq, Error)]
 pub enum ParseFault {
+    /// The text's first fault.
     #[error(transparent)]
     Text(TextFault),
+    /// Memory was refused.
     #[error("out of memory")]
     NoMemory,
 }

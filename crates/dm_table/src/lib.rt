@@ -2,8 +2,12 @@
 #![tactic(auto)]
 
 mod cut;
+#[cfg(test)]
+mod edited_texts;
 mod fault;
 mod line;
+#[cfg(test)]
+mod long_texts;
 mod name;
 mod numbers;
 mod print;
@@ -17,6 +21,7 @@ mod tests;
 
 pub use crate::cut::{Words, white_len, word_len};
 pub use crate::fault::{ParseFault, TextFault, TextKind};
+pub use crate::name::is_device;
 pub use crate::numbers::number;
 pub use crate::print::print_table;
 pub use crate::stack::{Entry, StackText};

@@ -12,8 +12,8 @@ pub(crate) fn is_mapped_name(word: &[u8]) -> bool
     has_name_len(word, 127) && are_mapped_bytes(word)
 }
 
-/// The path of a mapped device, or a leaf name.
-pub(crate) fn is_device(word: &[u8]) -> bool
+/// Whether the word is a device argument: the path of a mapped device, or a leaf name.
+pub fn is_device(word: &[u8]) -> bool
     ensures { result ≡ is_device word.now }
 {
     if word.starts_with(MAPPER) {

@@ -2,7 +2,8 @@
 ghost use Rattle.std.specs.Prelude.{◌≡◌};
 ghost use Rattle.dm_table.specs.Numbers.{number};
 
-/// The value of one or more decimal digits, if it is below 2^64.
+/// The value of one or more decimal digits, if it is below 2^64. Leading zeros are allowed; a sign,
+/// a base and white space are not.
 pub fn number(word: &[u8]) -> Option<u64>
     ensures { result ≡ number word.now }
 {

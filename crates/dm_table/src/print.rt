@@ -2,14 +2,18 @@
 ghost use Rattle.std.specs.Prelude.{◌≡◌, ◌∷◌, ◌++◌, [], OnOk, IfOk, Ok, decimal, flat_map};
 ghost use Rattle.dm_table.specs.declared.table.Target.TheVariants.{Linear, Striped};
 ghost use Rattle.dm_table.specs.TableText.{table_of};
-ghost use Rattle.dm_table.specs.Print.{base_words, line_text, spaced, table_text, target_words};
+ghost use Rattle.dm_table.specs.Print.{base_words, line_text, spaced_word, table_text, target_words};
 
 use crate::table::{Base, Line, Table, Target};
 use itoa::Buffer;
 use std::alloc::{AllocError, Global};
 
-/// Prints each line on a line of its own, ended by a newline. `show_keys` has no effect on these
-/// targets, which have no key. It fails only where memory does.
+/// Prints each line on a line of its own, ended by a newline, as `dmsetup create` takes them.
+/// `show_keys` has no effect on these targets, which have no key.
+///
+/// # Errors
+///
+/// Memory for the text was refused.
 pub fn print_table(alloc: Global, table: &Table, show_keys: bool) -> Result<Vec<u8>, AllocError>
     ensures text { IfOk result (λ text. text.items ≡ table_text table.now) }
     ensures reads_back { IfOk result (λ text. table_of text.items ≡ Ok table.now) }
@@ -34,7 +38,7 @@ fn print_line(text: &mut Vec<u8>, line: &Line) -> Result<(), AllocError>
 
 fn print_target(text: &mut Vec<u8>, target: &Target) -> Result<(), AllocError>
     ensures { OnOk result
-        (text.new.items ≡ text.old.items ++ flat_map spaced (target_words target.now)) }
+        (text.new.items ≡ text.old.items ++ flat_map spaced_word (target_words target.now)) }
 {
     match target {
         Target::Linear(base) => print_linear(text, base),
@@ -46,7 +50,7 @@ fn print_target(text: &mut Vec<u8>, target: &Target) -> Result<(), AllocError>
 
 fn print_linear(text: &mut Vec<u8>, base: &Base) -> Result<(), AllocError>
     ensures { OnOk result
-        (text.new.items ≡ text.old.items ++ flat_map spaced (target_words (Linear base.now))) }
+        (text.new.items ≡ text.old.items ++ flat_map spaced_word (target_words (Linear base.now))) }
 {
     push_spaced(text, b"linear")?;
     print_base(text, base)?;
@@ -56,7 +60,7 @@ fn print_linear(text: &mut Vec<u8>, base: &Base) -> Result<(), AllocError>
 fn print_striped(text: &mut Vec<u8>, chunk: u64, bases: &[Base]) -> Result<(), AllocError>
     ensures { OnOk result
         (text.new.items ≡ text.old.items
-        ++ flat_map spaced (target_words (Striped chunk bases.now))) }
+        ++ flat_map spaced_word (target_words (Striped chunk bases.now))) }
 {
     push_spaced(text, b"striped")?;
     push_spaced_number(text, bases.len() as u64)?;
@@ -67,7 +71,7 @@ fn print_striped(text: &mut Vec<u8>, chunk: u64, bases: &[Base]) -> Result<(), A
 
 fn print_bases(text: &mut Vec<u8>, bases: &[Base]) -> Result<(), AllocError>
     ensures { OnOk result
-        (text.new.items ≡ text.old.items ++ flat_map spaced (flat_map base_words bases.now)) }
+        (text.new.items ≡ text.old.items ++ flat_map spaced_word (flat_map base_words bases.now)) }
 {
     for base in bases {
         print_base(text, base)?;
@@ -77,7 +81,7 @@ fn print_bases(text: &mut Vec<u8>, bases: &[Base]) -> Result<(), AllocError>
 
 fn print_base(text: &mut Vec<u8>, base: &Base) -> Result<(), AllocError>
     ensures { OnOk result
-        (text.new.items ≡ text.old.items ++ flat_map spaced (base_words base.now)) }
+        (text.new.items ≡ text.old.items ++ flat_map spaced_word (base_words base.now)) }
 {
     push_spaced(text, base.device.as_slice())?;
     push_spaced_number(text, base.offset)

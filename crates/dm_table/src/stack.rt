@@ -13,7 +13,9 @@ use std::marker::Model;
 #[derive(Debug, Drop)]
 pub struct Entry {
     pub number: u32,
+    /// A mapped name. Another entry may have the same.
     pub name: Name,
+    /// Whether the flags are `rw`; else they are `ro`.
     pub writable: bool,
     pub table: Table,
 }
@@ -44,8 +46,12 @@ impl StackText {
         StackText { entries }
     }
 
-    /// The one device of that name, as entry 1. A name that is no mapped name is the fault `Name` of
-    /// entry 1, line 0, and the table is dropped.
+    /// The one device of that name, as entry 1.
+    ///
+    /// # Errors
+    ///
+    /// `Text`: the fault `Name` of entry 1, line 0, for a name that is no mapped name. `NoMemory`: the
+    /// memory for the entry was refused. The table is dropped in both cases.
     pub fn single(
         alloc: Global,
         name: &[u8],
@@ -79,6 +85,7 @@ impl StackText {
         self.entries.len()
     }
 
+    /// The devices, in the order written.
     pub fn as_slice(&self) -> &[Entry]
         ensures value { result.now ≡ self.now }
         ensures grammar { IsStackOfGrammar self.now }

@@ -5,7 +5,7 @@ ghost use Rattle.dm_table.specs.Words.{fields_of};
 ghost use Rattle.dm_table.specs.Reading.{IsAnswer};
 ghost use Rattle.dm_table.specs.StackText.{entry_lines, entry_of, flags_at, head_of, is_minor, stack_of};
 
-use crate::cut::{Pieces, Words, is_blank, is_text, trimmed};
+use crate::cut::{Pieces, Words, is_blank, is_text, trim};
 use crate::fault::{ParseFault, TextFault, TextKind};
 use crate::line::read_line_at;
 use crate::name::is_mapped_name;
@@ -15,7 +15,14 @@ use crate::table::{Name, Table};
 use std::alloc::Global;
 
 /// Reads a stack text: entries `<name>,<uuid>,<minor>,<flags>,<table>[,<table>+]`, with semicolons
-/// between them. An entry of white space alone is skipped, but counted.
+/// between them, as the kernel's guide `admin-guide/device-mapper/dm-init.rst` has them. An entry of
+/// white space alone is skipped, but counted. A text without an entry has no device.
+///
+/// # Errors
+///
+/// `Text`: the first fault in reading order; a byte that is no text goes before all others, as entry
+/// 0, line 0, and a fault before an entry's first line stands at line 0. `NoMemory`: memory for what
+/// was read so far was refused.
 pub fn parse_stack(alloc: Global, text: &[u8]) -> Result<StackText, ParseFault>
     requires { length text.now < 2 ^ 32 - 1 }
     ensures { IsAnswer result (stack_of text.now) }
@@ -39,12 +46,11 @@ fn read_entry(alloc: Global, text: &[u8], number: u32) -> Result<Entry, ParseFau
     requires { length text.now < 2 ^ 32 - 1 }
     ensures { IsAnswer result (entry_of number (fields_of text.now)) }
 {
-    let mut fields = Pieces::new(text, b',');
-    let head = match read_head(&mut fields) {
+    let head = match read_head(Pieces::new(text, b',')) {
         Ok(head) => head,
         Err(kind) => return Err(fault(number, kind)),
     };
-    let table = read_lines(alloc, number, head.line, fields)?;
+    let table = read_lines(alloc, number, head.line, head.lines)?;
     let name = Name::new(alloc, head.name)?;
     Ok(Entry {
         number,
@@ -54,40 +60,42 @@ fn read_entry(alloc: Global, text: &[u8], number: u32) -> Result<Entry, ParseFau
     })
 }
 
-// What the fields before the second line say, and the first line.
+// What the fields before the lines say, the first line, and the lines after it.
 #[derive(Drop)]
 struct Head<'a> {
     name: &'a [u8],
     writable: bool,
     line: &'a [u8],
+    lines: Pieces<'a>,
 }
 
-fn read_head<'a>(fields: &mut Pieces<'a>) -> Result<Head<'a>, TextKind>
+fn read_head(mut fields: Pieces<'_>) -> Result<Head<'_>, TextKind>
     ensures { MatchResult result
-        (λ head. head_of fields.old ≡ Ok (record {
+        (λ head. head_of fields.entry ≡ Ok (record {
           name = head.name.now;
           writable = head.writable;
-          lines = head.line.now ∷ fields.new;
+          lines = head.line.now ∷ head.lines;
         }))
-        (λ kind. head_of fields.old ≡ Err kind) }
+        (λ kind. head_of fields.entry ≡ Err kind) }
 {
     let name = fields.take_field()?;
     let _uuid = fields.take_field()?;
     let minor = fields.take_field()?;
     let flags = fields.take_field()?;
     let line = fields.take_field()?;
-    let name = trimmed(name);
+    let name = trim(name);
     if !is_mapped_name(name) {
         return Err(TextKind::Name);
     }
-    if !is_minor(trimmed(minor)) {
+    if !is_minor(trim(minor)) {
         return Err(TextKind::Number);
     }
-    let writable = read_flags(trimmed(flags))?;
+    let writable = read_flags(trim(flags))?;
     Ok(Head {
         name,
         writable,
         line,
+        lines: fields,
     })
 }
 

@@ -1,11 +1,12 @@
 //! A device's table, as it was read.
-ghost use Rattle.std.specs.Prelude.{◌≡◌, List, ℕ, ◌∷◌, [], ◌++◌, length, IfOk};
+ghost use Rattle.std.specs.Prelude.{◌≡◌, List, ℕ, ◌∷◌, [], ◌++◌, length, IfOk, MatchResult};
 ghost use Rattle.dm_table.specs.Grammar.{IsTableOfGrammar};
 
 use std::alloc::{AllocError, Global};
 use std::marker::Model;
 
-/// The bytes of a name, as they were written.
+/// The bytes of a name, as they were written: a mapped name has 1 to 127 of them. A device argument
+/// is `/dev/mapper/` and a mapped name, or a leaf name of 1 to 255 bytes.
 #[derive(Debug, Drop)]
 pub struct Name {
     bytes: Vec<u8>,
@@ -27,6 +28,7 @@ impl Name {
         Ok(Name { bytes })
     }
 
+    /// The bytes, as they were written.
     pub fn as_slice(&self) -> &[u8]
         ensures { result.now ≡ self.now }
     {
@@ -38,7 +40,9 @@ impl Name {
 /// range begins.
 #[derive(Debug, Drop)]
 pub struct Base {
+    /// A device argument.
     pub device: Name,
+    /// In sectors of 512 bytes.
     pub offset: u64,
 }
 
@@ -78,12 +82,15 @@ impl Bases {
     }
 
     pub(crate) fn push(&mut self, base: Base) -> Result<(), AllocError>
-        ensures { IfOk result (λ _. self.new ≡ self.old ++ base ∷ []) }
+        ensures { MatchResult result
+            (λ _. self.new ≡ self.old ++ base ∷ [])
+            (λ _. self.new ≡ self.old) }
     {
         self.list.push(base)?;
         Ok(())
     }
 
+    /// The devices, in the order written.
     pub fn as_slice(&self) -> &[Base]
         ensures { result.now ≡ self.now }
     {
@@ -104,13 +111,13 @@ impl Bases {
 /// What a line does.
 #[derive(Debug, Drop)]
 pub enum Target {
-    /// Sectors of one device, from its offset on.
+    /// `linear`: sectors of one device, from its offset on.
     Linear(Base),
-    /// Chunks of so many sectors, on the devices in turn.
+    /// `striped`: chunks of so many sectors, at least 1, on the devices in turn.
     Striped { chunk: u64, bases: Bases },
-    /// Reads as zeros; what is written is dropped.
+    /// `zero`: reads as zeros; what is written is dropped.
     Zero,
-    /// Every read and every write fails.
+    /// `error`: every read and every write fails.
     Error,
 }
 
@@ -130,7 +137,8 @@ impl Target {
     }
 }
 
-/// One line of a table: the sectors from `start` on, `length` of them.
+/// One line of a table: the sectors of 512 bytes from `start` on, `length` of them. Neither is checked
+/// against other lines or a device; a length of 0 is read as it stands.
 #[derive(Debug, Drop)]
 pub struct Line {
     pub start: u64,

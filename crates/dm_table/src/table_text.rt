@@ -11,8 +11,14 @@ use crate::line::read_line_at;
 use crate::table::Table;
 use std::alloc::Global;
 
-/// Reads a table text: a line for each range of sectors, ended by a newline. Lines without a word
-/// and comments, which begin with `#`, are skipped.
+/// Reads a table text, as `dmsetup create` takes it: a line for each range of sectors, ended by a
+/// newline. Lines without a word and comments, which begin with `#`, are skipped, but counted.
+///
+/// # Errors
+///
+/// `Text`: the first fault in reading order, of entry 0; a byte that is no text goes before all
+/// others, at line 0, and a text without a line is the fault `Fields` at line 0. `NoMemory`: memory
+/// for what was read so far was refused.
 pub fn parse_table(alloc: Global, text: &[u8]) -> Result<Table, ParseFault>
     requires { length text.now < 2 ^ 32 - 1 }
     ensures { IsAnswer result (table_of text.now) }

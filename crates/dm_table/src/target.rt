@@ -1,7 +1,7 @@
 //! The target of a line.
 ghost use Rattle.std.specs.Prelude.{◌≡◌, length, ◌*◌};
 ghost use Rattle.dm_table.specs.Reading.{IsReading};
-ghost use Rattle.dm_table.specs.Lines.{base_at, bases_at, chunk_at, linear_at, stripes_at, striped_at, target_at, bare};
+ghost use Rattle.dm_table.specs.Lines.{base_at, bases_at, chunk_at, linear_at, stripes_at, striped_at, target_at, bare_at};
 
 use crate::cut::Words;
 use crate::fault::{LineFault, TextKind};
@@ -32,7 +32,7 @@ pub(crate) fn read_target(
 }
 
 fn read_bare(target: Target, mut arguments: Words<'_>) -> Result<Target, LineFault>
-    ensures { IsReading result (bare target arguments.entry) }
+    ensures { IsReading result (bare_at target arguments.entry) }
 {
     arguments.end()?;
     Ok(target)

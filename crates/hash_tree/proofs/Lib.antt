@@ -1,7 +1,7 @@
 pub mod lemmas
-pub mod Blocks
+pub mod BlockListLemmas
 pub mod ChainLemmas
 pub mod BuildLemmas
 pub mod FormedLemmas
 pub mod CollisionLemmas
-mod TreeRows
+mod WorkedTreeLemmas

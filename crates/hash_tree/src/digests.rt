@@ -16,7 +16,7 @@ pub fn digest(salt: &Salt, block: &[u8]) -> [u8; 32]
     hasher.finalize()
 }
 
-/// The digest in that slot of a hash block.
+/// The digest in that slot of a hash block: 32 bytes, of which slot 0 are the block's first.
 #[tactic(auto, unfolding(crate::specs::Digests::digest_in))]
 pub fn digest_in(block: &[u8], slot: u64) -> [u8; 32]
     requires { 32 * slot + 32 ≤ length block.now }

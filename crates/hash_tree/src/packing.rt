@@ -8,7 +8,8 @@ ghost use Rattle.hash_tree.specs.Tree.{area, root, cut};
 use crate::{Salt, Shape, digest};
 use std::alloc::{AllocError, Global};
 
-/// The whole area and the root over the data blocks' digests; each block is made once.
+/// The tree's hash blocks as they are stored, the top level first and each filled up with zeros, and the root
+/// digest. `digests` are those of the data blocks in their order; each hash block is made once.
 pub fn area(
     alloc: Global,
     shape: &Shape,

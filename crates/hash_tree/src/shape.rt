@@ -131,7 +131,8 @@ impl Shape {
         count
     }
 
-    /// How many hash blocks a level has; level 0 holds the digests of the data blocks.
+    /// How many hash blocks a level has. Levels count from the bottom: level 0 holds the digests of the data
+    /// blocks, and level `levels() - 1` is one block.
     pub fn level_blocks(&self, level: u32) -> u64
         requires { level < levels self.now }
         ensures value { result ≡ level_blocks self.now level }
@@ -171,7 +172,7 @@ impl Shape {
         self.slot(self.ancestor(level, index))
     }
 
-    /// Where block `index` of a level stands on the hash device, in hash blocks.
+    /// Where block `index` of a level stands, counted in hash blocks from the beginning of the hash device.
     pub fn position(&self, level: u32, index: u64) -> u64
         requires level { level < levels self.now }
         requires index { index < level_blocks self.now level }

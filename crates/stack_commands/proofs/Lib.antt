@@ -1,4 +1,5 @@
 pub mod BindingLemmas
-pub mod LoadingLemmas
-pub mod WordLemmas
+pub mod CommandWordLemmas
+pub mod ConfigurationLemmas
 pub mod EndingLemmas
+pub mod FileUseLemmas

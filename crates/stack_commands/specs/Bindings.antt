@@ -5,23 +5,23 @@ use Rattle.std.specs.Option.{option_and_then}
 use Rattle.std.specs.Str.{bytes_eq}
 use Rattle.block_device.specs.Device.{Device, in_memory, zeros_image, ramp_image}
 use Rattle.block_device.specs.File.{opened}
-use Rattle.dm_table.specs.Numbers.{number, kept}
+use Rattle.dm_table.specs.Numbers.{number, number_if}
 use Rattle.stack_commands.specs.declared.bindings.Backing.{Backing}
 use Rattle.stack_commands.specs.declared.bindings.Backing.TheVariants.{File, Zeros, Ramp}
 use Rattle.stack_commands.specs.declared.bindings.Binding.{Binding}
 
 -- what stands behind a name
-pub data Backed : Type 0 where
+pub data BackingRecord : Type 0 where
   -- a file, which may be written or not
-  file : List ℕ → Bool → Backed
+  file : List ℕ → Bool → BackingRecord
   -- so many zero sectors
-  zeros : ℕ → Backed
+  zeros : ℕ → BackingRecord
   -- so many sectors, of which sector k is filled with the byte k
-  ramp : ℕ → Backed
+  ramp : ℕ → BackingRecord
 
-pub record Bound : Type 0 where
+pub record BindingRecord : Type 0 where
   pub name : List ℕ
-  pub backed : Backed
+  pub backing : BackingRecord
 
 -- the text before and behind its first byte b, if it has one
 unfoldable pub cut : ℕ → List ℕ → Option (List ℕ × List ℕ)
@@ -31,11 +31,11 @@ cut b text =
 
 -- from 1 to 65,536 sectors
 abbrev pub sectors_at : List ℕ → Option ℕ
-sectors_at word = kept (λ n. nat_le 1 n && nat_le n 65536) (number word)
+sectors_at word = number_if (λ n. nat_le 1 n && nat_le n 65536) (number word)
 
 -- `rw:FILE`, `ro:FILE`, `zero:N` or `ramp:N`, of which the kind stands before the colon
-abbrev pub backed_by : List ℕ → List ℕ → Option Backed
-backed_by kind rest =
+abbrev pub backing_by : List ℕ → List ℕ → Option BackingRecord
+backing_by kind rest =
     if bytes_eq kind (codes "rw") then Some (file rest true)
     else if bytes_eq kind (codes "ro") then Some (file rest false)
     else if bytes_eq kind (codes "zero") then option_map zeros (sectors_at rest)
@@ -43,33 +43,33 @@ backed_by kind rest =
     else None
 
 -- `KIND:REST`, cut at the first colon (58)
-abbrev pub backing_of : List ℕ → Option Backed
-backing_of text = option_and_then (λ parts. backed_by parts.0 parts.1) (cut 58 text)
+abbrev pub backing_of : List ℕ → Option BackingRecord
+backing_of text = option_and_then (λ parts. backing_by parts.0 parts.1) (cut 58 text)
 
-abbrev pub bind : List ℕ → Backed → Bound
-bind name backed = record { name = name; backed = backed }
+abbrev pub bind : List ℕ → BackingRecord → BindingRecord
+bind name backing = record { name = name; backing = backing }
 
 -- `NAME=KIND:REST`, cut at the first `=` (61)
-abbrev pub binding_of : List ℕ → Option Bound
+abbrev pub binding_of : List ℕ → Option BindingRecord
 binding_of word = option_and_then (λ parts. option_map (bind parts.0) (backing_of parts.1)) (cut 61 word)
 
 -- what a backing and a binding of the program say
-abbrev pub backing_meant : Backing → Backed
-backing_meant (File path writable) = file path.now writable
-backing_meant (Zeros sectors) = zeros sectors
-backing_meant (Ramp sectors) = ramp sectors
+abbrev pub backing_record : Backing → BackingRecord
+backing_record (File path writable) = file path.now writable
+backing_record (Zeros sectors) = zeros sectors
+backing_record (Ramp sectors) = ramp sectors
 
-abbrev pub binding_meant : Binding → Bound
-binding_meant binding = record { name = binding.name.now; backed = backing_meant binding.backing }
+abbrev pub binding_record : Binding → BindingRecord
+binding_record binding = record { name = binding.name.now; backing = backing_record binding.backing }
 
 -- the device is the one that stands behind the name; a file has its own size
-abbrev pub IsDeviceOf : Backed → Device → Type 0
+abbrev pub IsDeviceOf : BackingRecord → Device → Type 0
 IsDeviceOf (file path writable) device = device ≡ opened device.size writable
 IsDeviceOf (zeros n) device = device ≡ in_memory (zeros_image n) true
 IsDeviceOf (ramp n) device = device ≡ in_memory (ramp_image n) true
 
 -- whether it may be written: what is in memory always
-abbrev pub may_write : Backed → Bool
+abbrev pub may_write : BackingRecord → Bool
 may_write (file path writable) = writable
 may_write (zeros n) = true
 may_write (ramp n) = true

@@ -1,8 +1,8 @@
 -- What a command prints where it ends early, and its status.
-use Rattle.std.specs.Prelude.{◌≡◌, ℕ, List, [], ◌++◌, codes, Option}
+use Rattle.std.specs.Prelude.{◌≡◌, ◌≢◌, ℕ, List, [], ◌++◌, codes, decimal, Option}
 use Rattle.std.specs.Io.KnownBytes.{Appends}
-use Rattle.block_device.specs.declared.file.OpenFault.{OpenFault}
-use Rattle.block_device.specs.declared.file.OpenFault.TheVariants as opening
+use Rattle.block_device.specs.declared.open_fault.OpenFault.{OpenFault}
+use Rattle.block_device.specs.declared.open_fault.OpenFault.TheVariants as opening
 use Rattle.dm_table.specs.declared.fault.ParseFault.{ParseFault}
 use Rattle.dm_table.specs.declared.fault.ParseFault.TheVariants as parse
 use Rattle.stack_loader.specs.declared.refusal.ConfigFault.{ConfigFault}
@@ -13,42 +13,33 @@ use Rattle.stack_engine.specs.declared.fault.IoFault.{IoFault}
 use Rattle.stack_engine.specs.declared.fault.IoFault.TheVariants as io
 use Rattle.stack_commands.specs.declared.fault.CommandFault.{CommandFault}
 use Rattle.stack_commands.specs.declared.fault.CommandFault.TheVariants.{Usage, NoMemory, TooLong, Open, Leaves, Text, Load, Submit, Io, Format, Verify, Differs, Random, Session}
-use Rattle.stack_session.specs.declared.lines.SessionFault.TheVariants.{WriteFault}
+use Rattle.stack_session.specs.declared.fault.SessionFault.TheVariants.{WriteFault}
+use Rattle.verity_format.specs.declared.verifying.VerifyFault.{VerifyFault}
+use Rattle.verity_format.specs.declared.verifying.Verdict.{Verdict}
+use Rattle.verity_format.specs.declared.verifying.Verdict.TheVariants as verdicts
 use Rattle.stack_commands.specs.VerityTexts.{format_text, verify_text, verdict_text}
-use Rattle.stack_session.specs.Texts.{Kind, kind_of, kind_then, usage_text, no_memory, fault_text, refusal_text, submit_text, io_text}
+use Rattle.block_device.specs.OpenFault.{open_number, open_name}
+use Rattle.stack_loader.specs.FaultKinds.{config_number, config_name}
+use Rattle.stack_session.specs.Texts.{usage_text, no_memory, fault_text, refusal_text, submit_text, io_text}
 
--- how a command ends where a text isn't read, or isn't loaded
-abbrev pub of_text : ParseFault → CommandFault
-of_text (parse.Text fault) = Text fault
-of_text parse.NoMemory = NoMemory
+-- how a command ends where a text has a fault, and where a load is refused
+abbrev pub text_ending : ParseFault → CommandFault
+text_ending (parse.Text fault) = Text fault
+text_ending parse.NoMemory = NoMemory
 
-abbrev pub of_load : LoadFault → CommandFault
-of_load (load.Refused refusal) = Load refusal
-of_load load.NoMemory = NoMemory
-
-abbrev pub open_kind : OpenFault → Kind
-open_kind opening.NotFound = kind_of 1 (codes "NotFound")
-open_kind opening.NotAllowed = kind_of 2 (codes "NotAllowed")
-open_kind opening.TooLarge = kind_of 3 (codes "TooLarge")
-open_kind opening.OtherFault = kind_of 4 (codes "OtherFault")
-open_kind opening.NoMemory = kind_of 5 (codes "NoMemory")
-
-abbrev pub config_kind : ConfigFault → Kind
-config_kind config.DuplicateLeaf = kind_of 1 (codes "DuplicateLeaf")
-config_kind config.TooMany = kind_of 2 (codes "TooMany")
-config_kind config.BadName = kind_of 3 (codes "BadName")
-config_kind config.TooLarge = kind_of 4 (codes "TooLarge")
-config_kind config.NoMemory = kind_of 5 (codes "NoMemory")
+abbrev pub load_ending : LoadFault → CommandFault
+load_ending (load.Refused refusal) = Load refusal
+load_ending load.NoMemory = NoMemory
 
 -- a file that isn't opened, with its path
 abbrev pub open_text : OpenFault → List ℕ → List ℕ
 open_text opening.NoMemory path = no_memory
-open_text fault path = codes "refused " ++ kind_then (open_kind fault) (codes " " ++ (path ++ codes "\n"))
+open_text fault path = codes "refused " ++ (decimal (open_number fault) ++ (codes " " ++ (open_name fault ++ (codes " " ++ (path ++ codes "\n")))))
 
 -- leaves that aren't taken
 abbrev pub config_text : ConfigFault → List ℕ
 config_text config.NoMemory = no_memory
-config_text fault = codes "refused " ++ kind_then (config_kind fault) (codes "\n")
+config_text fault = codes "refused " ++ (decimal (config_number fault) ++ (codes " " ++ (config_name fault ++ codes "\n")))
 
 -- what is printed of it; a session's own faults print nothing
 abbrev pub ending_text : CommandFault → List ℕ
@@ -84,6 +75,16 @@ abbrev pub MayEnd : CommandFault → Type 0
 MayEnd NoMemory = Unit {0}
 MayEnd (Session fault) = fault ≡ WriteFault
 MayEnd fault = ⊥
+
+-- a fault of reading a superblock with its cause, or want of memory, or a line that can't be written
+abbrev pub IsVerifyEnd : (VerifyFault → Type 0) → CommandFault → Type 0
+IsVerifyEnd Cause (Verify fault) = Cause fault
+IsVerifyEnd Cause fault = MayEnd fault
+
+-- the same of a comparison, or the difference that was found
+abbrev pub IsComparisonEnd : (VerifyFault → Type 0) → (Verdict → Type 0) → CommandFault → Type 0
+IsComparisonEnd Cause Finding (Differs verdict) = (verdict ≢ verdicts.Matches) × Finding verdict
+IsComparisonEnd Cause Finding fault = IsVerifyEnd Cause fault
 
 -- nothing is written ahead of what ends a command, unless it is the writing that fails
 abbrev pub IsQuiet : CommandFault → Option (List ℕ) → Option (List ℕ) → Type 0

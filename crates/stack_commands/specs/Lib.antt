@@ -1,5 +1,9 @@
 pub mod Bindings
+pub mod CommandWords
+pub mod Configuration
 pub mod Endings
-pub mod Loading
+pub mod FileUses
+pub mod Formats
+pub mod Reads
+pub mod SuperblockTexts
 pub mod VerityTexts
-pub mod Words

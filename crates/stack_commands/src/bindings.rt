@@ -1,6 +1,6 @@
 // The names that a command line binds to devices.
 ghost use Rattle.std.specs.Prelude.{◌≡◌, option_map};
-ghost use Rattle.stack_commands.specs.Bindings.{backed_by, backing_meant, backing_of, binding_meant, binding_of, sectors_at};
+ghost use Rattle.stack_commands.specs.Bindings.{backing_by, backing_record, backing_of, binding_record, binding_of, sectors_at};
 
 use dm_table::number;
 
@@ -23,7 +23,7 @@ pub struct Binding<'a> {
 
 /// `NAME=rw:FILE`, `NAME=ro:FILE`, `NAME=zero:N` or `NAME=ramp:N`, cut at the first `=`.
 pub fn binding_of(word: &str) -> Option<Binding<'_>>
-    ensures { option_map binding_meant result ≡ binding_of word.now }
+    ensures { option_map binding_record result ≡ binding_of word.now }
 {
     let (name, text) = word.split_once('=')?;
     let backing = backing_of(text)?;
@@ -32,15 +32,15 @@ pub fn binding_of(word: &str) -> Option<Binding<'_>>
 
 // `rw:FILE`, `ro:FILE`, `zero:N` or `ramp:N`
 fn backing_of(text: &str) -> Option<Backing<'_>>
-    ensures { option_map backing_meant result ≡ backing_of text.now }
+    ensures { option_map backing_record result ≡ backing_of text.now }
 {
     let (kind, rest) = text.split_once(':')?;
-    backed_by(kind.as_bytes(), rest)
+    backing_by(kind.as_bytes(), rest)
 }
 
 // What stands behind the colon, by the kind that stands before it.
-fn backed_by<'a>(kind: &[u8], rest: &'a str) -> Option<Backing<'a>>
-    ensures { option_map backing_meant result ≡ backed_by kind.now rest.now }
+fn backing_by<'a>(kind: &[u8], rest: &'a str) -> Option<Backing<'a>>
+    ensures { option_map backing_record result ≡ backing_by kind.now rest.now }
 {
     if kind == b"rw".as_slice() {
         Some(Backing::File {

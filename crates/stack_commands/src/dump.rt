@@ -1,61 +1,43 @@
-// The commands `dump` and `table`: what a superblock says.
+// The command `dump`: what a superblock says.
+ghost use Rattle.std.specs.Prelude.{◌≡◌, OnOk, IfErr};
+ghost use Rattle.block_device.specs.Device.{Device};
+ghost use Rattle.verity_format.specs.Blocks.{IsOnlyRead};
+ghost use Rattle.verity_format.specs.Verifying.{IsReadCause};
+ghost use Rattle.stack_commands.specs.Endings.{IsQuiet, IsVerifyEnd};
+ghost use Rattle.stack_commands.specs.SuperblockTexts.{SaysSuperblock, superblock_text};
+
 use crate::fault::CommandFault;
 use crate::opening::open_file;
-use crate::superblock_text::{say_salt, say_uuid};
-use crate::verity_words::root_of;
-use stack_session::{Counted, SessionFault};
+use crate::superblock_text::say_superblock;
+use block_device::BlockDev;
+use stack_session::Counted;
 use std::fs::File;
 use std::io::Write;
 use std::rt::Files;
-use verity_format::{read_superblock, table_line};
+use verity_format::read_superblock;
 
-/// `dump HASH`: writes the fields of the superblock.
-pub fn dump<'a, R: Files<File = File> + AllocGlobal, W: Write>(
+/// `dump HASH`: the fields of the file's superblock.
+pub fn dump_file<'a, R: Files<File = File>, W: Write>(
     rt: &R,
-    words: &[&'a str],
+    hash: &'a str,
     writer: &mut Counted<W>,
 ) -> Result<(), CommandFault<'a>> {
-    let [hash] = words else {
-        return Err(CommandFault::Usage);
-    };
     let mut hash_dev = open_file(rt, hash, false)?;
-    let superblock = read_superblock(&mut hash_dev)?;
-    say_uuid(writer, &superblock.uuid())?;
-    let data_block = superblock.data_block();
-    let hash_block = superblock.hash_block();
-    let blocks = superblock.blocks();
-    match writer.print(format_args!(
-        "hash_type 1\nalgorithm sha256\ndata_block {data_block}\nhash_block {hash_block}\ndata_blocks {blocks}\n"
-    )) {
-        Ok(()) => {}
-        Err(_) => return Err(CommandFault::Session(SessionFault::WriteFault)),
-    }
-    say_salt(writer, &superblock.salt())?;
-    Ok(())
+    dump(&mut hash_dev, writer)
 }
 
-/// `table HASH ROOT DATANAME HASHNAME`: writes the table line of the image.
-pub fn table<'a, R: Files<File = File> + AllocGlobal, W: Write>(
-    rt: &R,
-    words: &[&'a str],
+// Writes the fields of the device's superblock.
+#[tactic(auto, using(crate::proofs::EndingLemmas::quiet))]
+fn dump<'a, H: BlockDev, W: Write>(
+    hash_dev: &mut H,
     writer: &mut Counted<W>,
-) -> Result<(), CommandFault<'a>> {
-    let [hash, root, data_name, hash_name] = words else {
-        return Err(CommandFault::Usage);
-    };
-    let root = root_of(root)?;
-    let mut hash_dev = open_file(rt, hash, false)?;
-    let superblock = read_superblock(&mut hash_dev)?;
-    let mut line = table_line(
-        rt.alloc(),
-        &superblock,
-        data_name.as_bytes(),
-        hash_name.as_bytes(),
-        &root,
-    )?;
-    line.push(b'\n')?;
-    match writer.put(line.as_slice()) {
-        Ok(()) => Ok(()),
-        Err(_) => Err(CommandFault::Session(SessionFault::WriteFault)),
-    }
+) -> Result<(), CommandFault<'a>>
+    ensures read { IsOnlyRead (H.state hash_dev.old) (H.state hash_dev.new) }
+    ensures ok { OnOk result (SaysSuperblock (H.state hash_dev.old) superblock_text (W.contents writer.old.inner) (W.contents writer.new.inner)) }
+    ensures err { IfErr result (IsVerifyEnd (IsReadCause (H.state hash_dev.old) (H.state hash_dev.new))) }
+    ensures quiet { IfErr result (λ fault. IsQuiet fault (W.contents writer.old.inner) (W.contents writer.new.inner)) }
+{
+    let superblock = read_superblock(hash_dev)?;
+    say_superblock(writer, &superblock)?;
+    Ok(())
 }

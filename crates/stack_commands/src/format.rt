@@ -1,119 +1,157 @@
 // The command `format`: makes a hash image over a data image.
+ghost use Rattle.std.specs.Prelude.{false, true, ◌≡◌, IfErr, IfOk};
+ghost use Rattle.block_device.specs.File.{opened};
+ghost use Rattle.block_device.specs.FileId.{file_id};
+ghost use Rattle.stack_commands.specs.FileUses.{is_one_file};
+ghost use Rattle.verity_format.specs.Formatting.{given_blocks, whole_blocks};
+ghost use Rattle.stack_session.specs.Counted.{Writes};
+ghost use Rattle.stack_commands.specs.Formats.{IsFormatEnd, IsMade, made_text};
+
 use crate::fault::CommandFault;
+use crate::file_use::is_one_file;
+use crate::image_options::ImageOptions;
 use crate::opening::open_file;
 use crate::random::draw;
-use crate::superblock_text::{say_digest, say_salt, say_uuid};
-use crate::verity_words::{Parts, parts_of};
-use block_device::BlockDev;
-use clap::ArgMatches;
+use crate::superblock_text::{say_blocks, say_root, say_salt, say_uuid};
+use block_device::{BlockDev, FileDev, OpenFault};
 use hash_tree::Salt;
 use rand::make_rng;
 use rand::rngs::StdRng;
-use stack_session::{Counted, SessionFault};
+use stack_session::{Counted, WriteFault};
+use std::alloc::Global;
 use std::fs::File;
 use std::io::Write;
 use std::random::RandomSource;
 use std::rt::Files;
-use verity_format::format_with;
+use verity_format::{FormatFault, FormatOptions, format_with};
 
-/// What was made.
+/// What was made: the root digest, and what else is printed of the image.
 #[derive(Clone, Copy)]
-struct Made {
-    root: [u8; 32],
-    salt: Salt,
-    uuid: [u8; 16],
-    blocks: u64,
+pub struct MadeImage {
+    pub root: [u8; 32],
+    pub salt: Salt,
+    pub uuid: [u8; 16],
+    pub blocks: u64,
 }
 
 /// `format [OPTIONS] DATA HASH`: formats the hash image, and writes its root, salt, identifier and number of blocks.
-pub fn format<'a, R: Files<File = File> + AllocGlobal + RandomSource, W: Write>(
+/// The hash image is synced before anything is written.
+pub fn format_files<'a, R: Files<File = File> + AllocGlobal + RandomSource, W: Write>(
     rt: &R,
-    found: &ArgMatches<'a>,
-    words: &[&'a str],
-    writer: &mut Counted<W>,
-) -> Result<(), CommandFault<'a>> {
-    let [data, hash] = words else {
-        return Err(CommandFault::Usage);
-    };
-    let parts = parts_of(rt.alloc(), found)?;
-    let made = make(rt, parts, data, hash)?;
-    match say_made(writer, made) {
-        Ok(()) => Ok(()),
-        Err(fault) => Err(CommandFault::Session(fault)),
-    }
-}
-
-// Opens both images, draws what is missing, and formats.
-fn make<'a, R: Files<File = File> + AllocGlobal + RandomSource>(
-    rt: &R,
-    parts: Parts,
+    options: ImageOptions,
     data: &'a str,
     hash: &'a str,
-) -> Result<Made, CommandFault<'a>> {
-    let Parts {
-        data_block,
-        hash_block,
-        blocks,
-        salt,
-        uuid,
-    } = parts;
+    writer: &mut Counted<W>,
+) -> Result<(), CommandFault<'a>> {
     let mut data_dev = open_file(rt, data, false)?;
-    let mut hash_dev = open_file(rt, hash, true)?;
-    let (salt, uuid) = given_or_drawn(rt, salt, uuid)?;
-    let root = format_with(
-        rt.alloc(),
-        &mut data_dev,
-        &mut hash_dev,
-        uuid,
-        data_block,
-        hash_block,
-        blocks,
-        salt,
-    )?;
-    let blocks = match blocks {
-        Some(blocks) => blocks,
-        None => whole_blocks(data_dev.sectors(), data_block),
-    };
-    Ok(Made {
-        root,
-        salt,
-        uuid,
-        blocks,
-    })
-}
-
-fn say_made<W: Write>(writer: &mut Counted<W>, made: Made) -> Result<(), SessionFault> {
-    say_digest(writer, b"root ", &made.root)?;
-    say_salt(writer, &made.salt)?;
-    say_uuid(writer, &made.uuid)?;
-    let blocks = made.blocks;
-    match writer.print(format_args!("blocks {blocks}\n")) {
-        Ok(()) => Ok(()),
-        Err(_) => Err(SessionFault::WriteFault),
+    let mut hash_dev = open_hash(rt, hash, &data_dev)?;
+    let options = given_or_drawn(rt, options)?;
+    let made = make(rt.alloc(), &mut data_dev, &mut hash_dev, options)?;
+    match hash_dev.sync() {
+        Ok(()) => Ok(say_made(writer, &made)?),
+        Err(_) => Err(CommandFault::Format(FormatFault::Device)),
     }
 }
 
-// The given salt and identifier. One draw gives what is missing.
-fn given_or_drawn<'a, R: RandomSource>(
+// The hash image, which may not be the data image.
+fn open_hash<'a, R: Files<File = File>>(
     rt: &R,
-    salt: Option<Salt>,
-    uuid: Option<[u8; 16]>,
-) -> Result<(Salt, [u8; 16]), CommandFault<'a>> {
-    if let (Some(salt), Some(uuid)) = (salt, uuid) {
-        return Ok((salt, uuid));
+    path: &'a str,
+    data_dev: &FileDev,
+) -> Result<FileDev, CommandFault<'a>>
+    ensures opened { IfOk result (λ hash_dev. (⟦<FileDev as BlockDev>⟧.state hash_dev) ≡ opened (⟦<FileDev as BlockDev>⟧.state hash_dev).size true) }
+    ensures apart { IfOk result (λ hash_dev. is_one_file (file_id data_dev.now) (file_id hash_dev) ≡ false) }
+{
+    let hash_dev = open_file(rt, path, true)?;
+    if is_one_file(data_dev.id(), hash_dev.id()) {
+        let fault = OpenFault::SameFile;
+        return Err(CommandFault::Open { fault, path });
     }
-    let mut random: StdRng = match make_rng(rt) {
-        Ok(random) => random,
-        Err(_) => return Err(CommandFault::Random),
-    };
-    let (drawn_salt, drawn_uuid) = draw(&mut random);
-    Ok((salt.unwrap_or(drawn_salt), uuid.unwrap_or(drawn_uuid)))
+    Ok(hash_dev)
+}
+
+// Formats the hash device over the data device.
+fn make<'a, D: BlockDev, H: BlockDev>(
+    alloc: Global,
+    data_dev: &mut D,
+    hash_dev: &mut H,
+    options: FormatOptions,
+) -> Result<MadeImage, CommandFault<'a>>
+    ensures ok { IfOk result (IsMade options (D.state data_dev.old) (H.state hash_dev.old) (D.state data_dev.new) (H.state hash_dev.new)) }
+    ensures err { IfErr result (IsFormatEnd options (D.state data_dev.old) (H.state hash_dev.old) (D.state data_dev.new) (H.state hash_dev.new)) }
+{
+    let blocks = given_blocks(options.blocks, options.data_block, data_dev.sectors());
+    let salt = options.salt;
+    let uuid = options.uuid;
+    match format_with(alloc, data_dev, hash_dev, options) {
+        Ok(root) => Ok(MadeImage {
+            root,
+            salt,
+            uuid,
+            blocks,
+        }),
+        Err(fault) => Err(CommandFault::Format(fault)),
+    }
+}
+
+// The number of blocks that is given, or all whole blocks of that size in so many sectors.
+fn given_blocks(blocks: Option<u64>, size: u32, sectors: u64) -> u64
+    ensures { result ≡ given_blocks blocks size sectors }
+{
+    match blocks {
+        Some(count) => count,
+        None => whole_blocks(sectors, size),
+    }
 }
 
 // How many blocks of that size there are in so many sectors.
-fn whole_blocks(sectors: u64, size: u32) -> u64 {
-    match u64::from(size / 512) {
-        0 => 0,
-        in_block => sectors / in_block,
+fn whole_blocks(sectors: u64, size: u32) -> u64
+    ensures { result ≡ whole_blocks sectors size }
+{
+    if size < 512 {
+        return 0;
     }
+    sectors / u64::from(size / 512)
+}
+
+#[tactic(auto, unfolding(crate::specs::Formats::made_text))]
+fn say_made<W: Write>(writer: &mut Counted<W>, made: &MadeImage) -> Result<(), WriteFault>
+    ensures { Writes W.contents writer.old writer.new (made_text made.now) result }
+{
+    say_root(writer, &made.root)?;
+    say_salt(writer, made.salt.bytes())?;
+    say_uuid(writer, &made.uuid)?;
+    say_blocks(writer, made.blocks)
+}
+
+// The options with a salt and an identifier. One draw gives what is missing.
+fn given_or_drawn<'a, R: RandomSource>(
+    rt: &R,
+    options: ImageOptions,
+) -> Result<FormatOptions, CommandFault<'a>> {
+    let ImageOptions {
+        data_block,
+        hash_block,
+        blocks,
+        salt,
+        uuid,
+    } = options;
+    let (salt, uuid) = match (salt, uuid) {
+        (Some(salt), Some(uuid)) => (salt, uuid),
+        (salt, uuid) => {
+            let mut random: StdRng = match make_rng(rt) {
+                Ok(random) => random,
+                Err(_) => return Err(CommandFault::Random),
+            };
+            let (drawn_salt, drawn_uuid) = draw(&mut random);
+            (salt.unwrap_or(drawn_salt), uuid.unwrap_or(drawn_uuid))
+        }
+    };
+    Ok(FormatOptions {
+        uuid,
+        data_block,
+        hash_block,
+        blocks,
+        salt,
+    })
 }

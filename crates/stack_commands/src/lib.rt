@@ -2,29 +2,28 @@
 #![tactic(auto)]
 
 mod bindings;
+mod command_words;
+mod configuration;
 mod dump;
+mod ending;
 mod fault;
-#[cfg(test)]
-mod file_tests;
+mod file_use;
 mod format;
 mod grammar;
+mod image_options;
 mod load;
-mod loading;
 mod opening;
 mod program;
-#[cfg(test)]
-mod program_tests;
 mod random;
 mod read;
+mod serve;
 mod superblock_text;
+mod table;
 #[cfg(test)]
 mod tests;
 mod verify;
-#[cfg(test)]
-mod verity_tests;
-mod verity_words;
-mod words;
 
+pub use ending::end;
 pub use fault::CommandFault;
-pub use program::{command, end};
+pub use program::command;
 pub use random::draw;

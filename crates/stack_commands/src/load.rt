@@ -1,45 +1,57 @@
 // The command `load`: checks a stack, and says what its devices are.
-ghost use Rattle.std.specs.Prelude.{true, ◌≡◌, ◌⊎◌, ◌≤◌, ◌<◌, ◌^◌, codes, if◌then◌else◌, length, Ok, Err, IfErr, OnOk, OnErr};
+ghost use Rattle.std.specs.Prelude.{◌≡◌, ◌⊎◌, ◌≤◌, ◌<◌, ◌^◌, codes, if◌then◌else◌, length, Ok, Err, IfErr, OnOk};
 ghost use Rattle.std.specs.Io.KnownBytes.{Appends};
 ghost use Rattle.stack_loader.specs.Records.{Configuration};
+ghost use Rattle.stack_session.specs.Counted.{Writes};
 ghost use Rattle.stack_commands.specs.Endings.{IsQuiet, MayEnd};
-ghost use Rattle.stack_commands.specs.Loading.{device_line, devices_text, facts, loaded};
+ghost use Rattle.stack_commands.specs.Configuration.{configuration_of, device_facts, device_line, devices_text};
 
+use crate::bindings::Binding;
+use crate::configuration::configuration_of;
 use crate::fault::CommandFault;
-use crate::loading::loaded;
-use crate::opening::Bound;
-use stack_loader::{Config, DevId};
-use stack_session::{Counted, SessionFault};
+use crate::opening::{OpenLeaves, open_all, stack_text};
+use stack_loader::{Config, DevId, Leaf};
+use stack_session::{Counted, WriteFault};
 use std::alloc::Global;
+use std::fs::File;
 use std::io::Write;
+use std::rt::Files;
 
+/// `load STACK BINDING...`: the devices of a stack file over the bindings.
+pub fn load_files<'a, R: Files<File = File> + AllocGlobal, W: Write>(
+    rt: &R,
+    stack: &'a str,
+    bindings: &[Binding<'a>],
+    writer: &mut Counted<W>,
+) -> Result<(), CommandFault<'a>> {
+    let text = stack_text(rt, stack)?;
+    let OpenLeaves { leaves, devices: _ } = open_all(rt, bindings)?;
+    load(rt.alloc(), leaves, text.as_slice(), writer)
+}
+
+// Loads a text over the leaves, and writes a line for each mapped device.
 #[tactic(auto, using(crate::proofs::EndingLemmas::quiet))]
-/// Loads a text over the leaves, and writes a line for each mapped device.
-pub fn load<'a, W: Write>(
+fn load<'a, W: Write>(
     alloc: Global,
-    bound: Bound,
+    leaves: Vec<Leaf>,
     text: &[u8],
     writer: &mut Counted<W>,
 ) -> Result<(), CommandFault<'a>>
     requires { length text.now ≤ 2 ^ 20 }
-    ensures ok { OnOk result ((c : Configuration) × (loaded bound.leaves.items text.now ≡ Ok c)
+    ensures ok { OnOk result ((c : Configuration) × (configuration_of leaves.items text.now ≡ Ok c)
         × Appends (W.contents writer.old.inner) (W.contents writer.new.inner) (devices_text c)) }
-    ensures err { IfErr result (λ fault. (loaded bound.leaves.items text.now ≡ Err fault) ⊎ MayEnd fault) }
+    ensures err { IfErr result (λ fault. (configuration_of leaves.items text.now ≡ Err fault) ⊎ MayEnd fault) }
     ensures quiet { IfErr result (λ fault. IsQuiet fault (W.contents writer.old.inner) (W.contents writer.new.inner)) }
 {
-    match loaded(alloc, bound.leaves, text) {
-        Ok(config) => match say_devices(&config, writer) {
-            Ok(()) => Ok(()),
-            Err(fault) => Err(CommandFault::Session(fault)),
-        },
+    match configuration_of(alloc, leaves, text) {
+        Ok(config) => Ok(say_devices(&config, writer)?),
         Err(fault) => Err(fault),
     }
 }
 
 // A line for each mapped device.
-fn say_devices<W: Write>(config: &Config, writer: &mut Counted<W>) -> Result<(), SessionFault>
-    ensures ok { OnOk result (Appends (W.contents writer.old.inner) (W.contents writer.new.inner) (devices_text config.now)) }
-    ensures kind { OnErr result (result ≡ Err SessionFault.WriteFault) }
+fn say_devices<W: Write>(config: &Config, writer: &mut Counted<W>) -> Result<(), WriteFault>
+    ensures { Writes W.contents writer.old writer.new (devices_text config.now) result }
 {
     'devices: for d in 0..config.count() {
         say_device(config, DevId(d as u32), writer)?;
@@ -48,42 +60,36 @@ fn say_devices<W: Write>(config: &Config, writer: &mut Counted<W>) -> Result<(),
 }
 
 // The device's name, and what it is.
+#[tactic(auto, unfolding(crate::specs::Configuration::device_line))]
 fn say_device<W: Write>(
     config: &Config,
     d: DevId,
     writer: &mut Counted<W>,
-) -> Result<(), SessionFault>
+) -> Result<(), WriteFault>
     requires { d.0 < length config.now.devices }
-    ensures ok { OnOk result (Appends (W.contents writer.old.inner) (W.contents writer.new.inner) (device_line config.now d.0)) }
-    ensures kind { OnErr result (result ≡ Err SessionFault.WriteFault) }
+    ensures { Writes W.contents writer.old writer.new (device_line config.now d.0) result }
 {
-    match writer.put(config.name(d)) {
-        Ok(()) => say_facts(config, d, writer),
-        Err(_) => Err(SessionFault::WriteFault),
-    }
+    writer.put(config.name(d))?;
+    say_device_facts(config, d, writer)
 }
 
 // ` sectors S depth D read R write W rw`, or `ro` in place of `rw`.
-fn say_facts<W: Write>(
+fn say_device_facts<W: Write>(
     config: &Config,
     d: DevId,
     writer: &mut Counted<W>,
-) -> Result<(), SessionFault>
+) -> Result<(), WriteFault>
     requires { d.0 < length config.now.devices }
-    ensures ok { OnOk result (Appends (W.contents writer.old.inner) (W.contents writer.new.inner) (facts config.now d.0)) }
-    ensures kind { OnErr result (result ≡ Err SessionFault.WriteFault) }
+    ensures { Writes W.contents writer.old writer.new (device_facts config.now d.0) result }
 {
     let sectors = config.sectors(d);
     let depth = config.depth(d);
     let read = config.read_cost(d);
     let write = config.write_cost(d);
     let flag = flag_text(config.writable(d));
-    match writer.print(format_args!(
+    writer.print(format_args!(
         " sectors {sectors} depth {depth} read {read} write {write} {flag}\n"
-    )) {
-        Ok(()) => Ok(()),
-        Err(_) => Err(SessionFault::WriteFault),
-    }
+    ))
 }
 
 fn flag_text(writable: bool) -> &'static str

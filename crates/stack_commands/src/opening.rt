@@ -1,11 +1,14 @@
 // Opens what a command line names.
-ghost use Rattle.std.specs.Prelude.{◌≡◌, ◌≤◌, ◌^◌, ◌++◌, [], ◌∷◌, length, map, IfOk, OnOk};
+ghost use Rattle.std.specs.Prelude.{false, ◌≡◌, ◌≤◌, ◌^◌, ◌++◌, [], ◌∷◌, length, map, IfOk, OnOk};
 ghost use Rattle.block_device.specs.File.{opened};
 ghost use Rattle.stack_engine.specs.Leaves.{ServeLeaves};
-ghost use Rattle.stack_commands.specs.Bindings.{IsDeviceOf, backing_meant, binding_meant, may_write};
+ghost use Rattle.std.specs.List.{list_any};
+ghost use Rattle.stack_commands.specs.Bindings.{IsDeviceOf, backing_record, may_write};
+ghost use Rattle.stack_commands.specs.FileUses.{AreApart, is_clash, use_of};
 
 use crate::bindings::{Backing, Binding};
 use crate::fault::CommandFault;
+use crate::file_use::has_clash;
 use block_device::{AnyDev, BlockDev, FileDev, MemoryDev, OpenFault};
 use stack_loader::Leaf;
 use std::alloc::{AllocError, Global};
@@ -58,17 +61,17 @@ pub fn open_file<'a, R: Files<File = File>>(
 
 /// Leaves, and their devices in the same order.
 #[derive(Drop)]
-pub struct Bound {
+pub struct OpenLeaves {
     pub leaves: Vec<Leaf>,
     pub devices: Vec<AnyDev>,
 }
 
-impl Bound {
-    fn new(alloc: Global) -> Bound
+impl OpenLeaves {
+    fn new(alloc: Global) -> OpenLeaves
         ensures served { ServeLeaves result.leaves.items (map ⟦<AnyDev as BlockDev>⟧.state result.devices.items) }
         ensures none { (result.leaves.items ≡ []) × (result.devices.items ≡ []) }
     {
-        Bound {
+        OpenLeaves {
             leaves: Vec::new(alloc),
             devices: Vec::new(alloc),
         }
@@ -92,15 +95,25 @@ impl Bound {
     }
 }
 
-// Opens the file of a binding, or makes its sectors.
-fn open<'a, R: Files<File = File> + AllocGlobal>(
+// Opens the file of a binding, or makes its sectors. A file that one of the devices uses already is refused
+// where one of the two may be written: the engine takes leaves for devices of their own.
+fn open_backing<'a, R: Files<File = File> + AllocGlobal>(
     rt: &R,
+    devices: &[AnyDev],
     backing: Backing<'a>,
 ) -> Result<AnyDev, CommandFault<'a>>
-    ensures { IfOk result (λ device. IsDeviceOf (backing_meant backing.entry) (⟦<AnyDev as BlockDev>⟧.state device)) }
+    ensures device { IfOk result (λ device. IsDeviceOf (backing_record backing.entry) (⟦<AnyDev as BlockDev>⟧.state device)) }
+    ensures apart { IfOk result (λ device. list_any (λ other. is_clash (use_of other) (use_of device)) devices.now ≡ false) }
 {
     match backing {
-        Backing::File { path, writable } => Ok(AnyDev::File(open_file(rt, path, writable)?)),
+        Backing::File { path, writable } => {
+            let device = AnyDev::File(open_file(rt, path, writable)?);
+            if has_clash(devices, &device) {
+                let fault = OpenFault::SameFile;
+                return Err(CommandFault::Open { fault, path });
+            }
+            Ok(device)
+        }
         Backing::Zeros(sectors) => Ok(AnyDev::Memory(MemoryDev::zeros(rt.alloc(), sectors, true)?)),
         Backing::Ramp(sectors) => Ok(AnyDev::Memory(MemoryDev::ramp(rt.alloc(), sectors, true)?)),
     }
@@ -110,15 +123,16 @@ fn open<'a, R: Files<File = File> + AllocGlobal>(
 pub fn open_all<'a, R: Files<File = File> + AllocGlobal>(
     rt: &R,
     bindings: &[Binding<'a>],
-) -> Result<Bound, CommandFault<'a>>
-    ensures served { IfOk result (λ bound. ServeLeaves bound.leaves.items (map ⟦<AnyDev as BlockDev>⟧.state bound.devices.items)) }
-    ensures names { IfOk result (λ bound. map (λ leaf. leaf.name) bound.leaves.items ≡ map (λ binding. binding.name.now) bindings.now) }
-    ensures flags { IfOk result (λ bound. map (λ device. (⟦<AnyDev as BlockDev>⟧.state device).may_write) bound.devices.items ≡ map (λ binding. may_write (backing_meant binding.backing)) bindings.now) }
+) -> Result<OpenLeaves, CommandFault<'a>>
+    ensures served { IfOk result (λ over. ServeLeaves over.leaves.items (map ⟦<AnyDev as BlockDev>⟧.state over.devices.items)) }
+    ensures names { IfOk result (λ over. map (λ leaf. leaf.name) over.leaves.items ≡ map (λ binding. binding.name.now) bindings.now) }
+    ensures flags { IfOk result (λ over. map (λ device. (⟦<AnyDev as BlockDev>⟧.state device).may_write) over.devices.items ≡ map (λ binding. may_write (backing_record binding.backing)) bindings.now) }
+    ensures apart { IfOk result (λ over. AreApart over.devices.items) }
 {
-    let mut bound = Bound::new(rt.alloc());
+    let mut open_leaves = OpenLeaves::new(rt.alloc());
     'bindings: for binding in bindings {
-        let device = open(rt, binding.backing)?;
-        bound.bind(rt.alloc(), binding.name, device)?;
+        let device = open_backing(rt, open_leaves.devices.as_slice(), binding.backing)?;
+        open_leaves.bind(rt.alloc(), binding.name, device)?;
     }
-    Ok(bound)
+    Ok(open_leaves)
 }

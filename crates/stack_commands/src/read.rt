@@ -1,43 +1,63 @@
 // The command `read`: loads a stack, and prints sectors of one of its devices.
-ghost use Rattle.std.specs.Prelude.{◌≡◌, ◌≤◌, ◌^◌, ◌/◌, ◌*◌, ◌+◌, ◌<◌, List, ℕ, length, map, Ok, Err, OnOk, IfOk, IfErr};
+ghost use Rattle.std.specs.Prelude.{◌≡◌, ◌≤◌, ◌^◌, ◌/◌, ◌*◌, ◌+◌, ◌<◌, List, ℕ, length, map, Ok, OnOk, IfOk, IfErr};
 ghost use Rattle.std.specs.Io.KnownBytes.{Appends};
 ghost use Rattle.stack_loader.specs.Records.{Configuration};
 ghost use Rattle.stack_engine.specs.Leaves.{ServeLeaves};
+ghost use Rattle.stack_engine.specs.Pieces.{stack_over};
 ghost use Rattle.stack_engine.specs.Stacks.{StackRecord};
-ghost use Rattle.stack_commands.specs.Endings.{IsQuiet};
-ghost use Rattle.stack_commands.specs.Loading.{Fetches, loaded};
-ghost use Rattle.stack_session.specs.Stacks.{stack_over};
+ghost use Rattle.stack_session.specs.declared.range.SectorRange.{SectorRange as Range};
 ghost use Rattle.stack_session.specs.Texts.{sector_lines};
+ghost use Rattle.stack_commands.specs.CommandWords.{wanted_of};
+ghost use Rattle.stack_commands.specs.Configuration.{configuration_of};
+ghost use Rattle.stack_commands.specs.Endings.{IsQuiet};
+ghost use Rattle.stack_commands.specs.Reads.{FailsToFetch, Fetches};
 
+use crate::bindings::Binding;
+use crate::command_words::Sectors;
+use crate::configuration::configuration_of;
 use crate::fault::CommandFault;
-use crate::loading::loaded;
-use crate::opening::Bound;
-use crate::words::Sectors;
+use crate::opening::{OpenLeaves, open_all, stack_text};
 use block_device::{AnyDev, BlockDev};
 use stack_engine::Stack;
-use stack_session::{Counted, device_of, read_sectors, say_sectors};
+use stack_session::{Counted, SectorRange, range_of, read_sectors, say_sectors};
 use std::alloc::Global;
+use std::fs::File;
 use std::io::Write;
+use std::rt::Files;
 
+/// `read [--cache N] STACK NAME FIRST COUNT BINDING...`: sectors of a device of a stack file over the bindings.
+pub fn read_files<'a, R: Files<File = File> + AllocGlobal, W: Write>(
+    rt: &R,
+    cache: u32,
+    stack: &'a str,
+    sectors: Sectors<'_>,
+    bindings: &[Binding<'a>],
+    writer: &mut Counted<W>,
+) -> Result<(), CommandFault<'a>> {
+    let text = stack_text(rt, stack)?;
+    let over = open_all(rt, bindings)?;
+    read(rt.alloc(), over, cache, text.as_slice(), sectors, writer)
+}
+
+// Loads a text over the leaves, and writes the sectors as a session does.
 #[tactic(auto, using(crate::proofs::EndingLemmas::quiet))]
-/// Loads a text over the leaves, and writes the sectors as a session does.
-pub fn read<'a, W: Write>(
+fn read<'a, W: Write>(
     alloc: Global,
-    bound: Bound,
+    over: OpenLeaves,
     cache: u32,
     text: &[u8],
     sectors: Sectors<'_>,
     writer: &mut Counted<W>,
 ) -> Result<(), CommandFault<'a>>
     requires text { length text.now ≤ 2 ^ 20 }
-    requires served { ServeLeaves bound.leaves.items (map ⟦<AnyDev as BlockDev>⟧.state bound.devices.items) }
-    ensures ok { OnOk result ((c : Configuration) × (bytes : List ℕ) × (after : StackRecord) × (loaded bound.leaves.items text.now ≡ Ok c)
-        × Fetches (stack_over c (map ⟦<AnyDev as BlockDev>⟧.state bound.devices.items)) sectors.entry.name.now sectors.entry.first sectors.entry.count (Ok bytes) after
-        × Appends (W.contents writer.old.inner) (W.contents writer.new.inner) (sector_lines (length bytes / 512) sectors.entry.first bytes)) }
+    requires served { ServeLeaves over.leaves.items (map ⟦<AnyDev as BlockDev>⟧.state over.devices.items) }
+    ensures ok { OnOk result ((c : Configuration) × (range : Range) × (bytes : List ℕ) × (after : StackRecord) × (configuration_of over.leaves.items text.now ≡ Ok c)
+        × Fetches (stack_over c (map ⟦<AnyDev as BlockDev>⟧.state over.devices.items)) (wanted_of sectors.entry) range bytes after
+        × Appends (W.contents writer.old.inner) (W.contents writer.new.inner) (sector_lines (length bytes / 512) range.first bytes)) }
     ensures quiet { IfErr result (λ fault. IsQuiet fault (W.contents writer.old.inner) (W.contents writer.new.inner)) }
 {
-    let Bound { leaves, devices } = bound;
-    let config = match loaded(alloc, leaves, text) {
+    let OpenLeaves { leaves, devices } = over;
+    let config = match configuration_of(alloc, leaves, text) {
         Ok(config) => config,
         Err(fault) => return Err(fault),
     };
@@ -45,29 +65,26 @@ pub fn read<'a, W: Write>(
         return Err(CommandFault::NoMemory);
     };
     match fetch(alloc, &mut stack, sectors) {
-        Ok(bytes) => match say_sectors(writer, sectors.first, bytes.as_slice()) {
-            Ok(()) => Ok(()),
-            Err(fault) => Err(CommandFault::Session(fault)),
-        },
+        Ok((range, bytes)) => Ok(say_sectors(writer, range.first, bytes.as_slice())?),
         Err(fault) => Err(fault),
     }
 }
 
-// The bytes of the sectors.
+// The sectors that are wanted, and their bytes.
 fn fetch<'a>(
     alloc: Global,
     stack: &mut Stack<AnyDev>,
     sectors: Sectors<'_>,
-) -> Result<Vec<u8>, CommandFault<'a>>
-    ensures ok { IfOk result (λ bytes. Fetches stack.old sectors.entry.name.now sectors.entry.first sectors.entry.count (Ok bytes.items) stack.new) }
-    ensures err { IfErr result (λ fault. Fetches stack.old sectors.entry.name.now sectors.entry.first sectors.entry.count (Err fault) stack.new) }
-    ensures len { IfOk result (λ bytes. length bytes.items ≡ 512 * sectors.entry.count) }
-    ensures fits { OnOk result (sectors.entry.first + sectors.entry.count < 2 ^ 64) }
+) -> Result<(SectorRange, Vec<u8>), CommandFault<'a>>
+    ensures ok { IfOk result (λ got. Fetches stack.old (wanted_of sectors.entry) got.0 got.1.items stack.new) }
+    ensures err { IfErr result (λ fault. FailsToFetch stack.old (wanted_of sectors.entry) fault stack.new) }
+    ensures len { IfOk result (λ got. length got.1.items ≡ 512 * got.0.count) }
+    ensures fits { IfOk result (λ got. got.0.first + got.0.count < 2 ^ 64) }
 {
     let Sectors { name, first, count } = sectors;
-    let d = device_of(stack.config(), name.as_bytes(), first, count)?;
-    match read_sectors(alloc, stack, d, first, count) {
-        Ok(bytes) => Ok(bytes),
+    let range = range_of(stack.config(), name.as_bytes(), first, count)?;
+    match read_sectors(alloc, stack, range) {
+        Ok(bytes) => Ok((range, bytes)),
         Err(fault) => Err(CommandFault::Io(fault)),
     }
 }

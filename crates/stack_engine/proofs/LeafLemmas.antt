@@ -1,5 +1,5 @@
 -- What a read of one leaf does to all of them.
-use Rattle.std.proofs.Common.{◌≡◌, ℕ, zero, suc, ◌-◌, ◌^◌, ◌<◌, ◌≤◌, Bool, true, false, IsTrue, List, [], ◌∷◌, length, get_or, set, map, refl, sym, ap, ◌∙◌, subst, arith, inl, inr}
+use Rattle.std.proofs.Common.{◌≡◌, ℕ, zero, suc, ◌+◌, ◌<◌, ◌≤◌, Bool, IsTrue, List, [], ◌∷◌, length, get_or, set, map, refl, sym, ap, ◌∙◌, subst, arith, inl, inr}
 use Rattle.std.specs.Prelude.{slice_get}
 use Rattle.std.specs.Option.{option_map_or}
 use Rattle.std.proofs.lemmas.List.{map-set, set-get_or, get_or-map, get_or-set_same, get_or-set_other, length-set, length-map, get_or_default}
@@ -7,7 +7,7 @@ use Rattle.std.proofs.lemmas.List.Sums.{sum_by-set}
 use Rattle.std.proofs.lemmas.Bool.{cases_eq}
 use Rattle.block_device.specs.Device.{Device, IsRead, HasFailed}
 use Rattle.stack_loader.specs.Records.{LeafRecord}
-use Rattle.stack_engine.specs.Leaves.{images_of, ServeLeaves, fixed, AllSteady, AreRead, LeafFailed}
+use Rattle.stack_engine.specs.Leaves.{images_of, ServeLeaves, fixed_part, AllSteady, Counts, AreRead, LeafFailed}
 
 -- a field that is the same at the one leaf that was set
 same_map : {X : Type 0} (f : Device → X) (leaves : List Device) (i : ℕ) (old new : Device) → i < length leaves → get_or leaves i old ≡ old → f new ≡ f old → map f (set leaves i new) ≡ map f leaves
@@ -16,34 +16,33 @@ same_map f leaves i old new h at e =
     ∙ ap (set (map f leaves) i) (e ∙ sym (ap f at) ∙ sym (get_or-map f leaves i old (f old) h))
     ∙ set-get_or (map f leaves) i (f old)
 
--- what a read does to the failures
-failures-grow : (old new : Device) (n : ℕ) (ok : Bool) → IsRead old n ok new → old.failures ≤ 2 ^ 64 - 1 → old.failures ≤ new.failures
-failures-grow old new n true r low = omega (arith, r.failures)
-failures-grow old new n false r low = omega (arith, r.failures)
+module _ (leaves : List Device) (i : ℕ) (old new : Device) (h : i < length leaves) (at : get_or leaves i old ≡ old) where
+  -- what is said of the one leaf that was set, and of each other, which is as it was
+  each_leaf : (Q : Device → Device → Type 0) → Q old new → ((x : Device) → Q x x) → (j : ℕ) (d : Device) → Q (get_or leaves j d) (get_or (set leaves i new) j d)
+  each_leaf Q one same j d = elim (cases_eq j i) [
+    | inl here ↦ let a : get_or (set leaves i new) j d ≡ new = ap (λ (k : ℕ). get_or (set leaves i new) k d) here ∙ get_or-set_same leaves i new d h in
+        let b : get_or leaves j d ≡ old = ap (λ (k : ℕ). get_or leaves k d) here ∙ get_or_default leaves i d old h ∙ at in
+        subst (λ (x : Device). Q x (get_or (set leaves i new) j d)) (sym b) (subst (Q old) (sym a) one)
+    | inr other ↦ subst (Q (get_or leaves j d)) (sym (get_or-set_other leaves i j new d other)) (same (get_or leaves j d))
+  ]
 
-AreRead-set : (leaves : List Device) (i n : ℕ) (ok : Bool) (old new : Device) → i < length leaves → get_or leaves i old ≡ old → old.failures ≤ new.failures → IsRead old n ok new → AreRead leaves n (set leaves i new)
-AreRead-set leaves i n ok old new h at grows r = record {
-  fixed = same_map fixed leaves i old new h at (let a = r.same.size in let b = r.same.may_write in let s = r.same.steady in let w = r.writes in cc);
-  reads = omega (arith, sum_by-set (λ (l : Device). l.reads) leaves i new old h, ap (λ (x : Device). x.reads) at, r.reads);
-  failures = λ j d. elim (cases_eq j i) [
-    | inl same ↦ let a : get_or (set leaves i new) j d ≡ new = ap (λ (k : ℕ). get_or (set leaves i new) k d) same ∙ get_or-set_same leaves i new d h in
-        let b : get_or leaves j d ≡ old = ap (λ (k : ℕ). get_or leaves k d) same ∙ get_or_default leaves i d old h ∙ at in
-        omega (arith, ap (λ (x : Device). x.failures) a, ap (λ (x : Device). x.failures) b, grows)
-    | inr other ↦ omega (arith, ap (λ (x : Device). x.failures) (get_or-set_other leaves i j new d other))
-  ];
-  never_fails = λ j d was. elim (cases_eq j i) [
-    | inl same ↦ let a : get_or (set leaves i new) j d ≡ new = ap (λ (k : ℕ). get_or (set leaves i new) k d) same ∙ get_or-set_same leaves i new d h in
-        let b : get_or leaves j d ≡ old = ap (λ (k : ℕ). get_or leaves k d) same ∙ get_or_default leaves i d old h ∙ at in
-        subst (λ (x : Device). IsTrue x.never_fails) (sym a) (r.same.never_fails (subst (λ (x : Device). IsTrue x.never_fails) b was))
-    | inr other ↦ subst (λ (x : Device). IsTrue x.never_fails) (sym (get_or-set_other leaves i j new d other)) was
-  ];
-  images = λ j d steady. elim (cases_eq j i) [
-    | inl same ↦ let a : get_or (set leaves i new) j d ≡ new = ap (λ (k : ℕ). get_or (set leaves i new) k d) same ∙ get_or-set_same leaves i new d h in
-        let b : get_or leaves j d ≡ old = ap (λ (k : ℕ). get_or leaves k d) same ∙ get_or_default leaves i d old h ∙ at in
-        ap (λ (x : Device). x.image) a ∙ r.image (subst (λ (x : Device). IsTrue x.steady) b steady) ∙ sym (ap (λ (x : Device). x.image) b)
-    | inr other ↦ ap (λ (x : Device). x.image) (get_or-set_other leaves i j new d other)
-  ];
-}
+  counts_one : (counter : Device → ℕ) (n : ℕ) → counter new ≤ counter old + n → (n ≡ 0 → counter new ≡ counter old) → Counts counter n leaves (set leaves i new)
+  counts_one counter n most none = record {
+    sum = omega (arith, sum_by-set counter leaves i new old h, ap counter at, most);
+    none = λ e. same_map counter leaves i old new h at (none e);
+  }
+
+  AreRead-set : (n : ℕ) (ok : Bool) → 0 < n → old.failures ≤ new.failures → IsRead old n ok new → AreRead leaves n (set leaves i new)
+  AreRead-set n ok some grows r = record {
+    moved = record {
+      fixed = same_map fixed_part leaves i old new h at (let a = r.same.size in let b = r.same.may_write in let s = r.same.steady in cc);
+      reads = counts_one (λ l. l.reads) n (omega (arith, r.reads)) (λ e. absurd (omega (arith, some, e)));
+      writes = counts_one (λ l. l.writes) 0 (omega (arith, r.writes)) (λ _. r.writes);
+      failures = each_leaf (λ x y. x.failures ≤ y.failures) grows (λ x. omega arith);
+      never_fails = each_leaf (λ x y. IsTrue x.never_fails → IsTrue y.never_fails) r.same.never_fails (λ x was. was);
+    };
+    images = record { image = each_leaf (λ x y. IsTrue x.steady → y.image ≡ x.image) r.image (λ x was. refl) };
+  }
 
 -- ---- a device that is there, with the size that the configuration says
 
@@ -66,10 +65,10 @@ module _ {X : Type 0} (state : X → Device) (devices : List X) (wanted : List L
       ∙ ap (λ (l : List ℕ). get_or l i 0) serve.sizes ∙ sym (sectors_at wanted i)
 
 module _ {X : Type 0} (state : X → Device) (devices : List X) (i : ℕ) (x : X) (there : i < length devices) where
-  pub AreRead-device : (n : ℕ) (ok : Bool) (new : X) → (state (get_or devices i x)).failures ≤ (state new).failures → IsRead (state (get_or devices i x)) n ok (state new) → AreRead (map state devices) n (map state (set devices i new))
-  AreRead-device n ok new grows r =
+  pub AreRead-device : (n : ℕ) (ok : Bool) (new : X) → 0 < n → (state (get_or devices i x)).failures ≤ (state new).failures → IsRead (state (get_or devices i x)) n ok (state new) → AreRead (map state devices) n (map state (set devices i new))
+  AreRead-device n ok new some grows r =
       subst (AreRead (map state devices) n) (sym (map-set state devices i new))
-      (AreRead-set (map state devices) i n ok (state (get_or devices i x)) (state new) (omega (arith, there, length-map devices state)) (get_or-map state devices i x _ there) grows r)
+      (AreRead-set (map state devices) i (state (get_or devices i x)) (state new) (omega (arith, there, length-map devices state)) (get_or-map state devices i x _ there) n ok some grows r)
 
   pub image_at : get_or (images_of (map state devices)) i [] ≡ (state (get_or devices i x)).image
   image_at =

@@ -1,10 +1,7 @@
 pub mod lemmas
-pub mod SectorLaws
-pub mod LineLaws
-pub mod EntryLaws
-pub mod Loaded
-pub mod Costs
+pub mod LoadedLemmas
+pub mod CostLemmas
 pub mod LeafLemmas
-pub mod Stripes
-pub mod Steps
-pub mod Rows
+pub mod StripeLemmas
+pub mod SourceLemmas
+pub mod ExampleLemmas

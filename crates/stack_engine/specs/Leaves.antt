@@ -3,7 +3,7 @@ use Rattle.std.specs.Prelude.{◌≡◌, ℕ, ◌+◌, ◌<◌, ◌≤◌, Bool,
 use Rattle.std.specs.List.{slice_index_or}
 use Rattle.block_device.specs.Device.{Device, HasFailed}
 use Rattle.stack_loader.specs.Records.{LeafRecord}
-use Rattle.stack_engine.specs.Meaning.{Images}
+use Rattle.stack_engine.specs.Outcomes.{Images}
 
 abbrev pub images_of : List Device → Images
 images_of leaves = map (λ l. l.image) leaves
@@ -29,28 +29,37 @@ writes_of leaves = sum_by (λ l. l.writes) leaves
 abbrev pub AllSteady : List Device → Type 0
 AllSteady leaves = All (λ l. IsTrue l.steady) leaves
 
--- no leaf ever fails
-abbrev pub AllNeverFail : List Device → Type 0
-AllNeverFail leaves = All (λ l. IsTrue l.never_fails) leaves
-
--- what no read changes of a leaf
+-- what no call changes of a leaf
 pub record Fixed : Type 0 where
   pub size : ℕ
   pub may_write : Bool
   pub steady : Bool
-  pub writes : ℕ
 
-abbrev pub fixed : Device → Fixed
-fixed l = record { size = l.size; may_write = l.may_write; steady = l.steady; writes = l.writes }
+abbrev pub fixed_part : Device → Fixed
+fixed_part l = record { size = l.size; may_write = l.may_write; steady = l.steady }
 
--- Some reads, of at most so many sectors. The counters are those of the devices, which stop at the greatest
--- u64. A steady leaf keeps its image, whatever the others are.
-pub record AreRead (old : List Device) (most : ℕ) (new : List Device) : Type 0 where
-  pub fixed : map fixed new ≡ map fixed old
-  pub reads : reads_of new ≤ reads_of old + most
+-- A counter grew by at most so much in all leaves together, and in none if that is 0. The counters are those
+-- of the devices, which stop at the greatest u64.
+pub record Counts (counter : Device → ℕ) (most : ℕ) (old new : List Device) : Type 0 where
+  pub sum : sum_by counter new ≤ sum_by counter old + most
+  pub none : most ≡ 0 → map counter new ≡ map counter old
+
+-- at most so many sectors were read, and at most so many written
+pub record Moves (most_read most_written : ℕ) (old new : List Device) : Type 0 where
+  pub fixed : map fixed_part new ≡ map fixed_part old
+  pub reads : Counts (λ l. l.reads) most_read old new
+  pub writes : Counts (λ l. l.writes) most_written old new
   pub failures : (i : ℕ) (d : Device) → (slice_index_or old i d).failures ≤ (slice_index_or new i d).failures
   pub never_fails : (i : ℕ) (d : Device) → IsTrue (slice_index_or old i d).never_fails → IsTrue (slice_index_or new i d).never_fails
-  pub images : (i : ℕ) (d : Device) → IsTrue (slice_index_or old i d).steady → (slice_index_or new i d).image ≡ (slice_index_or old i d).image
+
+-- each steady leaf keeps its image, whatever the others are
+pub record KeepsImages (old new : List Device) : Type 0 where
+  pub image : (i : ℕ) (d : Device) → IsTrue (slice_index_or old i d).steady → (slice_index_or new i d).image ≡ (slice_index_or old i d).image
+
+-- some reads, of at most so many sectors
+pub record AreRead (old : List Device) (most : ℕ) (new : List Device) : Type 0 where
+  pub moved : Moves most 0 old new
+  pub images : KeepsImages old new
 
 -- leaf i failed, and it is none that never fails
 pub record LeafFailed (i : ℕ) (old new : List Device) : Type 0 where

@@ -1,8 +1,14 @@
 pub mod Sectors
-pub mod Meaning
+pub mod Outcomes
+pub mod Beneath
 pub mod Found
+pub mod Meaning
 pub mod May
 pub mod Leaves
+pub mod Places
 pub mod Reading
 pub mod Sources
+pub mod Caches
 pub mod Stacks
+pub mod Pieces
+pub mod IoFaults

@@ -1,65 +1,56 @@
--- What a stack means: the bytes of each sector, or its fault.
-use Rattle.std.specs.Prelude.{ℕ, zero, suc, ◌+◌, ◌*◌, ◌/◌, ◌%◌, List, [], ◌++◌, length, slice_get, Option, Some, None, option_map, Result, Ok, Err}
+-- What a stack means: what is said of each sector, by what is said of the sectors beneath it.
+use Rattle.std.specs.Prelude.{◌≡◌, ℕ, List, [], Ok, Err}
 use Rattle.std.specs.List.{slice_index_or}
-use Rattle.dm_table.specs.declared.table.Target.{Target}
 use Rattle.dm_table.specs.declared.table.Target.TheVariants.{Linear, Striped, Zero, Error}
-use Rattle.block_device.specs.Device.{filled}
+use Rattle.block_device.specs.Device.{IsSector}
 use Rattle.stack_loader.specs.declared.lower.Lower.{Lower}
 use Rattle.stack_loader.specs.Records.{Configuration}
 use Rattle.stack_engine.specs.Sectors.{OnLine, by_sector}
+use Rattle.stack_engine.specs.Outcomes.{Fault, error_target, Images, Outcome, zero_sector}
+use Rattle.stack_engine.specs.Beneath.{beneath, said_or}
+use Rattle.stack_engine.specs.Found.{FoundRecord, Entry}
 
--- why a sector has no bytes
-pub data Fault : Type 0 where
-  error_target mismatch : Fault
+-- What is said of a sector: what it means over the leaves' images; and whatever the leaves answer, the bytes that
+-- it may be with the chains that were found, the faults that its way meets, and the entries on its way, those of
+-- its topmost verity line.
+pub record Said : Type 1 where
+  pub means : Images → Outcome
+  pub may : List FoundRecord → List ℕ → Type 0
+  pub meets : Fault → Type 0
+  pub entries : List Entry
 
--- the sectors of each leaf, in order
-abbrev pub Images : Type 0
-Images = List (List (List ℕ))
+-- Sector s of leaf i: it may be any 512 bytes.
+abbrev pub leaf_said : ℕ → ℕ → Said
+leaf_said i s = record {
+  means = λ images. Ok (slice_index_or (slice_index_or images i []) s zero_sector);
+  may = λ chains. IsSector;
+  meets = λ fault. ⊥;
+  entries = [];
+}
 
--- bytes, or the fault that stands in their place
-abbrev pub Outcome : Type 0
-Outcome = Result (List ℕ) Fault
+-- a sector of zeros
+abbrev pub zero_said : Said
+zero_said = record { means = λ images. Ok zero_sector; may = λ chains bytes. bytes ≡ zero_sector; meets = λ fault. ⊥; entries = [] }
 
-unfoldable pub zero_sector : List ℕ
-zero_sector = filled 0
+-- a sector of an `error` line
+abbrev pub error_said : Said
+error_said = record { means = λ images. Err error_target; may = λ chains bytes. ⊥; meets = λ fault. fault ≡ error_target; entries = [] }
 
--- The device and the sector there on which sector s of a line lies. Of a striped line, chunk k is on device
--- k % n of its n devices, as their chunk k / n from the offset on.
-abbrev pub beneath : Target → ℕ → Option (List ℕ × ℕ)
-beneath (Linear base) s = Some (base.device, base.offset + s)
-beneath (Striped chunk bases) s =
-    let k = s / chunk in
-    let n = length bases in
-    option_map (λ base. (base.device, base.offset + k / n * chunk + s % chunk)) (slice_get bases (k % n))
-beneath Zero s = None
-beneath Error s = None
+-- a sector that isn't there
+abbrev pub none_said : Said
+none_said = record { means = λ images. Err error_target; may = λ chains bytes. ⊥; meets = λ fault. ⊥; entries = [] }
 
--- what at says of the sector beneath, if there is one
-abbrev pub asked {ℓ} : {X : Type ℓ} → X → (List ℕ → ℕ → X) → Option (List ℕ × ℕ) → X
-asked none at None = none
-asked none at (Some p) = at p.0 p.1
-
--- sector s of a line, where at gives the sectors of the devices that it names
-abbrev pub line_sector : OnLine Outcome
-line_sector at d l (Linear base) s = asked (Err error_target) at (beneath (Linear base) s)
-line_sector at d l (Striped chunk bases) s = asked (Err error_target) at (beneath (Striped chunk bases) s)
-line_sector at d l Zero s = Ok zero_sector
-line_sector at d l Error s = Err error_target
-
--- sector s of leaf i
-abbrev pub leaf_sector : Images → ℕ → ℕ → Outcome
-leaf_sector images i s = Ok (slice_index_or (slice_index_or images i []) s zero_sector)
+-- sector s of a line, where at says it of the sectors of the devices that the line names
+abbrev pub line_said : OnLine Said
+line_said at d l (Linear base) s = said_or none_said at (beneath (Linear base) s)
+line_said at d l (Striped chunk bases) s = said_or none_said at (beneath (Striped chunk bases) s)
+line_said at d l Zero s = zero_said
+line_said at d l Error s = error_said
 
 -- sector s of a leaf or device
+abbrev pub said_at : Configuration → Lower → ℕ → Said
+said_at c = by_sector c none_said leaf_said line_said
+
+-- what it means
 abbrev pub sector : Configuration → Images → Lower → ℕ → Outcome
-sector c images = by_sector c (Err error_target) (leaf_sector images) line_sector
-
-abbrev pub joined : Outcome → Outcome → Outcome
-joined (Ok a) (Ok b) = Ok (a ++ b)
-joined (Ok a) (Err fault) = Err fault
-joined (Err fault) b = Err fault
-
--- n sectors joined, or the fault of the least sector that has one
-abbrev pub span : (ℕ → Outcome) → ℕ → ℕ → Outcome
-span at first zero = Ok []
-span at first (suc n) = joined (at first) (span at (suc first) n)
+sector c images lower s = (said_at c lower s).means images

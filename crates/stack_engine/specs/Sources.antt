@@ -1,6 +1,5 @@
 -- Where the sectors of a device come from, as the engine reads them: from a lower device, as zeros, or not at all.
-use Rattle.std.specs.Prelude.{◌≡◌, ℕ, ◌+◌, ◌-◌, ◌<◌, ◌≤◌, List, [], Some, Result, Ok, Err}
-use Rattle.block_device.specs.Device.{Device}
+use Rattle.std.specs.Prelude.{◌≡◌, ℕ, ◌+◌, ◌-◌, ◌<◌, ◌≤◌, List, Some, Result}
 use Rattle.dm_table.specs.declared.table.Line.{Line}
 use Rattle.dm_table.specs.declared.table.Target.{Target}
 use Rattle.dm_table.specs.declared.table.Target.TheVariants.{Zero, Error}
@@ -12,9 +11,9 @@ use Rattle.stack_loader.specs.Lines.{line_at, IsLine}
 use Rattle.stack_engine.specs.declared.fault.IoFault.{IoFault}
 use Rattle.stack_engine.specs.declared.source.Source.{Source}
 use Rattle.stack_engine.specs.declared.source.Source.TheVariants.{Below, Zeros, Fails}
-use Rattle.stack_engine.specs.Meaning.{Fault, error_target, Outcome, Images, beneath, sector, zero_sector}
-use Rattle.stack_engine.specs.Found.{FoundRecord, Entry}
-use Rattle.stack_engine.specs.May.{May, entries_at, Meets, Gives}
+use Rattle.stack_engine.specs.Beneath.{beneath, HandsOn}
+use Rattle.stack_engine.specs.Meaning.{Said, said_at, zero_said, error_said}
+use Rattle.stack_engine.specs.Places.{Place, Read}
 use Rattle.stack_engine.specs.Reading.{Finds}
 
 -- n sectors of a line, from its sector w on, lie on those of a lower device from the first on
@@ -24,9 +23,9 @@ pub record LieOn (c : Configuration) (target : Target) (w n : ℕ) (lower : Lowe
   pub under : (j : ℕ) → j < n → beneath target (w + j) ≡ Some (name, first + j)
   pub inside : first + n ≤ size c lower
 
--- n sectors of a line, from its sector w on, come from there
+-- they come from there
 abbrev pub ComeFrom : Configuration → Target → ℕ → ℕ → Source → Type 0
-ComeFrom c target w n (Below lower first) = LieOn c target w n lower first
+ComeFrom c target w n (Below lower first) = HandsOn target × LieOn c target w n lower first
 ComeFrom c target w n Zeros = target ≡ Zero
 ComeFrom c target w n Fails = target ≡ Error
 
@@ -47,35 +46,20 @@ pub record IsServed (c : Configuration) (d s n : ℕ) (source : Source) : Type 0
   pub fits : s + n ≤ line.start + line.length
   pub come : ComeFrom c line.target (s - line.start) n source
 
--- the j-th sector from there
-abbrev pub source_sector : Configuration → Images → Source → ℕ → Outcome
-source_sector c images (Below lower first) j = sector c images lower (first + j)
-source_sector c images Zeros j = Ok zero_sector
-source_sector c images Fails j = Err error_target
+-- what is said of its sector j
+abbrev pub source_said : Configuration → Source → ℕ → Said
+source_said c (Below lower first) j = said_at c lower (first + j)
+source_said c Zeros j = zero_said
+source_said c Fails j = error_said
 
--- what it may be with these chains
-abbrev pub SourceMay : Configuration → List FoundRecord → Source → ℕ → List ℕ → Type 0
-SourceMay c chains (Below lower first) j bytes = May c chains lower (first + j) bytes
-SourceMay c chains Zeros j bytes = bytes ≡ zero_sector
-SourceMay c chains Fails j bytes = ⊥
-
--- the entries on its way
-abbrev pub source_entries : Configuration → Source → ℕ → List Entry
-source_entries c (Below lower first) j = entries_at c lower (first + j)
-source_entries c Zeros j = []
-source_entries c Fails j = []
-
--- the fault that its way may meet
-abbrev pub SourceMeets : Configuration → Source → Fault → ℕ → Type 0
-SourceMeets c (Below lower first) fault j = Meets c fault lower (first + j)
-SourceMeets c Zeros fault j = ⊥
-SourceMeets c Fails fault j = Gives fault Error
-
--- what it costs
+-- the leaf sectors that are read for one of its sectors at most
 abbrev pub source_cost : Configuration → Source → ℕ
 source_cost c (Below lower first) = read_cost c lower
 source_cost c Zeros = 0
 source_cost c Fails = 0
+
+abbrev pub source_place : Configuration → Source → Place
+source_place c source = record { said = source_said c source; cost = source_cost c source }
 
 -- how deep the devices stand, for the measure of the recursion
 abbrev pub source_depth : Configuration → Source → ℕ
@@ -90,6 +74,5 @@ SourceHolds c Zeros n = Unit {0}
 SourceHolds c Fails n = Unit {0}
 
 -- a read of its first n sectors
-abbrev pub ReadsSource : Configuration → Source → ℕ → List Device → List Device → List FoundRecord → List FoundRecord → Result Unit IoFault → List ℕ → Type 0
-ReadsSource c source n old new before after result bytes =
-    Finds (λ chains. SourceMay c chains source) (SourceMeets c source) (source_entries c source) (λ images. source_sector c images source) (source_cost c source) 0 n c old new before after result bytes
+abbrev pub ReadsSource : Configuration → Source → ℕ → Read → Result (List ℕ) IoFault → Type 0
+ReadsSource c source n did answer = Finds (source_place c source) c 0 n did answer

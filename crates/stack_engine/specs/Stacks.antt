@@ -5,6 +5,7 @@ use Rattle.stack_loader.specs.Records.{Configuration}
 use Rattle.stack_loader.specs.Rules.{IsLoaded}
 use Rattle.stack_engine.specs.Found.{FoundRecord}
 use Rattle.stack_engine.specs.Leaves.{ServeLeaves}
+use Rattle.stack_engine.specs.Caches.{CacheRecord, IsCacheOf}
 
 -- a configuration, and the devices of its leaves in order
 pub record StackRecord : Type 0 where
@@ -15,6 +16,11 @@ pub record StackRecord : Type 0 where
 pub record IsSound (c : Configuration) (leaves : List Device) : Type 0 where
   pub loaded : IsLoaded c
   pub serve : ServeLeaves c.leaves leaves
+
+-- what holds of its configuration, its leaves and its cache
+pub record IsStack (c : Configuration) (leaves : List Device) (cache : CacheRecord) : Type 0 where
+  pub sound : IsSound c leaves
+  pub cached : IsCacheOf c leaves cache
 
 -- the bytes of a piece, and the chains that were found
 pub record AnswerRecord : Type 0 where

@@ -17,3 +17,32 @@ pub enum IoFault {
     #[error("NoMemory")]
     NoMemory,
 }
+
+impl IoFault {
+    ghost use Rattle.std.specs.Prelude.{◌≡◌};
+    ghost use Rattle.stack_engine.specs.IoFaults.{io_number, io_name};
+
+    /// The number under which it is printed; 0 for want of memory, which is printed without one.
+    pub fn number(self) -> u8
+        ensures { result ≡ io_number self }
+    {
+        match self {
+            IoFault::ErrorTarget => 1,
+            IoFault::Mismatch => 2,
+            IoFault::Device(_) => 3,
+            IoFault::NoMemory => 0,
+        }
+    }
+
+    /// The name under which it is printed.
+    pub fn name(self) -> &'static str
+        ensures { result.now ≡ io_name self }
+    {
+        match self {
+            IoFault::ErrorTarget => "ErrorTarget",
+            IoFault::Mismatch => "Mismatch",
+            IoFault::Device(_) => "Device",
+            IoFault::NoMemory => "NoMemory",
+        }
+    }
+}

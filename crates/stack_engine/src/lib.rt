@@ -8,6 +8,7 @@ mod counters;
 mod fault;
 mod found;
 mod read;
+mod reader;
 mod serve;
 mod source;
 mod stack;

@@ -2,13 +2,10 @@
 ghost use Rattle.std.specs.Prelude.{◌≡◌, ◌<◌, ◌≤◌, ◌+◌, ◌*◌, ◌^◌, map, IsOk, IfOk, IfErr, OnOk, OnErr, None, Some, Err};
 ghost use Rattle.block_device.specs.Device.{capped};
 ghost use Rattle.stack_loader.specs.Names.{mapped, size};
-ghost use Rattle.stack_loader.specs.Descend.{read_cost};
-ghost use Rattle.stack_loader.specs.Rules.{after_load, first_refusal};
+ghost use Rattle.stack_loader.specs.Rules.{after_load, IsRefusal, first_refusal};
 ghost use Rattle.stack_loader.specs.declared.refusal.Refusal.{Refusal};
-ghost use Rattle.stack_engine.specs.Meaning.{span, sector};
-ghost use Rattle.stack_engine.specs.May.{MayBe, MayFault};
-ghost use Rattle.stack_engine.specs.Leaves.{ServeLeaves, AreRead, AllSteady, images_of, reads_of, writes_of};
-ghost use Rattle.stack_engine.specs.Reading.{Ends, Answers};
+ghost use Rattle.stack_engine.specs.Leaves.{ServeLeaves, AllSteady, reads_of, writes_of};
+ghost use Rattle.stack_engine.specs.Pieces.{AnyPiece, SteadyPiece};
 ghost use Rattle.stack_engine.specs.Stacks.{StackRecord, IsSound};
 
 use crate::answer::Answer;
@@ -17,6 +14,7 @@ use crate::cache::Cache;
 use crate::counters::counted;
 use crate::fault::IoFault;
 use crate::read::read_device;
+use crate::reader::Reader;
 use block_device::BlockDev;
 use dm_table::StackText;
 use stack_loader::{Config, DevId, LoadFault};
@@ -26,26 +24,24 @@ use std::marker::Model;
 /// A configuration, and the devices of its leaves in order.
 #[derive(Drop)]
 pub struct Stack<D: BlockDev> {
-    alloc: Global,
     config: Config,
-    devices: Vec<D>,
-    cache: Cache,
+    reader: Reader<D>,
 }
 
 impl<D: BlockDev> Model for Stack<D> {
     ghost use Rattle.std.specs.Prelude.{map};
-    ghost use Rattle.stack_engine.specs.Stacks.{StackRecord, IsSound};
+    ghost use Rattle.stack_engine.specs.Stacks.{StackRecord, IsStack};
 
     ghost Value = { StackRecord };
 
-    ghost view = { λ s. record { config = s.config; leaves = map D.state s.devices.items } };
+    ghost view = { λ s. record { config = s.config; leaves = map D.state s.reader.devices.items } };
 
-    ghost invariant = { λ s. IsSound s.config (map D.state s.devices.items) };
+    ghost invariant = { λ s. IsStack s.config (map D.state s.reader.devices.items) s.reader.cache };
 }
 
 impl<D: BlockDev> Stack<D> {
-    /// A stack of that configuration, whose leaves the devices are, in order. It fails only where memory
-    /// does, and hands both back; today it never does.
+    /// A stack of that configuration, whose leaves the devices are, in order. Its cache keeps at most `capacity`
+    /// hash blocks. It fails only where memory does, and hands both back; today it never does.
     pub fn new(
         alloc: Global,
         config: Config,
@@ -59,34 +55,47 @@ impl<D: BlockDev> Stack<D> {
     {
         // What holds of every loaded configuration is learned from a call.
         let _loaded = config.count();
-        Ok(Stack {
+        let cache = Cache::new(capacity);
+        let reader = Reader {
             alloc,
-            config,
             devices,
-            cache: Cache::new(capacity),
-        })
+            cache,
+        };
+        Ok(Stack { config, reader })
     }
 
-    /// The n sectors of a device from `first` on, and the chains of the verity lines on their way.
+    /// The configuration and the devices of its leaves, in order.
+    pub fn into_parts(self) -> (Config, Vec<D>)
+        ensures config { result.0 ≡ self.config }
+        ensures leaves { map D.state result.1.items ≡ self.leaves }
+    {
+        let Stack { config, reader } = self;
+        let Reader {
+            alloc: _,
+            devices,
+            cache: _,
+        } = reader;
+        (config, devices)
+    }
+
+    /// The `n` sectors of a device from `first` on, and the chains of the verity lines on their way. They lie
+    /// inside the device, and are 1 to 128. `exact` in `steady` is what the stack means; `any` holds whatever the
+    /// leaves answer.
     pub fn read_piece(&mut self, d: DevId, first: u64, n: u32) -> Result<Answer, IoFault>
         requires some { 1 ≤ n }
         requires most { n ≤ 128 }
         requires inside { first + n ≤ size self.old.config (mapped d.0) }
-        ensures config { self.new.config ≡ self.old.config }
-        ensures moved { AreRead self.old.leaves (n * read_cost self.old.config (mapped d.0)) self.new.leaves }
-        ensures may { Ends (λ answer. MayBe self.old.config (mapped d.0) first n answer.bytes answer.chains) (MayFault self.old.config (mapped d.0) first n)
-            self.old.leaves self.new.leaves result }
-        ensures exact { AllSteady self.old.leaves → Answers (λ answer. answer.bytes) (span (sector self.old.config (images_of self.old.leaves) (mapped d.0)) first n) result }
+        ensures any { AnyPiece self.old d.0 first n result self.new }
+        ensures steady { AllSteady self.old.leaves → SteadyPiece self.old d.0 first n result self.new }
     {
-        let mut bytes = match zero_sectors(self.alloc, n) {
+        let mut bytes = match zero_sectors(self.reader.alloc, n) {
             Ok(bytes) => bytes,
             Err(_) => return Err(IoFault::NoMemory),
         };
-        let mut chains = Vec::new(self.alloc);
+        let mut chains = Vec::new(self.reader.alloc);
         match read_device(
             &self.config,
-            self.devices.as_mut_slice(),
-            &mut self.cache,
+            &mut self.reader,
             d,
             first,
             bytes.as_mut_slice(),
@@ -101,7 +110,7 @@ impl<D: BlockDev> Stack<D> {
     pub fn load(&mut self, text: &StackText) -> Result<(), LoadFault>
         ensures ok { OnOk result (first_refusal self.old.config text.now ≡ None) }
         ensures after { OnOk result (self.new ≡ record { config = after_load self.old.config text.now; leaves = self.old.leaves }) }
-        ensures refused { (r : Refusal) → result ≡ Err (LoadFault.Refused r) → first_refusal self.old.config text.now ≡ Some r }
+        ensures refused { (r : Refusal) → result ≡ Err (LoadFault.Refused r) → IsRefusal self.old.config text.now r }
         ensures same { OnErr result (self.new ≡ self.old) }
     {
         let outcome = self.config.load(text);
@@ -110,6 +119,7 @@ impl<D: BlockDev> Stack<D> {
         outcome
     }
 
+    /// The configuration, as the last load left it.
     pub fn config(&self) -> &Config
         ensures value { result.now ≡ self.now.config }
         ensures sound { IsSound self.now.config self.now.leaves }
@@ -121,6 +131,6 @@ impl<D: BlockDev> Stack<D> {
     pub fn moved(&self) -> (u64, u64)
         ensures { result ≡ (capped (reads_of self.now.leaves), capped (writes_of self.now.leaves)) }
     {
-        counted(self.devices.as_slice())
+        counted(self.reader.devices.as_slice())
     }
 }

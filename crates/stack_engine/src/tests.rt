@@ -102,22 +102,10 @@ fn reads_linear_and_zero_lines(rt: HostRuntime) -> Result<(), Fail> {
     let mut stack = stack_of(alloc, a, b, b"a,,,rw,0 4 linear A 2,4 4 zero")?;
     assert!(rt; is_filled(&read(&mut stack, b"a", 3, 2), &[5, 0]));
     assert!(rt; is_filled(&read(&mut stack, b"a", 0, 8), &[2, 3, 4, 5, 0, 0, 0, 0]));
-    assert!(rt; read(&mut stack, b"a", 7, 2).is_none());
     assert_eq!(rt; stack.moved(), (5, 0));
-    Ok(())
-}
-
-#[test]
-fn hands_out_no_chain_of_lines_without_trees(rt: HostRuntime) -> Result<(), Fail> {
-    let alloc = rt.alloc();
-    let a = MemoryDev::ramp(alloc, 8, true)?;
-    let b = MemoryDev::zeros(alloc, 8, true)?;
-    let mut stack = stack_of(alloc, a, b, b"s,,,rw,0 8 striped 2 2 A 0 B 0,8 4 zero")?;
-    let Some(Ok(answer)) = read(&mut stack, b"s", 0, 12) else {
-        return Err(Fail::from("no answer"));
-    };
-    assert_eq!(rt; answer.bytes.len(), 6144);
-    assert_eq!(rt; answer.chains.len(), 0);
+    let (config, devices) = stack.into_parts();
+    assert_eq!(rt; config.count(), 1);
+    assert_eq!(rt; devices.len(), 2);
     Ok(())
 }
 
@@ -269,7 +257,6 @@ fn reads_the_last_sector_of_the_largest_device(rt: HostRuntime) -> Result<(), Fa
     let text = b"z,,,rw,0 18014398509481984 zero;t,,,rw,0 18014398509481984 linear /dev/mapper/z 0";
     let mut stack = stack_of(alloc, a, b, text)?;
     assert!(rt; is_filled(&read(&mut stack, b"t", 18014398509481982, 2), &[0, 0]));
-    assert!(rt; read(&mut stack, b"t", 18014398509481984, 1).is_none());
     assert!(rt; !loads(alloc, &mut stack, b"z,,,rw,0 18014398509481985 zero")?);
     Ok(())
 }

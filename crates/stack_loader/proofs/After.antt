@@ -1,11 +1,13 @@
 -- Names after a load.
-use Rattle.std.proofs.Common.{◌≡◌, ◌+◌, ℕ, List, [], ◌∷◌, ◌++◌, refl, sym, ap, ◌∙◌, Bool, true, false, cond, Option, Some, None, map, filter, find}
-use Rattle.std.specs.Prelude.{is_none, IsTrue, All}
+use Rattle.std.proofs.Common.{◌≡◌, ◌+◌, ◌<◌, ℕ, List, [], ◌∷◌, ◌++◌, refl, sym, ap, ◌∙◌, Bool, true, false, ◌||◌, cond, Option, Some, None, length, length-append, map, filter, find, nat_lt, arith}
+use Rattle.std.specs.Prelude.{is_none, IsTrue, All, count_by}
+use Rattle.std.proofs.lemmas.Bool.Decides.{nat_tests}
+use Rattle.std.proofs.lemmas.List.Sums.{length-filter}
 use Rattle.std.specs.List.{AllByRecursion, IsDistinct, list_any, position_from}
 use Rattle.std.specs.Option.{option_map_or}
 use Rattle.std.specs.Str.{bytes_eq}
 use Rattle.std.proofs.lemmas.Iterator.Adapters.{position_from-zero}
-use Rattle.std.proofs.lemmas.List.{map-append}
+use Rattle.std.proofs.lemmas.List.{map-append, length-map}
 use Rattle.std.proofs.lemmas.List.Elements.{All-from_recursion, recursion_from_All}
 use Rattle.dm_table.specs.declared.stack.Entry.{Entry}
 use Rattle.dm_table.specs.Names.{is_mapped_name}
@@ -14,7 +16,9 @@ use Rattle.stack_loader.specs.declared.refusal.LoadKind.TheVariants.{DuplicateNa
 use Rattle.stack_loader.specs.Records.{Configuration, DeviceRecord}
 use Rattle.stack_loader.specs.Names.{device_named}
 use Rattle.stack_loader.proofs.lemmas.ValidLineLemmas.{apart}
-use Rattle.stack_loader.specs.Rules.{first, duplicate_names, replaced, created, after_load, IsLoaded, IsValid, rules}
+use Rattle.stack_loader.proofs.lemmas.CycleLemmas.{acyclic}
+use Rattle.stack_loader.specs.Rules.{first, duplicate_names, replaced, created, after_load, IsLoaded, IsValid, rules, is_too_many, most_lines}
+use Rattle.stack_loader.specs.Descend.{most_devices}
 use Rattle.stack_loader.proofs.LeavesSound.{none-all, over_map, change}
 use Rattle.stack_loader.proofs.Earlier.{bytes_eq-sym}
 
@@ -146,4 +150,24 @@ mapped-after c text old grammar =
 
 pub loaded-after : (c : Configuration) (text : List Entry) → IsLoaded c → IsStackOfGrammar text → first (duplicate_names [] text) ≡ None → first (rules (after_load c text)) ≡ None → IsLoaded (after_load c text)
 unfolding IsValid
-loaded-after c text loaded grammar fresh valid = record { leaves = loaded.leaves; distinct = distinct-after c text loaded.distinct fresh; mapped = mapped-after c text loaded.mapped grammar; valid = valid }
+loaded-after c text loaded grammar fresh valid = record { leaves = loaded.leaves; distinct = distinct-after c text loaded.distinct fresh; mapped = mapped-after c text loaded.mapped grammar; valid = valid; acyclic = acyclic (after_load c text) valid }
+
+-- ---- how many devices there are
+
+lt-true : (m n : ℕ) → m < n → nat_lt m n ≡ true
+lt-true m n h = grind (arith, nat_tests)
+
+or-left : (a b : Bool) → a ≡ true → (a || b) ≡ true
+or-left true b h = refl
+or-left false b h = let clash : false ≡ true = h in cc
+
+pub too-many : (c : Configuration) (text : List Entry) → most_devices < length c.devices + count_by (λ e. is_none (device_named c e.name)) text → is_too_many (after_load c text).devices ≡ true
+too-many c text more =
+    or-left (nat_lt most_devices (length (after_load c text).devices)) (list_any (λ d. nat_lt most_lines (length d.table)) (after_load c text).devices)
+    (lt-true most_devices (length (after_load c text).devices) (omega (arith, more, count)))
+  where
+    count : length (after_load c text).devices ≡ length c.devices + count_by (λ e. is_none (device_named c e.name)) text
+    count =
+        length-append (map (replaced text) c.devices) (map created (filter (λ e. is_none (device_named c e.name)) text))
+        ∙ ap (λ n. n + length (map created (filter (λ e. is_none (device_named c e.name)) text))) (length-map c.devices (replaced text))
+        ∙ ap (λ n. length c.devices + n) (length-map (filter (λ e. is_none (device_named c e.name)) text) created ∙ length-filter (λ e. is_none (device_named c e.name)) text)

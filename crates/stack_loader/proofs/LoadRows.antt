@@ -11,7 +11,8 @@ use Rattle.stack_loader.specs.declared.refusal.Refusal.{Refusal}
 use Rattle.stack_loader.specs.Records.{Configuration, LeafRecord}
 use Rattle.stack_loader.specs.Descend.{descend, depth, read_cost, write_cost}
 use Rattle.stack_loader.specs.Names.{mapped}
-use Rattle.stack_loader.specs.Rules.{first_refusal, stands_on_itself}
+use Rattle.stack_loader.specs.Rules.{first_refusal}
+use Rattle.stack_loader.specs.Cycles.{is_on_cycle, leads_below}
 
 abbrev leaf_of : List ℕ → ℕ → LeafRecord
 leaf_of name sectors = record { name = name; sectors = sectors; writable = true }
@@ -39,7 +40,7 @@ abbrev ab : Configuration
 ab = with_leaves (leaf_of (codes "A") 16 ∷ leaf_of (codes "B") 32 ∷ [])
 
 stripes : (first_refusal ab (striped 32) ≡ None) × (first_refusal ab (striped 24) ≡ refused StripesDontDivide 1 1)
-unfolding first_refusal stands_on_itself descend
+unfolding first_refusal is_on_cycle leads_below descend
 stripes = (refl, refl)
 
 abbrev d8 : Configuration
@@ -51,11 +52,11 @@ a lines = entry 1 (codes "a") true lines ∷ []
 gaps : (first_refusal d8 (a (line 0 8 (Linear (base (codes "D") 0)) ∷ line 9 8 Zero ∷ [])) ≡ refused Gap 1 2)
     × (first_refusal d8 (a (line 1 8 Zero ∷ [])) ≡ refused Gap 1 1)
     × (first_refusal d8 (a (line 3 0 Zero ∷ [])) ≡ refused ZeroLength 1 1)
-unfolding first_refusal stands_on_itself descend
+unfolding first_refusal is_on_cycle leads_below descend
 gaps = (refl, refl, refl)
 
 ranges : (first_refusal d8 (a (line 0 6 (Linear (base (codes "D") 2)) ∷ [])) ≡ None) × (first_refusal d8 (a (line 0 6 (Linear (base (codes "D") 3)) ∷ [])) ≡ refused BeyondDevice 1 1)
-unfolding first_refusal stands_on_itself descend
+unfolding first_refusal is_on_cycle leads_below descend
 ranges = (refl, refl)
 
 -- a leaf D of 16 sectors, mid over it, and top over mid
@@ -67,12 +68,12 @@ three = record {
 
 -- the devices that stand on a replaced one are checked with it
 replaced_under : first_refusal three (entry 1 (codes "mid") true (line 0 8 (Linear (base (codes "D") 0)) ∷ []) ∷ []) ≡ refused BeyondDevice 2 1
-unfolding first_refusal stands_on_itself descend
+unfolding first_refusal is_on_cycle leads_below descend
 replaced_under = refl
 
 around : (first_refusal three (entry 1 (codes "mid") true (line 0 16 (Linear (base (codes "/dev/mapper/top") 0)) ∷ []) ∷ []) ≡ refused StandsOnItself 1 0)
     × (first_refusal (with_leaves []) (entry 1 (codes "x") true (line 0 1 (Linear (base (codes "/dev/mapper/x") 0)) ∷ []) ∷ []) ≡ refused StandsOnItself 1 0)
-unfolding first_refusal stands_on_itself descend
+unfolding first_refusal is_on_cycle leads_below descend
 around = (refl, refl)
 
 abbrev over : ℕ → List ℕ → List ℕ → Entry
@@ -84,17 +85,17 @@ eight = over 1 (codes "d1") (codes "D") ∷ over 2 (codes "d2") (codes "/dev/map
 
 depths : (first_refusal (with_leaves (leaf_of (codes "D") 1 ∷ [])) eight ≡ None)
     × (first_refusal (with_leaves (leaf_of (codes "D") 1 ∷ [])) (entry 9 (codes "d9") true (line 0 1 (Linear (base (codes "/dev/mapper/d8") 0)) ∷ []) ∷ eight) ≡ refused TooDeep 1 0)
-unfolding first_refusal stands_on_itself descend
+unfolding first_refusal is_on_cycle leads_below descend
 depths = (refl, refl)
 
 names_and_flags : (first_refusal d8 (a (line 0 1 (Linear (base (codes "E") 0)) ∷ [])) ≡ refused NoSuchDevice 1 1)
     × (first_refusal d8 (entry 1 (codes "a") false (line 0 1 Zero ∷ []) ∷ entry 2 (codes "a") false (line 0 1 Zero ∷ []) ∷ []) ≡ refused DuplicateName 2 0)
     × (first_refusal d8 (entry 1 (codes "p") false (line 0 1 Zero ∷ []) ∷ entry 2 (codes "q") true (line 0 1 (Linear (base (codes "/dev/mapper/p") 0)) ∷ []) ∷ []) ≡ refused LowerReadOnly 2 1)
-unfolding first_refusal stands_on_itself descend
+unfolding first_refusal is_on_cycle leads_below descend
 names_and_flags = (refl, refl, refl)
 
 large : first_refusal (with_leaves []) (a (line 0 18014398509481985 Zero ∷ [])) ≡ refused TooLarge 1 1
-unfolding first_refusal stands_on_itself descend
+unfolding first_refusal is_on_cycle leads_below descend
 large = refl
 
 -- depths and costs of three: a leaf's are 0 and 1

@@ -8,8 +8,7 @@ use Rattle.stack_loader.specs.declared.refusal.LoadFault.{LoadFault}
 use Rattle.stack_loader.specs.declared.refusal.LoadFault.TheVariants.{Refused}
 use Rattle.stack_loader.specs.declared.refusal.Refusal.{Refusal}
 use Rattle.stack_loader.specs.Records.{Configuration, DeviceRecord, LeafRecord, configuration}
-use Rattle.stack_loader.specs.Facts.{AreFacts, IsNext}
-use Rattle.stack_loader.specs.Kept.{IsKept}
+use Rattle.stack_loader.specs.Facts.{AreFacts, IsNext, IsKept}
 use Rattle.stack_loader.specs.Passing.{IsFirst}
 use Rattle.stack_loader.specs.Rules.{first, rules, after_load, IsLoaded}
 use Rattle.stack_loader.proofs.After.{loaded-after}
@@ -29,17 +28,10 @@ checked-moved c devices now facts same h =
 pub fault-moved : (c : Configuration) (devices now : List DeviceRecord) (fault : LoadFault) → devices ≡ now → IsFirst fault (rules (configuration c.leaves devices)) → IsFirst fault (rules (configuration c.leaves now))
 fault-moved c devices now fault same h = let P : List DeviceRecord → Type 0 = λ ds. IsFirst fault (rules (configuration c.leaves ds)) in subst P same h
 
-pub kept-next : (c : Configuration) (text : List Entry) (next : Next) → IsLoaded c → IsStackOfGrammar text → IsNext c text next
-    → IsKept (configuration c.leaves next.devices.items) next.facts.depths.items next.facts.read_costs.items next.facts.write_costs.items next.facts.lowers.items
+pub kept-next : (c : Configuration) (text : List Entry) (next : Next) → IsLoaded c → IsStackOfGrammar text → IsNext c text next → IsKept (configuration c.leaves next.devices.items) next.facts
 kept-next c text next loaded grammar is =
-    let P : List DeviceRecord → Type 0 = λ ds. IsKept (configuration c.leaves ds) next.facts.depths.items next.facts.read_costs.items next.facts.write_costs.items next.facts.lowers.items in
-    let kept : IsKept (after_load c text) next.facts.depths.items next.facts.read_costs.items next.facts.write_costs.items next.facts.lowers.items = record {
-      loaded = loaded-after c text loaded grammar is.fresh is.valid;
-      each_depth = is.facts.depths;
-      each_read = is.facts.reads;
-      each_write = is.facts.writes;
-      each_name = is.facts.lowers;
-    } in
+    let P : List DeviceRecord → Type 0 = λ ds. IsKept (configuration c.leaves ds) next.facts in
+    let kept : IsKept (after_load c text) next.facts = record { loaded = loaded-after c text loaded grammar is.fresh is.valid; facts = is.facts } in
     subst P (sym is.devices) kept
 
 pub refused-first : (fault : LoadFault) (rules : List (Option Refusal)) (r : Refusal) → fault ≡ Refused r → IsFirst fault rules → first rules ≡ Some r

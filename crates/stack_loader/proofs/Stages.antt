@@ -14,7 +14,7 @@ use Rattle.stack_loader.specs.Names.{mapped}
 use Rattle.stack_loader.specs.Descend.{depth, read_cost}
 use Rattle.stack_loader.specs.Kept.{each_mapped}
 use Rattle.stack_loader.specs.Passing.{IsFirst, above}
-use Rattle.stack_loader.specs.Rules.{first, refuse, rules, is_too_many, unknown_names, circles, each_device, table_rules, device_rules, depth_rules, cost_rules, most_depth, most_cost}
+use Rattle.stack_loader.specs.Rules.{first, refuse, rules, is_too_many, unknown_names, cycles, each_device, table_rules, device_rules, depth_rules, cost_rules, most_depth, most_cost}
 use Rattle.stack_loader.proofs.Scan.{first-none, first-some}
 
 pub left : (fault : LoadFault) (xs ys : List (Option Refusal)) → IsFirst fault xs → IsFirst fault (xs ++ ys)
@@ -39,13 +39,13 @@ pub record Known (c : Configuration) : Type 0 where
 names-none : (c : Configuration) → Known c → first (many_rule c ++ unknown_names c) ≡ None
 names-none c k = first-none (many_rule c) (unknown_names c) (many-none c k.few) ∙ k.known
 
-around-none : (c : Configuration) → Known c → first (circles c) ≡ None → first (many_rule c ++ unknown_names c ++ circles c) ≡ None
-around-none c k around = first-none (many_rule c ++ unknown_names c) (circles c) (names-none c k) ∙ around
+around-none : (c : Configuration) → Known c → first (cycles c) ≡ None → first (many_rule c ++ unknown_names c ++ cycles c) ≡ None
+around-none c k around = first-none (many_rule c ++ unknown_names c) (cycles c) (names-none c k) ∙ around
 
-lines-none : (c : Configuration) → Known c → first (circles c) ≡ None → first (each_device c (table_rules c)) ≡ None → first (device_rules c) ≡ None
-lines-none c k around lines = first-none (many_rule c ++ unknown_names c ++ circles c) (each_device c (table_rules c)) (around-none c k around) ∙ lines
+lines-none : (c : Configuration) → Known c → first (cycles c) ≡ None → first (each_device c (table_rules c)) ≡ None → first (device_rules c) ≡ None
+lines-none c k around lines = first-none (many_rule c ++ unknown_names c ++ cycles c) (each_device c (table_rules c)) (around-none c k around) ∙ lines
 
-deep-none : (c : Configuration) → Known c → first (circles c) ≡ None → first (each_device c (table_rules c)) ≡ None → first (depth_rules c) ≡ None → first (device_rules c ++ depth_rules c) ≡ None
+deep-none : (c : Configuration) → Known c → first (cycles c) ≡ None → first (each_device c (table_rules c)) ≡ None → first (depth_rules c) ≡ None → first (device_rules c ++ depth_rules c) ≡ None
 deep-none c k around lines deep = first-none (device_rules c) (depth_rules c) (lines-none c k around lines) ∙ deep
 
 pub many-first : (c : Configuration) → is_too_many c.devices ≡ true → first (rules c) ≡ Some (record { kind = TooMany; device = 0; line = 0 })
@@ -54,26 +54,26 @@ many-first c many = rw many refl
 pub unknown-first : (c : Configuration) (fault : LoadFault) → is_too_many c.devices ≡ false → IsFirst fault (unknown_names c) → IsFirst fault (rules c)
 unknown-first c fault few h =
     left fault (device_rules c ++ depth_rules c) (cost_rules c) (left fault (device_rules c) (depth_rules c)
-    (left fault (many_rule c ++ unknown_names c ++ circles c) (each_device c (table_rules c)) (left fault (many_rule c ++ unknown_names c) (circles c) (right fault (many_rule c) (unknown_names c) (many-none c few) h))))
+    (left fault (many_rule c ++ unknown_names c ++ cycles c) (each_device c (table_rules c)) (left fault (many_rule c ++ unknown_names c) (cycles c) (right fault (many_rule c) (unknown_names c) (many-none c few) h))))
 
-pub circles-first : (c : Configuration) (fault : LoadFault) → Known c → IsFirst fault (circles c) → IsFirst fault (rules c)
-circles-first c fault k h =
+pub cycles-first : (c : Configuration) (fault : LoadFault) → Known c → IsFirst fault (cycles c) → IsFirst fault (rules c)
+cycles-first c fault k h =
     left fault (device_rules c ++ depth_rules c) (cost_rules c) (left fault (device_rules c) (depth_rules c)
-    (left fault (many_rule c ++ unknown_names c ++ circles c) (each_device c (table_rules c)) (right fault (many_rule c ++ unknown_names c) (circles c) (names-none c k) h)))
+    (left fault (many_rule c ++ unknown_names c ++ cycles c) (each_device c (table_rules c)) (right fault (many_rule c ++ unknown_names c) (cycles c) (names-none c k) h)))
 
-pub lines-first : (c : Configuration) (fault : LoadFault) → Known c → first (circles c) ≡ None → IsFirst fault (each_device c (table_rules c)) → IsFirst fault (rules c)
+pub lines-first : (c : Configuration) (fault : LoadFault) → Known c → first (cycles c) ≡ None → IsFirst fault (each_device c (table_rules c)) → IsFirst fault (rules c)
 lines-first c fault k around h =
     left fault (device_rules c ++ depth_rules c) (cost_rules c) (left fault (device_rules c) (depth_rules c)
-    (right fault (many_rule c ++ unknown_names c ++ circles c) (each_device c (table_rules c)) (around-none c k around) h))
+    (right fault (many_rule c ++ unknown_names c ++ cycles c) (each_device c (table_rules c)) (around-none c k around) h))
 
-pub depths-first : (c : Configuration) (fault : LoadFault) → Known c → first (circles c) ≡ None → first (each_device c (table_rules c)) ≡ None → IsFirst fault (depth_rules c) → IsFirst fault (rules c)
+pub depths-first : (c : Configuration) (fault : LoadFault) → Known c → first (cycles c) ≡ None → first (each_device c (table_rules c)) ≡ None → IsFirst fault (depth_rules c) → IsFirst fault (rules c)
 depths-first c fault k around lines h =
     left fault (device_rules c ++ depth_rules c) (cost_rules c) (right fault (device_rules c) (depth_rules c) (lines-none c k around lines) h)
 
-pub costs-first : (c : Configuration) (fault : LoadFault) → Known c → first (circles c) ≡ None → first (each_device c (table_rules c)) ≡ None → first (depth_rules c) ≡ None → IsFirst fault (cost_rules c) → IsFirst fault (rules c)
+pub costs-first : (c : Configuration) (fault : LoadFault) → Known c → first (cycles c) ≡ None → first (each_device c (table_rules c)) ≡ None → first (depth_rules c) ≡ None → IsFirst fault (cost_rules c) → IsFirst fault (rules c)
 costs-first c fault k around lines deep h = right fault (device_rules c ++ depth_rules c) (cost_rules c) (deep-none c k around lines deep) h
 
-pub none-first : (c : Configuration) → Known c → first (circles c) ≡ None → first (each_device c (table_rules c)) ≡ None → first (depth_rules c) ≡ None → first (cost_rules c) ≡ None → first (rules c) ≡ None
+pub none-first : (c : Configuration) → Known c → first (cycles c) ≡ None → first (each_device c (table_rules c)) ≡ None → first (depth_rules c) ≡ None → first (cost_rules c) ≡ None → first (rules c) ≡ None
 none-first c k around lines deep cost = first-none (device_rules c ++ depth_rules c) (cost_rules c) (deep-none c k around lines deep) ∙ cost
 
 -- ---- rules on one number for each device

@@ -1,6 +1,6 @@
 -- What callers may cite.
 pub mod UnrollLemmas
+pub mod CycleLemmas
+pub mod CostRuleLemmas
 pub mod ValidLemmas
-pub mod ValidCostLemmas
 pub mod ValidLineLemmas
-pub mod ValidLowerLemmas

@@ -1,12 +1,16 @@
 pub mod Records
 pub mod Names
 pub mod Descend
+pub mod Cycles
 pub mod Lines
 pub mod Rules
+pub mod DeviceSet
 pub mod Leaves
+pub mod FaultKinds
 pub mod Kept
 pub mod Passing
-pub mod Heights
+pub mod Depths
+pub mod Costs
 pub mod Places
 pub mod Index
 pub mod Facts

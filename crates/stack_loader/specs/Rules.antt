@@ -17,6 +17,7 @@ use Rattle.stack_loader.specs.declared.refusal.Refusal.{Refusal}
 use Rattle.stack_loader.specs.Records.{Configuration, DeviceRecord, LeafRecord}
 use Rattle.stack_loader.specs.Names.{mapped, named, names, lowers, sectors_of, size, may_write, device_named}
 use Rattle.stack_loader.specs.Descend.{depth, read_cost, most_devices}
+use Rattle.stack_loader.specs.Cycles.{is_on_cycle, IsOnCycle, IsFirstOnCycle}
 
 -- ---- the configuration to come
 
@@ -45,20 +46,6 @@ duplicate_names earlier (e ∷ more) = refuse DuplicateName e.number 0 (list_any
 
 abbrev pub most_lines : ℕ
 most_lines = 256
-
-abbrev pub is_mapped : ℕ → Lower → Bool
-is_mapped e (leaf i) = false
-is_mapped e (device d) = e == d.0
-
--- a chain of at most n lines leads from a leaf or device to device e
-abbrev pub leads : Configuration → ℕ → ℕ → Lower → Bool
-leads c zero e from = false
-leads c (suc n) e (leaf i) = false
-leads c (suc n) e (device d) = list_any (λ lower. is_mapped e lower || leads c n e lower) (lowers c d.0)
-
--- a chain that leads from a device to itself and meets none twice is no longer than there are devices
-unfoldable pub stands_on_itself : Configuration → ℕ → Bool
-stands_on_itself c d = leads c most_devices d (mapped d)
 
 -- the most sectors of a device, the most leaf sectors that a read of one moves, and the most depth
 abbrev pub most_sectors : ℕ
@@ -128,9 +115,9 @@ unknown_in c d lines = flat_map (λ p. refuse NoSuchDevice d p.0 (list_any (λ n
 abbrev pub unknown_names : Configuration → List (Option Refusal)
 unknown_names c = each_device c (λ d x. unknown_in c d x.table)
 
--- each device that stands on itself
-abbrev pub circles : Configuration → List (Option Refusal)
-circles c = each_device c (λ d x. refuse StandsOnItself d 0 (stands_on_itself c (d - 1)) ∷ [])
+-- each device on a cycle
+abbrev pub cycles : Configuration → List (Option Refusal)
+cycles c = each_device c (λ d x. refuse StandsOnItself d 0 (is_on_cycle c (d - 1)) ∷ [])
 
 -- the rules of each line of device d
 abbrev pub table_rules : Configuration → ℕ → DeviceRecord → List (Option Refusal)
@@ -142,7 +129,7 @@ is_too_many devices = nat_lt most_devices (length devices) || list_any (λ d. na
 
 -- the rules on the whole configuration, and then those on each line
 abbrev pub device_rules : Configuration → List (Option Refusal)
-device_rules c = refuse TooMany 0 0 (is_too_many c.devices) ∷ unknown_names c ++ circles c ++ each_device c (table_rules c)
+device_rules c = refuse TooMany 0 0 (is_too_many c.devices) ∷ unknown_names c ++ cycles c ++ each_device c (table_rules c)
 
 -- each device whose depth is above the limit
 abbrev pub depth_rules : Configuration → List (Option Refusal)
@@ -170,6 +157,11 @@ load_rules c text = duplicate_names [] text ++ rules (after_load c text)
 unfoldable pub first_refusal : Configuration → List Entry → Option Refusal
 first_refusal c text = first (load_rules c text)
 
+-- why a load is refused: by the first rule that does, and where that is of cycles, for the first device on one
+pub record IsRefusal (c : Configuration) (text : List Entry) (refusal : Refusal) : Type 0 where
+  pub first : first_refusal c text ≡ Some refusal
+  pub cycle : refusal.kind ≡ StandsOnItself → IsFirstOnCycle (after_load c text) refusal.device
+
 -- no rule refuses it
 unfoldable pub IsValid : Configuration → Type 0
 IsValid c = first (rules c) ≡ None
@@ -189,9 +181,10 @@ pub record AreLeaves (leaves : List LeafRecord) : Type 0 where
   pub names : All (λ l. IsTrue (is_leaf_name l.name)) leaves
   pub sizes : All (λ l. l.sectors ≤ most_sectors) leaves
 
--- a configuration that loads have made: each name once, and no rule refuses it
+-- a configuration that loads have made: each name once, no device on a cycle, and no rule refuses it
 pub record IsLoaded (c : Configuration) : Type 0 where
   pub leaves : AreLeaves c.leaves
   pub distinct : IsDistinct bytes_eq (map (λ d. d.name) c.devices)
   pub mapped : All (λ d. IsTrue (is_mapped_name d.name)) c.devices
   pub valid : IsValid c
+  pub acyclic : (d : ℕ) → IsOnCycle c d → ⊥

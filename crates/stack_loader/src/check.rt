@@ -2,16 +2,19 @@
 ghost use Rattle.std.specs.Prelude.{◌≡◌, ◌≤◌, length, nat_lt};
 ghost use Rattle.std.specs.List.{list_any};
 ghost use Rattle.stack_loader.specs.Records.{configuration};
-ghost use Rattle.stack_loader.specs.Passing.{IsPassed};
+ghost use Rattle.stack_loader.specs.Passing.{IsPassed, above};
 ghost use Rattle.stack_loader.specs.Facts.{AreFacts, IsNext};
-ghost use Rattle.stack_loader.specs.Rules.{rules, load_rules, is_too_many, most_leaves, most_lines};
+ghost use Rattle.stack_loader.specs.Descend.{most_devices};
+ghost use Rattle.stack_loader.specs.Rules.{first, rules, load_rules, is_too_many, most_leaves, most_lines};
 
-use crate::circles::circle_refusal;
-use crate::heights::{MOST_DEVICES, first_above, heights};
+use crate::costs::{Direction, costs};
+use crate::cycles::cycle_refusal;
+use crate::depths::depths;
 use crate::leaf::Leaf;
+use crate::lower_sets::{MOST_DEVICES, lower_sets};
 use crate::lowers::DeviceLowers;
 use crate::mapped::Mapped;
-use crate::next::{duplicate, next_devices};
+use crate::next::{duplicate, is_over_full, next_devices};
 use crate::refusal::{LoadFault, LoadKind, Refusal};
 use crate::resolve::lowers_of;
 use crate::rules::lines_refusal;
@@ -20,7 +23,7 @@ use std::alloc::Global;
 
 const MOST_LINES: usize = 256;
 
-const MOST_DEPTH: u64 = 8;
+pub(crate) const MOST_DEPTH: u64 = 8;
 
 const MOST_COST: u64 = 1 << 32;
 
@@ -47,6 +50,23 @@ fn is_too_many(devices: &[Mapped]) -> bool
     devices.len() > MOST_DEVICES as usize || has_long_table(devices)
 }
 
+/// The first device with more than that.
+pub(crate) fn first_above(values: &[u64], most: u64, kind: LoadKind) -> Option<Refusal>
+    requires { length values.now ≤ most_devices }
+    ensures { result ≡ first (above kind most values.now) }
+{
+    for (i, value) in values.iter().enumerate() {
+        if *value > most {
+            return Some(Refusal {
+                kind,
+                device: i as u32 + 1,
+                line: 0,
+            });
+        }
+    }
+    None
+}
+
 /// The facts of a configuration, or the first rule that refuses it.
 pub(crate) fn check(alloc: Global, leaves: &[Leaf], devices: &[Mapped]) -> Result<Facts, LoadFault>
     requires { length leaves.now ≤ most_leaves }
@@ -60,10 +80,9 @@ pub(crate) fn check(alloc: Global, leaves: &[Leaf], devices: &[Mapped]) -> Resul
         }));
     }
     let lowers = lowers_of(alloc, leaves, devices)?;
-    // A leaf's depth is 0, and each device adds 1.
-    let depths = heights(alloc, 0, 1, lowers.as_slice())?;
-    let circle = circle_refusal(alloc, lowers.as_slice(), depths.as_slice())?;
-    match circle {
+    let sets = lower_sets(alloc, lowers.as_slice())?;
+    let cycle = cycle_refusal(alloc, sets.as_slice())?;
+    match cycle {
         Some(refusal) => return Err(LoadFault::Refused(refusal)),
         None => {}
     }
@@ -71,18 +90,29 @@ pub(crate) fn check(alloc: Global, leaves: &[Leaf], devices: &[Mapped]) -> Resul
         Some(refusal) => return Err(LoadFault::Refused(refusal)),
         None => {}
     }
+    let depths = depths(alloc, sets.as_slice())?;
     match first_above(depths.as_slice(), MOST_DEPTH, LoadKind::TooDeep) {
         Some(refusal) => return Err(LoadFault::Refused(refusal)),
         None => {}
     }
-    // A sector of a leaf costs 1, and these targets add nothing. What they write costs as much as what they read;
-    // the two are kept apart, since other targets differ.
-    let read_costs = heights(alloc, 1, 0, lowers.as_slice())?;
+    let read_costs = costs(
+        alloc,
+        Direction::Read,
+        devices,
+        lowers.as_slice(),
+        depths.as_slice(),
+    )?;
     match first_above(read_costs.as_slice(), MOST_COST, LoadKind::CostTooLarge) {
         Some(refusal) => return Err(LoadFault::Refused(refusal)),
         None => {}
     }
-    let write_costs = heights(alloc, 1, 0, lowers.as_slice())?;
+    let write_costs = costs(
+        alloc,
+        Direction::Write,
+        devices,
+        lowers.as_slice(),
+        depths.as_slice(),
+    )?;
     Ok(Facts {
         depths,
         read_costs,
@@ -105,13 +135,22 @@ pub(crate) fn next_load(
     devices: &[Mapped],
     entries: &[Entry],
 ) -> Result<Next, LoadFault>
-    requires { length leaves.now ≤ most_leaves }
+    requires leaves { length leaves.now ≤ most_leaves }
+    requires devices { length devices.now ≤ most_devices }
     ensures { let c = configuration leaves.now devices.now in IsPassed result (load_rules c entries.now) (IsNext c entries.now) }
 {
     let refusal = duplicate(alloc, entries)?;
     match refusal {
         Some(refusal) => return Err(LoadFault::Refused(refusal)),
         None => {}
+    }
+    // No table is copied for more devices than there may be.
+    if is_over_full(devices, entries) {
+        return Err(LoadFault::Refused(Refusal {
+            kind: LoadKind::TooMany,
+            device: 0,
+            line: 0,
+        }));
     }
     let devices = next_devices(alloc, devices, entries)?;
     let facts = check(alloc, leaves, devices.as_slice())?;

@@ -5,13 +5,12 @@ ghost use Rattle.stack_loader.specs.Descend.{depth, read_cost, write_cost};
 ghost use Rattle.stack_loader.specs.Lines.{IsIn, names_at, lower_at};
 ghost use Rattle.stack_loader.specs.Leaves.{first_fault};
 ghost use Rattle.stack_loader.specs.declared.refusal.Refusal.{Refusal};
-ghost use Rattle.stack_loader.specs.Rules.{IsLoaded, after_load, first_refusal};
+ghost use Rattle.stack_loader.specs.Rules.{IsLoaded, IsRefusal, after_load, first_refusal};
 
-use crate::check::next_load;
+use crate::check::{Facts, next_load};
 use crate::leaf::Leaf;
 use crate::leaves::leaves_fault;
 use crate::lower::{DevId, Lower};
-use crate::lowers::DeviceLowers;
 use crate::mapped::{Mapped, place_of};
 use crate::refusal::{ConfigFault, LoadFault};
 use crate::sectors::line_of;
@@ -25,23 +24,18 @@ pub struct Config {
     alloc: Global,
     leaves: Vec<Leaf>,
     devices: Vec<Mapped>,
-    depths: Vec<u64>,
-    read_costs: Vec<u64>,
-    write_costs: Vec<u64>,
-    lowers: Vec<DeviceLowers>,
+    facts: Facts,
 }
 
 impl Model for Config {
     ghost use Rattle.stack_loader.specs.Records.{Configuration};
-    ghost use Rattle.stack_loader.specs.Kept.{IsKept};
+    ghost use Rattle.stack_loader.specs.Facts.{IsKept};
 
     ghost Value = { Configuration };
 
     ghost view = { λ c. record { leaves = c.leaves.items; devices = c.devices.items } };
 
-    ghost invariant = { λ c.
-        IsKept (record { leaves = c.leaves.items; devices = c.devices.items })
-        c.depths.items c.read_costs.items c.write_costs.items c.lowers.items };
+    ghost invariant = { λ c. IsKept (record { leaves = c.leaves.items; devices = c.devices.items }) c.facts };
 }
 
 impl Config {
@@ -57,10 +51,12 @@ impl Config {
                 alloc,
                 leaves,
                 devices: Vec::new(alloc),
-                depths: Vec::new(alloc),
-                read_costs: Vec::new(alloc),
-                write_costs: Vec::new(alloc),
-                lowers: Vec::new(alloc),
+                facts: Facts {
+                    depths: Vec::new(alloc),
+                    read_costs: Vec::new(alloc),
+                    write_costs: Vec::new(alloc),
+                    lowers: Vec::new(alloc),
+                },
             }),
         }
     }
@@ -69,7 +65,7 @@ impl Config {
     pub fn load(&mut self, text: &StackText) -> Result<(), LoadFault>
         ensures ok { OnOk result (first_refusal self.old text.now ≡ None) }
         ensures after { OnOk result (self.new ≡ after_load self.old text.now) }
-        ensures refused { (r : Refusal) → result ≡ Err (LoadFault.Refused r) → first_refusal self.old text.now ≡ Some r }
+        ensures refused { (r : Refusal) → result ≡ Err (LoadFault.Refused r) → IsRefusal self.old text.now r }
         ensures same { OnErr result (self.new ≡ self.old) }
     {
         let next = next_load(
@@ -79,10 +75,7 @@ impl Config {
             text.as_slice(),
         )?;
         self.devices = next.devices;
-        self.depths = next.facts.depths;
-        self.read_costs = next.facts.read_costs;
-        self.write_costs = next.facts.write_costs;
-        self.lowers = next.facts.lowers;
+        self.facts = next.facts;
         Ok(())
     }
 
@@ -94,7 +87,7 @@ impl Config {
         self.devices.len()
     }
 
-    /// The mapped device of that name.
+    /// The mapped device of that name, without `/dev/mapper/`. Devices count from 0, in the order in which they were created.
     pub fn device(&self, name: &[u8]) -> Option<DevId>
         ensures { result ≡ option_map (λ d. record { 0 = d }) (device_named self.now name.now) }
     {
@@ -102,6 +95,7 @@ impl Config {
         Some(DevId(place as u32))
     }
 
+    /// The bytes of its name, without `/dev/mapper/`.
     pub fn name(&self, d: DevId) -> &[u8]
         requires { d.0 < length self.now.devices }
         ensures { result.now ≡ name_of self.now d.0 }
@@ -117,6 +111,7 @@ impl Config {
         self.devices[d.0 as usize].size() as u64
     }
 
+    /// Whether it may be written: the flag of the entry that made it last.
     pub fn writable(&self, d: DevId) -> bool
         requires { d.0 < length self.now.devices }
         ensures { result ≡ may_write self.now (mapped d.0) }
@@ -129,7 +124,7 @@ impl Config {
         requires { d.0 < length self.now.devices }
         ensures { result ≡ depth self.now (mapped d.0) }
     {
-        self.depths[d.0 as usize] as u32
+        self.facts.depths[d.0 as usize] as u32
     }
 
     /// The most leaf sectors that reading one sector moves.
@@ -137,7 +132,7 @@ impl Config {
         requires { d.0 < length self.now.devices }
         ensures { result ≡ read_cost self.now (mapped d.0) }
     {
-        self.read_costs[d.0 as usize]
+        self.facts.read_costs[d.0 as usize]
     }
 
     /// The most leaf sectors that writing one sector moves.
@@ -145,9 +140,10 @@ impl Config {
         requires { d.0 < length self.now.devices }
         ensures { result ≡ write_cost self.now (mapped d.0) }
     {
-        self.write_costs[d.0 as usize]
+        self.facts.write_costs[d.0 as usize]
     }
 
+    /// Its lines, in the order of their sectors.
     pub fn table(&self, d: DevId) -> &Table
         requires { d.0 < length self.now.devices }
         ensures { result.now ≡ lines_of self.now d.0 }
@@ -155,7 +151,8 @@ impl Config {
         self.devices[d.0 as usize].table()
     }
 
-    /// The number of the line in which a sector lies, from 0, and the sectors left in it from there on.
+    /// The number of the line in which a sector lies, and the sectors left in it from there on. Sectors and lines
+    /// of a device count from 0.
     pub fn line_at(&self, d: DevId, sector: u64) -> (u32, u64)
         requires device { d.0 < length self.now.devices }
         requires sector { sector < size self.now (mapped d.0) }
@@ -164,12 +161,12 @@ impl Config {
         line_of(self.devices[d.0 as usize].table(), sector)
     }
 
-    /// What the i-th name of a line means, from 0.
+    /// What the i-th name of a line means. Lines of a device and names of a line count from 0.
     pub fn lower(&self, d: DevId, line: u32, i: u32) -> Lower
         requires device { d.0 < length self.now.devices }
         requires name { i < length (names_at self.now d.0 line) }
         ensures { lower_at self.now d.0 line i ≡ Some result }
     {
-        self.lowers[d.0 as usize].at(line as usize, i as usize)
+        self.facts.lowers[d.0 as usize].at(line as usize, i as usize)
     }
 }

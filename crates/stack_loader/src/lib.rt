@@ -2,13 +2,16 @@
 #![tactic(auto)]
 
 mod check;
-mod circles;
 mod config;
-mod heights;
+mod costs;
+mod cycles;
+mod depths;
+mod device_set;
 mod index;
 mod leaf;
 mod leaves;
 mod lower;
+mod lower_sets;
 mod lowers;
 mod mapped;
 mod next;

@@ -1,8 +1,10 @@
 // The devices after a load.
-ghost use Rattle.std.specs.Prelude.{◌≡◌, [], ◌∷◌, ◌++◌, ℕ, List, is_none, map, filter, find, position, option_copied, IfOk};
+ghost use Rattle.std.specs.Prelude.{◌≡◌, ◌↔◌, ◌<◌, ◌≤◌, ◌+◌, [], ◌∷◌, ◌++◌, ℕ, List, IsTrue, length, count_by, is_none, map, filter, find, position, option_copied, IfOk};
 ghost use Rattle.std.specs.Str.{bytes_eq};
+ghost use Rattle.stack_loader.specs.Descend.{most_devices};
 ghost use Rattle.stack_loader.specs.Rules.{replaced, created, first, duplicate_names};
 
+use crate::lower_sets::MOST_DEVICES;
 use crate::mapped::{Mapped, place_of};
 use crate::refusal::{LoadKind, Refusal};
 use dm_table::Entry;
@@ -25,6 +27,24 @@ pub(crate) fn duplicate(alloc: Global, entries: &[Entry]) -> Result<Option<Refus
         }
     }
     Ok(None)
+}
+
+/// How many devices the entries create.
+fn created_count(devices: &[Mapped], entries: &[Entry]) -> usize
+    ensures { result ≡ count_by (λ e. is_none (position (λ d. bytes_eq d.name e.name) devices.now)) entries.now }
+{
+    entries
+        .iter()
+        .filter(|entry| place_of(devices, entry.name.as_slice()).is_none())
+        .count()
+}
+
+/// Whether there would be more than 64 devices.
+pub(crate) fn is_over_full(devices: &[Mapped], entries: &[Entry]) -> bool
+    requires { length devices.now ≤ most_devices }
+    ensures { IsTrue result ↔ (most_devices < length devices.now + count_by (λ e. is_none (position (λ d. bytes_eq d.name e.name) devices.now)) entries.now) }
+{
+    created_count(devices, entries) > MOST_DEVICES as usize - devices.len()
 }
 
 /// The first entry of that name.

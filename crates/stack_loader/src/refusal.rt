@@ -7,63 +7,105 @@ use thiserror::Error;
 
 /// Why leaves aren't taken, in the order of the checks.
 #[derive(Clone, Copy, Debug, PartialEq, Eq, Error)]
+#[error("{}", self.name())]
 pub enum ConfigFault {
     /// Two leaves have one name.
-    #[error("DuplicateLeaf")]
     DuplicateLeaf = 1,
     /// There are more than 64 leaves.
-    #[error("TooMany")]
     TooMany = 2,
     /// A name is no leaf name.
-    #[error("BadName")]
     BadName = 3,
     /// A leaf has more than 2^54 sectors.
-    #[error("TooLarge")]
     TooLarge = 4,
     /// Memory ran out. No call answers it today.
-    #[error("NoMemory")]
     NoMemory = 5,
+}
+
+impl ConfigFault {
+    ghost use Rattle.std.specs.Prelude.{◌≡◌};
+    ghost use Rattle.stack_loader.specs.FaultKinds.{config_number, config_name};
+
+    /// The number that is printed, 1 to 5.
+    pub fn number(self) -> u8
+        ensures { result ≡ config_number self }
+    {
+        self as u8
+    }
+
+    /// The name that is printed: the variant's.
+    pub fn name(self) -> &'static str
+        ensures { result.now ≡ config_name self }
+    {
+        match self {
+            ConfigFault::DuplicateLeaf => "DuplicateLeaf",
+            ConfigFault::TooMany => "TooMany",
+            ConfigFault::BadName => "BadName",
+            ConfigFault::TooLarge => "TooLarge",
+            ConfigFault::NoMemory => "NoMemory",
+        }
+    }
 }
 
 /// The rule by which a load is refused, in the order of the rules.
 #[derive(Clone, Copy, Debug, PartialEq, Eq, Error)]
+#[error("{}", self.name())]
 pub enum LoadKind {
     /// Two entries have one name.
-    #[error("DuplicateName")]
     DuplicateName = 1,
     /// There would be more than 64 devices, or a device has more than 256 lines.
-    #[error("TooMany")]
     TooMany = 2,
     /// A line names no leaf and no device.
-    #[error("NoSuchDevice")]
     NoSuchDevice = 3,
-    /// A chain of lines leads from the device to itself.
-    #[error("StandsOnItself")]
+    /// A chain of lines leads from the device to itself; the device is the first on such a cycle.
     StandsOnItself = 4,
     /// A line has no sectors.
-    #[error("ZeroLength")]
     ZeroLength = 5,
     /// A line doesn't start where the lines before it end.
-    #[error("Gap")]
     Gap = 6,
     /// A line ends past 2^54 sectors.
-    #[error("TooLarge")]
     TooLarge = 7,
     /// The length of a striped line is no multiple of stripes times chunk.
-    #[error("StripesDontDivide")]
     StripesDontDivide = 8,
     /// A range or a stripe's share ends past the device that it names.
-    #[error("BeyondDevice")]
     BeyondDevice = 9,
     /// A line of a writable device names a read-only leaf or device.
-    #[error("LowerReadOnly")]
     LowerReadOnly = 13,
     /// A device's depth is above 8: it is 1 more than that of the deepest that it names, and a leaf's is 0.
-    #[error("TooDeep")]
     TooDeep = 14,
     /// Reading a sector could move more than 2^32 leaf sectors.
-    #[error("CostTooLarge")]
     CostTooLarge = 15,
+}
+
+impl LoadKind {
+    ghost use Rattle.std.specs.Prelude.{◌≡◌};
+    ghost use Rattle.stack_loader.specs.FaultKinds.{load_number, load_name};
+
+    /// The number that is printed, 1 to 9 and 13 to 15.
+    pub fn number(self) -> u8
+        ensures { result ≡ load_number self }
+    {
+        self as u8
+    }
+
+    /// The name that is printed: the variant's.
+    pub fn name(self) -> &'static str
+        ensures { result.now ≡ load_name self }
+    {
+        match self {
+            LoadKind::DuplicateName => "DuplicateName",
+            LoadKind::TooMany => "TooMany",
+            LoadKind::NoSuchDevice => "NoSuchDevice",
+            LoadKind::StandsOnItself => "StandsOnItself",
+            LoadKind::ZeroLength => "ZeroLength",
+            LoadKind::Gap => "Gap",
+            LoadKind::TooLarge => "TooLarge",
+            LoadKind::StripesDontDivide => "StripesDontDivide",
+            LoadKind::BeyondDevice => "BeyondDevice",
+            LoadKind::LowerReadOnly => "LowerReadOnly",
+            LoadKind::TooDeep => "TooDeep",
+            LoadKind::CostTooLarge => "CostTooLarge",
+        }
+    }
 }
 
 /// The first refusal of a load. Devices and lines count from 1.

@@ -1,5 +1,7 @@
 // Worked loads: the expected answers are those of the rules, worked out by hand.
+mod cycles;
 mod first_refusal;
+mod large;
 mod leaves;
 mod lines;
 mod replaced;
@@ -131,7 +133,7 @@ fn checks_what_stands_on_a_replaced_device(rt: HostRuntime) -> Result<(), Fail> 
 }
 
 #[test]
-fn finds_the_first_device_on_a_circle(rt: HostRuntime) -> Result<(), Fail> {
+fn finds_the_first_device_on_a_cycle(rt: HostRuntime) -> Result<(), Fail> {
     let alloc = rt.alloc();
     let mut config = over(alloc, b"D", 1)?;
     assert_eq!(rt;

@@ -1,8 +1,11 @@
-pub mod SessionLemmas
+pub mod lemmas
+pub mod IntakeLemmas
+pub mod RangeLemmas
 pub mod ReadingLemmas
-pub mod Rows
-pub mod SectorLemmas
-pub mod CommandLemmas
+pub mod ReplyLemmas
+pub mod ReplyingLemmas
 pub mod RequestLemmas
-pub mod Corollaries
-pub mod WholeLemmas
+pub mod SectorTextLemmas
+pub mod SessionLemmas
+pub mod WholeReadLemmas
+pub mod WorkedValueLemmas

@@ -1,103 +1,108 @@
--- What a session has read, and how often it asked.
-use Rattle.std.proofs.Common.{◌≡◌, ℕ, ◌+◌, ◌<◌, ◌≤◌, List, [], ◌++◌, length, take, refl, ap, sym, ◌∙◌, append_assoc, append-nil, arith, subst, length-append}
-use Rattle.std.specs.Prelude.{Some, None, Option, IfSome}
-use Rattle.std.specs.Io.KnownBytes.{Appends, Consumes, Keeps, IsAtEnd}
-use Rattle.std.proofs.KnownBytes.{Consumes-nil, Consumes-trans, Consumes-kept}
-use Rattle.stack_session.specs.Session.{Replying, WritesSession, WritesWhole, AnswersWhole}
-use Rattle.stack_session.proofs.SessionLemmas.{serves_nothing, serves_more, serves_kept, serves_end}
-use Rattle.std.proofs.lemmas.List.Elements.{All-nil}
-use Rattle.std.proofs.lemmas.List.{take-append-le}
-use Rattle.std.proofs.Math.Seq.{take-append-add}
+-- Reads that are answered in another way: over any leaves, over steady ones, as a whole.
+use Rattle.std.proofs.Common.{◌≡◌, ℕ, List, refl, ap, sym, ◌∙◌, subst, inl, inr, Option, Some, None, Result, Ok, Err}
+use Rattle.block_device.specs.Device.{Device}
+use Rattle.dm_table.specs.declared.stack.Entry.{Entry}
+use Rattle.dm_table.specs.declared.fault.TextFault.{TextFault}
+use Rattle.dm_table.specs.StackText.{stack_of}
+use Rattle.stack_loader.specs.declared.refusal.Refusal.{Refusal}
+use Rattle.stack_loader.specs.Rules.{first_refusal}
+use Rattle.stack_engine.specs.declared.fault.IoFault.{IoFault}
+use Rattle.stack_engine.specs.Leaves.{AllSteady}
+use Rattle.stack_engine.proofs.lemmas.LeafListLemmas.{AllSteady-kept}
+use Rattle.stack_engine.specs.Stacks.{StackRecord}
+use Rattle.stack_session.specs.declared.fault.SessionFault.{SessionFault}
+use Rattle.stack_session.specs.declared.range.SectorRange.{SectorRange}
+use Rattle.stack_session.specs.declared.range.SubmitFault.{SubmitFault}
+use Rattle.stack_session.specs.Session.{Streams, IsSession}
+use Rattle.stack_session.specs.Requests.{Request, nothing, load, read, cost, table, moved, usage, request_of}
+use Rattle.stack_engine.specs.Pieces.{AnyPiece, SteadyPiece, EachPiece}
+use Rattle.stack_session.specs.Ranges.{Reading, ReadsPieces, reads_none, reads_more, ReadsAll, ReadsWhole, range_of}
+use Rattle.stack_session.specs.Replies.{Reply, load_reply, text_reply, RepliesToRange, RepliesTo, Replies}
+use Rattle.stack_session.proofs.ReplyingLemmas.{IsSession-as}
+use Rattle.stack_session.proofs.WholeReadLemmas.{ReadsAll-whole}
 
--- what was taken from the reader was served, and left bytes may still come
-pub record Reading {S : Type 0} (replies : Replying S) (first : S) (bytes0 bytes1 text0 text1 : Option (List ℕ)) (left : ℕ) (now : S) (rest : List ℕ) : Type 0 where
-  pub taken : List ℕ
-  pub consumed : Consumes bytes0 bytes1 taken
-  pub counted : length taken + left ≡ 16777216
-  pub whole : WritesWhole replies first taken text0 text1 now rest
+-- ---- from reads to sessions
 
-pub reading_starts : {S : Type 0} (replies : Replying S) (first : S) (bytes text : Option (List ℕ)) → Reading replies first bytes bytes text text 16777216 first []
-reading_starts replies first bytes text = record {
-  taken = [];
-  consumed = Consumes-nil bytes;
-  counted = refl;
-  whole = serves_nothing replies first [] text (All-nil _);
-}
+-- each answer of one way is one of the other, and a fact about the leaves goes on
+abbrev pub Yields : Reading → Reading → (List Device → Type 0) → Type 0
+Yields R Q P =
+    (w : StackRecord) (range : SectorRange) (answer : Result (List ℕ) IoFault) (w' : StackRecord) → P w.leaves → R w range answer w' → Q w range answer w' × P w'.leaves
 
-pub reading_more : {S : Type 0} {replies : Replying S} {first now : S} {left : ℕ} {rest : List ℕ} {bytes0 bytes1 text0 text1 : Option (List ℕ)} (bytes2 text2 : Option (List ℕ)) (after : ℕ) (new : S) (tail piece : List ℕ)
-    → Reading replies first bytes0 bytes1 text0 text1 left now rest → Consumes bytes1 bytes2 piece → after + length piece ≡ left
-    → WritesWhole replies now (rest ++ piece) text1 text2 new tail → Reading replies first bytes0 bytes2 text0 text2 after new tail
-reading_more {bytes0 = bytes0} {bytes1 = bytes1} bytes2 text2 after new tail piece r c n w = record {
-  taken = r.taken ++ piece;
-  consumed = Consumes-trans bytes0 bytes1 bytes2 r.taken piece r.consumed c;
-  counted = omega (arith, length-append r.taken piece, r.counted);
-  whole = serves_more piece r.whole w;
-}
+range-as : (R Q : Reading) (P : List Device → Type 0) → Yields R Q P → (w : StackRecord) (range : Result SectorRange SubmitFault) (reply : List ℕ) (w' : StackRecord) → P w.leaves
+    → RepliesToRange R w range reply w' → RepliesToRange Q w range reply w' × P w'.leaves
+range-as R Q P f w (Err fault) reply w' p r = (r, subst (λ (x : StackRecord). P x.leaves) (sym r.1) p)
+range-as R Q P f w (Ok range) reply w' p r =
+    let all : Q w range r.0 w' × P w'.leaves = f w range r.0 w' p r.1 in
+    ((r.0, all.0, r.2), all.1)
 
-pub reading_kept : {S : Type 0} {replies : Replying S} {first now : S} {left : ℕ} {rest : List ℕ} {bytes0 bytes1 text0 text1 : Option (List ℕ)} (bytes2 : Option (List ℕ))
-    → Reading replies first bytes0 bytes1 text0 text1 left now rest → Keeps bytes1 bytes2 → Reading replies first bytes0 bytes2 text0 text1 left now rest
-reading_kept {bytes0 = bytes0} {bytes1 = bytes1} bytes2 r k = record {
-  taken = r.taken;
-  consumed = Consumes-kept bytes0 bytes1 bytes2 r.taken r.consumed k;
-  counted = r.counted;
-  whole = r.whole;
-}
+-- a load leaves the leaves as they were
+load_reply-leaves : (w : StackRecord) (entries : List Entry) (o : Option Refusal) → (load_reply w entries o).stack.leaves ≡ w.leaves
+load_reply-leaves w entries None = refl
+load_reply-leaves w entries (Some refusal) = refl
 
--- the replies so far are handed on
-pub reading_flushed : {S : Type 0} {replies : Replying S} {first now : S} {left : ℕ} {rest : List ℕ} {bytes0 bytes1 text0 text1 : Option (List ℕ)} (text2 : Option (List ℕ))
-    → Reading replies first bytes0 bytes1 text0 text1 left now rest → Keeps text1 text2 → Reading replies first bytes0 bytes1 text0 text2 left now rest
-reading_flushed text2 r k = record {
-  taken = r.taken;
-  consumed = r.consumed;
-  counted = r.counted;
-  whole = serves_kept text2 r.whole k;
-}
+text_reply-leaves : (w : StackRecord) (r : Result (List Entry) TextFault) → (text_reply w r).stack.leaves ≡ w.leaves
+text_reply-leaves w (Err fault) = refl
+text_reply-leaves w (Ok entries) = load_reply-leaves w entries (first_refusal w.config entries)
 
--- at its end the reader gave all that it had
-all_taken : (a b c : Option (List ℕ)) (bs : List ℕ) → Consumes a b bs → Consumes b c [] → IsAtEnd c → IfSome a (λ xs. xs ≡ bs)
-all_taken None b c bs p q e = tt
-all_taken (Some x) None c bs p q e = absurd p
-all_taken (Some x) (Some y) None bs p q e = absurd q
-all_taken (Some x) (Some y) (Some z) bs p q e = p ∙ ap (λ t. bs ++ t) (q ∙ e) ∙ append-nil bs
+request-as : (R Q : Reading) (P : List Device → Type 0) → Yields R Q P → (w : StackRecord) (a : Request) (reply : List ℕ) (w' : StackRecord) → P w.leaves
+    → RepliesTo R w a reply w' → RepliesTo Q w a reply w' × P w'.leaves
+request-as R Q P f w nothing reply w' p r = (r, subst (λ (x : StackRecord). P x.leaves) (sym r.1) p)
+request-as R Q P f w usage reply w' p r = (r, subst (λ (x : StackRecord). P x.leaves) (sym r.1) p)
+request-as R Q P f w (cost name) reply w' p r = (r, subst (λ (x : StackRecord). P x.leaves) (sym r.1) p)
+request-as R Q P f w (table name) reply w' p (inl r) = (inl r, subst (λ (x : StackRecord). P x.leaves) (sym r.1) p)
+request-as R Q P f w (table name) reply w' p (inr none) = (inr none, subst (λ (x : StackRecord). P x.leaves) (sym none.1) p)
+request-as R Q P f w moved reply w' p r = (r, subst (λ (x : StackRecord). P x.leaves) (sym r.1) p)
+request-as R Q P f w (load text) reply w' p (inl r) =
+    (inl r, subst P (sym (ap (λ (x : Reply). x.stack.leaves) r ∙ text_reply-leaves w (stack_of text))) p)
+request-as R Q P f w (load text) reply w' p (inr none) = (inr none, subst (λ (x : StackRecord). P x.leaves) (sym none.1) p)
+request-as R Q P f w (read name first count) reply w' p (inl r) =
+    let all : RepliesToRange Q w (range_of w.config name first count) reply w' × P w'.leaves = range-as R Q P f w (range_of w.config name first count) reply w' p r in
+    (inl all.0, all.1)
+request-as R Q P f w (read name first count) reply w' p (inr none) = (inr none, subst (λ (x : StackRecord). P x.leaves) (sym none.1) p)
 
-pub if_some_map : (a : Option (List ℕ)) (P Q : List ℕ → Type 0) → ((x : List ℕ) → P x → Q x) → IfSome a P → IfSome a Q
-if_some_map None P Q f p = tt
-if_some_map (Some x) P Q f p = f x p
+line-as : (R Q : Reading) (P : List Device → Type 0) → Yields R Q P → (w : StackRecord) (line reply : List ℕ) (w' : StackRecord) → P w.leaves
+    → Replies R w line reply w' → Replies Q w line reply w' × P w'.leaves
+line-as R Q P f w line reply w' p r =
+    let all : RepliesTo Q w (request_of line) reply w' × P w'.leaves = request-as R Q P f w (request_of line) reply w' p r.to in
+    (record { to = all.0 }, all.1)
 
-pub reading_ends : {S : Type 0} {replies : Replying S} {first now : S} {left : ℕ} {rest : List ℕ} {bytes0 bytes1 text0 text1 : Option (List ℕ)} (bytes2 text2 : Option (List ℕ)) (last : S) (reply : List ℕ)
-    → Reading replies first bytes0 bytes1 text0 text1 left now rest → Consumes bytes1 bytes2 [] → IsAtEnd bytes2
-    → replies now rest reply last → Appends text1 text2 reply
-    → IfSome bytes0 (λ input. (length input ≤ 16777216) × WritesSession replies first input text0 text2 last)
-reading_ends {replies = replies} {first = first} {bytes0 = bytes0} {bytes1 = bytes1} {text0 = text0} bytes2 text2 last reply r c e s w =
-    if_some_map bytes0 (λ input. input ≡ r.taken) (λ input. (length input ≤ 16777216) × WritesSession replies first input text0 text2 last)
-    (λ input same.
-    let all : (length r.taken ≤ 16777216) × WritesSession replies first r.taken text0 text2 last =
-    (omega (arith, r.counted), serves_end last reply text2 r.whole s w) in
-    subst (λ t. (length t ≤ 16777216) × WritesSession replies first t text0 text2 last) (sym same) all)
-    (all_taken bytes0 bytes1 bytes2 r.taken r.consumed c e)
+-- a session whose reads are answered in another way
+pub session-as : (R Q : Reading) (P : List Device → Type 0) → Yields R Q P → (first last : StackRecord) (old new : Streams) (result : Result Unit SessionFault) → P first.leaves
+    → IsSession (Replies R) first last old new result → IsSession (Replies Q) first last old new result
+session-as R Q P f first last old new result p s =
+    IsSession-as (Replies R) (Replies Q) (λ (w : StackRecord). P w.leaves) (line-as R Q P f) first last old new result p s
 
--- what was taken stands at the front
-front_taken : (a b : Option (List ℕ)) (bs : List ℕ) → Consumes a b bs → IfSome a (λ xs. (ys : List ℕ) × (xs ≡ bs ++ ys))
-front_taken None b bs p = tt
-front_taken (Some x) None bs p = absurd p
-front_taken (Some x) (Some y) bs p = (y, p)
+-- ---- over any leaves
 
-pub reading_too_long : {S : Type 0} {replies : Replying S} {first now : S} {left : ℕ} {rest : List ℕ} {bytes0 bytes1 text0 text1 : Option (List ℕ)} (bytes2 text2 : Option (List ℕ)) (new : S) (tail piece : List ℕ)
-    → Reading replies first bytes0 bytes1 text0 text1 left now rest → Consumes bytes1 bytes2 piece → left < length piece
-    → WritesWhole replies now (rest ++ take left piece) text1 text2 new tail
-    → IfSome bytes0 (λ input. (16777216 < length input) × AnswersWhole replies first (take 16777216 input) text0 text2)
-reading_too_long {replies = replies} {first = first} {left = left} {bytes0 = bytes0} {bytes1 = bytes1} {text0 = text0} bytes2 text2 new tail piece r c more w =
-    if_some_map bytes0 (λ input. (ys : List ℕ) × (input ≡ (r.taken ++ piece) ++ ys)) (λ input. (16777216 < length input) × AnswersWhole replies first (take 16777216 input) text0 text2)
-    (λ input seen.
-    let ys : List ℕ = seen.0 in
-    let long : 16777216 < length ((r.taken ++ piece) ++ ys) = omega (arith, length-append (r.taken ++ piece) ys, length-append r.taken piece, r.counted) in
-    let cut : take 16777216 ((r.taken ++ piece) ++ ys) ≡ r.taken ++ take left piece =
-    let e : length r.taken + left ≡ 16777216 = r.counted in
-    let le : left ≤ length piece = omega arith in
-    ap (λ t. take 16777216 t) (append_assoc r.taken piece ys)
-    ∙ subst (λ n. take n (r.taken ++ (piece ++ ys)) ≡ r.taken ++ take left (piece ++ ys)) e (take-append-add r.taken (piece ++ ys) left)
-    ∙ ap (λ t. r.taken ++ t) (take-append-le left piece ys le) in
-    let all : (16777216 < length ((r.taken ++ piece) ++ ys)) × AnswersWhole replies first (take 16777216 ((r.taken ++ piece) ++ ys)) text0 text2 =
-    (long, (new, tail, subst (λ t. WritesWhole replies first t text0 text2 new tail) (sym cut) (serves_more (take left piece) r.whole w))) in
-    subst (λ t. (16777216 < length t) × AnswersWhole replies first (take 16777216 t) text0 text2) (sym seen.1) all)
-    (front_taken bytes0 bytes2 (r.taken ++ piece) (Consumes-trans bytes0 bytes1 bytes2 r.taken piece r.consumed c))
+pieces-any : (w : StackRecord) (range : SectorRange) (bytes : List ℕ) (v : StackRecord) (rest : SectorRange) → ReadsPieces EachPiece w range bytes v rest → ReadsPieces AnyPiece w range bytes v rest
+pieces-any w range bytes v rest reads_none = reads_none
+pieces-any w range bytes v rest (reads_more {bytes = before} {v = mid} {rest = left} got w' before_it some piece) =
+    reads_more got w' (pieces-any w range before mid left before_it) some piece.any
+
+pub ReadsAll-any : (w : StackRecord) (range : SectorRange) (answer : Result (List ℕ) IoFault) (w' : StackRecord) → Unit {0} → ReadsAll EachPiece w range answer w' → ReadsAll AnyPiece w range answer w' × Unit {0}
+ReadsAll-any w range (Ok bytes) w' u r = ((r.0, pieces-any w range bytes w' r.0 r.1, r.2), tt)
+ReadsAll-any w range (Err fault) w' u r = ((r.0, r.1, r.2, pieces-any w range r.0 r.1 r.2 r.3, r.4, r.5.any), tt)
+
+-- ---- over steady leaves
+
+pieces-steady : (w : StackRecord) (range : SectorRange) (bytes : List ℕ) (v : StackRecord) (rest : SectorRange) → AllSteady w.leaves → ReadsPieces EachPiece w range bytes v rest
+    → ReadsPieces SteadyPiece w range bytes v rest × AllSteady v.leaves
+pieces-steady w range bytes v rest steady reads_none = (reads_none, steady)
+pieces-steady w range bytes v rest steady (reads_more {bytes = before} {v = mid} {rest = left} got w' before_it some piece) =
+    let so_far : ReadsPieces SteadyPiece w range before mid left × AllSteady mid.leaves = pieces-steady w range before mid left steady before_it in
+    (reads_more got w' so_far.0 some (piece.steady so_far.1), AllSteady-kept mid.leaves w'.leaves piece.any.moved.moved.fixed so_far.1)
+
+pub ReadsAll-steady : (w : StackRecord) (range : SectorRange) (answer : Result (List ℕ) IoFault) (w' : StackRecord) → AllSteady w.leaves → ReadsAll EachPiece w range answer w'
+    → ReadsAll SteadyPiece w range answer w' × AllSteady w'.leaves
+ReadsAll-steady w range (Ok bytes) w' steady r =
+    let all : ReadsPieces SteadyPiece w range bytes w' r.0 × AllSteady w'.leaves = pieces-steady w range bytes w' r.0 steady r.1 in
+    ((r.0, all.0, r.2), all.1)
+ReadsAll-steady w range (Err fault) w' steady r =
+    let all : ReadsPieces SteadyPiece w range r.0 r.1 r.2 × AllSteady r.1.leaves = pieces-steady w range r.0 r.1 r.2 steady r.3 in
+    ((r.0, r.1, r.2, all.0, r.4, r.5.steady all.1), AllSteady-kept r.1.leaves w'.leaves r.5.any.moved.moved.fixed all.1)
+
+-- ---- as a whole
+
+pub ReadsAll-as_whole : (w : StackRecord) (range : SectorRange) (answer : Result (List ℕ) IoFault) (w' : StackRecord) → Unit {0} → ReadsAll EachPiece w range answer w'
+    → ReadsWhole w range answer w' × Unit {0}
+ReadsAll-as_whole w range answer w' u r = (ReadsAll-whole w range answer w' r, tt)

@@ -1,5 +1,7 @@
-pub mod Commands
-pub mod Session
-pub mod Stacks
-pub mod Texts
 pub mod Counted
+pub mod Ranges
+pub mod Replies
+pub mod Requests
+pub mod Session
+pub mod SubmitFaults
+pub mod Texts

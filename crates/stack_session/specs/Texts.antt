@@ -3,15 +3,13 @@ use Rattle.std.specs.Prelude.{ℕ, zero, suc, ◌+◌, ◌/◌, ◌==◌, List, 
 use Rattle.std.specs.List.{list_all}
 use Rattle.hex.specs.Hex.{encode_lower}
 use Rattle.dm_table.specs.declared.fault.TextFault.{TextFault}
-use Rattle.dm_table.specs.declared.fault.TextKind.{TextKind}
-use Rattle.dm_table.specs.declared.fault.TextKind.TheVariants as text
-use Rattle.stack_loader.specs.declared.refusal.LoadKind.{LoadKind}
-use Rattle.stack_loader.specs.declared.refusal.LoadKind.TheVariants as load
 use Rattle.stack_loader.specs.declared.refusal.Refusal.{Refusal}
 use Rattle.stack_engine.specs.declared.fault.IoFault.{IoFault}
 use Rattle.stack_engine.specs.declared.fault.IoFault.TheVariants as io
-use Rattle.stack_session.specs.declared.request.SubmitFault.{SubmitFault}
-use Rattle.stack_session.specs.declared.request.SubmitFault.TheVariants as submit
+use Rattle.stack_session.specs.declared.range.SubmitFault.{SubmitFault}
+use Rattle.dm_table.specs.TextKinds.{text_number, text_name}
+use Rattle.stack_loader.specs.FaultKinds.{load_number, load_name}
+use Rattle.stack_session.specs.SubmitFaults.{submit_number, submit_name}
 
 abbrev pub usage_text : List ℕ
 usage_text = codes "usage\n"
@@ -33,66 +31,20 @@ sector_lines (suc count) n bytes = sector_line n (take 512 bytes) ++ sector_line
 abbrev pub loaded_text : ℕ → List ℕ
 loaded_text count = codes "loaded " ++ (decimal count ++ codes "\n")
 
--- a kind's number and name
-pub record Kind : Type 0 where
-  pub number : ℕ
-  pub name : List ℕ
-
-abbrev pub kind_of : ℕ → List ℕ → Kind
-kind_of number name = record { number = number; name = name }
-
 -- number and name, and then a rest
-abbrev pub kind_then : Kind → List ℕ → List ℕ
-kind_then kind rest = decimal kind.number ++ (codes " " ++ (kind.name ++ rest))
-
-abbrev pub load_kind : LoadKind → Kind
-load_kind load.DuplicateName = kind_of 1 (codes "DuplicateName")
-load_kind load.TooMany = kind_of 2 (codes "TooMany")
-load_kind load.NoSuchDevice = kind_of 3 (codes "NoSuchDevice")
-load_kind load.StandsOnItself = kind_of 4 (codes "StandsOnItself")
-load_kind load.ZeroLength = kind_of 5 (codes "ZeroLength")
-load_kind load.Gap = kind_of 6 (codes "Gap")
-load_kind load.TooLarge = kind_of 7 (codes "TooLarge")
-load_kind load.StripesDontDivide = kind_of 8 (codes "StripesDontDivide")
-load_kind load.BeyondDevice = kind_of 9 (codes "BeyondDevice")
-load_kind load.LowerReadOnly = kind_of 13 (codes "LowerReadOnly")
-load_kind load.TooDeep = kind_of 14 (codes "TooDeep")
-load_kind load.CostTooLarge = kind_of 15 (codes "CostTooLarge")
-
-abbrev pub text_kind : TextKind → Kind
-text_kind text.NotText = kind_of 1 (codes "NotText")
-text_kind text.Fields = kind_of 2 (codes "Fields")
-text_kind text.Name = kind_of 3 (codes "Name")
-text_kind text.Flags = kind_of 4 (codes "Flags")
-text_kind text.Number = kind_of 5 (codes "Number")
-text_kind text.Target = kind_of 6 (codes "Target")
-text_kind text.ArgCount = kind_of 7 (codes "ArgCount")
-text_kind text.Cipher = kind_of 8 (codes "Cipher")
-text_kind text.Key = kind_of 9 (codes "Key")
-text_kind text.Version = kind_of 10 (codes "Version")
-text_kind text.BlockSize = kind_of 11 (codes "BlockSize")
-text_kind text.Algorithm = kind_of 12 (codes "Algorithm")
-text_kind text.Digest = kind_of 13 (codes "Digest")
-text_kind text.Salt = kind_of 14 (codes "Salt")
-text_kind text.Option = kind_of 15 (codes "Option")
-text_kind text.StripeCount = kind_of 16 (codes "StripeCount")
-text_kind text.ZeroChunk = kind_of 17 (codes "ZeroChunk")
-
-abbrev pub submit_kind : SubmitFault → Kind
-submit_kind submit.NoSuchDevice = kind_of 1 (codes "NoSuchDevice")
-submit_kind submit.OutOfRange = kind_of 2 (codes "OutOfRange")
-submit_kind submit.Length = kind_of 3 (codes "Length")
+abbrev pub kind_then : ℕ → List ℕ → List ℕ → List ℕ
+kind_then number name rest = decimal number ++ (codes " " ++ (name ++ rest))
 
 -- the first fault of a text: its entry, its line and its kind
 abbrev pub fault_text : TextFault → List ℕ
-fault_text f = codes "text fault " ++ (decimal f.entry ++ (codes " " ++ (decimal f.line ++ (codes " " ++ kind_then (text_kind f.kind) (codes "\n")))))
+fault_text f = codes "text fault " ++ (decimal f.entry ++ (codes " " ++ (decimal f.line ++ (codes " " ++ kind_then (text_number f.kind) (text_name f.kind) (codes "\n")))))
 
 -- a load that is refused, with the device and the line
 abbrev pub refusal_text : Refusal → List ℕ
-refusal_text r = codes "refused " ++ kind_then (load_kind r.kind) (codes " device " ++ (decimal r.device ++ (codes " line " ++ (decimal r.line ++ codes "\n"))))
+refusal_text r = codes "refused " ++ kind_then (load_number r.kind) (load_name r.kind) (codes " device " ++ (decimal r.device ++ (codes " line " ++ (decimal r.line ++ codes "\n"))))
 
 abbrev pub submit_text : SubmitFault → List ℕ
-submit_text fault = codes "refused " ++ kind_then (submit_kind fault) (codes "\n")
+submit_text fault = codes "refused " ++ kind_then (submit_number fault) (submit_name fault) (codes "\n")
 
 abbrev pub io_text : IoFault → List ℕ
 io_text io.ErrorTarget = codes "fault 1 ErrorTarget\n"

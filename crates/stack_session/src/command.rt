@@ -1,6 +1,6 @@
 // What a line of a session asks for.
 ghost use Rattle.std.specs.Prelude.{◌≡◌, ◌≤◌, length, option_map};
-ghost use Rattle.stack_session.specs.Commands.{after_word, alone, asked, cost, meant, moved, named_by, only, read_of, table, IsWithin};
+ghost use Rattle.stack_session.specs.Requests.{IsWithin, after_word, command_request, cost, lone_request, moved, name_request, only_word, read_request, request_of, table};
 
 use crate::verb::{Verb, verb_of};
 use dm_table::{Words, number, white_len, word_len};
@@ -31,7 +31,7 @@ pub enum Command<'a> {
 /// `load TEXT`, where the text is the rest of the line, `read NAME FIRST COUNT`, `cost NAME`,
 /// `table NAME` or `moved`.
 pub fn command_of(line: &[u8]) -> Command<'_>
-    ensures value { meant result ≡ asked line.now }
+    ensures value { command_request result ≡ request_of line.now }
     ensures short { IsWithin (length line.now) result }
 {
     let mut words = Words::new(line);
@@ -50,7 +50,7 @@ pub fn command_of(line: &[u8]) -> Command<'_>
 
 // `NAME FIRST COUNT`
 fn read_of(mut words: Words<'_>) -> Command<'_>
-    ensures value { meant result ≡ read_of words.entry }
+    ensures value { command_request result ≡ read_request words.entry }
     ensures short { IsWithin 0 result }
 {
     let (Some(name), Some(first), Some(count), None) = (
@@ -69,7 +69,7 @@ fn read_of(mut words: Words<'_>) -> Command<'_>
 
 // `NAME`
 fn cost_of(words: Words<'_>) -> Command<'_>
-    ensures value { meant result ≡ named_by cost words.entry }
+    ensures value { command_request result ≡ name_request cost words.entry }
     ensures short { IsWithin 0 result }
 {
     match only_word(words) {
@@ -80,7 +80,7 @@ fn cost_of(words: Words<'_>) -> Command<'_>
 
 // `NAME`
 fn table_of(words: Words<'_>) -> Command<'_>
-    ensures value { meant result ≡ named_by table words.entry }
+    ensures value { command_request result ≡ name_request table words.entry }
     ensures short { IsWithin 0 result }
 {
     match only_word(words) {
@@ -91,7 +91,7 @@ fn table_of(words: Words<'_>) -> Command<'_>
 
 // No further word.
 fn moved_of(mut words: Words<'_>) -> Command<'_>
-    ensures value { meant result ≡ alone moved words.entry }
+    ensures value { command_request result ≡ lone_request moved words.entry }
     ensures short { IsWithin 0 result }
 {
     match words.next_word() {
@@ -102,7 +102,7 @@ fn moved_of(mut words: Words<'_>) -> Command<'_>
 
 // The one word that is left.
 fn only_word<'a>(mut words: Words<'a>) -> Option<&'a [u8]>
-    ensures { option_map (λ word. word.now) result ≡ only words.entry }
+    ensures { option_map (λ word. word.now) result ≡ only_word words.entry }
 {
     let word = words.next_word()?;
     match words.next_word() {

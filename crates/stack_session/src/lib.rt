@@ -3,17 +3,21 @@
 
 mod command;
 mod counted;
+mod fault;
 mod lines;
+mod range;
 mod reply;
-mod request;
 mod server;
+#[cfg(test)]
+mod tests;
 mod verb;
 
 pub use counted::Counted;
-pub use lines::{LIMIT, SessionFault};
+pub use fault::{SessionFault, WriteFault};
+pub use lines::LIMIT;
+pub use range::{SectorRange, SubmitFault, range_of, read_sectors};
 pub use reply::{
     say_io_fault, say_no_memory, say_refusal, say_sectors, say_submit_fault, say_text_fault,
     say_usage,
 };
-pub use request::{SubmitFault, device_of, read_sectors};
 pub use server::session;

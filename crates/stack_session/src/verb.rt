@@ -1,6 +1,6 @@
 // The names of a session's commands.
 ghost use Rattle.std.specs.Prelude.{◌≡◌};
-ghost use Rattle.stack_session.specs.Commands.{verb_of};
+ghost use Rattle.stack_session.specs.Requests.{verb_of};
 
 /// A command of a session.
 #[derive(Clone, Copy, Debug, PartialEq, Eq)]
@@ -13,7 +13,7 @@ pub enum Verb {
 }
 
 /// The command of that name.
-#[tactic(auto, unfolding(crate::specs::Commands::verb_of))]
+#[tactic(auto, unfolding(crate::specs::Requests::verb_of))]
 pub fn verb_of(word: &[u8]) -> Option<Verb>
     ensures { result ≡ verb_of word.now }
 {

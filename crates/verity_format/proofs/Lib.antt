@@ -1,8 +1,10 @@
-pub mod Fields
-pub mod Spelled
-pub mod DeviceSteps
-pub mod BlockSteps
-pub mod AreaSteps
-pub mod Sizes
-pub mod Refusals
-mod SuperRows
+pub mod FieldLemmas
+pub mod SpellingLemmas
+pub mod DeviceLemmas
+pub mod BlockLemmas
+pub mod AreaLemmas
+pub mod SizeLemmas
+pub mod RefusalLemmas
+pub mod FormattingLemmas
+pub mod VerifyingLemmas
+mod WorkedValueLemmas

@@ -1,5 +1,5 @@
 -- Blocks of a device, and what calls of read or of write alone do to one.
-use Rattle.std.specs.Prelude.{◌≡◌, ℕ, ◌*◌, ◌/◌, IsTrue, List, map, drop}
+use Rattle.std.specs.Prelude.{◌≡◌, ℕ, ◌+◌, ◌*◌, ◌/◌, ◌^◌, ◌<◌, IsTrue, List, map, drop}
 use Rattle.std.specs.List.{concat, range_with_len}
 use Rattle.block_device.specs.Device.{Device, IsSameDevice, run_of}
 
@@ -16,6 +16,12 @@ pub record IsOnlyRead (old new : Device) : Type 0 where
   pub same : IsSameDevice old new
   pub writes : new.writes ≡ old.writes
   pub image : IsTrue old.steady → new.image ≡ old.image
+
+-- Calls of read alone, none of which failed, of n sectors in all. Of a counter that reaches its end nothing is said.
+pub record IsFullRead (old : Device) (n : ℕ) (new : Device) : Type 0 where
+  pub read : IsOnlyRead old new
+  pub reads : old.reads + n < 2 ^ 64 → new.reads ≡ old.reads + n
+  pub failures : new.failures ≡ old.failures
 
 -- calls of write alone, each within the first n sectors
 pub record IsOnlyWritten (old : Device) (n : ℕ) (new : Device) : Type 0 where

@@ -1,11 +1,11 @@
 -- The chain of a data block as it stands on two devices.
-use Rattle.std.specs.Prelude.{◌⊎◌, ℕ, zero, suc, ◌+◌, List, [], ◌∷◌}
+use Rattle.std.specs.Prelude.{◌≡◌, ◌⊎◌, ℕ, zero, suc, ◌+◌, ◌*◌, ◌/◌, List, [], ◌∷◌}
 use Rattle.block_device.specs.Device.{Device, HasFailed}
 use Rattle.hash_tree.specs.Shape.{ShapeRecord, levels, position, ancestor}
 use Rattle.hash_tree.specs.Chain.{ChainRecord}
 use Rattle.verity_format.specs.declared.chains.ChainFault.{ChainFault}
 use Rattle.verity_format.specs.declared.chains.ChainFault.TheVariants.{Device as DeviceFailed, NoMemory}
-use Rattle.verity_format.specs.Blocks.{block_at}
+use Rattle.verity_format.specs.Blocks.{IsFullRead, block_at}
 
 -- the hash blocks above data block i as they stand, of the n levels from n - 1 down
 abbrev pub stored_path : ShapeRecord → List (List ℕ) → ℕ → ℕ → List (List ℕ)
@@ -20,12 +20,12 @@ stored_chain shape data_image hash_image i = record {
   path = stored_path shape hash_image (levels shape) i;
 }
 
--- one of the two devices failed in the call; of memory nothing can be said
+-- no call failed, and each sector of the chain was read once
+pub record IsChainRead (shape : ShapeRecord) (data_dev hash_dev data_dev' hash_dev' : Device) : Type 0 where
+  pub data_read : IsFullRead data_dev (shape.data_block / 512) data_dev'
+  pub hash_read : IsFullRead hash_dev (levels shape * (shape.hash_block / 512)) hash_dev'
+
+-- one of the two devices failed in the call; where memory ran out neither was asked
 abbrev pub IsChainCause : Device → Device → Device → Device → ChainFault → Type 0
 IsChainCause data_dev hash_dev data_dev' hash_dev' DeviceFailed = HasFailed data_dev data_dev' ⊎ HasFailed hash_dev hash_dev'
-IsChainCause data_dev hash_dev data_dev' hash_dev' NoMemory = Unit {0}
-
--- the device failed in the call; of memory nothing can be said
-abbrev pub IsBlockCause : Device → Device → ChainFault → Type 0
-IsBlockCause old new DeviceFailed = HasFailed old new
-IsBlockCause old new NoMemory = Unit {0}
+IsChainCause data_dev hash_dev data_dev' hash_dev' NoMemory = (data_dev' ≡ data_dev) × (hash_dev' ≡ hash_dev)

@@ -1,14 +1,14 @@
 -- When formatting is refused, and what each fault says.
-use Rattle.std.specs.Prelude.{◌≡◌, ◌⊎◌, ℕ, ◌/◌, not, nat_lt, Option, Some, None, is_some, if◌then◌else◌, IsTrue, List, Result, Err, IfOk, IfErr}
-use Rattle.block_device.specs.Device.{Device, HasFailed}
+use Rattle.std.specs.Prelude.{◌≡◌, ◌⊎◌, ℕ, ◌+◌, ◌/◌, true, false, not, nat_lt, Option, Some, None, is_some, if◌then◌else◌, IsTrue, List, ◌++◌, length, drop, Result, Err, IfOk, IfErr}
+use Rattle.block_device.specs.Device.{Device, HasFailed, IsWritten, spliced, sectors_of as cut_into}
 use Rattle.hash_tree.specs.Shape.{first_fault}
 use Rattle.verity_format.specs.declared.access.TreeFault.{TreeFault}
 use Rattle.verity_format.specs.declared.access.TreeFault.TheVariants as tree
 use Rattle.verity_format.specs.declared.formatting.FormatFault.{FormatFault}
 use Rattle.verity_format.specs.declared.formatting.FormatFault.TheVariants.{Shape, DataTooSmall, HashTooSmall, HashReadOnly, Device as DeviceFailed, NoMemory}
 use Rattle.verity_format.specs.Superblock.{SuperRecord, shape_of}
-use Rattle.verity_format.specs.Blocks.{IsOnlyRead, IsOnlyWritten}
-use Rattle.verity_format.specs.Image.{data_sectors, image_sectors, formatted, root_over}
+use Rattle.verity_format.specs.Blocks.{IsOnlyRead, IsFullRead, IsOnlyWritten}
+use Rattle.verity_format.specs.Image.{data_sectors, first_sectors, area_sectors, image_sectors, formatted, root_over}
 
 -- how many whole blocks of that size there are in so many sectors; a size below a sector counts none
 abbrev pub whole_blocks : ℕ → ℕ → ℕ
@@ -33,24 +33,66 @@ format_refusal s data_dev hash =
     else if not hash.may_write then Some HashReadOnly
     else None
 
--- a fault's cause: one of the two devices failed in the call, or the refusal that applies
+-- the data device failed, and the hash device wasn't asked
+pub record FailsAtData (data_dev hash data_dev' hash' : Device) : Type 0 where
+  pub failed : HasFailed data_dev data_dev'
+  pub same : hash' ≡ hash
+
+-- the write of the tree failed: hash block 0 is as it was
+pub record FailsAtTree (s : SuperRecord) (hash hash' : Device) : Type 0 where
+  pub failed : HasFailed hash hash'
+  pub written : IsWritten hash (first_sectors s) (area_sectors s) false hash'
+
+-- the last write failed, that of hash block 0: the whole tree stands behind it
+pub record FailsAtFirstBlock (s : SuperRecord) (data_dev hash hash' : Device) : Type 0 where
+  pub failed : HasFailed hash hash'
+  pub written : IsWritten hash 0 (image_sectors (shape_of s)) false hash'
+  pub tree : IsTrue data_dev.steady → IsTrue hash.steady → drop (first_sectors s) hash'.image ≡ drop (first_sectors s) (formatted s data_dev.image hash.image)
+
+-- where memory ran out, neither device failed, and the hash device wasn't asked
+pub record LacksMemory (data_dev hash data_dev' hash' : Device) : Type 0 where
+  pub failures : data_dev'.failures ≡ data_dev.failures
+  pub same : hash' ≡ hash
+
+-- A fault's cause, and what it leaves: no superblock is written before the whole tree stands.
 abbrev pub IsFormatCause : SuperRecord → Device → Device → Device → Device → FormatFault → Type 0
-IsFormatCause s data_dev hash data_dev' hash' DeviceFailed = HasFailed data_dev data_dev' ⊎ HasFailed hash hash'
-IsFormatCause s data_dev hash data_dev' hash' NoMemory = Unit {0}
+IsFormatCause s data_dev hash data_dev' hash' DeviceFailed = FailsAtData data_dev hash data_dev' hash' ⊎ (FailsAtTree s hash hash' ⊎ FailsAtFirstBlock s data_dev hash hash')
+IsFormatCause s data_dev hash data_dev' hash' NoMemory = LacksMemory data_dev hash data_dev' hash'
 IsFormatCause s data_dev hash data_dev' hash' Shape = format_refusal s data_dev hash ≡ Some Shape
 IsFormatCause s data_dev hash data_dev' hash' DataTooSmall = format_refusal s data_dev hash ≡ Some DataTooSmall
 IsFormatCause s data_dev hash data_dev' hash' (HashTooSmall n) = format_refusal s data_dev hash ≡ Some (HashTooSmall n)
 IsFormatCause s data_dev hash data_dev' hash' HashReadOnly = format_refusal s data_dev hash ≡ Some HashReadOnly
 
--- the tree over the data image stands on the hash device, and that is its root
-pub record IsFormatted (s : SuperRecord) (data_dev hash hash' : Device) (root : List ℕ) : Type 0 where
-  pub image : hash'.image ≡ formatted s data_dev.image hash.image
-  pub digest : root ≡ root_over (shape_of s) s.salt data_dev.image
+-- the image of a device with these bytes of hash block 0 and of the area at its beginning
+abbrev pub with_bytes : List (List ℕ) → List ℕ → List ℕ → List (List ℕ)
+with_bytes image first area = spliced image 0 (cut_into (length first / 512 + length area / 512) (first ++ area))
+
+-- hash block 0 and the area were written, each sector once, and no call failed
+pub record IsImageWritten (old : Device) (first area : List ℕ) (new : Device) : Type 0 where
+  pub written : IsWritten old 0 (length first / 512 + length area / 512) true new
+  pub image : IsTrue old.steady → new.image ≡ with_bytes old.image first area
+
+-- only hash block 0 is unlike the image that was to be written
+pub record LacksFirstBlock (old : Device) (first area : List ℕ) (new : Device) : Type 0 where
+  pub written : IsWritten old 0 (length first / 512 + length area / 512) false new
+  pub tree : IsTrue old.steady → drop (length first / 512) new.image ≡ drop (length first / 512) (with_bytes old.image first area)
+
+-- the write of the area failed, or the last one, of hash block 0
+abbrev pub IsImageTorn : Device → List ℕ → List ℕ → Device → Type 0
+IsImageTorn old first area new = IsWritten old (length first / 512) (length area / 512) false new ⊎ LacksFirstBlock old first area new
+
+-- No call failed, each sector of the data blocks was read once and each of the image written once. Over steady
+-- devices the tree over the data image stands on the hash device, and that is its root.
+pub record IsFormatted (s : SuperRecord) (data_dev hash data_dev' hash' : Device) (root : List ℕ) : Type 0 where
+  pub read : IsFullRead data_dev (data_sectors (shape_of s)) data_dev'
+  pub written : IsWritten hash 0 (image_sectors (shape_of s)) true hash'
+  pub image : IsTrue data_dev.steady → IsTrue hash.steady → hash'.image ≡ formatted s data_dev.image hash.image
+  pub digest : IsTrue data_dev.steady → root ≡ root_over (shape_of s) s.salt data_dev.image
 
 -- what a call of formatting does: the data device is only read, the hash device only written
 pub record IsFormatting (s : SuperRecord) (data_dev hash_dev data_dev' hash_dev' : Device) (result : Result (List ℕ) FormatFault) : Type 0 where
   pub read : IsOnlyRead data_dev data_dev'
   pub written : IsOnlyWritten hash_dev (image_sectors (shape_of s)) hash_dev'
-  pub ok : IfOk result (λ root. IsTrue data_dev.steady → IsTrue hash_dev.steady → IsFormatted s data_dev hash_dev hash_dev' root)
+  pub ok : IfOk result (IsFormatted s data_dev hash_dev data_dev' hash_dev')
   pub err : IfErr result (IsFormatCause s data_dev hash_dev data_dev' hash_dev')
   pub refused : (f : FormatFault) → format_refusal s data_dev hash_dev ≡ Some f → (result ≡ Err f) × (data_dev' ≡ data_dev) × (hash_dev' ≡ hash_dev)

@@ -1,5 +1,5 @@
 -- The tree over a data image, and the hash image that holds it.
-use Rattle.std.specs.Prelude.{ℕ, ◌+◌, ◌-◌, List, ◌++◌, map, replicate}
+use Rattle.std.specs.Prelude.{ℕ, ◌+◌, ◌-◌, ◌/◌, List, ◌++◌, map, replicate}
 use Rattle.std.specs.List.{concat}
 use Rattle.block_device.specs.Device.{spliced, sectors_of as cut_into}
 use Rattle.hash_tree.specs.Digests.{digest}
@@ -26,6 +26,14 @@ data_sectors shape = sectors_of shape.blocks shape.data_block
 -- how many sectors there are up to the tree's end, or 0 where the tree has no block
 abbrev pub tree_sectors : ShapeRecord → ℕ
 tree_sectors shape = sectors_of (area_end shape) shape.hash_block
+
+-- how many sectors hash block 0 takes
+abbrev pub first_sectors : SuperRecord → ℕ
+first_sectors s = s.hash_block / 512
+
+-- how many sectors the tree takes
+abbrev pub area_sectors : SuperRecord → ℕ
+area_sectors s = sectors_of (area_blocks (shape_of s)) s.hash_block
 
 -- how many sectors formatting writes: hash block 0 and the tree's
 abbrev pub image_sectors : ShapeRecord → ℕ

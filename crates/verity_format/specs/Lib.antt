@@ -4,6 +4,8 @@ pub mod Blocks
 pub mod Image
 pub mod Access
 pub mod Formatting
+pub mod Options
 pub mod Verifying
 pub mod Chain
 pub mod Line
+pub mod FaultNames

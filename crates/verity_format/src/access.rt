@@ -1,13 +1,13 @@
 // Blocks read from a device, and the tree over a device's blocks.
-ghost use Rattle.std.specs.Prelude.{◌≡◌, ◌+◌, ◌*◌, ◌/◌, ◌%◌, ◌^◌, ◌<◌, ◌≤◌, IsTrue, OnOk, OnErr, IfOk, IfErr, length, map};
+ghost use Rattle.std.specs.Prelude.{◌≡◌, ◌+◌, ◌*◌, ◌/◌, ◌%◌, ◌^◌, ◌<◌, ◌≤◌, IsTrue, OnOk, OnErr, IfOk, IfErr, length, map, replicate};
 ghost use Rattle.std.specs.List.{concat};
 ghost use Rattle.block_device.specs.Device.{Device, HasFailed};
 ghost use Rattle.hash_tree.specs.Digests.{digest};
 ghost use Rattle.hash_tree.specs.Shape.{IsShape, is_block_size, area_blocks};
 ghost use Rattle.hash_tree.specs.Tree.{area, root};
-ghost use Rattle.verity_format.specs.Blocks.{block_at, blocks_at, IsOnlyRead};
-ghost use Rattle.verity_format.specs.Image.{data_sectors, tree_sectors, image_sectors, area_over, root_over};
-ghost use Rattle.verity_format.specs.Access.{IsTreeCause};
+ghost use Rattle.verity_format.specs.Blocks.{block_at, blocks_at, IsOnlyRead, IsFullRead};
+ghost use Rattle.verity_format.specs.Image.{data_sectors, tree_sectors, image_sectors};
+ghost use Rattle.verity_format.specs.Access.{IsTreeOver, IsTreeCause};
 
 use block_device::{BlockDev, DeviceFault};
 use hash_tree::{Salt, Shape, area, digest};
@@ -66,6 +66,13 @@ pub(crate) fn image_sectors(shape: &Shape) -> u64
     (1 + shape.area_blocks()) * sectors
 }
 
+/// So many zero bytes.
+pub(crate) fn zeros(alloc: Global, size: usize) -> Result<Vec<u8>, AllocError>
+    ensures { IfOk result (λ v. v.items ≡ replicate size 0) }
+{
+    vec![in alloc; 0u8; size]
+}
+
 /// Reads a block of the size of `block`.
 #[tactic(auto, unfolding(crate::specs::Blocks::block_at))]
 pub(crate) fn read_block<D: BlockDev>(
@@ -79,11 +86,12 @@ pub(crate) fn read_block<D: BlockDev>(
     requires few { index * (length block.old / 512) ≤ 2 ^ 54 }
     ensures read { IsOnlyRead (D.state device.old) (D.state device.new) }
     ensures bytes { OnOk result (IsTrue (D.state device.old).steady → block.new ≡ block_at (D.state device.old).image (length block.old) index) }
-    ensures counted { OnOk result ((D.state device.new).failures ≡ (D.state device.old).failures) }
+    ensures full { OnOk result (IsFullRead (D.state device.old) (length block.old / 512) (D.state device.new)) }
     ensures fault { OnErr result (HasFailed (D.state device.old) (D.state device.new)) }
 {
     let sectors = (block.len() / 512) as u64;
-    device.read(index * sectors, block)
+    device.read(index * sectors, block)?;
+    Ok(())
 }
 
 /// The digests of a device's first blocks, of the size of `block` and as many as `digests`, each read once.
@@ -98,7 +106,7 @@ fn read_digests<D: BlockDev>(
     requires few { length digests.old * (length block.old / 512) ≤ 2 ^ 54 }
     ensures read { IsOnlyRead (D.state device.old) (D.state device.new) }
     ensures digests { OnOk result (IsTrue (D.state device.old).steady → digests.new ≡ map (digest salt.now) (blocks_at (D.state device.old).image (length block.old) 0 (length digests.old))) }
-    ensures counted { OnOk result ((D.state device.new).failures ≡ (D.state device.old).failures) }
+    ensures full { OnOk result (IsFullRead (D.state device.old) (length digests.old * (length block.old / 512)) (D.state device.new)) }
     ensures fault { OnErr result (HasFailed (D.state device.old) (D.state device.new)) }
 {
     for i in 0..digests.len() {
@@ -117,10 +125,7 @@ pub(crate) fn tree_over<D: BlockDev>(
 ) -> Result<(Vec<u8>, [u8; 32]), TreeFault>
     requires { data_sectors shape.now ≤ (D.state device.old).size }
     ensures read { IsOnlyRead (D.state device.old) (D.state device.new) }
-    ensures size { IfOk result (λ r. length r.0.items ≡ area_blocks shape.now * shape.now.hash_block) }
-    ensures tree { IfOk result (λ r. IsTrue (D.state device.old).steady →
-        (r.0.items ≡ concat (area_over shape.now salt.now (D.state device.old).image)) × (r.1 ≡ root_over shape.now salt.now (D.state device.old).image)) }
-    ensures counted { OnOk result ((D.state device.new).failures ≡ (D.state device.old).failures) }
+    ensures tree { IfOk result (λ r. IsTreeOver shape.now salt.now (D.state device.old) (D.state device.new) r.0.items r.1) }
     ensures fault { IfErr result (λ f. IsTreeCause (D.state device.old) (D.state device.new) f) }
 {
     let mut block = vec![in alloc; 0u8; shape.data_block() as usize]?;

@@ -4,6 +4,7 @@ ghost use Rattle.std.specs.Result.{result_err};
 ghost use Rattle.std.specs.Str.{bytes_eq};
 ghost use Rattle.std.specs.List.{before_first};
 ghost use Rattle.hash_tree.specs.Shape.{is_block_size};
+ghost use Rattle.verity_format.specs.FaultNames.{super_number, super_name};
 ghost use Rattle.verity_format.specs.Superblock.{SuperRecord, IsSuperblock, Carries, number16, number32, number64, spelling, super_fault, read_of};
 
 use crate::Superblock;
@@ -12,31 +13,49 @@ use thiserror::Error;
 
 /// The first field that is wrong, in the order in which the fields are looked at.
 #[derive(Clone, Copy, Debug, PartialEq, Eq, Error)]
+#[error("{}", self.name())]
 pub enum SuperFault {
     /// The first 8 bytes are not `verity` and two zero bytes.
-    #[error("Signature")]
-    Signature,
+    Signature = 1,
     /// The version is not 1.
-    #[error("Version")]
-    Version,
+    Version = 2,
     /// The hash type is not 1.
-    #[error("HashType")]
-    HashType,
+    HashType = 3,
     /// The algorithm, up to its first zero byte, is not `sha256`.
-    #[error("Algorithm")]
-    Algorithm,
+    Algorithm = 4,
     /// The data block size is none of 512, 1024, 2048 and 4096.
-    #[error("DataBlockSize")]
-    DataBlockSize,
+    DataBlockSize = 5,
     /// The hash block size is none of 512, 1024, 2048 and 4096.
-    #[error("HashBlockSize")]
-    HashBlockSize,
+    HashBlockSize = 6,
     /// There is no data block, or the data or the tree ends beyond 2^54 sectors.
-    #[error("DataBlocks")]
-    DataBlocks,
+    DataBlocks = 7,
     /// The salt has more than 256 bytes.
-    #[error("SaltSize")]
-    SaltSize,
+    SaltSize = 8,
+}
+
+impl SuperFault {
+    /// Its number in printed text.
+    pub fn number(self) -> u8
+        ensures { result ≡ super_number self }
+    {
+        self as u8
+    }
+
+    /// Its name in printed text.
+    pub fn name(self) -> &'static str
+        ensures { result.now ≡ super_name self }
+    {
+        match self {
+            SuperFault::Signature => "Signature",
+            SuperFault::Version => "Version",
+            SuperFault::HashType => "HashType",
+            SuperFault::Algorithm => "Algorithm",
+            SuperFault::DataBlockSize => "DataBlockSize",
+            SuperFault::HashBlockSize => "HashBlockSize",
+            SuperFault::DataBlocks => "DataBlocks",
+            SuperFault::SaltSize => "SaltSize",
+        }
+    }
 }
 
 /// The superblock that the bytes carry, or the first field that is wrong.

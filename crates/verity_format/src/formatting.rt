@@ -1,14 +1,16 @@
 // Making a hash image over a data image.
-ghost use Rattle.std.specs.Prelude.{◌≡◌, ◌+◌, ◌-◌, ◌*◌, ◌/◌, ◌%◌, ◌^◌, ◌<◌, ◌≤◌, ◌++◌, IsTrue, OnOk, OnErr, IfOk, IfErr, length, replicate, Some, Result};
+ghost use Rattle.std.specs.Prelude.{◌≡◌, ◌+◌, ◌-◌, ◌*◌, ◌/◌, ◌%◌, ◌^◌, ◌<◌, ◌≤◌, ◌++◌, IsTrue, OnOk, OnErr, IfOk, IfErr, length, Some, Result};
 ghost use Rattle.std.specs.Result.{result_err};
-ghost use Rattle.block_device.specs.Device.{Device, HasFailed, spliced, sectors_of as cut_into};
-ghost use Rattle.verity_format.specs.Superblock.{shape_of, SuperRecord};
+ghost use Rattle.block_device.specs.Device.{Device, HasFailed};
+ghost use Rattle.verity_format.specs.Superblock.{shape_of};
 ghost use Rattle.verity_format.specs.Blocks.{IsOnlyRead, IsOnlyWritten};
 ghost use Rattle.verity_format.specs.Image.{image_sectors, first_block};
-ghost use Rattle.verity_format.specs.Formatting.{format_refusal, IsFormatCause, IsFormatted, given_blocks, whole_blocks, IsFormatting};
+ghost use Rattle.verity_format.specs.FaultNames.{format_number, format_name};
+ghost use Rattle.verity_format.specs.Options.{superblock_with};
+ghost use Rattle.verity_format.specs.Formatting.{format_refusal, IsFormatCause, IsFormatted, given_blocks, whole_blocks, IsFormatting, IsImageWritten, IsImageTorn};
 
 use crate::Superblock;
-use crate::access::{TreeFault, data_sectors, image_sectors, tree_over};
+use crate::access::{TreeFault, data_sectors, image_sectors, tree_over, zeros};
 use crate::superblock::put;
 use block_device::{BlockDev, DeviceFault};
 use hash_tree::{Salt, Shape};
@@ -24,7 +26,7 @@ pub enum FormatFault {
     /// The data device has fewer sectors than the data blocks.
     #[error("DataTooSmall")]
     DataTooSmall,
-    /// The hash device has fewer sectors than are needed.
+    /// The hash device has fewer sectors of 512 bytes than are needed.
     #[error("HashTooSmall needed {needed}")]
     HashTooSmall { needed: u64 },
     /// The hash device may not be written.
@@ -36,6 +38,36 @@ pub enum FormatFault {
     /// A growth was refused.
     #[error("NoMemory")]
     NoMemory,
+}
+
+impl FormatFault {
+    /// Its number in printed text.
+    pub fn number(self) -> u8
+        ensures { result ≡ format_number self }
+    {
+        match self {
+            FormatFault::Shape => 1,
+            FormatFault::DataTooSmall => 2,
+            FormatFault::HashTooSmall { .. } => 3,
+            FormatFault::HashReadOnly => 4,
+            FormatFault::Device => 5,
+            FormatFault::NoMemory => 6,
+        }
+    }
+
+    /// Its name in printed text.
+    pub fn name(self) -> &'static str
+        ensures { result.now ≡ format_name self }
+    {
+        match self {
+            FormatFault::Shape => "Shape",
+            FormatFault::DataTooSmall => "DataTooSmall",
+            FormatFault::HashTooSmall { .. } => "HashTooSmall",
+            FormatFault::HashReadOnly => "HashReadOnly",
+            FormatFault::Device => "Device",
+            FormatFault::NoMemory => "NoMemory",
+        }
+    }
 }
 
 impl From<DeviceFault> for FormatFault {
@@ -74,8 +106,11 @@ impl From<TreeFault> for FormatFault {
 /// Formats the hash device over the data device: the superblock, zeros up to hash block 1, and the tree.
 /// Gives the root digest.
 ///
-/// The data device is read once, block by block, and never written. After `Device` or `NoMemory` the
-/// sectors that formatting writes may hold anything.
+/// The data device is read once, block by block, and never written. The tree is written first, and hash block 0
+/// with the superblock last, so that after `Device` no new superblock stands over an unfinished tree, unless
+/// the write of hash block 0 itself failed; then the whole tree stands. After `NoMemory` nothing was written.
+/// A superblock of an earlier format stays until it is overwritten. Nothing is synced: a device that holds
+/// writes back may write hash block 0 first.
 pub fn format<D: BlockDev, H: BlockDev>(
     alloc: Global,
     data_dev: &mut D,
@@ -83,7 +118,7 @@ pub fn format<D: BlockDev, H: BlockDev>(
     params: Superblock,
 ) -> Result<[u8; 32], FormatFault>
     ensures devices { IsOnlyRead (D.state data_dev.old) (D.state data_dev.new) × IsOnlyWritten (H.state hash_dev.old) (image_sectors (shape_of params)) (H.state hash_dev.new) }
-    ensures ok { IfOk result (λ root. IsTrue (D.state data_dev.old).steady → IsTrue (H.state hash_dev.old).steady → IsFormatted params (D.state data_dev.old) (H.state hash_dev.old) (H.state hash_dev.new) root) }
+    ensures ok { IfOk result (IsFormatted params (D.state data_dev.old) (H.state hash_dev.old) (D.state data_dev.new) (H.state hash_dev.new)) }
     ensures err { IfErr result (IsFormatCause params (D.state data_dev.old) (H.state hash_dev.old) (D.state data_dev.new) (H.state hash_dev.new)) }
     // where a refusal applies it is answered, and neither device was asked
     ensures refused { (f : FormatFault) → format_refusal params (D.state data_dev.old) (H.state hash_dev.old) ≡ Some f → (result ≡ Err f) × (D.state data_dev.new ≡ D.state data_dev.old) × (H.state hash_dev.new ≡ H.state hash_dev.old) }
@@ -95,21 +130,37 @@ pub fn format<D: BlockDev, H: BlockDev>(
     Ok(root)
 }
 
-/// Formats as `format` does with a superblock of these parts. Without a number of blocks it takes all
-/// whole blocks of the data device.
+/// The parts of a superblock that is to be formatted.
+#[derive(Clone, Copy)]
+pub struct FormatOptions {
+    /// The identifier, in the order of its text.
+    pub uuid: [u8; 16],
+    /// The size of a data block in bytes: 512, 1024, 2048 or 4096.
+    pub data_block: u32,
+    /// The size of a hash block in bytes, of the same four.
+    pub hash_block: u32,
+    /// How many data blocks; `None` stands for all whole blocks of the data device.
+    pub blocks: Option<u64>,
+    /// What each block's digest begins with.
+    pub salt: Salt,
+}
+
+/// Formats as `format` does, with a superblock of these parts.
 pub fn format_with<D: BlockDev, H: BlockDev>(
     alloc: Global,
     data_dev: &mut D,
     hash_dev: &mut H,
-    uuid: [u8; 16],
-    data_block: u32,
-    hash_block: u32,
-    blocks: Option<u64>,
-    salt: Salt,
+    options: FormatOptions,
 ) -> Result<[u8; 32], FormatFault>
-    ensures { let s : SuperRecord = record { uuid = uuid; data_block = data_block; hash_block = hash_block; blocks = given_blocks blocks data_block (D.state data_dev.old).size; salt = salt } in
-        IsFormatting s (D.state data_dev.old) (H.state hash_dev.old) (D.state data_dev.new) (H.state hash_dev.new) result }
+    ensures { IsFormatting (superblock_with options (D.state data_dev.old).size) (D.state data_dev.old) (H.state hash_dev.old) (D.state data_dev.new) (H.state hash_dev.new) result }
 {
+    let FormatOptions {
+        uuid,
+        data_block,
+        hash_block,
+        blocks,
+        salt,
+    } = options;
     let count = given_blocks(blocks, data_block, data_dev.sectors());
     match Superblock::new(uuid, data_block, hash_block, count, salt) {
         Ok(params) => format(alloc, data_dev, hash_dev, params),
@@ -170,28 +221,22 @@ fn encoded_block(alloc: Global, params: &Superblock) -> Result<Vec<u8>, AllocErr
     Ok(block)
 }
 
-fn zeros(alloc: Global, size: usize) -> Result<Vec<u8>, AllocError>
-    ensures { IfOk result (λ v. v.items ≡ replicate size 0) }
-{
-    vec![in alloc; 0u8; size]
-}
-
-// Writes hash block 0, and the area behind it.
+// Writes the area behind hash block 0, and then hash block 0.
 fn write_image<H: BlockDev>(hash_dev: &mut H, first: &[u8], area: &[u8]) -> Result<(), DeviceFault>
     requires some { 0 < length first.now }
     requires first { length first.now % 512 ≡ 0 }
     requires area { length area.now % 512 ≡ 0 }
     requires inside { length first.now / 512 + length area.now / 512 ≤ (H.state hash_dev.old).size }
     requires allowed { IsTrue (H.state hash_dev.old).may_write }
-    ensures written { IsOnlyWritten (H.state hash_dev.old) (length first.now / 512 + length area.now / 512) (H.state hash_dev.new) }
-    ensures ok { OnOk result (IsTrue (H.state hash_dev.old).steady →
-        (H.state hash_dev.new).image ≡ spliced (H.state hash_dev.old).image 0 (cut_into (length first.now / 512 + length area.now / 512) (first.now ++ area.now))) }
-    ensures counted { OnOk result ((H.state hash_dev.new).failures ≡ (H.state hash_dev.old).failures) }
+    ensures ok { OnOk result (IsImageWritten (H.state hash_dev.old) first.now area.now (H.state hash_dev.new)) }
     ensures fault { OnErr result (HasFailed (H.state hash_dev.old) (H.state hash_dev.new)) }
+    ensures torn { OnErr result (IsImageTorn (H.state hash_dev.old) first.now area.now (H.state hash_dev.new)) }
 {
-    hash_dev.write(0, first)?;
-    if !area.is_empty() {
-        hash_dev.write(first.len() as u64 / 512, area)?;
+    if area.is_empty() {
+        hash_dev.write(0, first)?;
+        return Ok(());
     }
+    hash_dev.write(first.len() as u64 / 512, area)?;
+    hash_dev.write(0, first)?;
     Ok(())
 }

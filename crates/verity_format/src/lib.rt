@@ -13,7 +13,7 @@ mod verifying;
 
 pub use chains::{ChainFault, read_chain};
 pub use decoding::{SuperFault, decode};
-pub use formatting::{FormatFault, format, format_with};
+pub use formatting::{FormatFault, FormatOptions, format, format_with};
 pub use superblock::Superblock;
 pub use table::table_line;
 pub use verifying::{Verdict, VerifyFault, read_superblock, verify};

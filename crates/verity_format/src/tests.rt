@@ -1,6 +1,7 @@
 // What no clause says: images of veritysetup, calls that succeed, and devices that fail at each call in turn.
 mod devices;
 mod failures;
+mod files;
 mod images;
 mod superblocks;
 

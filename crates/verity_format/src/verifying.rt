@@ -3,8 +3,9 @@ ghost use Rattle.std.specs.Prelude.{◌≡◌, ℕ, List, ◌+◌, ◌*◌, ◌/
 ghost use Rattle.std.specs.Str.{bytes_eq};
 ghost use Rattle.block_device.specs.Device.{HasFailed};
 ghost use Rattle.hash_tree.specs.Shape.{is_block_size};
-ghost use Rattle.verity_format.specs.Blocks.{IsOnlyRead};
-ghost use Rattle.verity_format.specs.Verifying.{IsVerifyCause, IsFound, IsReadFrom, IsReadCause, IsFoundSuper, IsSuperCause, IsFirstOther};
+ghost use Rattle.verity_format.specs.Blocks.{IsOnlyRead, IsFullRead};
+ghost use Rattle.verity_format.specs.FaultNames.{verify_number, verify_name};
+ghost use Rattle.verity_format.specs.Verifying.{IsVerifyCause, IsFound, IsReadFrom, IsReadCause, IsFoundSuper, IsSuperCause, IsCompared};
 
 use crate::access::{TreeFault, data_sectors, read_block, tree_over, tree_sectors};
 use crate::{SuperFault, Superblock, decode};
@@ -38,6 +39,32 @@ pub enum VerifyFault {
     /// A growth was refused.
     #[error("NoMemory")]
     NoMemory,
+}
+
+impl VerifyFault {
+    /// Its number in printed text; of a superblock's fault that one's.
+    pub fn number(self) -> u8
+        ensures { result ≡ verify_number self }
+    {
+        match self {
+            VerifyFault::Super(fault) => fault.number(),
+            VerifyFault::TooSmall => 9,
+            VerifyFault::Device => 10,
+            VerifyFault::NoMemory => 11,
+        }
+    }
+
+    /// Its name in printed text; of a superblock's fault that one's.
+    pub fn name(self) -> &'static str
+        ensures { result.now ≡ verify_name self }
+    {
+        match self {
+            VerifyFault::Super(fault) => fault.name(),
+            VerifyFault::TooSmall => "TooSmall",
+            VerifyFault::Device => "Device",
+            VerifyFault::NoMemory => "NoMemory",
+        }
+    }
 }
 
 impl From<DeviceFault> for VerifyFault {
@@ -85,8 +112,8 @@ impl From<TreeFault> for VerifyFault {
 
 /// Compares the tree over the data device with the one on the hash device, and its root with the one given.
 ///
-/// Both devices are read once, block by block. What stands between the superblock and hash block 1 is
-/// not compared.
+/// Both devices are read once, block by block, the hash device up to the first block that differs. What stands
+/// between the superblock and hash block 1 is not compared.
 pub fn verify<D: BlockDev, H: BlockDev>(
     alloc: Global,
     data_dev: &mut D,
@@ -95,7 +122,7 @@ pub fn verify<D: BlockDev, H: BlockDev>(
 ) -> Result<Verdict, VerifyFault>
     ensures data { IsOnlyRead (D.state data_dev.old) (D.state data_dev.new) }
     ensures hash { IsOnlyRead (H.state hash_dev.old) (H.state hash_dev.new) }
-    ensures ok { IfOk result (IsFound (D.state data_dev.old) (H.state hash_dev.old) root.now) }
+    ensures ok { IfOk result (IsFound (D.state data_dev.old) (H.state hash_dev.old) (D.state data_dev.new) (H.state hash_dev.new) root.now) }
     ensures err { IfErr result (IsVerifyCause (D.state data_dev.old) (H.state hash_dev.old) (D.state data_dev.new) (H.state hash_dev.new)) }
 {
     let superblock = fitting_superblock(data_dev, hash_dev)?;
@@ -122,7 +149,7 @@ fn is_same(a: &[u8], b: &[u8]) -> bool
 pub fn read_superblock<H: BlockDev>(hash_dev: &mut H) -> Result<Superblock, VerifyFault>
     ensures read { IsOnlyRead (H.state hash_dev.old) (H.state hash_dev.new) }
     ensures found { IfOk result (λ s. (sector : List ℕ) × IsReadFrom (H.state hash_dev.old) sector s) }
-    ensures counted { OnOk result ((H.state hash_dev.new).failures ≡ (H.state hash_dev.old).failures) }
+    ensures full { OnOk result (IsFullRead (H.state hash_dev.old) 1 (H.state hash_dev.new)) }
     ensures err { IfErr result (IsReadCause (H.state hash_dev.old) (H.state hash_dev.new)) }
 {
     if hash_dev.sectors() == 0 {
@@ -140,7 +167,7 @@ fn fitting_superblock<D: BlockDev, H: BlockDev>(
 ) -> Result<Superblock, VerifyFault>
     ensures read { IsOnlyRead (H.state hash_dev.old) (H.state hash_dev.new) }
     ensures found { IfOk result (IsFoundSuper (D.state data_dev.now) (H.state hash_dev.old)) }
-    ensures counted { OnOk result ((H.state hash_dev.new).failures ≡ (H.state hash_dev.old).failures) }
+    ensures full { OnOk result (IsFullRead (H.state hash_dev.old) 1 (H.state hash_dev.new)) }
     ensures err { IfErr result (IsSuperCause (D.state data_dev.now) (H.state hash_dev.old) (H.state hash_dev.new)) }
 {
     let superblock = read_superblock(hash_dev)?;
@@ -163,9 +190,7 @@ fn first_difference<H: BlockDev>(
     requires inside { 0 < blocks → blocks * (length block.old / 512) + length block.old / 512 ≤ (H.state hash_dev.old).size }
     requires few { blocks * (length block.old / 512) ≤ 2 ^ 54 }
     ensures read { IsOnlyRead (H.state hash_dev.old) (H.state hash_dev.new) }
-    ensures found { IfOk result (λ o. IsTrue (H.state hash_dev.old).steady → IsFirstOther (H.state hash_dev.old).image (length block.old) blocks area.now o) }
-    ensures bound { IfOk result (λ o. IfSome o (λ k. k < blocks)) }
-    ensures counted { OnOk result ((H.state hash_dev.new).failures ≡ (H.state hash_dev.old).failures) }
+    ensures compared { IfOk result (IsCompared (H.state hash_dev.old) (H.state hash_dev.new) (length block.old) blocks area.now) }
     ensures fault { OnErr result (HasFailed (H.state hash_dev.old) (H.state hash_dev.new)) }
 {
     let size = block.len();

@@ -8,46 +8,49 @@ use Rattle.block_device.specs.Device.{Device, IsSector}
 use Rattle.stack_loader.specs.Records.{Configuration}
 use Rattle.stack_engine.specs.declared.fault.IoFault.{IoFault}
 use Rattle.stack_engine.specs.declared.fault.IoFault.TheVariants as io
-use Rattle.stack_engine.specs.Meaning.{Fault, error_target, mismatch, Outcome, Images, joined, span}
-use Rattle.stack_engine.specs.Sectors.{SomeOf}
+use Rattle.stack_engine.specs.Outcomes.{Fault, error_target, mismatch, Outcome, Images, joint_outcome, span}
 use Rattle.stack_engine.specs.May.{IsRun, part}
 use Rattle.stack_engine.specs.Leaves.{images_of, AllSteady, AreRead}
-use Rattle.stack_engine.specs.Found.{FoundRecord, Entry, entry_of}
-use Rattle.stack_engine.specs.Reading.{Ends, Answers, Gets, Fills, Finds}
+use Rattle.stack_engine.specs.Found.{FoundRecord, entry_of}
+use Rattle.stack_engine.specs.Meaning.{Said}
+use Rattle.stack_engine.specs.Places.{Place, Expected, run_expected, Read}
+use Rattle.stack_engine.specs.Reading.{Ends, Answers, Gets, Finds}
 use Rattle.stack_engine.proofs.lemmas.LeafListLemmas.{AreRead-then, AreRead-more, AllSteady-kept, images-kept, failed_later}
-use Rattle.stack_engine.proofs.lemmas.FoundLemmas.{IsMono, SomeOf-more, Grown-then, grown-keeps}
+use Rattle.stack_engine.proofs.lemmas.FoundLemmas.{HasMore, IsMono, SomeOf-more, Grown-then, grown-keeps}
 use Rattle.stack_engine.proofs.lemmas.SpanLemmas.{span-add, span_same}
 
-pub ends_as : {A : Type 0} (Is Is' : A → Type 0) (F F' : Fault → Type 0) (old new : List Device) (result : Result A IoFault)
-    → ((x : A) → Is x → Is' x) → ((fault : Fault) → F fault → F' fault) → Ends Is F old new result → Ends Is' F' old new result
-ends_as Is Is' F F' old new (Ok x) is faults h = is x h
-ends_as Is Is' F F' old new (Err io.ErrorTarget) is faults h = faults error_target h
-ends_as Is Is' F F' old new (Err io.Mismatch) is faults h = faults mismatch h
-ends_as Is Is' F F' old new (Err (io.Device i)) is faults h = h
-ends_as Is Is' F F' old new (Err io.NoMemory) is faults h = tt
+-- ---- one call
 
--- a fault passes on
-pub fault_passes : {A B : Type 0} (Is : A → Type 0) (Is' : B → Type 0) (F F' : Fault → Type 0) (f : A → List ℕ) (g : B → List ℕ) (meaning meaning' : Images → Outcome) (m n k : ℕ) (old mid new : List Device) (fault : IoFault)
-    → AreRead old m mid → m + n ≤ k → ((x : Fault) → F x → F' x)
-    → (AllSteady old → (x : Fault) → meaning (images_of mid) ≡ Err x → meaning' (images_of old) ≡ Err x)
-    → Gets Is F f meaning n mid new (Err fault) → Gets Is' F' g meaning' k old new (Err fault)
-fault_passes Is Is' F F' f g meaning meaning' m n k old mid new io.ErrorTarget a h faults means p = record {
-  moved = AreRead-more old new _ _ h (AreRead-then old mid new m n a p.moved);
+Ends-as : {A : Type 0} (wanted wanted' : Expected A) (old new : List Device) (result : Result A IoFault)
+    → ((x : A) → wanted.is x → wanted'.is x) → ((fault : Fault) → wanted.faults fault → wanted'.faults fault) → Ends wanted.is wanted.faults old new result → Ends wanted'.is wanted'.faults old new result
+Ends-as wanted wanted' old new (Ok x) is faults h = is x h
+Ends-as wanted wanted' old new (Err io.ErrorTarget) is faults h = faults error_target h
+Ends-as wanted wanted' old new (Err io.Mismatch) is faults h = faults mismatch h
+Ends-as wanted wanted' old new (Err (io.Device i)) is faults h = h
+Ends-as wanted wanted' old new (Err io.NoMemory) is faults h = tt
+
+-- a fault passes on, also to what begins before the call
+pub fault_passes : {A B : Type 0} {wanted : Expected A} {wanted' : Expected B} {old mid new : List Device} {m : ℕ} (fault : IoFault)
+    → Gets wanted mid new (Err fault) → AreRead old m mid → m + wanted.cost ≤ wanted'.cost → ((x : Fault) → wanted.faults x → wanted'.faults x)
+    → (AllSteady old → (x : Fault) → wanted.means (images_of mid) ≡ Err x → wanted'.means (images_of old) ≡ Err x)
+    → Gets wanted' old new (Err fault)
+fault_passes {old = old} {mid = mid} io.ErrorTarget p a h faults means = record {
+  moved = AreRead-more h (AreRead-then a p.moved);
   may = faults error_target p.may;
-  exact = λ steady. means steady error_target (p.exact (AllSteady-kept old mid a.fixed steady));
+  exact = λ steady. means steady error_target (p.exact (AllSteady-kept old mid a.moved.fixed steady));
 }
-fault_passes Is Is' F F' f g meaning meaning' m n k old mid new io.Mismatch a h faults means p = record {
-  moved = AreRead-more old new _ _ h (AreRead-then old mid new m n a p.moved);
+fault_passes {old = old} {mid = mid} io.Mismatch p a h faults means = record {
+  moved = AreRead-more h (AreRead-then a p.moved);
   may = faults mismatch p.may;
-  exact = λ steady. means steady mismatch (p.exact (AllSteady-kept old mid a.fixed steady));
+  exact = λ steady. means steady mismatch (p.exact (AllSteady-kept old mid a.moved.fixed steady));
 }
-fault_passes Is Is' F F' f g meaning meaning' m n k old mid new (io.Device i) a h faults means p = record {
-  moved = AreRead-more old new _ _ h (AreRead-then old mid new m n a p.moved);
-  may = (p.may.0, failed_later (i - 1) old mid new m n a p.moved p.may.1);
+fault_passes (io.Device i) p a h faults means = record {
+  moved = AreRead-more h (AreRead-then a p.moved);
+  may = (p.may.0, failed_later a.moved p.moved.moved p.may.1);
   exact = λ steady. tt;
 }
-fault_passes Is Is' F F' f g meaning meaning' m n k old mid new io.NoMemory a h faults means p = record {
-  moved = AreRead-more old new _ _ h (AreRead-then old mid new m n a p.moved);
+fault_passes io.NoMemory p a h faults means = record {
+  moved = AreRead-more h (AreRead-then a p.moved);
   may = tt;
   exact = λ steady. tt;
 }
@@ -88,94 +91,103 @@ run-append P first a m x y p q = record {
 pub run-may : (P P' : ℕ → List ℕ → Type 0) (first n : ℕ) (bytes : List ℕ) → ((s : ℕ) (b : List ℕ) → P s b → P' s b) → IsRun P first n bytes → IsRun P' first n bytes
 run-may P P' first n bytes more run = record { len = run.len; sectors = λ j h. more (first + j) (part bytes j) (run.sectors j h) }
 
-module _ (P : ℕ → List ℕ → Type 0) (F : Fault → ℕ → Type 0) (f : Images → ℕ → Outcome) (cost : ℕ) where
-  -- a run and the next one
-  pub fill_ok : (first a m : ℕ) (old mid new : List Device) (x y : List ℕ)
-      → Fills P F f cost first a old mid (Ok tt) x → Fills P F f cost (first + a) m mid new (Ok tt) y → Fills P F f cost first (a + m) old new (Ok tt) (x ++ y)
-  fill_ok first a m old mid new x y p q = record {
-    moved = AreRead-more old new _ _ (omega arith) (AreRead-then old mid new _ _ p.moved q.moved);
-    may = run-append P first a m x y p.may q.may;
+-- a run, and what follows it
+module _ (place : Place) (chains : List FoundRecord) (first a m : ℕ) {old mid new : List Device} {x : List ℕ} (p : Gets (run_expected place chains first a) old mid (Ok x)) where
+  -- the next one
+  pub fill_ok : {y : List ℕ} → Gets (run_expected place chains (first + a) m) mid new (Ok y) → Gets (run_expected place chains first (a + m)) old new (Ok (x ++ y))
+  fill_ok {y = y} q = record {
+    moved = AreRead-more (omega arith) (AreRead-then p.moved q.moved);
+    may = run-append (λ s. (place.said s).may chains) first a m x y p.may q.may;
     exact = λ steady.
-        let images : images_of mid ≡ images_of old = images-kept old mid _ p.moved steady in
+        let f : Images → ℕ → Outcome = λ images s. (place.said s).means images in
+        let images : images_of mid ≡ images_of old = images-kept p.moved steady in
         span-add (f (images_of old)) first a m
-        ∙ ap (λ (s : Outcome). joined s (span (f (images_of old)) (first + a) m)) (p.exact steady)
-        ∙ ap (λ (i : Images). joined (Ok x) (span (f i) (first + a) m)) (sym images)
-        ∙ ap (joined (Ok x)) (q.exact (AllSteady-kept old mid p.moved.fixed steady));
+        ∙ ap (λ (s : Outcome). joint_outcome s (span (f (images_of old)) (first + a) m)) (p.exact steady)
+        ∙ ap (λ (i : Images). joint_outcome (Ok x) (span (f i) (first + a) m)) (sym images)
+        ∙ ap (joint_outcome (Ok x)) (q.exact (AllSteady-kept old mid p.moved.moved.fixed steady));
   }
 
-  -- a run, and the next one that ends by a fault
-  pub fill_err : (first a m n : ℕ) (old mid new : List Device) (x y z : List ℕ) (fault : IoFault) → a + m ≤ n
-      → Fills P F f cost first a old mid (Ok tt) x → Fills P F f cost (first + a) m mid new (Err fault) y → Fills P F f cost first n old new (Err fault) z
-  fill_err first a m n old mid new x y z fault h p q =
-      fault_passes {A = Unit} {B = Unit} _ _ _ _ _ _ (λ images. span (f images) (first + a) m) (λ images. span (f images) first n) (a * cost) (m * cost) (n * cost) old mid new fault p.moved
-      (omega (arith, mul-le-mul_right cost h))
-      (λ x meets. SomeOf-more (F x) first a m n h meets)
+  -- the next one, which ends by a fault
+  pub fill_err : (n : ℕ) (fault : IoFault) → a + m ≤ n → Gets (run_expected place chains (first + a) m) mid new (Err fault) → Gets (run_expected place chains first n) old new (Err fault)
+  fill_err n fault h q =
+      let f : Images → ℕ → Outcome = λ images s. (place.said s).means images in
+      fault_passes {wanted = run_expected place chains (first + a) m} {wanted' = run_expected place chains first n} fault q p.moved
+      (omega (arith, mul-le-mul_right place.cost h))
+      (λ x meets. SomeOf-more (λ s. (place.said s).meets x) first a m n h meets)
       (λ steady fails is.
-      let images : images_of mid ≡ images_of old = images-kept old mid _ p.moved steady in
+      let images : images_of mid ≡ images_of old = images-kept p.moved steady in
       let parts : n ≡ a + (m + (n - (a + m))) = omega arith in
       let g : ℕ → Outcome = f (images_of old) in
       ap (span g first) parts ∙ span-add g first a (m + (n - (a + m)))
-      ∙ ap (λ (s : Outcome). joined s (span g (first + a) (m + (n - (a + m))))) (p.exact steady)
-      ∙ ap (joined (Ok x)) (span-add g (first + a) m (n - (a + m))
-      ∙ ap (λ (s : Outcome). joined s (span g (first + a + m) (n - (a + m)))) (ap (λ (i : Images). span (f i) (first + a) m) (sym images) ∙ is)))
-      q
+      ∙ ap (λ (s : Outcome). joint_outcome s (span g (first + a) (m + (n - (a + m))))) (p.exact steady)
+      ∙ ap (joint_outcome (Ok x)) (span-add g (first + a) m (n - (a + m))
+      ∙ ap (λ (s : Outcome). joint_outcome s (span g (first + a + m) (n - (a + m)))) (ap (λ (i : Images). span (f i) (first + a) m) (sym images) ∙ is)))
 
--- the same sectors under other names
-pub fill_as : (P P' : ℕ → List ℕ → Type 0) (F F' : Fault → ℕ → Type 0) (f f' : Images → ℕ → Outcome) (cost cost' first first' n : ℕ)
-    (old new : List Device) (result : Result Unit IoFault) (bytes : List ℕ)
-    → ((j : ℕ) (b : List ℕ) → j < n → P (first + j) b → P' (first' + j) b)
-    → ((x : Fault) (j : ℕ) → j < n → F x (first + j) → F' x (first' + j))
-    → ((images : Images) (j : ℕ) → j < n → f images (first + j) ≡ f' images (first' + j))
-    → cost ≤ cost'
-    → Fills P F f cost first n old new result bytes → Fills P' F' f' cost' first' n old new result bytes
-fill_as P P' F F' f f' cost cost' first first' n old new result bytes may meets same cheap p = record {
-  moved = AreRead-more old new _ _ (mul-le-mul_left n cheap) p.moved;
-  may = ends_as {A = Unit} (λ _. IsRun P first n bytes) (λ _. IsRun P' first' n bytes) (λ x. SomeOf (F x) first n) (λ x. SomeOf (F' x) first' n) old new result
-      (λ _ all. record { len = all.len; sectors = λ j h. may j (part bytes j) h (all.sectors j h) }) (λ x some. (some.0, some.1, meets x some.0 some.1 some.2)) p.may;
-  exact = λ steady. subst (λ (s : Outcome). Answers {A = Unit} (λ _. bytes) s result) (span_same (f (images_of old)) (f' (images_of old)) first first' n (same (images_of old))) (p.exact steady);
+-- the sectors of a place may be what they may be with more chains too
+abbrev pub AllMono : Place → Type 0
+AllMono place = (s : ℕ) → IsMono (place.said s)
+
+-- a run with more chains
+pub fill_more : (place : Place) (first n : ℕ) {u v : List FoundRecord} {old new : List Device} {bytes : List ℕ} → AllMono place → HasMore u v
+    → Gets (run_expected place u first n) old new (Ok bytes) → Gets (run_expected place v first n) old new (Ok bytes)
+fill_more place first n {u = u} {v = v} {bytes = bytes} mono more p = record {
+  moved = p.moved;
+  may = run-may (λ s. (place.said s).may u) (λ s. (place.said s).may v) first n bytes (λ s. mono s u v more) p.may;
+  exact = p.exact;
 }
 
 -- ---- runs with what was found
 
-module _ (P : List FoundRecord → ℕ → List ℕ → Type 0) (F : Fault → ℕ → Type 0) (E : ℕ → List Entry) (f : Images → ℕ → Outcome) (cost : ℕ) (c : Configuration) where
+module _ (place : Place) (c : Configuration) (mono : AllMono place) (first a m : ℕ) {old mid new : List Device} {u v w : List FoundRecord} {x : List ℕ}
+    (p : Finds place c first a (record { old = old; new = mid; before = u; after = v }) (Ok x)) where
   -- a run and the next one
-  pub run_ok : (first a m : ℕ) (old mid new : List Device) (u v w : List FoundRecord) (x y : List ℕ) → IsMono P
-      → Finds P F E f cost first a c old mid u v (Ok tt) x → Finds P F E f cost (first + a) m c mid new v w (Ok tt) y → Finds P F E f cost first (a + m) c old new u w (Ok tt) (x ++ y)
-  run_ok first a m old mid new u v w x y mono p q = record {
-    fills = fill_ok (P w) F f cost first a m old mid new x y
-        (record { moved = p.fills.moved; may = run-may (P v) (P w) first a x (mono v w (grown-keeps E (first + a) m v w q.grown)) p.fills.may; exact = p.fills.exact }) q.fills;
-    grown = Grown-then E first a m (a + m) u v w (omega arith) p.grown q.grown;
+  pub run_ok : {y : List ℕ} → Finds place c (first + a) m (record { old = mid; new = new; before = v; after = w }) (Ok y)
+      → Finds place c first (a + m) (record { old = old; new = new; before = u; after = w }) (Ok (x ++ y))
+  run_ok q = record {
+    got = fill_ok place w first a m (fill_more place first a mono (grown-keeps q.grown) p.got) q.got;
+    grown = Grown-then (omega arith) p.grown q.grown;
     kept = q.kept;
   }
 
   -- a run, and the next one that ends by a fault
-  pub run_err : (first a m n : ℕ) (old mid new : List Device) (u v w : List FoundRecord) (x y z : List ℕ) (fault : IoFault) → IsMono P → a + m ≤ n
-      → Finds P F E f cost first a c old mid u v (Ok tt) x → Finds P F E f cost (first + a) m c mid new v w (Err fault) y → Finds P F E f cost first n c old new u w (Err fault) z
-  run_err first a m n old mid new u v w x y z fault mono h p q = record {
-    fills = fill_err (P w) F f cost first a m n old mid new x y z fault h
-        (record { moved = p.fills.moved; may = run-may (P v) (P w) first a x (mono v w (grown-keeps E (first + a) m v w q.grown)) p.fills.may; exact = p.fills.exact }) q.fills;
-    grown = Grown-then E first a m n u v w h p.grown q.grown;
+  pub run_err : (n : ℕ) (fault : IoFault) → a + m ≤ n → Finds place c (first + a) m (record { old = mid; new = new; before = v; after = w }) (Err fault)
+      → Finds place c first n (record { old = old; new = new; before = u; after = w }) (Err fault)
+  run_err n fault h q = record {
+    got = fill_err place w first a m (fill_more place first a mono (grown-keeps q.grown) p.got) n fault h q.got;
+    grown = Grown-then h p.grown q.grown;
     kept = q.kept;
   }
 
--- the same sectors under other names
-pub run_as : (P P' : List FoundRecord → ℕ → List ℕ → Type 0) (F F' : Fault → ℕ → Type 0) (E E' : ℕ → List Entry) (f f' : Images → ℕ → Outcome) (cost cost' first first' n : ℕ) (c : Configuration)
-    (old new : List Device) (u v : List FoundRecord) (result : Result Unit IoFault) (bytes : List ℕ)
-    → ((j : ℕ) (b : List ℕ) → j < n → P v (first + j) b → P' v (first' + j) b)
-    → ((x : Fault) (j : ℕ) → j < n → F x (first + j) → F' x (first' + j))
-    → ((j : ℕ) → j < n → E (first + j) ≡ E' (first' + j))
-    → ((images : Images) (j : ℕ) → j < n → f images (first + j) ≡ f' images (first' + j))
-    → cost ≤ cost'
-    → Finds P F E f cost first n c old new u v result bytes → Finds P' F' E' f' cost' first' n c old new u v result bytes
-run_as P P' F F' E E' f f' cost cost' first first' n c old new u v result bytes may meets enters same cheap p = record {
-  fills = fill_as (P v) (P' v) F F' f f' cost cost' first first' n old new result bytes may meets same cheap p.fills;
-  grown = record {
-    added = p.grown.added;
-    is = p.grown.is;
-    used = λ k d below.
-        let some = p.grown.used k d below in
-        (some.0, some.1, subst (λ (entries : List Entry). Contains entries (entry_of (get_or p.grown.added k d))) (enters some.0 some.1) some.2);
-    distinct = p.grown.distinct;
-  };
-  kept = p.kept;
-}
+-- ---- n sectors of a place that are n of another
+
+-- the same is said of them, and they cost no less
+pub record Passes (place place' : Place) (first first' n : ℕ) : Type 1 where
+  pub said : (j : ℕ) → j < n → place.said (first + j) ≡ place'.said (first' + j)
+  pub cost : place.cost ≤ place'.cost
+
+module _ {place place' : Place} {first first' n : ℕ} (passes : Passes place place' first first' n) where
+  fill_as : (chains : List FoundRecord) {old new : List Device} (answer : Result (List ℕ) IoFault) → Gets (run_expected place chains first n) old new answer → Gets (run_expected place' chains first' n) old new answer
+  fill_as chains {old = old} {new = new} answer p = record {
+    moved = AreRead-more (mul-le-mul_left n passes.cost) p.moved;
+    may = Ends-as (run_expected place chains first n) (run_expected place' chains first' n) old new answer
+        (λ bytes all. record { len = all.len; sectors = λ j h. subst (λ (x : Said). x.may chains (part bytes j)) (passes.said j h) (all.sectors j h) })
+        (λ fault some. (some.0, some.1, subst (λ (x : Said). x.meets fault) (passes.said some.0 some.1) some.2)) p.may;
+    exact = λ steady.
+        let means : (ℕ → Said) → ℕ → Outcome = λ said s. (said s).means (images_of old) in
+        subst (λ (s : Outcome). Answers {A = List ℕ} (λ bytes. bytes) s answer)
+        (span_same (means place.said) (means place'.said) first first' n (λ j h. ap (λ (x : Said). x.means (images_of old)) (passes.said j h))) (p.exact steady);
+  }
+
+  pub pass : {c : Configuration} (did : Read) (answer : Result (List ℕ) IoFault) → Finds place c first n did answer → Finds place' c first' n did answer
+  pass did answer p = record {
+    got = fill_as did.after answer p.got;
+    grown = record {
+      added = p.grown.added;
+      is = p.grown.is;
+      used = λ k d below.
+          let some = p.grown.used k d below in
+          (some.0, some.1, subst (λ (x : Said). Contains x.entries (entry_of (get_or p.grown.added k d))) (passes.said some.0 some.1) some.2);
+      distinct = p.grown.distinct;
+    };
+    kept = p.kept;
+  }

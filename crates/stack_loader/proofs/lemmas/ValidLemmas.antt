@@ -53,18 +53,19 @@ pub depth-past : (c : Configuration) (d : ℕ) → slice_get c.devices d ≡ Non
 unfolding descend
 depth-past c d none = rw none refl
 
--- in a valid configuration no depth is above 8
-pub depth-low : (c : Configuration) → IsValid c → (x : Lower) → depth c x ≤ most_depth
-unfolding IsValid
-depth-low c valid (leaf i) = rw depth-leaf (omega arith)
-depth-low c valid (device d) = go (Rattle.std.proofs.Math.Decide.dec_le (length c.devices) d.0)
+-- where the rule on depths refuses none, no depth is above 8
+pub depths-low : (c : Configuration) → first (depth_rules c) ≡ None → (x : Lower) → depth c x ≤ most_depth
+depths-low c deep (leaf i) = rw depth-leaf (omega arith)
+depths-low c deep (device d) = go (Rattle.std.proofs.Math.Decide.dec_le (length c.devices) d.0)
   where
-    deep : first (depth_rules c) ≡ None
-    deep = (parts (device_rules c) (depth_rules c) (parts (device_rules c ++ depth_rules c) (cost_rules c) valid).0).1
-
     all : AllByRecursion (λ p. first (refuse TooDeep p.0 0 (nat_lt most_depth (depth c (mapped (p.0 - 1)))) ∷ []) ≡ None) (enumerate_from 1 c.devices)
     all = each (λ p. refuse TooDeep p.0 0 (nat_lt most_depth (depth c (mapped (p.0 - 1)))) ∷ []) (enumerate_from 1 c.devices) deep
 
     go : Dec (length c.devices ≤ d.0) → depth c (device d) ≤ most_depth
     go (yes past) = rw (depth-past c d.0 (past_end d.0 c.devices past)) (omega arith)
     go (no inside) = in_order c 0 c.devices all d.0 (omega arith) (grind (arith, inside))
+
+-- so in a valid configuration
+pub depth-low : (c : Configuration) → IsValid c → (x : Lower) → depth c x ≤ most_depth
+unfolding IsValid
+depth-low c valid = depths-low c (parts (device_rules c) (depth_rules c) (parts (device_rules c ++ depth_rules c) (cost_rules c) valid).0).1

@@ -12,7 +12,7 @@ use Rattle.stack_loader.specs.declared.refusal.Refusal.{Refusal}
 use Rattle.stack_loader.specs.Names.{sectors_of}
 use Rattle.stack_loader.specs.Lines.{Follow}
 use Rattle.stack_loader.specs.Descend.{most_devices}
-use Rattle.stack_loader.specs.Rules.{IsValid, first, each_device, device_rules, depth_rules, cost_rules, unknown_names, circles, table_rules, line_rules, refuse, is_too_many, most_lines, most_sectors, is_undivided, is_beyond, names_read_only}
+use Rattle.stack_loader.specs.Rules.{IsValid, first, each_device, device_rules, depth_rules, cost_rules, unknown_names, cycles, table_rules, line_rules, refuse, is_too_many, most_lines, most_sectors, is_undivided, is_beyond, names_read_only}
 
 -- two lists in which nothing refuses
 pub parts : (xs ys : List (Option Refusal)) → first (xs ++ ys) ≡ None → (first xs ≡ None) × (first ys ≡ None)
@@ -48,7 +48,7 @@ line_at_place c rule h d x device l line there =
 pub record AreRules (c : Configuration) : Type 0 where
   pub many : is_too_many c.devices ≡ false
   pub known : first (unknown_names c) ≡ None
-  pub around : first (circles c) ≡ None
+  pub around : first (cycles c) ≡ None
   pub lines : first (each_device c (table_rules c)) ≡ None
   pub depths : first (depth_rules c) ≡ None
   pub costs : first (cost_rules c) ≡ None
@@ -58,8 +58,8 @@ unfolding IsValid
 rules-of c valid =
     let a = parts (device_rules c ++ depth_rules c) (cost_rules c) valid in
     let b = parts (device_rules c) (depth_rules c) a.0 in
-    let e = parts (refuse TooMany 0 0 (is_too_many c.devices) ∷ unknown_names c ++ circles c) (each_device c (table_rules c)) b.0 in
-    let f = parts (refuse TooMany 0 0 (is_too_many c.devices) ∷ unknown_names c) (circles c) e.0 in
+    let e = parts (refuse TooMany 0 0 (is_too_many c.devices) ∷ unknown_names c ++ cycles c) (each_device c (table_rules c)) b.0 in
+    let f = parts (refuse TooMany 0 0 (is_too_many c.devices) ∷ unknown_names c) (cycles c) e.0 in
     let g = apart TooMany 0 0 (is_too_many c.devices) (unknown_names c) f.0 in
     record { many = g.0; known = g.1; around = f.1; lines = e.1; depths = b.1; costs = a.1 }
 

@@ -1,7 +1,7 @@
 // Texts with two faults: the first in the order of the rules, the devices and the lines is answered.
 use super::{leaf, load, over, refused};
+use crate::check::first_above;
 use crate::config::Config;
-use crate::heights::first_above;
 use crate::refusal::LoadKind;
 use std::alloc::Global;
 use std::test::Fail;
@@ -58,7 +58,7 @@ fn answers_the_first_rule(rt: HostRuntime) -> Result<(), Fail> {
 }
 
 #[test]
-fn a_circle_goes_before_a_range(rt: HostRuntime) -> Result<(), Fail> {
+fn a_cycle_goes_before_a_range(rt: HostRuntime) -> Result<(), Fail> {
     let alloc = rt.alloc();
     let mut config = stacked(alloc)?;
     let text = b"a,,,rw,0 32 linear /dev/mapper/a 0";

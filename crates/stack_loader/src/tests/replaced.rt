@@ -77,7 +77,7 @@ fn replaces_the_bottom_of_a_chain(rt: HostRuntime) -> Result<(), Fail> {
 }
 
 #[test]
-fn refuses_a_circle_made_by_replacing(rt: HostRuntime) -> Result<(), Fail> {
+fn refuses_a_cycle_made_by_replacing(rt: HostRuntime) -> Result<(), Fail> {
     let alloc = rt.alloc();
     let mut config = chain(alloc)?;
     assert_eq!(rt;

@@ -1,7 +1,7 @@
 // Small images in memory: verdicts, refusals and the table line.
 use super::{UUID, bytes_of, chain_of, empty_salt, hex_bytes};
 use crate::{
-    FormatFault, SuperFault, Superblock, Verdict, VerifyFault, format, format_with,
+    FormatFault, FormatOptions, SuperFault, Superblock, Verdict, VerifyFault, format, format_with,
     read_superblock, table_line, verify,
 };
 use block_device::{BlockDev, MemoryDev};
@@ -22,16 +22,14 @@ fn params_129() -> Result<Superblock, Fail> {
 fn one_block(alloc: Global) -> Result<(MemoryDev, MemoryDev, [u8; 32]), Fail> {
     let mut data_dev = MemoryDev::zeros(alloc, 1, false)?;
     let mut hash_dev = MemoryDev::zeros(alloc, 1, true)?;
-    let root = format_with(
-        alloc,
-        &mut data_dev,
-        &mut hash_dev,
-        [0; 16],
-        512,
-        512,
-        None,
-        empty_salt()?,
-    )?;
+    let options = FormatOptions {
+        uuid: [0; 16],
+        data_block: 512,
+        hash_block: 512,
+        blocks: None,
+        salt: empty_salt()?,
+    };
+    let root = format_with(alloc, &mut data_dev, &mut hash_dev, options)?;
     Ok((data_dev, hash_dev, root))
 }
 
@@ -133,16 +131,14 @@ fn refuses_shapes_first(rt: HostRuntime) -> Result<(), Fail> {
         (4096, Some(0u64)),
         (512, Some(u64::MAX)),
     ] {
-        let answer = format_with(
-            alloc,
-            &mut data_dev,
-            &mut hash_dev,
-            UUID,
+        let options = FormatOptions {
+            uuid: UUID,
             data_block,
-            4096,
+            hash_block: 4096,
             blocks,
-            empty_salt()?,
-        );
+            salt: empty_salt()?,
+        };
+        let answer = format_with(alloc, &mut data_dev, &mut hash_dev, options);
         assert_eq!(rt; answer, Err(FormatFault::Shape));
     }
     Ok(())
@@ -178,5 +174,16 @@ fn reads_a_superblock_alone(rt: HostRuntime) -> Result<(), Fail> {
     assert_eq!(rt; answer.err(), Some(VerifyFault::Super(SuperFault::Version)));
     let answer = read_superblock(&mut MemoryDev::new(vec![in alloc; 0u8; 511]?, false));
     assert_eq!(rt; answer.err(), Some(VerifyFault::TooSmall));
+    Ok(())
+}
+
+#[test]
+fn faults_have_numbers_and_names(rt: HostRuntime) -> Result<(), Fail> {
+    let made = FormatFault::HashTooSmall { needed: 1 };
+    assert_eq!(rt; (made.number(), made.name()), (3, "HashTooSmall"));
+    let compared = VerifyFault::Super(SuperFault::Version);
+    assert_eq!(rt; (compared.number(), compared.name()), (2, "Version"));
+    let text = format!(in rt.alloc(); "{}", SuperFault::SaltSize)?;
+    assert_eq!(rt; text.as_str(), "SaltSize");
     Ok(())
 }

@@ -2,7 +2,8 @@
 // blocks of 512 bytes, and hash blocks of that size on two levels.
 use super::{UUID, bytes_of, chain_of, empty_salt};
 use crate::{
-    ChainFault, FormatFault, Superblock, Verdict, VerifyFault, format, read_superblock, verify,
+    ChainFault, FormatFault, Superblock, Verdict, VerifyFault, decode, format, read_superblock,
+    verify,
 };
 use block_device::{BlockDev, FailAt, MemoryDev};
 use std::alloc::Global;
@@ -39,6 +40,14 @@ fn image_of(rt: &impl Abort, alloc: Global) -> Result<(Vec<u8>, [u8; 32]), Fail>
     Ok((bytes_of(rt, alloc, &mut hash_dev)?, root))
 }
 
+// Whether the hash image begins with a superblock. The inner device is asked, which never fails.
+fn is_formatted(hash_dev: &mut FailAt<MemoryDev>) -> bool {
+    let mut sector = [0u8; 512];
+    hash_dev.inner.sectors() > 0
+        && hash_dev.inner.read(0, &mut sector).is_ok()
+        && decode(&sector).is_ok()
+}
+
 #[test]
 fn formatting_answers_each_failure(rt: HostRuntime) -> Result<(), Fail> {
     let alloc = rt.alloc();
@@ -50,9 +59,11 @@ fn formatting_answers_each_failure(rt: HostRuntime) -> Result<(), Fail> {
             assert_eq!(rt; data_dev.writes(), 0);
             if data_dev.failures() == 0 && hash_dev.failures() == 0 {
                 assert!(rt; answer.is_ok());
+                assert!(rt; is_formatted(&mut hash_dev));
                 break;
             }
             assert_eq!(rt; answer, Err(FormatFault::Device), "{fails} {k}");
+            assert!(rt; !is_formatted(&mut hash_dev), "{fails} {k}");
             met = k;
         }
         assert!(rt; 0 < met && met < MANY - 1, "{fails} {met}");

@@ -1,5 +1,5 @@
 use Rattle.std.proofs.Common.{◌≡◌, ◌∷◌, ◌++◌, [], decimal, flat_map, ap, sym, ◌∙◌, rules, append_assoc}
-use Rattle.dm_table.specs.Print.{spaced, target_words, line_text}
+use Rattle.dm_table.specs.Print.{spaced_word, target_words, line_text}
 use Rattle.dm_table.proofs.PrintLemmas.{join-spaced}
 use Rattle.dm_table.proofs.print.print_line.Goals as goal
 
@@ -9,6 +9,6 @@ returns c =
     let line = c.args.line.now in
     let text = c.args.text.now.items in
     let words = join-spaced (decimal line.start) (decimal line.length ∷ target_words line.target) in
-    let pushed : c.push.new.self.items ≡ text ++ ((decimal line.start ++ (spaced (decimal line.length) ++ flat_map spaced (target_words line.target))) ++ 10 ∷ []) =
+    let pushed : c.push.new.self.items ≡ text ++ ((decimal line.start ++ (spaced_word (decimal line.length) ++ flat_map spaced_word (target_words line.target))) ++ 10 ∷ []) =
     search (rules, append_assoc) in
     pushed ∙ ap (λ t. text ++ (t ++ 10 ∷ [])) (sym words)

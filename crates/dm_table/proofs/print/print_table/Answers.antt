@@ -1,7 +1,7 @@
 use Rattle.std.proofs.Common.{ap, ◌∙◌, take_all}
 use Rattle.dm_table.specs.Print.{table_text}
 use Rattle.dm_table.specs.TableText.{table_of}
-use Rattle.dm_table.proofs.PrintLaw.{table-printed}
+use Rattle.dm_table.proofs.RoundTripLemmas.{table-printed}
 use Rattle.dm_table.proofs.print.print_table.Goals as goal
 
 pub returns-clause-reads_back : goal.returns-clause-reads_back

@@ -39,14 +39,14 @@ new-requires c =
     let entries = c.entries.entries.items in
     let whole = stack-entries c.args.text.now (sym c.is_text.ensures ∙ c.if-not-is_text.false) in
     stack-grammar c.args.text.now entries
-    (whole ∙ c.entries.invariant.1 ∙ ap (λ texts. after entries (entries_from (c.entries.number + 1) texts)) c.in_default.ensures ∙ after_end entries)
+    (whole ∙ c.entries.invariant.1 ∙ ap (λ texts. after entries (entries_from (c.entries.number + 1) texts)) c.in_default.ensures.0 ∙ after_end entries)
 
 pub returns : goal.returns
 returns c =
     let entries = c.entries.entries.items in
     let whole = stack-entries c.args.text.now (sym c.is_text.ensures ∙ c.if-not-is_text.false) in
     rw c.new.ensures
-    (whole ∙ c.entries.invariant.1 ∙ ap (λ texts. after entries (entries_from (c.entries.number + 1) texts)) c.in_default.ensures ∙ after_end entries)
+    (whole ∙ c.entries.invariant.1 ∙ ap (λ texts. after entries (entries_from (c.entries.number + 1) texts)) c.in_default.ensures.0 ∙ after_end entries)
 
 pub entries-preserved-in_ok-push : goal.entries-preserved-in_ok-push
 entries-preserved-in_ok-push c =

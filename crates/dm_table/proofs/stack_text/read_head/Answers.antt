@@ -1,6 +1,6 @@
 use Rattle.std.proofs.Common.{◌∷◌, Ok, Err, ap, sym, ◌∙◌}
 use Rattle.dm_table.specs.Names.{is_mapped_name}
-use Rattle.dm_table.specs.Words.{trimmed}
+use Rattle.dm_table.specs.Words.{trimmed_text}
 use Rattle.dm_table.specs.Reading.{◌>>=◌}
 use Rattle.dm_table.specs.StackText.{head_of, flags_at, is_minor}
 use Rattle.dm_table.proofs.ReadLemmas.{exit_same}
@@ -43,31 +43,31 @@ returns-in_err-line c =
 pub returns-then-not-is_mapped_name : goal.returns-then-not-is_mapped_name
 returns-then-not-is_mapped_name c =
     let fields = onto c.in_ok-name.ensures (onto c.in_ok-_uuid.ensures (onto c.in_ok-minor.ensures (onto c.in_ok-flags.ensures c.in_ok-line.ensures))) in
-    let unnamed = sym (c.is_mapped_name.ensures ∙ ap is_mapped_name c.trimmed-name.ensures) ∙ c.if-not-is_mapped_name.true in
+    let unnamed = sym (c.is_mapped_name.ensures ∙ ap is_mapped_name c.trim-name.ensures) ∙ c.if-not-is_mapped_name.true in
     ap head_of fields ∙ head-name _ _ _ _ _ _ unnamed
 
 pub returns-then-not-is_minor : goal.returns-then-not-is_minor
 returns-then-not-is_minor c =
     let fields = onto c.in_ok-name.ensures (onto c.in_ok-_uuid.ensures (onto c.in_ok-minor.ensures (onto c.in_ok-flags.ensures c.in_ok-line.ensures))) in
-    let named = sym (c.is_mapped_name.ensures ∙ ap is_mapped_name c.trimmed-name.ensures) ∙ c.if-not-is_mapped_name.false in
-    let other = sym (c.is_minor.ensures ∙ ap is_minor c.trimmed.ensures) ∙ c.if-not-is_minor.true in
+    let named = sym (c.is_mapped_name.ensures ∙ ap is_mapped_name c.trim-name.ensures) ∙ c.if-not-is_mapped_name.false in
+    let other = sym (c.is_minor.ensures ∙ ap is_minor c.trim.ensures) ∙ c.if-not-is_minor.true in
     ap head_of fields ∙ head-minor _ _ _ _ _ _ named other
 
 pub returns-in_err-writable : goal.returns-in_err-writable
 returns-in_err-writable c =
     let fields = onto c.in_ok-name.ensures (onto c.in_ok-_uuid.ensures (onto c.in_ok-minor.ensures (onto c.in_ok-flags.ensures c.in_ok-line.ensures))) in
-    let named = sym (c.is_mapped_name.ensures ∙ ap is_mapped_name c.trimmed-name.ensures) ∙ c.if-not-is_mapped_name.false in
-    let numbered = sym (c.is_minor.ensures ∙ ap is_minor c.trimmed.ensures) ∙ c.if-not-is_minor.false in
-    let flags = sym (c.in_err-writable.ensures ∙ ap flags_at c.trimmed-2.ensures) in
+    let named = sym (c.is_mapped_name.ensures ∙ ap is_mapped_name c.trim-name.ensures) ∙ c.if-not-is_mapped_name.false in
+    let numbered = sym (c.is_minor.ensures ∙ ap is_minor c.trim.ensures) ∙ c.if-not-is_minor.false in
+    let flags = sym (c.in_err-writable.ensures ∙ ap flags_at c.trim-2.ensures) in
     exit_same _ _ _ _ c.from_residual-in_err-writable.ensures.1
     (ap head_of fields ∙ head-flags _ _ _ _ _ _ named numbered ∙ after_flags _ _ _ flags)
 
 pub returns : goal.returns
 returns c =
     let fields = onto c.in_ok-name.ensures (onto c.in_ok-_uuid.ensures (onto c.in_ok-minor.ensures (onto c.in_ok-flags.ensures c.in_ok-line.ensures))) in
-    let named = sym (c.is_mapped_name.ensures ∙ ap is_mapped_name c.trimmed-name.ensures) ∙ c.if-not-is_mapped_name.false in
-    let numbered = sym (c.is_minor.ensures ∙ ap is_minor c.trimmed.ensures) ∙ c.if-not-is_minor.false in
-    let flags = sym (c.in_ok-writable.ensures ∙ ap flags_at c.trimmed-2.ensures) in
+    let named = sym (c.is_mapped_name.ensures ∙ ap is_mapped_name c.trim-name.ensures) ∙ c.if-not-is_mapped_name.false in
+    let numbered = sym (c.is_minor.ensures ∙ ap is_minor c.trim.ensures) ∙ c.if-not-is_minor.false in
+    let flags = sym (c.in_ok-writable.ensures ∙ ap flags_at c.trim-2.ensures) in
     ap head_of fields ∙ head-flags _ _ _ _ _ _ named numbered
-    ∙ ap (λ r. r >>= (λ w. Ok (record { name = trimmed c.in_ok-name.name.now; writable = w; lines = c.in_ok-line.line.now ∷ c.take_field-5.new.self }))) flags
-    ∙ ap (λ name. Ok (record { name = name; writable = c.in_ok-writable.writable; lines = c.in_ok-line.line.now ∷ c.take_field-5.new.self })) (sym c.trimmed-name.ensures)
+    ∙ ap (λ r. r >>= (λ w. Ok (record { name = trimmed_text c.in_ok-name.name.now; writable = w; lines = c.in_ok-line.line.now ∷ c.take_field-5.new.self }))) flags
+    ∙ ap (λ name. Ok (record { name = name; writable = c.in_ok-writable.writable; lines = c.in_ok-line.line.now ∷ c.take_field-5.new.self })) (sym c.trim-name.ensures)

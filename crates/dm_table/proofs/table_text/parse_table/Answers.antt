@@ -34,19 +34,19 @@ pub returns-then-is_empty : goal.returns-then-is_empty
 returns-then-is_empty c =
     let lines = c.lines.lines.items in
     let whole = table-lines c.args.text.now (sym c.is_text.ensures ∙ c.if-not-is_text.false) in
-    let read = c.lines.invariant.1 ∙ ap (λ texts. after lines (table_lines (c.lines.number + 1) texts)) c.in_default.ensures ∙ after_end lines in
+    let read = c.lines.invariant.1 ∙ ap (λ texts. after lines (table_lines (c.lines.number + 1) texts)) c.in_default.ensures.0 ∙ after_end lines in
     rw c.fault-then-is_empty.ensures (whole ∙ ap (λ r. r >>= some_lines) read ∙ some_lines-none lines (let none = eqb-true _ 0 (sym c.is_empty.ensures ∙ c.if-is_empty.true) in omega (arith, c.lines.lines.ok.0)))
 
 pub new-requires-2 : goal.new-requires-2
 new-requires-2 c =
     let lines = c.lines.lines.items in
     let whole = table-lines c.args.text.now (sym c.is_text.ensures ∙ c.if-not-is_text.false) in
-    let read = c.lines.invariant.1 ∙ ap (λ texts. after lines (table_lines (c.lines.number + 1) texts)) c.in_default.ensures ∙ after_end lines in
+    let read = c.lines.invariant.1 ∙ ap (λ texts. after lines (table_lines (c.lines.number + 1) texts)) c.in_default.ensures.0 ∙ after_end lines in
     table-grammar c.args.text.now lines (whole ∙ ap (λ r. r >>= some_lines) read ∙ some_lines-some lines (λ none. let some = eqb-false _ 0 (sym c.is_empty.ensures ∙ c.if-is_empty.false) in omega (arith, c.lines.lines.ok.0)))
 
 pub returns : goal.returns
 returns c =
     let lines = c.lines.lines.items in
     let whole = table-lines c.args.text.now (sym c.is_text.ensures ∙ c.if-not-is_text.false) in
-    let read = c.lines.invariant.1 ∙ ap (λ texts. after lines (table_lines (c.lines.number + 1) texts)) c.in_default.ensures ∙ after_end lines in
+    let read = c.lines.invariant.1 ∙ ap (λ texts. after lines (table_lines (c.lines.number + 1) texts)) c.in_default.ensures.0 ∙ after_end lines in
     rw c.new-2.ensures (whole ∙ ap (λ r. r >>= some_lines) read ∙ some_lines-some lines (λ none. let some = eqb-false _ 0 (sym c.is_empty.ensures ∙ c.if-is_empty.false) in omega (arith, c.lines.lines.ok.0)))

@@ -1,6 +1,6 @@
 use Rattle.std.proofs.Common.{[], sym, ◌∙◌, arith}
 use Rattle.std.proofs.lemmas.List.{take_more_same, length-map}
-use Rattle.hash_tree.proofs.Blocks.{blocks_of, block_read, ne_differ, ne_same}
+use Rattle.hash_tree.proofs.BlockListLemmas.{blocks_of, block_read, ne_differ, ne_same}
 use Rattle.hash_tree.proofs.difference.first_difference.Goals as goal
 
 pub returns-then-ne-clause-found : goal.returns-then-ne-clause-found

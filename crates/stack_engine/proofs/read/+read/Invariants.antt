@@ -3,13 +3,19 @@ use Rattle.stack_loader.specs.Names.{mapped}
 use Rattle.stack_loader.specs.Descend.{depth}
 use Rattle.stack_engine.specs.Reading.{Reads}
 use Rattle.stack_engine.specs.Sources.{source_depth}
+use Rattle.stack_engine.specs.Caches.{KeepsCache}
 use Rattle.stack_engine.proofs.read.+read.Given as goal
 
-abbrev pub decreases-read_run : goal.decreases-read_run
-decreases-read_run g l = 2 * source_depth l.config.now l.source
+-- 8 times the depth and a rank, of which 0 to 4 are left for the steps of a target
+
+abbrev pub decreases-read_lower : goal.decreases-read_lower
+decreases-read_lower g l = 8 * depth l.config.now l.lower + 7
 
 abbrev pub decreases-read_device : goal.decreases-read_device
-decreases-read_device g l = 2 * depth l.config.now (mapped l.d.0) + 1
+decreases-read_device g l = 8 * depth l.config.now (mapped l.d.0) + 6
+
+abbrev pub decreases-read_run : goal.decreases-read_run
+decreases-read_run g l = 8 * source_depth l.config.now l.source + 5
 
 -- the bytes so far are those of a read of so many sectors
 abbrev pub invariant-read_device-loop-at : goal.invariant-read_device-loop-at
@@ -17,7 +23,8 @@ invariant-read_device-loop-at g l = record {
   whole : l.at % 512 ≡ 0;
   within : l.at ≤ length l.out;
   so_far : Reads l.config (mapped l.d.0) l.first (l.at / 512)
-      (map g.D.BlockDev.state l.fn.devices) (map g.D.BlockDev.state l.devices) l.fn.found.items l.found.items (Ok tt) (take l.at l.out);
+      (record { old = map g.D.BlockDev.state l.fn.reader.devices.items; new = map g.D.BlockDev.state l.reader.devices.items; before = l.fn.found.items; after = l.found.items }) (Ok (take l.at l.out));
+  cached : KeepsCache l.config (map g.D.BlockDev.state l.reader.devices.items) l.fn.reader.cache l.reader.cache;
 }
 
 abbrev pub decreases-read_device-loop-at : goal.decreases-read_device-loop-at

@@ -8,8 +8,8 @@ use Rattle.dm_table.specs.Grammar.{IsStripedOfGrammar}
 use Rattle.stack_loader.specs.Records.{Configuration}
 use Rattle.stack_loader.specs.Rules.{IsLoaded}
 use Rattle.stack_engine.specs.Sources.{HasTarget}
-use Rattle.stack_engine.proofs.Loaded.{device-there}
-use Rattle.stack_engine.proofs.Stripes.{striped-small, striped-lies}
+use Rattle.stack_engine.proofs.LoadedLemmas.{device-there}
+use Rattle.stack_engine.proofs.StripeLemmas.{striped-small, striped-lies}
 use Rattle.stack_engine.proofs.serve.striped_run.Goals as goal
 
 base_at : (bases : List Base) (k : ℕ) (base : Base) → 1 ≤ length bases → base ≡ get_or bases (k % length bases) base → slice_get bases (k % length bases) ≡ Some base
@@ -39,7 +39,9 @@ lower-lower-requires-clause-device c =
 pub returns-clause-come : goal.returns-clause-come
 returns-clause-come c =
     let part : c.args.within % c.args.chunk < c.args.chunk = mod_below c.args.within c.args.chunk (omega (arith, c.requires.grammar.chunk_some)) in
-    let count = c.min-count.ensures in
-    striped-lies c.args.config.now c.args.d.0 c.args.line c.args.chunk c.args.bases.now c.args.within c.args.count c.requires.loaded c.requires.grammar c.requires.line c.index-bases-stripe.result
-    (base_at c.args.bases.now (c.args.within / c.args.chunk) c.index-bases-stripe.result c.requires.grammar.some c.index-bases-stripe.is)
-    c.min-count.result (omega (arith, count, part, c.requires.some)) (omega (arith, count)) (omega (arith, count, part)) c.lower-lower.result c.lower-lower.ensures
+    let count = c.min-count.ensures in (
+      tt,
+      striped-lies c.args.config.now c.args.d.0 c.args.line c.args.chunk c.args.bases.now c.args.within c.args.count c.requires.loaded c.requires.grammar c.requires.line c.index-bases-stripe.result
+          (base_at c.args.bases.now (c.args.within / c.args.chunk) c.index-bases-stripe.result c.requires.grammar.some c.index-bases-stripe.is)
+          c.min-count.result (omega (arith, count, part, c.requires.some)) (omega (arith, count)) (omega (arith, count, part)) c.lower-lower.result c.lower-lower.ensures,
+    )

@@ -6,13 +6,21 @@ use Rattle.stack_loader.specs.Rules.{rules, duplicate_names, after_load}
 use Rattle.stack_loader.proofs.Loading.{checked-moved, fault-moved}
 use Rattle.stack_loader.proofs.Passed.{IsFirst-passed, passed-IsFirst}
 use Rattle.stack_loader.proofs.Scan.{first-none, first-some}
-use Rattle.stack_loader.proofs.Stages.{right}
+use Rattle.stack_loader.proofs.Stages.{right, many-first}
+use Rattle.stack_loader.proofs.After.{too-many}
 use Rattle.stack_loader.proofs.check.next_load.Goals as goal
 
 pub returns-in-Some : goal.returns-in-Some
 returns-in-Some c =
     let c' : Configuration = configuration c.args.leaves.now c.args.devices.now in
     first-some (duplicate_names [] c.args.entries.now) (rules (after_load c' c.args.entries.now)) c.in-Some.refusal (sym c.in_ok-refusal.ensures ∙ c.in-Some.is)
+
+pub returns-then-is_over_full : goal.returns-then-is_over_full
+returns-then-is_over_full c =
+    let c' : Configuration = configuration c.args.leaves.now c.args.devices.now in
+    let fresh = sym c.in_ok-refusal.ensures ∙ c.in-None.is in
+    first-none (duplicate_names [] c.args.entries.now) (rules (after_load c' c.args.entries.now)) fresh
+    ∙ many-first (after_load c' c.args.entries.now) (too-many c' c.args.entries.now (c.is_over_full.ensures.0 c.if-is_over_full.true))
 
 pub returns-in_err-facts : goal.returns-in_err-facts
 returns-in_err-facts c =

@@ -1,11 +1,11 @@
 use Rattle.std.proofs.Common.{arith, refl, ◌∙◌, ◌<◌, length}
-use Rattle.stack_session.proofs.SectorLemmas.{saying_starts, saying_more}
+use Rattle.stack_session.proofs.SectorTextLemmas.{saying_starts, saying_more}
 use Rattle.stack_session.proofs.reply.say_sectors.Goals as goal
 
 pub sectors-init : goal.sectors-init
 sectors-init g c = record {
   saying = saying_starts c.args.first c.args.bytes.now (g.W.Write.contents c.args.writer.now.inner) c.requires.whole;
-  told = refl;
+  kept = refl;
 }
 
 pub sectors-preserved : goal.sectors-preserved
@@ -14,5 +14,5 @@ sectors-preserved g c =
     record {
       saying = rw c.split_at.ensures.back (saying_more (g.W.Write.contents c.say_sector.new.writer.inner) c.sectors.invariant.saying some
           (rw c.split_at.ensures.front at c.in_ok-say_sector.ensures.ok));
-      told = c.in_ok-say_sector.ensures.told ∙ c.sectors.invariant.told;
+      kept = c.in_ok-say_sector.ensures.kept ∙ c.sectors.invariant.kept;
     }

@@ -1,6 +1,6 @@
 use Rattle.std.proofs.Common.{◌∙◌, ap, length}
 use Rattle.std.proofs.lemmas.Result.{IfOk-weaker}
-use Rattle.verity_format.proofs.AreaSteps.{length-area_bytes}
+use Rattle.verity_format.proofs.AreaLemmas.{length-area_bytes}
 use Rattle.verity_format.proofs.access.area_of.Goals as goal
 
 pub returns-clause-size : goal.returns-clause-size

@@ -1,7 +1,10 @@
-use Rattle.std.proofs.Common.{◌∙◌, ℕ, List, map, ap}
+use Rattle.std.proofs.Common.{◌≡◌, ◌∙◌, ℕ, List, length, map, ap}
+use Rattle.std.specs.Vec.{with_items}
+use Rattle.std.proofs.lemmas.List.{with_items_is, length-replicate}
+use Rattle.hash_tree.specs.Shape.{levels}
 use Rattle.hash_tree.specs.Chain.{ChainRecord}
 use Rattle.verity_format.specs.Blocks.{block_at}
-use Rattle.verity_format.specs.Chain.{stored_chain}
+use Rattle.verity_format.specs.Chain.{stored_chain, stored_path}
 use Rattle.verity_format.proofs.chains.read_chain.Goals as goal
 
 chain_of : ℕ → List ℕ → List (List ℕ) → ChainRecord
@@ -10,7 +13,16 @@ chain_of i content path = record { index = i; content = content; path = path }
 pub returns-clause-ok : goal.returns-clause-ok
 unfolding stored_chain chain_of
 returns-clause-ok g c = λ data_steady hash_steady.
-    let content = c.in_ok-content.ensures.block data_steady in
-    let path = c.in_ok-path.ensures.path hash_steady in
-    let image = (g.D.BlockDev.state c.args.data_dev.now).image in
-    ap (λ xs. chain_of c.args.index xs (map (λ b. b.items) c.in_ok-path.path.items)) (content ∙ ap (λ size. block_at image size c.args.index) c.data_block.ensures.value) ∙ ap (chain_of c.args.index (block_at image c.args.shape.now.data_block c.args.index)) path
+    let shape = c.args.shape.now in
+    let data_image = (g.D.BlockDev.state c.args.data_dev.now).image in
+    let hash_image = (g.H.BlockDev.state c.args.hash_dev.now).image in
+    let size : length c.deref_mut-2.result.now ≡ shape.data_block =
+    c.deref_mut-2.ensures.len ∙ c.in_ok-content.content.ok.0 ∙ ap length c.in_ok-content.ensures ∙ length-replicate {A = ℕ} c.data_block.result 0 ∙ c.data_block.ensures.value in
+    let content : (with_items c.in_ok-content.content c.read_block.new.block).items ≡ block_at data_image shape.data_block c.args.index =
+    with_items_is c.in_ok-content.content c.read_block.new.block (c.read_block.auto.block ∙ c.deref_mut-2.ensures.len)
+    ∙ c.in_ok-read_block.ensures.bytes data_steady
+    ∙ ap (λ n. block_at data_image n c.args.index) size in
+    let path : map (λ b. b.items) (with_items c.in_ok-path.path c.read_path.new.path).items ≡ stored_path shape hash_image (levels shape) c.args.index =
+    ap (map (λ b. b.items)) (with_items_is c.in_ok-path.path c.read_path.new.path (c.read_path.auto.path ∙ c.deref_mut.ensures.len)) ∙ c.in_ok-read_path.ensures.path hash_steady in
+    ap (λ xs. chain_of c.args.index xs (map (λ b. b.items) (with_items c.in_ok-path.path c.read_path.new.path).items)) content
+    ∙ ap (chain_of c.args.index (block_at data_image shape.data_block c.args.index)) path

@@ -1,27 +1,74 @@
-use Rattle.std.proofs.Common.{◌≡◌, ◌+◌, ◌-◌, ◌∙◌, ◌++◌, ◌∷◌, [], arith, map, ap}
-use Rattle.std.proofs.lemmas.List.{map-append}
-use Rattle.hash_tree.specs.Shape.{position, ancestor}
-use Rattle.verity_format.specs.Blocks.{block_at}
+use Rattle.std.proofs.Common.{◌≡◌, ◌+◌, ◌-◌, ◌*◌, ◌/◌, ◌∙◌, ℕ, Vec, Global, ◌++◌, [], arith, length, map, take, get_or, sym, ap, subst}
+use Rattle.std.specs.Vec.{with_items}
+use Rattle.std.proofs.lemmas.List.{with_items_is, take_all, append-nil}
+use Rattle.std.proofs.lemmas.List.Elements.{All-set}
+use Rattle.hash_tree.specs.Shape.{position, ancestor, area_end}
+use Rattle.verity_format.specs.Blocks.{block_at, IsFullRead}
 use Rattle.verity_format.specs.Chain.{stored_path}
-use Rattle.verity_format.proofs.DeviceSteps.{only_read-then, steady-then}
-use Rattle.verity_format.proofs.BlockSteps.{path-step}
+use Rattle.verity_format.proofs.DeviceLemmas.{only_read-then, full_read-then, steady-then}
+use Rattle.verity_format.proofs.BlockLemmas.{path-more}
+use Rattle.verity_format.proofs.SizeLemmas.{block-size, block-inside}
 use Rattle.verity_format.proofs.chains.read_path.Goals as goal
 
-pub loop-level-preserved : goal.loop-level-preserved
-loop-level-preserved g c = record {
-  read = only_read-then c.loop-level.invariant.read c.block_of.ensures.read;
-  counted = c.in_ok-block.ensures.counted ∙ c.loop-level.invariant.counted;
-  inside = omega (arith, c.loop-level.invariant.inside);
-  so_far = λ steady.
-      let shape = c.args.shape.now in
-      let image = (g.H.BlockDev.state c.args.hash_dev.now).image in
-      let here : c.in_ok-block.block.items ≡ block_at image shape.hash_block (position shape (c.loop-level.level - 1) (ancestor shape (c.loop-level.level - 1 + 1) c.args.index)) =
-      c.in_ok-block.ensures.block (steady-then c.loop-level.invariant.read.same steady)
-      ∙ ap (λ i. block_at i c.hash_block.result c.position-place.result) (c.loop-level.invariant.read.image steady)
-      ∙ ap (λ n. block_at image n c.position-place.result) c.hash_block.ensures.value
-      ∙ ap (block_at image shape.hash_block) (c.position-place.ensures.value ∙ ap (position shape (c.loop-level.level - 1)) c.block_on_path.ensures.value) in
-      let pushed : c.push.new.self.items ≡ c.loop-level.path.items ++ c.in_ok-block.block ∷ [] = grind (arith, c.push.ensures.items, c.map_err.ensures.variant, c.in_ok-map_err.was) in
-      ap (λ xs. map (λ b. b.items) xs ++ stored_path shape image (c.loop-level.level - 1) c.args.index) pushed
-      ∙ ap (λ xs. xs ++ stored_path shape image (c.loop-level.level - 1) c.args.index) (map-append (λ b. b.items) c.loop-level.path.items (c.in_ok-block.block ∷ []))
-      ∙ path-step shape image c.loop-level.level c.args.index (map (λ b. b.items) c.loop-level.path.items) c.in_ok-block.block.items _ (omega arith) here (c.loop-level.invariant.so_far steady);
-}
+-- the block's memory has the size of a hash block
+memory-size : (v : Vec ℕ Global) (size n : ℕ) → length v.items ≡ size → n ≡ v.len → n ≡ size
+memory-size v size n sized long = long ∙ v.ok.0 ∙ sized
+
+pub read_block-requires-clause-some : goal.read_block-requires-clause-some
+read_block-requires-clause-some g c =
+    let size = memory-size (get_or c.loop-i.path c.loop-i.i c.index-path-i.result) c.args.shape.now.hash_block (length c.deref_mut.result.now) (c.loop-i.invariant.sized c.loop-i.i c.index-path-i.result (omega arith)) c.deref_mut.ensures.len in
+    omega (arith, size, (block-size c.args.shape.now.hash_block c.requires.valid.hash_size).some)
+
+pub read_block-requires-clause-whole : goal.read_block-requires-clause-whole
+read_block-requires-clause-whole g c =
+    let size = memory-size (get_or c.loop-i.path c.loop-i.i c.index-path-i.result) c.args.shape.now.hash_block (length c.deref_mut.result.now) (c.loop-i.invariant.sized c.loop-i.i c.index-path-i.result (omega arith)) c.deref_mut.ensures.len in
+    rw size (block-size c.args.shape.now.hash_block c.requires.valid.hash_size).whole
+
+pub read_block-requires-clause-inside : goal.read_block-requires-clause-inside
+read_block-requires-clause-inside g c =
+    let size = memory-size (get_or c.loop-i.path c.loop-i.i c.index-path-i.result) c.args.shape.now.hash_block (length c.deref_mut.result.now) (c.loop-i.invariant.sized c.loop-i.i c.index-path-i.result (omega arith)) c.deref_mut.ensures.len in
+    let room = block-inside c.position-place.result (area_end c.args.shape.now) (c.args.shape.now.hash_block / 512) c.position-place.ensures.inside in
+    rw size (omega (arith, room, c.requires.fits, c.loop-i.invariant.read.same.size))
+
+pub read_block-requires-clause-few : goal.read_block-requires-clause-few
+read_block-requires-clause-few g c =
+    let size = memory-size (get_or c.loop-i.path c.loop-i.i c.index-path-i.result) c.args.shape.now.hash_block (length c.deref_mut.result.now) (c.loop-i.invariant.sized c.loop-i.i c.index-path-i.result (omega arith)) c.deref_mut.ensures.len in
+    let room = block-inside c.position-place.result (area_end c.args.shape.now) (c.args.shape.now.hash_block / 512) c.position-place.ensures.inside in
+    rw size (omega (arith, room, c.requires.valid.tree_fits))
+
+pub loop-i-preserved : goal.loop-i-preserved
+loop-i-preserved g c =
+    let shape = c.args.shape.now in
+    let image = (g.H.BlockDev.state c.args.hash_dev.now).image in
+    let i = c.loop-i.i in
+    let old : Vec ℕ Global = get_or c.loop-i.path i c.index-path-i.result in
+    let sized = c.loop-i.invariant.sized i c.index-path-i.result (omega arith) in
+    let size : length c.deref_mut.result.now ≡ shape.hash_block = memory-size old shape.hash_block (length c.deref_mut.result.now) sized c.deref_mut.ensures.len in
+    let long : length c.read_block.new.block ≡ old.len = c.read_block.auto.block ∙ size ∙ sym sized ∙ sym old.ok.0 in
+    record {
+      read = only_read-then c.loop-i.invariant.read c.read_block.ensures.read;
+      full =
+          full_read-then _ _ _ c.loop-i.invariant.full
+          (subst (λ (n : ℕ). IsFullRead (g.H.BlockDev.state c.loop-i.hash_dev) (n / 512) (g.H.BlockDev.state c.read_block.new.device)) size c.in_ok-read_block.ensures.full)
+          (let e : i * (shape.hash_block / 512) + shape.hash_block / 512 ≡ (i + 1) * (shape.hash_block / 512) = grind arith in e);
+      left = omega (arith, c.loop-i.invariant.left);
+      sized = All-set (λ (b : Vec ℕ Global). length b.items ≡ shape.hash_block) c.loop-i.path i (with_items old c.read_block.new.block) (ap length (with_items_is old c.read_block.new.block long) ∙ c.read_block.auto.block ∙ size) c.loop-i.invariant.sized;
+      so_far = λ steady.
+          let here : c.read_block.new.block ≡ block_at image shape.hash_block (position shape (c.loop-i.level - 1) (ancestor shape (c.loop-i.level - 1 + 1) c.args.index)) =
+          c.in_ok-read_block.ensures.bytes (steady-then c.loop-i.invariant.read.same steady)
+          ∙ ap (λ im. block_at im (length c.deref_mut.result.now) c.position-place.result) (c.loop-i.invariant.read.image steady)
+          ∙ ap (λ n. block_at image n c.position-place.result) size
+          ∙ ap (block_at image shape.hash_block) (c.position-place.ensures.value ∙ ap (position shape (c.loop-i.level - 1)) c.block_on_path.ensures.value) in
+          path-more shape image c.loop-i.level c.args.index i c.loop-i.path old c.read_block.new.block _ (omega arith) long (omega (arith, c.loop-i.invariant.left, c.requires.count)) here (c.loop-i.invariant.so_far steady);
+    }
+
+pub returns-clause-path : goal.returns-clause-path
+returns-clause-path g c = λ steady.
+    let shape = c.args.shape.now in
+    let image = (g.H.BlockDev.state c.args.hash_dev.now).image in
+    let low : c.loop-i.level ≡ 0 = omega (arith, c.loop-i.invariant.left, c.requires.count, c.loop-i.auto.path) in
+    let all : take c.loop-i.i c.loop-i.path ≡ c.loop-i.path = take_all c.loop-i.i c.loop-i.path (omega (arith, c.loop-i.auto.path)) in
+    sym (append-nil (map (λ b. b.items) c.loop-i.path))
+    ∙ ap (λ xs. map (λ b. b.items) xs ++ []) (sym all)
+    ∙ ap (λ n. map (λ b. b.items) (take c.loop-i.i c.loop-i.path) ++ stored_path shape image n c.args.index) (sym low)
+    ∙ c.loop-i.invariant.so_far steady

@@ -1,18 +1,16 @@
-use Rattle.std.proofs.Common.{◌≡◌, ◌≤◌, ◌++◌, IsTrue, map}
+use Rattle.std.proofs.Common.{◌≡◌, ◌+◌, ◌*◌, ◌/◌, ◌++◌, IsTrue, All, length, map, take}
 use Rattle.hash_tree.specs.Shape.{levels}
-use Rattle.verity_format.specs.Blocks.{IsOnlyRead}
+use Rattle.verity_format.specs.Blocks.{IsOnlyRead, IsFullRead}
 use Rattle.verity_format.specs.Chain.{stored_path}
 use Rattle.verity_format.proofs.chains.read_path.Given as goal
 
-abbrev pub invariant-loop-level : goal.invariant-loop-level
-invariant-loop-level g l = record {
+abbrev pub invariant-loop-i : goal.invariant-loop-i
+invariant-loop-i g l = record {
   read : IsOnlyRead (g.H.BlockDev.state l.fn.hash_dev) (g.H.BlockDev.state l.hash_dev);
-  counted : (g.H.BlockDev.state l.hash_dev).failures ≡ (g.H.BlockDev.state l.fn.hash_dev).failures;
-  inside : l.level ≤ levels l.shape;
+  full : IsFullRead (g.H.BlockDev.state l.fn.hash_dev) (l.i * (l.shape.hash_block / 512)) (g.H.BlockDev.state l.hash_dev);
+  left : l.level + l.i ≡ levels l.shape;
+  sized : All (λ b. length b.items ≡ l.shape.hash_block) l.path;
   so_far : IsTrue (g.H.BlockDev.state l.fn.hash_dev).steady
-      → map (λ b. b.items) l.path.items ++ stored_path l.shape (g.H.BlockDev.state l.fn.hash_dev).image l.level l.index
+      → map (λ b. b.items) (take l.i l.path) ++ stored_path l.shape (g.H.BlockDev.state l.fn.hash_dev).image l.level l.index
       ≡ stored_path l.shape (g.H.BlockDev.state l.fn.hash_dev).image (levels l.shape) l.index;
 }
-
-abbrev pub decreases-loop-level : goal.decreases-loop-level
-decreases-loop-level g l = l.level

@@ -1,6 +1,6 @@
 use Rattle.std.proofs.Common.{◌∙◌, ◌==◌, ap, length, take}
 use Rattle.std.specs.Prelude.{unwrap_or}
-use Rattle.verity_format.proofs.Fields.{take-position}
+use Rattle.verity_format.proofs.FieldLemmas.{take-position}
 use Rattle.verity_format.proofs.decoding.before_zero.Goals as goal
 
 pub returns : goal.returns

@@ -2,7 +2,7 @@ use Rattle.std.proofs.Common.{◌≡◌, ◌∙◌, ap, sym, arith, Some}
 use Rattle.verity_format.specs.declared.formatting.FormatFault.TheVariants.{HashTooSmall}
 use Rattle.verity_format.specs.Superblock.{shape_of}
 use Rattle.verity_format.specs.Image.{data_sectors, image_sectors}
-use Rattle.verity_format.proofs.Refusals.{data_too_small, hash_too_small, read_only, not_refused}
+use Rattle.verity_format.proofs.RefusalLemmas.{data_too_small, hash_too_small, read_only, not_refused}
 use Rattle.verity_format.proofs.formatting.check_devices.Goals as goal
 
 pub returns-then-sectors-data_sectors : goal.returns-then-sectors-data_sectors

@@ -1,13 +1,16 @@
-use Rattle.std.proofs.Common.{◌≡◌, ◌+◌, ◌*◌, ◌/◌, ◌%◌, ◌∙◌, ◌++◌, ℕ, List, refl, sym, ap, subst, length, arith}
+use Rattle.std.proofs.Common.{◌≡◌, ◌*◌, ◌%◌, ◌∙◌, ℕ, List, true, refl, sym, ap, subst, length, arith, inr}
 use Rattle.std.specs.List.{concat}
 use Rattle.std.proofs.lemmas.Result.{err_from_is_err_and}
-use Rattle.block_device.specs.Device.{spliced, sectors_of as cut_into}
+use Rattle.block_device.specs.Device.{Device, IsWritten}
 use Rattle.hash_tree.specs.Shape.{ShapeRecord, IsShape, area_blocks}
 use Rattle.verity_format.specs.Superblock.{SuperRecord, shape_of}
-use Rattle.verity_format.specs.Blocks.{IsOnlyWritten}
-use Rattle.verity_format.specs.Image.{data_sectors, image_sectors, first_block, area_over, root_over}
-use Rattle.verity_format.proofs.Refusals.{fits-from_none, refusal-cause}
-use Rattle.verity_format.proofs.Sizes.{block-size, image-room}
+use Rattle.verity_format.specs.Blocks.{IsFullRead, IsOnlyWritten}
+use Rattle.verity_format.specs.Access.{IsTreeOver}
+use Rattle.verity_format.specs.Image.{data_sectors, first_block, area_over, root_over}
+use Rattle.verity_format.proofs.RefusalLemmas.{fits-from_none, refusal-cause}
+use Rattle.verity_format.proofs.SizeLemmas.{block-size}
+use Rattle.verity_format.proofs.DeviceLemmas.{only_written-write}
+use Rattle.verity_format.proofs.FormattingLemmas.{IsContent, content-made, image-formatted, torn-only_written, torn-cause, tree-cause}
 use Rattle.verity_format.proofs.formatting.format.Goals as goal
 
 pub returns-in_err-check_devices-clause-err : goal.returns-in_err-check_devices-clause-err
@@ -20,6 +23,18 @@ tree_over-requires g c =
     let fits = fits-from_none c.args.params (g.D.BlockDev.state c.args.data_dev.now) (g.H.BlockDev.state c.args.hash_dev.now) (sym c.in_ok-check_devices.ensures) in
     omega (arith, fits.0, ap data_sectors c.shape.ensures.value)
 
+pub returns-in_err-area-clause-err : goal.returns-in_err-area-clause-err
+returns-in_err-area-clause-err g c =
+    let p = err_from_is_err_and c.from_residual-in_err-area.result c.from_residual-in_err-area.ensures.1 in
+    rw (p.1, p.2) (tree-cause c.args.params (g.D.BlockDev.state c.args.data_dev.now) (g.H.BlockDev.state c.args.hash_dev.now) (g.D.BlockDev.state c.tree_over.new.device) _ c.in_err-area.ensures.fault)
+
+-- the content that is written
+content-of : (s : SuperRecord) (shape : ShapeRecord) (salt : List ℕ) (data_dev data_dev' : Device) (first area bytes root : List ℕ) → IsShape (shape_of s) → shape ≡ shape_of s → salt ≡ s.salt
+    → first ≡ first_block s → length first ≡ s.hash_block → area ≡ bytes → IsTreeOver shape salt data_dev data_dev' bytes root → IsContent s data_dev first area
+content-of s shape salt data_dev data_dev' first area bytes root valid is salted first_is long same over =
+    content-made s data_dev first area valid first_is long (ap length same ∙ over.size ∙ ap (λ t. area_blocks t * t.hash_block) is)
+    (λ steady. same ∙ over.area steady ∙ ap (λ t. concat (area_over t salt data_dev.image)) is ∙ ap (λ salt. concat (area_over (shape_of s) salt data_dev.image)) salted)
+
 pub write_image-requires-clause-some : goal.write_image-requires-clause-some
 write_image-requires-clause-some g c =
     let block = block-size c.args.params.hash_block c.shape.ensures.valid.hash_size in
@@ -31,16 +46,11 @@ write_image-requires-clause-first g c =
     let size : length c.deref.result.now ≡ c.args.params.hash_block = ap length c.deref.ensures.value ∙ c.in_ok-first.ensures.size in
     ap (λ n. n % 512) size ∙ block.whole
 
--- the sectors that are written are those of the image
-written-sectors : (s : SuperRecord) (shape : ShapeRecord) (first area : List ℕ) → IsShape (shape_of s) → shape ≡ shape_of s → length first ≡ s.hash_block → length area ≡ area_blocks shape * shape.hash_block
-    → length first / 512 + length area / 512 ≡ image_sectors (shape_of s)
-written-sectors s shape first area valid is one more = image-room (shape_of s) valid (length first) (length area) one (more ∙ ap (λ t. area_blocks t * t.hash_block) is)
-
 pub write_image-requires-clause-inside : goal.write_image-requires-clause-inside
 write_image-requires-clause-inside g c =
     let fits = fits-from_none c.args.params (g.D.BlockDev.state c.args.data_dev.now) (g.H.BlockDev.state c.args.hash_dev.now) (sym c.in_ok-check_devices.ensures) in
-    let count = written-sectors c.args.params c.shape.result c.deref.result.now c.deref-2.result.now c.shape.ensures.valid c.shape.ensures.value (ap length c.deref.ensures.value ∙ c.in_ok-first.ensures.size) (ap length c.deref-2.ensures.value ∙ c.in_ok-area.ensures.size) in
-    omega (arith, count, fits.1)
+    let content = content-of c.args.params c.shape.result c.salt.result (g.D.BlockDev.state c.args.data_dev.now) (g.D.BlockDev.state c.tree_over.new.device) c.deref.result.now c.deref-2.result.now _ _ c.shape.ensures.valid c.shape.ensures.value c.salt.ensures (c.deref.ensures.value ∙ c.in_ok-first.ensures.value) (ap length c.deref.ensures.value ∙ c.in_ok-first.ensures.size) c.deref-2.ensures.value c.in_ok-area.ensures.tree in
+    omega (arith, content.count, fits.1)
 
 pub write_image-requires-clause-allowed : goal.write_image-requires-clause-allowed
 write_image-requires-clause-allowed g c =
@@ -49,30 +59,38 @@ write_image-requires-clause-allowed g c =
 
 pub returns-in_err-write_image-clause-devices : goal.returns-in_err-write_image-clause-devices
 returns-in_err-write_image-clause-devices g c =
-    let count = written-sectors c.args.params c.shape.result c.deref.result.now c.deref-2.result.now c.shape.ensures.valid c.shape.ensures.value (ap length c.deref.ensures.value ∙ c.in_ok-first.ensures.size) (ap length c.deref-2.ensures.value ∙ c.in_ok-area.ensures.size) in
-    (c.tree_over.ensures.read, subst (λ (n : ℕ). IsOnlyWritten (g.H.BlockDev.state c.args.hash_dev.now) n (g.H.BlockDev.state c.write_image.new.hash_dev)) count c.write_image.ensures.written)
+    let content = content-of c.args.params c.shape.result c.salt.result (g.D.BlockDev.state c.args.data_dev.now) (g.D.BlockDev.state c.tree_over.new.device) c.deref.result.now c.deref-2.result.now _ _ c.shape.ensures.valid c.shape.ensures.value c.salt.ensures (c.deref.ensures.value ∙ c.in_ok-first.ensures.value) (ap length c.deref.ensures.value ∙ c.in_ok-first.ensures.size) c.deref-2.ensures.value c.in_ok-area.ensures.tree in
+    let hash_dev = g.H.BlockDev.state c.args.hash_dev.now in
+    let hash_dev' = g.H.BlockDev.state c.write_image.new.hash_dev in
+    (c.tree_over.ensures.read, subst (λ (n : ℕ). IsOnlyWritten hash_dev n hash_dev') content.count (torn-only_written hash_dev hash_dev' c.deref.result.now c.deref-2.result.now c.in_err-write_image.ensures.torn))
+
+pub returns-in_err-write_image-clause-err : goal.returns-in_err-write_image-clause-err
+returns-in_err-write_image-clause-err g c =
+    let p = err_from_is_err_and c.from_residual-in_err-write_image.result c.from_residual-in_err-write_image.ensures.1 in
+    let content = content-of c.args.params c.shape.result c.salt.result (g.D.BlockDev.state c.args.data_dev.now) (g.D.BlockDev.state c.tree_over.new.device) c.deref.result.now c.deref-2.result.now _ _ c.shape.ensures.valid c.shape.ensures.value c.salt.ensures (c.deref.ensures.value ∙ c.in_ok-first.ensures.value) (ap length c.deref.ensures.value ∙ c.in_ok-first.ensures.size) c.deref-2.ensures.value c.in_ok-area.ensures.tree in
+    let hash_dev = g.H.BlockDev.state c.args.hash_dev.now in
+    let hash_dev' = g.H.BlockDev.state c.write_image.new.hash_dev in
+    rw (p.1, p.2) (inr (torn-cause c.args.params (g.D.BlockDev.state c.args.data_dev.now) hash_dev hash_dev' c.deref.result.now c.deref-2.result.now content c.in_err-write_image.ensures.fault c.in_err-write_image.ensures.torn))
 
 pub returns-clause-devices : goal.returns-clause-devices
 returns-clause-devices g c =
-    let count = written-sectors c.args.params c.shape.result c.deref.result.now c.deref-2.result.now c.shape.ensures.valid c.shape.ensures.value (ap length c.deref.ensures.value ∙ c.in_ok-first.ensures.size) (ap length c.deref-2.ensures.value ∙ c.in_ok-area.ensures.size) in
-    (c.tree_over.ensures.read, subst (λ (n : ℕ). IsOnlyWritten (g.H.BlockDev.state c.args.hash_dev.now) n (g.H.BlockDev.state c.write_image.new.hash_dev)) count c.write_image.ensures.written)
+    let content = content-of c.args.params c.shape.result c.salt.result (g.D.BlockDev.state c.args.data_dev.now) (g.D.BlockDev.state c.tree_over.new.device) c.deref.result.now c.deref-2.result.now _ _ c.shape.ensures.valid c.shape.ensures.value c.salt.ensures (c.deref.ensures.value ∙ c.in_ok-first.ensures.value) (ap length c.deref.ensures.value ∙ c.in_ok-first.ensures.size) c.deref-2.ensures.value c.in_ok-area.ensures.tree in
+    let hash_dev = g.H.BlockDev.state c.args.hash_dev.now in
+    let hash_dev' = g.H.BlockDev.state c.write_image.new.hash_dev in
+    (c.tree_over.ensures.read, subst (λ (n : ℕ). IsOnlyWritten hash_dev n hash_dev') content.count (only_written-write 0 _ _ c.in_ok-write_image.ensures.ok.written (omega arith)))
 
 pub returns-clause-ok : goal.returns-clause-ok
-returns-clause-ok g c = λ data_steady hash_steady.
+returns-clause-ok g c =
     let s : SuperRecord = c.args.params in
-    let data_image = (g.D.BlockDev.state c.args.data_dev.now).image in
-    let hash_image = (g.H.BlockDev.state c.args.hash_dev.now).image in
-    let tree = c.in_ok-area.ensures.tree data_steady in
-    let count : length c.deref.result.now / 512 + length c.deref-2.result.now / 512 ≡ image_sectors (shape_of s) =
-    written-sectors s c.shape.result c.deref.result.now c.deref-2.result.now c.shape.ensures.valid c.shape.ensures.value (ap length c.deref.ensures.value ∙ c.in_ok-first.ensures.size) (ap length c.deref-2.ensures.value ∙ c.in_ok-area.ensures.size) in
-    let first : c.deref.result.now ≡ first_block s = c.deref.ensures.value ∙ c.in_ok-first.ensures.value in
-    let area : c.deref-2.result.now ≡ concat (area_over (shape_of s) s.salt data_image) =
-    c.deref-2.ensures.value ∙ tree.0 ∙ ap (λ t. concat (area_over t c.salt.result data_image)) c.shape.ensures.value ∙ ap (λ salt. concat (area_over (shape_of s) salt data_image)) c.salt.ensures in
+    let data_dev = g.D.BlockDev.state c.args.data_dev.now in
+    let data_dev' = g.D.BlockDev.state c.tree_over.new.device in
+    let hash_dev = g.H.BlockDev.state c.args.hash_dev.now in
+    let hash_dev' = g.H.BlockDev.state c.write_image.new.hash_dev in
+    let content = content-of c.args.params c.shape.result c.salt.result (g.D.BlockDev.state c.args.data_dev.now) (g.D.BlockDev.state c.tree_over.new.device) c.deref.result.now c.deref-2.result.now _ _ c.shape.ensures.valid c.shape.ensures.value c.salt.ensures (c.deref.ensures.value ∙ c.in_ok-first.ensures.value) (ap length c.deref.ensures.value ∙ c.in_ok-first.ensures.size) c.deref-2.ensures.value c.in_ok-area.ensures.tree in
+    let tree = c.in_ok-area.ensures.tree in
     record {
-      image =
-          c.in_ok-write_image.ensures.ok hash_steady
-          ∙ ap (λ n. spliced hash_image 0 (cut_into n (c.deref.result.now ++ c.deref-2.result.now))) count
-          ∙ ap (λ xs. spliced hash_image 0 (cut_into (image_sectors (shape_of s)) (xs ++ c.deref-2.result.now))) first
-          ∙ ap (λ xs. spliced hash_image 0 (cut_into (image_sectors (shape_of s)) (first_block s ++ xs))) area;
-      digest = tree.1 ∙ ap (λ t. root_over t c.salt.result data_image) c.shape.ensures.value ∙ ap (λ salt. root_over (shape_of s) salt data_image) c.salt.ensures;
+      read = subst (λ (t : ShapeRecord). IsFullRead data_dev (data_sectors t) data_dev') c.shape.ensures.value tree.read;
+      written = subst (λ (n : ℕ). IsWritten hash_dev 0 n true hash_dev') content.count c.in_ok-write_image.ensures.ok.written;
+      image = λ data_steady hash_steady. c.in_ok-write_image.ensures.ok.image hash_steady ∙ image-formatted s data_dev hash_dev.image _ _ content data_steady;
+      digest = λ steady. tree.root steady ∙ ap (λ t. root_over t c.salt.result data_dev.image) c.shape.ensures.value ∙ ap (λ salt. root_over (shape_of s) salt data_dev.image) c.salt.ensures;
     }

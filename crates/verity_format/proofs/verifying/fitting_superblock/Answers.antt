@@ -2,8 +2,8 @@ use Rattle.std.proofs.Common.{◌≡◌, ◌≤◌, ◌∙◌, inl, inr, None, s
 use Rattle.std.proofs.lemmas.Result.{err_from_is_err_and}
 use Rattle.verity_format.specs.Superblock.{SuperRecord, shape_of, super_fault, read_of}
 use Rattle.verity_format.specs.Image.{data_sectors, tree_sectors}
-use Rattle.verity_format.proofs.Fields.{same-read, no_fault-from_Carries}
-use Rattle.verity_format.proofs.Refusals.{read-cause, past_a_device, not_past}
+use Rattle.verity_format.proofs.FieldLemmas.{same-read, no_fault-from_Carries}
+use Rattle.verity_format.proofs.RefusalLemmas.{read-cause, past_a_device, not_past}
 use Rattle.verity_format.proofs.verifying.fitting_superblock.Goals as goal
 use Rattle.verity_format.proofs.verifying.fitting_superblock.Goals.{then-sectors-data_sectors-via-then-sectors-data_sectors, then-sectors-data_sectors-via-else-sectors-data_sectors+then-sectors-tree_sectors}
 

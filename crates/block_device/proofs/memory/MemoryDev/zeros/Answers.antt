@@ -1,4 +1,4 @@
-use Rattle.std.proofs.Common.{◌∙◌, sym, ap}
+use Rattle.std.proofs.Common.{◌∙◌, sym}
 use Rattle.std.proofs.lemmas.List.{length-replicate}
 use Rattle.block_device.specs.Device.{filled, zeros_image}
 use Rattle.block_device.specs.Whole.{each-replicate}

@@ -1,5 +1,4 @@
-use Rattle.std.proofs.Common.{◌≡◌, ℕ, ◌+◌, ◌-◌, ◌*◌, ◌/◌, ◌%◌, ◌≤◌, length, take, drop, refl, sym, ap, ◌∙◌, arith}
-use Rattle.block_device.specs.Device.{sectors_of}
+use Rattle.std.proofs.Common.{ℕ, ◌+◌, ◌/◌, length, take, drop, refl, sym, ap, ◌∙◌, arith}
 use Rattle.block_device.specs.Whole.{length-sectors_of}
 use Rattle.block_device.proofs.lemmas.SectorLemmas.{after_put, take-spliced, drop-spliced}
 use Rattle.block_device.proofs.memory.MemoryDevBlockDev.write.Goals as goal

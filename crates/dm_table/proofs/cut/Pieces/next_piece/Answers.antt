@@ -7,7 +7,9 @@ use Rattle.dm_table.proofs.cut.Pieces.next_piece.Goals as goal
 
 pub returns-in_err-rest : goal.returns-in_err-rest
 unfolding pieces_left
-returns-in_err-rest c = rw c.from_residual.ensures (sym c.self.view_is ∙ ap (pieces_left c.self.inside.separator) c.in_err-rest.was)
+returns-in_err-rest c =
+    let none = sym c.self.view_is ∙ ap (pieces_left c.self.inside.separator) c.in_err-rest.was in
+    rw c.from_residual.ensures (none, none)
 
 pub returns : goal.returns
 returns c =

@@ -6,7 +6,8 @@ use Rattle.dm_table.proofs.cut.Words.next_word.Goals as goal
 pub returns-then-end-eq0 : goal.returns-then-end-eq0
 returns-then-end-eq0 c =
     let found = simp take_rest at c.word_len-end.ensures.value in
-    sym c.self.view_is ∙ words-empty c.self.inside.rest.now _ _ c.white_len.ensures.value found c.if-end-eq0.true
+    let none = sym c.self.view_is ∙ words-empty c.self.inside.rest.now _ _ c.white_len.ensures.value found c.if-end-eq0.true in
+    (none, none)
 
 pub returns : goal.returns
 returns c =

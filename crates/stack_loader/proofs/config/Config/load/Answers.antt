@@ -6,12 +6,17 @@ use Rattle.stack_loader.specs.Records.{Configuration, configuration}
 use Rattle.stack_loader.specs.Facts.{IsNext}
 use Rattle.stack_loader.specs.Passing.{IsFirst}
 use Rattle.stack_loader.specs.Rules.{first, load_rules, after_load, first_refusal}
+use Rattle.stack_loader.proofs.lemmas.ValidLineLemmas.{few}
 use Rattle.stack_loader.proofs.Loading.{moved, kept-next, refused-first}
+use Rattle.stack_loader.proofs.CycleRefusalLemmas.{refusal-of}
 use Rattle.stack_loader.proofs.Passed.{IsFirst-passed}
 use Rattle.stack_loader.proofs.config.Config.load.Goals as goal
 
-pub next_load-requires : goal.next_load-requires
-next_load-requires c = rw c.as_slice.ensures.value c.self.invariant.loaded.leaves.count
+pub next_load-requires-clause-devices : goal.next_load-requires-clause-devices
+next_load-requires-clause-devices c = rw c.as_slice-2.ensures.value (few (configuration c.self.inside.leaves.items c.self.inside.devices.items) c.self.invariant.loaded.valid)
+
+pub next_load-requires-clause-leaves : goal.next_load-requires-clause-leaves
+next_load-requires-clause-leaves c = rw c.as_slice.ensures.value c.self.invariant.loaded.leaves.count
 
 pub invariant_of-self : goal.invariant_of-self
 invariant_of-self c =
@@ -45,4 +50,4 @@ returns-in_err-next-clause-refused c = λ r e.
     let is = moved P c.as_slice.result.now c.self.inside.leaves.items c.as_slice-2.result.now c.self.inside.devices.items c.as_slice-3.result.now c.args.text.now
     c.as_slice.ensures.value c.as_slice-2.ensures.value c.as_slice-3.ensures.value
     (IsFirst-passed (IsNext (configuration c.as_slice.result.now c.as_slice-2.result.now) c.as_slice-3.result.now) c.in_err-next.field-0.0 (load_rules (configuration c.as_slice.result.now c.as_slice-2.result.now) c.as_slice-3.result.now) c.in_err-next.ensures) in
-    ap (λ c0. first (load_rules c0 c.args.text.now)) (sym c.self.view_is) ∙ refused-first c.in_err-next.field-0.0 (load_rules now c.args.text.now) r fault is
+    refusal-of c.args.self.now c.args.text.now r (ap (λ c0. first (load_rules c0 c.args.text.now)) (sym c.self.view_is) ∙ refused-first c.in_err-next.field-0.0 (load_rules now c.args.text.now) r fault is)

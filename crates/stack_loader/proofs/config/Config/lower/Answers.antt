@@ -11,7 +11,7 @@ pub index-requires : goal.index-requires
 index-requires c =
     let now : Configuration = record { leaves = c.self.inside.leaves.items; devices = c.self.inside.devices.items } in
     let inside = rw (← c.self.view_is) at c.requires.device in
-    omega (arith, inside, length-lowers now c.self.inside.lowers.items c.self.invariant.each_name, c.self.inside.lowers.ok.0)
+    omega (arith, inside, length-lowers now c.self.inside.facts.lowers.items c.self.invariant.facts.lowers, c.self.inside.facts.lowers.ok.0)
 
 -- a row with an element is within the table
 inside_rows : (rows : List (List Lower)) (l i : ℕ) → i < length (get_or rows l []) → l < length rows
@@ -26,9 +26,9 @@ at-requires-clause-name c =
     let now : Configuration = record { leaves = c.self.inside.leaves.items; devices = c.self.inside.devices.items } in
     let inside = rw (← c.self.view_is) at c.requires.device in
     let some = rw (← c.self.view_is) at c.requires.name in
-    let within : c.args.d.0 < length c.self.inside.lowers.items = omega (arith, inside, length-lowers now c.self.inside.lowers.items c.self.invariant.each_name) in
-    let is = get_or_read c.self.inside.lowers.items c.args.d.0 c.index.result.now within c.index.ensures [] in
-    rw is (omega (arith, some, length-row now c.self.inside.lowers.items c.args.d.0 c.args.line c.self.invariant.each_name))
+    let within : c.args.d.0 < length c.self.inside.facts.lowers.items = omega (arith, inside, length-lowers now c.self.inside.facts.lowers.items c.self.invariant.facts.lowers) in
+    let is = get_or_read c.self.inside.facts.lowers.items c.args.d.0 c.index.result.now within c.index.ensures [] in
+    rw is (omega (arith, some, length-row now c.self.inside.facts.lowers.items c.args.d.0 c.args.line c.self.invariant.facts.lowers))
 
 pub at-requires-clause-line : goal.at-requires-clause-line
 at-requires-clause-line c = inside_rows c.index.result.now c.args.line c.args.i (at-requires-clause-name c)
@@ -37,6 +37,6 @@ pub returns : goal.returns
 returns c =
     let now : Configuration = record { leaves = c.self.inside.leaves.items; devices = c.self.inside.devices.items } in
     let inside = rw (← c.self.view_is) at c.requires.device in
-    let within : c.args.d.0 < length c.self.inside.lowers.items = omega (arith, inside, length-lowers now c.self.inside.lowers.items c.self.invariant.each_name) in
-    let is = get_or_read c.self.inside.lowers.items c.args.d.0 c.index.result.now within c.index.ensures [] in
-    rw (← c.self.view_is) (lower_at-kept now c.self.inside.lowers.items c.args.d.0 c.args.line c.args.i c.at.result c.self.invariant.each_name (rw is at c.at.ensures))
+    let within : c.args.d.0 < length c.self.inside.facts.lowers.items = omega (arith, inside, length-lowers now c.self.inside.facts.lowers.items c.self.invariant.facts.lowers) in
+    let is = get_or_read c.self.inside.facts.lowers.items c.args.d.0 c.index.result.now within c.index.ensures [] in
+    rw (← c.self.view_is) (lower_at-kept now c.self.inside.facts.lowers.items c.args.d.0 c.args.line c.args.i c.at.result c.self.invariant.facts.lowers (rw is at c.at.ensures))

@@ -8,10 +8,10 @@ pub index-requires : goal.index-requires
 index-requires c =
     let now : Configuration = record { leaves = c.self.inside.leaves.items; devices = c.self.inside.devices.items } in
     let inside = rw (← c.self.view_is) at c.requires in
-    omega (arith, inside, length-each_mapped (read_cost now) (length now.devices) c.self.inside.read_costs.items c.self.invariant.each_read, c.self.inside.read_costs.ok.0)
+    omega (arith, inside, length-each_mapped (read_cost now) (length now.devices) c.self.inside.facts.read_costs.items c.self.invariant.facts.reads, c.self.inside.facts.read_costs.ok.0)
 
 pub returns : goal.returns
 returns c =
     let now : Configuration = record { leaves = c.self.inside.leaves.items; devices = c.self.inside.devices.items } in
     let inside = rw (← c.self.view_is) at c.requires in
-    rw (← c.self.view_is) (each_mapped-at (read_cost now) (length now.devices) c.self.inside.read_costs.items c.args.d.0 c.index.result.now c.self.invariant.each_read inside c.index.ensures)
+    rw (← c.self.view_is) (each_mapped-at (read_cost now) (length now.devices) c.self.inside.facts.read_costs.items c.args.d.0 c.index.result.now c.self.invariant.facts.reads inside c.index.ensures)

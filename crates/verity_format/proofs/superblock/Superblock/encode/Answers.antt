@@ -2,7 +2,7 @@
 use Rattle.std.proofs.Common.{◌≡◌, ◌∙◌, ap, ℕ, length, List, arith}
 use Rattle.std.specs.Int.{w16, w32, w64, to_le_bytes}
 use Rattle.verity_format.specs.Superblock.{IsSuperblock, SuperRecord, Carries}
-use Rattle.verity_format.proofs.Spelled.{written, carried-spelling, put_at}
+use Rattle.verity_format.proofs.SpellingLemmas.{written, carried-spelling, put_at}
 use Rattle.verity_format.proofs.superblock.Superblock.encode.Goals as goal
 
 pub returns-clause-value : goal.returns-clause-value

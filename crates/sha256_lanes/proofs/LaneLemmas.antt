@@ -1,0 +1,94 @@
+-- What holds of each of the eight lanes.
+use Rattle.std.proofs.Common.{◌≡◌, ℕ, zero, suc, ◌<◌, ◌+◌, ◌-◌, ◌*◌, ◌/◌, ◌%◌, ◌^◌, List, [], ◌∷◌, length, slice_index, bit_or, arith, refl, subst}
+use Rattle.std.specs.Simd.Lanes.{zip2}
+use Rattle.std.specs.Int.{rotate_right, w32}
+use Rattle.std.specs.Prelude.{slice_set}
+use Rattle.sha256_lanes.specs.Lanes.{word_of_lane, state_of_lane, words_of_lane}
+
+pub below_eight : (P : ℕ → Type 0) → P 0 → P 1 → P 2 → P 3 → P 4 → P 5 → P 6 → P 7 → (j : ℕ) → j < 8 → P j
+below_eight P p0 p1 p2 p3 p4 p5 p6 p7 zero h = p0
+below_eight P p0 p1 p2 p3 p4 p5 p6 p7 (suc zero) h = p1
+below_eight P p0 p1 p2 p3 p4 p5 p6 p7 (suc (suc zero)) h = p2
+below_eight P p0 p1 p2 p3 p4 p5 p6 p7 (suc (suc (suc zero))) h = p3
+below_eight P p0 p1 p2 p3 p4 p5 p6 p7 (suc (suc (suc (suc zero)))) h = p4
+below_eight P p0 p1 p2 p3 p4 p5 p6 p7 (suc (suc (suc (suc (suc zero))))) h = p5
+below_eight P p0 p1 p2 p3 p4 p5 p6 p7 (suc (suc (suc (suc (suc (suc zero)))))) h = p6
+below_eight P p0 p1 p2 p3 p4 p5 p6 p7 (suc (suc (suc (suc (suc (suc (suc zero))))))) h = p7
+below_eight P p0 p1 p2 p3 p4 p5 p6 p7 (suc (suc (suc (suc (suc (suc (suc (suc n)))))))) h = absurd (omega arith)
+
+pub eight_lanes : (P : List ℕ → Type 0) → ((a b c d e f g i : ℕ) → P (a ∷ b ∷ c ∷ d ∷ e ∷ f ∷ g ∷ i ∷ [])) → (xs : List ℕ) → length xs ≡ 8 → P xs
+eight_lanes P p (a ∷ b ∷ c ∷ d ∷ e ∷ f ∷ g ∷ i ∷ []) h = p a b c d e f g i
+eight_lanes P p ([]) h = absurd (omega arith)
+eight_lanes P p (a ∷ []) h = absurd (omega arith)
+eight_lanes P p (a ∷ b ∷ []) h = absurd (omega arith)
+eight_lanes P p (a ∷ b ∷ c ∷ []) h = absurd (omega arith)
+eight_lanes P p (a ∷ b ∷ c ∷ d ∷ []) h = absurd (omega arith)
+eight_lanes P p (a ∷ b ∷ c ∷ d ∷ e ∷ []) h = absurd (omega arith)
+eight_lanes P p (a ∷ b ∷ c ∷ d ∷ e ∷ f ∷ []) h = absurd (omega arith)
+eight_lanes P p (a ∷ b ∷ c ∷ d ∷ e ∷ f ∷ g ∷ []) h = absurd (omega arith)
+eight_lanes P p (a ∷ b ∷ c ∷ d ∷ e ∷ f ∷ g ∷ i ∷ k ∷ xs) h = absurd (omega arith)
+
+-- two shifts of each lane and an or are a rotation
+abbrev Rotates : ℕ → List ℕ → Type 0
+Rotates k a = (j : ℕ) → j < 8
+    → slice_index (zip2 bit_or (zip2 (λ x n. x / 2 ^ n) a (k ∷ k ∷ k ∷ k ∷ k ∷ k ∷ k ∷ k ∷ [])) (zip2 (λ x n. x * 2 ^ n % 2 ^ 32) a ((32 - k) ∷ (32 - k) ∷ (32 - k) ∷ (32 - k) ∷ (32 - k) ∷ (32 - k) ∷ (32 - k) ∷ (32 - k) ∷ []))) j
+    ≡ rotate_right w32 (slice_index a j) k
+
+pub shifts_rotate : (k : ℕ) → 0 < k → k < 32 → (a : List ℕ) → length a ≡ 8 → Rotates k a
+shifts_rotate k low high =
+    let left : k % 32 ≡ k = omega arith in
+    let right : (32 - k) % 32 ≡ 32 - k = omega arith in
+    eight_lanes (Rotates k) (λ a0 a1 a2 a3 a4 a5 a6 a7.
+    below_eight _ (rw (left, right) refl) (rw (left, right) refl) (rw (left, right) refl) (rw (left, right) refl) (rw (left, right) refl) (rw (left, right) refl) (rw (left, right) refl) (rw (left, right) refl))
+
+below_two : (P : ℕ → Type 0) → P 0 → P 1 → (j : ℕ) → j < 2 → P j
+below_two P p0 p1 zero h = p0
+below_two P p0 p1 (suc zero) h = p1
+below_two P p0 p1 (suc (suc n)) h = absurd (omega arith)
+
+pub shifts : (k : ℕ) → k < 32 → (a : List ℕ) → length a ≡ 8 → (j : ℕ) → j < 8
+    → slice_index (zip2 (λ x n. x / 2 ^ n) a (k ∷ k ∷ k ∷ k ∷ k ∷ k ∷ k ∷ k ∷ [])) j ≡ slice_index a j / 2 ^ k
+shifts k high =
+    eight_lanes (λ a. (j : ℕ) → j < 8 → slice_index (zip2 (λ x n. x / 2 ^ n) a (k ∷ k ∷ k ∷ k ∷ k ∷ k ∷ k ∷ k ∷ [])) j ≡ slice_index a j / 2 ^ k) (λ a0 a1 a2 a3 a4 a5 a6 a7.
+    below_eight _ refl refl refl refl refl refl refl refl)
+
+pub below_sixteen : (P : ℕ → Type 0) → P 0 → P 1 → P 2 → P 3 → P 4 → P 5 → P 6 → P 7
+    → P 8 → P 9 → P 10 → P 11 → P 12 → P 13 → P 14 → P 15 → (k : ℕ) → k < 16 → P k
+below_sixteen P a0 a1 a2 a3 a4 a5 a6 a7 b0 b1 b2 b3 b4 b5 b6 b7 k h =
+    let place : 8 * (k / 8) + k % 8 ≡ k = omega arith in
+    subst P place (below_two (λ row. (col : ℕ) → col < 8 → P (8 * row + col))
+    (below_eight _ a0 a1 a2 a3 a4 a5 a6 a7) (below_eight _ b0 b1 b2 b3 b4 b5 b6 b7)
+    (k / 8) (omega arith) (k % 8) (omega arith))
+
+-- word k of message j
+pub slice_index-words_of_lane : (x : List (List ℕ)) (j k : ℕ) → k < 16 → slice_index (words_of_lane j x) k ≡ word_of_lane x k j
+slice_index-words_of_lane x j = below_sixteen _ refl refl refl refl refl refl refl refl refl refl refl refl refl refl refl refl
+
+pub sixteen_words : (P : List (List ℕ) → Type 0) → ((a0 a1 a2 a3 a4 a5 a6 a7 a8 a9 a10 a11 a12 a13 a14 a15 : List ℕ) → P (a0 ∷ a1 ∷ a2 ∷ a3 ∷ a4 ∷ a5 ∷ a6 ∷ a7 ∷ a8 ∷ a9 ∷ a10 ∷ a11 ∷ a12 ∷ a13 ∷ a14 ∷ a15 ∷ [])) → (xs : List (List ℕ)) → length xs ≡ 16 → P xs
+sixteen_words P p (a0 ∷ a1 ∷ a2 ∷ a3 ∷ a4 ∷ a5 ∷ a6 ∷ a7 ∷ a8 ∷ a9 ∷ a10 ∷ a11 ∷ a12 ∷ a13 ∷ a14 ∷ a15 ∷ []) h = p a0 a1 a2 a3 a4 a5 a6 a7 a8 a9 a10 a11 a12 a13 a14 a15
+sixteen_words P p ([]) h = absurd (omega arith)
+sixteen_words P p (a0 ∷ []) h = absurd (omega arith)
+sixteen_words P p (a0 ∷ a1 ∷ []) h = absurd (omega arith)
+sixteen_words P p (a0 ∷ a1 ∷ a2 ∷ []) h = absurd (omega arith)
+sixteen_words P p (a0 ∷ a1 ∷ a2 ∷ a3 ∷ []) h = absurd (omega arith)
+sixteen_words P p (a0 ∷ a1 ∷ a2 ∷ a3 ∷ a4 ∷ []) h = absurd (omega arith)
+sixteen_words P p (a0 ∷ a1 ∷ a2 ∷ a3 ∷ a4 ∷ a5 ∷ []) h = absurd (omega arith)
+sixteen_words P p (a0 ∷ a1 ∷ a2 ∷ a3 ∷ a4 ∷ a5 ∷ a6 ∷ []) h = absurd (omega arith)
+sixteen_words P p (a0 ∷ a1 ∷ a2 ∷ a3 ∷ a4 ∷ a5 ∷ a6 ∷ a7 ∷ []) h = absurd (omega arith)
+sixteen_words P p (a0 ∷ a1 ∷ a2 ∷ a3 ∷ a4 ∷ a5 ∷ a6 ∷ a7 ∷ a8 ∷ []) h = absurd (omega arith)
+sixteen_words P p (a0 ∷ a1 ∷ a2 ∷ a3 ∷ a4 ∷ a5 ∷ a6 ∷ a7 ∷ a8 ∷ a9 ∷ []) h = absurd (omega arith)
+sixteen_words P p (a0 ∷ a1 ∷ a2 ∷ a3 ∷ a4 ∷ a5 ∷ a6 ∷ a7 ∷ a8 ∷ a9 ∷ a10 ∷ []) h = absurd (omega arith)
+sixteen_words P p (a0 ∷ a1 ∷ a2 ∷ a3 ∷ a4 ∷ a5 ∷ a6 ∷ a7 ∷ a8 ∷ a9 ∷ a10 ∷ a11 ∷ []) h = absurd (omega arith)
+sixteen_words P p (a0 ∷ a1 ∷ a2 ∷ a3 ∷ a4 ∷ a5 ∷ a6 ∷ a7 ∷ a8 ∷ a9 ∷ a10 ∷ a11 ∷ a12 ∷ []) h = absurd (omega arith)
+sixteen_words P p (a0 ∷ a1 ∷ a2 ∷ a3 ∷ a4 ∷ a5 ∷ a6 ∷ a7 ∷ a8 ∷ a9 ∷ a10 ∷ a11 ∷ a12 ∷ a13 ∷ []) h = absurd (omega arith)
+sixteen_words P p (a0 ∷ a1 ∷ a2 ∷ a3 ∷ a4 ∷ a5 ∷ a6 ∷ a7 ∷ a8 ∷ a9 ∷ a10 ∷ a11 ∷ a12 ∷ a13 ∷ a14 ∷ []) h = absurd (omega arith)
+sixteen_words P p (a0 ∷ a1 ∷ a2 ∷ a3 ∷ a4 ∷ a5 ∷ a6 ∷ a7 ∷ a8 ∷ a9 ∷ a10 ∷ a11 ∷ a12 ∷ a13 ∷ a14 ∷ a15 ∷ a ∷ xs) h = absurd (omega arith)
+
+-- a word written into the ring is written into each message's ring
+pub words_of_lane-set : (j : ℕ) (y : List ℕ) (x : List (List ℕ)) → length x ≡ 16 → (k : ℕ) → k < 16 → words_of_lane j (slice_set x k y) ≡ slice_set (words_of_lane j x) k (slice_index y j)
+words_of_lane-set j y = sixteen_words (λ x. (k : ℕ) → k < 16 → words_of_lane j (slice_set x k y) ≡ slice_set (words_of_lane j x) k (slice_index y j)) (λ a0 a1 a2 a3 a4 a5 a6 a7 a8 a9 a10 a11 a12 a13 a14 a15.
+    below_sixteen _ refl refl refl refl refl refl refl refl refl refl refl refl refl refl refl refl)
+
+-- working variable k of message j
+pub slice_index-state_of_lane : (x : List (List ℕ)) (j k : ℕ) → k < 8 → slice_index (state_of_lane j x) k ≡ word_of_lane x k j
+slice_index-state_of_lane x j = below_eight _ refl refl refl refl refl refl refl refl

@@ -1,0 +1,3 @@
+mod BitLemmas
+mod LaneLemmas
+mod PaddingLemmas

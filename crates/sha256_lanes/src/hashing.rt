@@ -1,0 +1,49 @@
+// The hash of eight messages, FIPS 180-4, section 6.2.
+ghost use Rattle.std.specs.Prelude.{◌≡◌, ℕ, ◌*◌, ◌/◌, ◌+◌, ◌^◌, ◌<◌, [], length, take, drop, slice_index_or};
+ghost use Rattle.sha2.specs.Sha256.{sha256, compress, padded_message};
+ghost use Rattle.sha256_lanes.specs.Lanes.{state_of_lane, message};
+
+use crate::digests::digests;
+use crate::message::message_blocks;
+use crate::rounds;
+use std::simd::prelude::*;
+
+// Takes message block `index` of each message into its lane.
+#[inline(always)]
+fn take_in(state: &mut [u32x8; 8], prefix: &[u8], blocks: &[u8], size: usize, index: usize)
+    requires blocks { length blocks.now ≡ 8 * size }
+    requires room { length prefix.now + size + 136 < 2 ^ 64 }
+    requires inside { index < (length prefix.now + size + 72) / 64 }
+    ensures { (j : ℕ) → j < 8 → state_of_lane j state.new ≡ compress (state_of_lane j state.old) (take 64 (drop (index * 64) (padded_message (message prefix.now blocks.now size j)))) }
+{
+    let at = index * 64;
+    if prefix.len() <= at && at + 64 <= prefix.len() + size {
+        let from = at - prefix.len();
+        rounds::compress(state, blocks, from, size);
+    } else {
+        let bytes = message_blocks(prefix, blocks, size, index);
+        rounds::compress(state, &bytes, 0, 64);
+    }
+}
+
+/// SHA-256 of the prefix followed by each of eight blocks of `size` bytes, which stand one after another.
+pub fn digest_eight(prefix: &[u8], blocks: &[u8], size: usize) -> [[u8; 32]; 8]
+    requires { length blocks.now ≡ 8 * size }
+    ensures { (j : ℕ) → j < 8 → slice_index_or result j [] ≡ sha256 (message prefix.now blocks.now size j) }
+{
+    let count = (prefix.len() + size + 72) / 64;
+    let mut state = [
+        u32x8::splat(0x6a09e667),
+        u32x8::splat(0xbb67ae85),
+        u32x8::splat(0x3c6ef372),
+        u32x8::splat(0xa54ff53a),
+        u32x8::splat(0x510e527f),
+        u32x8::splat(0x9b05688c),
+        u32x8::splat(0x1f83d9ab),
+        u32x8::splat(0x5be0cd19),
+    ];
+    for index in 0..count {
+        take_in(&mut state, prefix, blocks, size, index);
+    }
+    digests(&state)
+}

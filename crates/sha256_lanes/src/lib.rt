@@ -1,0 +1,16 @@
+//! SHA-256 (FIPS 180-4) of eight messages of one length side by side.
+#![tactic(auto)]
+
+mod big_endian;
+mod digests;
+#[cfg(test)]
+mod expected;
+mod functions;
+mod hashing;
+mod message;
+mod rounds;
+#[cfg(test)]
+mod tests;
+mod vectors;
+
+pub use hashing::digest_eight;

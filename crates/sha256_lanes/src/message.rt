@@ -1,0 +1,64 @@
+// The message blocks of a padded message that is given in two parts.
+ghost use Rattle.std.specs.Prelude.{◌≡◌, ℕ, ◌+◌, ◌-◌, ◌*◌, ◌/◌, ◌^◌, ◌<◌, ◌≤◌, ◌++◌, length, take, drop, slice_index};
+ghost use Rattle.sha2.specs.Sha256.{padded_message};
+ghost use Rattle.sha256_lanes.specs.Lanes.{message};
+
+// Writes what of `piece`, which begins at byte `start` of a message, lies in the 64 bytes from `at` on.
+#[inline(always)]
+fn overlay(out: &mut [u8; 64], at: usize, piece: &[u8], start: usize)
+    requires room { (at + 64 < 2 ^ 64) × (start + length piece.now < 2 ^ 64) }
+    ensures inside { (k : ℕ) → k < 64 → start ≤ at + k → at + k < start + length piece.now → slice_index out.new k ≡ slice_index piece.now (at + k - start) }
+    ensures before { (k : ℕ) → k < 64 → at + k < start → slice_index out.new k ≡ slice_index out.old k }
+    ensures after { (k : ℕ) → k < 64 → start + length piece.now ≤ at + k → slice_index out.new k ≡ slice_index out.old k }
+{
+    let from = at.max(start);
+    let to = (at + 64).min(start + piece.len());
+    if from < to {
+        out[from - at..to - at].copy_from_slice(&piece[from - start..to - start]);
+    }
+}
+
+// Message block `index` of a message in two parts.
+fn message_block(prefix: &[u8], block: &[u8], index: usize) -> [u8; 64]
+    requires room { length prefix.now + length block.now + 136 < 2 ^ 64 }
+    requires inside { index < (length prefix.now + length block.now + 72) / 64 }
+    ensures { (k : ℕ) → k < 64 → slice_index result k ≡ slice_index (padded_message (prefix.now ++ block.now)) (index * 64 + k) }
+{
+    let at = index * 64;
+    let start = prefix.len();
+    let len = start + block.len();
+    let end = (len + 72) / 64 * 64 - 8;
+    let bits = (len as u64).wrapping_mul(8).to_be_bytes();
+    let mut out = [0u8; 64];
+    overlay(&mut out, at, prefix, 0);
+    overlay(&mut out, at, block, start);
+    overlay(&mut out, at, &[0x80], len);
+    overlay(&mut out, at, &bits, end);
+    out
+}
+
+// Block j.
+#[inline(always)]
+fn block(blocks: &[u8], size: usize, j: usize) -> &[u8]
+    requires blocks { length blocks.now ≡ 8 * size }
+    requires inside { j < 8 }
+    ensures value { result.now ≡ take size (drop (j * size) blocks.now) }
+    ensures size { length result.now ≡ size }
+{
+    &blocks[j * size..j * size + size]
+}
+
+// Message block `index` of each message, one after another.
+pub(crate) fn message_blocks(prefix: &[u8], blocks: &[u8], size: usize, index: usize) -> [u8; 512]
+    requires blocks { length blocks.now ≡ 8 * size }
+    requires room { length prefix.now + size + 136 < 2 ^ 64 }
+    requires inside { index < (length prefix.now + size + 72) / 64 }
+    ensures { (j : ℕ) → j < 8 → take 64 (drop (j * 64) result) ≡ take 64 (drop (index * 64) (padded_message (message prefix.now blocks.now size j))) }
+{
+    let mut out = [0u8; 512];
+    for j in 0..8usize {
+        let row = message_block(prefix, block(blocks, size, j), index);
+        out[j * 64..j * 64 + 64].copy_from_slice(&row);
+    }
+    out
+}

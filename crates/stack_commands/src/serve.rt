@@ -1,0 +1,32 @@
+// The command `session`: serves the lines of a reader.
+ghost use Rattle.std.specs.Prelude.{false, ◌≡◌};
+
+use crate::bindings::Binding;
+use crate::fault::CommandFault;
+use crate::opening::{OpenLeaves, open_all};
+use stack_engine::Stack;
+use stack_loader::Config;
+use stack_session::{Counted, session};
+use std::fs::File;
+use std::io::{Read, Write};
+use std::rt::Files;
+
+/// `session [--cache N] BINDING...`: a session over the bindings.
+pub fn serve_files<'a, R: Files<File = File> + AllocGlobal, S: Read, W: Write>(
+    rt: &R,
+    cache: u32,
+    bindings: &[Binding<'a>],
+    reader: &mut Counted<S>,
+    writer: &mut Counted<W>,
+) -> Result<(), CommandFault<'a>>
+    requires reader { reader.old.failed ≡ false }
+    requires writer { writer.old.failed ≡ false }
+{
+    let OpenLeaves { leaves, devices } = open_all(rt, bindings)?;
+    let config = Config::new(rt.alloc(), leaves)?;
+    let Ok(mut stack) = Stack::new(rt.alloc(), config, devices, cache) else {
+        return Err(CommandFault::NoMemory);
+    };
+    session(rt.alloc(), &mut stack, reader, writer)?;
+    Ok(())
+}

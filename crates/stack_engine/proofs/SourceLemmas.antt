@@ -1,0 +1,140 @@
+-- What is read from where a device's sectors come from, and what is read of the device.
+use Rattle.std.proofs.Common.{◌≡◌, ℕ, ◌+◌, ◌-◌, ◌*◌, ◌<◌, ◌≤◌, List, length, ◌++◌, take, replicate, Option, Result, Ok, Err, refl, sym, ap, ◌∙◌, subst, arith}
+use Rattle.std.proofs.lemmas.List.{take-replicate, drop-replicate, length-replicate}
+use Rattle.block_device.specs.Device.{Device}
+use Rattle.dm_table.specs.declared.table.Target.{Target}
+use Rattle.stack_loader.specs.declared.lower.Lower.{Lower}
+use Rattle.stack_loader.specs.declared.lower.Lower.TheVariants.{Leaf}
+use Rattle.stack_loader.specs.Records.{Configuration}
+use Rattle.stack_loader.specs.Names.{mapped}
+use Rattle.stack_loader.specs.Descend.{known, depth, read_cost}
+use Rattle.stack_loader.specs.Rules.{IsLoaded}
+use Rattle.stack_engine.specs.declared.fault.IoFault.{IoFault}
+use Rattle.stack_engine.specs.declared.fault.IoFault.TheVariants as io
+use Rattle.stack_engine.specs.declared.source.Source.{Source}
+use Rattle.stack_engine.specs.declared.source.Source.TheVariants.{Below, Zeros, Fails}
+use Rattle.stack_engine.specs.Outcomes.{error_target, zero_sector}
+use Rattle.stack_engine.specs.Found.{FoundRecord, AllKept}
+use Rattle.stack_engine.specs.Meaning.{Said, none_said, line_said, said_at}
+use Rattle.stack_engine.specs.May.{part}
+use Rattle.stack_engine.specs.Leaves.{images_of}
+use Rattle.stack_engine.specs.Places.{place_of, run_expected, Read}
+use Rattle.stack_engine.specs.Sources.{ComeFrom, IsServed, source_said, source_cost, source_place, source_depth, SourceHolds, ReadsSource}
+use Rattle.stack_engine.specs.Reading.{Gets, Reads}
+use Rattle.stack_engine.proofs.lemmas.SectorLemmas.{said_by_name, said_at-line, line_said-beneath}
+use Rattle.stack_engine.proofs.CostLemmas.{cost-falls}
+use Rattle.stack_engine.proofs.LoadedLemmas.{depth-falls}
+use Rattle.stack_engine.proofs.lemmas.LeafListLemmas.{AreRead-none}
+use Rattle.stack_engine.proofs.lemmas.FoundLemmas.{said_at-mono, Grown-none, kept-later}
+use Rattle.stack_engine.proofs.lemmas.SpanLemmas.{span_zeros, span_fails}
+use Rattle.stack_engine.proofs.lemmas.RunLemmas.{run_ok, run_err, Passes, pass}
+
+-- ---- what is said of the sectors where those of a device come from
+
+module _ (c : Configuration) (d l : ℕ) (target : Target) (w n j : ℕ) (below : j < n) where
+  come-said : (source : Source) → ComeFrom c target w n source → line_said (said_by_name c) d l target (w + j) ≡ source_said c source j
+  come-said (Below lower first) come =
+      let on = come.1 in
+      line_said-beneath (said_by_name c) d l target (w + j) (on.name, first + j) come.0 (on.under j below)
+      ∙ ap (λ (o : Option Lower). known {A = ℕ → Said} (λ t. none_said) (said_at c) o (first + j)) on.is
+  come-said Zeros come = ap (λ (t : Target). line_said (said_by_name c) d l t (w + j)) come
+  come-said Fails come = ap (λ (t : Target). line_said (said_by_name c) d l t (w + j)) come
+
+served-said : (c : Configuration) (d s n j : ℕ) (source : Source) → IsLoaded c → j < n → IsServed c d s n source → source_said c source j ≡ said_at c (mapped d) (s + j)
+served-said c d s n j source loaded below r =
+    sym (said_at-line c loaded.valid d s j r.number r.line r.found r.start (omega (arith, below, r.fits)) ∙ come-said c d r.number r.line.target (s - r.line.start) n j below source r.come)
+
+pub served-cost : (c : Configuration) (d s n : ℕ) (source : Source) → IsLoaded c → 0 < n → IsServed c d s n source → source_cost c source ≤ read_cost c (mapped d)
+served-cost c d s n (Below lower first) loaded some r =
+    let on = r.come.1 in
+    cost-falls c d r.number r.line (s - r.line.start + 0) (on.name, first + 0) lower loaded.valid r.is (on.under 0 some) on.is
+served-cost c d s n Zeros loaded some r = omega arith
+served-cost c d s n Fails loaded some r = omega arith
+
+-- the lower device stands less deep
+pub served-depth : (c : Configuration) (d s n : ℕ) (source : Source) → IsLoaded c → 0 < n → IsServed c d s n source → source_depth c source ≤ depth c (mapped d)
+served-depth c d s n (Below lower first) loaded some r =
+    let on = r.come.1 in
+    let falls = depth-falls c d r.number r.line (s - r.line.start + 0) (on.name, first + 0) lower loaded.valid r.is (on.under 0 some) on.is in omega (arith, falls)
+served-depth c d s n Zeros loaded some r = omega arith
+served-depth c d s n Fails loaded some r = omega arith
+
+pub served-holds : (c : Configuration) (d s n : ℕ) (source : Source) → IsServed c d s n source → SourceHolds c source n
+served-holds c d s n (Below lower first) r = r.come.1.inside
+served-holds c d s n Zeros r = tt
+served-holds c d s n Fails r = tt
+
+-- ---- reads
+
+served-passes : (c : Configuration) (d s n : ℕ) (source : Source) → IsLoaded c → 0 < n → IsServed c d s n source → Passes (source_place c source) (place_of c (mapped d)) 0 s n
+served-passes c d s n source loaded some r = record {
+  said = λ j h. let e : 0 + j ≡ j = omega arith in ap (source_said c source) e ∙ served-said c d s n j source loaded h r;
+  cost = served-cost c d s n source loaded some r;
+}
+
+below-passes : (c : Configuration) (lower : Lower) (first n : ℕ) → Passes (place_of c lower) (source_place c (Below lower first)) first 0 n
+below-passes c lower first n = record { said = λ j h. let e : j ≡ 0 + j = omega arith in ap (λ (k : ℕ). said_at c lower (first + k)) e; cost = omega arith }
+
+pub below_of : (c : Configuration) (lower : Lower) (first n : ℕ) (did : Read) (answer : Result (List ℕ) IoFault) → Reads c lower first n did answer → ReadsSource c (Below lower first) n did answer
+below_of c lower first n did answer p = pass (below-passes c lower first n) did answer p
+
+part-zeros : (n j : ℕ) → j < n → part (replicate (512 * n) 0) j ≡ zero_sector
+unfolding zero_sector
+part-zeros n j h = ap (take 512) (drop-replicate (512 * j) (512 * n) 0) ∙ take-replicate 512 (512 * n - 512 * j) 0 (omega arith)
+
+-- where nothing is read, leaves and chains stay
+abbrev pub empty_read : List Device → List FoundRecord → Read
+empty_read leaves found = record { old = leaves; new = leaves; before = found; after = found }
+
+pub zeros_of : (c : Configuration) (n : ℕ) (leaves : List Device) (found : List FoundRecord) (bytes : List ℕ) → AllKept c leaves found → bytes ≡ replicate (512 * n) 0
+    → ReadsSource c Zeros n (empty_read leaves found) (Ok bytes)
+zeros_of c n leaves found bytes kept e = record {
+  got = record {
+    moved = AreRead-none _ leaves;
+    may = record { len = ap length e ∙ length-replicate {A = ℕ} (512 * n) 0; sectors = λ j h. ap (λ (b : List ℕ). part b j) e ∙ part-zeros n j h };
+    exact = λ steady. span_zeros (λ j. (source_said c Zeros j).means (images_of leaves)) 0 n (λ j h. refl) ∙ ap Ok (sym e);
+  };
+  grown = Grown-none (λ j. (source_said c Zeros j).entries) 0 n found;
+  kept = kept;
+}
+
+pub fails_of : (c : Configuration) (n : ℕ) (leaves : List Device) (found : List FoundRecord) → AllKept c leaves found → 0 < n → ReadsSource c Fails n (empty_read leaves found) (Err io.ErrorTarget)
+fails_of c n leaves found kept some = record {
+  got = record {
+    moved = AreRead-none _ leaves;
+    may = (0, some, refl);
+    exact = λ steady. span_fails (λ j. (source_said c Fails j).means (images_of leaves)) 0 n error_target some refl;
+  };
+  grown = Grown-none (λ j. (source_said c Fails j).entries) 0 n found;
+  kept = kept;
+}
+
+-- ---- runs of one device
+
+module _ (c : Configuration) (d first a m : ℕ) (source : Source) {old mid new : List Device} {u v w : List FoundRecord} {x : List ℕ} (loaded : IsLoaded c) (some : 0 < m) (r : IsServed c d (first + a) m source)
+    (p : Reads c (mapped d) first a (record { old = old; new = mid; before = u; after = v }) (Ok x)) where
+  pub device_ok : {y : List ℕ} → ReadsSource c source m (record { old = mid; new = new; before = v; after = w }) (Ok y)
+      → Reads c (mapped d) first (a + m) (record { old = old; new = new; before = u; after = w }) (Ok (x ++ y))
+  device_ok {y = y} q =
+      run_ok (place_of c (mapped d)) c (said_at-mono c (mapped d)) first a m p
+      (pass (served-passes c d (first + a) m source loaded some r) (record { old = mid; new = new; before = v; after = w }) (Ok y) q)
+
+  pub device_err : (n : ℕ) (fault : IoFault) → a + m ≤ n → ReadsSource c source m (record { old = mid; new = new; before = v; after = w }) (Err fault)
+      → Reads c (mapped d) first n (record { old = old; new = new; before = u; after = w }) (Err fault)
+  device_err n fault h q =
+      run_err (place_of c (mapped d)) c (said_at-mono c (mapped d)) first a m p n fault h
+      (pass (served-passes c d (first + a) m source loaded some r) (record { old = mid; new = new; before = v; after = w }) (Err fault) q)
+
+-- a leaf's sectors were read, and no chain found
+pub leaf_of : (c : Configuration) (i first n : ℕ) {old new : List Device} (found : List FoundRecord) {answer : Result (List ℕ) IoFault} → AllKept c old found
+    → Gets (run_expected (place_of c (Leaf i)) found first n) old new answer → Reads c (Leaf i) first n (record { old = old; new = new; before = found; after = found }) answer
+leaf_of c i first n found kept p = record {
+  got = p;
+  grown = Grown-none (λ s. (said_at c (Leaf i) s).entries) first n found;
+  kept = kept-later c found p.moved kept;
+}
+
+-- the same read by equal numbers and bytes
+pub same_reads : (c : Configuration) (lower : Lower) (first : ℕ) {n m : ℕ} (did : Read) {x y : List ℕ} → n ≡ m → x ≡ y → Reads c lower first n did (Ok x) → Reads c lower first m did (Ok y)
+same_reads c lower first {n = n} {m = m} did {x = x} e f p =
+    subst (λ (b : List ℕ). Reads c lower first m did (Ok b)) f (subst (λ (j : ℕ). Reads c lower first j did (Ok x)) e p)

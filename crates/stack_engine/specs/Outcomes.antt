@@ -1,0 +1,28 @@
+-- What a sector's place may hold: bytes, or a fault.
+use Rattle.std.specs.Prelude.{ℕ, zero, suc, List, [], ◌++◌, Result, Ok, Err}
+use Rattle.block_device.specs.Device.{filled}
+
+-- why a sector has no bytes
+pub data Fault : Type 0 where
+  error_target mismatch : Fault
+
+-- the sectors of each leaf, in order
+abbrev pub Images : Type 0
+Images = List (List (List ℕ))
+
+-- bytes, or the fault that stands in their place
+abbrev pub Outcome : Type 0
+Outcome = Result (List ℕ) Fault
+
+unfoldable pub zero_sector : List ℕ
+zero_sector = filled 0
+
+abbrev pub joint_outcome : Outcome → Outcome → Outcome
+joint_outcome (Ok a) (Ok b) = Ok (a ++ b)
+joint_outcome (Ok a) (Err fault) = Err fault
+joint_outcome (Err fault) b = Err fault
+
+-- n sectors joined, or the fault of the least sector that has one
+abbrev pub span : (ℕ → Outcome) → ℕ → ℕ → Outcome
+span at first zero = Ok []
+span at first (suc n) = joint_outcome (at first) (span at (suc first) n)

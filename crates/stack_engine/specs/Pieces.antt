@@ -1,0 +1,38 @@
+-- Pieces of a read: at most 128 sectors, which one call answers.
+use Rattle.std.specs.Prelude.{◌≡◌, ℕ, ◌*◌, List, Result}
+use Rattle.block_device.specs.Device.{Device}
+use Rattle.stack_loader.specs.Records.{Configuration}
+use Rattle.stack_loader.specs.Names.{mapped}
+use Rattle.stack_loader.specs.Descend.{read_cost}
+use Rattle.stack_engine.specs.declared.fault.IoFault.{IoFault}
+use Rattle.stack_engine.specs.Outcomes.{span}
+use Rattle.stack_engine.specs.Meaning.{sector}
+use Rattle.stack_engine.specs.May.{MayBe, MayFault}
+use Rattle.stack_engine.specs.Leaves.{images_of, AllSteady, AreRead}
+use Rattle.stack_engine.specs.Reading.{Ends, Answers}
+use Rattle.stack_engine.specs.Stacks.{StackRecord, AnswerRecord}
+
+-- a configuration over its leaves' devices
+abbrev pub stack_over : Configuration → List Device → StackRecord
+stack_over config leaves = record { config = config; leaves = leaves }
+
+-- How a piece is answered: of the stack, n sectors of mapped device d from the first on; and the stack that the
+-- answer leaves.
+abbrev pub Piece : Type 1
+Piece = StackRecord → ℕ → ℕ → ℕ → Result AnswerRecord IoFault → StackRecord → Type 0
+
+-- whatever the leaves answer
+pub record AnyPiece (w : StackRecord) (d first n : ℕ) (answer : Result AnswerRecord IoFault) (w' : StackRecord) : Type 0 where
+  pub config : w'.config ≡ w.config
+  pub moved : AreRead w.leaves (n * read_cost w.config (mapped d)) w'.leaves
+  pub may : Ends (λ got. MayBe w.config (mapped d) first n got.bytes got.chains) (MayFault w.config (mapped d) first n) w.leaves w'.leaves answer
+
+-- over steady leaves: what the stack means
+pub record SteadyPiece (w : StackRecord) (d first n : ℕ) (answer : Result AnswerRecord IoFault) (w' : StackRecord) : Type 0 where
+  pub any : AnyPiece w d first n answer w'
+  pub exact : Answers (λ got. got.bytes) (span (sector w.config (images_of w.leaves) (mapped d)) first n) answer
+
+-- both
+pub record EachPiece (w : StackRecord) (d first n : ℕ) (answer : Result AnswerRecord IoFault) (w' : StackRecord) : Type 0 where
+  pub any : AnyPiece w d first n answer w'
+  pub steady : AllSteady w.leaves → SteadyPiece w d first n answer w'

@@ -1,0 +1,12 @@
+// What a read uses beside the configuration.
+use crate::cache::Cache;
+use block_device::BlockDev;
+use std::alloc::Global;
+
+/// The devices of the leaves in order, the cache, and the allocator.
+#[derive(Drop)]
+pub(crate) struct Reader<D: BlockDev> {
+    pub(crate) alloc: Global,
+    pub(crate) devices: Vec<D>,
+    pub(crate) cache: Cache,
+}

@@ -1,8 +1,0 @@
-use Rattle.std.proofs.Common.{◌≡◌, ◌+◌, nat_lt, drop, ◌∷◌, []}
-use Rattle.stack_loader.specs.Passing.{above}
-use Rattle.stack_loader.specs.Rules.{first, refuse}
-use Rattle.stack_loader.proofs.Scan.{scan}
-use Rattle.stack_loader.proofs.heights.first_above.Given as goal
-
-abbrev pub invariant-loop-i : goal.invariant-loop-i
-invariant-loop-i l = scan (λ d n. refuse l.kind d 0 (nat_lt l.most n) ∷ []) (l.i + 1) (drop l.i l.values) ≡ first (above l.kind l.most l.values)

@@ -1,0 +1,7 @@
+use Rattle.std.proofs.Common.{◌≡◌}
+use Rattle.std.proofs.Common.{length}
+use Rattle.stack_loader.proofs.LowerSetLemmas.{SetsSoFar}
+use Rattle.stack_loader.proofs.lower_sets.lower_sets.Given as goal
+
+abbrev pub invariant-loop-device : goal.invariant-loop-device
+invariant-loop-device l = SetsSoFar l.lowers l.device-index l.sets.items

@@ -1,0 +1,35 @@
+// Why a session ends early.
+ghost use Rattle.std.specs.Prelude.{◌≡◌};
+ghost use Rattle.stack_session.specs.declared.fault.SessionFault.TheVariants as session_fault;
+
+use thiserror::Error;
+
+/// The writer failed.
+#[derive(Clone, Copy, Debug, PartialEq, Eq, Error)]
+#[error("the writer failed")]
+pub struct WriteFault;
+
+/// Why a session ended early.
+#[derive(Clone, Copy, Debug, PartialEq, Eq, Error)]
+pub enum SessionFault {
+    /// The reader failed, or was asked 2^24 + 1 times before its end.
+    #[error("the reader failed")]
+    ReadFault = 1,
+    /// The writer failed.
+    #[error("the writer failed")]
+    WriteFault = 2,
+    /// There are more than 16 MiB of input.
+    #[error("the input is too long")]
+    TooLong = 3,
+    /// Memory ran out, for a line or for setting up.
+    #[error("out of memory")]
+    NoMemory = 4,
+}
+
+impl From<WriteFault> for SessionFault {
+    ghost from_gives = { λ _ fault. fault ≡ session_fault.WriteFault };
+
+    fn from(_fault: WriteFault) -> SessionFault {
+        SessionFault::WriteFault
+    }
+}

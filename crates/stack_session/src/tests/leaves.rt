@@ -1,0 +1,85 @@
+ghost use Rattle.std.specs.Prelude.{◌≡◌, ◌∷◌, [], IfOk};
+
+use crate::{Counted, session};
+use block_device::{BlockDev, FailAt, MemoryDev};
+use stack_engine::Stack;
+use stack_loader::{Config, Leaf};
+use std::alloc::{AllocError, Global};
+use std::test::Fail;
+
+fn leaf_of<D: BlockDev>(alloc: Global, name: &[u8], device: &D) -> Result<Leaf, AllocError>
+    ensures { IfOk result (λ leaf. (leaf.sectors ≡ (D.state device.now).size) × (leaf.writable ≡ (D.state device.now).may_write)) }
+{
+    Ok(Leaf {
+        name: Vec::from_slice(alloc, name)?,
+        sectors: device.sectors(),
+        writable: device.writable(),
+    })
+}
+
+fn pair<T: Drop>(alloc: Global, first: T, second: T) -> Result<Vec<T>, AllocError>
+    ensures { IfOk result (λ both. both.items ≡ first ∷ second ∷ []) }
+{
+    let mut both = Vec::new(alloc);
+    both.push(first)?;
+    both.push(second)?;
+    Ok(both)
+}
+
+// What a session writes over the leaves A and B.
+fn over<D: BlockDev + Drop>(
+    rt: &HostRuntime,
+    first: D,
+    second: D,
+    input: &str,
+) -> Result<String, Fail> {
+    let alloc = rt.alloc();
+    let leaves = pair(
+        alloc,
+        leaf_of(alloc, b"A", &first)?,
+        leaf_of(alloc, b"B", &second)?,
+    )?;
+    let devices = pair(alloc, first, second)?;
+    let config = Config::new(alloc, leaves)?;
+    let mut reader = Counted::new(input.as_bytes());
+    let mut writer = Counted::new(Vec::new(alloc));
+    let Ok(mut stack) = Stack::new(alloc, config, devices, 0) else {
+        return Ok(String::new(alloc));
+    };
+    session(alloc, &mut stack, &mut reader, &mut writer)?;
+    Ok(String::from_utf8(writer.into_inner())?)
+}
+
+// A ramp of 256 sectors, of which the k-th read fails.
+fn failing(rt: &HostRuntime, k: u64) -> Result<FailAt<MemoryDev>, Fail> {
+    Ok(FailAt::new(MemoryDev::ramp(rt.alloc(), 256, true)?, k))
+}
+
+// A fault names its leaf, counted from 1; what was read before it isn't printed, and the session goes on.
+#[test]
+fn faults(rt: HostRuntime) -> Result<(), Fail> {
+    for (first, second, input, output) in [
+        (
+            1,
+            0,
+            "load a,,,rw,0 8 linear A 0\nread a 3 1\nread a 3 1\nmoved\n",
+            "loaded 1\nfault 3 Device 1\n3 all 03\nmoved 2 0\n",
+        ),
+        (
+            0,
+            1,
+            "load a,,,rw,0 4 linear A 0,4 4 linear B 0\nread a 2 4\nread a 4 1\nmoved\n",
+            "loaded 1\nfault 3 Device 2\n4 all 00\nmoved 5 0\n",
+        ),
+        (
+            0,
+            2,
+            "load a,,,rw,0 256 linear B 0\nread a 0 200\nread a 255 1\nmoved\n",
+            "loaded 1\nfault 3 Device 2\n255 all ff\nmoved 201 0\n",
+        ),
+    ] {
+        let text = over(&rt, failing(&rt, first)?, failing(&rt, second)?, input)?;
+        assert_eq!(rt; text.as_str(), output, "{input}");
+    }
+    Ok(())
+}

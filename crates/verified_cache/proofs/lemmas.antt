@@ -1,0 +1,4 @@
+-- What callers may cite.
+pub mod AnswerLemmas
+pub mod CacheLemmas
+pub mod KeyLemmas

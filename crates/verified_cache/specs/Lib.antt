@@ -1,0 +1,4 @@
+pub mod Cache
+pub mod Laws
+pub mod Lending
+pub mod Slots

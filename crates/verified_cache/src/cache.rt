@@ -1,0 +1,130 @@
+// The cache itself.
+ghost use Rattle.std.specs.Prelude.{◌≡◌, ◌⊎◌, [], length, option_map, IfOk, OnOk, OnErr, IsOk, IsSome};
+ghost use Rattle.std.specs.Option.{option_copied};
+ghost use Rattle.std.specs.Borrow.{sem};
+ghost use Rattle.verified_cache.specs.Cache.{IsCache, block_at, block_under, cache_after_find, cache_after_keep, cache_without_line, cache_after_moves};
+
+use crate::Key;
+use lru::LruCache;
+use std::alloc::{AllocError, Global};
+use std::marker::Model;
+use std::num::NonZeroUsize;
+
+/// A block and the digest that it is kept under.
+#[derive(Drop)]
+struct DigestedBlock {
+    digest: [u8; 32],
+    bytes: Vec<u8>,
+}
+
+/// At most a given number of blocks, each under its key and its digest.
+#[derive(Drop)]
+pub struct BlockCache {
+    capacity: u32,
+    // A cache of no blocks has one slot, which stays empty.
+    slots: LruCache<Key, DigestedBlock>,
+}
+
+impl Model for BlockCache {
+    ghost use Rattle.std.specs.Prelude.{◌≡◌, map, max};
+    ghost use Rattle.verified_cache.specs.Cache.{CacheRecord, IsCache};
+
+    ghost Value = { CacheRecord };
+
+    ghost use Rattle.verified_cache.specs.Slots.{cache_of};
+
+    ghost view = { cache_of };
+
+    ghost invariant = { λ c. (c.slots.cap ≡ max 1 c.capacity) × IsCache (cache_of c) };
+}
+
+impl BlockCache {
+    ghost use Rattle.verified_cache.specs.Lending.{EndsAs};
+
+    /// An empty cache of at most `capacity` blocks. Room for a block is taken when it is kept.
+    pub fn new(alloc: Global, capacity: u32) -> Result<BlockCache, AllocError>
+        ensures { IfOk result (λ c. c ≡ record { capacity = capacity; blocks = [] }) }
+    {
+        let slots = NonZeroUsize::new(capacity as usize).unwrap_or(NonZeroUsize::MIN);
+        Ok(BlockCache {
+            capacity,
+            slots: LruCache::sparse(alloc, slots)?,
+        })
+    }
+
+    /// The block kept under this key and this digest, which is then the most recently used.
+    pub fn find(&mut self, key: Key, digest: &[u8; 32]) -> Option<&[u8]>
+        ensures* leaves { sem 𝓛 (EndsAs self.entry (cache_after_find key digest.now self.old)) }
+        ensures answer { option_copied result ≡ option_map (λ b. b.bytes) (block_under key digest.now self.old) }
+    {
+        let kept = self.slots.peek(&key)?;
+        if kept.digest != *digest {
+            return None;
+        }
+        let kept = self.slots.get(&key)?;
+        Some(kept.bytes.as_slice())
+    }
+
+    /// Keeps the block as the most recently used, in place of what stands under its key.
+    pub fn keep(&mut self, key: Key, digest: [u8; 32], block: Vec<u8>) -> Result<(), AllocError>
+        ensures ok { OnOk result (self.new ≡ cache_after_keep (record { key = key; digest = digest; bytes = block.items }) self.old) }
+        ensures err { OnErr result (self.new ≡ self.old) }
+        ensures succeeds { (self.old.capacity ≡ 0) ⊎ IsSome (block_at key self.old) → IsOk result }
+    {
+        if self.capacity == 0 {
+            return Ok(());
+        }
+        let block = DigestedBlock {
+            digest,
+            bytes: block,
+        };
+        self.slots.put(key, block)?;
+        Ok(())
+    }
+
+    /// Drops the blocks of one line of one device.
+    pub fn forget_line(&mut self, device: u32, line: u32)
+        ensures { self.new ≡ cache_without_line device line self.old }
+    {
+        for _ in 0..self.len() {
+            self.move_oldest(device, line);
+        }
+    }
+
+    /// Makes the least recently used block the most recently used, or drops it where it is of that line.
+    fn move_oldest(&mut self, device: u32, line: u32)
+        ensures { self.new ≡ cache_after_moves device line 1 self.old }
+    {
+        let Some((key, _)) = self.slots.peek_lru() else {
+            return;
+        };
+        let key = *key;
+        if key.is_of_line(device, line) {
+            drop(self.slots.pop_lru());
+        } else {
+            self.slots.promote(&key);
+        }
+    }
+
+    /// Drops all blocks.
+    pub fn forget_all(&mut self)
+        ensures { self.new ≡ record self.old { blocks = [] } }
+    {
+        self.slots.clear();
+    }
+
+    /// How many blocks there are.
+    pub fn len(&self) -> usize
+        ensures value { result ≡ length self.now.blocks }
+        ensures valid { IsCache self.now }
+    {
+        self.slots.len()
+    }
+
+    /// How many blocks there may be.
+    pub fn capacity(&self) -> u32
+        ensures { result ≡ self.now.capacity }
+    {
+        self.capacity
+    }
+}

@@ -1,0 +1,11 @@
+//! A bounded cache of checked hash blocks, each under its place and its digest. Where it is full, the least recently used goes.
+#![tactic(auto)]
+
+mod cache;
+mod key;
+pub mod laws;
+#[cfg(test)]
+mod tests;
+
+pub use cache::BlockCache;
+pub use key::Key;

@@ -1,0 +1,63 @@
+-- Block sizes, and how many sectors blocks take.
+use Rattle.std.proofs.Common.{◌≡◌, ◌≤◌, ◌<◌, ◌+◌, ◌*◌, ◌/◌, ◌%◌, ℕ, suc, IsTrue, refl, ap, ◌∙◌, arith, inl, inr}
+use Rattle.std.proofs.Math.Nat.{mul-le-mul_right}
+use Rattle.hash_tree.specs.Shape.{ShapeRecord, IsShape, is_block_size, sectors_of, area_blocks, area_end}
+use Rattle.hash_tree.proofs.lemmas.ShapeFaultLemmas.{is_block_size-cases}
+use Rattle.hash_tree.proofs.lemmas.ShapeFactLemmas.{area_end-is}
+use Rattle.std.proofs.Math.Numerals.{one-add}
+
+-- a block is one to eight whole sectors
+pub record IsBlock (n : ℕ) : Type 0 where
+  pub some : 0 < n
+  pub whole : n % 512 ≡ 0
+  pub least : 1 ≤ n / 512
+  pub most : n / 512 ≤ 8
+  pub least_bytes : 512 ≤ n
+  pub most_bytes : n ≤ 4096
+  pub sectors : n ≡ 512 * (n / 512)
+
+pub block-size : (n : ℕ) → IsTrue (is_block_size n) → IsBlock n
+block-size n valid =
+    elim (is_block_size-cases n valid) [
+      | inl (inl e) ↦ rw e (record { some = omega arith; whole = refl; least = omega arith; most = omega arith; least_bytes = omega arith; most_bytes = omega arith; sectors = refl })
+      | inl (inr e) ↦ rw e (record { some = omega arith; whole = refl; least = omega arith; most = omega arith; least_bytes = omega arith; most_bytes = omega arith; sectors = refl })
+      | inr (inl e) ↦ rw e (record { some = omega arith; whole = refl; least = omega arith; most = omega arith; least_bytes = omega arith; most_bytes = omega arith; sectors = refl })
+      | inr (inr e) ↦ rw e (record { some = omega arith; whole = refl; least = omega arith; most = omega arith; least_bytes = omega arith; most_bytes = omega arith; sectors = refl })
+    ]
+
+-- block i of n lies within the sectors of n blocks
+pub block-inside : (i n k : ℕ) → i < n → i * k + k ≤ n * k
+block-inside i n k below =
+    let most : suc i * k ≤ n * k = mul-le-mul_right k below in
+    let next : suc i * k ≡ i * k + k = grind arith in
+    omega (arith, most, next)
+
+-- where a tree behind hash block 0 has a block, hash block 0 and the tree fit below its end
+pub tree-room : (s : ShapeRecord) → IsShape s → s.start ≡ 1 → (size : ℕ) → sectors_of (area_end s) s.hash_block ≤ size → 0 < area_blocks s
+    → area_blocks s * (s.hash_block / 512) + s.hash_block / 512 ≤ size
+tree-room s valid start size fits some =
+    let k = s.hash_block / 512 in
+    let end : area_end s ≡ suc (area_blocks s) = area_end-is s valid some ∙ ap (λ n. n + area_blocks s) start ∙ one-add (area_blocks s) in
+    let whole : suc (area_blocks s) * k ≤ size = rw end at fits in
+    let next : suc (area_blocks s) * k ≡ area_blocks s * k + k = grind arith in
+    omega (arith, whole, next)
+
+-- the sectors of the area
+pub area-room : (s : ShapeRecord) → IsShape s → (area : ℕ) → area ≡ area_blocks s * s.hash_block → area / 512 ≡ sectors_of (area_blocks s) s.hash_block
+area-room s valid area more =
+    let k = s.hash_block / 512 in
+    let n = area_blocks s in
+    let whole : s.hash_block ≡ 512 * k = (block-size s.hash_block valid.hash_size).sectors in
+    let bytes : area ≡ 512 * (n * k) = more ∙ ap (λ h. n * h) whole ∙ (let e : n * (512 * k) ≡ 512 * (n * k) = grind arith in e) in
+    omega (arith, bytes)
+
+-- the sectors of hash block 0 and of the area are those of the image
+pub image-room : (s : ShapeRecord) → IsShape s → (first area : ℕ) → first ≡ s.hash_block → area ≡ area_blocks s * s.hash_block
+    → first / 512 + area / 512 ≡ sectors_of (1 + area_blocks s) s.hash_block
+image-room s valid first area one more =
+    let k = s.hash_block / 512 in
+    let n = area_blocks s in
+    let low : first / 512 ≡ k = ap (λ h. h / 512) one in
+    let high : area / 512 ≡ n * k = area-room s valid area more in
+    let sum : (1 + n) * k ≡ k + n * k = grind arith in
+    omega (arith, low, high, sum)

@@ -1,0 +1,128 @@
+#!/usr/bin/env python3
+"""Proves and builds the program and the libraries below it, as many side by side as processors and memory allow.
+
+What stands in the crates' out/ is used where it still holds, as by `rt run`. Says on standard error how far it is, and
+shows what rt said of a crate that isn't proved.
+"""
+import os
+import re
+import signal
+import subprocess
+import sys
+import tempfile
+import threading
+import time
+
+sys.dont_write_bytecode = True
+from kit import RT, TOP
+
+PROGRAM = "dmstack"
+START = time.monotonic()
+SILENCE = 30.0
+TOLD = threading.Event()
+
+
+def tell(text):
+    TOLD.set()
+    print(f"dmstack: {text}\n", end="", file=sys.stderr, flush=True)
+
+
+def since(start):
+    minutes, seconds = divmod(round(time.monotonic() - start), 60)
+    return f"{minutes} min {seconds} s" if minutes else f"{seconds} s"
+
+
+class Log:
+    """What rt says while it builds one crate."""
+
+    def __init__(self, name):
+        self.name, self.text = name, []
+
+    def write(self, text):
+        self.text.append(text)
+        found = re.match(r"so far: (\d+) of (\d+) functions", text)
+        if found and found[1] != "0":
+            tell(f"{self.name}: {found[1]} of {found[2]} functions so far")
+
+    def flush(self):
+        pass
+
+    def count(self):
+        return len(re.findall(r"^fn \S+: proved", "".join(self.text), re.M))
+
+
+class Build:
+    def __init__(self, libraries):
+        self.libraries, self.done, self.log, self.running = libraries, 0, "", {}
+
+    def library(self, crate, given, jobs):
+        """Builds a library whose own libraries are built, and returns whether it did."""
+        if self.log or not all(given[it.name, "proof"] for it in crate.below() if it in self.libraries):
+            return False
+        start, crate.out = time.monotonic(), Log(crate.name)
+        self.running[crate.name] = start
+        tell(f"proving {crate.name}")
+        status = crate.build_rlib(["--jobs", str(jobs)], anew=False)
+        del self.running[crate.name]
+        if status:
+            self.log = self.log or "".join(crate.out.text)
+            tell(f"{crate.name} is not proved")
+            return False
+        self.done += 1
+        of = f"{self.done} of {len(self.libraries)} libraries"
+        tell(f"{of}: {crate.name}, {crate.out.count()} functions proved in {since(start)}")
+        return True
+
+    def break_silence(self):
+        """Says what is still being proved, where nothing was told for a while."""
+        while True:
+            if not TOLD.wait(SILENCE) and self.running:
+                tell("still proving " + ", ".join(f"{name} ({since(start)})" for name, start in [*self.running.items()]))
+            TOLD.clear()
+            time.sleep(1)
+
+    def all_libraries(self):
+        threading.Thread(target=self.break_silence, daemon=True).start()
+        tasks = {}
+        for it in self.libraries:
+            waits = [(below.name, "proof") for below in it.below() if below in self.libraries]
+            call = lambda given, jobs, it=it: self.library(it, given, jobs)
+            tasks[it.name, "proof"] = waits, it.count(rb"\n"), it.planned(), call
+        return all(RT.in_lanes(tasks).values())
+
+
+def build_program():
+    """Builds the program over its libraries, and returns what rt said where it could not."""
+    with tempfile.TemporaryFile("w+", errors="replace") as log:
+        how = {"cwd": f"{TOP}/crates/{PROGRAM}", "stdin": subprocess.DEVNULL, "stdout": log, "stderr": log}
+        ran = subprocess.run(["rt", "run", "--", "session"], **how)
+        log.seek(0)
+        return log.read() if ran.returncode else ""
+
+
+def main():
+    # Python would wait at Ctrl-C for what the threads started; so rt's guard ends that at once.
+    signal.signal(signal.SIGINT, signal.SIG_DFL)
+    os.chdir(TOP)
+    RT.rtlib.guarded()
+    program = next(it for it in RT.rtlib.crates_below(TOP) if it.name == PROGRAM)
+    held = RT.rtlib.lock([*program.below(), program])
+    build = Build([it for it in program.below() if not it.is_built()])
+    if build.libraries:
+        tell(f"proving and building the program, with libraries to prove: {len(build.libraries)}; this takes minutes")
+    is_well = build.all_libraries()
+    for it in held:
+        os.close(it)
+    if is_well:
+        tell("building the program")
+        build.log = build_program()
+    if not is_well or build.log:
+        print(build.log, end="", file=sys.stderr)
+        tell(f"not built, after {since(START)}: what rt said is above")
+        return 1
+    tell(f"built in {since(START)}")
+    return 0
+
+
+if __name__ == "__main__":
+    sys.exit(main())

@@ -1,0 +1,85 @@
+#!/usr/bin/env bash
+# Runs each row of tests/rows on the program as LLVM and as Rattle's own compiler build it.
+#
+# rows.sh [NAME..]: all rows, or those of these names. A row is a case as scripts/case.sh says, with the file `stdout`,
+# what is printed and what `after` prints behind it, and `status`, where that isn't 0. Standard error stays empty.
+#
+# A row of several steps has `steps` in place of `args`, `stdin`, `stdout` and `status`: a transcript, as in the documents. A line
+# `$ COMMAND` is a command line for bash, for which `dmstack` is the program; the lines `> LINE` behind it are its input; the
+# other lines up to the next `$ ` are what it writes on standard output and standard error together, and where it ends with
+# a status N that isn't 0, a last line `status N`. Empty lines and lines that begin with `# ` say nothing.
+set -eu
+top=$(dirname "$(dirname "$(readlink -f "$0")")")
+out=$top/crates/dmstack/out
+"$top/scripts/built.sh" dmstack dmstack.by-rattle
+room=$(mktemp -d)
+trap 'rm -rf "$room"' EXIT
+. "$top/scripts/case.sh"
+[ $# -gt 0 ] || set -- $(cd "$top/tests/rows" && ls)
+passed=0 failed=0
+
+# check ROW PROGRAM: says how the run differs from the row's files, if it does.
+check() {
+    local row=$top/tests/rows/$1 wanted=0
+    [ ! -e "$row/status" ] || wanted=$(cat "$row/status")
+    run_case "$row" timeout 60 "$out/$2"
+    if [ "$case_status" != "$wanted" ]; then
+        echo "$1 ($2): status $case_status, and not $wanted"
+    elif ! cmp -s "$row/stdout" "$room/out"; then
+        echo "$1 ($2): the output differs (< wanted, > printed)"
+        diff -a "$row/stdout" "$room/out" | head -n 20
+    elif [ -s "$room/errors" ]; then
+        echo "$1 ($2): standard error has $(head -c 300 "$room/errors")"
+    else
+        return 0
+    fi
+    return 1
+}
+
+# finish NAME: runs the step that was gathered, and compares.
+finish() {
+    local status=0
+    [ -n "$command" ] || return 0
+    printf %s "$input" > "$room/in"
+    (cd "$room/files" && PATH=$room/bin:$PATH timeout 60 bash -c "$command") < "$room/in" > "$room/out" 2>&1 || status=$?
+    [ $status = 0 ] || echo "status $status" >> "$room/out"
+    if ! printf %s "$wanted" | cmp -s - "$room/out"; then
+        printf '%s: %s (< wanted, > printed)\n' "$1" "$command"
+        printf %s "$wanted" | diff -a - "$room/out" | head -n 20
+        same=1
+    fi
+    command='' input='' wanted=''
+}
+
+# check_steps ROW PROGRAM: says how the steps differ from what is wanted, if they do.
+check_steps() {
+    local row=$top/tests/rows/$1 command='' input='' wanted='' same=0 line
+    rm -rf "$room/files" "$room/bin"
+    mkdir "$room/files" "$room/bin"
+    ln -s "$out/$2" "$room/bin/dmstack"
+    [ ! -e "$row/files" ] || cp -R "$row/files/." "$room/files"
+    [ ! -e "$row/before" ] || (cd "$room/files" && bash "$row/before")
+    while IFS= read -r line; do
+        case $line in
+        '$ '*)
+            finish "$1 ($2)"
+            command=${line#'$ '}
+            ;;
+        '> '*) input+=${line#'> '}$'\n' ;;
+        '' | '# '*) ;;
+        *) wanted+=$line$'\n' ;;
+        esac
+    done < "$row/steps"
+    finish "$1 ($2)"
+    return $same
+}
+
+for name in "$@"; do
+    form=check
+    [ ! -e "$top/tests/rows/$name/steps" ] || form=check_steps
+    for program in dmstack dmstack.by-rattle; do
+        if $form "$name" "$program"; then passed=$((passed + 1)); else failed=$((failed + 1)); fi
+    done
+done
+echo "rows: $passed passed, $failed failed"
+[ $failed = 0 ] && [ $passed -gt 0 ]
