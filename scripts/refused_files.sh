@@ -58,5 +58,24 @@ expect 1 'refused random' format --data-block 512 --hash-block 512 --salt=- read
 expect 1 'refused 1 NotFound gone' format readable gone
 expect 1 'refused 3 HashTooSmall needed 2' format --data-block 512 --hash-block 512 --salt=- --uuid 6c0b2c0e-5a0d-4b5c-9a44-1d1f6a3b2c7e readable image
 unset LD_PRELOAD
+
+# A sync that fails, and a write of the tree that the system refuses in its middle (as on a full disk): the fault is told, and
+# after the second no superblock stands before the tree.
+printf '#include <errno.h>\nint fsync(int fd) { errno = EIO; return -1; }\nint fdatasync(int fd) { errno = EIO; return -1; }\n' > sync.c
+cc -shared -fPIC -o sync.so sync.c
+truncate -s $((33 * 512)) data
+truncate -s 2560 made
+chmod 666 made
+chmod 644 data sync.so
+sizes=(--data-block 512 --hash-block 512 --salt=- --uuid 6c0b2c0e-5a0d-4b5c-9a44-1d1f6a3b2c7e)
+trap '' XFSZ
+limit=$(ulimit -S -f)
+ulimit -S -f 1
+expect 1 'refused 5 Device' format "${sizes[@]}" data made
+ulimit -S -f "$limit"
+if cmp -s -n 512 made /dev/zero && ! cmp -s -n 1024 made /dev/zero; then passed=$((passed + 1)); else failed=$((failed + 1)) && echo 'a superblock stands before a tree that was not written'; fi
+export LD_PRELOAD=$room/sync.so
+expect 1 'refused 5 Device' format "${sizes[@]}" data made
+unset LD_PRELOAD
 echo "refused files: $passed passed, $failed failed"
 [ $failed = 0 ]

@@ -13,10 +13,13 @@ pub enum FileId {
 }
 
 impl FileId {
-    // The identity that the system tells; where it tells nothing, all numbers are 0.
+    // The identity that the system tells, if it does: where it tells nothing, all numbers are 0.
     pub(crate) fn of(metadata: &Metadata, is_block_device: bool) -> Option<FileId> {
         if is_block_device {
-            return Some(FileId::BlockDevice(metadata.rdev()));
+            return match metadata.rdev() {
+                0 => None,
+                number => Some(FileId::BlockDevice(number)),
+            };
         }
         match (metadata.dev(), metadata.ino()) {
             (0, 0) => None,

@@ -19,8 +19,6 @@ mod read;
 mod serve;
 mod superblock_text;
 mod table;
-#[cfg(test)]
-mod tests;
 mod verify;
 
 pub use ending::end;
