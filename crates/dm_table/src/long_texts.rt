@@ -1,17 +1,17 @@
-//! The longest lines, tables and stacks: each is read, since memory is there.
+//! Long lines, tables and stacks: each is read, since memory is there.
 use crate::print::print_table;
 use crate::stack_text::parse_stack;
 use crate::tests::{MOST, printed};
 use std::alloc::{AllocError, Global};
 use std::test::Fail;
 
-// As many devices as a line has, and lines and devices as a configuration has.
+// As many devices as a line has. A text may have more lines and devices than a configuration.
 const LONG_LINE: &str =
     "0 16 striped 16 1 a 0 b 1 c 2 d 3 e 4 f 5 g 6 h 7 i 8 j 9 k 10 l 11 m 12 n 13 o 14 p 15";
 
 fn long_table(alloc: Global, separator: char) -> Result<String, AllocError> {
     let mut text = String::new(alloc);
-    for line in 0..256u32 {
+    for line in 0..300u32 {
         if line > 0 {
             text.push(separator)?;
         }
@@ -22,7 +22,7 @@ fn long_table(alloc: Global, separator: char) -> Result<String, AllocError> {
 
 // Want of memory is no answer where memory is there.
 #[test]
-fn reads_256_lines_and_64_devices(rt: HostRuntime) -> Result<(), Fail> {
+fn reads_300_lines_and_64_devices(rt: HostRuntime) -> Result<(), Fail> {
     let alloc = rt.alloc();
     let mut want = long_table(alloc, '\n')?;
     want.push('\n')?;

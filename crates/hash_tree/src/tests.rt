@@ -1,4 +1,6 @@
 // What no clause says: trees that veritysetup made, and that each call succeeds.
+mod large;
+
 use crate::vectors::{MADE, Made};
 use crate::{Chain, Place, Salt, Shape, ShapeFault, area, collide, digest};
 use sha2::{Digest, Sha256};
