@@ -1,4 +1,5 @@
-// Calls that succeed, what real files hold and refuse, and that the clauses say what was meant.
+// What no clause says: that calls succeed where they may, what real files hold and refuse, and what a device that isn't
+// steady gives behind a failure.
 mod files;
 
 use crate::{AnyDev, BlockDev, DeviceFault, FailAt, FileDev, MemoryDev, OpenFault, ScriptDev};
@@ -53,23 +54,6 @@ fn devices_keep_what_is_written(rt: HostRuntime) -> Result<(), Fail> {
 }
 
 #[test]
-fn each_call_at_its_type(rt: HostRuntime) -> Result<(), Fail> {
-    let mut memory = MemoryDev::zeros(rt.alloc(), 2, true)?;
-    assert_eq!(rt; memory.write(1, &[7u8; 512]), Ok(()));
-    assert_eq!(rt; sector(&rt, &mut memory, 1)?, [7u8; 512]);
-    let mut any = AnyDev::Memory(memory);
-    assert_eq!(rt; any.sectors(), 2);
-    let mut out = [0u8; 512];
-    assert_eq!(rt; any.read(1, &mut out), Ok(()));
-    assert_eq!(rt; out, [7u8; 512]);
-    assert_eq!(rt; any.sectors(), 2);
-    assert!(rt; any.writable());
-    assert_eq!(rt; any.write(0, &[8u8; 512]), Ok(()));
-    assert_eq!(rt; (any.reads(), any.writes(), any.failures()), (2, 2, 0));
-    Ok(())
-}
-
-#[test]
 fn sectors_lie_beyond_4_gib(rt: HostRuntime) -> Result<(), Fail> {
     let far = (1u64 << 32) / 512 + 5;
     let file = fs::create(&rt, "far")?;
@@ -80,22 +64,6 @@ fn sectors_lie_beyond_4_gib(rt: HostRuntime) -> Result<(), Fail> {
     assert_eq!(rt; sector(&rt, &mut dev, far)?, [0xeeu8; 512]);
     assert_eq!(rt; sector(&rt, &mut dev, 5)?, [0u8; 512]);
     fs::remove_file(&rt, "far")?;
-    Ok(())
-}
-
-#[test]
-fn memory_is_filled(rt: HostRuntime) -> Result<(), Fail> {
-    let alloc = rt.alloc();
-    let mut ramp = MemoryDev::ramp(alloc, 300, false)?;
-    assert_eq!(rt; ramp.sectors(), 300);
-    assert!(rt; !ramp.writable());
-    for (at, byte) in [(0u64, 0u8), (255, 255), (256, 0), (299, 43)] {
-        assert_eq!(rt; sector(&rt, &mut ramp, at)?, [byte; 512]);
-    }
-    let trailing = MemoryDev::new(vec![in alloc; 7u8; 1023]?, true);
-    assert_eq!(rt; trailing.sectors(), 1);
-    assert_eq!(rt; trailing.into_bytes().as_slice(), [7u8; 1023].as_slice());
-    assert_eq!(rt; MemoryDev::new(Vec::new(alloc), true).sectors(), 0);
     Ok(())
 }
 
@@ -176,81 +144,6 @@ fn a_file_cut_short_fails(rt: HostRuntime) -> Result<(), Fail> {
     assert_eq!(rt; dev.reads(), 3);
     assert_eq!(rt; dev.failures(), 1);
     fs::remove_file(&rt, "image")?;
-    Ok(())
-}
-
-// The calls of a mixed list that fail: a read, a write, a read of two sectors, a write.
-fn failing_calls(rt: &(impl Abort + AllocGlobal), k: u64) -> Result<Vec<u8>, Fail> {
-    let mut dev = FailAt::new(MemoryDev::zeros(rt.alloc(), 4, true)?, k);
-    let mut out = [0u8; 512];
-    let mut two = [0u8; 1024];
-    let calls = [
-        dev.read(0, &mut out).is_ok(),
-        dev.write(1, &[1u8; 512]).is_ok(),
-        dev.read(0, &mut two).is_ok(),
-        dev.write(2, &[2u8; 512]).is_ok(),
-    ];
-    assert_eq!(rt; dev.reads(), 3);
-    assert_eq!(rt; dev.writes(), 2);
-    let mut failed = Vec::new(rt.alloc());
-    for (number, ok) in (1u8..).zip(calls.iter()) {
-        if !*ok {
-            failed.push(number)?;
-        }
-    }
-    assert_eq!(rt; dev.failures(), failed.len() as u64);
-    let wrote = sector(rt, &mut dev, 1)?;
-    assert_eq!(rt; wrote, if k == 2 { [0u8; 512] } else { [1u8; 512] });
-    let wrote = sector(rt, &mut dev, 2)?;
-    assert_eq!(rt; wrote, if k == 4 { [0u8; 512] } else { [2u8; 512] });
-    Ok(failed)
-}
-
-#[test]
-fn one_call_fails(rt: HostRuntime) -> Result<(), Fail> {
-    assert_eq!(rt; failing_calls(&rt, 0)?.len(), 0);
-    for k in 1..5u8 {
-        assert_eq!(rt;
-            failing_calls(&rt, u64::from(k))?.as_slice(),
-            [k].as_slice()
-        );
-    }
-    Ok(())
-}
-
-#[test]
-fn counters_stop_at_their_end(rt: HostRuntime) -> Result<(), Fail> {
-    let mut dev = FailAt::new(MemoryDev::zeros(rt.alloc(), 4, true)?, 1);
-    dev.sectors_of_failed_reads = u64::MAX - 1;
-    dev.sectors_of_failed_writes = u64::MAX;
-    dev.failed_calls = u64::MAX;
-    let mut out = [0u8; 1024];
-    assert_eq!(rt; dev.read(0, &mut out), Err(DeviceFault));
-    assert_eq!(rt; dev.read(0, &mut out), Ok(()));
-    assert_eq!(rt; dev.write(0, &[0u8; 512]), Ok(()));
-    assert_eq!(rt;
-        (dev.reads(), dev.writes(), dev.failures()),
-        (u64::MAX, u64::MAX, u64::MAX)
-    );
-    Ok(())
-}
-
-#[test]
-fn a_script_is_answered(rt: HostRuntime) -> Result<(), Fail> {
-    let alloc = rt.alloc();
-    let mut answers = Vec::new(alloc);
-    answers.push(vec![in alloc; 1u8; 600]?)?;
-    answers.push(vec![in alloc; 2u8; 10]?)?;
-    let mut dev = ScriptDev::new(2, answers);
-    assert!(rt; !dev.writable());
-    assert_eq!(rt; sector(&rt, &mut dev, 1)?, [1u8; 512]);
-    let short = sector(&rt, &mut dev, 1)?;
-    assert_eq!(rt; &short[..10], [2u8; 10].as_slice());
-    assert_eq!(rt; &short[10..], [0u8; 502].as_slice());
-    assert_eq!(rt; sector(&rt, &mut dev, 0)?, [0u8; 512]);
-    assert_eq!(rt; (dev.reads(), dev.failures()), (3, 0));
-    let mut silent = ScriptDev::new(1, Vec::new(alloc));
-    assert_eq!(rt; sector(&rt, &mut silent, 0)?, [0u8; 512]);
     Ok(())
 }
 

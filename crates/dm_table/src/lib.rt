@@ -2,12 +2,8 @@
 #![tactic(auto)]
 
 mod cut;
-#[cfg(test)]
-mod edited_texts;
 mod fault;
 mod line;
-#[cfg(test)]
-mod long_texts;
 mod name;
 mod numbers;
 mod print;

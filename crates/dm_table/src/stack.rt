@@ -10,7 +10,7 @@ use std::alloc::Global;
 use std::marker::Model;
 
 /// One device. The number counts the text's entries from 1, skipped ones too.
-#[derive(Debug, Drop)]
+#[derive(Drop)]
 pub struct Entry {
     pub number: u32,
     /// A mapped name. Another entry may have the same.
@@ -21,7 +21,7 @@ pub struct Entry {
 }
 
 /// The devices of a stack text, in the order written.
-#[derive(Debug, Drop)]
+#[derive(Drop)]
 pub struct StackText {
     entries: Vec<Entry>,
 }

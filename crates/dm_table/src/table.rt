@@ -7,7 +7,7 @@ use std::marker::Model;
 
 /// The bytes of a name, as they were written: a mapped name has 1 to 127 of them. A device argument
 /// is `/dev/mapper/` and a mapped name, or a leaf name of 1 to 255 bytes.
-#[derive(Debug, Drop)]
+#[derive(Drop)]
 pub struct Name {
     bytes: Vec<u8>,
 }
@@ -38,7 +38,7 @@ impl Name {
 
 /// The device beneath a range, by the name that was written, and the sector there at which the
 /// range begins.
-#[derive(Debug, Drop)]
+#[derive(Drop)]
 pub struct Base {
     /// A device argument.
     pub device: Name,
@@ -59,7 +59,7 @@ impl Base {
 }
 
 /// The devices of a striped line, 1 to 16 of them.
-#[derive(Debug, Drop)]
+#[derive(Drop)]
 pub struct Bases {
     list: Vec<Base>,
 }
@@ -109,7 +109,7 @@ impl Bases {
 }
 
 /// What a line does.
-#[derive(Debug, Drop)]
+#[derive(Drop)]
 pub enum Target {
     /// `linear`: sectors of one device, from its offset on.
     Linear(Base),
@@ -139,7 +139,7 @@ impl Target {
 
 /// One line of a table: the sectors of 512 bytes from `start` on, `length` of them. Neither is checked
 /// against other lines or a device; a length of 0 is read as it stands.
-#[derive(Debug, Drop)]
+#[derive(Drop)]
 pub struct Line {
     pub start: u64,
     pub length: u64,
@@ -160,7 +160,7 @@ impl Line {
 }
 
 /// A device's lines: at least one.
-#[derive(Debug, Drop)]
+#[derive(Drop)]
 pub struct Table {
     lines: Vec<Line>,
 }

@@ -8,7 +8,7 @@ use std::alloc::{AllocError, Global};
 use std::marker::Model;
 
 /// A mapped device, by the name that its entry gave it. The size is the sum of its lines' lengths.
-#[derive(Debug, Drop)]
+#[derive(Drop)]
 pub(crate) struct Mapped {
     name: Vec<u8>,
     writable: bool,

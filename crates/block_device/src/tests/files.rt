@@ -1,5 +1,5 @@
 // What real files keep, which file one is, and that writes reach the medium.
-use crate::{AnyDev, BlockDev, FileDev, MemoryDev, OpenFault};
+use crate::{AnyDev, BlockDev, FileDev, MemoryDev};
 use std::fs;
 use std::os::unix::fs::symlink;
 use std::test::Fail;
@@ -48,7 +48,7 @@ fn one_call_moves_more_than_3_mib(rt: HostRuntime) -> Result<(), Fail> {
 }
 
 #[test]
-fn a_file_is_known_by_each_of_its_paths(rt: HostRuntime) -> Result<(), Fail> {
+fn files_are_known_by_each_path_and_synced(rt: HostRuntime) -> Result<(), Fail> {
     fs::write(&rt, "one", [1u8; 512].as_slice())?;
     fs::write(&rt, "two", [1u8; 512].as_slice())?;
     fs::hard_link(&rt, "one", "hard")?;
@@ -61,31 +61,12 @@ fn a_file_is_known_by_each_of_its_paths(rt: HostRuntime) -> Result<(), Fail> {
         assert_eq!(rt; any.id(), id, "{path}");
     }
     assert_ne!(rt; FileDev::open(&rt, "two", false)?.id(), id);
-    assert_eq!(rt;
-        AnyDev::Memory(MemoryDev::zeros(rt.alloc(), 1, true)?).id(),
-        None
-    );
+    let mut memory = AnyDev::Memory(MemoryDev::ramp(rt.alloc(), 1, true)?);
+    let mut file = AnyDev::File(FileDev::open(&rt, "two", true)?);
+    assert_eq!(rt; memory.id(), None);
+    assert_eq!(rt; (file.sync(), memory.sync()), (Ok(()), Ok(())));
     for path in ["one", "two", "hard", "soft"] {
         fs::remove_file(&rt, path)?;
     }
-    Ok(())
-}
-
-#[test]
-fn memory_and_files_are_synced(rt: HostRuntime) -> Result<(), Fail> {
-    fs::write(&rt, "synced", [1u8; 512].as_slice())?;
-    let mut file = AnyDev::File(FileDev::open(&rt, "synced", true)?);
-    let mut memory = AnyDev::Memory(MemoryDev::zeros(rt.alloc(), 1, true)?);
-    assert_eq!(rt; (file.sync(), memory.sync()), (Ok(()), Ok(())));
-    assert_eq!(rt; (file.failures(), memory.failures()), (0, 0));
-    fs::remove_file(&rt, "synced")?;
-    Ok(())
-}
-
-#[test]
-fn a_fault_prints_its_name(rt: HostRuntime) -> Result<(), Fail> {
-    let fault = OpenFault::SameFile;
-    let text = format!(in rt.alloc(); "{} {}", fault.number(), fault)?;
-    assert_eq!(rt; text.as_str(), "6 SameFile");
     Ok(())
 }
