@@ -1,5 +1,5 @@
 #!/usr/bin/env bash
-# Measures reads and printing beside system tools, as ratios of medians of interleaved runs. Not a part of the gate.
+# Measures reads, printing and writes beside system tools, as ratios of medians of interleaved runs. Not a part of the gate.
 #
 # A ratio is the tool's time divided by the program's: 1 is as fast, less is slower.
 set -eu
@@ -64,3 +64,11 @@ bindings=(A=ro:first B=ro:second)
     for i in $(seq 0 63); do echo "read top $((i * 2048)) 2048"; done
 } > input
 compare 'an image of 64 MiB through linear over striped, beside xxd' xxd -p -c 512 both
+
+# The same image written in pieces of 1 MiB, and synced at the end.
+bindings=(A=rw:first B=rw:second)
+{
+    echo 'load s,,,rw,0 131072 striped 2 128 A 0 B 0;top,,,rw,0 131072 linear /dev/mapper/s 0'
+    for i in $(seq 0 63); do echo "write top $((i * 2048)) 2048 5a"; done
+} > input
+compare '64 MiB written through linear over striped, beside dd' dd if=/dev/zero of=both bs=64K count=1024 conv=notrunc,fsync status=none

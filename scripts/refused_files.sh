@@ -16,13 +16,20 @@ printf 'a,,,ro,0 1 linear D 0\n' > stack
 cp stack locked_stack
 chmod 444 readable stack
 chmod 000 locked locked_stack
-passed=0 failed=0
+passed=0 failed=0 input=/dev/null
 
-# expect STATUS OUTPUT WORD..
+# same WHAT COMMAND..: the command says that two files, or parts of them, are the same.
+same() {
+    local what=$1
+    shift
+    if "$@" > /dev/null; then passed=$((passed + 1)); else failed=$((failed + 1)) && echo "$what"; fi
+}
+
+# expect STATUS OUTPUT WORD..: the program, with standard input from the file $input
 expect() {
     local status=$1 output=$2 got=0
     shift 2
-    "${as[@]}" ./dmstack "$@" > out 2> errors < /dev/null || got=$?
+    "${as[@]}" ./dmstack "$@" > out 2> errors < "$input" || got=$?
     if [ "$got $(cat out errors)" = "$status $output" ]; then
         passed=$((passed + 1))
     else
@@ -77,5 +84,42 @@ if cmp -s -n 512 made /dev/zero && ! cmp -s -n 1024 made /dev/zero; then passed=
 export LD_PRELOAD=$room/sync.so
 expect 1 'refused 5 Device' format "${sizes[@]}" data made
 unset LD_PRELOAD
+
+# A write that the system refuses in its middle leaves all sectors alone that weren't asked for.
+printf 'a,,,rw,0 4 linear D 1\n' > writable_stack
+head -c 2048 /dev/zero | tr '\0' x > source
+truncate -s 3072 image zeros
+chmod 666 image
+chmod 644 writable_stack source zeros
+ulimit -S -f 1
+expect 3 'fault 3 Device 2' write writable_stack a 0 source E=zero:1 D=rw:image
+ulimit -S -f "$limit"
+same 'a sector ahead of a refused write was changed' cmp -n 512 image zeros
+same 'a sector behind a refused write was changed' cmp -i 2560 image zeros
+
+# A sync that fails, of an image that was written; others aren't synced.
+printf 'load a,,,rw,0 4 linear D 1\nwrite a 0 1 ab\nread a 0 1\n' > lines
+export LD_PRELOAD=$room/sync.so
+expect 3 'fault 3 Device 2' write writable_stack a 0 source E=zero:1 D=rw:image
+expect 0 '0 all 78' read writable_stack a 0 1 D=rw:image
+expect 1 'refused 3 Length' write writable_stack a 0 lines D=rw:image
+input=lines
+expect 3 $'loaded 1\nwritten\n0 all ab\nfault 3 Device 1' session D=rw:image
+expect 0 $'loaded 1\nwritten\n0 all ab' session D=zero:5 E=rw:image
+unset LD_PRELOAD
+input=/dev/null
+
+# A full file system, where this one may mount a small one.
+mkdir full
+if mount -t tmpfs -o size=8k,mode=777 tmpfs full 2> mount_errors; then
+    trap 'umount full; rm -rf "$room"' EXIT
+    truncate -s 65536 full/image
+    chmod 666 full/image
+    truncate -s 65536 large
+    chmod 644 large
+    printf 'a,,,rw,0 128 linear D 0\n' > large_stack
+    expect 3 'fault 3 Device 1' write large_stack a 0 large D=rw:full/image
+    expect 0 '127 all 00' read large_stack a 127 1 D=rw:full/image
+fi
 echo "refused files: $passed passed, $failed failed"
 [ $failed = 0 ]

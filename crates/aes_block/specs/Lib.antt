@@ -1,7 +1,9 @@
 pub mod Field
 pub mod State
+pub mod Columns
 pub mod Rounds
 pub mod KeyExpansion
 pub mod Cipher
+pub mod Blocks
 pub mod Key
 pub mod AesKey

@@ -1,11 +1,13 @@
 //! An AES key.
 
-ghost use Rattle.std.specs.Prelude.{◌≡◌, ◌↔◌, length, IsSome, IfSome};
+ghost use Rattle.std.specs.Prelude.{◌≡◌, ◌↔◌, ◌%◌, length, IsSome, IfSome};
+ghost use Rattle.aes_block.specs.Blocks.{cipher_blocks, inverse_cipher_blocks};
 ghost use Rattle.aes_block.specs.Key.{IsKeyLength};
 ghost use Rattle.aes_block.specs.Cipher.{cipher, inverse_cipher};
 
+use crate::blocks::block;
 use crate::cipher::{cipher_with, inverse_cipher_with};
-use crate::key_expansion::{MAX_SCHEDULE, expand};
+use crate::key_expansion::{MAX_SCHEDULE, expand, unmixed};
 use std::marker::Model;
 
 /// A key of 16 or 32 bytes, with its key schedule. Contracts see it as those bytes.
@@ -13,6 +15,7 @@ use std::marker::Model;
 pub struct AesKey {
     rounds: usize,
     schedule: [u8; MAX_SCHEDULE],
+    unmixed: [u8; MAX_SCHEDULE],
 }
 
 impl Model for AesKey {
@@ -34,10 +37,14 @@ impl AesKey {
         ensures value { IfSome result (λ k. k ≡ key.now) }
     {
         match key.len() {
-            16 | 32 => Some(AesKey {
-                rounds: key.len() / 4 + 6,
-                schedule: expand(key),
-            }),
+            16 | 32 => {
+                let schedule = expand(key);
+                Some(AesKey {
+                    rounds: key.len() / 4 + 6,
+                    unmixed: unmixed(&schedule),
+                    schedule,
+                })
+            }
             _ => None,
         }
     }
@@ -55,6 +62,31 @@ impl AesKey {
         ensures value { result ≡ inverse_cipher self.now block.now }
         ensures inverse { cipher self.now result ≡ block.now }
     {
-        inverse_cipher_with(self.rounds, &self.schedule[..16 * (self.rounds + 1)], block)
+        let len = 16 * (self.rounds + 1);
+        inverse_cipher_with(self.rounds, &self.schedule[..len], &self.unmixed, block)
+    }
+
+    /// Enciphers each of whole blocks in place, one after the other.
+    pub fn encrypt_blocks(&self, bytes: &mut [u8])
+        requires { length bytes.old % 16 ≡ 0 }
+        ensures value { bytes.new ≡ cipher_blocks self.now bytes.old }
+        ensures inverse { inverse_cipher_blocks self.now bytes.new ≡ bytes.old }
+    {
+        for j in 0..bytes.len() / 16 {
+            let ciphertext = self.encrypt(&block(bytes, j));
+            bytes[16 * j..16 * j + 16].copy_from_slice(&ciphertext);
+        }
+    }
+
+    /// Deciphers each of whole blocks in place, one after the other.
+    pub fn decrypt_blocks(&self, bytes: &mut [u8])
+        requires { length bytes.old % 16 ≡ 0 }
+        ensures value { bytes.new ≡ inverse_cipher_blocks self.now bytes.old }
+        ensures inverse { cipher_blocks self.now bytes.new ≡ bytes.old }
+    {
+        for j in 0..bytes.len() / 16 {
+            let plaintext = self.decrypt(&block(bytes, j));
+            bytes[16 * j..16 * j + 16].copy_from_slice(&plaintext);
+        }
     }
 }

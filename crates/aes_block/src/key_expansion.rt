@@ -1,11 +1,13 @@
 //! The key expansion (FIPS 197, 5.2). Words lie one after the other, four bytes each.
 
-ghost use Rattle.std.specs.Prelude.{◌≡◌, ◌+◌, ◌*◌, ◌<◌, ◌≤◌, length, take};
-ghost use Rattle.aes_block.specs.KeyExpansion.{word, rot_word, sub_word, add_words, round_constant, key_term, rounds, key_schedule};
+ghost use Rattle.std.specs.Prelude.{◌≡◌, ℕ, ◌+◌, ◌*◌, ◌<◌, ◌≤◌, length, take};
+ghost use Rattle.aes_block.specs.KeyExpansion.{word, rot_word, sub_word, add_words, round_constant, key_term, rounds, key_schedule, round_key};
+ghost use Rattle.aes_block.specs.Rounds.{inv_mix_columns};
 ghost use Rattle.aes_block.specs.Key.{IsKeyLength};
 
 use crate::field::power_of_x;
 use crate::s_box::sub_byte;
+use crate::state::{State, inv_mix_columns};
 
 /// The most bytes of a key schedule: 15 round keys of 16.
 pub const MAX_SCHEDULE: usize = 240;
@@ -81,4 +83,25 @@ pub fn expand(key: &[u8]) -> [u8; MAX_SCHEDULE]
         schedule[4 * i..4 * i + 4].copy_from_slice(&next);
     }
     schedule
+}
+
+fn round_key(schedule: &[u8; MAX_SCHEDULE], round: usize) -> State
+    requires { round < 15 }
+    ensures { result ≡ round_key schedule.now round }
+{
+    let mut key = [0; 16];
+    key.copy_from_slice(&schedule[16 * round..16 * round + 16]);
+    key
+}
+
+/// The round keys of a key schedule after InvMixColumns, by which a round of the inverse cipher may add its key last.
+pub fn unmixed(schedule: &[u8; MAX_SCHEDULE]) -> [u8; MAX_SCHEDULE]
+    ensures { (r : ℕ) → r < 15 → round_key result r ≡ inv_mix_columns (round_key schedule.now r) }
+{
+    let mut unmixed = [0; MAX_SCHEDULE];
+    for round in 0..15 {
+        let key = inv_mix_columns(&round_key(schedule, round));
+        unmixed[16 * round..16 * round + 16].copy_from_slice(&key);
+    }
+    unmixed
 }

@@ -10,16 +10,24 @@
 //! left by r, multiplies each column by a fixed matrix, and adds its round key (`rounds`); the last round leaves
 //! out the matrix. Deciphering undoes these steps, the last one first.
 //!
-//! Start at `AesKey`, and read on in `cipher`, `rounds`, `s_box` and `field`. What each function gives is defined
-//! in `specs/` in the standard's order and terms; by those definitions the standard's examples are computed.
+//! The code runs a round on the state's four columns as words, by tables that hold what a byte of a column becomes
+//! under all of a round's maps (`encryption_tables`, `decryption_tables`). The plain maps remain in the definitions.
+//!
+//! Start at `AesKey`, and read on in `cipher`, `rounds` and `columns`. What each function gives is defined in `specs/`
+//! in the standard's order and terms; by those definitions the standard's examples are computed.
 #![tactic(auto)]
 
 mod aes_key;
+mod blocks;
 mod cipher;
+mod columns;
+mod decryption_tables;
+mod encryption_tables;
 mod field;
 mod key_expansion;
 mod rounds;
 mod s_box;
+mod state;
 
 pub use aes_key::AesKey;
 

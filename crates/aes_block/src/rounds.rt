@@ -1,108 +1,119 @@
-//! The transformations of a round (FIPS 197, 5.1.1 to 5.1.4) and their inverses (5.3.1 to 5.3.4).
+//! The rounds of the cipher (FIPS 197, 5.1) and of its inverse (5.3), each column by four tables.
 
 ghost use Rattle.std.specs.Prelude.{◌≡◌, ℕ, ◌<◌};
 ghost use Rattle.aes_block.specs.State.{byte_at};
-ghost use Rattle.aes_block.specs.Rounds.{sub_bytes, shift_rows, mixed_byte, mix_columns, add_round_key, inv_shift_rows, inv_sub_bytes, unmixed_byte, inv_mix_columns};
+ghost use Rattle.aes_block.specs.Columns.{row_of, state_of_columns};
+ghost use Rattle.aes_block.specs.Rounds.{sub_bytes, shift_rows, mix_columns, add_round_key, inv_shift_rows, inv_sub_bytes, inv_mix_columns};
 
-use crate::field::multiply;
-use crate::s_box::{inv_sub_byte, sub_byte};
+use crate::columns::{Columns, add_round_key, shifted_byte, unshifted_byte};
+use crate::decryption_tables::{DECRYPTION_0, DECRYPTION_1, DECRYPTION_2, DECRYPTION_3};
+use crate::encryption_tables::{ENCRYPTION_0, ENCRYPTION_1, ENCRYPTION_2, ENCRYPTION_3};
+use crate::s_box::{INV_S_BOX, S_BOX};
 
-/// Four rows and four columns of bytes: byte i stands in row i % 4 and column i / 4.
-pub type State = [u8; 16];
-
-fn byte_at(state: &State, row: usize, column: usize) -> u8
-    requires row { row < 4 }
-    requires column { column < 4 }
-    ensures { result ≡ byte_at state.now row column }
+/// A column after SubBytes, ShiftRows and MixColumns.
+#[inline(always)]
+fn mixed_column(state: &Columns, column: usize) -> u32
+    requires { column < 4 }
+    ensures { (row : ℕ) → row < 4 → row_of result row ≡ byte_at (mix_columns (shift_rows (sub_bytes (state_of_columns state.now)))) row column }
 {
-    state[4 * column + row]
+    ENCRYPTION_0[shifted_byte(state, 0, column)]
+        ^ ENCRYPTION_1[shifted_byte(state, 1, column)]
+        ^ ENCRYPTION_2[shifted_byte(state, 2, column)]
+        ^ ENCRYPTION_3[shifted_byte(state, 3, column)]
 }
 
-/// The state whose byte in each row and column is `byte(row, column)`.
-fn state_of<F: Fn(usize, usize) -> u8>(byte: F) -> State
-    requires { (row column : ℕ) → row < 4 → column < 4 → F.pre byte row column }
-    ensures { (row column : ℕ) → row < 4 → column < 4 → F.post byte row column (byte_at result row column) }
+/// A round.
+#[inline(always)]
+pub fn round(state: &Columns, key: Columns) -> Columns
+    ensures { state_of_columns result ≡ add_round_key (mix_columns (shift_rows (sub_bytes (state_of_columns state.now)))) (state_of_columns key) }
 {
-    let mut state = [0; 16];
-    for (i, place) in state.iter_mut().enumerate() {
-        *place = byte(i % 4, i / 4);
-    }
-    state
+    let mixed = [
+        mixed_column(state, 0),
+        mixed_column(state, 1),
+        mixed_column(state, 2),
+        mixed_column(state, 3),
+    ];
+    add_round_key(mixed, key)
 }
 
-/// SubBytes (5.1.1).
-pub fn sub_bytes(state: &State) -> State
-    ensures { result ≡ sub_bytes state.now }
+/// A column after SubBytes and ShiftRows.
+#[inline(always)]
+fn shifted_column(state: &Columns, column: usize) -> u32
+    requires { column < 4 }
+    ensures { (row : ℕ) → row < 4 → row_of result row ≡ byte_at (shift_rows (sub_bytes (state_of_columns state.now))) row column }
 {
-    state_of(|row, column| sub_byte(byte_at(state, row, column)))
+    u32::from_le_bytes([
+        S_BOX[shifted_byte(state, 0, column)],
+        S_BOX[shifted_byte(state, 1, column)],
+        S_BOX[shifted_byte(state, 2, column)],
+        S_BOX[shifted_byte(state, 3, column)],
+    ])
 }
 
-/// ShiftRows (5.1.2): row r is rotated left by r.
-pub fn shift_rows(state: &State) -> State
-    ensures { result ≡ shift_rows state.now }
+/// The last round, which has no MixColumns.
+#[inline(always)]
+pub fn last_round(state: &Columns, key: Columns) -> Columns
+    ensures { state_of_columns result ≡ add_round_key (shift_rows (sub_bytes (state_of_columns state.now))) (state_of_columns key) }
 {
-    state_of(|row, column| byte_at(state, row, (column + row) % 4))
+    let shifted = [
+        shifted_column(state, 0),
+        shifted_column(state, 1),
+        shifted_column(state, 2),
+        shifted_column(state, 3),
+    ];
+    add_round_key(shifted, key)
 }
 
-/// A byte of a mixed column, of the column's bytes from the same row on.
-fn mixed_byte(a: u8, b: u8, c: u8, d: u8) -> u8
-    ensures { result ≡ mixed_byte a b c d }
+/// A column after InvShiftRows, InvSubBytes and InvMixColumns.
+#[inline(always)]
+fn unmixed_column(state: &Columns, column: usize) -> u32
+    requires { column < 4 }
+    ensures { (row : ℕ) → row < 4 → row_of result row ≡ byte_at (inv_mix_columns (inv_sub_bytes (inv_shift_rows (state_of_columns state.now)))) row column }
 {
-    multiply(a, 2) ^ multiply(b, 3) ^ (c ^ d)
+    DECRYPTION_0[unshifted_byte(state, 0, column)]
+        ^ DECRYPTION_1[unshifted_byte(state, 1, column)]
+        ^ DECRYPTION_2[unshifted_byte(state, 2, column)]
+        ^ DECRYPTION_3[unshifted_byte(state, 3, column)]
 }
 
-/// MixColumns (5.1.3).
-pub fn mix_columns(state: &State) -> State
-    ensures { result ≡ mix_columns state.now }
+/// A round of the inverse cipher. Its round key is unmixed too, since InvMixColumns is linear.
+#[inline(always)]
+pub fn inverse_round(state: &Columns, unmixed_key: Columns) -> Columns
+    ensures { state_of_columns result ≡ add_round_key (inv_mix_columns (inv_sub_bytes (inv_shift_rows (state_of_columns state.now)))) (state_of_columns unmixed_key) }
 {
-    state_of(|row, column| {
-        mixed_byte(
-            byte_at(state, row, column),
-            byte_at(state, (row + 1) % 4, column),
-            byte_at(state, (row + 2) % 4, column),
-            byte_at(state, (row + 3) % 4, column),
-        )
-    })
+    let unmixed = [
+        unmixed_column(state, 0),
+        unmixed_column(state, 1),
+        unmixed_column(state, 2),
+        unmixed_column(state, 3),
+    ];
+    add_round_key(unmixed, unmixed_key)
 }
 
-/// AddRoundKey (5.1.4), which is its own inverse (5.3.4).
-pub fn add_round_key(state: &State, round_key: &State) -> State
-    ensures { result ≡ add_round_key state.now round_key.now }
+/// A column after InvShiftRows and InvSubBytes.
+#[inline(always)]
+fn unshifted_column(state: &Columns, column: usize) -> u32
+    requires { column < 4 }
+    ensures { (row : ℕ) → row < 4 → row_of result row ≡ byte_at (inv_sub_bytes (inv_shift_rows (state_of_columns state.now))) row column }
 {
-    state_of(|row, column| byte_at(state, row, column) ^ byte_at(round_key, row, column))
+    u32::from_le_bytes([
+        INV_S_BOX[unshifted_byte(state, 0, column)],
+        INV_S_BOX[unshifted_byte(state, 1, column)],
+        INV_S_BOX[unshifted_byte(state, 2, column)],
+        INV_S_BOX[unshifted_byte(state, 3, column)],
+    ])
 }
 
-/// InvShiftRows (5.3.1): row r is rotated right by r.
-pub fn inv_shift_rows(state: &State) -> State
-    ensures { result ≡ inv_shift_rows state.now }
+/// The last round of the inverse cipher, which has no InvMixColumns.
+#[inline(always)]
+pub fn last_inverse_round(state: &Columns, key: Columns) -> Columns
+    ensures { state_of_columns result ≡ add_round_key (inv_sub_bytes (inv_shift_rows (state_of_columns state.now))) (state_of_columns key) }
 {
-    state_of(|row, column| byte_at(state, row, (column + 4 - row) % 4))
-}
-
-/// InvSubBytes (5.3.2).
-pub fn inv_sub_bytes(state: &State) -> State
-    ensures { result ≡ inv_sub_bytes state.now }
-{
-    state_of(|row, column| inv_sub_byte(byte_at(state, row, column)))
-}
-
-/// A byte of an unmixed column, of the column's bytes from the same row on.
-fn unmixed_byte(a: u8, b: u8, c: u8, d: u8) -> u8
-    ensures { result ≡ unmixed_byte a b c d }
-{
-    multiply(a, 14) ^ multiply(b, 11) ^ (multiply(c, 13) ^ multiply(d, 9))
-}
-
-/// InvMixColumns (5.3.3).
-pub fn inv_mix_columns(state: &State) -> State
-    ensures { result ≡ inv_mix_columns state.now }
-{
-    state_of(|row, column| {
-        unmixed_byte(
-            byte_at(state, row, column),
-            byte_at(state, (row + 1) % 4, column),
-            byte_at(state, (row + 2) % 4, column),
-            byte_at(state, (row + 3) % 4, column),
-        )
-    })
+    let unshifted = [
+        unshifted_column(state, 0),
+        unshifted_column(state, 1),
+        unshifted_column(state, 2),
+        unshifted_column(state, 3),
+    ];
+    add_round_key(unshifted, key)
 }

@@ -3,6 +3,7 @@
 
 mod compared;
 mod verity;
+mod xts;
 
 use crate::compared::compare;
 use crate::verity::{Area, Digests, Format, Images, Verify};
@@ -25,6 +26,7 @@ fn main(rt: HostRuntime) -> anyhow::Result<()> {
             "verify",
             &mut Verify::new(alloc, Images::open(&rt, data, hash)?)?,
         ),
-        _ => Ok(println!(rt; "digest, area, format DATA HASH, or verify DATA HASH")?),
+        [_, "xts"] => xts::measure(&rt),
+        _ => Ok(println!(rt; "digest, area, format DATA HASH, verify DATA HASH, or xts")?),
     }
 }

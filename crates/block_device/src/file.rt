@@ -89,7 +89,7 @@ impl FileDev {
     }
 }
 
-fn is_block_device(metadata: &Metadata) -> bool
+pub(crate) fn is_block_device(metadata: &Metadata) -> bool
     ensures { IsTrue result ↔ IsBlockDevice (file_type metadata.now) }
 {
     metadata.mode() & KIND_BITS == BLOCK_DEVICE
@@ -125,7 +125,7 @@ fn device_of(mut file: File, metadata: &Metadata, writable: bool) -> Result<File
     }
     Ok(FileDev {
         file,
-        id: FileId::of(metadata, is_block_device(metadata)),
+        id: FileId::of(metadata),
         sectors,
         writable,
         reads: 0,

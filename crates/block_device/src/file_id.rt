@@ -1,4 +1,5 @@
 // Which file an open one is.
+use crate::file::is_block_device;
 use std::fs::Metadata;
 use std::os::unix::fs::MetadataExt;
 
@@ -13,9 +14,9 @@ pub enum FileId {
 }
 
 impl FileId {
-    // The identity that the system tells, if it does: where it tells nothing, all numbers are 0.
-    pub(crate) fn of(metadata: &Metadata, is_block_device: bool) -> Option<FileId> {
-        if is_block_device {
+    /// The identity that the system tells of an open file, if it does: where it tells nothing, all numbers are 0.
+    pub fn of(metadata: &Metadata) -> Option<FileId> {
+        if is_block_device(metadata) {
             return match metadata.rdev() {
                 0 => None,
                 number => Some(FileId::BlockDevice(number)),

@@ -7,7 +7,8 @@ use Rattle.dm_table.specs.declared.fault.TextKind.{TextKind}
 use Rattle.dm_table.specs.declared.fault.TextKind.TheVariants as kinds
 use Rattle.dm_table.specs.Words.{Word}
 use Rattle.dm_table.specs.Reading.{◌>>=◌}
-use Rattle.dm_table.specs.Lines.{number_at, linear_at, stripes_at, chunk_at, pairs_at, bases_at, striped_at, bare_at, target_at, line_of}
+use Rattle.dm_table.specs.Arguments.{number_at}
+use Rattle.dm_table.specs.Lines.{linear_at, stripes_at, chunk_at, pairs_at, bases_at, striped_at, bare_at, target_at, line_of}
 
 -- a striped line at each of its faults
 pub striped-stripes : (count size : Word) (pairs : List Word) (kind : TextKind) → stripes_at count ≡ Err kind → striped_at (count ∷ size ∷ pairs) ≡ Err kind

@@ -1,5 +1,5 @@
 -- Results of readers, put together from the parts.
-use Rattle.std.proofs.Common.{◌≡◌, List, [], ◌∷◌, ◌++◌, Result, Ok, Err, IsErrAnd, MatchResult, subst, refl, ap, append-nil, append_assoc, sym}
+use Rattle.std.proofs.Common.{◌≡◌, List, [], ◌∷◌, ◌++◌, Result, Ok, Err, IsErrAnd, MatchResult, subst, refl, ap, append-nil, append_assoc, sym, ◌∙◌}
 use Rattle.dm_table.specs.declared.fault.LineFault.{LineFault}
 use Rattle.dm_table.specs.declared.fault.LineFault.TheVariants as line_fault
 use Rattle.dm_table.specs.declared.fault.ParseFault.{ParseFault}
@@ -45,3 +45,8 @@ exit_text (Err e) parse_fault.NoMemory part answer h p f = rw h tt
 pub exit_same : {A E : Type 0} (r : Result A E) (P : A → Type 0) (Q : E → Type 0) (fault : E) → IsErrAnd r (λ e. e ≡ fault) → Q fault → MatchResult r P Q
 exit_same (Ok x) P Q fault h q = absurd h
 exit_same (Err e) P Q fault h q = subst Q (sym h) q
+
+-- the exit of a `?` where the fault is the whole answer
+pub exit_value : {A E : Type 0} (r answer : Result A E) (fault : E) → IsErrAnd r (λ e. e ≡ fault) → answer ≡ Err fault → r ≡ answer
+exit_value (Ok x) answer fault h e = absurd h
+exit_value (Err x) answer fault h e = ap Err h ∙ sym e

@@ -11,7 +11,8 @@ use Rattle.dm_table.specs.declared.fault.TextKind.TheVariants as kinds
 use Rattle.dm_table.specs.Words.{words, trimmed_text, lines_of, entries_of, fields_of}
 use Rattle.dm_table.specs.Numbers.{number}
 use Rattle.dm_table.specs.Names.{is_mapped_name, is_device}
-use Rattle.dm_table.specs.Lines.{base_at, linear_at, striped_at, bare_at, target_at, line_of}
+use Rattle.dm_table.specs.Arguments.{base_at}
+use Rattle.dm_table.specs.Lines.{linear_at, striped_at, bare_at, target_at, line_of}
 use Rattle.dm_table.specs.TableText.{table_of}
 use Rattle.dm_table.specs.StackText.{head_of, entry_of, stack_of}
 use Rattle.dm_table.specs.Print.{target_words, line_text, table_text}

@@ -3,6 +3,10 @@ pub mod TextKinds
 pub mod Numbers
 pub mod Names
 pub mod Reading
+pub mod Arguments
+pub mod Options
+pub mod Crypt
+pub mod Verity
 pub mod Lines
 pub mod Grammar
 pub mod TableText

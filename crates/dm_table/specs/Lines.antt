@@ -8,21 +8,8 @@ use Rattle.dm_table.specs.declared.table.Target.TheVariants.{Linear, Striped, Ze
 use Rattle.dm_table.specs.declared.fault.TextKind.TheVariants as kinds
 use Rattle.dm_table.specs.Words.{Word}
 use Rattle.dm_table.specs.Numbers.{number, number_if}
-use Rattle.dm_table.specs.Names.{is_device}
 use Rattle.dm_table.specs.Reading.{Read, ◌>>=◌}
-
-abbrev pub device_at : Word → Read Word
-device_at word = if is_device word then Ok word else Err kinds.Name
-
-abbrev pub number_at : Word → Read ℕ
-number_at word = ok_or (number word) kinds.Number
-
--- `<dev> <offset>`
-unfoldable pub base_at : Word → Word → Read Base
-base_at name offset = do
-  device ← device_at name
-  sector ← number_at offset
-  Ok (record { device = device; offset = sector })
+use Rattle.dm_table.specs.Arguments.{number_at, base_at}
 
 -- exactly `<dev> <offset>`
 unfoldable pub linear_at : List Word → Read Target

@@ -1,6 +1,9 @@
 //! Numbers in a text.
 ghost use Rattle.std.specs.Prelude.{◌≡◌};
 ghost use Rattle.dm_table.specs.Numbers.{number};
+ghost use Rattle.dm_table.specs.Arguments.{number_at};
+
+use crate::fault::TextKind;
 
 /// The value of one or more decimal digits, if it is below 2^64. Leading zeros are allowed; a sign,
 /// a base and white space are not.
@@ -18,4 +21,11 @@ pub fn number(word: &[u8]) -> Option<u64>
         value = value.checked_mul(10)?.checked_add(u64::from(*byte - b'0'))?;
     }
     Some(value)
+}
+
+/// The number, or the fault `Number`.
+pub(crate) fn read_number(word: &[u8]) -> Result<u64, TextKind>
+    ensures { result ≡ number_at word.now }
+{
+    number(word).ok_or(TextKind::Number)
 }

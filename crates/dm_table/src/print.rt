@@ -79,7 +79,7 @@ fn print_bases(text: &mut Vec<u8>, bases: &[Base]) -> Result<(), AllocError>
     Ok(())
 }
 
-fn print_base(text: &mut Vec<u8>, base: &Base) -> Result<(), AllocError>
+pub(crate) fn print_base(text: &mut Vec<u8>, base: &Base) -> Result<(), AllocError>
     ensures { OnOk result
         (text.new.items ≡ text.old.items ++ flat_map spaced_word (base_words base.now)) }
 {
@@ -87,14 +87,14 @@ fn print_base(text: &mut Vec<u8>, base: &Base) -> Result<(), AllocError>
     push_spaced_number(text, base.offset)
 }
 
-fn push_spaced(text: &mut Vec<u8>, word: &[u8]) -> Result<(), AllocError>
+pub(crate) fn push_spaced(text: &mut Vec<u8>, word: &[u8]) -> Result<(), AllocError>
     ensures { OnOk result (text.new.items ≡ text.old.items ++ 32 ∷ word.now) }
 {
     text.push(b' ')?;
     text.extend_from_slice(word)
 }
 
-fn push_spaced_number(text: &mut Vec<u8>, number: u64) -> Result<(), AllocError>
+pub(crate) fn push_spaced_number(text: &mut Vec<u8>, number: u64) -> Result<(), AllocError>
     ensures { OnOk result (text.new.items ≡ text.old.items ++ 32 ∷ decimal number) }
 {
     text.push(b' ')?;

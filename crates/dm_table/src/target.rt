@@ -1,7 +1,8 @@
 //! The target of a line.
 ghost use Rattle.std.specs.Prelude.{◌≡◌, length, ◌*◌};
 ghost use Rattle.dm_table.specs.Reading.{IsReading};
-ghost use Rattle.dm_table.specs.Lines.{base_at, bases_at, chunk_at, linear_at, stripes_at, striped_at, target_at, bare_at};
+ghost use Rattle.dm_table.specs.Arguments.{base_at};
+ghost use Rattle.dm_table.specs.Lines.{bases_at, chunk_at, linear_at, stripes_at, striped_at, target_at, bare_at};
 
 use crate::cut::Words;
 use crate::fault::{LineFault, TextKind};
@@ -79,7 +80,11 @@ fn chunk_size(word: &[u8]) -> Result<u64, TextKind>
     }
 }
 
-fn read_bases(alloc: Global, mut words: Words<'_>, count: usize) -> Result<Bases, LineFault>
+pub(crate) fn read_bases(
+    alloc: Global,
+    mut words: Words<'_>,
+    count: usize,
+) -> Result<Bases, LineFault>
     ensures { IsReading result (bases_at words.entry) }
 {
     let mut bases = Bases::with_capacity(alloc, count)?;
@@ -90,7 +95,7 @@ fn read_bases(alloc: Global, mut words: Words<'_>, count: usize) -> Result<Bases
     Ok(bases)
 }
 
-fn read_base(alloc: Global, device: &[u8], offset: &[u8]) -> Result<Base, LineFault>
+pub(crate) fn read_base(alloc: Global, device: &[u8], offset: &[u8]) -> Result<Base, LineFault>
     ensures { IsReading result (base_at device.now offset.now) }
 {
     if !is_device(device) {

@@ -1,6 +1,11 @@
 -- What callers may cite.
+pub mod AreaBlockLemmas
+pub mod BuilderLemmas
+pub mod BuildingLemmas
+pub mod GrowLemmas
 pub mod LawLemmas
 pub mod PackingLemmas
+pub mod PlacingLemmas
 pub mod ShapeFactLemmas
 pub mod ShapeFaultLemmas
 pub mod ShapeLemmas

@@ -3,6 +3,7 @@ ghost use Rattle.std.specs.Prelude.{◌≡◌, ◌≢◌, IfSome, IsSome};
 ghost use Rattle.hash_tree.specs.Chain.{IsGood};
 ghost use Rattle.hash_tree.specs.Difference.{IsTopmostDifference, IsCollision, block_at};
 ghost use Rattle.hash_tree.specs.Laws.{LevelsAreLeast, PlacesLieInside, SlotsLieInside, AncestorsAreBlocks, PlacesAreTakenOnce, TreesStandInShape, FormedChainsAreGood, GoodChainsAreWhole, DifferencesCollide, GoodChainsCollide, ForgedBlocksCollide};
+ghost use Rattle.hash_tree.specs.Building.{BuildersMakeTheArea};
 
 use crate::{Chain, Place, Salt, Shape, collide};
 
@@ -34,6 +35,11 @@ pub fn places_are_taken_once()
 /// The place that a shape gives is the block's place in the area's list.
 pub fn trees_stand_in_shape()
     ensures { TreesStandInShape }
+{}
+
+/// The blocks that a builder puts out are those of the area, each once and at its place, and it gives the root.
+pub fn builders_make_the_area()
+    ensures { BuildersMakeTheArea }
 {}
 
 /// The chain formed of a data block is good under the root.

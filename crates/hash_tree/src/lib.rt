@@ -1,9 +1,10 @@
 //! Hash trees as dm-verity stores them: shapes, digests, chains of blocks up to the root, and where two chains differ.
 #![tactic(auto)]
 
+mod block_digests;
+mod building;
 mod chain;
 mod difference;
-mod digests;
 pub mod laws;
 mod packing;
 mod salt;
@@ -13,9 +14,10 @@ mod tests;
 #[cfg(test)]
 mod vectors;
 
+pub use block_digests::{digest, digest_in, digests};
+pub use building::{LevelBuilder, Placed};
 pub use chain::Chain;
 pub use difference::{Place, collide};
-pub use digests::{digest, digest_in};
 pub use packing::area;
 pub use salt::Salt;
 pub use shape::{Shape, ShapeFault};

@@ -1,4 +1,5 @@
 // What no clause says: trees that veritysetup made, and that each call succeeds.
+mod builders;
 mod large;
 
 use crate::vectors::{MADE, Made};

@@ -3,3 +3,4 @@ pub mod CommandWordLemmas
 pub mod ConfigurationLemmas
 pub mod EndingLemmas
 pub mod FileUseLemmas
+pub mod SyncLemmas

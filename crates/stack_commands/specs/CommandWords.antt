@@ -10,9 +10,11 @@ use Rattle.dm_table.specs.Numbers.{number, number_if}
 use Rattle.stack_commands.specs.declared.fault.CommandFault.{CommandFault}
 use Rattle.stack_commands.specs.declared.fault.CommandFault.TheVariants.{Usage, NoMemory}
 use Rattle.stack_commands.specs.declared.command_words.Invocation.{Invocation}
-use Rattle.stack_commands.specs.declared.command_words.Invocation.TheVariants.{Load, Read, Session, Format, Verify, Dump, Table}
+use Rattle.stack_commands.specs.declared.command_words.Invocation.TheVariants.{Load, Read, Write, Session, Format, Verify, Dump, Table}
 use Rattle.stack_commands.specs.declared.command_words.Sectors.{Sectors}
+use Rattle.stack_commands.specs.declared.command_words.Transfer.{Transfer}
 use Rattle.stack_commands.specs.Reads.{Wanted}
+use Rattle.stack_commands.specs.Transfers.{Place}
 use Rattle.stack_commands.specs.Bindings.{BindingRecord, binding_of, binding_record}
 
 pub data InvocationRecord : Type 0 where
@@ -20,6 +22,8 @@ pub data InvocationRecord : Type 0 where
   load : List ℕ → List BindingRecord → InvocationRecord
   -- how many blocks are cached, a stack file, a device's name, its first sector and how many, and bindings
   read : ℕ → List ℕ → List ℕ → ℕ → ℕ → List BindingRecord → InvocationRecord
+  -- how many blocks are cached, a stack file, a device's name, its first sector, a source file, and bindings
+  write : ℕ → List ℕ → List ℕ → ℕ → List ℕ → List BindingRecord → InvocationRecord
   -- how many blocks are cached, and bindings
   session : ℕ → List BindingRecord → InvocationRecord
   -- a data image, and a hash image
@@ -65,6 +69,15 @@ abbrev pub read_of : ℕ → List (List ℕ) → Option InvocationRecord
 read_of cache (stack ∷ name ∷ first ∷ count ∷ words) = read_at cache stack name (number first) (number count) (bindings_of words)
 read_of cache words = None
 
+abbrev pub write_at : ℕ → List ℕ → List ℕ → Option ℕ → List ℕ → Option (List BindingRecord) → Option InvocationRecord
+write_at cache stack name (Some first) source bindings = option_map (write cache stack name first source) bindings
+write_at cache stack name None source bindings = None
+
+-- `STACK NAME FIRST SOURCE BINDING...`
+abbrev pub write_of : ℕ → List (List ℕ) → Option InvocationRecord
+write_of cache (stack ∷ name ∷ first ∷ source ∷ words) = write_at cache stack name (number first) source (bindings_of words)
+write_of cache words = None
+
 -- `BINDING...`
 abbrev pub session_of : ℕ → List (List ℕ) → Option InvocationRecord
 session_of cache words = option_map (session cache) (bindings_of words)
@@ -103,6 +116,7 @@ abbrev pub invocation_at : List ℕ → ℕ → List (List ℕ) → Option Invoc
 invocation_at name cache words =
     if bytes_eq name (codes "load") then load_of words
     else if bytes_eq name (codes "read") then read_of cache words
+    else if bytes_eq name (codes "write") then write_of cache words
     else if bytes_eq name (codes "session") then session_of cache words
     else if bytes_eq name (codes "format") then format_of words
     else if bytes_eq name (codes "verify") then verify_of words
@@ -120,6 +134,7 @@ invocation_of name cache words =
 abbrev pub invocation_record : Invocation → InvocationRecord
 invocation_record (Load stack bindings) = load stack.now (map binding_record bindings.items)
 invocation_record (Read cache stack sectors bindings) = read cache stack.now sectors.name.now sectors.first sectors.count (map binding_record bindings.items)
+invocation_record (Write cache stack transfer bindings) = write cache stack.now transfer.name.now transfer.first transfer.source.now (map binding_record bindings.items)
 invocation_record (Session cache bindings) = session cache (map binding_record bindings.items)
 invocation_record (Format image hash) = format image.now hash.now
 invocation_record (Verify image hash root) = verify image.now hash.now root
@@ -129,6 +144,10 @@ invocation_record (Table hash root image_name hash_name) = table hash.now root i
 -- the sectors that are wanted
 abbrev pub wanted_of : Sectors → Wanted
 wanted_of sectors = record { name = sectors.name.now; first = sectors.first; count = sectors.count }
+
+-- where a transfer's bytes go
+abbrev pub place_of : Transfer → Place
+place_of transfer = record { name = transfer.name.now; first = transfer.first }
 
 -- the fault is `Usage` with that cause, or memory ran out
 abbrev pub IsUsage : CommandFault → Type 0 → Type 0

@@ -1,5 +1,5 @@
 -- Which files are open, and how: one file may not be open twice where one of the two may write.
-use Rattle.std.specs.Prelude.{◌≡◌, ◌==◌, ◌&&◌, ◌||◌, Bool, true, false, List, [], ◌∷◌, Option, Some, None}
+use Rattle.std.specs.Prelude.{◌≡◌, ◌==◌, ◌&&◌, ◌||◌, Bool, true, false, List, [], ◌∷◌, ◌++◌, map, Option, Some, None}
 use Rattle.std.specs.List.{list_any}
 use Rattle.block_device.specs.Any.{any_id}
 use Rattle.block_device.specs.FileId.{file_id}
@@ -28,7 +28,15 @@ is_clash a b = is_one_file a.id b.id && (a.writable || b.writable)
 abbrev pub use_of : AnyDev → FileUse
 use_of device = record { id = any_id device; writable = (ghosts.state device).may_write }
 
--- no two of the devices clash: none with a later one
-abbrev pub AreApart : List AnyDev → Type 0
+-- no two of the uses clash: none with a later one
+abbrev pub AreApart : List FileUse → Type 0
 AreApart [] = Unit {0}
-AreApart (device ∷ devices) = (list_any (λ other. is_clash (use_of device) (use_of other)) devices ≡ false) × AreApart devices
+AreApart (file ∷ files) = (list_any (λ other. is_clash file other) files ≡ false) × AreApart files
+
+-- nor do these files and the devices
+abbrev pub AreApartBeside : List FileUse → List AnyDev → Type 0
+AreApartBeside files devices = AreApart (files ++ map use_of devices)
+
+-- a file clashes with one of these files or of the devices
+abbrev pub has_clash : List FileUse → List AnyDev → FileUse → Bool
+has_clash files devices file = list_any (λ other. is_clash other file) files || list_any (λ other. is_clash (use_of other) file) devices

@@ -7,3 +7,4 @@ pub mod Formats
 pub mod Reads
 pub mod SuperblockTexts
 pub mod VerityTexts
+pub mod Transfers

@@ -2,7 +2,7 @@
 ghost use Rattle.std.specs.Prelude.{◌≡◌, map, drop, Some, None, IfOk, IfErr, option_map};
 ghost use Rattle.std.specs.List.{list_any};
 ghost use Rattle.stack_commands.specs.Bindings.{binding_record};
-ghost use Rattle.stack_commands.specs.CommandWords.{IsUsage, bindings_of, cache_of, dump_of, format_of, invocation_at, invocation_of, invocation_record, is_option, load_of, read_of, root_of, session_of, table_of, verify_of};
+ghost use Rattle.stack_commands.specs.CommandWords.{IsUsage, bindings_of, cache_of, dump_of, format_of, invocation_at, invocation_of, invocation_record, is_option, load_of, read_of, root_of, session_of, table_of, verify_of, write_of};
 
 use crate::bindings::{Binding, binding_of};
 use crate::fault::CommandFault;
@@ -21,6 +21,14 @@ pub struct Sectors<'a> {
     pub count: u64,
 }
 
+/// A file whose bytes are written, and the mapped device to which they go from its sector `first` on.
+#[derive(Clone, Copy, Debug, PartialEq, Eq)]
+pub struct Transfer<'a> {
+    pub name: &'a str,
+    pub first: u64,
+    pub source: &'a str,
+}
+
 /// A command with its positional words, and how many blocks are cached.
 #[derive(Debug, Drop)]
 pub enum Invocation<'a> {
@@ -34,6 +42,13 @@ pub enum Invocation<'a> {
         cache: u32,
         stack: &'a str,
         sectors: Sectors<'a>,
+        bindings: Vec<Binding<'a>>,
+    },
+    /// `write [--cache N] STACK NAME FIRST SOURCE BINDING...`
+    Write {
+        cache: u32,
+        stack: &'a str,
+        transfer: Transfer<'a>,
         bindings: Vec<Binding<'a>>,
     },
     /// `session [--cache N] BINDING...`
@@ -98,6 +113,8 @@ fn invocation_at<'a>(
         load_of(alloc, words)
     } else if name == b"read".as_slice() {
         read_of(alloc, cache, words)
+    } else if name == b"write".as_slice() {
+        write_of(alloc, cache, words)
     } else if name == b"session".as_slice() {
         session_of(alloc, cache, words)
     } else if name == b"format".as_slice() {
@@ -147,6 +164,36 @@ fn read_of<'a>(
             cache,
             stack,
             sectors: Sectors { name, first, count },
+            bindings,
+        }),
+        Err(fault) => Err(fault),
+    }
+}
+
+// `STACK NAME FIRST SOURCE BINDING...`
+fn write_of<'a>(
+    alloc: Global,
+    cache: u32,
+    words: &[&'a str],
+) -> Result<Invocation<'a>, CommandFault<'a>>
+    ensures ok { IfOk result (λ got. write_of cache (map (λ word. word.now) words.now) ≡ Some (invocation_record got)) }
+    ensures err { IfErr result (λ fault. IsUsage fault (write_of cache (map (λ word. word.now) words.now) ≡ None)) }
+{
+    let [stack, name, first, source, rest @ ..] = words else {
+        return Err(CommandFault::Usage);
+    };
+    let Some(first) = number(first.as_bytes()) else {
+        return Err(CommandFault::Usage);
+    };
+    match bindings_of(alloc, rest) {
+        Ok(bindings) => Ok(Invocation::Write {
+            cache,
+            stack,
+            transfer: Transfer {
+                name,
+                first,
+                source,
+            },
             bindings,
         }),
         Err(fault) => Err(fault),

@@ -1,7 +1,7 @@
 // Which files are open, and how.
 ghost use Rattle.std.specs.Prelude.{◌≡◌};
 ghost use Rattle.std.specs.List.{list_any};
-ghost use Rattle.stack_commands.specs.FileUses.{is_clash, is_id, is_one_file, use_of};
+ghost use Rattle.stack_commands.specs.FileUses.{has_clash, is_clash, is_id, is_one_file, use_of};
 
 use block_device::{AnyDev, BlockDev, FileId};
 
@@ -22,11 +22,34 @@ fn use_of(device: &AnyDev) -> FileUse
     }
 }
 
-/// Whether one of the devices clashes with a device.
-pub fn has_clash(devices: &[AnyDev], device: &AnyDev) -> bool
-    ensures { result ≡ list_any (λ other. is_clash (use_of other) (use_of device.now)) devices.now }
+/// Whether one of the files or of the devices clashes with a device.
+pub fn has_clash(files: &[FileUse], devices: &[AnyDev], device: &AnyDev) -> bool
+    ensures { result ≡ has_clash files.now devices.now (use_of device.now) }
 {
-    let file = use_of(device);
+    clashes(files, devices, use_of(device))
+}
+
+// The same of a file.
+fn clashes(files: &[FileUse], devices: &[AnyDev], file: FileUse) -> bool
+    ensures { result ≡ has_clash files.now devices.now file }
+{
+    if is_open(files, file) {
+        return true;
+    }
+    is_bound(devices, file)
+}
+
+// Whether one of the files clashes with a file.
+fn is_open(files: &[FileUse], file: FileUse) -> bool
+    ensures { result ≡ list_any (λ other. is_clash other file) files.now }
+{
+    files.iter().any(|other| is_clash(*other, file))
+}
+
+// Whether one of the devices clashes with a file.
+fn is_bound(devices: &[AnyDev], file: FileUse) -> bool
+    ensures { result ≡ list_any (λ other. is_clash (use_of other) file) devices.now }
+{
     devices.iter().any(|other| is_clash(use_of(other), file))
 }
 

@@ -16,6 +16,7 @@ pub fn grammar<'a>(alloc: Global) -> Result<Command<'a>, AllocError> {
         .subcommand(positional(alloc, "table")?)?
         .subcommand(positional(alloc, "load")?)?
         .subcommand(cached(alloc, "read")?)?
+        .subcommand(cached(alloc, "write")?)?
         .subcommand(cached(alloc, "session")?)
 }
 

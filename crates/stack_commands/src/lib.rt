@@ -17,9 +17,12 @@ mod program;
 mod random;
 mod read;
 mod serve;
+mod source;
 mod superblock_text;
+mod sync;
 mod table;
 mod verify;
+mod write;
 
 pub use ending::end;
 pub use fault::CommandFault;

@@ -25,7 +25,7 @@ pub fn load_files<'a, R: Files<File = File> + AllocGlobal, W: Write>(
     writer: &mut Counted<W>,
 ) -> Result<(), CommandFault<'a>> {
     let text = stack_text(rt, stack)?;
-    let OpenLeaves { leaves, devices: _ } = open_all(rt, bindings)?;
+    let OpenLeaves { leaves, devices: _ } = open_all(rt, &[], bindings)?;
     load(rt.alloc(), leaves, text.as_slice(), writer)
 }
 

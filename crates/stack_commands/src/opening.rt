@@ -2,13 +2,12 @@
 ghost use Rattle.std.specs.Prelude.{false, ◌≡◌, ◌≤◌, ◌^◌, ◌++◌, [], ◌∷◌, length, map, IfOk, OnOk};
 ghost use Rattle.block_device.specs.File.{opened};
 ghost use Rattle.stack_engine.specs.Leaves.{ServeLeaves};
-ghost use Rattle.std.specs.List.{list_any};
 ghost use Rattle.stack_commands.specs.Bindings.{IsDeviceOf, backing_record, may_write};
-ghost use Rattle.stack_commands.specs.FileUses.{AreApart, is_clash, use_of};
+ghost use Rattle.stack_commands.specs.FileUses.{AreApart, AreApartBeside, has_clash, use_of};
 
 use crate::bindings::{Backing, Binding};
 use crate::fault::CommandFault;
-use crate::file_use::has_clash;
+use crate::file_use::{FileUse, has_clash};
 use block_device::{AnyDev, BlockDev, FileDev, MemoryDev, OpenFault};
 use stack_loader::Leaf;
 use std::alloc::{AllocError, Global};
@@ -95,20 +94,21 @@ impl OpenLeaves {
     }
 }
 
-// Opens the file of a binding, or makes its sectors. A file that one of the devices uses already is refused
-// where one of the two may be written: the engine takes leaves for devices of their own.
+// Opens the file of a binding, or makes its sectors. A file that is open already is refused where one of the
+// two may be written: the engine takes leaves for devices of their own.
 fn open_backing<'a, R: Files<File = File> + AllocGlobal>(
     rt: &R,
+    files: &[FileUse],
     devices: &[AnyDev],
     backing: Backing<'a>,
 ) -> Result<AnyDev, CommandFault<'a>>
     ensures device { IfOk result (λ device. IsDeviceOf (backing_record backing.entry) (⟦<AnyDev as BlockDev>⟧.state device)) }
-    ensures apart { IfOk result (λ device. list_any (λ other. is_clash (use_of other) (use_of device)) devices.now ≡ false) }
+    ensures apart { IfOk result (λ device. has_clash files.now devices.now (use_of device) ≡ false) }
 {
     match backing {
         Backing::File { path, writable } => {
             let device = AnyDev::File(open_file(rt, path, writable)?);
-            if has_clash(devices, &device) {
+            if has_clash(files, devices, &device) {
                 let fault = OpenFault::SameFile;
                 return Err(CommandFault::Open { fault, path });
             }
@@ -119,19 +119,21 @@ fn open_backing<'a, R: Files<File = File> + AllocGlobal>(
     }
 }
 
-/// The leaves and devices of the bindings, opened in their order.
+/// The leaves and devices of the bindings, opened in their order beside these files.
 pub fn open_all<'a, R: Files<File = File> + AllocGlobal>(
     rt: &R,
+    files: &[FileUse],
     bindings: &[Binding<'a>],
 ) -> Result<OpenLeaves, CommandFault<'a>>
+    requires { AreApart files.now }
     ensures served { IfOk result (λ over. ServeLeaves over.leaves.items (map ⟦<AnyDev as BlockDev>⟧.state over.devices.items)) }
     ensures names { IfOk result (λ over. map (λ leaf. leaf.name) over.leaves.items ≡ map (λ binding. binding.name.now) bindings.now) }
     ensures flags { IfOk result (λ over. map (λ device. (⟦<AnyDev as BlockDev>⟧.state device).may_write) over.devices.items ≡ map (λ binding. may_write (backing_record binding.backing)) bindings.now) }
-    ensures apart { IfOk result (λ over. AreApart over.devices.items) }
+    ensures apart { IfOk result (λ over. AreApartBeside files.now over.devices.items) }
 {
     let mut open_leaves = OpenLeaves::new(rt.alloc());
     'bindings: for binding in bindings {
-        let device = open_backing(rt, open_leaves.devices.as_slice(), binding.backing)?;
+        let device = open_backing(rt, files, open_leaves.devices.as_slice(), binding.backing)?;
         open_leaves.bind(rt.alloc(), binding.name, device)?;
     }
     Ok(open_leaves)

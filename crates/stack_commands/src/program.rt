@@ -13,6 +13,7 @@ use crate::read::read_files;
 use crate::serve::serve_files;
 use crate::table::{LineWords, print_table_of_file};
 use crate::verify::verify_files;
+use crate::write::write_files;
 use stack_session::Counted;
 use std::fs::File;
 use std::io::{Read, Write};
@@ -62,6 +63,12 @@ fn run<'a, R: Files<File = File> + AllocGlobal + RandomSource, S: Read, W: Write
             sectors,
             bindings,
         } => read_files(rt, cache, stack, sectors, bindings.as_slice(), writer),
+        Invocation::Write {
+            cache,
+            stack,
+            transfer,
+            bindings,
+        } => write_files(rt, cache, stack, transfer, bindings.as_slice(), writer),
         Invocation::Session { cache, bindings } => {
             serve_files(rt, cache, bindings.as_slice(), reader, writer)
         }

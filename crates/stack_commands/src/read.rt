@@ -35,7 +35,7 @@ pub fn read_files<'a, R: Files<File = File> + AllocGlobal, W: Write>(
     writer: &mut Counted<W>,
 ) -> Result<(), CommandFault<'a>> {
     let text = stack_text(rt, stack)?;
-    let over = open_all(rt, bindings)?;
+    let over = open_all(rt, &[], bindings)?;
     read(rt.alloc(), over, cache, text.as_slice(), sectors, writer)
 }
 

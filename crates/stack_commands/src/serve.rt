@@ -4,6 +4,7 @@ ghost use Rattle.std.specs.Prelude.{false, ◌≡◌};
 use crate::bindings::Binding;
 use crate::fault::CommandFault;
 use crate::opening::{OpenLeaves, open_all};
+use crate::sync::sync_stack;
 use stack_engine::Stack;
 use stack_loader::Config;
 use stack_session::{Counted, session};
@@ -11,7 +12,7 @@ use std::fs::File;
 use std::io::{Read, Write};
 use std::rt::Files;
 
-/// `session [--cache N] BINDING...`: a session over the bindings.
+/// `session [--cache N] BINDING...`: a session over the bindings, whose images are synced at its end.
 pub fn serve_files<'a, R: Files<File = File> + AllocGlobal, S: Read, W: Write>(
     rt: &R,
     cache: u32,
@@ -22,11 +23,13 @@ pub fn serve_files<'a, R: Files<File = File> + AllocGlobal, S: Read, W: Write>(
     requires reader { reader.old.failed ≡ false }
     requires writer { writer.old.failed ≡ false }
 {
-    let OpenLeaves { leaves, devices } = open_all(rt, bindings)?;
+    let OpenLeaves { leaves, devices } = open_all(rt, &[], bindings)?;
     let config = Config::new(rt.alloc(), leaves)?;
     let Ok(mut stack) = Stack::new(rt.alloc(), config, devices, cache) else {
         return Err(CommandFault::NoMemory);
     };
-    session(rt.alloc(), &mut stack, reader, writer)?;
-    Ok(())
+    let outcome = session(rt.alloc(), &mut stack, reader, writer);
+    let synced = sync_stack(stack);
+    outcome?;
+    Ok(synced?)
 }

@@ -1,5 +1,5 @@
 -- Worked values of the definitions.
-use Rattle.std.proofs.Common.{◌≡◌, ℕ, List, [], ◌∷◌, ◌++◌, refl, codes, true, Ok, Err}
+use Rattle.std.proofs.Common.{◌≡◌, ℕ, List, [], ◌∷◌, ◌++◌, replicate, refl, codes, true, Ok, Err}
 use Rattle.block_device.specs.Device.{filled, ramp_image, zeros_image}
 use Rattle.dm_table.specs.declared.table.Base.{Base}
 use Rattle.dm_table.specs.declared.table.Line.{Line}
@@ -10,6 +10,7 @@ use Rattle.stack_loader.specs.Names.{mapped}
 use Rattle.stack_loader.specs.Descend.{descend, read_cost}
 use Rattle.stack_engine.specs.Outcomes.{Outcome, span, error_target, mismatch, zero_sector}
 use Rattle.stack_engine.specs.Meaning.{said_at, sector}
+use Rattle.stack_engine.specs.Puts.{done, stopped, put_on}
 use Rattle.stack_engine.specs.Found.{FoundRecord}
 
 abbrev leaf_of : List ℕ → ℕ → LeafRecord
@@ -105,3 +106,39 @@ reads_half_failing = (refl, refl, refl)
 meets_half_failing : ((said_at half_failing (mapped 2) 4).meets error_target ≡ (error_target ≡ error_target)) × ((said_at half_failing (mapped 2) 3).meets error_target ≡ ⊥) × ((said_at half_failing (mapped 2) 4).meets mismatch ≡ (mismatch ≡ error_target))
 unfolding descend
 meets_half_failing = (refl, refl, refl)
+
+-- ---- writes of short sectors
+
+abbrev x : List ℕ
+x = 7 ∷ []
+
+abbrev y : List ℕ
+y = 8 ∷ []
+
+abbrev z : List ℕ
+z = 9 ∷ []
+
+abbrev empty : ℕ → List (List ℕ)
+empty n = replicate n []
+
+-- up to the `error` line, where no leaf sector is reached
+puts_half_failing : (put_on half_failing (mapped 2) 2 (x ∷ y ∷ z ∷ []) (empty 8 ∷ []) ≡ stopped error_target ((empty 2 ++ (x ∷ y ∷ empty 4)) ∷ []))
+    × ((said_at half_failing (mapped 2) 3).reaches ≡ (0, 3) ∷ []) × ((said_at half_failing (mapped 2) 4).reaches ≡ [])
+unfolding descend
+puts_half_failing = (refl, refl, refl)
+
+-- chunks in turn
+puts_single_chunks : put_on single_chunks (mapped 0) 1 (x ∷ y ∷ z ∷ []) (empty 9 ∷ []) ≡ done ((empty 1 ++ (z ∷ empty 1 ++ (x ∷ empty 2 ++ (y ∷ empty 2)))) ∷ [])
+unfolding descend
+puts_single_chunks = refl
+
+-- two lines over the same sectors: the later one stands
+abbrev overlapping : Configuration
+overlapping = record {
+  leaves = leaf_of (codes "D") 4 ∷ [];
+  devices = dev (codes "a") (line 0 2 (Linear (base (codes "D") 0)) ∷ line 2 2 (Linear (base (codes "D") 0)) ∷ []) ∷ [];
+}
+
+puts_overlapping : (put_on overlapping (mapped 0) 1 (x ∷ y ∷ []) (empty 4 ∷ []) ≡ done ((y ∷ x ∷ empty 2) ∷ [])) × ((said_at overlapping (mapped 0) 3).reaches ≡ (0, 1) ∷ [])
+unfolding descend
+puts_overlapping = (refl, refl)

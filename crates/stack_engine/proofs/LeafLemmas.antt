@@ -1,16 +1,17 @@
 -- What a read of one leaf does to all of them.
 use Rattle.std.proofs.Common.{◌≡◌, ℕ, zero, suc, ◌+◌, ◌<◌, ◌≤◌, Bool, IsTrue, List, [], ◌∷◌, length, get_or, set, map, refl, sym, ap, ◌∙◌, subst, arith, inl, inr}
-use Rattle.std.specs.Prelude.{slice_get}
+use Rattle.std.specs.Prelude.{slice_get, All}
 use Rattle.std.specs.Option.{option_map_or}
 use Rattle.std.proofs.lemmas.List.{map-set, set-get_or, get_or-map, get_or-set_same, get_or-set_other, length-set, length-map, get_or_default}
 use Rattle.std.proofs.lemmas.List.Sums.{sum_by-set}
+use Rattle.std.proofs.lemmas.List.Elements.{All-nil, All-cons}
 use Rattle.std.proofs.lemmas.Bool.{cases_eq}
-use Rattle.block_device.specs.Device.{Device, IsRead, HasFailed}
+use Rattle.block_device.specs.Device.{Device, IsRead, IsWhole, HasFailed}
 use Rattle.stack_loader.specs.Records.{LeafRecord}
 use Rattle.stack_engine.specs.Leaves.{images_of, ServeLeaves, fixed_part, AllSteady, Counts, AreRead, LeafFailed}
 
 -- a field that is the same at the one leaf that was set
-same_map : {X : Type 0} (f : Device → X) (leaves : List Device) (i : ℕ) (old new : Device) → i < length leaves → get_or leaves i old ≡ old → f new ≡ f old → map f (set leaves i new) ≡ map f leaves
+pub same_map : {X : Type 0} (f : Device → X) (leaves : List Device) (i : ℕ) (old new : Device) → i < length leaves → get_or leaves i old ≡ old → f new ≡ f old → map f (set leaves i new) ≡ map f leaves
 same_map f leaves i old new h at e =
     map-set f leaves i new
     ∙ ap (set (map f leaves) i) (e ∙ sym (ap f at) ∙ sym (get_or-map f leaves i old (f old) h))
@@ -18,7 +19,7 @@ same_map f leaves i old new h at e =
 
 module _ (leaves : List Device) (i : ℕ) (old new : Device) (h : i < length leaves) (at : get_or leaves i old ≡ old) where
   -- what is said of the one leaf that was set, and of each other, which is as it was
-  each_leaf : (Q : Device → Device → Type 0) → Q old new → ((x : Device) → Q x x) → (j : ℕ) (d : Device) → Q (get_or leaves j d) (get_or (set leaves i new) j d)
+  pub each_leaf : (Q : Device → Device → Type 0) → Q old new → ((x : Device) → Q x x) → (j : ℕ) (d : Device) → Q (get_or leaves j d) (get_or (set leaves i new) j d)
   each_leaf Q one same j d = elim (cases_eq j i) [
     | inl here ↦ let a : get_or (set leaves i new) j d ≡ new = ap (λ (k : ℕ). get_or (set leaves i new) k d) here ∙ get_or-set_same leaves i new d h in
         let b : get_or leaves j d ≡ old = ap (λ (k : ℕ). get_or leaves k d) here ∙ get_or_default leaves i d old h ∙ at in
@@ -26,7 +27,7 @@ module _ (leaves : List Device) (i : ℕ) (old new : Device) (h : i < length lea
     | inr other ↦ subst (Q (get_or leaves j d)) (sym (get_or-set_other leaves i j new d other)) (same (get_or leaves j d))
   ]
 
-  counts_one : (counter : Device → ℕ) (n : ℕ) → counter new ≤ counter old + n → (n ≡ 0 → counter new ≡ counter old) → Counts counter n leaves (set leaves i new)
+  pub counts_one : (counter : Device → ℕ) (n : ℕ) → counter new ≤ counter old + n → (n ≡ 0 → counter new ≡ counter old) → Counts counter n leaves (set leaves i new)
   counts_one counter n most none = record {
     sum = omega (arith, sum_by-set counter leaves i new old h, ap counter at, most);
     none = λ e. same_map counter leaves i old new h at (none e);
@@ -86,3 +87,8 @@ module _ {X : Type 0} (state : X → Device) (devices : List X) (i : ℕ) (x : X
         elim f [ inl grew ↦ inl (omega (arith, grew, ap (λ (y : Device). y.failures) a, ap (λ (y : Device). y.failures) b)) | inr full ↦ inr (omega (arith, full, ap (λ (y : Device). y.failures) a)) ];
     unsure = λ d h. unsure (subst (λ (y : Device). IsTrue y.never_fails) (get_or-map state devices i x d there) h);
   }
+
+-- the devices' images are whole
+pub all-whole : {X : Type 0} (state : X → Device) → ((x : X) → IsWhole (state x)) → (devices : List X) → All IsWhole (map state devices)
+all-whole state whole [] = All-nil IsWhole
+all-whole state whole (x ∷ devices) = All-cons IsWhole (state x) (map state devices) (whole x) (all-whole state whole devices)

@@ -2,6 +2,9 @@ pub mod lemmas
 pub mod LoadedLemmas
 pub mod CostLemmas
 pub mod LeafLemmas
+pub mod WriteLeafLemmas
+pub mod WritableLemmas
 pub mod StripeLemmas
 pub mod SourceLemmas
+pub mod WriteSourceLemmas
 pub mod ExampleLemmas

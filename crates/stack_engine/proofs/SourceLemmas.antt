@@ -40,7 +40,7 @@ module _ (c : Configuration) (d l : ℕ) (target : Target) (w n j : ℕ) (below 
   come-said Zeros come = ap (λ (t : Target). line_said (said_by_name c) d l t (w + j)) come
   come-said Fails come = ap (λ (t : Target). line_said (said_by_name c) d l t (w + j)) come
 
-served-said : (c : Configuration) (d s n j : ℕ) (source : Source) → IsLoaded c → j < n → IsServed c d s n source → source_said c source j ≡ said_at c (mapped d) (s + j)
+pub served-said : (c : Configuration) (d s n j : ℕ) (source : Source) → IsLoaded c → j < n → IsServed c d s n source → source_said c source j ≡ said_at c (mapped d) (s + j)
 served-said c d s n j source loaded below r =
     sym (said_at-line c loaded.valid d s j r.number r.line r.found r.start (omega (arith, below, r.fits)) ∙ come-said c d r.number r.line.target (s - r.line.start) n j below source r.come)
 

@@ -16,6 +16,7 @@ use Rattle.stack_loader.specs.declared.lower.Lower.{Lower}
 use Rattle.stack_loader.specs.Records.{Configuration}
 use Rattle.stack_loader.specs.Names.{named, names, size}
 use Rattle.stack_loader.specs.Lines.{IsLine, names_at, lower_at}
+use Rattle.stack_loader.proofs.lemmas.RangeLemmas.{is_beyond-linear, is_beyond-striped}
 use Rattle.stack_loader.specs.Rules.{IsLoaded, is_undivided, is_beyond, ends_past, most_sectors}
 use Rattle.stack_engine.specs.Beneath.{beneath}
 use Rattle.stack_engine.specs.Sources.{LieOn, HasTarget}
@@ -54,8 +55,11 @@ target-divided c d l n target loaded t = sym (ap (is_undivided t.line.length) t.
 -- ---- linear lines
 
 module _ (c : Configuration) (d l : ℕ) (base : Base) (w n : ℕ) (loaded : IsLoaded c) (t : HasTarget c d l (Linear base) (w + n)) where
+  range-inside : ends_past c base.device (base.offset + t.line.length) ≡ false
+  range-inside = sym (is_beyond-linear c t.line.length base) ∙ target-inside c d l (w + n) (Linear base) loaded t
+
   pub linear-small : base.offset + w + n ≤ 2 ^ 54
-  linear-small = let room = small_named c base.device (base.offset + t.line.length) loaded (target-inside c d l (w + n) (Linear base) loaded t) in omega (arith, room, t.fits)
+  linear-small = let room = small_named c base.device (base.offset + t.line.length) loaded range-inside in omega (arith, room, t.fits)
 
   pub linear-lies : (lower : Lower) → lower_at c d l 0 ≡ Some lower → LieOn c (Linear base) w n lower (base.offset + w)
   linear-lies lower at =
@@ -64,7 +68,7 @@ module _ (c : Configuration) (d l : ℕ) (base : Base) (w n : ℕ) (loaded : IsL
         name = base.device;
         is = is;
         under = λ j h. let e : base.offset + (w + j) ≡ base.offset + w + j = omega arith in ap (λ (k : ℕ). Some (base.device, k)) e;
-        inside = omega (arith, t.fits, inside_named c base.device lower (base.offset + t.line.length) (target-inside c d l (w + n) (Linear base) loaded t) is);
+        inside = omega (arith, t.fits, inside_named c base.device lower (base.offset + t.line.length) range-inside is);
       }
 
 -- ---- striped lines
@@ -88,7 +92,7 @@ base_inside c (x ∷ bases) zero share base h e = let same : x ≡ base = cc in
 base_inside c (x ∷ bases) (suc i) share base h e = base_inside c bases i share base (or_parts (ends_past c x.device (x.offset + share)) (list_any (λ base. ends_past c base.device (base.offset + share)) bases) h).1 e
 
 -- further on in the same chunk
-chunk-more : (chunk w j : ℕ) → w % chunk + j < chunk → ((w + j) / chunk ≡ w / chunk) × ((w + j) % chunk ≡ w % chunk + j)
+pub chunk-more : (chunk w j : ℕ) → w % chunk + j < chunk → ((w + j) / chunk ≡ w / chunk) × ((w + j) % chunk ≡ w % chunk + j)
 chunk-more chunk w j low =
     let split : w + j ≡ w / chunk * chunk + (w % chunk + j) = omega (arith, div-add-mod' w chunk) in
     (ap (λ (x : ℕ). x / chunk) split ∙ div-mul-add (w / chunk) chunk (w % chunk + j) low, ap (λ (x : ℕ). x % chunk) split ∙ mod-mul-add (w / chunk) chunk (w % chunk + j) low)
@@ -117,7 +121,7 @@ module _ (c : Configuration) (d l chunk : ℕ) (bases : List Base) (w n : ℕ) (
 
   module _ (base : Base) (at : slice_get bases (w / chunk % length bases) ≡ Some base) (m : ℕ) (some : 0 < m) (fits : m ≤ n) (one_chunk : w % chunk + m ≤ chunk) where
     past : ends_past c base.device (base.offset + t.line.length / length bases) ≡ false
-    past = base_inside c bases (w / chunk % length bases) (t.line.length / length bases) base (target-inside c d l (w + n) (Striped chunk bases) loaded t) at
+    past = base_inside c bases (w / chunk % length bases) (t.line.length / length bases) base (sym (is_beyond-striped c t.line.length chunk bases) ∙ target-inside c d l (w + n) (Striped chunk bases) loaded t) at
 
     pub striped-small : base.offset + w / chunk / length bases * chunk + w % chunk + m ≤ 2 ^ 54
     striped-small = omega (arith, small_named c base.device (base.offset + t.line.length / length bases) loaded past, room (omega (arith, some, fits)), one_chunk)

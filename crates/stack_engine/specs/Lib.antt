@@ -9,6 +9,10 @@ pub mod Places
 pub mod Reading
 pub mod Sources
 pub mod Caches
+pub mod Puts
+pub mod Changes
+pub mod Writing
 pub mod Stacks
 pub mod Pieces
+pub mod WritePieces
 pub mod IoFaults

@@ -10,6 +10,10 @@ pub data Fault : Type 0 where
 abbrev pub Images : Type 0
 Images = List (List (List ℕ))
 
+-- a leaf and a sector of it, each counted from 0
+abbrev pub LeafSector : Type 0
+LeafSector = ℕ × ℕ
+
 -- bytes, or the fault that stands in their place
 abbrev pub Outcome : Type 0
 Outcome = Result (List ℕ) Fault

@@ -1,4 +1,4 @@
-//! Reads through stacked devices, piece by piece.
+//! Reads and writes through stacked devices, piece by piece.
 #![tactic(auto)]
 
 mod answer;
@@ -14,6 +14,7 @@ mod source;
 mod stack;
 #[cfg(test)]
 mod tests;
+mod write;
 
 pub use answer::Answer;
 pub use fault::IoFault;

@@ -1,4 +1,4 @@
-// What a read uses beside the configuration.
+// What reads and writes use beside the configuration.
 use crate::cache::Cache;
 use block_device::BlockDev;
 use std::alloc::Global;

@@ -1,12 +1,14 @@
 // A stack: a configuration, and the devices of its leaves.
-ghost use Rattle.std.specs.Prelude.{◌≡◌, ◌<◌, ◌≤◌, ◌+◌, ◌*◌, ◌^◌, map, IsOk, IfOk, IfErr, OnOk, OnErr, None, Some, Err};
+ghost use Rattle.std.specs.Prelude.{◌≡◌, ◌<◌, ◌≤◌, ◌+◌, ◌*◌, ◌/◌, ◌^◌, length, map, IsTrue, IsOk, IfOk, IfErr, OnOk, OnErr, None, Some, Err};
 ghost use Rattle.block_device.specs.Device.{capped};
-ghost use Rattle.stack_loader.specs.Names.{mapped, size};
+ghost use Rattle.stack_loader.specs.Names.{mapped, size, may_write};
 ghost use Rattle.stack_loader.specs.Rules.{after_load, IsRefusal, first_refusal};
+ghost use Rattle.stack_loader.specs.Removal.{removal_fault, after_removal};
 ghost use Rattle.stack_loader.specs.declared.refusal.Refusal.{Refusal};
 ghost use Rattle.stack_engine.specs.Leaves.{ServeLeaves, AllSteady, reads_of, writes_of};
 ghost use Rattle.stack_engine.specs.Pieces.{AnyPiece, SteadyPiece};
 ghost use Rattle.stack_engine.specs.Stacks.{StackRecord, IsSound};
+ghost use Rattle.stack_engine.specs.WritePieces.{ArePiece, AnyWrite, SteadyWrite};
 
 use crate::answer::Answer;
 use crate::buffer::zero_sectors;
@@ -15,9 +17,10 @@ use crate::counters::counted;
 use crate::fault::IoFault;
 use crate::read::read_device;
 use crate::reader::Reader;
+use crate::write::write_device;
 use block_device::BlockDev;
 use dm_table::StackText;
-use stack_loader::{Config, DevId, LoadFault};
+use stack_loader::{Config, DevId, LoadFault, RemoveFault};
 use std::alloc::Global;
 use std::marker::Model;
 
@@ -106,6 +109,20 @@ impl<D: BlockDev> Stack<D> {
         }
     }
 
+    /// Writes whole sectors of a device, 1 to 128, from `first` on, in rising order up to the first fault. They lie
+    /// inside the device, which may be written. `exact` in `steady` is what the stack means; `any` holds whatever the
+    /// leaves answer. Today it takes no memory.
+    pub fn write_piece(&mut self, d: DevId, first: u64, bytes: &[u8]) -> Result<(), IoFault>
+        requires piece { ArePiece bytes.now }
+        requires inside { first + length bytes.now / 512 ≤ size self.old.config (mapped d.0) }
+        requires allowed { IsTrue (may_write self.old.config (mapped d.0)) }
+        ensures any { AnyWrite self.old d.0 first bytes.now result self.new }
+        ensures steady { AllSteady self.old.leaves → SteadyWrite self.old d.0 first bytes.now result self.new }
+        ensures memory { result ≡ Err IoFault.NoMemory → ⊥ }
+    {
+        write_device(&self.config, &mut self.reader, d, first, bytes)
+    }
+
     /// Puts the devices of a text in, all or none.
     pub fn load(&mut self, text: &StackText) -> Result<(), LoadFault>
         ensures ok { OnOk result (first_refusal self.old.config text.now ≡ None) }
@@ -119,7 +136,20 @@ impl<D: BlockDev> Stack<D> {
         outcome
     }
 
-    /// The configuration, as the last load left it.
+    /// Removes the mapped device of that name; later ones move up by one place.
+    pub fn remove(&mut self, name: &[u8]) -> Result<(), RemoveFault>
+        ensures ok { OnOk result (removal_fault self.old.config name.now ≡ None) }
+        ensures after { OnOk result (self.new ≡ record { config = after_removal self.old.config name.now; leaves = self.old.leaves }) }
+        ensures err { IfErr result (λ fault. removal_fault self.old.config name.now ≡ Some fault) }
+        ensures same { OnErr result (self.new ≡ self.old) }
+    {
+        let outcome = self.config.remove(name);
+        // As in `new`.
+        let _loaded = self.config.count();
+        outcome
+    }
+
+    /// The configuration, as the last load or removal left it.
     pub fn config(&self) -> &Config
         ensures value { result.now ≡ self.now.config }
         ensures sound { IsSound self.now.config self.now.leaves }

@@ -1,4 +1,7 @@
 // Stacks made of texts, and pieces read from them.
+mod leaves;
+mod writes;
+
 ghost use Rattle.std.specs.Prelude.{◌≡◌, ◌∷◌, [], IfOk};
 
 use crate::{Answer, IoFault, Stack};

@@ -1,5 +1,5 @@
 -- The sets of devices to which chains lead, closed place by place.
-use Rattle.std.proofs.Common.{◌≡◌, ◌+◌, ◌-◌, ◌<◌, ◌≤◌, ℕ, zero, suc, List, [], ◌∷◌, refl, sym, ap, subst, ◌∙◌, Bool, true, false, ◌||◌, ◌&&◌, ◌++◌, take, Option, Some, None, length, drop, get_or, set, arith, length-set}
+use Rattle.std.proofs.Common.{◌≡◌, ◌+◌, ◌-◌, ◌<◌, ◌≤◌, ℕ, suc, List, [], ◌∷◌, refl, sym, ap, subst, ◌∙◌, Bool, true, false, ◌||◌, ◌&&◌, ◌++◌, take, Option, Some, None, length, drop, get_or, set, arith}
 use Rattle.std.proofs.Math.Decide.{dec_le}
 use Rattle.std.proofs.Math.Seq.{take-append_seam}
 use Rattle.std.proofs.lemmas.List.{get_or-set_same, get_or-set_other, get_or_default, set-get_or}
@@ -8,11 +8,10 @@ use Rattle.stack_loader.specs.declared.device_set.DeviceSet.{DeviceSet}
 use Rattle.stack_loader.specs.declared.refusal.LoadKind.TheVariants.{StandsOnItself}
 use Rattle.stack_loader.specs.declared.refusal.Refusal.{Refusal}
 use Rattle.stack_loader.specs.Records.{Configuration, DeviceRecord}
-use Rattle.stack_loader.specs.Descend.{most_devices}
 use Rattle.stack_loader.specs.Cycles.{names_device, leads_below, is_on_cycle}
 use Rattle.stack_loader.specs.DeviceSet.{contains, set_at, AreSets, AreLowerSets}
 use Rattle.stack_loader.specs.Rules.{first, refuse, cycles}
-use Rattle.stack_loader.proofs.Scan.{scan, scan_found, scan_more, scan_end}
+use Rattle.stack_loader.proofs.ScanLemmas.{scan, scan_found, scan_more, scan_end}
 
 -- ---- one place
 

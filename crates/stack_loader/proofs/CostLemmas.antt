@@ -1,5 +1,5 @@
 -- Costs, depth by depth.
-use Rattle.std.proofs.Common.{◌≡◌, ◌+◌, ◌≤◌, ◌<◌, ℕ, zero, suc, max, List, [], ◌∷◌, refl, sym, ap, subst, ◌∙◌, Option, Some, None, length, drop, get_or, set, map, slice_index, arith, length-set}
+use Rattle.std.proofs.Common.{◌≡◌, ◌+◌, ◌≤◌, ◌<◌, ℕ, zero, suc, max, List, [], ◌∷◌, refl, sym, ap, subst, ◌∙◌, Some, length, get_or, map, slice_index, arith, length-set}
 use Rattle.std.specs.Prelude.{slice_set}
 use Rattle.std.specs.List.{AllByRecursion}
 use Rattle.std.proofs.Math.Decide.{dec_le}
@@ -15,18 +15,17 @@ use Rattle.stack_loader.specs.declared.lower.Lower.{Lower}
 use Rattle.stack_loader.specs.declared.lower.Lower.TheVariants.{Leaf as leaf, Device as device}
 use Rattle.stack_loader.specs.Records.{Configuration, DeviceRecord}
 use Rattle.stack_loader.specs.Names.{mapped, named, names, lowers_of, lines_of}
-use Rattle.stack_loader.specs.Descend.{greatest, by_name, depth, descend, cost_rule, line_read_cost, line_write_cost}
+use Rattle.stack_loader.specs.Descend.{greatest, by_name, depth, descend, line_read_cost, line_write_cost}
 use Rattle.stack_loader.specs.Kept.{each_mapped, meanings}
 use Rattle.stack_loader.specs.Passing.{Mean, RowsMean}
 use Rattle.stack_loader.specs.Costs.{line_cost, cost, cost_in, dearest, AreRows, AreMeasured, AreCosts}
 use Rattle.stack_loader.specs.Rules.{most_depth}
-use Rattle.stack_loader.proofs.lemmas.UnrollLemmas.{AllOf, turn, falls-at}
+use Rattle.stack_loader.proofs.lemmas.UnrollLemmas.{turn, falls-at}
 use Rattle.stack_loader.proofs.lemmas.CostRuleLemmas.{IsLineLocal, line_read_cost-local, line_write_cost-local, cost_rule-local, cost-rule}
-use Rattle.stack_loader.proofs.lemmas.ValidLemmas.{depths-low}
-use Rattle.stack_loader.proofs.Kept.{lines_of-read}
-use Rattle.stack_loader.proofs.Lists.{slice_get-read}
-use Rattle.stack_loader.proofs.Meanings.{table-at}
-use Rattle.stack_loader.proofs.Beneath.{IsInside, lowers-inside}
+use Rattle.stack_loader.proofs.KeptLemmas.{lines_of-read}
+use Rattle.stack_loader.proofs.ListLemmas.{slice_get-read}
+use Rattle.stack_loader.proofs.MeaningLemmas.{table-at}
+use Rattle.stack_loader.proofs.BeneathLemmas.{IsInside, lowers-inside}
 
 -- ---- one line
 

@@ -1,5 +1,5 @@
 -- Depths by rounds are those of the definition.
-use Rattle.std.proofs.Common.{◌≡◌, ◌+◌, ◌≤◌, ◌<◌, ℕ, zero, suc, max, List, [], ◌∷◌, ◌++◌, refl, sym, ap, ◌∙◌, Bool, true, false, ◌||◌, ◌==◌, ◌⊎◌, inl, inr, Option, Some, None, length, drop, take, get_or, map, slice_index, arith}
+use Rattle.std.proofs.Common.{◌≡◌, ◌+◌, ◌≤◌, ◌<◌, ℕ, zero, suc, max, List, [], ◌∷◌, ◌++◌, refl, sym, ap, ◌∙◌, Bool, true, false, ◌||◌, ◌==◌, ◌⊎◌, inl, inr, length, drop, take, get_or, map, slice_index, arith}
 use Rattle.std.specs.List.{AllByRecursion, enumerate_from, list_any}
 use Rattle.std.proofs.Math.Decide.{dec_le}
 use Rattle.std.proofs.lemmas.Bool.Decides.{nat_tests}
@@ -15,7 +15,7 @@ use Rattle.stack_loader.specs.Descend.{greatest, after_steps, descend, most_devi
 use Rattle.stack_loader.specs.DeviceSet.{contains, set_at, AreLowerSets}
 use Rattle.stack_loader.specs.Depths.{value_in, greatest_in, round, rounds}
 use Rattle.stack_loader.specs.Kept.{each_mapped}
-use Rattle.stack_loader.proofs.Beneath.{IsInside, lowers-inside}
+use Rattle.stack_loader.proofs.BeneathLemmas.{IsInside, lowers-inside}
 use Rattle.stack_loader.proofs.GreatestLemmas.{greatest-zero, map-low}
 
 or-cases : (a b : Bool) → (a || b) ≡ true → (a ≡ true) ⊎ (b ≡ true)

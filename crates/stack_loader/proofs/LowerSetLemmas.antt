@@ -1,6 +1,6 @@
 -- The set of what each device names.
-use Rattle.std.proofs.Common.{◌≡◌, ◌+◌, ◌<◌, ◌≤◌, ℕ, List, [], ◌∷◌, ◌++◌, refl, sym, ap, ◌∙◌, Bool, true, false, ◌||◌, length, get_or, map, arith, length-append}
-use Rattle.std.specs.Prelude.{flat_map, filter_map}
+use Rattle.std.proofs.Common.{◌≡◌, ◌+◌, ◌<◌, ◌≤◌, ℕ, List, [], ◌∷◌, ◌++◌, refl, sym, ap, ◌∙◌, Bool, ◌||◌, length, get_or, arith, length-append}
+use Rattle.std.specs.Prelude.{flat_map}
 use Rattle.std.specs.List.{list_any}
 use Rattle.std.proofs.Math.Decide.{dec_le}
 use Rattle.std.proofs.lemmas.List.{get_or_append_left, get_or_default}
@@ -12,10 +12,10 @@ use Rattle.stack_loader.specs.Records.{Configuration}
 use Rattle.stack_loader.specs.Names.{lines_of}
 use Rattle.stack_loader.specs.Descend.{most_devices}
 use Rattle.stack_loader.specs.Cycles.{is_mapped, names_device}
-use Rattle.stack_loader.specs.DeviceSet.{contains, set_at, AreSets, AreLowerSets}
+use Rattle.stack_loader.specs.DeviceSet.{contains, set_at, AreLowerSets}
 use Rattle.stack_loader.specs.Kept.{AreLowers}
-use Rattle.stack_loader.proofs.Beneath.{rows-of, lowers-flat}
-use Rattle.stack_loader.proofs.Kept.{length-lowers}
+use Rattle.stack_loader.proofs.BeneathLemmas.{rows-of, lowers-flat}
+use Rattle.stack_loader.proofs.KeptLemmas.{length-lowers}
 
 -- the sets of the first n devices
 pub record SetsSoFar (lowers : List (List (List Lower))) (n : ℕ) (sets : List DeviceSet) : Type 0 where
@@ -46,7 +46,7 @@ list_any-flat : {X : Type 0} (p : X → Bool) (rows : List (List X)) → list_an
 list_any-flat p [] = refl
 list_any-flat p (row ∷ rows) = list_any-append p row (flat_map (λ row. row) rows) ∙ ap (λ b. list_any p row || b) (list_any-flat p rows)
 
-names_device-rows : (c : Configuration) (lowers : List (List (List Lower))) → AreLowers c lowers → (d e : ℕ) → names_device c d e ≡ list_any (list_any (is_mapped e)) (get_or lowers d [])
+pub names_device-rows : (c : Configuration) (lowers : List (List (List Lower))) → AreLowers c lowers → (d e : ℕ) → names_device c d e ≡ list_any (list_any (is_mapped e)) (get_or lowers d [])
 names_device-rows c lowers are d e =
     ap (list_any (is_mapped e)) (lowers-flat c (get_or lowers d []) (lines_of c d) (rows-of c lowers are d)) ∙ list_any-flat (is_mapped e) (get_or lowers d [])
 

@@ -4,3 +4,7 @@ pub mod CycleLemmas
 pub mod CostRuleLemmas
 pub mod ValidLemmas
 pub mod ValidLineLemmas
+pub mod RangeLemmas
+pub mod RenumberLemmas
+pub mod RemovalLemmas
+pub mod RemovedDeviceLemmas

@@ -4,6 +4,8 @@ use Rattle.stack_loader.specs.declared.refusal.ConfigFault.{ConfigFault}
 use Rattle.stack_loader.specs.declared.refusal.ConfigFault.TheVariants as leaves
 use Rattle.stack_loader.specs.declared.refusal.LoadKind.{LoadKind}
 use Rattle.stack_loader.specs.declared.refusal.LoadKind.TheVariants as kinds
+use Rattle.stack_loader.specs.declared.refusal.RemoveFault.{RemoveFault}
+use Rattle.stack_loader.specs.declared.refusal.RemoveFault.TheVariants as removals
 
 abbrev pub config_number : ConfigFault → ℕ
 config_number leaves.DuplicateLeaf = 1
@@ -46,3 +48,11 @@ load_name kinds.BeyondDevice = codes "BeyondDevice"
 load_name kinds.LowerReadOnly = codes "LowerReadOnly"
 load_name kinds.TooDeep = codes "TooDeep"
 load_name kinds.CostTooLarge = codes "CostTooLarge"
+
+abbrev pub removal_number : RemoveFault → ℕ
+removal_number removals.NoSuchDevice = 1
+removal_number removals.InUse = 2
+
+abbrev pub removal_name : RemoveFault → List ℕ
+removal_name removals.NoSuchDevice = codes "NoSuchDevice"
+removal_name removals.InUse = codes "InUse"

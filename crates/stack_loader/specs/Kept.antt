@@ -1,5 +1,5 @@
 -- What is computed once of a configuration, at loading.
-use Rattle.std.specs.Prelude.{◌≡◌, ℕ, List, map, length, Option, Some}
+use Rattle.std.specs.Prelude.{◌≡◌, ℕ, List, map, Option, Some}
 use Rattle.std.specs.List.{range_with_len}
 use Rattle.stack_loader.specs.declared.lower.Lower.{Lower}
 use Rattle.stack_loader.specs.Records.{Configuration, DeviceRecord}

@@ -13,4 +13,5 @@ pub mod Depths
 pub mod Costs
 pub mod Places
 pub mod Index
+pub mod Removal
 pub mod Facts

@@ -1,5 +1,5 @@
 -- Which loads are refused, and by which rule first.
-use Rattle.std.specs.Prelude.{◌≡◌, ◌≤◌, IsTrue, All, ℕ, zero, suc, ◌+◌, ◌-◌, ◌*◌, ◌/◌, ◌%◌, ◌^◌, Bool, true, false, not, ◌&&◌, ◌||◌, ◌==◌, nat_lt, is_none, List, [], ◌∷◌, ◌++◌, length, map, take, filter, flat_map, Option, Some, None, if◌then◌else◌, find}
+use Rattle.std.specs.Prelude.{◌≡◌, ◌≤◌, IsTrue, All, ℕ, ◌+◌, ◌-◌, ◌*◌, ◌/◌, ◌%◌, ◌^◌, Bool, true, false, not, ◌&&◌, ◌||◌, ◌==◌, nat_lt, is_none, List, [], ◌∷◌, ◌++◌, length, map, take, filter, flat_map, Option, Some, None, if◌then◌else◌, find}
 use Rattle.std.specs.List.{list_any, enumerate_from, starts_with, IsDistinct}
 use Rattle.std.specs.Option.{option_map_or}
 use Rattle.std.specs.Str.{bytes_eq}
@@ -9,29 +9,27 @@ use Rattle.dm_table.specs.declared.table.Line.{Line}
 use Rattle.dm_table.specs.declared.table.Target.{Target}
 use Rattle.dm_table.specs.declared.table.Target.TheVariants.{Linear, Striped, Zero, Error}
 use Rattle.dm_table.specs.Names.{is_mapped_name, is_name_of, is_leaf_byte, mapper}
-use Rattle.stack_loader.specs.declared.lower.Lower.{Lower}
-use Rattle.stack_loader.specs.declared.lower.Lower.TheVariants.{Leaf as leaf, Device as device}
 use Rattle.stack_loader.specs.declared.refusal.LoadKind.{LoadKind}
 use Rattle.stack_loader.specs.declared.refusal.LoadKind.TheVariants.{DuplicateName, TooMany, NoSuchDevice, StandsOnItself, ZeroLength, Gap, TooLarge, StripesDontDivide, BeyondDevice, LowerReadOnly, TooDeep, CostTooLarge}
 use Rattle.stack_loader.specs.declared.refusal.Refusal.{Refusal}
 use Rattle.stack_loader.specs.Records.{Configuration, DeviceRecord, LeafRecord}
-use Rattle.stack_loader.specs.Names.{mapped, named, names, lowers, sectors_of, size, may_write, device_named}
+use Rattle.stack_loader.specs.Names.{mapped, named, names, sectors_of, size, may_write, device_named}
 use Rattle.stack_loader.specs.Descend.{depth, read_cost, most_devices}
 use Rattle.stack_loader.specs.Cycles.{is_on_cycle, IsOnCycle, IsFirstOnCycle}
 
 -- ---- the configuration to come
 
 -- the device, with the table and flag of the entry that has its name
-abbrev pub replaced : List Entry → DeviceRecord → DeviceRecord
-replaced text d = option_map_or (λ e. record d { writable = e.writable; table = e.table }) (find (λ e. bytes_eq e.name d.name) text) d
+abbrev pub replacement : List Entry → DeviceRecord → DeviceRecord
+replacement text d = option_map_or (λ e. record d { writable = e.writable; table = e.table }) (find (λ e. bytes_eq e.name d.name) text) d
 
-abbrev pub created : Entry → DeviceRecord
-created e = record { name = e.name; writable = e.writable; table = e.table }
+abbrev pub new_device : Entry → DeviceRecord
+new_device e = record { name = e.name; writable = e.writable; table = e.table }
 
 -- the present devices in order, and then the new ones in the text's order
 abbrev pub after_load : Configuration → List Entry → Configuration
 after_load c text = record c {
-  devices = map (replaced text) c.devices ++ map created (filter (λ e. is_none (device_named c e.name)) text);
+  devices = map (replacement text) c.devices ++ map new_device (filter (λ e. is_none (device_named c e.name)) text);
 }
 
 -- ---- the rules, each at a device and line that count from 1
@@ -61,26 +59,24 @@ most_depth = 8
 abbrev pub ends_past : Configuration → List ℕ → ℕ → Bool
 ends_past c name end = option_map_or (λ lower. nat_lt (size c lower) end) (named c name) true
 
--- a mapped range, or a stripe's share, ends past the named device
+-- the range that so many sectors from a base take: the name of its device, and the sector at which it ends
+abbrev pub range_from : ℕ → Base → List ℕ × ℕ
+range_from sectors base = (base.device, base.offset + sectors)
+
+-- the mapped ranges of a line of so many sectors, or its stripes' shares
+abbrev pub ranges : ℕ → Target → List (List ℕ × ℕ)
+ranges len (Linear base) = range_from len base ∷ []
+ranges len (Striped chunk bases) = map (range_from (len / length bases)) bases
+ranges len Zero = []
+ranges len Error = []
+
+-- so many sectors from a base end past its device
+abbrev pub ends_beyond : Configuration → ℕ → Base → Bool
+ends_beyond c sectors base = ends_past c base.device (base.offset + sectors)
+
+-- a range of a line ends past the named device
 abbrev pub is_beyond : Configuration → ℕ → Target → Bool
-is_beyond c len (Linear base) = ends_past c base.device (base.offset + len)
-is_beyond c len (Striped chunk bases) = list_any (λ base. ends_past c base.device (base.offset + len / length bases)) bases
-is_beyond c len Zero = false
-is_beyond c len Error = false
-
--- the devices that a target names, each with the sector at which the range begins
-abbrev pub bases_of : Target → List Base
-bases_of (Linear base) = base ∷ []
-bases_of (Striped chunk bases) = bases
-bases_of Zero = []
-bases_of Error = []
-
--- how many sectors of each of them a line takes
-abbrev pub share : ℕ → Target → ℕ
-share len (Linear base) = len
-share len (Striped chunk bases) = len / length bases
-share len Zero = len
-share len Error = len
+is_beyond c len target = list_any (λ range. ends_past c range.0 range.1) (ranges len target)
 
 -- the length is no multiple of stripes times chunk
 abbrev pub is_undivided : ℕ → Target → Bool
@@ -93,16 +89,24 @@ is_undivided len Error = false
 abbrev pub names_read_only : Configuration → Target → Bool
 names_read_only c target = list_any (λ name. option_map_or (λ lower. not (may_write c lower)) (named c name) false) (names target)
 
--- the rules of line l of device d, where the lines before it have so many sectors
-abbrev pub line_rules : Configuration → Bool → ℕ → ℕ → ℕ → Line → List (Option Refusal)
-line_rules c writable d l before line =
-    refuse ZeroLength d l (line.length == 0)
-    ∷ refuse Gap d l (not (line.start == before))
-    ∷ refuse TooLarge d l (nat_lt most_sectors (line.start + line.length))
-    ∷ refuse StripesDontDivide d l (is_undivided line.length line.target)
-    ∷ refuse BeyondDevice d l (is_beyond c line.length line.target)
-    ∷ refuse LowerReadOnly d l (writable && names_read_only c line.target)
+-- the rules of a line in their order, and whether each refuses, where the lines before have so many sectors
+abbrev pub line_faults : Configuration → Bool → ℕ → Line → List (LoadKind × Bool)
+line_faults c writable before line =
+    (ZeroLength, line.length == 0)
+    ∷ (Gap, not (line.start == before))
+    ∷ (TooLarge, nat_lt most_sectors (line.start + line.length))
+    ∷ (StripesDontDivide, is_undivided line.length line.target)
+    ∷ (BeyondDevice, is_beyond c line.length line.target)
+    ∷ (LowerReadOnly, writable && names_read_only c line.target)
     ∷ []
+
+-- rules at line l of device d
+abbrev pub refusals_at : ℕ → ℕ → List (LoadKind × Bool) → List (Option Refusal)
+refusals_at d l faults = map (λ fault. refuse fault.0 d l fault.1) faults
+
+-- the rules of line l of device d
+abbrev pub line_rules : Configuration → Bool → ℕ → ℕ → ℕ → Line → List (Option Refusal)
+line_rules c writable d l before line = refusals_at d l (line_faults c writable before line)
 
 -- what a rule says of each device in order
 abbrev pub each_device : Configuration → (ℕ → DeviceRecord → List (Option Refusal)) → List (Option Refusal)

@@ -14,7 +14,8 @@ use crate::leaf::Leaf;
 use crate::lower_sets::{MOST_DEVICES, lower_sets};
 use crate::lowers::DeviceLowers;
 use crate::mapped::Mapped;
-use crate::next::{duplicate, is_over_full, next_devices};
+use crate::next::{copied_devices, duplicate, planned_devices};
+use crate::planned::Planned;
 use crate::refusal::{LoadFault, LoadKind, Refusal};
 use crate::resolve::lowers_of;
 use crate::rules::lines_refusal;
@@ -27,6 +28,12 @@ pub(crate) const MOST_DEPTH: u64 = 8;
 
 const MOST_COST: u64 = 1 << 32;
 
+const TOO_MANY: Refusal = Refusal {
+    kind: LoadKind::TooMany,
+    device: 0,
+    line: 0,
+};
+
 /// What is computed once of a configuration.
 #[derive(Drop)]
 pub(crate) struct Facts {
@@ -36,7 +43,7 @@ pub(crate) struct Facts {
     pub(crate) lowers: Vec<DeviceLowers>,
 }
 
-fn has_long_table(devices: &[Mapped]) -> bool
+fn has_long_table(devices: &[Planned<'_>]) -> bool
     ensures { result ≡ list_any (λ d. nat_lt most_lines (length d.table)) devices.now }
 {
     devices
@@ -44,7 +51,7 @@ fn has_long_table(devices: &[Mapped]) -> bool
         .any(|device| device.table().lines().len() > MOST_LINES)
 }
 
-fn is_too_many(devices: &[Mapped]) -> bool
+fn is_too_many(devices: &[Planned<'_>]) -> bool
     ensures { result ≡ is_too_many devices.now }
 {
     devices.len() > MOST_DEVICES as usize || has_long_table(devices)
@@ -68,51 +75,42 @@ pub(crate) fn first_above(values: &[u64], most: u64, kind: LoadKind) -> Option<R
 }
 
 /// The facts of a configuration, or the first rule that refuses it.
-pub(crate) fn check(alloc: Global, leaves: &[Leaf], devices: &[Mapped]) -> Result<Facts, LoadFault>
+pub(crate) fn check(
+    alloc: Global,
+    leaves: &[Leaf],
+    devices: &[Planned<'_>],
+) -> Result<Facts, LoadFault>
     requires { length leaves.now ≤ most_leaves }
     ensures { let c = configuration leaves.now devices.now in IsPassed result (rules c) (AreFacts c) }
 {
     if is_too_many(devices) {
-        return Err(LoadFault::Refused(Refusal {
-            kind: LoadKind::TooMany,
-            device: 0,
-            line: 0,
-        }));
+        return Err(LoadFault::Refused(TOO_MANY));
     }
     let lowers = lowers_of(alloc, leaves, devices)?;
-    let sets = lower_sets(alloc, lowers.as_slice())?;
-    let cycle = cycle_refusal(alloc, sets.as_slice())?;
+    let rows = lowers.as_slice();
+    let named = lower_sets(alloc, rows)?;
+    let sets = named.as_slice();
+    let cycle = cycle_refusal(alloc, sets)?;
     match cycle {
         Some(refusal) => return Err(LoadFault::Refused(refusal)),
         None => {}
     }
-    match lines_refusal(leaves, devices, lowers.as_slice()) {
+    match lines_refusal(leaves, devices, rows) {
         Some(refusal) => return Err(LoadFault::Refused(refusal)),
         None => {}
     }
-    let depths = depths(alloc, sets.as_slice())?;
-    match first_above(depths.as_slice(), MOST_DEPTH, LoadKind::TooDeep) {
+    let depths = depths(alloc, sets)?;
+    let levels = depths.as_slice();
+    match first_above(levels, MOST_DEPTH, LoadKind::TooDeep) {
         Some(refusal) => return Err(LoadFault::Refused(refusal)),
         None => {}
     }
-    let read_costs = costs(
-        alloc,
-        Direction::Read,
-        devices,
-        lowers.as_slice(),
-        depths.as_slice(),
-    )?;
+    let read_costs = costs(alloc, Direction::Read, devices, rows, levels)?;
     match first_above(read_costs.as_slice(), MOST_COST, LoadKind::CostTooLarge) {
         Some(refusal) => return Err(LoadFault::Refused(refusal)),
         None => {}
     }
-    let write_costs = costs(
-        alloc,
-        Direction::Write,
-        devices,
-        lowers.as_slice(),
-        depths.as_slice(),
-    )?;
+    let write_costs = costs(alloc, Direction::Write, devices, rows, levels)?;
     Ok(Facts {
         depths,
         read_costs,
@@ -144,15 +142,9 @@ pub(crate) fn next_load(
         Some(refusal) => return Err(LoadFault::Refused(refusal)),
         None => {}
     }
-    // No table is copied for more devices than there may be.
-    if is_over_full(devices, entries) {
-        return Err(LoadFault::Refused(Refusal {
-            kind: LoadKind::TooMany,
-            device: 0,
-            line: 0,
-        }));
-    }
-    let devices = next_devices(alloc, devices, entries)?;
-    let facts = check(alloc, leaves, devices.as_slice())?;
+    // Nothing is copied before all rules were looked at.
+    let planned = planned_devices(alloc, devices, entries)?;
+    let facts = check(alloc, leaves, planned.as_slice())?;
+    let devices = copied_devices(alloc, planned.as_slice())?;
     Ok(Next { devices, facts })
 }

@@ -6,13 +6,15 @@ ghost use Rattle.stack_loader.specs.Lines.{IsIn, names_at, lower_at};
 ghost use Rattle.stack_loader.specs.Leaves.{first_fault};
 ghost use Rattle.stack_loader.specs.declared.refusal.Refusal.{Refusal};
 ghost use Rattle.stack_loader.specs.Rules.{IsLoaded, IsRefusal, after_load, first_refusal};
+ghost use Rattle.stack_loader.specs.Removal.{after_removal, removal_fault};
 
 use crate::check::{Facts, next_load};
 use crate::leaf::Leaf;
 use crate::leaves::leaves_fault;
 use crate::lower::{DevId, Lower};
 use crate::mapped::{Mapped, place_of};
-use crate::refusal::{ConfigFault, LoadFault};
+use crate::refusal::{ConfigFault, LoadFault, RemoveFault};
+use crate::removal::is_in_use;
 use crate::sectors::line_of;
 use dm_table::{StackText, Table};
 use std::alloc::Global;
@@ -77,6 +79,26 @@ impl Config {
         self.devices = next.devices;
         self.facts = next.facts;
         Ok(())
+    }
+
+    /// Removes the mapped device of that name; later ones move up by one place.
+    pub fn remove(&mut self, name: &[u8]) -> Result<(), RemoveFault>
+        ensures ok { OnOk result (removal_fault self.old name.now ≡ None) }
+        ensures after { OnOk result (self.new ≡ after_removal self.old name.now) }
+        ensures err { IfErr result (λ fault. removal_fault self.old name.now ≡ Some fault) }
+        ensures same { OnErr result (self.new ≡ self.old) }
+    {
+        match place_of(self.devices.as_slice(), name) {
+            None => Err(RemoveFault::NoSuchDevice),
+            Some(place) => {
+                if is_in_use(self.facts.lowers.as_slice(), place) {
+                    return Err(RemoveFault::InUse);
+                }
+                drop(self.devices.remove(place));
+                self.facts.remove(place);
+                Ok(())
+            }
+        }
     }
 
     /// How many mapped devices there are.

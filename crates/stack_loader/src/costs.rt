@@ -10,7 +10,7 @@ ghost use Rattle.stack_loader.specs.Costs.{line_cost, cost, cost_in, dearest, Ar
 use crate::check::MOST_DEPTH;
 use crate::lower::Lower;
 use crate::lowers::{DeviceLowers, LineLowers};
-use crate::mapped::Mapped;
+use crate::planned::Planned;
 use dm_table::{Line, Target};
 use std::alloc::{AllocError, Global};
 
@@ -86,7 +86,7 @@ fn dearest(direction: Direction, costs: &[u64], lines: &[Line], rows: &[LineLowe
 /// Sets the costs of the devices of a depth, where those of less depth have theirs.
 fn settle(
     direction: Direction,
-    devices: &[Mapped],
+    devices: &[Planned<'_>],
     lowers: &[DeviceLowers],
     depths: &[u64],
     depth: u64,
@@ -105,7 +105,7 @@ fn settle(
     }
 }
 
-fn zeros(alloc: Global, devices: &[Mapped]) -> Result<Vec<u64>, AllocError>
+fn zeros(alloc: Global, devices: &[Planned<'_>]) -> Result<Vec<u64>, AllocError>
     ensures { IfOk result (λ v. v.items ≡ map (λ device. 0) devices.now) }
 {
     devices.iter().map(|_device| 0).collect(alloc)
@@ -115,7 +115,7 @@ fn zeros(alloc: Global, devices: &[Mapped]) -> Result<Vec<u64>, AllocError>
 pub(crate) fn costs(
     alloc: Global,
     direction: Direction,
-    devices: &[Mapped],
+    devices: &[Planned<'_>],
     lowers: &[DeviceLowers],
     depths: &[u64],
 ) -> Result<Vec<u64>, AllocError>

@@ -8,7 +8,7 @@ ghost use Rattle.stack_loader.specs.Places.{IsPlaces};
 
 use crate::leaf::Leaf;
 use crate::lower::{DevId, Lower};
-use crate::mapped::Mapped;
+use crate::planned::Planned;
 use std::alloc::{AllocError, Global};
 use std::collections::HashMap;
 
@@ -27,7 +27,7 @@ fn leaf_places<'a>(alloc: Global, leaves: &'a [Leaf]) -> Result<HashMap<&'a [u8]
 /// The place of the first device of each name.
 fn device_places<'a>(
     alloc: Global,
-    devices: &'a [Mapped],
+    devices: &[Planned<'a>],
 ) -> Result<HashMap<&'a [u8], u32>, AllocError>
     requires { length devices.now < 2 ^ 32 }
     ensures { IfOk result (λ m. (q : List ℕ) → get_by (λ k. bytes_eq q k.now) m ≡ position (λ d. bytes_eq d.name q) devices.now) }
@@ -69,7 +69,7 @@ impl<'a> Index<'a> {
     pub(crate) fn new(
         alloc: Global,
         leaves: &'a [Leaf],
-        devices: &'a [Mapped],
+        devices: &[Planned<'a>],
     ) -> Result<Index<'a>, AllocError>
         requires leaves { length leaves.now < 2 ^ 32 }
         requires devices { length devices.now < 2 ^ 32 }

@@ -15,7 +15,9 @@ mod lower_sets;
 mod lowers;
 mod mapped;
 mod next;
+mod planned;
 mod refusal;
+mod removal;
 mod resolve;
 mod rules;
 mod sectors;
@@ -23,7 +25,7 @@ mod sectors;
 pub use config::Config;
 pub use leaf::Leaf;
 pub use lower::{DevId, Lower};
-pub use refusal::{ConfigFault, LoadFault, LoadKind, Refusal};
+pub use refusal::{ConfigFault, LoadFault, LoadKind, Refusal, RemoveFault};
 
 #[cfg(test)]
 mod tests;

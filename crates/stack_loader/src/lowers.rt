@@ -1,5 +1,8 @@
 // What the names in a table mean, found once at loading.
-ghost use Rattle.std.specs.Prelude.{◌≡◌, ◌<◌, length, slice_get, get_or, []};
+ghost use Rattle.std.specs.Prelude.{◌≡◌, ◌<◌, length, map, slice_get, get_or, []};
+ghost use Rattle.std.specs.List.{list_any};
+ghost use Rattle.stack_loader.specs.Cycles.{is_mapped};
+ghost use Rattle.stack_loader.specs.Removal.{lower_after};
 
 use crate::lower::Lower;
 use std::marker::Model;
@@ -30,6 +33,21 @@ impl LineLowers {
         ensures { result.now ≡ self.now }
     {
         self.list.as_slice()
+    }
+
+    fn names(&self, d: usize) -> bool
+        ensures { result ≡ list_any (is_mapped d) self.now }
+    {
+        self.list.iter().any(|lower| lower.is_mapped(d))
+    }
+
+    /// The same once device d is removed.
+    fn remove(&mut self, d: usize)
+        ensures { self.new ≡ map (lower_after d) self.old }
+    {
+        for lower in self.list.as_mut_slice() {
+            *lower = lower.after_removal(d);
+        }
     }
 }
 
@@ -68,5 +86,21 @@ impl DeviceLowers {
     {
         let lowers = &self.lines[line];
         lowers.list[i]
+    }
+
+    /// Whether a line names device d.
+    pub(crate) fn names(&self, d: usize) -> bool
+        ensures { result ≡ list_any (list_any (is_mapped d)) self.now }
+    {
+        self.lines.iter().any(|line| line.names(d))
+    }
+
+    /// The same once device d is removed.
+    pub(crate) fn remove(&mut self, d: usize)
+        ensures { self.new ≡ map (map (lower_after d)) self.old }
+    {
+        for line in self.lines.as_mut_slice() {
+            line.remove(d);
+        }
     }
 }

@@ -29,7 +29,7 @@ impl Model for Mapped {
 }
 
 /// The sum of the lines' lengths.
-fn sectors_of(lines: &[Line]) -> u128
+pub(crate) fn sectors_of(lines: &[Line]) -> u128
     ensures { result ≡ sectors_of lines.now }
 {
     let mut sectors: u128 = 0;

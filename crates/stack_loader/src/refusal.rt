@@ -1,4 +1,4 @@
-// Why leaves or a load are refused.
+// Why leaves, a load or a removal are refused.
 ghost use Rattle.std.specs.Prelude.{◌≡◌};
 ghost use Rattle.stack_loader.specs.declared.refusal.LoadFault.TheVariants as load_fault;
 
@@ -143,5 +143,37 @@ impl<T: Drop> From<AllocFailed<T>> for LoadFault {
 
     fn from(_refused: AllocFailed<T>) -> LoadFault {
         LoadFault::NoMemory
+    }
+}
+
+/// Why a device isn't removed, in the order of the checks.
+#[derive(Clone, Copy, Debug, PartialEq, Eq, Error)]
+#[error("{}", self.name())]
+pub enum RemoveFault {
+    /// There is no mapped device of that name.
+    NoSuchDevice = 1,
+    /// Another device names it.
+    InUse = 2,
+}
+
+impl RemoveFault {
+    ghost use Rattle.std.specs.Prelude.{◌≡◌};
+    ghost use Rattle.stack_loader.specs.FaultKinds.{removal_number, removal_name};
+
+    /// The number that is printed, 1 or 2.
+    pub fn number(self) -> u8
+        ensures { result ≡ removal_number self }
+    {
+        self as u8
+    }
+
+    /// The name that is printed: the variant's.
+    pub fn name(self) -> &'static str
+        ensures { result.now ≡ removal_name self }
+    {
+        match self {
+            RemoveFault::NoSuchDevice => "NoSuchDevice",
+            RemoveFault::InUse => "InUse",
+        }
     }
 }

@@ -1,28 +1,40 @@
 // What the names of each line mean.
-ghost use Rattle.std.specs.Prelude.{◌≡◌, ◌<◌, ◌≤◌, ◌^◌, length, map, All, IfOk};
+ghost use Rattle.std.specs.Prelude.{◌≡◌, ◌<◌, ◌≤◌, ◌^◌, length, slice_index_or, All, IfOk};
 ghost use Rattle.stack_loader.specs.Records.{Configuration, configuration};
 ghost use Rattle.stack_loader.specs.Descend.{most_devices};
 ghost use Rattle.stack_loader.specs.Index.{IsIndex};
 ghost use Rattle.stack_loader.specs.Kept.{AreLowers};
+ghost use Rattle.stack_loader.specs.Names.{names};
 ghost use Rattle.stack_loader.specs.Passing.{IsPassed, AreFound, RowsMean};
-ghost use Rattle.stack_loader.specs.Rules.{bases_of, unknown_in, unknown_names, most_leaves, most_lines};
+ghost use Rattle.stack_loader.specs.Rules.{unknown_in, unknown_names, most_leaves, most_lines};
 
 use crate::index::Index;
 use crate::leaf::Leaf;
 use crate::lowers::{DeviceLowers, LineLowers};
-use crate::mapped::Mapped;
+use crate::planned::Planned;
 use crate::refusal::{LoadFault, LoadKind, Refusal};
-use dm_table::{Base, Line, Target};
+use dm_table::{Line, Target};
 use std::alloc::{AllocError, Global};
-use std::slice;
 
-/// The devices that a target names, with their offsets.
-pub(crate) fn bases_of(target: &Target) -> &[Base]
-    ensures { result.now ≡ bases_of target.now }
+/// How many names a target has.
+pub(crate) fn name_count(target: &Target) -> usize
+    ensures { result ≡ length (names target.now) }
 {
     match target {
-        Target::Linear(base) => slice::from_ref(base),
-        Target::Striped { bases, .. } => bases.as_slice(),
+        Target::Linear(_) => 1,
+        Target::Striped { bases, .. } => bases.as_slice().len(),
+        Target::Zero | Target::Error => 0,
+    }
+}
+
+/// The i-th name of a target, from 0.
+fn name_at(target: &Target, i: usize) -> &[u8]
+    requires { i < length (names target.now) }
+    ensures { result.now ≡ slice_index_or (names target.now) i result.now }
+{
+    match target {
+        Target::Linear(base) => base.device.as_slice(),
+        Target::Striped { bases, .. } => bases.as_slice()[i].device.as_slice(),
         Target::Zero | Target::Error => &[],
     }
 }
@@ -31,13 +43,14 @@ pub(crate) fn bases_of(target: &Target) -> &[Base]
 fn line_lowers(
     alloc: Global,
     index: &Index,
-    bases: &[Base],
+    target: &Target,
 ) -> Result<Option<LineLowers>, AllocError>
-    ensures { (c : Configuration) → IsIndex c index.now → IfOk result (λ found. AreFound c found (map (λ b. b.device) bases.now)) }
+    ensures { (c : Configuration) → IsIndex c index.now → IfOk result (λ found. AreFound c found (names target.now)) }
 {
-    let mut list = Vec::with_capacity(alloc, bases.len())?;
-    for base in bases {
-        match index.named(base.device.as_slice()) {
+    let count = name_count(target);
+    let mut list = Vec::with_capacity(alloc, count)?;
+    for i in 0..count {
+        match index.named(name_at(target, i)) {
             Some(lower) => list.push(lower)?,
             None => return Ok(None),
         }
@@ -57,7 +70,7 @@ fn device_lowers(
 {
     let mut rows = Vec::with_capacity(alloc, lines.len())?;
     for (i, line) in lines.iter().enumerate() {
-        match line_lowers(alloc, index, bases_of(&line.target))? {
+        match line_lowers(alloc, index, &line.target)? {
             Some(row) => rows.push(row)?,
             None => {
                 return Err(LoadFault::Refused(Refusal {
@@ -75,7 +88,7 @@ fn device_lowers(
 pub(crate) fn lowers_of(
     alloc: Global,
     leaves: &[Leaf],
-    devices: &[Mapped],
+    devices: &[Planned<'_>],
 ) -> Result<Vec<DeviceLowers>, LoadFault>
     requires leaves { length leaves.now ≤ most_leaves }
     requires devices { length devices.now ≤ most_devices }

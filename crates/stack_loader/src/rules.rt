@@ -1,5 +1,5 @@
 // The rules on each line.
-ghost use Rattle.std.specs.Prelude.{◌≡◌, ◌≤◌, not, ℕ, option_map, length, All};
+ghost use Rattle.std.specs.Prelude.{◌≡◌, ◌≤◌, not, ℕ, map, option_map, length, All};
 ghost use Rattle.std.specs.List.{list_any};
 ghost use Rattle.dm_table.specs.Grammar.{IsTargetOfGrammar};
 ghost use Rattle.stack_loader.specs.Records.{configuration};
@@ -7,18 +7,18 @@ ghost use Rattle.stack_loader.specs.Names.{size, may_write, names};
 ghost use Rattle.stack_loader.specs.Descend.{most_devices};
 ghost use Rattle.stack_loader.specs.Kept.{AreLowers};
 ghost use Rattle.stack_loader.specs.Passing.{Mean, RowsMean, refusal_at};
-ghost use Rattle.stack_loader.specs.Rules.{first, line_rules, is_beyond, is_undivided, share, each_device, table_rules, most_lines};
+ghost use Rattle.stack_loader.specs.Rules.{first, line_rules, ends_beyond, is_beyond, is_undivided, each_device, table_rules, most_lines};
 
 use crate::leaf::Leaf;
 use crate::leaves::MOST_SECTORS;
 use crate::lower::Lower;
 use crate::lowers::{DeviceLowers, LineLowers};
-use crate::mapped::Mapped;
+use crate::planned::Planned;
 use crate::refusal::{LoadKind, Refusal};
-use crate::resolve::bases_of;
-use dm_table::{Line, Target};
+use dm_table::{Base, Line, Target};
+use std::slice;
 
-fn size_of(leaves: &[Leaf], devices: &[Mapped], lower: Lower) -> u128
+fn size_of(leaves: &[Leaf], devices: &[Planned<'_>], lower: Lower) -> u128
     ensures { result ≡ size (configuration leaves.now devices.now) lower }
 {
     match lower {
@@ -33,7 +33,7 @@ fn size_of(leaves: &[Leaf], devices: &[Mapped], lower: Lower) -> u128
     }
 }
 
-fn may_write(leaves: &[Leaf], devices: &[Mapped], lower: Lower) -> bool
+fn may_write(leaves: &[Leaf], devices: &[Planned<'_>], lower: Lower) -> bool
     ensures { result ≡ may_write (configuration leaves.now devices.now) lower }
 {
     match lower {
@@ -62,35 +62,47 @@ fn is_undivided(line: &Line) -> bool
     }
 }
 
-/// How many sectors of each device that it names a line takes.
-fn share_of(line: &Line) -> u64
-    requires { IsTargetOfGrammar line.now.target }
-    ensures { result ≡ share line.now.length line.now.target }
+/// Whether so many sectors from one of the bases end past its device.
+fn are_beyond(
+    leaves: &[Leaf],
+    devices: &[Planned<'_>],
+    lowers: &[Lower],
+    bases: &[Base],
+    sectors: u64,
+) -> bool
+    requires { Mean (configuration leaves.now devices.now) lowers.now (map (λ b. b.device) bases.now) }
+    ensures { result ≡ list_any (ends_beyond (configuration leaves.now devices.now) sectors) bases.now }
 {
-    match &line.target {
-        Target::Striped { bases, .. } => line.length / bases.as_slice().len() as u64,
-        Target::Linear(_) | Target::Zero | Target::Error => line.length,
-    }
-}
-
-/// Whether a range or a stripe's share ends past the device that it names.
-fn is_beyond(leaves: &[Leaf], devices: &[Mapped], lowers: &[Lower], line: &Line) -> bool
-    requires grammar { IsTargetOfGrammar line.now.target }
-    requires lowers { Mean (configuration leaves.now devices.now) lowers.now (names line.now.target) }
-    ensures { result ≡ is_beyond (configuration leaves.now devices.now) line.now.length line.now.target }
-{
-    let share = u128::from(share_of(line));
-    let bases = bases_of(&line.target);
     for (i, base) in bases.iter().enumerate() {
-        if size_of(leaves, devices, lowers[i]) < u128::from(base.offset) + share {
+        let end = u128::from(base.offset) + u128::from(sectors);
+        if size_of(leaves, devices, lowers[i]) < end {
             return true;
         }
     }
     false
 }
 
+/// Whether a range or a stripe's share ends past the device that it names.
+fn is_beyond(leaves: &[Leaf], devices: &[Planned<'_>], lowers: &[Lower], line: &Line) -> bool
+    requires grammar { IsTargetOfGrammar line.now.target }
+    requires lowers { Mean (configuration leaves.now devices.now) lowers.now (names line.now.target) }
+    ensures { result ≡ is_beyond (configuration leaves.now devices.now) line.now.length line.now.target }
+{
+    match &line.target {
+        Target::Linear(base) => {
+            are_beyond(leaves, devices, lowers, slice::from_ref(base), line.length)
+        }
+        Target::Striped { bases, .. } => {
+            let bases = bases.as_slice();
+            let share = line.length / bases.len() as u64;
+            are_beyond(leaves, devices, lowers, bases, share)
+        }
+        Target::Zero | Target::Error => false,
+    }
+}
+
 /// Whether one of the lower devices may not be written.
-fn has_read_only(leaves: &[Leaf], devices: &[Mapped], lowers: &[Lower]) -> bool
+fn has_read_only(leaves: &[Leaf], devices: &[Planned<'_>], lowers: &[Lower]) -> bool
     ensures { result ≡ list_any (λ lower. not (may_write (configuration leaves.now devices.now) lower)) lowers.now }
 {
     lowers
@@ -101,7 +113,7 @@ fn has_read_only(leaves: &[Leaf], devices: &[Mapped], lowers: &[Lower]) -> bool
 /// The first rule that refuses a line, where the lines before it have so many sectors.
 fn line_fault(
     leaves: &[Leaf],
-    devices: &[Mapped],
+    devices: &[Planned<'_>],
     writable: bool,
     before: u128,
     lowers: &[Lower],
@@ -135,8 +147,8 @@ fn line_fault(
 /// The first rule that refuses a line of the d-th device, from 1.
 fn table_refusal(
     leaves: &[Leaf],
-    devices: &[Mapped],
-    device: &Mapped,
+    devices: &[Planned<'_>],
+    device: &Planned<'_>,
     rows: &[LineLowers],
     d: u32,
 ) -> Option<Refusal>
@@ -168,7 +180,7 @@ fn table_refusal(
 /// The first rule that refuses a line.
 pub(crate) fn lines_refusal(
     leaves: &[Leaf],
-    devices: &[Mapped],
+    devices: &[Planned<'_>],
     lowers: &[DeviceLowers],
 ) -> Option<Refusal>
     requires few { length devices.now ≤ most_devices }

@@ -1,11 +1,13 @@
 pub mod lemmas
 pub mod IntakeLemmas
 pub mod RangeLemmas
-pub mod ReadingLemmas
+pub mod AccessLemmas
 pub mod ReplyLemmas
 pub mod ReplyingLemmas
 pub mod RequestLemmas
 pub mod SectorTextLemmas
 pub mod SessionLemmas
 pub mod WholeReadLemmas
+pub mod WriteLemmas
+pub mod WholeWriteLemmas
 pub mod WorkedValueLemmas

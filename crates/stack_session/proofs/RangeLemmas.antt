@@ -9,7 +9,7 @@ use Rattle.stack_engine.specs.Stacks.{StackRecord}
 use Rattle.stack_session.specs.declared.range.SectorRange.{SectorRange}
 use Rattle.stack_session.specs.declared.range.SubmitFault.TheVariants.{NoSuchDevice, OutOfRange, Length}
 use Rattle.stack_engine.specs.Pieces.{EachPiece}
-use Rattle.stack_session.specs.Ranges.{range_at, range_in, range_of, range_after, ReadsPieces, reads_more, NextPiece}
+use Rattle.stack_session.specs.Ranges.{range_at, range_in, range_of, range_after, IsReadable, ReadsPieces, reads_more, NextPiece}
 
 -- ---- names
 
@@ -74,6 +74,10 @@ pub exit_err : {A E : Type 0} (r : Result A E) (fault : E) (P : E → Type 0) �
 exit_err (Ok x) fault P h p = absurd h
 exit_err (Err e) fault P h p = subst P (sym h) p
 
+pub exit_is : {A E : Type 0} (r : Result A E) (fault : E) (P : Result A E → Type 0) → IsErrAnd r (λ e. e ≡ fault) → P (Err fault) → P r
+exit_is (Ok x) fault P h p = absurd h
+exit_is (Err e) fault P h p = subst (λ f. P (Err f)) (sym h) p
+
 -- the next piece of a read
 pub reads_next : {w v : StackRecord} {range rest : SectorRange} {n : ℕ} {bytes new : List ℕ} (w' : StackRecord) → ReadsPieces EachPiece w range bytes v rest → 0 < rest.count
     → NextPiece v rest n bytes new w' → ReadsPieces EachPiece w range new w' (range_after rest n)
@@ -82,3 +86,12 @@ reads_next {w} {v} {range} {rest} {n} {bytes} {new} w' r some next =
     let step = reads_more got w' r some next.answered in
     subst (λ t. ReadsPieces EachPiece w range t w' (range_after rest n)) (sym next.appended)
     (subst (λ k. ReadsPieces EachPiece w range (bytes ++ got.bytes) w' (range_after rest k)) (sym next.count) step)
+
+-- what is left behind the first sectors
+pub readable_after : {c : Configuration} {range : SectorRange} {n : ℕ} → IsReadable c range → n ≤ range.count → IsReadable c (range_after range n)
+readable_after readable most = record {
+  device = readable.device;
+  inside = omega (arith, most, readable.inside);
+  count = omega (arith, readable.count);
+  fits = omega (arith, most, readable.fits);
+}

@@ -1,11 +1,11 @@
 -- Worked values: requests of lines, and texts of replies.
 use Rattle.std.proofs.Common.{◌≡◌, ◌++◌, refl, codes, replicate}
 use Rattle.std.specs.Fmt.{digits}
-use Rattle.hex.specs.Hex.{encode_with}
+use Rattle.hex.specs.Hex.{encode_with, decode_pairs}
 use Rattle.dm_table.specs.Words.{words}
 use Rattle.dm_table.specs.Numbers.{number}
 use Rattle.stack_loader.specs.declared.refusal.LoadKind.TheVariants.{Gap}
-use Rattle.stack_session.specs.Requests.{request_of, after_word, verb_of, load, read, cost, table, moved, usage, nothing}
+use Rattle.stack_session.specs.Requests.{request_of, after_word, verb_of, byte_of, load, read, write, remove, cost, table, moved, usage, nothing}
 use Rattle.stack_session.specs.Texts.{sector_line, sector_lines, refusal_text, cost_text, moved_text}
 
 refusal : refusal_text (record { kind = Gap; device = 1; line = 2 }) ≡ codes "refused 6 Gap device 1 line 2\n"
@@ -19,6 +19,22 @@ printed = refl
 reads : request_of (codes "read a 3 02") ≡ read (codes "a") 3 2
 unfolding request_of words number after_word verb_of
 reads = refl
+
+writes : request_of (codes "write a 3 02049 Fe") ≡ write (codes "a") 3 2049 254
+unfolding request_of words number verb_of byte_of decode_pairs
+writes = refl
+
+too_many : request_of (codes "write a 3 2050 Fe") ≡ usage
+unfolding request_of words number verb_of byte_of decode_pairs
+too_many = refl
+
+one_digit : request_of (codes "write a 3 2 F") ≡ usage
+unfolding request_of words number verb_of byte_of decode_pairs
+one_digit = refl
+
+removes : request_of (codes "remove a") ≡ remove (codes "a")
+unfolding request_of words verb_of
+removes = refl
 
 loads : request_of (codes " load a,,,rw ") ≡ load (codes " a,,,rw ")
 unfolding request_of words number after_word verb_of

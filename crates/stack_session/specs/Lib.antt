@@ -5,3 +5,4 @@ pub mod Requests
 pub mod Session
 pub mod SubmitFaults
 pub mod Texts
+pub mod Writes

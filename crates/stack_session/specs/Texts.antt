@@ -4,11 +4,12 @@ use Rattle.std.specs.List.{list_all}
 use Rattle.hex.specs.Hex.{encode_lower}
 use Rattle.dm_table.specs.declared.fault.TextFault.{TextFault}
 use Rattle.stack_loader.specs.declared.refusal.Refusal.{Refusal}
+use Rattle.stack_loader.specs.declared.refusal.RemoveFault.{RemoveFault}
 use Rattle.stack_engine.specs.declared.fault.IoFault.{IoFault}
 use Rattle.stack_engine.specs.declared.fault.IoFault.TheVariants as io
 use Rattle.stack_session.specs.declared.range.SubmitFault.{SubmitFault}
 use Rattle.dm_table.specs.TextKinds.{text_number, text_name}
-use Rattle.stack_loader.specs.FaultKinds.{load_number, load_name}
+use Rattle.stack_loader.specs.FaultKinds.{load_number, load_name, removal_number, removal_name}
 use Rattle.stack_session.specs.SubmitFaults.{submit_number, submit_name}
 
 abbrev pub usage_text : List ℕ
@@ -46,6 +47,13 @@ refusal_text r = codes "refused " ++ kind_then (load_number r.kind) (load_name r
 abbrev pub submit_text : SubmitFault → List ℕ
 submit_text fault = codes "refused " ++ kind_then (submit_number fault) (submit_name fault) (codes "\n")
 
+abbrev pub removed_text : List ℕ
+removed_text = codes "removed\n"
+
+-- a removal that is refused
+abbrev pub removal_text : RemoveFault → List ℕ
+removal_text fault = codes "refused " ++ kind_then (removal_number fault) (removal_name fault) (codes "\n")
+
 abbrev pub io_text : IoFault → List ℕ
 io_text io.ErrorTarget = codes "fault 1 ErrorTarget\n"
 io_text io.Mismatch = codes "fault 2 Mismatch\n"
@@ -56,6 +64,14 @@ io_text io.NoMemory = no_memory
 abbrev pub answer_text : ℕ → Result (List ℕ) IoFault → List ℕ
 answer_text first (Ok bytes) = sector_lines (length bytes / 512) first bytes
 answer_text first (Err fault) = io_text fault
+
+abbrev pub written_text : List ℕ
+written_text = codes "written\n"
+
+-- that all was written, or the fault
+abbrev pub write_text : Result Unit IoFault → List ℕ
+write_text (Ok done) = written_text
+write_text (Err fault) = io_text fault
 
 -- a device's size and depth, and the most leaf sectors that one sector read and one written move
 abbrev pub cost_text : ℕ → ℕ → ℕ → ℕ → List ℕ

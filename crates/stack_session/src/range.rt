@@ -1,10 +1,10 @@
 // Ranges of a mapped device's sectors, and reads of them.
-ghost use Rattle.std.specs.Prelude.{◌≡◌, ◌⊎◌, ◌+◌, ◌*◌, ◌≤◌, ◌<◌, length, Ok, Err, IfOk, IfErr};
+ghost use Rattle.std.specs.Prelude.{◌≡◌, ◌⊎◌, ◌+◌, ◌*◌, ◌≤◌, ◌<◌, ◌^◌, length, Ok, Err, IfOk, IfErr};
 ghost use Rattle.std.specs.Vec.{vec_capacity};
 ghost use Rattle.stack_loader.specs.Names.{mapped, size};
 ghost use Rattle.stack_engine.specs.Pieces.{EachPiece};
 ghost use Rattle.stack_session.specs.SubmitFaults.{submit_name, submit_number};
-ghost use Rattle.stack_session.specs.Ranges.{IsReadable, NextPiece, ReadsAll, first_piece, piece_len, range_of};
+ghost use Rattle.stack_session.specs.Ranges.{IsReadable, NextPiece, ReadsAll, first_piece, piece_len, range_after, range_of};
 
 use block_device::BlockDev;
 use stack_engine::{IoFault, Stack};
@@ -16,7 +16,7 @@ const MOST_PIECE: u64 = 128;
 
 const MOST_COUNT: u64 = 2048;
 
-/// Why a read isn't begun, in the order of the checks.
+/// Why a read or a write isn't begun, in the order of the checks.
 #[derive(Clone, Copy, Debug, PartialEq, Eq, Error)]
 #[error("{}", self.name())]
 pub enum SubmitFault {
@@ -24,8 +24,10 @@ pub enum SubmitFault {
     NoSuchDevice = 1,
     /// The sectors end past the device.
     OutOfRange = 2,
-    /// There are no sectors, or more than 2,048.
+    /// There are no sectors, or more than 2,048, or not whole ones.
     Length = 3,
+    /// The device may not be written.
+    ReadOnly = 4,
 }
 
 impl SubmitFault {
@@ -44,6 +46,7 @@ impl SubmitFault {
             SubmitFault::NoSuchDevice => "NoSuchDevice",
             SubmitFault::OutOfRange => "OutOfRange",
             SubmitFault::Length => "Length",
+            SubmitFault::ReadOnly => "ReadOnly",
         }
     }
 }
@@ -54,6 +57,21 @@ pub struct SectorRange {
     pub device: DevId,
     pub first: u64,
     pub count: u64,
+}
+
+impl SectorRange {
+    // What is left behind its first `n` sectors.
+    pub(crate) fn after(self, n: u32) -> SectorRange
+        requires few { n ≤ self.count }
+        requires fits { self.first + self.count < 2 ^ 64 }
+        ensures { result ≡ range_after self n }
+    {
+        SectorRange {
+            device: self.device,
+            first: self.first + u64::from(n),
+            count: self.count - u64::from(n),
+        }
+    }
 }
 
 /// The sectors that are asked for by the device's name, or why the read isn't begun.
@@ -84,7 +102,7 @@ pub fn range_of(
 }
 
 // How many sectors the first piece of a range has.
-fn piece_len(config: &Config, range: SectorRange) -> u32
+pub(crate) fn piece_len(config: &Config, range: SectorRange) -> u32
     requires device { range.device.0 < length config.now.devices }
     requires some { 0 < range.count }
     requires inside { range.first + range.count ≤ size config.now (mapped range.device.0) }
@@ -138,12 +156,8 @@ pub fn read_sectors<D: BlockDev>(
     };
     let mut rest = range;
     'pieces: while rest.count > 0 {
-        let n = u64::from(read_next(stack, rest, &mut bytes)?);
-        rest = SectorRange {
-            device: rest.device,
-            first: rest.first + n,
-            count: rest.count - n,
-        };
+        let n = read_next(stack, rest, &mut bytes)?;
+        rest = rest.after(n);
     }
     Ok(bytes)
 }

@@ -2,7 +2,7 @@
 ghost use Rattle.std.specs.Prelude.{◌≡◌, ◌+◌, ◌*◌, ◌/◌, ◌%◌, ◌<◌, decimal, ◌^◌, ◌==◌, ◌++◌, codes, length, slice_index};
 ghost use Rattle.std.specs.List.{list_all};
 ghost use Rattle.stack_session.specs.Counted.{Writes};
-ghost use Rattle.stack_session.specs.Texts.{usage_text, no_memory, loaded_text, fault_text, refusal_text, submit_text, io_text, sector_line, sector_lines, moved_text};
+ghost use Rattle.stack_session.specs.Texts.{usage_text, no_memory, loaded_text, fault_text, refusal_text, removed_text, removal_text, written_text, submit_text, io_text, sector_line, sector_lines, moved_text};
 ghost use Rattle.stack_session.specs.Replies.{cost_of};
 
 use crate::counted::Counted;
@@ -10,7 +10,7 @@ use crate::fault::WriteFault;
 use crate::range::SubmitFault;
 use dm_table::TextFault;
 use stack_engine::IoFault;
-use stack_loader::{Config, DevId, Refusal};
+use stack_loader::{Config, DevId, Refusal, RemoveFault};
 use std::io::Write;
 
 const SECTOR: usize = 512;
@@ -63,6 +63,31 @@ pub fn say_submit_fault<W: Write>(
 {
     let (number, name) = (fault.number(), fault.name());
     writer.print(format_args!("refused {number} {name}\n"))
+}
+
+/// `removed`
+pub fn say_removed<W: Write>(writer: &mut Counted<W>) -> Result<(), WriteFault>
+    ensures { Writes W.contents writer.old writer.new removed_text result }
+{
+    writer.put(b"removed\n")
+}
+
+/// `refused K NAME`
+pub fn say_removal_fault<W: Write>(
+    writer: &mut Counted<W>,
+    fault: RemoveFault,
+) -> Result<(), WriteFault>
+    ensures { Writes W.contents writer.old writer.new (removal_text fault) result }
+{
+    let (number, name) = (fault.number(), fault.name());
+    writer.print(format_args!("refused {number} {name}\n"))
+}
+
+/// `written`
+pub fn say_written<W: Write>(writer: &mut Counted<W>) -> Result<(), WriteFault>
+    ensures { Writes W.contents writer.old writer.new written_text result }
+{
+    writer.put(b"written\n")
 }
 
 /// `fault K NAME`, and for a device its number.

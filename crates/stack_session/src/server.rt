@@ -3,20 +3,21 @@ ghost use Rattle.std.specs.Prelude.{true, false, ◌≡◌, ◌≤◌, ℕ, List
 ghost use Rattle.stack_engine.specs.Leaves.{AllSteady};
 ghost use Rattle.stack_session.specs.Counted.{WritesSome};
 ghost use Rattle.stack_session.specs.Session.{IsSession, IsEnding, streams};
-ghost use Rattle.stack_session.specs.Requests.{load, read, cost, table, moved};
-ghost use Rattle.stack_engine.specs.Pieces.{AnyPiece, SteadyPiece, EachPiece};
-ghost use Rattle.stack_session.specs.Ranges.{ReadsAll, ReadsWhole};
-ghost use Rattle.stack_session.specs.Replies.{Replies, RepliesTo};
+ghost use Rattle.stack_session.specs.Requests.{load, read, write, remove, cost, table, moved};
+ghost use Rattle.stack_engine.specs.Pieces.{AnyPiece, SteadyPiece};
+ghost use Rattle.stack_engine.specs.WritePieces.{AnyWrite, SteadyWrite};
+ghost use Rattle.stack_session.specs.Replies.{Replies, RepliesTo, as_wholes, by_pieces, each_access};
 
-use crate::command::{Command, command_of};
+use crate::command::{Command, Filling, command_of};
 use crate::counted::Counted;
 use crate::fault::{SessionFault, WriteFault};
 use crate::lines::{LIMIT, LineServer, serve_lines};
 use crate::range::{SubmitFault, range_of, read_sectors};
 use crate::reply::{
-    say_cost, say_io_fault, say_loaded, say_moved, say_no_memory, say_refusal, say_sectors,
-    say_submit_fault, say_text_fault, say_usage,
+    say_cost, say_io_fault, say_loaded, say_moved, say_no_memory, say_refusal, say_removal_fault,
+    say_removed, say_sectors, say_submit_fault, say_text_fault, say_usage, say_written,
 };
+use crate::write::{SECTOR, filled_sectors, write_range_of, write_sectors};
 use block_device::BlockDev;
 use dm_table::{ParseFault, parse_stack, print_table};
 use stack_engine::Stack;
@@ -32,7 +33,7 @@ fn reply_to_load<D: BlockDev, W: Write>(
     writer: &mut Counted<W>,
 ) -> Result<(), WriteFault>
     requires { length text.now ≤ LIMIT }
-    ensures { WritesSome W.contents writer.old writer.new (λ reply. RepliesTo (ReadsAll EachPiece) stack.old (load text.now) reply stack.new) result }
+    ensures { WritesSome W.contents writer.old writer.new (λ reply. RepliesTo each_access stack.old (load text.now) reply stack.new) result }
 {
     let entries = match parse_stack(alloc, text) {
         Ok(entries) => entries,
@@ -55,7 +56,7 @@ fn reply_to_read<D: BlockDev, W: Write>(
     count: u64,
     writer: &mut Counted<W>,
 ) -> Result<(), WriteFault>
-    ensures { WritesSome W.contents writer.old writer.new (λ reply. RepliesTo (ReadsAll EachPiece) stack.old (read name.now first count) reply stack.new) result }
+    ensures { WritesSome W.contents writer.old writer.new (λ reply. RepliesTo each_access stack.old (read name.now first count) reply stack.new) result }
 {
     let range = match range_of(stack.config(), name, first, count) {
         Ok(range) => range,
@@ -67,13 +68,56 @@ fn reply_to_read<D: BlockDev, W: Write>(
     }
 }
 
+// Writes sectors of which every byte is the same, and replies to that.
+fn reply_to_write<D: BlockDev, W: Write>(
+    alloc: Global,
+    stack: &mut Stack<D>,
+    wanted: Filling<'_>,
+    writer: &mut Counted<W>,
+) -> Result<(), WriteFault>
+    requires { wanted.count ≤ 2049 }
+    ensures { WritesSome W.contents writer.old writer.new (λ reply. RepliesTo each_access stack.old (write wanted.entry.name.now wanted.entry.first wanted.entry.count wanted.entry.byte) reply stack.new) result }
+{
+    let Filling {
+        name,
+        first,
+        count,
+        byte,
+    } = wanted;
+    let range = match write_range_of(stack.config(), name, first, SECTOR * count as usize) {
+        Ok(range) => range,
+        Err(fault) => return say_submit_fault(writer, fault),
+    };
+    let Ok(bytes) = filled_sectors(alloc, count, byte) else {
+        return say_no_memory(writer);
+    };
+    match write_sectors(stack, range, bytes.as_slice()) {
+        Ok(()) => say_written(writer),
+        Err(fault) => say_io_fault(writer, fault),
+    }
+}
+
+// Removes a device, and replies to that.
+fn reply_to_remove<D: BlockDev, W: Write>(
+    stack: &mut Stack<D>,
+    name: &[u8],
+    writer: &mut Counted<W>,
+) -> Result<(), WriteFault>
+    ensures { WritesSome W.contents writer.old writer.new (λ reply. RepliesTo each_access stack.old (remove name.now) reply stack.new) result }
+{
+    match stack.remove(name) {
+        Ok(()) => say_removed(writer),
+        Err(fault) => say_removal_fault(writer, fault),
+    }
+}
+
 // Replies with the size, the depth and the costs of a device.
 fn reply_to_cost<D: BlockDev, W: Write>(
     stack: &Stack<D>,
     name: &[u8],
     writer: &mut Counted<W>,
 ) -> Result<(), WriteFault>
-    ensures { WritesSome W.contents writer.old writer.new (λ reply. RepliesTo (ReadsAll EachPiece) stack.now (cost name.now) reply stack.now) result }
+    ensures { WritesSome W.contents writer.old writer.new (λ reply. RepliesTo each_access stack.now (cost name.now) reply stack.now) result }
 {
     let config = stack.config();
     match config.device(name) {
@@ -89,7 +133,7 @@ fn reply_to_table<D: BlockDev, W: Write>(
     name: &[u8],
     writer: &mut Counted<W>,
 ) -> Result<(), WriteFault>
-    ensures { WritesSome W.contents writer.old writer.new (λ reply. RepliesTo (ReadsAll EachPiece) stack.now (table name.now) reply stack.now) result }
+    ensures { WritesSome W.contents writer.old writer.new (λ reply. RepliesTo each_access stack.now (table name.now) reply stack.now) result }
 {
     let config = stack.config();
     let Some(d) = config.device(name) else {
@@ -106,14 +150,14 @@ fn reply_to_moved<D: BlockDev, W: Write>(
     stack: &Stack<D>,
     writer: &mut Counted<W>,
 ) -> Result<(), WriteFault>
-    ensures { WritesSome W.contents writer.old writer.new (λ reply. RepliesTo (ReadsAll EachPiece) stack.now moved reply stack.now) result }
+    ensures { WritesSome W.contents writer.old writer.new (λ reply. RepliesTo each_access stack.now moved reply stack.now) result }
 {
     let (reads, writes) = stack.moved();
     say_moved(writer, reads, writes)
 }
 
 impl<D: BlockDev> LineServer for Stack<D> {
-    ghost replies = { Replies (ReadsAll EachPiece) };
+    ghost replies = { Replies each_access };
 
     fn serve_line<W: Write>(
         &mut self,
@@ -127,6 +171,8 @@ impl<D: BlockDev> LineServer for Stack<D> {
             Command::Read { name, first, count } => {
                 reply_to_read(alloc, self, name, first, count, writer)
             }
+            Command::Write(wanted) => reply_to_write(alloc, self, wanted, writer),
+            Command::Remove(name) => reply_to_remove(self, name, writer),
             Command::Cost(name) => reply_to_cost(self, name, writer),
             Command::Table(name) => reply_to_table(alloc, self, name, writer),
             Command::Moved => reply_to_moved(self, writer),
@@ -146,15 +192,15 @@ pub fn session<D: BlockDev, R: Read, W: Write>(
     requires writer { writer.old.failed ≡ false }
 
     // Whatever the leaves answer.
-    ensures any { IsSession (Replies (ReadsAll AnyPiece)) stack.old stack.new
+    ensures any { IsSession (Replies (by_pieces AnyPiece AnyWrite)) stack.old stack.new
         (streams (R.remaining reader.old.inner) (W.contents writer.old.inner)) (streams (R.remaining reader.new.inner) (W.contents writer.new.inner)) result }
 
     // Over steady leaves.
-    ensures steady { AllSteady stack.old.leaves → IsSession (Replies (ReadsAll SteadyPiece)) stack.old stack.new
+    ensures steady { AllSteady stack.old.leaves → IsSession (Replies (by_pieces SteadyPiece SteadyWrite)) stack.old stack.new
         (streams (R.remaining reader.old.inner) (W.contents writer.old.inner)) (streams (R.remaining reader.new.inner) (W.contents writer.new.inner)) result }
 
-    // Each read as a whole, both at once.
-    ensures whole { IsSession (Replies ReadsWhole) stack.old stack.new
+    // Each read and each write as a whole, both at once.
+    ensures whole { IsSession (Replies as_wholes) stack.old stack.new
         (streams (R.remaining reader.old.inner) (W.contents writer.old.inner)) (streams (R.remaining reader.new.inner) (W.contents writer.new.inner)) result }
     ensures ending { IsEnding reader.old reader.new writer.new result }
 {

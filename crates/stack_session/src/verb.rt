@@ -7,6 +7,8 @@ ghost use Rattle.stack_session.specs.Requests.{verb_of};
 pub enum Verb {
     Load,
     Read,
+    Write,
+    Remove,
     Cost,
     Table,
     Moved,
@@ -21,6 +23,10 @@ pub fn verb_of(word: &[u8]) -> Option<Verb>
         Some(Verb::Load)
     } else if word == b"read".as_slice() {
         Some(Verb::Read)
+    } else if word == b"write".as_slice() {
+        Some(Verb::Write)
+    } else if word == b"remove".as_slice() {
+        Some(Verb::Remove)
     } else if word == b"cost".as_slice() {
         Some(Verb::Cost)
     } else if word == b"table".as_slice() {

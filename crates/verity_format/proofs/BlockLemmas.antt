@@ -3,32 +3,13 @@ use Rattle.std.proofs.Common.{◌≡◌, ◌<◌, ◌+◌, ◌-◌, ◌*◌, ◌
 use Rattle.std.specs.Prelude.{slice_set}
 use Rattle.std.specs.Vec.{with_items}
 use Rattle.std.proofs.lemmas.List.{map-append, take_more_set, with_items_is}
-use Rattle.std.proofs.lemmas.List.FromFn.{map-range_with_len_more}
-use Rattle.hash_tree.specs.Digests.{digest}
 use Rattle.hash_tree.specs.Shape.{ShapeRecord, position, ancestor}
-use Rattle.verity_format.specs.Blocks.{block_at, blocks_at}
+use Rattle.verity_format.specs.Blocks.{block_at}
 use Rattle.verity_format.specs.Chain.{stored_path}
-
--- the digest of one block more
-pub digests-step : (salt : List ℕ) (image0 image1 : List (List ℕ)) (size0 size1 i : ℕ) (ds : List (List ℕ)) (d block : List ℕ)
-    → i < length ds → take i ds ≡ map (digest salt) (blocks_at image0 size0 0 i)
-    → d ≡ digest salt block → block ≡ block_at image1 size0 i → image1 ≡ image0 → size1 ≡ size0
-    → take (i + 1) (slice_set ds i d) ≡ map (digest salt) (blocks_at image0 size1 0 (i + 1))
-digests-step salt image0 image1 size0 size1 i ds d block inside so_far is read same size =
-    let one : d ≡ digest salt (block_at image0 size0 i) = is ∙ ap (digest salt) (read ∙ ap (λ image. block_at image size0 i) same) in
-    take_more_set ds i d inside
-    ∙ ap (λ xs. xs ++ d ∷ []) so_far
-    ∙ ap (λ x. map (digest salt) (blocks_at image0 size0 0 i) ++ x ∷ []) one
-    ∙ sym (map-append (digest salt) (blocks_at image0 size0 0 i) (block_at image0 size0 i ∷ []))
-    ∙ sym (ap (map (digest salt)) (map-range_with_len_more (block_at image0 size0) 0 i i (zero-add i)))
-    ∙ ap (λ n. map (digest salt) (blocks_at image0 n 0 (i + 1))) (sym size)
 
 -- the sectors of one block more
 pub sectors-step : (i size size' : ℕ) → size' ≡ size → i * (size / 512) + size / 512 ≡ (i + 1) * (size' / 512)
 sectors-step i size size' same = (let e : i * (size / 512) + size / 512 ≡ (i + 1) * (size / 512) = grind arith in e) ∙ ap (λ n. (i + 1) * (n / 512)) (sym same)
-
-pub sectors-next : (i size size' : ℕ) → size ≡ size' → i * (size / 512) + size / 512 ≡ (1 + i) * (size' / 512)
-sectors-next i size size' same = (let e : i * (size / 512) + size / 512 ≡ (1 + i) * (size / 512) = grind arith in e) ∙ ap (λ n. (1 + i) * (n / 512)) same
 
 -- one block more of a path
 pub path-step : (shape : ShapeRecord) (image : List (List ℕ)) (level i : ℕ) (blocks : List (List ℕ)) (block : List ℕ) (rest : List (List ℕ))

@@ -1,17 +1,13 @@
 -- Calls on a device, one after another.
-use Rattle.std.proofs.Common.{◌≡◌, ◌≤◌, ◌+◌, ◌-◌, ◌/◌, ◌%◌, ℕ, Bool, true, add-zero, IsTrue, List, [], ◌∷◌, ◌++◌, length, take, drop, refl, sym, ap, ◌∙◌, subst, arith, inl, inr}
-use Rattle.std.proofs.lemmas.List.{drop-drop, drop_at, append_assoc, length-take-le, length-append, append-nil}
-use Rattle.std.specs.Prelude.{if◌then◌else◌}
-use Rattle.block_device.specs.Device.{Device, IsSameDevice, IsRead, IsWritten, HasFailed, capped, spliced, sectors_of}
-use Rattle.block_device.specs.Whole.{length-sectors_of}
-use Rattle.block_device.proofs.lemmas.SectorLemmas.{sectors_of-append, drop-spliced}
+use Rattle.std.proofs.Common.{◌≡◌, ◌≤◌, ◌+◌, ◌-◌, ℕ, Bool, true, add-zero, IsTrue, List, drop, refl, sym, ap, ◌∙◌, subst, arith, inl, inr}
+use Rattle.std.proofs.lemmas.List.{drop-drop}
+use Rattle.block_device.specs.Device.{Device, IsSameDevice, IsRead, IsWritten, HasFailed}
 use Rattle.verity_format.specs.Blocks.{IsOnlyRead, IsFullRead, IsOnlyWritten}
-use Rattle.verity_format.specs.Formatting.{with_bytes}
 
-same-none : (d : Device) → IsSameDevice d d
+pub same-none : (d : Device) → IsSameDevice d d
 same-none d = record { size = refl; may_write = refl; steady = refl; never_fails = λ h. h }
 
-same-then : {a b c : Device} → IsSameDevice a b → IsSameDevice b c → IsSameDevice a c
+pub same-then : {a b c : Device} → IsSameDevice a b → IsSameDevice b c → IsSameDevice a c
 same-then p q = record {
   size = q.size ∙ p.size;
   may_write = q.may_write ∙ p.may_write;
@@ -81,86 +77,3 @@ only_written-then n p q = record {
   reads = q.reads ∙ p.reads;
   after = λ h. q.after (steady-then p.same h) ∙ p.after h;
 }
-
--- a write of m sectors behind the first k, and then a write of those
-pub written-then : {a b c : Device} {ok : Bool} (k m : ℕ) → IsWritten a k m true b → IsWritten b 0 k ok c → IsWritten a 0 (k + m) ok c
-written-then {a = a} {b = b} {c = c} {ok = ok} k m p q =
-    let low : 0 + k ≤ 0 + (k + m) = omega arith in
-    let all : k + m ≤ 0 + (k + m) = omega arith in
-    record {
-      same = same-then p.same q.same;
-      reads = q.reads ∙ p.reads;
-      writes = omega (arith, p.writes, q.writes);
-      failures = q.failures ∙ ap (λ n. if ok then n else capped (n + 1)) p.failures;
-      before = λ h. refl;
-      after = λ h. drop-same (0 + k) (0 + (k + m)) _ _ low (q.after (steady-then p.same h)) ∙ drop-same (k + m) (0 + (k + m)) _ _ all (p.after h);
-    }
-
--- a write of the first k sectors, and of none behind them
-pub written-alone : {a b : Device} {ok : Bool} (k m : ℕ) → m ≡ 0 → IsWritten a 0 k ok b → IsWritten a 0 (k + m) ok b
-written-alone {a = a} {b = b} {ok = ok} k m none p =
-    let same : k ≡ k + m = omega arith in
-    subst (λ (n : ℕ). IsWritten a 0 n ok b) same p
-
--- sectors put behind a beginning, and then others as that beginning
-pub spliced-before : (image first second : List (List ℕ)) → length first ≤ length image → spliced (spliced image (length first) second) 0 first ≡ spliced image 0 (first ++ second)
-spliced-before image first second inside =
-    let n = length first in
-    let rest = drop (n + length second) image in
-    let begin : 0 + n ≡ n = omega arith in
-    let end : n + length second ≡ 0 + length (first ++ second) = omega (arith, length-append first second) in
-    ap (λ k. first ++ drop k (spliced image n second)) begin
-    ∙ ap (λ xs. first ++ drop n xs) (append_assoc (take n image) second rest)
-    ∙ ap (λ xs. first ++ xs) (drop_at (take n image) (second ++ rest) n (length-take-le n image inside))
-    ∙ sym (append_assoc first second rest)
-    ∙ ap (λ k. (first ++ second) ++ drop k image) end
-
--- the image after the write of the area, and then of hash block 0 before it
-pub image-twice : (image0 image1 image2 : List (List ℕ)) (first area : List ℕ) → length first % 512 ≡ 0 → length first / 512 ≤ length image0
-    → image1 ≡ spliced image0 (length first / 512) (sectors_of (length area / 512) area) → image2 ≡ spliced image1 0 (sectors_of (length first / 512) first)
-    → image2 ≡ with_bytes image0 first area
-image-twice image0 image1 image2 first area whole inside one two =
-    let n = length first / 512 in
-    let m = length area / 512 in
-    let count : length (sectors_of n first) ≡ n = length-sectors_of n first in
-    two
-    ∙ ap (λ image. spliced image 0 (sectors_of n first)) one
-    ∙ ap (λ k. spliced (spliced image0 k (sectors_of m area)) 0 (sectors_of n first)) (sym count)
-    ∙ spliced-before image0 (sectors_of n first) (sectors_of m area) (omega (arith, count))
-    ∙ ap (spliced image0 0) (sym (sectors_of-append n m first area (omega arith)))
-
--- behind hash block 0 the image is as it is to be once the area stands
-pub image-behind : (image0 image1 : List (List ℕ)) (first area : List ℕ) → length first % 512 ≡ 0 → length first / 512 ≤ length image0
-    → image1 ≡ spliced image0 (length first / 512) (sectors_of (length area / 512) area)
-    → drop (length first / 512) image1 ≡ drop (length first / 512) (with_bytes image0 first area)
-image-behind image0 image1 first area whole inside one =
-    let n = length first / 512 in
-    let begin : 0 + n ≡ n = omega arith in
-    let kept = drop-spliced image1 (sectors_of n first) 0 n (omega arith) (sym (length-sectors_of n first)) in
-    ap (λ k. drop k image1) (sym begin)
-    ∙ sym kept
-    ∙ ap (λ k. drop k (spliced image1 0 (sectors_of n first))) begin
-    ∙ ap (drop n) (image-twice image0 image1 _ first area whole inside one refl)
-
--- with no area
-pub image-once : (image0 image1 : List (List ℕ)) (first area : List ℕ) → length area ≡ 0
-    → image1 ≡ spliced image0 0 (sectors_of (length first / 512) first)
-    → image1 ≡ with_bytes image0 first area
-image-once image0 image1 first [] none one =
-    let count : length first / 512 ≡ length first / 512 + 0 / 512 = omega arith in
-    one ∙ ap (λ n. spliced image0 0 (sectors_of n first)) count ∙ ap (λ xs. spliced image0 0 (sectors_of (length first / 512 + 0 / 512) xs)) (sym (append-nil first))
-image-once image0 image1 first (b ∷ more) none one = absurd (omega arith)
-
--- behind hash block 0 nothing changes where there is no area
-pub behind-once : (image0 image1 : List (List ℕ)) (first area : List ℕ) → length area ≡ 0 → length first / 512 ≤ length image0
-    → drop (length first / 512) image1 ≡ drop (length first / 512) image0
-    → drop (length first / 512) image1 ≡ drop (length first / 512) (with_bytes image0 first area)
-behind-once image0 image1 first area none inside same =
-    let n = length first / 512 in
-    let begin : 0 + n ≡ n = omega arith in
-    let kept = drop-spliced image0 (sectors_of n first) 0 n (omega arith) (sym (length-sectors_of n first)) in
-    same
-    ∙ ap (λ k. drop k image0) (sym begin)
-    ∙ sym kept
-    ∙ ap (λ k. drop k (spliced image0 0 (sectors_of n first))) begin
-    ∙ ap (drop n) (image-once image0 _ first area none refl)

@@ -1,76 +1,116 @@
 -- What formatting leaves on the hash device.
-use Rattle.std.proofs.Common.{◌≡◌, ◌⊎◌, ◌+◌, ◌*◌, ◌/◌, ℕ, false, sym, IsTrue, List, ◌++◌, length, drop, refl, ap, subst, ◌∙◌, arith, inl, inr}
+use Rattle.std.proofs.Common.{◌≡◌, ◌⊎◌, ◌≤◌, ◌+◌, ◌*◌, ◌/◌, ℕ, Bool, true, false, All, IsTrue, List, [], ◌++◌, length, take, drop, refl, sym, ap, subst, ◌∙◌, arith, inl, inr}
+use Rattle.std.specs.Prelude.{if◌then◌else◌}
 use Rattle.std.specs.List.{concat}
-use Rattle.block_device.specs.Device.{Device, HasFailed, IsWritten, spliced, sectors_of as cut_into}
-use Rattle.hash_tree.specs.Shape.{IsShape, area_blocks}
+use Rattle.std.proofs.lemmas.List.{append_assoc, drop-drop, take-append-drop, length-take-le, length-drop}
+use Rattle.std.proofs.lemmas.List.Elements.{All-take, All-drop}
+use Rattle.block_device.specs.Device.{Device, IsSector, HasFailed, IsWritten, capped, run_of, spliced, sectors_of as cut_into}
+use Rattle.block_device.specs.Whole.{length-sectors_of}
+use Rattle.block_device.proofs.lemmas.SectorLemmas.{sectors_of-append, sectors_of-concat, drop-spliced}
+use Rattle.hash_tree.specs.Shape.{ShapeRecord, IsShape, sectors_of, area_blocks}
 use Rattle.verity_format.specs.declared.access.TreeFault.{TreeFault}
 use Rattle.verity_format.specs.declared.access.TreeFault.TheVariants as tree
 use Rattle.verity_format.specs.Superblock.{SuperRecord, shape_of}
-use Rattle.verity_format.specs.Blocks.{IsOnlyWritten}
-use Rattle.verity_format.specs.Access.{IsTreeCause}
-use Rattle.verity_format.specs.Image.{first_sectors, area_sectors, image_sectors, first_block, area_over, formatted}
-use Rattle.verity_format.specs.Formatting.{with_bytes, IsImageTorn, FailsAtTree, FailsAtFirstBlock, IsFormatCause, format_fault_of}
-use Rattle.verity_format.proofs.SizeLemmas.{area-room, image-room}
-use Rattle.verity_format.proofs.DeviceLemmas.{only_written-write}
+use Rattle.verity_format.specs.Blocks.{IsOnlyWritten, blocks_at}
+use Rattle.verity_format.specs.Image.{first_sectors, image_sectors, first_block, area_over, formatted}
+use Rattle.verity_format.specs.Writing.{IsPartOfTree, IsTreeWritten, IsWriteCause}
+use Rattle.verity_format.specs.Formatting.{FailsAtFirstBlock, IsFormatCause, format_fault_of}
+use Rattle.verity_format.proofs.SizeLemmas.{block-size}
+use Rattle.verity_format.proofs.RunLemmas.{run-blocks}
+use Rattle.verity_format.proofs.WritingLemmas.{part-none, part-more}
+use Rattle.verity_format.proofs.DeviceLemmas.{same-then, drop-same, steady-then}
 
--- bytes that are written: hash block 0 with the superblock, and the area of the tree over the data
-pub record IsContent (s : SuperRecord) (data_dev : Device) (first area : List ℕ) : Type 0 where
-  pub first_is : first ≡ first_block s
-  pub area_is : IsTrue data_dev.steady → area ≡ concat (area_over (shape_of s) s.salt data_dev.image)
-  pub first_count : length first / 512 ≡ first_sectors s
-  pub area_count : length area / 512 ≡ area_sectors s
-  pub count : length first / 512 + length area / 512 ≡ image_sectors (shape_of s)
+-- the tree's blocks are sectors of the image
+pub part-only_written : (s : ShapeRecord) (a b : Device) → IsPartOfTree s a b → IsOnlyWritten a (image_sectors s) b
+part-only_written s a b p = record { same = p.same; reads = p.reads; after = p.after }
 
-pub content-made : (s : SuperRecord) (data_dev : Device) (first area : List ℕ) → IsShape (shape_of s) → first ≡ first_block s → length first ≡ s.hash_block
-    → length area ≡ area_blocks (shape_of s) * s.hash_block → (IsTrue data_dev.steady → area ≡ concat (area_over (shape_of s) s.salt data_dev.image))
-    → IsContent s data_dev first area
-content-made s data_dev first area valid is one more holds = record {
-  first_is = is;
-  area_is = holds;
-  first_count = ap (λ n. n / 512) one;
-  area_count = area-room (shape_of s) valid (length area) more;
-  count = image-room (shape_of s) valid (length first) (length area) one more;
-}
+-- hash block 0 is one of the image's
+pub first-within : (s : ShapeRecord) (k : ℕ) → k ≡ s.hash_block / 512 → 0 + k ≤ image_sectors s
+first-within s k count =
+    let split : (1 + area_blocks s) * (s.hash_block / 512) ≡ s.hash_block / 512 + area_blocks s * (s.hash_block / 512) = grind arith in
+    omega (arith, split, count)
 
--- the image with the content is the formatted one
-pub image-formatted : (s : SuperRecord) (data_dev : Device) (hash_image : List (List ℕ)) (first area : List ℕ) → IsContent s data_dev first area → IsTrue data_dev.steady
-    → with_bytes hash_image first area ≡ formatted s data_dev.image hash_image
-image-formatted s data_dev hash_image first area content steady =
-    let n = image_sectors (shape_of s) in
-    ap (λ k. spliced hash_image 0 (cut_into k (first ++ area))) content.count
-    ∙ ap (λ xs. spliced hash_image 0 (cut_into n (xs ++ area))) content.first_is
-    ∙ ap (λ xs. spliced hash_image 0 (cut_into n (first_block s ++ xs))) (content.area_is steady)
+pub part-nothing : (s : ShapeRecord) (d : Device) → IsPartOfTree s d d
+part-nothing s d = part-more s.hash_block (image_sectors s) 0 (area_blocks s) d d (omega arith) (part-none s.hash_block (image_sectors s) d)
 
--- what was written in a write that failed lies within the image
-pub torn-only_written : (old new : Device) (first area : List ℕ) → IsImageTorn old first area new → IsOnlyWritten old (length first / 512 + length area / 512) new
-torn-only_written old new first area (inl p) = only_written-write (length first / 512) (length area / 512) _ p (omega arith)
-torn-only_written old new first area (inr p) = only_written-write 0 (length first / 512 + length area / 512) _ p.written (omega arith)
+-- hash block 0 after the tree, whether that write failed or not
+pub first-then : (s : ShapeRecord) (a b c : Device) (k : ℕ) (ok : Bool) → k ≡ s.hash_block / 512 → IsPartOfTree s a b → capped b.writes ≡ capped (a.writes + sectors_of (area_blocks s) s.hash_block)
+    → b.failures ≡ a.failures → IsWritten b 0 k ok c → IsWritten a 0 (image_sectors s) ok c
+first-then s a b c k ok count part writes failures w =
+    let n = image_sectors s in
+    let split : (1 + area_blocks s) * (s.hash_block / 512) ≡ s.hash_block / 512 + area_blocks s * (s.hash_block / 512) = grind arith in
+    record {
+      same = same-then part.same w.same;
+      reads = w.reads ∙ part.reads;
+      writes = omega (arith, w.writes, writes, split, count);
+      failures = w.failures ∙ ap (λ n. if ok then n else capped (n + 1)) failures;
+      before = λ h. refl;
+      after = λ h. drop-same (0 + k) (0 + n) c.image b.image (omega (arith, split, count)) (w.after (steady-then part.same h)) ∙ drop-same n (0 + n) b.image a.image (omega arith) (part.after h);
+    }
 
--- the cause of such a failure
-pub torn-cause : (s : SuperRecord) (data_dev hash_dev hash_dev' : Device) (first area : List ℕ) → IsContent s data_dev first area → HasFailed hash_dev hash_dev'
-    → IsImageTorn hash_dev first area hash_dev' → FailsAtTree s hash_dev hash_dev' ⊎ FailsAtFirstBlock s data_dev hash_dev hash_dev'
-torn-cause s data_dev hash_dev hash_dev' first area content failed (inl p) =
-    inl
-    (record {
-      failed = failed;
-      written =
-          subst (λ (k : ℕ). IsWritten hash_dev k (area_sectors s) false hash_dev') content.first_count
-          (subst (λ (m : ℕ). IsWritten hash_dev (length first / 512) m false hash_dev') content.area_count p);
-    })
-torn-cause s data_dev hash_dev hash_dev' first area content failed (inr p) =
-    inr
-    (record {
-      failed = failed;
-      written = subst (λ (n : ℕ). IsWritten hash_dev 0 n false hash_dev') content.count p.written;
-      tree = λ data_steady hash_steady.
-          let k = content.first_count in
-          ap (λ n. drop n hash_dev'.image) (sym k)
-          ∙ p.tree hash_steady
-          ∙ ap (λ n. drop n (with_bytes hash_dev.image first area)) k
-          ∙ ap (drop (first_sectors s)) (image-formatted s data_dev hash_dev.image first area content data_steady);
-    })
+-- the image with the tree, once hash block 0 is written, is the formatted one
+pub formatted-is : (s : SuperRecord) (data_image image0 image1 : List (List ℕ)) (first : List ℕ) → IsShape (shape_of s) → All IsSector image1 → image_sectors (shape_of s) ≤ length image1
+    → first ≡ first_block s → length first ≡ s.hash_block → blocks_at image1 s.hash_block 1 (area_blocks (shape_of s)) ≡ area_over (shape_of s) s.salt data_image
+    → drop (image_sectors (shape_of s)) image1 ≡ drop (image_sectors (shape_of s)) image0
+    → spliced image1 0 (cut_into (length first / 512) first) ≡ formatted s data_image image0
+formatted-is s data_image image0 image1 first valid sectors fits is long tree rest =
+    let k : ℕ = s.hash_block / 512 in
+    let a : ℕ = area_blocks (shape_of s) in
+    let m : ℕ = a * k in
+    let n : ℕ = image_sectors (shape_of s) in
+    let split : (1 + a) * k ≡ k + m = grind arith in
+    let b = block-size s.hash_block valid.hash_size in
+    let j : ℕ = length first / 512 in
+    let count : j ≡ k = ap (λ h. h / 512) long in
+    let one : 1 * k ≡ k = omega arith in
+    let area : List ℕ = concat (area_over (shape_of s) s.salt data_image) in
+    let run : List (List ℕ) = take m (drop k image1) in
+    let run_long : length run ≡ m = length-take-le m (drop k image1) (omega (arith, length-drop k image1, fits, split)) in
+    let bytes : concat run ≡ area = ap (λ i. concat (run_of image1 i m)) (sym one) ∙ run-blocks image1 s.hash_block 1 a ∙ ap concat tree in
+    let run_is : run ≡ cut_into m area =
+    sym (sectors_of-concat run (All-take IsSector m (drop k image1) (All-drop IsSector k image1 sectors))).1 ∙ ap (λ i. cut_into i (concat run)) run_long ∙ ap (cut_into m) bytes in
+    let behind : drop k image1 ≡ cut_into m area ++ drop n image0 =
+    sym (take-append-drop m (drop k image1)) ∙ ap (λ xs. xs ++ drop m (drop k image1)) run_is
+    ∙ ap (λ xs. cut_into m area ++ xs) (drop-drop m k image1 ∙ ap (λ i. drop i image1) (sym split) ∙ rest) in
+    let whole : j + m ≡ n = omega (arith, count, split) in
+    let front : 0 + length (cut_into j first) ≡ k = omega (arith, length-sectors_of j first, count) in
+    let end : n ≡ 0 + length (cut_into n (first_block s ++ area)) = omega (arith, length-sectors_of n (first_block s ++ area)) in
+    ap (λ i. cut_into j first ++ drop i image1) front
+    ∙ ap (λ xs. cut_into j first ++ xs) behind
+    ∙ sym (append_assoc (cut_into j first) (cut_into m area) (drop n image0))
+    ∙ ap (λ xs. xs ++ drop n image0) (sym (sectors_of-append j m first area (omega (arith, long, b.sectors, count))))
+    ∙ ap (λ i. cut_into i (first ++ area) ++ drop n image0) whole
+    ∙ ap (λ f. cut_into n (f ++ area) ++ drop n image0) is
+    ∙ ap (λ i. cut_into n (first_block s ++ area) ++ drop i image0) end
 
--- the cause of a fault of the tree, before anything is written
-pub tree-cause : (s : SuperRecord) (data_dev hash_dev data_dev' : Device) (f : TreeFault) → IsTreeCause data_dev data_dev' f → IsFormatCause s data_dev hash_dev data_dev' hash_dev (format_fault_of f)
-tree-cause s data_dev hash_dev data_dev' tree.Device h = inl (record { failed = h; same = refl })
-tree-cause s data_dev hash_dev data_dev' tree.NoMemory h = record { failures = h; same = refl }
+-- the write of hash block 0 failed behind the whole tree
+pub fails-at_first : (s : SuperRecord) (data_dev a b c : Device) (first : List ℕ) → HasFailed b c → b.failures ≡ a.failures → HasFailed a c → length first ≡ s.hash_block
+    → IsPartOfTree (shape_of s) a b → capped b.writes ≡ capped (a.writes + sectors_of (area_blocks (shape_of s)) s.hash_block) → IsWritten b 0 (length first / 512) false c
+    → (IsTrue data_dev.steady → IsTrue a.steady → spliced b.image 0 (cut_into (length first / 512) first) ≡ formatted s data_dev.image a.image)
+    → FailsAtFirstBlock s data_dev a c
+fails-at_first s data_dev a b c first failed failures failed_all long part writes w image =
+    let j : ℕ = length first / 512 in
+    let count : j ≡ s.hash_block / 512 = ap (λ h. h / 512) long in
+    record {
+      failed = failed_all;
+      written = first-then (shape_of s) a b c j false count part writes failures w;
+      tree = λ data_steady steady.
+          let begin : 0 + j ≡ first_sectors s = omega (arith, count) in
+          subst (λ (i : ℕ). drop i c.image ≡ drop i (formatted s data_dev.image a.image)) begin
+          (w.after (steady-then part.same steady)
+          ∙ sym (drop-spliced b.image (cut_into j first) 0 j (omega arith) (sym (length-sectors_of j first)))
+          ∙ ap (drop (0 + j)) (image data_steady steady));
+    }
+
+-- the cause of a fault before hash block 0 is written
+pub tree-cause : (s : SuperRecord) (data_dev hash_dev data_dev' hash_dev' : Device) (f : TreeFault) → IsPartOfTree (shape_of s) hash_dev hash_dev' → IsWriteCause data_dev hash_dev data_dev' hash_dev' f
+    → IsFormatCause s data_dev hash_dev data_dev' hash_dev' (format_fault_of f)
+tree-cause s data_dev hash_dev data_dev' hash_dev' tree.Device part (inl h) = inl (record { failed = h.0; failures = h.1; part = part })
+tree-cause s data_dev hash_dev data_dev' hash_dev' tree.Device part (inr h) = inr (inl (record { failed = h; part = part }))
+tree-cause s data_dev hash_dev data_dev' hash_dev' tree.NoMemory part h = record { failures = h.0; hash_failures = h.1; part = part }
+
+-- what was written, told of an equal shape
+pub written-shape : (s t : ShapeRecord) (salt salt' : List ℕ) (a b a' b' : Device) (digest : List ℕ) → s ≡ t → salt ≡ salt'
+    → IsTreeWritten s salt a b a' b' digest → IsTreeWritten t salt' a b a' b' digest
+written-shape s t salt salt' a b a' b' digest p q h =
+    subst (λ (x : List ℕ). IsTreeWritten t x a b a' b' digest) q (subst (λ (x : ShapeRecord). IsTreeWritten x salt a b a' b' digest) p h)

@@ -4,6 +4,10 @@ pub mod DeviceLemmas
 pub mod BlockLemmas
 pub mod AreaLemmas
 pub mod SizeLemmas
+pub mod RunLemmas
+pub mod GrowthLemmas
+pub mod ComparingLemmas
+pub mod WritingLemmas
 pub mod RefusalLemmas
 pub mod FormattingLemmas
 pub mod VerifyingLemmas

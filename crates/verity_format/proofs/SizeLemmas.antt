@@ -41,23 +41,3 @@ tree-room s valid start size fits some =
     let whole : suc (area_blocks s) * k ≤ size = rw end at fits in
     let next : suc (area_blocks s) * k ≡ area_blocks s * k + k = grind arith in
     omega (arith, whole, next)
-
--- the sectors of the area
-pub area-room : (s : ShapeRecord) → IsShape s → (area : ℕ) → area ≡ area_blocks s * s.hash_block → area / 512 ≡ sectors_of (area_blocks s) s.hash_block
-area-room s valid area more =
-    let k = s.hash_block / 512 in
-    let n = area_blocks s in
-    let whole : s.hash_block ≡ 512 * k = (block-size s.hash_block valid.hash_size).sectors in
-    let bytes : area ≡ 512 * (n * k) = more ∙ ap (λ h. n * h) whole ∙ (let e : n * (512 * k) ≡ 512 * (n * k) = grind arith in e) in
-    omega (arith, bytes)
-
--- the sectors of hash block 0 and of the area are those of the image
-pub image-room : (s : ShapeRecord) → IsShape s → (first area : ℕ) → first ≡ s.hash_block → area ≡ area_blocks s * s.hash_block
-    → first / 512 + area / 512 ≡ sectors_of (1 + area_blocks s) s.hash_block
-image-room s valid first area one more =
-    let k = s.hash_block / 512 in
-    let n = area_blocks s in
-    let low : first / 512 ≡ k = ap (λ h. h / 512) one in
-    let high : area / 512 ≡ n * k = area-room s valid area more in
-    let sum : (1 + n) * k ≡ k + n * k = grind arith in
-    omega (arith, low, high, sum)

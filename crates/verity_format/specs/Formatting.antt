@@ -1,6 +1,6 @@
 -- When formatting is refused, and what each fault says.
-use Rattle.std.specs.Prelude.{◌≡◌, ◌⊎◌, ℕ, ◌+◌, ◌/◌, true, false, not, nat_lt, Option, Some, None, is_some, if◌then◌else◌, IsTrue, List, ◌++◌, length, drop, Result, Err, IfOk, IfErr}
-use Rattle.block_device.specs.Device.{Device, HasFailed, IsWritten, spliced, sectors_of as cut_into}
+use Rattle.std.specs.Prelude.{◌≡◌, ◌⊎◌, ℕ, ◌+◌, ◌/◌, true, false, not, nat_lt, Option, Some, None, is_some, if◌then◌else◌, IsTrue, List, drop, Result, Err, IfOk, IfErr}
+use Rattle.block_device.specs.Device.{Device, HasFailed, IsWritten}
 use Rattle.hash_tree.specs.Shape.{first_fault}
 use Rattle.verity_format.specs.declared.access.TreeFault.{TreeFault}
 use Rattle.verity_format.specs.declared.access.TreeFault.TheVariants as tree
@@ -8,7 +8,8 @@ use Rattle.verity_format.specs.declared.formatting.FormatFault.{FormatFault}
 use Rattle.verity_format.specs.declared.formatting.FormatFault.TheVariants.{Shape, DataTooSmall, HashTooSmall, HashReadOnly, Device as DeviceFailed, NoMemory}
 use Rattle.verity_format.specs.Superblock.{SuperRecord, shape_of}
 use Rattle.verity_format.specs.Blocks.{IsOnlyRead, IsFullRead, IsOnlyWritten}
-use Rattle.verity_format.specs.Image.{data_sectors, first_sectors, area_sectors, image_sectors, formatted, root_over}
+use Rattle.verity_format.specs.Image.{data_sectors, first_sectors, image_sectors, formatted, root_over}
+use Rattle.verity_format.specs.Writing.{IsPartOfTree}
 
 -- how many whole blocks of that size there are in so many sectors; a size below a sector counts none
 abbrev pub whole_blocks : ℕ → ℕ → ℕ
@@ -33,15 +34,16 @@ format_refusal s data_dev hash =
     else if not hash.may_write then Some HashReadOnly
     else None
 
--- the data device failed, and the hash device wasn't asked
-pub record FailsAtData (data_dev hash data_dev' hash' : Device) : Type 0 where
+-- the data device failed: of the hash device at most the tree's blocks were written
+pub record FailsAtData (s : SuperRecord) (data_dev hash data_dev' hash' : Device) : Type 0 where
   pub failed : HasFailed data_dev data_dev'
-  pub same : hash' ≡ hash
+  pub failures : hash'.failures ≡ hash.failures
+  pub part : IsPartOfTree (shape_of s) hash hash'
 
--- the write of the tree failed: hash block 0 is as it was
+-- a write of the tree failed: hash block 0 is as it was
 pub record FailsAtTree (s : SuperRecord) (hash hash' : Device) : Type 0 where
   pub failed : HasFailed hash hash'
-  pub written : IsWritten hash (first_sectors s) (area_sectors s) false hash'
+  pub part : IsPartOfTree (shape_of s) hash hash'
 
 -- the last write failed, that of hash block 0: the whole tree stands behind it
 pub record FailsAtFirstBlock (s : SuperRecord) (data_dev hash hash' : Device) : Type 0 where
@@ -49,37 +51,20 @@ pub record FailsAtFirstBlock (s : SuperRecord) (data_dev hash hash' : Device) : 
   pub written : IsWritten hash 0 (image_sectors (shape_of s)) false hash'
   pub tree : IsTrue data_dev.steady → IsTrue hash.steady → drop (first_sectors s) hash'.image ≡ drop (first_sectors s) (formatted s data_dev.image hash.image)
 
--- where memory ran out, neither device failed, and the hash device wasn't asked
-pub record LacksMemory (data_dev hash data_dev' hash' : Device) : Type 0 where
+-- where memory ran out, neither device failed, and at most the tree's blocks were written
+pub record LacksMemory (s : SuperRecord) (data_dev hash data_dev' hash' : Device) : Type 0 where
   pub failures : data_dev'.failures ≡ data_dev.failures
-  pub same : hash' ≡ hash
+  pub hash_failures : hash'.failures ≡ hash.failures
+  pub part : IsPartOfTree (shape_of s) hash hash'
 
 -- A fault's cause, and what it leaves: no superblock is written before the whole tree stands.
 abbrev pub IsFormatCause : SuperRecord → Device → Device → Device → Device → FormatFault → Type 0
-IsFormatCause s data_dev hash data_dev' hash' DeviceFailed = FailsAtData data_dev hash data_dev' hash' ⊎ (FailsAtTree s hash hash' ⊎ FailsAtFirstBlock s data_dev hash hash')
-IsFormatCause s data_dev hash data_dev' hash' NoMemory = LacksMemory data_dev hash data_dev' hash'
+IsFormatCause s data_dev hash data_dev' hash' DeviceFailed = FailsAtData s data_dev hash data_dev' hash' ⊎ (FailsAtTree s hash hash' ⊎ FailsAtFirstBlock s data_dev hash hash')
+IsFormatCause s data_dev hash data_dev' hash' NoMemory = LacksMemory s data_dev hash data_dev' hash'
 IsFormatCause s data_dev hash data_dev' hash' Shape = format_refusal s data_dev hash ≡ Some Shape
 IsFormatCause s data_dev hash data_dev' hash' DataTooSmall = format_refusal s data_dev hash ≡ Some DataTooSmall
 IsFormatCause s data_dev hash data_dev' hash' (HashTooSmall n) = format_refusal s data_dev hash ≡ Some (HashTooSmall n)
 IsFormatCause s data_dev hash data_dev' hash' HashReadOnly = format_refusal s data_dev hash ≡ Some HashReadOnly
-
--- the image of a device with these bytes of hash block 0 and of the area at its beginning
-abbrev pub with_bytes : List (List ℕ) → List ℕ → List ℕ → List (List ℕ)
-with_bytes image first area = spliced image 0 (cut_into (length first / 512 + length area / 512) (first ++ area))
-
--- hash block 0 and the area were written, each sector once, and no call failed
-pub record IsImageWritten (old : Device) (first area : List ℕ) (new : Device) : Type 0 where
-  pub written : IsWritten old 0 (length first / 512 + length area / 512) true new
-  pub image : IsTrue old.steady → new.image ≡ with_bytes old.image first area
-
--- only hash block 0 is unlike the image that was to be written
-pub record LacksFirstBlock (old : Device) (first area : List ℕ) (new : Device) : Type 0 where
-  pub written : IsWritten old 0 (length first / 512 + length area / 512) false new
-  pub tree : IsTrue old.steady → drop (length first / 512) new.image ≡ drop (length first / 512) (with_bytes old.image first area)
-
--- the write of the area failed, or the last one, of hash block 0
-abbrev pub IsImageTorn : Device → List ℕ → List ℕ → Device → Type 0
-IsImageTorn old first area new = IsWritten old (length first / 512) (length area / 512) false new ⊎ LacksFirstBlock old first area new
 
 -- No call failed, each sector of the data blocks was read once and each of the image written once. Over steady
 -- devices the tree over the data image stands on the hash device, and that is its root.

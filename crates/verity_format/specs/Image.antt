@@ -31,10 +31,6 @@ tree_sectors shape = sectors_of (area_end shape) shape.hash_block
 abbrev pub first_sectors : SuperRecord → ℕ
 first_sectors s = s.hash_block / 512
 
--- how many sectors the tree takes
-abbrev pub area_sectors : SuperRecord → ℕ
-area_sectors s = sectors_of (area_blocks (shape_of s)) s.hash_block
-
 -- how many sectors formatting writes: hash block 0 and the tree's
 abbrev pub image_sectors : ShapeRecord → ℕ
 image_sectors shape = sectors_of (1 + area_blocks shape) shape.hash_block

@@ -9,3 +9,6 @@ pub mod Verifying
 pub mod Chain
 pub mod Line
 pub mod FaultNames
+pub mod Growth
+pub mod Comparing
+pub mod Writing

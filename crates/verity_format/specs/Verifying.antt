@@ -1,5 +1,5 @@
 -- What is found on a data device and a hash device, and when they cannot be compared.
-use Rattle.std.specs.Prelude.{◌≡◌, ◌≢◌, ◌⊎◌, ℕ, ◌+◌, ◌*◌, ◌/◌, ◌<◌, ◌≤◌, ◌==◌, ◌||◌, nat_lt, Bool, Option, Some, None, if◌then◌else◌, IsTrue, IfSome, List, take, drop}
+use Rattle.std.specs.Prelude.{◌≡◌, ◌≢◌, ◌⊎◌, ℕ, ◌+◌, ◌<◌, ◌≤◌, ◌==◌, ◌||◌, nat_lt, Bool, Option, Some, None, if◌then◌else◌, IsTrue, List}
 use Rattle.block_device.specs.Device.{Device, HasFailed}
 use Rattle.hash_tree.specs.Shape.{sectors_of, area_blocks}
 use Rattle.hash_tree.specs.Difference.{FirstDiffer}
@@ -72,24 +72,18 @@ IsVerifyCause data_dev hash_dev data_dev' hash_dev' NoMemory = (data_dev'.failur
 IsVerifyCause data_dev hash_dev data_dev' hash_dev' (Super f) = IsRefused data_dev hash_dev (Super f)
 IsVerifyCause data_dev hash_dev data_dev' hash_dev' TooSmall = IsRefused data_dev hash_dev TooSmall
 
--- how many hash blocks of the tree were read: all, or those up to the first that differs
-abbrev pub compared_blocks : SuperRecord → Verdict → ℕ
-compared_blocks s Matches = area_blocks (shape_of s)
-compared_blocks s RootDiffers = area_blocks (shape_of s)
-compared_blocks s (AreaDiffers block) = block
-
--- how many sectors of the hash device were read: the superblock's and those of the hash blocks that were compared
-abbrev pub hash_sectors_read : SuperRecord → Verdict → ℕ
-hash_sectors_read s verdict = 1 + sectors_of (compared_blocks s verdict) s.hash_block
+-- how many sectors of the hash device were read: the superblock's and those of the tree's hash blocks
+abbrev pub hash_sectors_read : SuperRecord → ℕ
+hash_sectors_read s = 1 + sectors_of (area_blocks (shape_of s)) s.hash_block
 
 -- No refusal applies to the sector that was read as the first. No call failed, each sector of the data blocks was read
--- once, and so was each that was compared. Over steady devices the verdict is what stands there.
+-- once, and so was each of the superblock and the hash blocks. Over steady devices the verdict is what stands there.
 pub record IsFound (data_dev hash_dev data_dev' hash_dev' : Device) (root : List ℕ) (verdict : Verdict) : Type 0 where
   pub sector : List ℕ
   pub first : IsFirstSector hash_dev sector
   pub fit : verify_refusal data_dev hash_dev sector ≡ None
   pub data_read : IsFullRead data_dev (data_sectors (shape_of (read_of sector))) data_dev'
-  pub hash_read : IsFullRead hash_dev (hash_sectors_read (read_of sector) verdict) hash_dev'
+  pub hash_read : IsFullRead hash_dev (hash_sectors_read (read_of sector)) hash_dev'
   pub found : IsTrue data_dev.steady → IsTrue hash_dev.steady → IsVerdict (read_of sector) data_dev.image hash_dev.image root verdict
 
 -- the record in the sector that was read, where no refusal applies to it
@@ -109,26 +103,6 @@ IsSuperCause data_dev hash_dev hash_dev' DeviceFailed = HasFailed hash_dev hash_
 IsSuperCause data_dev hash_dev hash_dev' NoMemory = ⊥
 IsSuperCause data_dev hash_dev hash_dev' (Super f) = IsRefused data_dev hash_dev (Super f)
 IsSuperCause data_dev hash_dev hash_dev' TooSmall = IsRefused data_dev hash_dev TooSmall
-
--- hash block 1 + i is block i of the bytes
-abbrev pub IsSameBlock : List (List ℕ) → ℕ → List ℕ → ℕ → Type 0
-IsSameBlock image size bytes i = block_at image size (1 + i) ≡ take size (drop (i * size) bytes)
-
--- the first of so many blocks that differs, or none
-abbrev pub IsFirstOther : List (List ℕ) → ℕ → ℕ → List ℕ → Option ℕ → Type 0
-IsFirstOther image size blocks bytes None = (i : ℕ) → i < blocks → IsSameBlock image size bytes i
-IsFirstOther image size blocks bytes (Some k) = (k < blocks) × ((i : ℕ) → i < k → IsSameBlock image size bytes i) × (IsSameBlock image size bytes k → ⊥)
-
--- how many of so many blocks are read up to the first that differs
-abbrev pub blocks_to : Option ℕ → ℕ → ℕ
-blocks_to None blocks = blocks
-blocks_to (Some k) blocks = 1 + k
-
--- blocks were read up to the first that differs, or all, and no call failed
-pub record IsCompared (old new : Device) (size blocks : ℕ) (bytes : List ℕ) (first : Option ℕ) : Type 0 where
-  pub read : IsFullRead old (blocks_to first blocks * (size / 512)) new
-  pub bound : IfSome first (λ k. k < blocks)
-  pub found : IsTrue old.steady → IsFirstOther old.image size blocks bytes first
 
 -- what stands for the fault of a tree
 abbrev pub verify_fault_of : TreeFault → VerifyFault

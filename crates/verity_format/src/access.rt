@@ -1,16 +1,13 @@
 // Blocks read from a device, and the tree over a device's blocks.
-ghost use Rattle.std.specs.Prelude.{◌≡◌, ◌+◌, ◌*◌, ◌/◌, ◌%◌, ◌^◌, ◌<◌, ◌≤◌, IsTrue, OnOk, OnErr, IfOk, IfErr, length, map, replicate};
-ghost use Rattle.std.specs.List.{concat};
-ghost use Rattle.block_device.specs.Device.{Device, HasFailed};
-ghost use Rattle.hash_tree.specs.Digests.{digest};
-ghost use Rattle.hash_tree.specs.Shape.{IsShape, is_block_size, area_blocks};
-ghost use Rattle.hash_tree.specs.Tree.{area, root};
-ghost use Rattle.verity_format.specs.Blocks.{block_at, blocks_at, IsOnlyRead, IsFullRead};
+ghost use Rattle.std.specs.Prelude.{◌≡◌, ◌+◌, ◌*◌, ◌/◌, ◌%◌, ◌^◌, ◌<◌, ◌≤◌, IsTrue, OnOk, OnErr, IfOk, length, min, replicate};
+ghost use Rattle.block_device.specs.Device.{HasFailed};
+ghost use Rattle.hash_tree.specs.Shape.{is_block_size};
+ghost use Rattle.verity_format.specs.Blocks.{block_at, IsOnlyRead, IsFullRead};
 ghost use Rattle.verity_format.specs.Image.{data_sectors, tree_sectors, image_sectors};
-ghost use Rattle.verity_format.specs.Access.{IsTreeOver, IsTreeCause};
+ghost use Rattle.verity_format.specs.Access.{AreDigestsOf};
 
 use block_device::{BlockDev, DeviceFault};
-use hash_tree::{Salt, Shape, area, digest};
+use hash_tree::{Salt, Shape};
 use std::alloc::{AllocError, Global};
 
 /// Why there is no tree over a device's blocks.
@@ -94,58 +91,25 @@ pub(crate) fn read_block<D: BlockDev>(
     Ok(())
 }
 
-/// The digests of a device's first blocks, of the size of `block` and as many as `digests`, each read once.
-fn read_digests<D: BlockDev>(
+/// Reads blocks of that size into `run`, from block `index` on, and writes their digests.
+pub(crate) fn read_run<D: BlockDev>(
     device: &mut D,
     salt: &Salt,
-    block: &mut [u8],
+    size: usize,
+    index: u64,
+    run: &mut [u8],
     digests: &mut [[u8; 32]],
 ) -> Result<(), DeviceFault>
-    requires size { IsTrue (is_block_size (length block.old)) }
-    requires inside { length digests.old * (length block.old / 512) ≤ (D.state device.old).size }
-    requires few { length digests.old * (length block.old / 512) ≤ 2 ^ 54 }
+    requires size { IsTrue (is_block_size size) }
+    requires some { 0 < length digests.old }
+    requires run { length run.old ≡ length digests.old * size }
+    requires inside { (index + length digests.old) * (size / 512) ≤ min (D.state device.old).size (2 ^ 54) }
     ensures read { IsOnlyRead (D.state device.old) (D.state device.new) }
-    ensures digests { OnOk result (IsTrue (D.state device.old).steady → digests.new ≡ map (digest salt.now) (blocks_at (D.state device.old).image (length block.old) 0 (length digests.old))) }
-    ensures full { OnOk result (IsFullRead (D.state device.old) (length digests.old * (length block.old / 512)) (D.state device.new)) }
+    ensures digests { OnOk result (AreDigestsOf (D.state device.old) salt.now size index digests.new) }
+    ensures full { OnOk result (IsFullRead (D.state device.old) (length digests.old * (size / 512)) (D.state device.new)) }
     ensures fault { OnErr result (HasFailed (D.state device.old) (D.state device.new)) }
 {
-    for i in 0..digests.len() {
-        read_block(device, i as u64, block)?;
-        digests[i] = digest(salt, block);
-    }
+    device.read(index * (size / 512) as u64, run)?;
+    hash_tree::digests(salt, size, run, digests);
     Ok(())
-}
-
-/// The area and the root of the tree over a device's blocks, each read once.
-pub(crate) fn tree_over<D: BlockDev>(
-    alloc: Global,
-    device: &mut D,
-    shape: &Shape,
-    salt: &Salt,
-) -> Result<(Vec<u8>, [u8; 32]), TreeFault>
-    requires { data_sectors shape.now ≤ (D.state device.old).size }
-    ensures read { IsOnlyRead (D.state device.old) (D.state device.new) }
-    ensures tree { IfOk result (λ r. IsTreeOver shape.now salt.now (D.state device.old) (D.state device.new) r.0.items r.1) }
-    ensures fault { IfErr result (λ f. IsTreeCause (D.state device.old) (D.state device.new) f) }
-{
-    let mut block = vec![in alloc; 0u8; shape.data_block() as usize]?;
-    let mut digests = vec![in alloc; [0u8; 32]; shape.blocks() as usize]?;
-    read_digests(device, salt, &mut block, &mut digests)?;
-    Ok(area_of(alloc, shape, salt, &digests)?)
-}
-
-/// The area, the root, and how many bytes the area has.
-fn area_of(
-    alloc: Global,
-    shape: &Shape,
-    salt: &Salt,
-    digests: &[[u8; 32]],
-) -> Result<(Vec<u8>, [u8; 32]), AllocError>
-    requires count { length digests.now ≡ shape.now.blocks }
-    requires valid { IsShape shape.now }
-    ensures area { IfOk result (λ r. r.0.items ≡ concat (area shape.now.hash_block salt.now digests.now)) }
-    ensures root { IfOk result (λ r. r.1 ≡ root shape.now.hash_block salt.now digests.now) }
-    ensures size { IfOk result (λ r. length r.0.items ≡ area_blocks shape.now * shape.now.hash_block) }
-{
-    area(alloc, shape, salt, digests)
 }

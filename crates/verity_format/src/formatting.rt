@@ -1,17 +1,17 @@
 // Making a hash image over a data image.
-ghost use Rattle.std.specs.Prelude.{◌≡◌, ◌+◌, ◌-◌, ◌*◌, ◌/◌, ◌%◌, ◌^◌, ◌<◌, ◌≤◌, ◌++◌, IsTrue, OnOk, OnErr, IfOk, IfErr, length, Some, Result};
+ghost use Rattle.std.specs.Prelude.{◌≡◌, IfOk, IfErr, length, Some};
 ghost use Rattle.std.specs.Result.{result_err};
-ghost use Rattle.block_device.specs.Device.{Device, HasFailed};
 ghost use Rattle.verity_format.specs.Superblock.{shape_of};
 ghost use Rattle.verity_format.specs.Blocks.{IsOnlyRead, IsOnlyWritten};
 ghost use Rattle.verity_format.specs.Image.{image_sectors, first_block};
 ghost use Rattle.verity_format.specs.FaultNames.{format_number, format_name};
 ghost use Rattle.verity_format.specs.Options.{superblock_with};
-ghost use Rattle.verity_format.specs.Formatting.{format_refusal, IsFormatCause, IsFormatted, given_blocks, whole_blocks, IsFormatting, IsImageWritten, IsImageTorn};
+ghost use Rattle.verity_format.specs.Formatting.{format_refusal, IsFormatCause, IsFormatted, given_blocks, whole_blocks, IsFormatting};
 
 use crate::Superblock;
-use crate::access::{TreeFault, data_sectors, image_sectors, tree_over, zeros};
+use crate::access::{TreeFault, data_sectors, image_sectors, zeros};
 use crate::superblock::put;
+use crate::writing::write_tree;
 use block_device::{BlockDev, DeviceFault};
 use hash_tree::{Salt, Shape};
 use std::alloc::{AllocError, Global};
@@ -106,10 +106,10 @@ impl From<TreeFault> for FormatFault {
 /// Formats the hash device over the data device: the superblock, zeros up to hash block 1, and the tree.
 /// Gives the root digest.
 ///
-/// The data device is read once, block by block, and never written. The tree is written first, and hash block 0
-/// with the superblock last, so that after `Device` no new superblock stands over an unfinished tree, unless
-/// the write of hash block 0 itself failed; then the whole tree stands. After `NoMemory` nothing was written.
-/// A superblock of an earlier format stays until it is overwritten. Nothing is synced: a device that holds
+/// The data device is read once, in runs, and never written. The tree is written first, level by level with one
+/// block of each level in memory, and hash block 0 with the superblock last. So after `Device` or `NoMemory` no new
+/// superblock stands over an unfinished tree, unless the write of hash block 0 itself failed; then the whole tree
+/// stands. A superblock of an earlier format stays until it is overwritten. Nothing is synced: a device that holds
 /// writes back may write hash block 0 first.
 pub fn format<D: BlockDev, H: BlockDev>(
     alloc: Global,
@@ -124,9 +124,10 @@ pub fn format<D: BlockDev, H: BlockDev>(
     ensures refused { (f : FormatFault) → format_refusal params (D.state data_dev.old) (H.state hash_dev.old) ≡ Some f → (result ≡ Err f) × (D.state data_dev.new ≡ D.state data_dev.old) × (H.state hash_dev.new ≡ H.state hash_dev.old) }
 {
     check_devices(data_dev, hash_dev, &params)?;
-    let (area, root) = tree_over(alloc, data_dev, &params.shape(), &params.salt())?;
+    let shape = params.shape();
     let first = encoded_block(alloc, &params)?;
-    write_image(hash_dev, &first, &area)?;
+    let root = write_tree(alloc, data_dev, hash_dev, &shape, &params.salt())?;
+    hash_dev.write(0, &first)?;
     Ok(root)
 }
 
@@ -219,24 +220,4 @@ fn encoded_block(alloc: Global, params: &Superblock) -> Result<Vec<u8>, AllocErr
     let mut block = zeros(alloc, shape.hash_block() as usize)?;
     put(&mut block, 0, &params.encode());
     Ok(block)
-}
-
-// Writes the area behind hash block 0, and then hash block 0.
-fn write_image<H: BlockDev>(hash_dev: &mut H, first: &[u8], area: &[u8]) -> Result<(), DeviceFault>
-    requires some { 0 < length first.now }
-    requires first { length first.now % 512 ≡ 0 }
-    requires area { length area.now % 512 ≡ 0 }
-    requires inside { length first.now / 512 + length area.now / 512 ≤ (H.state hash_dev.old).size }
-    requires allowed { IsTrue (H.state hash_dev.old).may_write }
-    ensures ok { OnOk result (IsImageWritten (H.state hash_dev.old) first.now area.now (H.state hash_dev.new)) }
-    ensures fault { OnErr result (HasFailed (H.state hash_dev.old) (H.state hash_dev.new)) }
-    ensures torn { OnErr result (IsImageTorn (H.state hash_dev.old) first.now area.now (H.state hash_dev.new)) }
-{
-    if area.is_empty() {
-        hash_dev.write(0, first)?;
-        return Ok(());
-    }
-    hash_dev.write(first.len() as u64 / 512, area)?;
-    hash_dev.write(0, first)?;
-    Ok(())
 }

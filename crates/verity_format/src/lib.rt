@@ -3,13 +3,16 @@
 
 mod access;
 mod chains;
+mod comparing;
 mod decoding;
 mod formatting;
+mod growth;
 mod superblock;
 mod table;
 #[cfg(test)]
 mod tests;
 mod verifying;
+mod writing;
 
 pub use chains::{ChainFault, read_chain};
 pub use decoding::{SuperFault, decode};

@@ -1,13 +1,12 @@
 // Comparing a hash image with a data image.
-ghost use Rattle.std.specs.Prelude.{◌≡◌, ℕ, List, ◌+◌, ◌*◌, ◌/◌, ◌^◌, ◌<◌, ◌≤◌, IsTrue, OnOk, OnErr, IfOk, IfErr, IfSome, length};
+ghost use Rattle.std.specs.Prelude.{◌≡◌, List, ℕ, OnOk, IfOk, IfErr};
 ghost use Rattle.std.specs.Str.{bytes_eq};
-ghost use Rattle.block_device.specs.Device.{HasFailed};
-ghost use Rattle.hash_tree.specs.Shape.{is_block_size};
 ghost use Rattle.verity_format.specs.Blocks.{IsOnlyRead, IsFullRead};
 ghost use Rattle.verity_format.specs.FaultNames.{verify_number, verify_name};
-ghost use Rattle.verity_format.specs.Verifying.{IsVerifyCause, IsFound, IsReadFrom, IsReadCause, IsFoundSuper, IsSuperCause, IsCompared};
+ghost use Rattle.verity_format.specs.Verifying.{IsVerifyCause, IsFound, IsReadFrom, IsReadCause, IsFoundSuper, IsSuperCause};
 
-use crate::access::{TreeFault, data_sectors, read_block, tree_over, tree_sectors};
+use crate::access::{TreeFault, data_sectors, read_block, tree_sectors};
+use crate::comparing::compare_tree;
 use crate::{SuperFault, Superblock, decode};
 use block_device::{BlockDev, DeviceFault};
 use std::alloc::{AllocError, Global};
@@ -112,8 +111,8 @@ impl From<TreeFault> for VerifyFault {
 
 /// Compares the tree over the data device with the one on the hash device, and its root with the one given.
 ///
-/// Both devices are read once, block by block, the hash device up to the first block that differs. What stands
-/// between the superblock and hash block 1 is not compared.
+/// The tree is made level by level, with one block of each level in memory. All data and all hash blocks of the
+/// tree are read, each once. What stands between the superblock and hash block 1 is not compared.
 pub fn verify<D: BlockDev, H: BlockDev>(
     alloc: Global,
     data_dev: &mut D,
@@ -127,10 +126,9 @@ pub fn verify<D: BlockDev, H: BlockDev>(
 {
     let superblock = fitting_superblock(data_dev, hash_dev)?;
     let shape = superblock.shape();
-    let (area, expected) = tree_over(alloc, data_dev, &shape, &superblock.salt())?;
-    let mut block = vec![in alloc; 0u8; shape.hash_block() as usize]?;
-    if let Some(found) = first_difference(hash_dev, &mut block, &area, shape.area_blocks())? {
-        return Ok(Verdict::AreaDiffers(1 + found));
+    let (least, expected) = compare_tree(alloc, data_dev, hash_dev, &shape, &superblock.salt())?;
+    if let Some(block) = least {
+        return Ok(Verdict::AreaDiffers(block));
     }
     if !is_same(&expected, root) {
         return Ok(Verdict::RootDiffers);
@@ -176,30 +174,4 @@ fn fitting_superblock<D: BlockDev, H: BlockDev>(
         return Err(VerifyFault::TooSmall);
     }
     Ok(superblock)
-}
-
-// The first of the blocks in a row that differs from its hash block, of which the first is block 1.
-fn first_difference<H: BlockDev>(
-    hash_dev: &mut H,
-    block: &mut [u8],
-    area: &[u8],
-    blocks: u64,
-) -> Result<Option<u64>, DeviceFault>
-    requires size { IsTrue (is_block_size (length block.old)) }
-    requires whole { length area.now ≡ blocks * length block.old }
-    requires inside { 0 < blocks → blocks * (length block.old / 512) + length block.old / 512 ≤ (H.state hash_dev.old).size }
-    requires few { blocks * (length block.old / 512) ≤ 2 ^ 54 }
-    ensures read { IsOnlyRead (H.state hash_dev.old) (H.state hash_dev.new) }
-    ensures compared { IfOk result (IsCompared (H.state hash_dev.old) (H.state hash_dev.new) (length block.old) blocks area.now) }
-    ensures fault { OnErr result (HasFailed (H.state hash_dev.old) (H.state hash_dev.new)) }
-{
-    let size = block.len();
-    for i in 0..blocks {
-        read_block(hash_dev, 1 + i, block)?;
-        let at = i as usize * size;
-        if &block[..] != &area[at..at + size] {
-            return Ok(Some(i));
-        }
-    }
-    Ok(None)
 }

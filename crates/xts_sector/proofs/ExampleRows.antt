@@ -5,7 +5,8 @@ use Rattle.aes_block.specs.State.{state_of}
 use Rattle.aes_block.specs.Rounds.{sub_bytes, shift_rows, mix_columns, add_round_key, inv_shift_rows, inv_sub_bytes, inv_mix_columns}
 use Rattle.aes_block.specs.KeyExpansion.{key_term, with_word, key_schedule}
 use Rattle.aes_block.specs.Cipher.{cipher_with, cipher, inverse_cipher_with, inverse_cipher}
-use Rattle.xts_sector.specs.Blocks.{joined, add_blocks}
+use Rattle.aes_block.specs.Blocks.{joined}
+use Rattle.xts_sector.specs.Blocks.{add_blocks}
 use Rattle.xts_sector.specs.Tweak.{unit_number, times_alpha}
 use Rattle.xts_sector.specs.Xts.{tweak, encrypted_block, decrypted_block, encrypted_blocks, decrypted_blocks, encrypted, decrypted}
 

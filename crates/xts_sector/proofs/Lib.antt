@@ -1,5 +1,6 @@
+pub mod lemmas
 pub mod ExampleRows
-pub mod BlockLaws
-pub mod TweakLaws
-pub mod XtsLaws
-pub mod XtsKeyLaws
+pub mod BlockLemmas
+pub mod TweakLemmas
+pub mod XtsLemmas
+pub mod XtsKeyLemmas

@@ -1,4 +1,5 @@
 pub mod Blocks
 pub mod Tweak
 pub mod Xts
+pub mod Units
 pub mod XtsKey

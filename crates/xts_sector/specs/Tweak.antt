@@ -1,10 +1,15 @@
 -- The tweaks of a data unit (IEEE 1619-2007, 5.1 and 5.2).
 use Rattle.std.specs.Prelude.{ℕ, zero, suc, ◌-◌, ◌*◌, ◌/◌, ◌%◌, ◌^◌, ◌==◌, List, map, slice_index, bit_xor, if◌then◌else◌}
+use Rattle.std.specs.Int.{to_le_bytes, w128}
 use Rattle.std.specs.List.{range_with_len}
 
 -- 5.1: the number of a data unit, as 16 bytes in little-endian order
 unfoldable pub unit_number : ℕ → List ℕ
 unit_number n = map (λ k. n / 256 ^ k % 256) (range_with_len 0 16)
+
+-- a number as a block, in little-endian order
+unfoldable pub block_of : ℕ → List ℕ
+block_of n = to_le_bytes w128 n
 
 -- 5.2: byte k of the product of a block by α
 abbrev pub product_byte : List ℕ → ℕ → ℕ

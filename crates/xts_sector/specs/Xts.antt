@@ -1,7 +1,8 @@
 -- XTS-AES on data units of whole blocks (IEEE 1619-2007, 5.3 and 5.4).
 use Rattle.std.specs.Prelude.{◌≡◌, ℕ, ◌/◌, ◌⊎◌, List, length, take, drop}
 use Rattle.aes_block.specs.Cipher.{cipher, inverse_cipher}
-use Rattle.xts_sector.specs.Blocks.{block, joined, add_blocks}
+use Rattle.aes_block.specs.Blocks.{block, joined}
+use Rattle.xts_sector.specs.Blocks.{add_blocks}
 use Rattle.xts_sector.specs.Tweak.{unit_number, times_alpha_power}
 
 -- a key's length in bytes: that of two AES keys

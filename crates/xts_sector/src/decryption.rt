@@ -1,30 +1,42 @@
 //! Decryption of a unit under one AES key (IEEE 1619-2007, 5.4).
 
-ghost use Rattle.std.specs.Prelude.{◌≡◌, ◌%◌, length};
-ghost use Rattle.xts_sector.specs.Tweak.{times_alpha_power};
+ghost use Rattle.std.specs.Prelude.{◌≡◌, ℕ, ◌/◌, ◌%◌, ◌<◌, ◌≤◌, length};
+ghost use Rattle.aes_block.specs.Blocks.{block};
+ghost use Rattle.xts_sector.specs.Tweak.{block_of, times_alpha_power};
 ghost use Rattle.xts_sector.specs.Xts.{decrypted_block, encrypted_block, decrypted_blocks, encrypted_blocks};
 
-use crate::blocks::{Block, add_blocks, block};
-use crate::tweak::times_alpha;
+use crate::masks::{add_masks, fill_masks};
+use crate::tweak::Block;
 use aes_block::AesKey;
 
-fn decrypted_block(key: &AesKey, tweak: &Block, ciphertext: &Block) -> Block
-    ensures value { result ≡ decrypted_block key.now tweak.now ciphertext.now }
-    ensures inverse { encrypted_block key.now tweak.now result ≡ ciphertext.now }
+/// The most bytes whose masks are made ahead.
+const PART: usize = 512;
+
+/// Decrypts blocks, the first of which has the tweak `first`, and gives the tweak after the last.
+fn decrypt_part(key: &AesKey, first: u128, blocks: &mut [u8]) -> u128
+    requires { (length blocks.old % 16 ≡ 0) × (length blocks.old ≤ PART) }
+    ensures value { blocks.new ≡ decrypted_blocks key.now (λ j. times_alpha_power j (block_of first)) blocks.old }
+    ensures inverse { (j : ℕ) → j < length blocks.old / 16 → encrypted_block key.now (times_alpha_power j (block_of first)) (decrypted_block key.now (times_alpha_power j (block_of first)) (block blocks.old j)) ≡ block blocks.old j }
+    ensures next { block_of result ≡ times_alpha_power (length blocks.old / 16) (block_of first) }
 {
-    add_blocks(&key.decrypt(&add_blocks(ciphertext, tweak)), tweak)
+    let mut all = [0; PART];
+    let masks = &mut all[..blocks.len()];
+    let next = fill_masks(first, masks);
+    add_masks(blocks, masks);
+    key.decrypt_blocks(blocks);
+    add_masks(blocks, masks);
+    next
 }
 
 /// Decrypts a unit of whole blocks, whose first block has the tweak `first`.
-pub fn decrypt_blocks(key: &AesKey, first: Block, unit: &mut [u8])
+pub fn decrypt_blocks(key: &AesKey, first: &Block, unit: &mut [u8])
     requires { length unit.old % 16 ≡ 0 }
-    ensures value { unit.new ≡ decrypted_blocks key.now (λ j. times_alpha_power j first) unit.old }
-    ensures inverse { encrypted_blocks key.now (λ j. times_alpha_power j first) unit.new ≡ unit.old }
+    ensures value { unit.new ≡ decrypted_blocks key.now (λ j. times_alpha_power j first.now) unit.old }
+    ensures inverse { encrypted_blocks key.now (λ j. times_alpha_power j first.now) unit.new ≡ unit.old }
 {
-    let mut tweak = first;
-    for j in 0..unit.len() / 16 {
-        let plaintext = decrypted_block(key, &tweak, &block(unit, j));
-        unit[16 * j..16 * j + 16].copy_from_slice(&plaintext);
-        tweak = times_alpha(&tweak);
+    let mut tweak = u128::from_le_bytes(*first);
+    for i in 0..unit.len().div_ceil(PART) {
+        let end = unit.len().min(PART * i + PART);
+        tweak = decrypt_part(key, tweak, &mut unit[PART * i..end]);
     }
 }

@@ -1,9 +1,9 @@
 //! XTS-AES on data units of whole blocks (IEEE 1619-2007), over the block cipher of `aes_block`.
 #![tactic(auto)]
 
-mod blocks;
 mod decryption;
 mod encryption;
+mod masks;
 mod tweak;
 mod xts_key;
 

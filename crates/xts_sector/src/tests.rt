@@ -2,10 +2,12 @@
 
 ghost use Rattle.std.specs.Prelude.{◌<◌};
 
+mod plain;
 mod units_of_4096;
 mod vectors;
 
 use super::*;
+use plain::{PlainKey, PlainXts};
 use std::alloc::{AllocError, Global};
 use std::process::Abort;
 use std::test::Fail;
@@ -111,4 +113,68 @@ fn key_lengths(rt: HostRuntime) {
         let taken = XtsKey::new(&bytes[..len]).is_some();
         assert_eq!(rt; taken, len == 32 || len == 64, "{len} bytes");
     }
+}
+
+const SIZES: [usize; 11] = [16, 32, 48, 64, 80, 112, 496, 512, 528, 1024, 4096];
+
+const NUMBERS: [u64; 3] = [0, 1, u64::MAX];
+
+#[test]
+fn units_as_the_plain_code(rt: HostRuntime) -> Result<(), Fail> {
+    let mut bytes = [0; 64];
+    for (k, byte) in bytes.iter_mut().enumerate() {
+        *byte = (7 * k % 256) as u8;
+    }
+    let mut halves = [[0; 32]; 2];
+    halves[0].copy_from_slice(&bytes[..32]);
+    halves[1].copy_from_slice(&bytes[32..]);
+    let plain = PlainXts {
+        data_key: PlainKey::new(&halves[0]),
+        tweak_key: PlainKey::new(&halves[1]),
+    };
+    let key = XtsKey::new(&bytes).ok_or("a key was refused")?;
+    for size in SIZES {
+        for number in NUMBERS {
+            let mut expected = Vec::new(rt.alloc());
+            for k in 0..size {
+                expected.push((k % 251) as u8)?;
+            }
+            let mut unit = expected.clone()?;
+            assert!(rt; unit.len() % 16 == 0);
+            plain.apply(number, &mut expected, true);
+            key.encrypt(number, &mut unit);
+            assert_eq!(rt;
+                unit.as_slice(),
+                expected.as_slice(),
+                "encrypt {size} bytes of unit {number}"
+            );
+            plain.apply(number, &mut expected, false);
+            plain.apply(number, &mut expected, false);
+            key.decrypt(number, &mut unit);
+            key.decrypt(number, &mut unit);
+            assert_eq!(rt;
+                unit.as_slice(),
+                expected.as_slice(),
+                "decrypt {size} bytes of unit {number}"
+            );
+        }
+    }
+    Ok(())
+}
+
+#[test]
+fn units_count_past_the_last_number(rt: HostRuntime) -> Result<(), Fail> {
+    let key = XtsKey::new(&[9; 64]).ok_or("a key was refused")?;
+    let mut units = vec![in rt.alloc(); 5u8; 1536]?;
+    assert_eq!(rt; units.len(), 1536);
+    key.encrypt_units(u64::MAX - 1, 512, &mut units);
+    assert_eq!(rt; units.len(), 1536);
+    for (i, number) in [u64::MAX - 1, u64::MAX, 0].iter().enumerate() {
+        let mut unit = [5; 512];
+        key.encrypt(*number, &mut unit);
+        assert_eq!(rt; &units[512 * i..512 * i + 512], unit.as_slice(), "unit {i}");
+    }
+    key.decrypt_units(u64::MAX - 1, 512, &mut units);
+    assert!(rt; units.iter().all(|byte| *byte == 5));
+    Ok(())
 }

@@ -1,9 +1,10 @@
 //! The tweaks of a data unit (IEEE 1619-2007, 5.1 and 5.2).
 
 ghost use Rattle.std.specs.Prelude.{◌≡◌};
-ghost use Rattle.xts_sector.specs.Tweak.{unit_number, times_alpha};
+ghost use Rattle.xts_sector.specs.Tweak.{unit_number, block_of, times_alpha};
 
-use crate::blocks::Block;
+/// A block of the cipher.
+pub type Block = [u8; 16];
 
 /// The number of a data unit, as 16 bytes in little-endian order (5.1).
 pub fn unit_number(unit: u64) -> Block
@@ -14,18 +15,10 @@ pub fn unit_number(unit: u64) -> Block
     number
 }
 
-/// The product of a block by α, the polynomial x (5.2).
-pub fn times_alpha(a: &Block) -> Block
-    ensures { result ≡ times_alpha a.now }
+/// The product of a block by α, the polynomial x (5.2). A block is read as a number in little-endian order.
+#[inline(always)]
+pub fn times_alpha(a: u128) -> u128
+    ensures { block_of result ≡ times_alpha (block_of a) }
 {
-    let mut product = [0; 16];
-    for (k, byte) in product.iter_mut().enumerate() {
-        let carry = if k == 0 {
-            135 * (a[15] / 128)
-        } else {
-            a[k - 1] / 128
-        };
-        *byte = (2 * (a[k] % 128)) ^ carry;
-    }
-    product
+    (a << 1) ^ (a >> 127) * 0x87
 }

@@ -1,7 +1,8 @@
 //! An XTS-AES key.
 
-ghost use Rattle.std.specs.Prelude.{◌≡◌, ◌↔◌, ◌%◌, length, IsSome, IfSome};
+ghost use Rattle.std.specs.Prelude.{◌≡◌, ◌↔◌, ◌%◌, ◌<◌, length, IsSome, IfSome};
 ghost use Rattle.xts_sector.specs.Xts.{IsKeyLength, encrypted, decrypted};
+ghost use Rattle.xts_sector.specs.Units.{encrypted_units, decrypted_units};
 
 use crate::decryption::decrypt_blocks;
 use crate::encryption::encrypt_blocks;
@@ -48,7 +49,7 @@ impl XtsKey {
         ensures inverse { decrypted self.now number unit.new ≡ unit.old }
     {
         let first = self.tweak_key.encrypt(&unit_number(number));
-        encrypt_blocks(&self.data_key, first, unit);
+        encrypt_blocks(&self.data_key, &first, unit);
     }
 
     /// Decrypts the unit of this number in place. A unit of no bytes stays as it is.
@@ -58,6 +59,32 @@ impl XtsKey {
         ensures inverse { encrypted self.now number unit.new ≡ unit.old }
     {
         let first = self.tweak_key.encrypt(&unit_number(number));
-        decrypt_blocks(&self.data_key, first, unit);
+        decrypt_blocks(&self.data_key, &first, unit);
+    }
+
+    /// Encrypts units of `size` bytes in place, whose numbers count up from `first` modulo 2^64.
+    pub fn encrypt_units(&self, first: u64, size: usize, units: &mut [u8])
+        requires size { (0 < size) × (size % 16 ≡ 0) }
+        requires whole { length units.old % size ≡ 0 }
+        ensures value { units.new ≡ encrypted_units self.now first size units.old }
+        ensures inverse { decrypted_units self.now first size units.new ≡ units.old }
+    {
+        for i in 0..units.len() / size {
+            let number = first.wrapping_add(i as u64);
+            self.encrypt(number, &mut units[size * i..size * i + size]);
+        }
+    }
+
+    /// Decrypts units of `size` bytes in place, whose numbers count up from `first` modulo 2^64.
+    pub fn decrypt_units(&self, first: u64, size: usize, units: &mut [u8])
+        requires size { (0 < size) × (size % 16 ≡ 0) }
+        requires whole { length units.old % size ≡ 0 }
+        ensures value { units.new ≡ decrypted_units self.now first size units.old }
+        ensures inverse { encrypted_units self.now first size units.new ≡ units.old }
+    {
+        for i in 0..units.len() / size {
+            let number = first.wrapping_add(i as u64);
+            self.decrypt(number, &mut units[size * i..size * i + size]);
+        }
     }
 }

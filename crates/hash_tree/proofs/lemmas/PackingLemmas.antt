@@ -1,6 +1,7 @@
 -- Blocks cut from bytes, and bytes joined from blocks.
 use Rattle.std.proofs.Common.{◌≡◌, ◌≤◌, ◌<◌, ◌/◌, ◌%◌, ◌*◌, ◌+◌, ◌-◌, ℕ, zero, suc, sym, ap, ◌∙◌, inl, inr, arith, List, [], ◌∷◌, ◌++◌, length, get_or, take, drop, map, replicate, zero-add, append_assoc}
 use Rattle.std.proofs.Math.Nat.{mod-add-div, mul-le-mul_left, mul_comm, mul-zero, mul-suc}
+use borrow.Rule.Slice.PartMut.{put_mid}
 use Rattle.std.proofs.Math.Seq.{take-add, take-append-add, drop-append-add}
 use Rattle.std.proofs.lemmas.Bool.{cases_lt}
 use Rattle.std.proofs.lemmas.List.{length-take-le, length-drop, length-append, length-replicate, take_all, take_at, take-append-le, drop-append-le, drop-drop, take-replicate, append-nil, ext_get_or}
@@ -163,3 +164,9 @@ get_or-cut_whole size i bytes some none inside =
     get_or-cut size i bytes some (omega (arith, inside, count))
     ∙ ap (λ k. take size (drop (size * i) (bytes ++ replicate k 0))) no_rest
     ∙ ap (λ z. take size (drop (size * i) z)) (append-nil bytes)
+
+-- what is written into a list's middle ends what stands in front of it
+pub take-put_mid : {X : Type 0} (a n : ℕ) (xs ys : List X) → a ≤ length xs → length ys ≡ n → take (a + n) (put_mid a n xs ys) ≡ take a xs ++ ys
+take-put_mid a n xs ys inside long =
+    let front : length (take a xs ++ ys) ≡ a + n = length-append (take a xs) ys ∙ omega (arith, length-take-le a xs inside, long) in
+    ap (take (a + n)) (sym (append_assoc (take a xs) ys (drop n (drop a xs)))) ∙ take_at (take a xs ++ ys) (drop n (drop a xs)) (a + n) front

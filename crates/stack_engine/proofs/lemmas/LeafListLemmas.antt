@@ -37,7 +37,7 @@ steady_at old new e i d h steady =
     subst IsTrue (sym (ap (λ (x : Fixed). x.steady) same)) steady
 
 -- also of a default
-steady_kept : (old new : List Device) → map fixed_part new ≡ map fixed_part old → (i : ℕ) (d : Device) → IsTrue (get_or old i d).steady → IsTrue (get_or new i d).steady
+pub steady_kept : (old new : List Device) → map fixed_part new ≡ map fixed_part old → (i : ℕ) (d : Device) → IsTrue (get_or old i d).steady → IsTrue (get_or new i d).steady
 steady_kept old new e i d h = elim (cases_lt i (length old)) [
   | inl low ↦ steady_at old new e i d low h
   | inr high ↦ let was : IsTrue d.steady = subst (λ (x : Device). IsTrue x.steady) (get_or_past old i d high) h in
@@ -65,7 +65,7 @@ images-kept {old = old} {new = new} a steady = images-same old new (same_length 
 Counts-then : {counter : Device → ℕ} {m n : ℕ} {old mid new : List Device} → Counts counter m old mid → Counts counter n mid new → Counts counter (m + n) old new
 Counts-then a b = record { sum = omega (arith, a.sum, b.sum); none = λ e. b.none (omega (arith, e)) ∙ a.none (omega (arith, e)) }
 
-Counts-more : {counter : Device → ℕ} {m n : ℕ} {old new : List Device} → m ≤ n → Counts counter m old new → Counts counter n old new
+pub Counts-more : {counter : Device → ℕ} {m n : ℕ} {old new : List Device} → m ≤ n → Counts counter m old new → Counts counter n old new
 Counts-more h a = record { sum = omega (arith, h, a.sum); none = λ e. a.none (omega (arith, h, e)) }
 
 pub Moves-then : {r w r' w' : ℕ} {old mid new : List Device} → Moves r w old mid → Moves r' w' mid new → Moves (r + r') (w + w') old new

@@ -1,9 +1,15 @@
 -- The line of a sector.
-use Rattle.std.proofs.Common.{◌≡◌, ℕ, ◌+◌, ◌<◌, ◌≤◌, Bool, cond, nat_lt, List, [], ◌∷◌, Option, Some, sym, ap, ◌∙◌, arith, inl, inr}
-use Rattle.std.specs.Prelude.{find}
+use Rattle.std.proofs.Common.{◌≡◌, ℕ, ◌+◌, ◌<◌, ◌≤◌, Bool, cond, nat_lt, List, [], ◌∷◌, Option, Some, None, refl, sym, ap, ◌∙◌, subst, arith, inl, inr}
+use Rattle.std.specs.Prelude.{find, slice_get}
 use Rattle.std.specs.List.{enumerate_from}
+use Rattle.std.specs.Option.{option_map_or}
 use Rattle.std.proofs.lemmas.Bool.{cases_lt, lt-ltb, le-ltb}
 use Rattle.dm_table.specs.declared.table.Line.{Line}
+use Rattle.stack_loader.specs.Records.{Configuration, DeviceRecord}
+use Rattle.stack_loader.specs.Names.{lines_of}
+use Rattle.stack_loader.specs.Lines.{line_at, Follow}
+use Rattle.stack_loader.specs.Rules.{IsValid}
+use Rattle.stack_loader.proofs.lemmas.ValidLineLemmas.{follow}
 
 abbrev pub end_of : Line → ℕ
 end_of line = line.start + line.length
@@ -26,3 +32,21 @@ found-more k (x ∷ lines) s t p e h below = elim (cases_lt s (end_of x)) [
       here k x lines t inside ∙ ap Some same
   | inr high ↦ later k x lines t (omega (arith, high, h)) ∙ found-more (k + 1) lines s t p (sym (later k x lines s high) ∙ e) h below
 ]
+
+-- a sector's line starts at or before it, where lines follow one another
+pub found-start : (k n : ℕ) (lines : List Line) (s : ℕ) (p : ℕ × Line) → Follow n lines → n ≤ s → found_from k lines s ≡ Some p → p.1.start ≤ s
+found-start k n [] s p follow h e = cc
+found-start k n (x ∷ lines) s p follow h e = elim (cases_lt s (end_of x)) [
+  | inl low ↦ let same : Some (k, x) ≡ Some p = sym (here k x lines s low) ∙ e in
+      let one : (k, x) ≡ p = cc in
+      subst (λ (q : ℕ × Line). q.1.start ≤ s) one (omega (arith, follow.0, h))
+  | inr high ↦ found-start (k + 1) (n + x.length) lines s p follow.2 (omega (arith, follow.0, high)) (sym (later k x lines s high) ∙ e)
+]
+
+-- and so it does in a valid configuration
+pub line-start : (c : Configuration) (d s : ℕ) (p : ℕ × Line) → IsValid c → line_at c d s ≡ Some p → p.1.start ≤ s
+line-start c d s p valid e = found-start 0 0 (lines_of c d) s p (lines-follow (slice_get c.devices d) refl) (omega arith) e
+  where
+    lines-follow : (o : Option DeviceRecord) → slice_get c.devices d ≡ o → Follow 0 (option_map_or (λ x. x.table) o [])
+    lines-follow None at = tt
+    lines-follow (Some x) at = follow c valid d x at

@@ -63,7 +63,7 @@ module _ {ℓ} {X : Type ℓ} (c : Configuration) (none : X) (on_line : OnLine X
       (asks (by_name c (λ t. none) f) (by_name c (λ t. none) g) d k line.target (s - line.start) (front {X = ℕ → X} c (λ t. none) f g (names line.target) (flat_map (λ line. names line.target) lines) all))
       (found-same d s (k + 1) test lines (back {X = ℕ → X} c (λ t. none) f g (names line.target) (flat_map (λ line. names line.target) lines) all))
 
-sector_rule-local {ℓ} : {X : Type ℓ} (c : Configuration) (none : X) (on_leaf : ℕ → ℕ → X) (on_line : OnLine X) → AsksOfNames on_line → IsLocal c (sector_rule c none on_leaf on_line)
+pub sector_rule-local {ℓ} : {X : Type ℓ} (c : Configuration) (none : X) (on_leaf : ℕ → ℕ → X) (on_line : OnLine X) → AsksOfNames on_line → IsLocal c (sector_rule c none on_leaf on_line)
 sector_rule-local c none on_leaf on_line asks f g (leaf i) all = refl
 sector_rule-local c none on_leaf on_line asks f g (device d) all =
     fun_ext (λ s. found-same c none on_line asks f g d.0 s 0 (λ p. nat_lt s (p.1.start + p.1.length)) (lines_of c d.0) all)
@@ -94,7 +94,7 @@ stripe-same none at at' [] k place all = refl
 stripe-same none at at' (base ∷ bases) zero place (all_and same more) = ap (λ h. h (place base)) same
 stripe-same none at at' (base ∷ bases) (suc k) place (all_and same more) = stripe-same none at at' bases k place more
 
-said_or-same {ℓ} : {X : Type ℓ} (none : X) (at at' : List ℕ → ℕ → X) (target : Target) (s : ℕ) → AllOf (λ name. at name ≡ at' name) (names target) → said_or none at (beneath target s) ≡ said_or none at' (beneath target s)
+pub said_or-same {ℓ} : {X : Type ℓ} (none : X) (at at' : List ℕ → ℕ → X) (target : Target) (s : ℕ) → AllOf (λ name. at name ≡ at' name) (names target) → said_or none at (beneath target s) ≡ said_or none at' (beneath target s)
 said_or-same none at at' (Linear base) s (all_and same more) = ap (λ h. h (base.offset + s)) same
 said_or-same none at at' (Striped chunk bases) s all = stripe-same none at at' bases (s / chunk % length bases) (λ base. base.offset + s / chunk / length bases * chunk + s % chunk) all
 said_or-same none at at' Zero s all = refl

@@ -41,7 +41,7 @@ recursion-of : {P : Lower → Type 0} (xs : List Lower) → AllOf P xs → AllBy
 recursion-of [] all = tt
 recursion-of (x ∷ xs) (all_and here more) = (here, recursion-of xs more)
 
-in-append : (P : Lower → Type 0) (xs ys : List Lower) → AllByRecursion P (xs ++ ys) → AllByRecursion P xs × AllByRecursion P ys
+pub in-append : {X : Type 0} (P : X → Type 0) (xs ys : List X) → AllByRecursion P (xs ++ ys) → AllByRecursion P xs × AllByRecursion P ys
 in-append P [] ys all = (tt, all)
 in-append P (x ∷ xs) ys all = let more = in-append P xs ys all.1 in ((all.0, more.0), more.1)
 
@@ -54,7 +54,7 @@ filter-append c (n ∷ ns) ms = go (named c n) (filter-append c ns ms)
     go None more = more
     go (Some y) more = ap (λ ys. y ∷ ys) more
 
-cons-tail : (P : Lower → Type 0) (o : Option Lower) (ys : List Lower) → AllByRecursion P (cons_option o ys) → AllByRecursion P ys
+pub cons-tail : (P : Lower → Type 0) (o : Option Lower) (ys : List Lower) → AllByRecursion P (cons_option o ys) → AllByRecursion P ys
 cons-tail P None ys all = all
 cons-tail P (Some z) ys all = all.1
 

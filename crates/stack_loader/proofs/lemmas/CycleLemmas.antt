@@ -1,14 +1,13 @@
 -- The test of a cycle is true exactly where a chain leads from a device to itself.
-use Rattle.std.proofs.Common.{◌≡◌, ◌+◌, ◌-◌, ◌≤◌, ◌<◌, ℕ, zero, suc, List, [], ◌∷◌, refl, sym, ◌∙◌, Bool, true, false, ◌&&◌, ◌||◌, ◌⊎◌, inl, inr, None, Some, length, arith}
-use Rattle.std.specs.Prelude.{IsTrue, ◌↔◌, slice_get}
+use Rattle.std.proofs.Common.{◌≡◌, ◌+◌, ◌-◌, ◌≤◌, ◌<◌, ℕ, zero, suc, [], ◌∷◌, refl, sym, ◌∙◌, Bool, true, false, ◌&&◌, ◌||◌, ◌⊎◌, inl, inr, None, length, arith}
+use Rattle.std.specs.Prelude.{slice_get}
 use Rattle.std.specs.Bool.{Decides}
-use Rattle.std.specs.List.{list_any}
 use Rattle.std.proofs.Math.Decide.{dec_le}
 use Rattle.stack_loader.specs.declared.refusal.LoadKind.TheVariants.{StandsOnItself}
 use Rattle.stack_loader.specs.Records.{Configuration, DeviceRecord}
 use Rattle.stack_loader.specs.Cycles.{names_device, Leads, by_line, by_chain, IsOnCycle, leads_below, is_on_cycle}
-use Rattle.stack_loader.specs.Rules.{IsValid, first, cycles, refuse}
-use Rattle.stack_loader.proofs.Lists.{slice_get-some}
+use Rattle.stack_loader.specs.Rules.{IsValid, refuse}
+use Rattle.stack_loader.proofs.ListLemmas.{slice_get-some}
 use Rattle.stack_loader.proofs.lemmas.ValidLemmas.{past_end}
 use Rattle.stack_loader.proofs.lemmas.ValidLineLemmas.{rules-of, at_place, apart}
 
@@ -86,7 +85,7 @@ leads_below-before step (suc k) d x e low here rest = go (dec_le k x) (λ y less
     go (no under) earlier = below earlier (grind (arith, under))
 
 -- a device that names another is one of the configuration
-names_device-inside : (c : Configuration) (d e : ℕ) → names_device c d e ≡ true → d < length c.devices
+pub names_device-inside : (c : Configuration) (d e : ℕ) → names_device c d e ≡ true → d < length c.devices
 names_device-inside c d e h = go (dec_le (length c.devices) d)
   where
     nothing : slice_get c.devices d ≡ None → names_device c d e ≡ false

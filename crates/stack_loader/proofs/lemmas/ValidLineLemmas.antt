@@ -1,18 +1,18 @@
 -- What a valid configuration gives of each line.
 use Rattle.std.proofs.Common.{◌≡◌, ◌+◌, ◌-◌, ◌≤◌, ◌<◌, ℕ, zero, suc, List, [], ◌∷◌, ◌++◌, refl, Bool, true, false, not, ◌&&◌, ◌||◌, ◌==◌, Option, Some, None, length, take, arith, nat_lt}
 use Rattle.std.specs.Prelude.{flat_map, slice_get}
-use Rattle.std.specs.List.{enumerate_from, list_any}
+use Rattle.std.specs.List.{AllByRecursion, enumerate_from, list_any}
 use Rattle.std.proofs.lemmas.Bool.Decides.{nat_tests}
 use Rattle.std.proofs.lemmas.List.Sums.{sum_by-cons}
 use Rattle.dm_table.specs.declared.table.Line.{Line}
 use Rattle.stack_loader.specs.Records.{Configuration, DeviceRecord}
 use Rattle.stack_loader.specs.declared.refusal.LoadKind.{LoadKind}
-use Rattle.stack_loader.specs.declared.refusal.LoadKind.TheVariants.{TooMany, ZeroLength, Gap, TooLarge, StripesDontDivide, BeyondDevice, LowerReadOnly}
+use Rattle.stack_loader.specs.declared.refusal.LoadKind.TheVariants.{TooMany}
 use Rattle.stack_loader.specs.declared.refusal.Refusal.{Refusal}
 use Rattle.stack_loader.specs.Names.{sectors_of}
 use Rattle.stack_loader.specs.Lines.{Follow}
 use Rattle.stack_loader.specs.Descend.{most_devices}
-use Rattle.stack_loader.specs.Rules.{IsValid, first, each_device, device_rules, depth_rules, cost_rules, unknown_names, cycles, table_rules, line_rules, refuse, is_too_many, most_lines, most_sectors, is_undivided, is_beyond, names_read_only}
+use Rattle.stack_loader.specs.Rules.{IsValid, first, each_device, device_rules, depth_rules, cost_rules, unknown_names, cycles, table_rules, line_faults, line_rules, refusals_at, refuse, is_too_many, most_lines, most_sectors, is_undivided, is_beyond, names_read_only}
 
 -- two lists in which nothing refuses
 pub parts : (xs ys : List (Option Refusal)) → first (xs ++ ys) ≡ None → (first xs ≡ None) × (first ys ≡ None)
@@ -63,16 +63,14 @@ rules-of c valid =
     let g = apart TooMany 0 0 (is_too_many c.devices) (unknown_names c) f.0 in
     record { many = g.0; known = g.1; around = f.1; lines = e.1; depths = b.1; costs = a.1 }
 
-six : (d l : ℕ) (a b e f g i : Bool)
-    → first (refuse ZeroLength d l a ∷ refuse Gap d l b ∷ refuse TooLarge d l e ∷ refuse StripesDontDivide d l f ∷ refuse BeyondDevice d l g ∷ refuse LowerReadOnly d l i ∷ []) ≡ None
-    → (a ≡ false) × (b ≡ false) × (e ≡ false) × (f ≡ false) × (g ≡ false) × (i ≡ false)
-six d l true b e f g i h = let r : Refusal = record { kind = ZeroLength; device = d; line = l } in let clash : Some r ≡ None = h in cc
-six d l false true e f g i h = let r : Refusal = record { kind = Gap; device = d; line = l } in let clash : Some r ≡ None = h in cc
-six d l false false true f g i h = let r : Refusal = record { kind = TooLarge; device = d; line = l } in let clash : Some r ≡ None = h in cc
-six d l false false false true g i h = let r : Refusal = record { kind = StripesDontDivide; device = d; line = l } in let clash : Some r ≡ None = h in cc
-six d l false false false false true i h = let r : Refusal = record { kind = BeyondDevice; device = d; line = l } in let clash : Some r ≡ None = h in cc
-six d l false false false false false true h = let r : Refusal = record { kind = LowerReadOnly; device = d; line = l } in let clash : Some r ≡ None = h in cc
-six d l false false false false false false h = (refl, refl, refl, refl, refl, refl)
+-- rules that refuse nothing, and the other way round
+pub faults-none : (d l : ℕ) (faults : List (LoadKind × Bool)) → first (refusals_at d l faults) ≡ None → AllByRecursion (λ (fault : LoadKind × Bool). fault.1 ≡ false) faults
+faults-none d l [] h = tt
+faults-none d l (f ∷ fs) h = let both = apart f.0 d l f.1 (refusals_at d l fs) h in (both.0, faults-none d l fs both.1)
+
+pub none-faults : (d l : ℕ) (faults : List (LoadKind × Bool)) → AllByRecursion (λ (fault : LoadKind × Bool). fault.1 ≡ false) faults → first (refusals_at d l faults) ≡ None
+none-faults d l [] all = refl
+none-faults d l (f ∷ fs) all = rw all.0 (none-faults d l fs all.1)
 
 at_least_one : (n : ℕ) → (n == 0) ≡ false → 0 < n
 at_least_one n h = grind (arith, nat_tests)
@@ -99,8 +97,8 @@ sound c valid d x device l line there =
   where
     from : (before : ℕ) → first (line_rules c x.writable (d + 1) (l + 1) before line) ≡ None → IsSound c x.writable before line
     from before h =
-        let a = six (d + 1) (l + 1) (line.length == 0) (not (line.start == before)) (nat_lt most_sectors (line.start + line.length)) (is_undivided line.length line.target) (is_beyond c line.length line.target) (x.writable && names_read_only c line.target) h in
-        record { some = at_least_one line.length a.0; start = equal line.start before a.1; low = Rattle.std.proofs.lemmas.Bool.ltb-false most_sectors (line.start + line.length) a.2; divides = a.3; inside = a.4; lowers = a.5 }
+        let a = faults-none (d + 1) (l + 1) (line_faults c x.writable before line) h in
+        record { some = at_least_one line.length a.0; start = equal line.start before a.1.0; low = Rattle.std.proofs.lemmas.Bool.ltb-false most_sectors (line.start + line.length) a.1.1.0; divides = a.1.1.1.0; inside = a.1.1.1.1.0; lowers = a.1.1.1.1.1.0 }
 
 -- ---- lines follow each other
 

@@ -26,5 +26,13 @@ fn loads_64_devices_of_256_lines(rt: HostRuntime) -> Result<(), Fail> {
     assert_eq!(rt; config.count(), 64);
     assert_eq!(rt; config.sectors(DevId(63)), 256);
     assert_eq!(rt; config.line_at(DevId(63), 255), (255, 1));
+    let mut lines = String::from_str(alloc, "d7,,,rw")?;
+    for j in 0u32..257 {
+        write!(lines, ",{j} 1 zero")?;
+    }
+    assert_eq!(rt;
+        load(alloc, &mut config, lines.as_bytes())?,
+        refused(LoadKind::TooMany, 0, 0)
+    );
     Ok(())
 }

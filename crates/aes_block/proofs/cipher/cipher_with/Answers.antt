@@ -5,5 +5,5 @@ use Rattle.aes_block.proofs.cipher.cipher_with.Goals as goal
 pub returns : goal.returns
 unfolding cipher_with
 returns c =
-    let done : c.loop-round.round ≡ c.args.rounds = omega arith in
+    let done : c.loop-i.i ≡ c.args.rounds = omega arith in
     cc

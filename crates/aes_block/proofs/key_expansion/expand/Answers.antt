@@ -1,7 +1,7 @@
 use Rattle.std.proofs.Common.{◌≡◌, ◌+◌, ◌-◌, ◌*◌, ◌/◌, ◌++◌, take, length, sym, ap, ◌∙◌, arith}
 use Rattle.std.proofs.lemmas.Slice.{take-put_mid}
 use Rattle.aes_block.specs.KeyExpansion.{word, add_words, key_term, expansion, key_schedule}
-use Rattle.aes_block.proofs.KeyScheduleLaws.{expansion_more, with_word-take, key_words_between}
+use Rattle.aes_block.proofs.KeyScheduleLemmas.{expansion_more, with_word-take, key_words_between}
 use Rattle.aes_block.proofs.key_expansion.expand.Goals as goal
 
 pub loop-i-preserved : goal.loop-i-preserved

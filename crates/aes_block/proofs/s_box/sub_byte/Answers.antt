@@ -1,4 +1,4 @@
-use Rattle.aes_block.proofs.SubByteLaws.{s_box_is}
+use Rattle.aes_block.proofs.SubByteLemmas.{s_box_is}
 use Rattle.aes_block.proofs.s_box.sub_byte.Goals as goal
 
 pub returns : goal.returns

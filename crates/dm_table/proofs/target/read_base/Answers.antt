@@ -1,5 +1,5 @@
 use Rattle.std.proofs.Common.{rules}
-use Rattle.dm_table.specs.Lines.{base_at}
+use Rattle.dm_table.specs.Arguments.{base_at}
 use Rattle.dm_table.proofs.ReadLemmas.{exit_kind}
 use Rattle.dm_table.proofs.target.read_base.Goals as goal
 

@@ -14,8 +14,8 @@ use Rattle.stack_loader.proofs.lemmas.ValidLineLemmas.{or-false}
 use Rattle.stack_loader.specs.Costs.{AreMeasured}
 use Rattle.stack_loader.proofs.DepthLemmas.{rounds-depths}
 use Rattle.stack_loader.proofs.CostLemmas.{lowers-rows}
-use Rattle.stack_loader.proofs.Passed.{IsFirst-passed, passed-IsFirst}
-use Rattle.stack_loader.proofs.Stages.{Known, unknown-first, cycles-first, lines-first, depths-first, costs-first, none-first, depths-above, costs-above, length-values}
+use Rattle.stack_loader.proofs.PassingLemmas.{IsFirst-passed, passed-IsFirst}
+use Rattle.stack_loader.proofs.StageLemmas.{Known, unknown-first, cycles-first, lines-first, depths-first, costs-first, none-first, depths-above, costs-above, length-values}
 use Rattle.stack_loader.proofs.check.check.Goals as goal
 
 pub returns-in_err-lowers : goal.returns-in_err-lowers
@@ -30,7 +30,7 @@ cycle_refusal-requires c =
     let c' : Configuration = configuration c.args.leaves.now c.args.devices.now in
     let few = sym c.is_too_many.ensures ∙ c.if-is_too_many.false in
     let low = ltb-false most_devices (length c.args.devices.now) (or-false _ _ few).0 in
-    let sets = rw (← c.as_slice-2.ensures.value) at (c.in_ok-sets.ensures c' (rw c.as_slice.ensures.value c.in_ok-lowers.ensures.1)) in
+    let sets = rw (← c.as_slice-sets.ensures.value) at (c.in_ok-named.ensures c' (rw c.as_slice-rows.ensures.value c.in_ok-lowers.ensures.1)) in
     omega (arith, low, sets.count)
 
 pub returns-in-Some : goal.returns-in-Some
@@ -39,7 +39,7 @@ returns-in-Some c =
     let few = sym c.is_too_many.ensures ∙ c.if-is_too_many.false in
     let known : Known c' = record { few = few; known = c.in_ok-lowers.ensures.0 } in
     let are = c.in_ok-lowers.ensures.1 in
-    let sets = rw (← c.as_slice-2.ensures.value) at (c.in_ok-sets.ensures c' (rw c.as_slice.ensures.value are)) in
+    let sets = rw (← c.as_slice-sets.ensures.value) at (c.in_ok-named.ensures c' (rw c.as_slice-rows.ensures.value are)) in
     let found = c.in_ok-cycle.ensures c' sets in
     cycles-first c' (Refused c.in-Some.refusal) known (sym found ∙ c.in-Some.is)
 
@@ -49,7 +49,7 @@ returns-in-Some-lines_refusal c =
     let few = sym c.is_too_many.ensures ∙ c.if-is_too_many.false in
     let known : Known c' = record { few = few; known = c.in_ok-lowers.ensures.0 } in
     let are = c.in_ok-lowers.ensures.1 in
-    let sets = rw (← c.as_slice-2.ensures.value) at (c.in_ok-sets.ensures c' (rw c.as_slice.ensures.value are)) in
+    let sets = rw (← c.as_slice-sets.ensures.value) at (c.in_ok-named.ensures c' (rw c.as_slice-rows.ensures.value are)) in
     let found = c.in_ok-cycle.ensures c' sets in
     let no_cycle = sym found ∙ c.in-None.is in
     lines-first c' (Refused c.in-Some-lines_refusal.refusal) known no_cycle (sym c.in-Some-lines_refusal.ensures)
@@ -60,9 +60,9 @@ first_above-requires c =
     let few = sym c.is_too_many.ensures ∙ c.if-is_too_many.false in
     let known : Known c' = record { few = few; known = c.in_ok-lowers.ensures.0 } in
     let are = c.in_ok-lowers.ensures.1 in
-    let depths = c.in_ok-depths.ensures ∙ ap (λ t. rounds t most_devices) c.as_slice-4.ensures.value ∙ rounds-depths c' c.in_ok-sets.sets.items (c.in_ok-sets.ensures c' (rw c.as_slice.ensures.value are)) in
+    let depths = c.in_ok-depths.ensures ∙ ap (λ t. rounds t most_devices) c.as_slice-sets.ensures.value ∙ rounds-depths c' c.in_ok-named.named.items (c.in_ok-named.ensures c' (rw c.as_slice-rows.ensures.value are)) in
     let low = ltb-false most_devices (length c.args.devices.now) (or-false _ _ few).0 in
-    rw c.as_slice-5.ensures.value (omega (arith, low, length-values (depth c') (length c.args.devices.now) c.in_ok-depths.depths.items depths))
+    rw c.as_slice-levels.ensures.value (omega (arith, low, length-values (depth c') (length c.args.devices.now) c.in_ok-depths.depths.items depths))
 
 pub returns-in-Some-first_above : goal.returns-in-Some-first_above
 returns-in-Some-first_above c =
@@ -70,12 +70,12 @@ returns-in-Some-first_above c =
     let few = sym c.is_too_many.ensures ∙ c.if-is_too_many.false in
     let known : Known c' = record { few = few; known = c.in_ok-lowers.ensures.0 } in
     let are = c.in_ok-lowers.ensures.1 in
-    let depths = c.in_ok-depths.ensures ∙ ap (λ t. rounds t most_devices) c.as_slice-4.ensures.value ∙ rounds-depths c' c.in_ok-sets.sets.items (c.in_ok-sets.ensures c' (rw c.as_slice.ensures.value are)) in
-    let sets = rw (← c.as_slice-2.ensures.value) at (c.in_ok-sets.ensures c' (rw c.as_slice.ensures.value are)) in
+    let depths = c.in_ok-depths.ensures ∙ ap (λ t. rounds t most_devices) c.as_slice-sets.ensures.value ∙ rounds-depths c' c.in_ok-named.named.items (c.in_ok-named.ensures c' (rw c.as_slice-rows.ensures.value are)) in
+    let sets = rw (← c.as_slice-sets.ensures.value) at (c.in_ok-named.ensures c' (rw c.as_slice-rows.ensures.value are)) in
     let found = c.in_ok-cycle.ensures c' sets in
     let no_cycle = sym found ∙ c.in-None.is in
     let no_line = sym c.in-None-lines_refusal.ensures in
-    let deep = ap first (ap (above TooDeep most_depth) c.as_slice-5.ensures.value ∙ depths-above c' c.in_ok-depths.depths.items depths) in
+    let deep = ap first (ap (above TooDeep most_depth) c.as_slice-levels.ensures.value ∙ depths-above c' c.in_ok-depths.depths.items depths) in
     depths-first c' (Refused c.in-Some-first_above.refusal) known no_cycle no_line (sym deep ∙ sym c.in-Some-first_above.ensures)
 
 pub first_above-requires-2 : goal.first_above-requires-2
@@ -84,49 +84,49 @@ first_above-requires-2 c =
     let few = sym c.is_too_many.ensures ∙ c.if-is_too_many.false in
     let known : Known c' = record { few = few; known = c.in_ok-lowers.ensures.0 } in
     let are = c.in_ok-lowers.ensures.1 in
-    let depths = c.in_ok-depths.ensures ∙ ap (λ t. rounds t most_devices) c.as_slice-4.ensures.value ∙ rounds-depths c' c.in_ok-sets.sets.items (c.in_ok-sets.ensures c' (rw c.as_slice.ensures.value are)) in
-    let sets = rw (← c.as_slice-2.ensures.value) at (c.in_ok-sets.ensures c' (rw c.as_slice.ensures.value are)) in
+    let depths = c.in_ok-depths.ensures ∙ ap (λ t. rounds t most_devices) c.as_slice-sets.ensures.value ∙ rounds-depths c' c.in_ok-named.named.items (c.in_ok-named.ensures c' (rw c.as_slice-rows.ensures.value are)) in
+    let sets = rw (← c.as_slice-sets.ensures.value) at (c.in_ok-named.ensures c' (rw c.as_slice-rows.ensures.value are)) in
     let found = c.in_ok-cycle.ensures c' sets in
     let no_cycle = sym found ∙ c.in-None.is in
     let no_line = sym c.in-None-lines_refusal.ensures in
-    let deep = ap first (ap (above TooDeep most_depth) c.as_slice-5.ensures.value ∙ depths-above c' c.in_ok-depths.depths.items depths) in
+    let deep = ap first (ap (above TooDeep most_depth) c.as_slice-levels.ensures.value ∙ depths-above c' c.in_ok-depths.depths.items depths) in
     let no_deep = sym deep ∙ sym c.in-None-first_above.ensures in
     let measured : AreMeasured c' c.in_ok-lowers.lowers.items c.in_ok-depths.depths.items = record { lowers = are; depths = depths; low = no_deep } in
-    let reads = c.in_ok-read_costs.ensures c'.leaves (rw (c.as_slice-6.ensures.value, c.as_slice-7.ensures.value) measured) in
+    let reads = c.in_ok-read_costs.ensures c'.leaves (rw (c.as_slice-rows.ensures.value, c.as_slice-levels.ensures.value) measured) in
     let low = ltb-false most_devices (length c.args.devices.now) (or-false _ _ few).0 in
-    rw c.as_slice-8.ensures.value (omega (arith, low, length-values (read_cost c') (length c.args.devices.now) c.in_ok-read_costs.read_costs.items reads))
+    rw c.as_slice.ensures.value (omega (arith, low, length-values (read_cost c') (length c.args.devices.now) c.in_ok-read_costs.read_costs.items reads))
 
 pub costs-requires-clause-rows : goal.costs-requires-clause-rows
 costs-requires-clause-rows c =
     let c' : Configuration = configuration c.args.leaves.now c.args.devices.now in
-    rw c.as_slice-6.ensures.value (lowers-rows c' c.in_ok-lowers.lowers.items c.args.devices.now c.in_ok-lowers.ensures.1)
+    rw c.as_slice-rows.ensures.value (lowers-rows c' c.in_ok-lowers.lowers.items c.args.devices.now c.in_ok-lowers.ensures.1)
 
 pub costs-requires-clause-depths : goal.costs-requires-clause-depths
 costs-requires-clause-depths c =
     let c' : Configuration = configuration c.args.leaves.now c.args.devices.now in
     let are = c.in_ok-lowers.ensures.1 in
-    let depths = c.in_ok-depths.ensures ∙ ap (λ t. rounds t most_devices) c.as_slice-4.ensures.value ∙ rounds-depths c' c.in_ok-sets.sets.items (c.in_ok-sets.ensures c' (rw c.as_slice.ensures.value are)) in
-    rw c.as_slice-7.ensures.value (length-values (depth c') (length c.args.devices.now) c.in_ok-depths.depths.items depths)
+    let depths = c.in_ok-depths.ensures ∙ ap (λ t. rounds t most_devices) c.as_slice-sets.ensures.value ∙ rounds-depths c' c.in_ok-named.named.items (c.in_ok-named.ensures c' (rw c.as_slice-rows.ensures.value are)) in
+    rw c.as_slice-levels.ensures.value (length-values (depth c') (length c.args.devices.now) c.in_ok-depths.depths.items depths)
 
 pub costs-requires-2-clause-rows : goal.costs-requires-2-clause-rows
 costs-requires-2-clause-rows c =
     let c' : Configuration = configuration c.args.leaves.now c.args.devices.now in
-    rw c.as_slice-9.ensures.value (lowers-rows c' c.in_ok-lowers.lowers.items c.args.devices.now c.in_ok-lowers.ensures.1)
+    rw c.as_slice-rows.ensures.value (lowers-rows c' c.in_ok-lowers.lowers.items c.args.devices.now c.in_ok-lowers.ensures.1)
 
 pub costs-requires-2-clause-depths : goal.costs-requires-2-clause-depths
 costs-requires-2-clause-depths c =
     let c' : Configuration = configuration c.args.leaves.now c.args.devices.now in
     let are = c.in_ok-lowers.ensures.1 in
-    let depths = c.in_ok-depths.ensures ∙ ap (λ t. rounds t most_devices) c.as_slice-4.ensures.value ∙ rounds-depths c' c.in_ok-sets.sets.items (c.in_ok-sets.ensures c' (rw c.as_slice.ensures.value are)) in
-    rw c.as_slice-10.ensures.value (length-values (depth c') (length c.args.devices.now) c.in_ok-depths.depths.items depths)
+    let depths = c.in_ok-depths.ensures ∙ ap (λ t. rounds t most_devices) c.as_slice-sets.ensures.value ∙ rounds-depths c' c.in_ok-named.named.items (c.in_ok-named.ensures c' (rw c.as_slice-rows.ensures.value are)) in
+    rw c.as_slice-levels.ensures.value (length-values (depth c') (length c.args.devices.now) c.in_ok-depths.depths.items depths)
 
 pub depths-requires : goal.depths-requires
 depths-requires c =
     let c' : Configuration = configuration c.args.leaves.now c.args.devices.now in
     let few = sym c.is_too_many.ensures ∙ c.if-is_too_many.false in
     let low = ltb-false most_devices (length c.args.devices.now) (or-false _ _ few).0 in
-    let sets = c.in_ok-sets.ensures c' (rw c.as_slice.ensures.value c.in_ok-lowers.ensures.1) in
-    rw c.as_slice-4.ensures.value (omega (arith, low, sets.count))
+    let sets = c.in_ok-named.ensures c' (rw c.as_slice-rows.ensures.value c.in_ok-lowers.ensures.1) in
+    rw c.as_slice-sets.ensures.value (omega (arith, low, sets.count))
 
 pub returns-in-Some-first_above-2 : goal.returns-in-Some-first_above-2
 returns-in-Some-first_above-2 c =
@@ -134,16 +134,16 @@ returns-in-Some-first_above-2 c =
     let few = sym c.is_too_many.ensures ∙ c.if-is_too_many.false in
     let known : Known c' = record { few = few; known = c.in_ok-lowers.ensures.0 } in
     let are = c.in_ok-lowers.ensures.1 in
-    let depths = c.in_ok-depths.ensures ∙ ap (λ t. rounds t most_devices) c.as_slice-4.ensures.value ∙ rounds-depths c' c.in_ok-sets.sets.items (c.in_ok-sets.ensures c' (rw c.as_slice.ensures.value are)) in
-    let sets = rw (← c.as_slice-2.ensures.value) at (c.in_ok-sets.ensures c' (rw c.as_slice.ensures.value are)) in
+    let depths = c.in_ok-depths.ensures ∙ ap (λ t. rounds t most_devices) c.as_slice-sets.ensures.value ∙ rounds-depths c' c.in_ok-named.named.items (c.in_ok-named.ensures c' (rw c.as_slice-rows.ensures.value are)) in
+    let sets = rw (← c.as_slice-sets.ensures.value) at (c.in_ok-named.ensures c' (rw c.as_slice-rows.ensures.value are)) in
     let found = c.in_ok-cycle.ensures c' sets in
     let no_cycle = sym found ∙ c.in-None.is in
     let no_line = sym c.in-None-lines_refusal.ensures in
-    let deep = ap first (ap (above TooDeep most_depth) c.as_slice-5.ensures.value ∙ depths-above c' c.in_ok-depths.depths.items depths) in
+    let deep = ap first (ap (above TooDeep most_depth) c.as_slice-levels.ensures.value ∙ depths-above c' c.in_ok-depths.depths.items depths) in
     let no_deep = sym deep ∙ sym c.in-None-first_above.ensures in
     let measured : AreMeasured c' c.in_ok-lowers.lowers.items c.in_ok-depths.depths.items = record { lowers = are; depths = depths; low = no_deep } in
-    let reads = c.in_ok-read_costs.ensures c'.leaves (rw (c.as_slice-6.ensures.value, c.as_slice-7.ensures.value) measured) in
-    let dear = ap first (ap (above CostTooLarge most_cost) c.as_slice-8.ensures.value ∙ costs-above c' c.in_ok-read_costs.read_costs.items reads) in
+    let reads = c.in_ok-read_costs.ensures c'.leaves (rw (c.as_slice-rows.ensures.value, c.as_slice-levels.ensures.value) measured) in
+    let dear = ap first (ap (above CostTooLarge most_cost) c.as_slice.ensures.value ∙ costs-above c' c.in_ok-read_costs.read_costs.items reads) in
     costs-first c' (Refused c.in-Some-first_above-2.refusal) known no_cycle no_line no_deep (sym dear ∙ sym c.in-Some-first_above-2.ensures)
 
 pub returns : goal.returns
@@ -152,22 +152,22 @@ returns c =
     let few = sym c.is_too_many.ensures ∙ c.if-is_too_many.false in
     let known : Known c' = record { few = few; known = c.in_ok-lowers.ensures.0 } in
     let are = c.in_ok-lowers.ensures.1 in
-    let depths = c.in_ok-depths.ensures ∙ ap (λ t. rounds t most_devices) c.as_slice-4.ensures.value ∙ rounds-depths c' c.in_ok-sets.sets.items (c.in_ok-sets.ensures c' (rw c.as_slice.ensures.value are)) in
-    let sets = rw (← c.as_slice-2.ensures.value) at (c.in_ok-sets.ensures c' (rw c.as_slice.ensures.value are)) in
+    let depths = c.in_ok-depths.ensures ∙ ap (λ t. rounds t most_devices) c.as_slice-sets.ensures.value ∙ rounds-depths c' c.in_ok-named.named.items (c.in_ok-named.ensures c' (rw c.as_slice-rows.ensures.value are)) in
+    let sets = rw (← c.as_slice-sets.ensures.value) at (c.in_ok-named.ensures c' (rw c.as_slice-rows.ensures.value are)) in
     let found = c.in_ok-cycle.ensures c' sets in
     let no_cycle = sym found ∙ c.in-None.is in
     let no_line = sym c.in-None-lines_refusal.ensures in
-    let deep = ap first (ap (above TooDeep most_depth) c.as_slice-5.ensures.value ∙ depths-above c' c.in_ok-depths.depths.items depths) in
+    let deep = ap first (ap (above TooDeep most_depth) c.as_slice-levels.ensures.value ∙ depths-above c' c.in_ok-depths.depths.items depths) in
     let no_deep = sym deep ∙ sym c.in-None-first_above.ensures in
     let measured : AreMeasured c' c.in_ok-lowers.lowers.items c.in_ok-depths.depths.items = record { lowers = are; depths = depths; low = no_deep } in
-    let reads = c.in_ok-read_costs.ensures c'.leaves (rw (c.as_slice-6.ensures.value, c.as_slice-7.ensures.value) measured) in
-    let dear = ap first (ap (above CostTooLarge most_cost) c.as_slice-8.ensures.value ∙ costs-above c' c.in_ok-read_costs.read_costs.items reads) in
+    let reads = c.in_ok-read_costs.ensures c'.leaves (rw (c.as_slice-rows.ensures.value, c.as_slice-levels.ensures.value) measured) in
+    let dear = ap first (ap (above CostTooLarge most_cost) c.as_slice.ensures.value ∙ costs-above c' c.in_ok-read_costs.read_costs.items reads) in
     let no_cost = sym dear ∙ sym c.in-None-first_above-2.ensures in (
       none-first c' known no_cycle no_line no_deep no_cost,
       record {
         depths = depths;
         reads = reads;
-        writes = c.in_ok-write_costs.ensures c'.leaves (rw (c.as_slice-9.ensures.value, c.as_slice-10.ensures.value) measured);
+        writes = c.in_ok-write_costs.ensures c'.leaves (rw (c.as_slice-rows.ensures.value, c.as_slice-levels.ensures.value) measured);
         lowers = are;
       },
     )

@@ -3,11 +3,10 @@ use Rattle.std.proofs.lemmas.Result.{err_from_is_err_and}
 use Rattle.stack_loader.specs.Records.{Configuration, configuration}
 use Rattle.stack_loader.specs.Facts.{AreFacts, IsNext}
 use Rattle.stack_loader.specs.Rules.{rules, duplicate_names, after_load}
-use Rattle.stack_loader.proofs.Loading.{checked-moved, fault-moved}
-use Rattle.stack_loader.proofs.Passed.{IsFirst-passed, passed-IsFirst}
-use Rattle.stack_loader.proofs.Scan.{first-none, first-some}
-use Rattle.stack_loader.proofs.Stages.{right, many-first}
-use Rattle.stack_loader.proofs.After.{too-many}
+use Rattle.stack_loader.proofs.LoadLemmas.{checked-moved, fault-moved}
+use Rattle.stack_loader.proofs.PassingLemmas.{IsFirst-passed, passed-IsFirst}
+use Rattle.stack_loader.proofs.ScanLemmas.{first-none, first-some}
+use Rattle.stack_loader.proofs.StageLemmas.{right}
 use Rattle.stack_loader.proofs.check.next_load.Goals as goal
 
 pub returns-in-Some : goal.returns-in-Some
@@ -15,18 +14,11 @@ returns-in-Some c =
     let c' : Configuration = configuration c.args.leaves.now c.args.devices.now in
     first-some (duplicate_names [] c.args.entries.now) (rules (after_load c' c.args.entries.now)) c.in-Some.refusal (sym c.in_ok-refusal.ensures ∙ c.in-Some.is)
 
-pub returns-then-is_over_full : goal.returns-then-is_over_full
-returns-then-is_over_full c =
-    let c' : Configuration = configuration c.args.leaves.now c.args.devices.now in
-    let fresh = sym c.in_ok-refusal.ensures ∙ c.in-None.is in
-    first-none (duplicate_names [] c.args.entries.now) (rules (after_load c' c.args.entries.now)) fresh
-    ∙ many-first (after_load c' c.args.entries.now) (too-many c' c.args.entries.now (c.is_over_full.ensures.0 c.if-is_over_full.true))
-
 pub returns-in_err-facts : goal.returns-in_err-facts
 returns-in_err-facts c =
     let c' : Configuration = configuration c.args.leaves.now c.args.devices.now in
     let fresh = sym c.in_ok-refusal.ensures ∙ c.in-None.is in
-    let here = c.as_slice.ensures.value ∙ c.in_ok-devices.ensures in
+    let here = c.as_slice.ensures.value ∙ c.in_ok-planned.ensures in
     let p = err_from_is_err_and c.from_residual-in_err-facts.result c.from_residual-in_err-facts.ensures.1 in
     rw (p.1, p.2) (passed-IsFirst (IsNext c' c.args.entries.now) c.in_err-facts.field-0.0 (duplicate_names [] c.args.entries.now ++ rules (after_load c' c.args.entries.now))
     (right c.in_err-facts.field-0.0 (duplicate_names [] c.args.entries.now) (rules (after_load c' c.args.entries.now)) fresh
@@ -37,8 +29,8 @@ pub returns : goal.returns
 returns c =
     let c' : Configuration = configuration c.args.leaves.now c.args.devices.now in
     let fresh = sym c.in_ok-refusal.ensures ∙ c.in-None.is in
-    let here = c.as_slice.ensures.value ∙ c.in_ok-devices.ensures in
+    let here = c.as_slice.ensures.value ∙ c.in_ok-planned.ensures in
     let checked = checked-moved c' c.as_slice.result.now (after_load c' c.args.entries.now).devices c.in_ok-facts.facts here c.in_ok-facts.ensures in (
       first-none (duplicate_names [] c.args.entries.now) (rules (after_load c' c.args.entries.now)) fresh ∙ checked.0,
-      record { devices = c.in_ok-devices.ensures; facts = checked.1; fresh = fresh; valid = checked.0 },
+      record { devices = c.in_ok-devices.ensures ∙ c.as_slice-2.ensures.value ∙ c.in_ok-planned.ensures; facts = checked.1; fresh = fresh; valid = checked.0 },
     )

@@ -1,10 +1,10 @@
-use Rattle.std.proofs.Common.{ap, sym, ◌∙◌, Some, map}
+use Rattle.std.proofs.Common.{ap, ◌∙◌, Some, map}
 use Rattle.dm_table.specs.declared.table.Line.{Line}
 use Rattle.stack_loader.specs.declared.lower.Lower.{Lower}
 use Rattle.stack_loader.specs.Descend.{by_name}
 use Rattle.stack_loader.specs.Costs.{cost_in, line_cost, dearest}
 use Rattle.stack_loader.proofs.GreatestLemmas.{greatest_more, greatest_all, ord_max-nat}
-use Rattle.stack_loader.proofs.Meanings.{row-at}
+use Rattle.stack_loader.proofs.MeaningLemmas.{row-at}
 use Rattle.stack_loader.proofs.costs.dearest.Goals as goal
 
 pub loop-i-preserved : goal.loop-i-preserved

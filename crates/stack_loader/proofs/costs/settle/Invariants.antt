@@ -1,4 +1,4 @@
-use Rattle.std.proofs.Common.{◌≡◌, List}
+use Rattle.std.proofs.Common.{List}
 use Rattle.stack_loader.specs.Records.{LeafRecord, configuration}
 use Rattle.stack_loader.specs.Costs.{AreMeasured, AreCosts}
 use Rattle.stack_loader.proofs.CostLemmas.{SettlesSoFar}

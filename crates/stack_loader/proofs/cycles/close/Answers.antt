@@ -1,4 +1,4 @@
-use Rattle.std.proofs.Common.{◌≡◌, length, subst, arith, ℕ, List}
+use Rattle.std.proofs.Common.{◌≡◌, length, subst, arith, ℕ}
 use Rattle.stack_loader.specs.Cycles.{leads_below}
 use Rattle.stack_loader.specs.DeviceSet.{AreSets}
 use Rattle.stack_loader.proofs.ClosureLemmas.{closed_none, closed_more}

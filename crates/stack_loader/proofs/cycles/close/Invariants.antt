@@ -1,4 +1,4 @@
-use Rattle.std.proofs.Common.{◌≡◌, ℕ, Bool, length}
+use Rattle.std.proofs.Common.{ℕ, Bool}
 use Rattle.stack_loader.specs.Cycles.{leads_below}
 use Rattle.stack_loader.specs.DeviceSet.{AreSets}
 use Rattle.stack_loader.proofs.cycles.close.Given as goal

@@ -1,5 +1,5 @@
-use Rattle.std.proofs.Common.{◌≡◌, length, sym, ap, ◌∙◌, arith}
-use Rattle.stack_loader.proofs.ClosureLemmas.{Closes, closes-of, taken, cycle-found, cycle-more, cycle-end}
+use Rattle.std.proofs.Common.{◌≡◌, length, sym, ap, ◌∙◌}
+use Rattle.stack_loader.proofs.ClosureLemmas.{closes-of, taken, cycle-found, cycle-more, cycle-end}
 use Rattle.stack_loader.proofs.cycles.cycle_refusal.Goals as goal
 
 pub loop-d-preserved : goal.loop-d-preserved

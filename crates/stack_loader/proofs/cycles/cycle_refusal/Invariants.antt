@@ -3,7 +3,7 @@ use Rattle.stack_loader.specs.Records.{Configuration}
 use Rattle.stack_loader.specs.DeviceSet.{AreLowerSets}
 use Rattle.stack_loader.specs.Rules.{first, cycles}
 use Rattle.stack_loader.proofs.ClosureLemmas.{cycle_at}
-use Rattle.stack_loader.proofs.Scan.{scan}
+use Rattle.stack_loader.proofs.ScanLemmas.{scan}
 use Rattle.stack_loader.proofs.cycles.cycle_refusal.Given as goal
 
 abbrev pub invariant-loop-d : goal.invariant-loop-d

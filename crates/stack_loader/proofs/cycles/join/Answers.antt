@@ -1,5 +1,5 @@
 use Rattle.std.proofs.Common.{sym, ◌∙◌, arith}
-use Rattle.stack_loader.proofs.ClosureLemmas.{joins_none, joins_written, joins_skipped, JoinsSoFar}
+use Rattle.stack_loader.proofs.ClosureLemmas.{joins_none, joins_written, joins_skipped}
 use Rattle.stack_loader.proofs.cycles.join.Goals as goal
 use Rattle.stack_loader.proofs.cycles.join.Goals.{then-contains, else-contains}
 

@@ -1,4 +1,4 @@
-use Rattle.std.proofs.Common.{◌≡◌, ◌+◌, suc, sym, ap, ◌∙◌, length, arith}
+use Rattle.std.proofs.Common.{◌≡◌, sym, ap, ◌∙◌, length, arith}
 use Rattle.std.proofs.lemmas.Slice.Eq.{bytes_eq-Decides}
 use Rattle.stack_loader.specs.Descend.{most_devices}
 use Rattle.stack_loader.specs.Depths.{round, rounds}

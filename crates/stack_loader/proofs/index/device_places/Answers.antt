@@ -2,7 +2,7 @@ use Rattle.std.proofs.Common.{◌-◌, ◌∙◌, arith}
 use Rattle.std.specs.Str.{bytes_eq}
 use Rattle.std.specs.HashMap.{get_by}
 use Rattle.std.proofs.lemmas.Map.Text.{hash_map_updates_str}
-use Rattle.stack_loader.proofs.Places.{more_places, all_places}
+use Rattle.stack_loader.proofs.PlaceLemmas.{more_places, all_places}
 use Rattle.stack_loader.proofs.index.device_places.Goals as goal
 
 pub loop-i-preserved : goal.loop-i-preserved

@@ -2,7 +2,7 @@ use Rattle.std.proofs.Common.{None, Some, ◌∙◌}
 use Rattle.std.proofs.lemmas.Slice.Eq.{strip_prefix_is}
 use Rattle.std.proofs.lemmas.Bool.Decides.{Decides-eqb}
 use Rattle.dm_table.specs.Names.{mapper}
-use Rattle.stack_loader.proofs.Places.{no_path, path_place}
+use Rattle.stack_loader.proofs.PlaceLemmas.{no_path, path_place}
 use Rattle.stack_loader.proofs.index.path_place.Goals as goal
 
 pub returns-in_err-name : goal.returns-in_err-name

@@ -1,5 +1,3 @@
-use Rattle.std.proofs.Common.{◌≡◌}
-use Rattle.std.proofs.Common.{length}
 use Rattle.stack_loader.proofs.LowerSetLemmas.{SetsSoFar}
 use Rattle.stack_loader.proofs.lower_sets.lower_sets.Given as goal
 

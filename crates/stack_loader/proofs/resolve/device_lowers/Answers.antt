@@ -2,20 +2,20 @@ use Rattle.std.proofs.Common.{◌≡◌, ◌+◌, take, refl}
 use Rattle.std.proofs.lemmas.List.{take_all}
 use Rattle.stack_loader.specs.declared.refusal.LoadKind.TheVariants.{NoSuchDevice}
 use Rattle.stack_loader.specs.Rules.{first, unknown_in}
-use Rattle.stack_loader.proofs.Meanings.{found-none, found-some, rows_more}
-use Rattle.stack_loader.proofs.Scan.{scan_found, scan_more, scan_end}
-use Rattle.stack_loader.proofs.Unknown.{unknown_line}
+use Rattle.stack_loader.proofs.MeaningLemmas.{found-none, found-some, rows_more}
+use Rattle.stack_loader.proofs.ScanLemmas.{scan_found, scan_more, scan_end}
+use Rattle.stack_loader.proofs.UnknownNameLemmas.{unknown_line}
 use Rattle.stack_loader.proofs.resolve.device_lowers.Goals as goal
 
 pub returns-in-None : goal.returns-in-None
 returns-in-None c = λ c' is.
     scan_found (unknown_line c' c.args.d) c.args.lines.now c.loop-i.i (c.loop-i.i + 1) c.index-lines-i.result (record { kind = NoSuchDevice; device = c.args.d; line = c.loop-i.i + 1 }) (first (unknown_in c' c.args.d c.args.lines.now))
     c.loop-i-test.true c.index-lines-i.is
-    (found-none c' c.args.d (c.loop-i.i + 1) c.index-lines-i.result c.bases_of.result.now c.bases_of.ensures (rw c.in-None.is at (c.in_ok-row.ensures c' is))) (c.loop-i.invariant c' is).1
+    (found-none c' c.args.d (c.loop-i.i + 1) c.index-lines-i.result (rw c.in-None.is at (c.in_ok-row.ensures c' is))) (c.loop-i.invariant c' is).1
 
 pub loop-i-preserved : goal.loop-i-preserved
 loop-i-preserved c = λ c' is.
-    let f = found-some c' c.args.d (c.loop-i.i + 1) c.index-lines-i.result c.bases_of.result.now c.in-Some.row c.bases_of.ensures (rw c.in-Some.is at (c.in_ok-row.ensures c' is)) in
+    let f = found-some c' c.args.d (c.loop-i.i + 1) c.index-lines-i.result c.in-Some.row (rw c.in-Some.is at (c.in_ok-row.ensures c' is)) in
     let inv = c.loop-i.invariant c' is in (
       rw c.in_ok-push-in-Some.ensures.items (rows_more c' c.loop-i.rows.items c.args.lines.now c.loop-i.i c.index-lines-i.result c.in-Some.row c.loop-i-test.true c.index-lines-i.is f.0 inv.0),
       scan_more (unknown_line c' c.args.d) c.args.lines.now c.loop-i.i (c.loop-i.i + 1) c.index-lines-i.result (first (unknown_in c' c.args.d c.args.lines.now)) c.loop-i-test.true c.index-lines-i.is refl f.1 inv.1,

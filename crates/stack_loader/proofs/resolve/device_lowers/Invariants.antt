@@ -3,8 +3,8 @@ use Rattle.stack_loader.specs.Records.{Configuration}
 use Rattle.stack_loader.specs.Index.{IsIndex}
 use Rattle.stack_loader.specs.Passing.{RowsMean}
 use Rattle.stack_loader.specs.Rules.{first, unknown_in}
-use Rattle.stack_loader.proofs.Scan.{scan}
-use Rattle.stack_loader.proofs.Unknown.{unknown_line}
+use Rattle.stack_loader.proofs.ScanLemmas.{scan}
+use Rattle.stack_loader.proofs.UnknownNameLemmas.{unknown_line}
 use Rattle.stack_loader.proofs.resolve.device_lowers.Given as goal
 
 abbrev pub invariant-loop-i : goal.invariant-loop-i

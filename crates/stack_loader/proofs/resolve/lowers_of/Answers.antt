@@ -5,9 +5,9 @@ use Rattle.stack_loader.specs.Records.{Configuration, configuration}
 use Rattle.stack_loader.specs.Kept.{AreLowers}
 use Rattle.stack_loader.specs.Passing.{RowsMean}
 use Rattle.stack_loader.specs.Rules.{first, unknown_in, unknown_names}
-use Rattle.stack_loader.proofs.Meanings.{tables_more}
-use Rattle.stack_loader.proofs.Passed.{passed_found}
-use Rattle.stack_loader.proofs.Scan.{scan_more, scan_end}
+use Rattle.stack_loader.proofs.MeaningLemmas.{tables_more}
+use Rattle.stack_loader.proofs.PassingLemmas.{passed_found}
+use Rattle.stack_loader.proofs.ScanLemmas.{scan_more, scan_end}
 use Rattle.stack_loader.proofs.resolve.lowers_of.Goals as goal
 
 pub returns-in_err-device_lowers : goal.returns-in_err-device_lowers

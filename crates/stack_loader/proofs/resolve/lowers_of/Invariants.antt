@@ -2,7 +2,7 @@ use Rattle.std.proofs.Common.{◌≡◌, ◌+◌, Some, map, drop, take}
 use Rattle.stack_loader.specs.Records.{configuration}
 use Rattle.stack_loader.specs.Kept.{meanings}
 use Rattle.stack_loader.specs.Rules.{first, unknown_in, unknown_names}
-use Rattle.stack_loader.proofs.Scan.{scan}
+use Rattle.stack_loader.proofs.ScanLemmas.{scan}
 use Rattle.stack_loader.proofs.resolve.lowers_of.Given as goal
 
 abbrev pub invariant-loop-i : goal.invariant-loop-i

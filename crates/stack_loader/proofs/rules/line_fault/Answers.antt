@@ -1,6 +1,6 @@
 use Rattle.std.proofs.Common.{refl, sym, ◌∙◌, arith}
 use Rattle.stack_loader.specs.Records.{configuration}
-use Rattle.stack_loader.proofs.Beyond.{line-last}
+use Rattle.stack_loader.proofs.BeyondLemmas.{line-last}
 use Rattle.stack_loader.proofs.rules.line_fault.Goals as goal
 use Rattle.stack_loader.proofs.rules.line_fault.Goals.{else-writable-via-then-writable+else-has_read_only, else-writable-via-else-writable}
 

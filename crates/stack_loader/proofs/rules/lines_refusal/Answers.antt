@@ -1,8 +1,8 @@
 use Rattle.std.proofs.Common.{◌+◌, sym, refl}
 use Rattle.stack_loader.specs.Records.{Configuration, configuration}
 use Rattle.stack_loader.specs.Rules.{first, each_device, table_rules}
-use Rattle.stack_loader.proofs.Meanings.{table-at}
-use Rattle.stack_loader.proofs.Scan.{scan_found, scan_more, scan_end}
+use Rattle.stack_loader.proofs.MeaningLemmas.{table-at}
+use Rattle.stack_loader.proofs.ScanLemmas.{scan_found, scan_more, scan_end}
 use Rattle.stack_loader.proofs.rules.lines_refusal.Goals as goal
 
 pub table_refusal-requires-clause-rows : goal.table_refusal-requires-clause-rows

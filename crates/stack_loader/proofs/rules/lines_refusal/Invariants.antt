@@ -1,7 +1,7 @@
 use Rattle.std.proofs.Common.{◌≡◌, ◌+◌, drop}
 use Rattle.stack_loader.specs.Records.{configuration}
 use Rattle.stack_loader.specs.Rules.{first, table_rules, each_device}
-use Rattle.stack_loader.proofs.Scan.{scan}
+use Rattle.stack_loader.proofs.ScanLemmas.{scan}
 use Rattle.stack_loader.proofs.rules.lines_refusal.Given as goal
 
 abbrev pub invariant-loop-i : goal.invariant-loop-i

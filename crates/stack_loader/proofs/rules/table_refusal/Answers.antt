@@ -5,9 +5,9 @@ use Rattle.dm_table.specs.Grammar.{IsLineOfGrammar}
 use Rattle.stack_loader.specs.Records.{Configuration, configuration}
 use Rattle.stack_loader.specs.Names.{sectors_of}
 use Rattle.stack_loader.specs.Rules.{first, line_rules}
-use Rattle.stack_loader.proofs.Meanings.{row-at, length-rows}
-use Rattle.stack_loader.proofs.Scan.{scan, scan_found, scan_more, scan_end}
-use Rattle.stack_loader.proofs.Tables.{line_of_table}
+use Rattle.stack_loader.proofs.MeaningLemmas.{row-at, length-rows}
+use Rattle.stack_loader.proofs.ScanLemmas.{scan, scan_found, scan_more, scan_end}
+use Rattle.stack_loader.proofs.TableLemmas.{line_of_table}
 use Rattle.stack_loader.proofs.rules.table_refusal.Goals as goal
 
 pub line_fault-requires-clause-lowers : goal.line_fault-requires-clause-lowers

@@ -1,8 +1,8 @@
 use Rattle.std.proofs.Common.{◌≡◌, ◌≤◌, ◌*◌, ◌^◌, ◌+◌, drop, take}
 use Rattle.stack_loader.specs.Records.{configuration}
 use Rattle.stack_loader.specs.Names.{sectors_of}
-use Rattle.stack_loader.proofs.Scan.{scan}
-use Rattle.stack_loader.proofs.Tables.{line_of_table}
+use Rattle.stack_loader.proofs.ScanLemmas.{scan}
+use Rattle.stack_loader.proofs.TableLemmas.{line_of_table}
 use Rattle.stack_loader.proofs.rules.table_refusal.Given as goal
 
 abbrev pub invariant-loop-i : goal.invariant-loop-i

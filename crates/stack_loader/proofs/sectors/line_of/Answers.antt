@@ -1,5 +1,5 @@
 use Rattle.std.proofs.Common.{arith}
-use Rattle.stack_loader.proofs.LineOf.{IsIn-found}
+use Rattle.stack_loader.proofs.LineOfLemmas.{IsIn-found}
 use Rattle.stack_loader.proofs.sectors.line_of.Goals as goal
 
 pub overflow_sub-result-2 : goal.overflow_sub-result-2

@@ -21,6 +21,18 @@ returns-in-Some-Read-clause-value c =
     c.read_of.ensures.value
     ∙ sym (request_of-words c.args.line.now c.in-Some.word.now c.next_word.new.self _ (sym c.new-words.ensures ∙ c.in-Some.ensures) verb)
 
+pub returns-in-Some-Write-clause-value : goal.returns-in-Some-Write-clause-value
+returns-in-Some-Write-clause-value c =
+    let verb = rw c.in-Some-Write.field-0-is at c.in-Some-Write.ensures in
+    c.write_of.ensures.value
+    ∙ sym (request_of-words c.args.line.now c.in-Some.word.now c.next_word.new.self _ (sym c.new-words.ensures ∙ c.in-Some.ensures) verb)
+
+pub returns-in-Some-Remove-clause-value : goal.returns-in-Some-Remove-clause-value
+returns-in-Some-Remove-clause-value c =
+    let verb = rw c.in-Some-Remove.field-0-is at c.in-Some-Remove.ensures in
+    c.remove_of.ensures.value
+    ∙ sym (request_of-words c.args.line.now c.in-Some.word.now c.next_word.new.self _ (sym c.new-words.ensures ∙ c.in-Some.ensures) verb)
+
 pub returns-in-Some-Cost-clause-value : goal.returns-in-Some-Cost-clause-value
 returns-in-Some-Cost-clause-value c =
     let verb = rw c.in-Some-Cost.field-0-is at c.in-Some-Cost.ensures in

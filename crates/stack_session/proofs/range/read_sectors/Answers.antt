@@ -2,7 +2,7 @@ use Rattle.std.proofs.Common.{◌≡◌, ◌⊎◌, ◌∙◌, ap, refl, arith, 
 use Rattle.stack_engine.specs.declared.fault.IoFault.TheVariants.{NoMemory}
 use Rattle.stack_engine.specs.Pieces.{EachPiece}
 use Rattle.stack_session.specs.Ranges.{reads_none, ReadsAll}
-use Rattle.stack_session.proofs.RangeLemmas.{exit_err, reads_next}
+use Rattle.stack_session.proofs.RangeLemmas.{exit_err, reads_next, readable_after}
 use Rattle.stack_session.proofs.range.read_sectors.Goals as goal
 
 pub pieces-init : goal.pieces-init
@@ -14,28 +14,22 @@ pieces-init g c = record {
   room = omega (arith, c.in-Ok.ensures.capacity);
 }
 
-pub returns-in_err-read_next-clause-err : goal.returns-in_err-read_next-clause-err
-returns-in_err-read_next-clause-err g c =
-    exit_err c.from_residual.result c.in_err-read_next.field-0.0
+pub returns-in_err-n-clause-err : goal.returns-in_err-n-clause-err
+returns-in_err-n-clause-err g c =
+    exit_err c.from_residual.result c.in_err-n.field-0.0
     (λ fault. ReadsAll EachPiece c.args.stack.now c.args.range (Err fault) c.read_next.new.stack
     ⊎ ((fault ≡ NoMemory) × (c.read_next.new.stack ≡ c.args.stack.now)))
     c.from_residual.ensures.1
-    (inl (c.pieces.bytes.items, c.pieces.stack, c.pieces.rest, c.pieces.invariant.reads, c.pieces-test.true, c.in_err-read_next.ensures.err))
+    (inl (c.pieces.bytes.items, c.pieces.stack, c.pieces.rest, c.pieces.invariant.reads, c.pieces-test.true, c.in_err-n.ensures.err))
 
 pub pieces-preserved : goal.pieces-preserved
 pieces-preserved g c =
-    let next = c.in_ok-read_next.ensures.ok in
-    let count = c.from-n.ensures in
+    let next = c.in_ok-n.ensures.ok in
     let readable = c.pieces.invariant.readable in
     record {
-      reads = rw count (reads_next c.read_next.new.stack c.pieces.invariant.reads c.pieces-test.true next);
-      config = c.in_ok-read_next.ensures.config ∙ c.pieces.invariant.config;
-      readable = record {
-        device = readable.device;
-        inside = omega (arith, count, next.most, readable.inside);
-        count = omega (arith, readable.count);
-        fits = omega (arith, count, next.most, readable.fits);
-      };
-      len = omega (arith, count, next.most, next.len, ap length next.appended, length-append c.pieces.bytes.items next.got.bytes, c.pieces.invariant.len);
-      room = omega (arith, c.in_ok-read_next.ensures.capacity, c.pieces.invariant.room);
+      reads = rw c.after-rest.ensures (reads_next c.read_next.new.stack c.pieces.invariant.reads c.pieces-test.true next);
+      config = c.in_ok-n.ensures.config ∙ c.pieces.invariant.config;
+      readable = rw c.after-rest.ensures (readable_after readable next.most);
+      len = rw c.after-rest.ensures (omega (arith, next.most, next.len, ap length next.appended, length-append c.pieces.bytes.items next.got.bytes, c.pieces.invariant.len));
+      room = omega (arith, c.in_ok-n.ensures.capacity, c.pieces.invariant.room);
     }

@@ -1,16 +1,15 @@
-use Rattle.std.proofs.Common.{◌≡◌, ◌*◌, ◌%◌, ◌∙◌, ℕ, List, true, refl, sym, ap, subst, length, arith, inr}
-use Rattle.std.specs.List.{concat}
+use Rattle.std.proofs.Common.{◌≡◌, ◌≤◌, ◌+◌, ◌*◌, ◌/◌, ◌%◌, ◌∙◌, ℕ, List, IsTrue, true, false, refl, sym, ap, subst, length, arith, inl, inr}
 use Rattle.std.proofs.lemmas.Result.{err_from_is_err_and}
-use Rattle.block_device.specs.Device.{Device, IsWritten}
-use Rattle.hash_tree.specs.Shape.{ShapeRecord, IsShape, area_blocks}
+use Rattle.block_device.specs.Device.{Device, IsWritten, spliced, sectors_of}
+use Rattle.hash_tree.specs.Shape.{ShapeRecord}
 use Rattle.verity_format.specs.Superblock.{SuperRecord, shape_of}
-use Rattle.verity_format.specs.Blocks.{IsFullRead, IsOnlyWritten}
-use Rattle.verity_format.specs.Access.{IsTreeOver}
-use Rattle.verity_format.specs.Image.{data_sectors, first_block, area_over, root_over}
+use Rattle.verity_format.specs.Blocks.{IsOnlyWritten}
+use Rattle.verity_format.specs.Image.{data_sectors, image_sectors, formatted}
+use Rattle.verity_format.specs.Writing.{IsPartOfTree, IsTreeWritten}
 use Rattle.verity_format.proofs.RefusalLemmas.{fits-from_none, refusal-cause}
 use Rattle.verity_format.proofs.SizeLemmas.{block-size}
-use Rattle.verity_format.proofs.DeviceLemmas.{only_written-write}
-use Rattle.verity_format.proofs.FormattingLemmas.{IsContent, content-made, image-formatted, torn-only_written, torn-cause, tree-cause}
+use Rattle.verity_format.proofs.DeviceLemmas.{only_written-write, only_written-then, failed-then, steady-then}
+use Rattle.verity_format.proofs.FormattingLemmas.{first-within, part-only_written, tree-cause, first-then, formatted-is, fails-at_first, written-shape}
 use Rattle.verity_format.proofs.formatting.format.Goals as goal
 
 pub returns-in_err-check_devices-clause-err : goal.returns-in_err-check_devices-clause-err
@@ -18,79 +17,176 @@ returns-in_err-check_devices-clause-err g c =
     let p = err_from_is_err_and c.from_residual.result c.from_residual.ensures.1 in
     rw (p.1, p.2) (refusal-cause c.args.params (g.D.BlockDev.state c.args.data_dev.now) (g.H.BlockDev.state c.args.hash_dev.now) (g.D.BlockDev.state c.args.data_dev.now) (g.H.BlockDev.state c.args.hash_dev.now) _ (sym c.in_err-check_devices.ensures))
 
-pub tree_over-requires : goal.tree_over-requires
-tree_over-requires g c =
-    let fits = fits-from_none c.args.params (g.D.BlockDev.state c.args.data_dev.now) (g.H.BlockDev.state c.args.hash_dev.now) (sym c.in_ok-check_devices.ensures) in
-    omega (arith, fits.0, ap data_sectors c.shape.ensures.value)
+pub write_tree-requires-clause-start : goal.write_tree-requires-clause-start
+write_tree-requires-clause-start g c = ap (λ (t : ShapeRecord). t.start) c.shape-shape.ensures.value
 
-pub returns-in_err-area-clause-err : goal.returns-in_err-area-clause-err
-returns-in_err-area-clause-err g c =
-    let p = err_from_is_err_and c.from_residual-in_err-area.result c.from_residual-in_err-area.ensures.1 in
-    rw (p.1, p.2) (tree-cause c.args.params (g.D.BlockDev.state c.args.data_dev.now) (g.H.BlockDev.state c.args.hash_dev.now) (g.D.BlockDev.state c.tree_over.new.device) _ c.in_err-area.ensures.fault)
+pub write_tree-requires-clause-data_room : goal.write_tree-requires-clause-data_room
+write_tree-requires-clause-data_room g c =
+    let s : SuperRecord = c.args.params in
+    let data_dev = g.D.BlockDev.state c.args.data_dev.now in
+    let hash_dev = g.H.BlockDev.state c.args.hash_dev.now in
+    let fits = fits-from_none s data_dev hash_dev (sym c.in_ok-check_devices.ensures) in
+    omega (arith, fits.0, ap data_sectors c.shape-shape.ensures.value)
 
--- the content that is written
-content-of : (s : SuperRecord) (shape : ShapeRecord) (salt : List ℕ) (data_dev data_dev' : Device) (first area bytes root : List ℕ) → IsShape (shape_of s) → shape ≡ shape_of s → salt ≡ s.salt
-    → first ≡ first_block s → length first ≡ s.hash_block → area ≡ bytes → IsTreeOver shape salt data_dev data_dev' bytes root → IsContent s data_dev first area
-content-of s shape salt data_dev data_dev' first area bytes root valid is salted first_is long same over =
-    content-made s data_dev first area valid first_is long (ap length same ∙ over.size ∙ ap (λ t. area_blocks t * t.hash_block) is)
-    (λ steady. same ∙ over.area steady ∙ ap (λ t. concat (area_over t salt data_dev.image)) is ∙ ap (λ salt. concat (area_over (shape_of s) salt data_dev.image)) salted)
+pub write_tree-requires-clause-tree_room : goal.write_tree-requires-clause-tree_room
+write_tree-requires-clause-tree_room g c =
+    let s : SuperRecord = c.args.params in
+    let data_dev = g.D.BlockDev.state c.args.data_dev.now in
+    let hash_dev = g.H.BlockDev.state c.args.hash_dev.now in
+    let fits = fits-from_none s data_dev hash_dev (sym c.in_ok-check_devices.ensures) in
+    omega (arith, fits.1, ap image_sectors c.shape-shape.ensures.value)
 
-pub write_image-requires-clause-some : goal.write_image-requires-clause-some
-write_image-requires-clause-some g c =
-    let block = block-size c.args.params.hash_block c.shape.ensures.valid.hash_size in
-    omega (arith, ap length c.deref.ensures.value, c.in_ok-first.ensures.size, block.some)
-
-pub write_image-requires-clause-first : goal.write_image-requires-clause-first
-write_image-requires-clause-first g c =
-    let block = block-size c.args.params.hash_block c.shape.ensures.valid.hash_size in
-    let size : length c.deref.result.now ≡ c.args.params.hash_block = ap length c.deref.ensures.value ∙ c.in_ok-first.ensures.size in
-    ap (λ n. n % 512) size ∙ block.whole
-
-pub write_image-requires-clause-inside : goal.write_image-requires-clause-inside
-write_image-requires-clause-inside g c =
-    let fits = fits-from_none c.args.params (g.D.BlockDev.state c.args.data_dev.now) (g.H.BlockDev.state c.args.hash_dev.now) (sym c.in_ok-check_devices.ensures) in
-    let content = content-of c.args.params c.shape.result c.salt.result (g.D.BlockDev.state c.args.data_dev.now) (g.D.BlockDev.state c.tree_over.new.device) c.deref.result.now c.deref-2.result.now _ _ c.shape.ensures.valid c.shape.ensures.value c.salt.ensures (c.deref.ensures.value ∙ c.in_ok-first.ensures.value) (ap length c.deref.ensures.value ∙ c.in_ok-first.ensures.size) c.deref-2.ensures.value c.in_ok-area.ensures.tree in
-    omega (arith, content.count, fits.1)
-
-pub write_image-requires-clause-allowed : goal.write_image-requires-clause-allowed
-write_image-requires-clause-allowed g c =
-    let fits = fits-from_none c.args.params (g.D.BlockDev.state c.args.data_dev.now) (g.H.BlockDev.state c.args.hash_dev.now) (sym c.in_ok-check_devices.ensures) in
+pub write_tree-requires-clause-allowed : goal.write_tree-requires-clause-allowed
+write_tree-requires-clause-allowed g c =
+    let s : SuperRecord = c.args.params in
+    let data_dev = g.D.BlockDev.state c.args.data_dev.now in
+    let hash_dev = g.H.BlockDev.state c.args.hash_dev.now in
+    let fits = fits-from_none s data_dev hash_dev (sym c.in_ok-check_devices.ensures) in
     rw fits.2 refl
 
-pub returns-in_err-write_image-clause-devices : goal.returns-in_err-write_image-clause-devices
-returns-in_err-write_image-clause-devices g c =
-    let content = content-of c.args.params c.shape.result c.salt.result (g.D.BlockDev.state c.args.data_dev.now) (g.D.BlockDev.state c.tree_over.new.device) c.deref.result.now c.deref-2.result.now _ _ c.shape.ensures.valid c.shape.ensures.value c.salt.ensures (c.deref.ensures.value ∙ c.in_ok-first.ensures.value) (ap length c.deref.ensures.value ∙ c.in_ok-first.ensures.size) c.deref-2.ensures.value c.in_ok-area.ensures.tree in
+pub returns-in_err-root-clause-devices : goal.returns-in_err-root-clause-devices
+returns-in_err-root-clause-devices g c =
+    let s : SuperRecord = c.args.params in
+    let data_dev = g.D.BlockDev.state c.args.data_dev.now in
     let hash_dev = g.H.BlockDev.state c.args.hash_dev.now in
-    let hash_dev' = g.H.BlockDev.state c.write_image.new.hash_dev in
-    (c.tree_over.ensures.read, subst (λ (n : ℕ). IsOnlyWritten hash_dev n hash_dev') content.count (torn-only_written hash_dev hash_dev' c.deref.result.now c.deref-2.result.now c.in_err-write_image.ensures.torn))
+    let fits = fits-from_none s data_dev hash_dev (sym c.in_ok-check_devices.ensures) in
+    let data_dev' = g.D.BlockDev.state c.write_tree.new.data_dev in
+    let mid = g.H.BlockDev.state c.write_tree.new.hash_dev in
+    let part : IsPartOfTree (shape_of s) hash_dev mid = subst (λ (t : ShapeRecord). IsPartOfTree t hash_dev mid) c.shape-shape.ensures.value c.write_tree.ensures.part in
+    (c.write_tree.ensures.read, part-only_written (shape_of s) hash_dev mid part)
 
-pub returns-in_err-write_image-clause-err : goal.returns-in_err-write_image-clause-err
-returns-in_err-write_image-clause-err g c =
-    let p = err_from_is_err_and c.from_residual-in_err-write_image.result c.from_residual-in_err-write_image.ensures.1 in
-    let content = content-of c.args.params c.shape.result c.salt.result (g.D.BlockDev.state c.args.data_dev.now) (g.D.BlockDev.state c.tree_over.new.device) c.deref.result.now c.deref-2.result.now _ _ c.shape.ensures.valid c.shape.ensures.value c.salt.ensures (c.deref.ensures.value ∙ c.in_ok-first.ensures.value) (ap length c.deref.ensures.value ∙ c.in_ok-first.ensures.size) c.deref-2.ensures.value c.in_ok-area.ensures.tree in
+pub returns-in_err-root-clause-err : goal.returns-in_err-root-clause-err
+returns-in_err-root-clause-err g c =
+    let p = err_from_is_err_and c.from_residual-in_err-root.result c.from_residual-in_err-root.ensures.1 in
+    let s : SuperRecord = c.args.params in
+    let data_dev = g.D.BlockDev.state c.args.data_dev.now in
     let hash_dev = g.H.BlockDev.state c.args.hash_dev.now in
-    let hash_dev' = g.H.BlockDev.state c.write_image.new.hash_dev in
-    rw (p.1, p.2) (inr (torn-cause c.args.params (g.D.BlockDev.state c.args.data_dev.now) hash_dev hash_dev' c.deref.result.now c.deref-2.result.now content c.in_err-write_image.ensures.fault c.in_err-write_image.ensures.torn))
+    let fits = fits-from_none s data_dev hash_dev (sym c.in_ok-check_devices.ensures) in
+    let data_dev' = g.D.BlockDev.state c.write_tree.new.data_dev in
+    let mid = g.H.BlockDev.state c.write_tree.new.hash_dev in
+    let part : IsPartOfTree (shape_of s) hash_dev mid = subst (λ (t : ShapeRecord). IsPartOfTree t hash_dev mid) c.shape-shape.ensures.value c.write_tree.ensures.part in
+    rw (p.1, p.2) (tree-cause s data_dev hash_dev data_dev' mid _ part c.in_err-root.ensures.fault)
+
+pub write-requires-clause-range : goal.write-requires-clause-range
+write-requires-clause-range g c =
+    let s : SuperRecord = c.args.params in
+    let data_dev = g.D.BlockDev.state c.args.data_dev.now in
+    let hash_dev = g.H.BlockDev.state c.args.hash_dev.now in
+    let fits = fits-from_none s data_dev hash_dev (sym c.in_ok-check_devices.ensures) in
+    let data_dev' = g.D.BlockDev.state c.write_tree.new.data_dev in
+    let mid = g.H.BlockDev.state c.write_tree.new.hash_dev in
+    let part : IsPartOfTree (shape_of s) hash_dev mid = subst (λ (t : ShapeRecord). IsPartOfTree t hash_dev mid) c.shape-shape.ensures.value c.write_tree.ensures.part in
+    let block = block-size s.hash_block c.shape-shape.ensures.valid.hash_size in
+    let size : length c.deref.result.now ≡ s.hash_block = ap length c.deref.ensures.value ∙ c.in_ok-first.ensures.size in
+    let k : ℕ = length c.deref.result.now / 512 in
+    let count : k ≡ s.hash_block / 512 = ap (λ n. n / 512) size in
+    let low : 0 + k ≤ image_sectors (shape_of s) = first-within (shape_of s) k count in
+    record {
+      some = omega (arith, size, block.some);
+      whole = ap (λ n. n % 512) size ∙ block.whole;
+      inside = omega (arith, low, fits.1, part.same.size);
+    }
+
+pub write-requires-clause-allowed : goal.write-requires-clause-allowed
+write-requires-clause-allowed g c =
+    let s : SuperRecord = c.args.params in
+    let data_dev = g.D.BlockDev.state c.args.data_dev.now in
+    let hash_dev = g.H.BlockDev.state c.args.hash_dev.now in
+    let fits = fits-from_none s data_dev hash_dev (sym c.in_ok-check_devices.ensures) in
+    let data_dev' = g.D.BlockDev.state c.write_tree.new.data_dev in
+    let mid = g.H.BlockDev.state c.write_tree.new.hash_dev in
+    let part : IsPartOfTree (shape_of s) hash_dev mid = subst (λ (t : ShapeRecord). IsPartOfTree t hash_dev mid) c.shape-shape.ensures.value c.write_tree.ensures.part in
+    let allowed : IsTrue hash_dev.may_write = rw fits.2 refl in
+    subst IsTrue (sym part.same.may_write) allowed
+
+pub returns-in_err-write-clause-devices : goal.returns-in_err-write-clause-devices
+returns-in_err-write-clause-devices g c =
+    let s : SuperRecord = c.args.params in
+    let data_dev = g.D.BlockDev.state c.args.data_dev.now in
+    let hash_dev = g.H.BlockDev.state c.args.hash_dev.now in
+    let fits = fits-from_none s data_dev hash_dev (sym c.in_ok-check_devices.ensures) in
+    let data_dev' = g.D.BlockDev.state c.write_tree.new.data_dev in
+    let mid = g.H.BlockDev.state c.write_tree.new.hash_dev in
+    let part : IsPartOfTree (shape_of s) hash_dev mid = subst (λ (t : ShapeRecord). IsPartOfTree t hash_dev mid) c.shape-shape.ensures.value c.write_tree.ensures.part in
+    let block = block-size s.hash_block c.shape-shape.ensures.valid.hash_size in
+    let size : length c.deref.result.now ≡ s.hash_block = ap length c.deref.ensures.value ∙ c.in_ok-first.ensures.size in
+    let k : ℕ = length c.deref.result.now / 512 in
+    let count : k ≡ s.hash_block / 512 = ap (λ n. n / 512) size in
+    let low : 0 + k ≤ image_sectors (shape_of s) = first-within (shape_of s) k count in
+    let hash_dev' = g.H.BlockDev.state c.write.new.self in (
+      c.write_tree.ensures.read,
+      only_written-then (image_sectors (shape_of s)) (part-only_written (shape_of s) hash_dev mid part) (only_written-write 0 k (image_sectors (shape_of s)) c.in_err-write.ensures.moved low),
+    )
+
+pub returns-in_err-write-clause-err : goal.returns-in_err-write-clause-err
+returns-in_err-write-clause-err g c =
+    let p = err_from_is_err_and c.from_residual-in_err-write.result c.from_residual-in_err-write.ensures.1 in
+    let s : SuperRecord = c.args.params in
+    let data_dev = g.D.BlockDev.state c.args.data_dev.now in
+    let hash_dev = g.H.BlockDev.state c.args.hash_dev.now in
+    let fits = fits-from_none s data_dev hash_dev (sym c.in_ok-check_devices.ensures) in
+    let data_dev' = g.D.BlockDev.state c.write_tree.new.data_dev in
+    let mid = g.H.BlockDev.state c.write_tree.new.hash_dev in
+    let part : IsPartOfTree (shape_of s) hash_dev mid = subst (λ (t : ShapeRecord). IsPartOfTree t hash_dev mid) c.shape-shape.ensures.value c.write_tree.ensures.part in
+    let block = block-size s.hash_block c.shape-shape.ensures.valid.hash_size in
+    let size : length c.deref.result.now ≡ s.hash_block = ap length c.deref.ensures.value ∙ c.in_ok-first.ensures.size in
+    let k : ℕ = length c.deref.result.now / 512 in
+    let count : k ≡ s.hash_block / 512 = ap (λ n. n / 512) size in
+    let low : 0 + k ≤ image_sectors (shape_of s) = first-within (shape_of s) k count in
+    let hash_dev' = g.H.BlockDev.state c.write.new.self in
+    let written : IsTreeWritten (shape_of s) s.salt data_dev hash_dev data_dev' mid c.in_ok-root.root =
+    written-shape c.shape-shape.result (shape_of s) c.salt.result s.salt data_dev hash_dev data_dev' mid _ c.shape-shape.ensures.value c.salt.ensures c.in_ok-root.ensures.written in
+    let whole = g.met.H.BlockDev.whole c.write_tree.new.hash_dev in
+    let room : image_sectors (shape_of s) ≤ length mid.image = omega (arith, fits.1, part.same.size, whole.length) in
+    let image : IsTrue data_dev.steady → IsTrue hash_dev.steady → spliced mid.image 0 (sectors_of k c.deref.result.now) ≡ formatted s data_dev.image hash_dev.image = λ data_steady steady.
+    formatted-is s data_dev.image hash_dev.image mid.image c.deref.result.now c.shape-shape.ensures.valid whole.sectors room (c.deref.ensures.value ∙ c.in_ok-first.ensures.value) size (written.tree data_steady steady) (part.after steady) in
+    rw (p.1, p.2)
+    (inr (inr (fails-at_first s data_dev hash_dev mid hash_dev' c.deref.result.now c.in_err-write.ensures.fault written.failures (failed-then hash_dev mid hash_dev' written.failures c.in_err-write.ensures.fault) size part written.writes
+    c.in_err-write.ensures.moved image)))
 
 pub returns-clause-devices : goal.returns-clause-devices
 returns-clause-devices g c =
-    let content = content-of c.args.params c.shape.result c.salt.result (g.D.BlockDev.state c.args.data_dev.now) (g.D.BlockDev.state c.tree_over.new.device) c.deref.result.now c.deref-2.result.now _ _ c.shape.ensures.valid c.shape.ensures.value c.salt.ensures (c.deref.ensures.value ∙ c.in_ok-first.ensures.value) (ap length c.deref.ensures.value ∙ c.in_ok-first.ensures.size) c.deref-2.ensures.value c.in_ok-area.ensures.tree in
+    let s : SuperRecord = c.args.params in
+    let data_dev = g.D.BlockDev.state c.args.data_dev.now in
     let hash_dev = g.H.BlockDev.state c.args.hash_dev.now in
-    let hash_dev' = g.H.BlockDev.state c.write_image.new.hash_dev in
-    (c.tree_over.ensures.read, subst (λ (n : ℕ). IsOnlyWritten hash_dev n hash_dev') content.count (only_written-write 0 _ _ c.in_ok-write_image.ensures.ok.written (omega arith)))
+    let fits = fits-from_none s data_dev hash_dev (sym c.in_ok-check_devices.ensures) in
+    let data_dev' = g.D.BlockDev.state c.write_tree.new.data_dev in
+    let mid = g.H.BlockDev.state c.write_tree.new.hash_dev in
+    let part : IsPartOfTree (shape_of s) hash_dev mid = subst (λ (t : ShapeRecord). IsPartOfTree t hash_dev mid) c.shape-shape.ensures.value c.write_tree.ensures.part in
+    let block = block-size s.hash_block c.shape-shape.ensures.valid.hash_size in
+    let size : length c.deref.result.now ≡ s.hash_block = ap length c.deref.ensures.value ∙ c.in_ok-first.ensures.size in
+    let k : ℕ = length c.deref.result.now / 512 in
+    let count : k ≡ s.hash_block / 512 = ap (λ n. n / 512) size in
+    let low : 0 + k ≤ image_sectors (shape_of s) = first-within (shape_of s) k count in
+    let hash_dev' = g.H.BlockDev.state c.write.new.self in (
+      c.write_tree.ensures.read,
+      only_written-then (image_sectors (shape_of s)) (part-only_written (shape_of s) hash_dev mid part) (only_written-write 0 k (image_sectors (shape_of s)) c.in_ok-write.ensures.moved low),
+    )
 
 pub returns-clause-ok : goal.returns-clause-ok
 returns-clause-ok g c =
     let s : SuperRecord = c.args.params in
     let data_dev = g.D.BlockDev.state c.args.data_dev.now in
-    let data_dev' = g.D.BlockDev.state c.tree_over.new.device in
     let hash_dev = g.H.BlockDev.state c.args.hash_dev.now in
-    let hash_dev' = g.H.BlockDev.state c.write_image.new.hash_dev in
-    let content = content-of c.args.params c.shape.result c.salt.result (g.D.BlockDev.state c.args.data_dev.now) (g.D.BlockDev.state c.tree_over.new.device) c.deref.result.now c.deref-2.result.now _ _ c.shape.ensures.valid c.shape.ensures.value c.salt.ensures (c.deref.ensures.value ∙ c.in_ok-first.ensures.value) (ap length c.deref.ensures.value ∙ c.in_ok-first.ensures.size) c.deref-2.ensures.value c.in_ok-area.ensures.tree in
-    let tree = c.in_ok-area.ensures.tree in
+    let fits = fits-from_none s data_dev hash_dev (sym c.in_ok-check_devices.ensures) in
+    let data_dev' = g.D.BlockDev.state c.write_tree.new.data_dev in
+    let mid = g.H.BlockDev.state c.write_tree.new.hash_dev in
+    let part : IsPartOfTree (shape_of s) hash_dev mid = subst (λ (t : ShapeRecord). IsPartOfTree t hash_dev mid) c.shape-shape.ensures.value c.write_tree.ensures.part in
+    let block = block-size s.hash_block c.shape-shape.ensures.valid.hash_size in
+    let size : length c.deref.result.now ≡ s.hash_block = ap length c.deref.ensures.value ∙ c.in_ok-first.ensures.size in
+    let k : ℕ = length c.deref.result.now / 512 in
+    let count : k ≡ s.hash_block / 512 = ap (λ n. n / 512) size in
+    let low : 0 + k ≤ image_sectors (shape_of s) = first-within (shape_of s) k count in
+    let hash_dev' = g.H.BlockDev.state c.write.new.self in
+    let written : IsTreeWritten (shape_of s) s.salt data_dev hash_dev data_dev' mid c.in_ok-root.root =
+    written-shape c.shape-shape.result (shape_of s) c.salt.result s.salt data_dev hash_dev data_dev' mid _ c.shape-shape.ensures.value c.salt.ensures c.in_ok-root.ensures.written in
+    let whole = g.met.H.BlockDev.whole c.write_tree.new.hash_dev in
+    let room : image_sectors (shape_of s) ≤ length mid.image = omega (arith, fits.1, part.same.size, whole.length) in
+    let image : IsTrue data_dev.steady → IsTrue hash_dev.steady → spliced mid.image 0 (sectors_of k c.deref.result.now) ≡ formatted s data_dev.image hash_dev.image = λ data_steady steady.
+    formatted-is s data_dev.image hash_dev.image mid.image c.deref.result.now c.shape-shape.ensures.valid whole.sectors room (c.deref.ensures.value ∙ c.in_ok-first.ensures.value) size (written.tree data_steady steady) (part.after steady) in
     record {
-      read = subst (λ (t : ShapeRecord). IsFullRead data_dev (data_sectors t) data_dev') c.shape.ensures.value tree.read;
-      written = subst (λ (n : ℕ). IsWritten hash_dev 0 n true hash_dev') content.count c.in_ok-write_image.ensures.ok.written;
-      image = λ data_steady hash_steady. c.in_ok-write_image.ensures.ok.image hash_steady ∙ image-formatted s data_dev hash_dev.image _ _ content data_steady;
-      digest = λ steady. tree.root steady ∙ ap (λ t. root_over t c.salt.result data_dev.image) c.shape.ensures.value ∙ ap (λ salt. root_over (shape_of s) salt data_dev.image) c.salt.ensures;
+      read = written.read;
+      written = first-then (shape_of s) hash_dev mid hash_dev' k true count part written.writes written.failures c.in_ok-write.ensures.moved;
+      image = λ data_steady steady. c.in_ok-write.ensures.image (steady-then part.same steady) ∙ image data_steady steady;
+      digest = λ steady. written.root steady;
     }

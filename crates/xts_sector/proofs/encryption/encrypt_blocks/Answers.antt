@@ -1,55 +1,58 @@
-use Rattle.std.proofs.Common.{◌≡◌, ℕ, ◌/◌, List, length, sym, ap, ◌∙◌, refl, arith}
-use borrow.Author.Count.{below_more}
-use Rattle.xts_sector.specs.Blocks.{block, joined}
-use Rattle.xts_sector.specs.Tweak.{times_alpha, times_alpha_power}
+use Rattle.std.proofs.Common.{◌≡◌, ℕ, ◌*◌, ◌/◌, ◌-◌, ◌+◌, ◌<◌, ◌≤◌, length, take, drop, min, sym, ap, ◌∙◌, arith}
+use Rattle.std.proofs.lemmas.List.{length-take-le, length-drop}
+use Rattle.aes_block.specs.Blocks.{block, joined}
+use Rattle.aes_block.proofs.lemmas.PartLemmas.{IsWrittenTo-none, IsWrittenTo-all}
+use Rattle.xts_sector.specs.Tweak.{block_of, times_alpha_power}
 use Rattle.xts_sector.specs.Xts.{encrypted_block, decrypted_block, encrypted_blocks, decrypted_blocks}
-use Rattle.xts_sector.proofs.BlockLaws.{IsWritten-none, IsWritten-more, IsWritten-all, block-written}
-use Rattle.xts_sector.proofs.TweakLaws.{times_alpha_power_more}
-use Rattle.xts_sector.proofs.XtsLaws.{length-encrypted_block, decrypted_blocks-encrypted_blocks}
+use Rattle.xts_sector.proofs.TweakLemmas.{block_of-from_le_bytes, times_alpha_power-add}
+use Rattle.xts_sector.proofs.XtsLemmas.{length-encrypted_block, part_written, part_undone, decrypted_blocks-encrypted_blocks}
 use Rattle.xts_sector.proofs.encryption.encrypt_blocks.Goals as goal
-use Rattle.xts_sector.proofs.encryption.encrypt_blocks.Goals.{After-loop-j}
+use Rattle.xts_sector.proofs.encryption.encrypt_blocks.Goals.{After-loop-i}
 
--- the blocks to come
-blocks : List ℕ → List ℕ → List ℕ → ℕ → List ℕ
-blocks key first unit j = encrypted_block key (times_alpha_power j first) (block unit j)
-
--- that block j, turned back, is as it was
-IsUndone : List ℕ → List ℕ → List ℕ → ℕ → Type 0
-IsUndone key first unit j = decrypted_block key (times_alpha_power j first) (encrypted_block key (times_alpha_power j first) (block unit j)) ≡ block unit j
-
-pub loop-j-init : goal.loop-j-init
-unfolding blocks
-loop-j-init c = record {
-  tweak = refl;
-  written = IsWritten-none (blocks c.args.key.now c.args.first c.args.unit.now) c.args.unit.now;
-  undone = λ i h. absurd (omega arith);
-}
-
-pub loop-j-preserved : goal.loop-j-preserved
-unfolding blocks IsUndone
-loop-j-preserved c =
-    let key = c.args.key.now in
-    let first = c.args.first in
-    let old = c.args.unit.now in
-    let j = c.loop-j.j in
-    let so_far = c.loop-j.invariant in
-    let read = c.block.ensures ∙ block-written (blocks key first old) old c.loop-j.unit j so_far.written in
-    let out : c.copy_from_slice.new.self ≡ blocks key first old j = cc (read, so_far.tweak, c.encrypted_block-ciphertext.ensures.value, c.copy_from_slice.ensures.after) in
-    let undone : IsUndone key first old j = cc (read, so_far.tweak, c.encrypted_block-ciphertext.ensures.inverse) in
+pub loop-i-init : goal.loop-i-init
+loop-i-init c =
+    let none : min (32 * 0) (length c.args.unit.now / 16) ≡ 0 = omega arith in
     record {
-      tweak = c.times_alpha-tweak.ensures ∙ ap times_alpha so_far.tweak ∙ sym (times_alpha_power_more j first);
-      written = IsWritten-more (blocks key first old) old c.loop-j.unit c.copy_from_slice.new.self j (omega arith) out
-          (ap length out ∙ length-encrypted_block key (times_alpha_power j first) (block old j)) so_far.written;
-      undone = below_more (IsUndone key first old) j so_far.undone undone;
+      tweak = ap block_of c.from_le_bytes-tweak.ensures ∙ block_of-from_le_bytes c.args.first.now c.told-first c.fits-first ∙ ap (λ n. times_alpha_power n c.args.first.now) (sym none);
+      written = rw none (IsWrittenTo-none 16 (λ j. encrypted_block c.args.key.now (times_alpha_power j c.args.first.now) (block c.args.unit.now j)) c.args.unit.now);
+      undone = λ j h. absurd (omega (arith, h, none));
+    }
+
+pub loop-i-preserved : goal.loop-i-preserved
+unfolding encrypted_blocks
+loop-i-preserved c =
+    let key = c.args.key.now in
+    let first = c.args.first.now in
+    let old = c.args.unit.now in
+    let now = c.loop-i.unit in
+    let i = c.loop-i.i in
+    let so_far = c.loop-i.invariant in
+    let total = length old / 16 in
+    let m = min (32 * i) total in
+    let n = min (32 * (i + 1)) total - m in
+    let k = c.min-end.result - 512 * i in
+    let inside : 512 * i < length old = omega (arith, c.div_ceil-i-end.ensures, c.loop-i-test.true) in
+    let at : 512 * i ≡ 16 * m = omega (arith, inside, c.requires) in
+    let wide : k ≡ 16 * n = omega (arith, inside, c.min-end.ensures, c.requires, c.loop-i.auto.unit) in
+    let next : m + n ≡ min (32 * (i + 1)) total = omega arith in
+    let part = take k (drop (512 * i) now) in
+    let fits : 512 * i + k ≤ length now = omega (arith, inside, c.min-end.ensures, c.loop-i.auto.unit) in
+    let out = c.encrypt_part-tweak.new.blocks in
+    let long : length part / 16 ≡ n = omega (arith, wide, fits, length-take-le k (drop (512 * i) now) (omega (arith, fits, length-drop (512 * i) now))) in
+    record {
+      tweak = c.encrypt_part-tweak.ensures.next ∙ ap (times_alpha_power (length part / 16)) so_far.tweak ∙ times_alpha_power-add m (length part / 16) first ∙ ap (λ n. times_alpha_power (m + n) first) long ∙ ap (λ n. times_alpha_power n first) next;
+      written = rw (← next) (part_written (encrypted_block key) first old now (block_of c.loop-i.tweak) m n (512 * i) k at wide fits so_far.tweak (length-encrypted_block key) out c.encrypt_part-tweak.ensures.value so_far.written);
+      undone = λ j h. part_undone (encrypted_block key) first old now (block_of c.loop-i.tweak) m n (512 * i) k at wide fits so_far.tweak (decrypted_block key) so_far.written.rest c.encrypt_part-tweak.ensures.inverse so_far.undone j (omega (arith, h, next));
     }
 
 -- the unit that is left
-unit_is : (c : After-loop-j) → c.loop-j.unit ≡ encrypted_blocks c.args.key.now (λ j. times_alpha_power j c.args.first) c.args.unit.now
-unfolding blocks encrypted_blocks
+unit_is : (c : After-loop-i) → c.loop-i.unit ≡ encrypted_blocks c.args.key.now (λ j. times_alpha_power j c.args.first.now) c.args.unit.now
+unfolding encrypted_blocks
 unit_is c =
-    let all = blocks c.args.key.now c.args.first c.args.unit.now in
-    let done : c.loop-j.j ≡ length c.args.unit.now / 16 = omega arith in
-    IsWritten-all all c.args.unit.now c.loop-j.unit c.loop-j.j (omega arith) c.loop-j.invariant.written ∙ ap (joined all) done
+    let old = c.args.unit.now in
+    let all = λ (j : ℕ). encrypted_block c.args.key.now (times_alpha_power j c.args.first.now) (block old j) in
+    let done : min (32 * c.loop-i.i) (length old / 16) ≡ length old / 16 = omega (arith, c.div_ceil-i-end.ensures, c.loop-i-test.false, c.requires) in
+    IsWrittenTo-all 16 all old c.loop-i.unit (min (32 * c.loop-i.i) (length old / 16)) (omega (arith, done, c.requires, c.loop-i.auto.unit)) c.loop-i.invariant.written ∙ ap (joined all) done
 
 pub returns-clause-value : goal.returns-clause-value
 returns-clause-value c = unit_is c
@@ -57,6 +60,8 @@ returns-clause-value c = unit_is c
 pub returns-clause-inverse : goal.returns-clause-inverse
 returns-clause-inverse c =
     let key = c.args.key.now in
-    let tweaks = λ (j : ℕ). times_alpha_power j c.args.first in
+    let old = c.args.unit.now in
+    let tweaks = λ (j : ℕ). times_alpha_power j c.args.first.now in
+    let done : min (32 * c.loop-i.i) (length old / 16) ≡ length old / 16 = omega (arith, c.div_ceil-i-end.ensures, c.loop-i-test.false, c.requires) in
     ap (decrypted_blocks key tweaks) (unit_is c)
-    ∙ decrypted_blocks-encrypted_blocks key tweaks c.args.unit.now c.requires (λ j h. c.loop-j.invariant.undone j (omega arith))
+    ∙ decrypted_blocks-encrypted_blocks key tweaks old c.requires (λ j h. c.loop-i.invariant.undone j (omega (arith, h, done)))

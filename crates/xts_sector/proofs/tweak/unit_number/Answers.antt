@@ -1,5 +1,5 @@
 use Rattle.std.proofs.Common.{ap, ◌∙◌, ◌++◌, replicate}
-use Rattle.xts_sector.proofs.TweakLaws.{unit_number_is}
+use Rattle.xts_sector.proofs.TweakLemmas.{unit_number_is}
 use Rattle.xts_sector.proofs.tweak.unit_number.Goals as goal
 
 pub returns : goal.returns

@@ -3,7 +3,7 @@ use Rattle.stack_loader.specs.Records.{Configuration}
 use Rattle.stack_loader.specs.Descend.{depth}
 use Rattle.stack_loader.specs.Names.{mapped}
 use Rattle.stack_loader.proofs.lemmas.ValidLemmas.{depth-low}
-use Rattle.stack_loader.proofs.Kept.{length-each_mapped, each_mapped-at}
+use Rattle.stack_loader.proofs.KeptLemmas.{length-each_mapped, each_mapped-at}
 use Rattle.stack_loader.proofs.config.Config.depth.Goals as goal
 
 pub index-requires : goal.index-requires

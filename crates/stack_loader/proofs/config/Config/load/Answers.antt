@@ -7,9 +7,9 @@ use Rattle.stack_loader.specs.Facts.{IsNext}
 use Rattle.stack_loader.specs.Passing.{IsFirst}
 use Rattle.stack_loader.specs.Rules.{first, load_rules, after_load, first_refusal}
 use Rattle.stack_loader.proofs.lemmas.ValidLineLemmas.{few}
-use Rattle.stack_loader.proofs.Loading.{moved, kept-next, refused-first}
+use Rattle.stack_loader.proofs.LoadLemmas.{moved, kept-next, refused-first}
 use Rattle.stack_loader.proofs.CycleRefusalLemmas.{refusal-of}
-use Rattle.stack_loader.proofs.Passed.{IsFirst-passed}
+use Rattle.stack_loader.proofs.PassingLemmas.{IsFirst-passed}
 use Rattle.stack_loader.proofs.config.Config.load.Goals as goal
 
 pub next_load-requires-clause-devices : goal.next_load-requires-clause-devices

@@ -1,5 +1,5 @@
 use Rattle.std.proofs.Common.{sym}
-use Rattle.stack_loader.proofs.LeavesSound.{kept-empty}
+use Rattle.stack_loader.proofs.LeafLemmas.{kept-empty}
 use Rattle.stack_loader.proofs.config.Config.new.Goals as goal
 
 pub invariant_of-result : goal.invariant_of-result

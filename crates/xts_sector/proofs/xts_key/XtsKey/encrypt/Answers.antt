@@ -1,7 +1,7 @@
 use Rattle.std.proofs.Common.{◌≡◌, sym, ap, ◌∙◌}
 use Rattle.aes_block.specs.Cipher.{cipher}
 use Rattle.xts_sector.specs.Tweak.{unit_number}
-use Rattle.xts_sector.proofs.XtsKeyLaws.{encrypted-key_of, decrypted-key_of}
+use Rattle.xts_sector.proofs.XtsKeyLemmas.{encrypted-key_of, decrypted-key_of}
 use Rattle.xts_sector.proofs.xts_key.XtsKey.encrypt.Goals as goal
 use Rattle.xts_sector.proofs.xts_key.XtsKey.encrypt.Goals.{After-encrypt_blocks}
 

@@ -1,6 +1,6 @@
 use Rattle.std.proofs.Common.{◌≡◌, ◌-◌, ◌/◌, length, ap, sym, ◌∙◌, refl, arith}
 use Rattle.aes_block.specs.Key.{IsKeyLength}
-use Rattle.xts_sector.proofs.XtsKeyLaws.{halves_same}
+use Rattle.xts_sector.proofs.XtsKeyLemmas.{halves_same}
 use Rattle.xts_sector.proofs.xts_key.XtsKey.new.Goals as goal
 
 pub invariant_of-result : goal.invariant_of-result

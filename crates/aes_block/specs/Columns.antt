@@ -1,0 +1,11 @@
+-- A state as four words: word c is column c, and row r of it stands in the bits from 8 * r on.
+use Rattle.std.specs.Prelude.{ℕ, ◌*◌, ◌/◌, ◌%◌, ◌^◌, List, slice_index}
+use Rattle.aes_block.specs.State.{state_of}
+
+-- the byte of a column in a row
+abbrev pub row_of : ℕ → ℕ → ℕ
+row_of column row = column / 2 ^ (8 * row) % 256
+
+-- the state of four columns
+unfoldable pub state_of_columns : List ℕ → List ℕ
+state_of_columns columns = state_of (λ r c. row_of (slice_index columns c) r)

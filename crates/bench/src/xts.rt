@@ -1,0 +1,57 @@
+// XTS over 16 MiB of units under keys of 32 bytes each, in megabytes a second of processor time.
+ghost use Rattle.std.specs.Prelude.{◌≡◌, ◌<◌, ◌%◌};
+
+use anyhow::{Context, Result, bail};
+use std::time::CpuClock;
+use xts_sector::XtsKey;
+
+const BYTES: usize = 16_777_216;
+
+const RUNS: usize = 15;
+
+/// Prints the medians for units of 512 and of 4,096 bytes, encrypted and decrypted in turn.
+pub fn measure<R: CpuClock + Print + AllocGlobal>(rt: &R) -> Result<()> {
+    let mut key = [0x5a; 64];
+    key[0] = 0xa5;
+    let key = XtsKey::new(&key).context("the key was refused")?;
+    let mut units = vec![in rt.alloc(); 0x3cu8; BYTES]?;
+    measure_units(rt, &key, 512, &mut units)?;
+    measure_units(rt, &key, 4096, &mut units)
+}
+
+fn measure_units<R: CpuClock + Print + AllocGlobal>(
+    rt: &R,
+    key: &XtsKey,
+    size: usize,
+    units: &mut [u8],
+) -> Result<()>
+    requires { (0 < size) × (size % 16 ≡ 0) }
+{
+    if units.len() % size != 0 {
+        bail!("the units are not whole");
+    }
+    let mut encrypted = Vec::new(rt.alloc());
+    let mut decrypted = Vec::new(rt.alloc());
+    for _ in 0..RUNS {
+        let start = rt.process_cpu_time()?;
+        key.encrypt_units(0, size, units);
+        let between = rt.process_cpu_time()?;
+        key.decrypt_units(0, size, units);
+        let end = rt.process_cpu_time()?;
+        encrypted.push(between.saturating_sub(start).as_micros())?;
+        decrypted.push(end.saturating_sub(between).as_micros())?;
+    }
+    println!(rt;
+        "units of {size} bytes: encrypt {} MB/s, decrypt {} MB/s",
+        speed(encrypted),
+        speed(decrypted)
+    )?;
+    Ok(())
+}
+
+/// The bytes by the median of the times, which are in microseconds.
+fn speed(mut times: Vec<u128>) -> u128 {
+    times.sort_unstable();
+    let time = times.get(RUNS / 2).copied().unwrap_or(0);
+    BYTES as u128 / time.max(1)
+}

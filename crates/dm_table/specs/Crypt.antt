@@ -1,0 +1,51 @@
+-- The arguments of a `crypt` line, as the kernel's dm-crypt page lists them.
+use Rattle.std.specs.Prelude.{◌≡◌, ℕ, ◌*◌, Bool, ◌==◌, if◌then◌else◌, List, [], ◌∷◌, length, replicate, codes, decimal, Ok, Err}
+use Rattle.std.specs.Str.{bytes_eq}
+use Rattle.hex.specs.Hex.{encode_lower}
+use Rattle.dm_table.specs.declared.crypt.Crypt.{Crypt}
+use Rattle.dm_table.specs.declared.fault.TextKind.TheVariants as kinds
+use Rattle.dm_table.specs.Words.{Word}
+use Rattle.dm_table.specs.Reading.{Read, ◌>>=◌}
+use Rattle.dm_table.specs.Arguments.{number_at, base_at, bytes_at}
+use Rattle.dm_table.specs.Options.{options_at, options_words}
+
+-- options on queues and discards
+abbrev pub crypt_options : List Word
+crypt_options =
+    codes "allow_discards" ∷ codes "same_cpu_crypt" ∷ codes "submit_from_crypt_cpus" ∷ codes "no_read_workqueue" ∷ codes "no_write_workqueue" ∷ []
+
+-- AES in XTS mode, with a unit's number in 64 bits as its initialization vector
+abbrev pub cipher : Word
+cipher = codes "aes-xts-plain64"
+
+abbrev pub cipher_at : Word → Read Unit
+cipher_at word = if bytes_eq word cipher then Ok tt else Err kinds.Cipher
+
+-- a key of 32 or 64 bytes
+unfoldable pub key_at : Word → Read (List ℕ)
+key_at word = bytes_at (if length word == 128 then 64 else 32) kinds.Key word
+
+-- `<cipher> <key> <iv_offset> <device path> <offset> [<#opt_params> <opt_params>]`
+unfoldable pub crypt_at : List Word → Read Crypt
+crypt_at (name ∷ digits ∷ iv ∷ device ∷ offset ∷ params) = do
+  known ← cipher_at name
+  key ← key_at digits
+  first ← number_at iv
+  base ← base_at device offset
+  options ← options_at crypt_options params
+  Ok (record { key = key; iv_offset = first; base = base; options = options })
+crypt_at words = Err kinds.ArgCount
+
+-- a key's digits, or so many zeros
+abbrev pub key_word : Bool → List ℕ → Word
+key_word show key = if show then encode_lower key else replicate (2 * length key) 48
+
+-- the arguments as they are printed
+unfoldable pub crypt_words : Bool → Crypt → List Word
+crypt_words show crypt =
+    cipher ∷ key_word show crypt.key ∷ decimal crypt.iv_offset ∷ crypt.base.device ∷ decimal crypt.base.offset ∷ options_words crypt.options
+
+-- the words are those of a `crypt` line with these arguments
+abbrev pub ReadsCrypt : List Word → Crypt → Type 0
+ReadsCrypt [] crypt = ⊥
+ReadsCrypt (type ∷ arguments) crypt = (type ≡ codes "crypt") × (crypt_at arguments ≡ Ok crypt)

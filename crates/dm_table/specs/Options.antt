@@ -1,0 +1,42 @@
+-- Optional arguments at the end of a target's arguments.
+use Rattle.std.specs.Prelude.{ℕ, ◌^◌, ◌<◌, Bool, true, not, ◌&&◌, ◌==◌, if◌then◌else◌, IsTrue, List, [], ◌∷◌, length, decimal, Ok, Err}
+use Rattle.std.specs.List.{list_any}
+use Rattle.std.specs.Str.{bytes_eq}
+use Rattle.dm_table.specs.declared.fault.TextKind.TheVariants as kinds
+use Rattle.dm_table.specs.Words.{Word}
+use Rattle.dm_table.specs.Reading.{Read, ◌>>=◌}
+use Rattle.dm_table.specs.Arguments.{number_at}
+
+-- the word is one of those words
+abbrev pub is_one_of : Word → List Word → Bool
+is_one_of word words = list_any (λ one. bytes_eq one word) words
+
+-- each word is a known option, and stands once
+abbrev pub are_options : List Word → List Word → Bool
+are_options known [] = true
+are_options known (word ∷ more) = (is_one_of word known && not (is_one_of word more)) && are_options known more
+
+-- options in the order read
+unfoldable pub known_at : List Word → List Word → Read (List Word)
+known_at known words = if are_options known words then Ok words else Err kinds.Option
+
+-- exactly n options, which are counted before any is looked at
+abbrev pub counted_at : List Word → ℕ → List Word → Read (List Word)
+counted_at known n words = if length words == n then known_at known words else Err kinds.ArgCount
+
+-- `[<#opt_params> <opt_params>]`
+unfoldable pub options_at : List Word → List Word → Read (List Word)
+options_at known [] = Ok []
+options_at known (count ∷ words) = do
+  n ← number_at count
+  counted_at known n words
+
+-- options behind their count, and no count where there is none
+abbrev pub options_words : List Word → List Word
+options_words [] = []
+options_words (word ∷ more) = decimal (length (word ∷ more)) ∷ word ∷ more
+
+-- what holds of options that were read
+pub record AreOptionsOfGrammar (known options : List Word) : Type 0 where
+  pub each : IsTrue (are_options known options)
+  pub count : length options < 2 ^ 64

@@ -1,0 +1,67 @@
+-- The arguments of a `verity` line, as the kernel's dm-verity page lists them.
+use Rattle.std.specs.Prelude.{◌≡◌, ℕ, ◌/◌, ◌&&◌, ◌==◌, nat_le, if◌then◌else◌, List, [], ◌∷◌, length, codes, decimal, Ok, Err, ok_or}
+use Rattle.std.specs.Str.{bytes_eq}
+use Rattle.hex.specs.Hex.{encode_lower}
+use Rattle.hash_tree.specs.Shape.{is_block_size}
+use Rattle.dm_table.specs.declared.verity.Verity.{Verity}
+use Rattle.dm_table.specs.declared.fault.TextKind.TheVariants as kinds
+use Rattle.dm_table.specs.Words.{Word}
+use Rattle.dm_table.specs.Numbers.{number, number_if}
+use Rattle.dm_table.specs.Reading.{Read, ◌>>=◌}
+use Rattle.dm_table.specs.Arguments.{device_at, number_at, bytes_at}
+use Rattle.dm_table.specs.Options.{options_at}
+
+-- hash format 1
+abbrev pub version_at : Word → Read ℕ
+version_at word = ok_or (number_if (λ n. n == 1) (number word)) kinds.Version
+
+-- 512, 1024, 2048 or 4096 bytes
+abbrev pub block_size_at : Word → Read ℕ
+block_size_at word = ok_or (number_if is_block_size (number word)) kinds.BlockSize
+
+abbrev pub algorithm_at : Word → Read Unit
+algorithm_at word = if bytes_eq word (codes "sha256") then Ok tt else Err kinds.Algorithm
+
+-- a root digest of 32 bytes
+abbrev pub digest_at : Word → Read (List ℕ)
+digest_at word = bytes_at 32 kinds.Digest word
+
+-- `-` for none, or 1 to 256 bytes
+unfoldable pub salt_at : Word → Read (List ℕ)
+salt_at word =
+    if bytes_eq word (codes "-") then Ok []
+    else if nat_le 2 (length word) && nat_le (length word) 512 then bytes_at (length word / 2) kinds.Salt word
+    else Err kinds.Salt
+
+-- `<version> <dev> <hash_dev> <data_block_size> <hash_block_size> <num_data_blocks> <hash_start_block> <algorithm> <digest> <salt> [<#opt_params> <opt_params>]`
+unfoldable pub verity_at : List Word → Read Verity
+verity_at (version ∷ dev ∷ hash_dev ∷ data_size ∷ hash_size ∷ count ∷ begin ∷ algorithm ∷ digest ∷ digits ∷ params) = do
+  one ← version_at version
+  below ← device_at dev
+  hash ← device_at hash_dev
+  data_block ← block_size_at data_size
+  hash_block ← block_size_at hash_size
+  blocks ← number_at count
+  start ← number_at begin
+  known ← algorithm_at algorithm
+  root ← digest_at digest
+  salt ← salt_at digits
+  none ← options_at [] params
+  Ok (record { «data» = below; hash = hash; data_block = data_block; hash_block = hash_block; blocks = blocks; start = start; root = root; salt = salt })
+verity_at words = Err kinds.ArgCount
+
+-- a salt's digits, or `-` where it is empty
+abbrev pub salt_word : List ℕ → Word
+salt_word [] = codes "-"
+salt_word (byte ∷ more) = encode_lower (byte ∷ more)
+
+-- the arguments as they are printed
+unfoldable pub verity_words : Verity → List Word
+verity_words verity =
+    codes "1" ∷ verity.data ∷ verity.hash ∷ decimal verity.data_block ∷ decimal verity.hash_block ∷ decimal verity.blocks ∷ decimal verity.start
+    ∷ codes "sha256" ∷ encode_lower verity.root ∷ salt_word verity.salt ∷ []
+
+-- the words are those of a `verity` line with these arguments
+abbrev pub ReadsVerity : List Word → Verity → Type 0
+ReadsVerity [] verity = ⊥
+ReadsVerity (type ∷ arguments) verity = (type ≡ codes "verity") × (verity_at arguments ≡ Ok verity)

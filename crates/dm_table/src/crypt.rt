@@ -1,0 +1,77 @@
+//! The arguments of a `crypt` line.
+ghost use Rattle.std.specs.Prelude.{◌≡◌, ◌≤◌, length, take, IfOk};
+
+use crate::options::Options;
+use crate::table::Base;
+use std::alloc::{AllocError, Global};
+use std::marker::Model;
+
+/// A key of AES in XTS mode: 32 or 64 bytes, of which each half is a key of AES. It has no text.
+#[derive(Drop)]
+pub struct Key {
+    bytes: [u8; 64],
+    len: usize,
+}
+
+impl Model for Key {
+    ghost use Rattle.std.specs.Prelude.{◌≤◌, List, ℕ, take};
+
+    ghost Value = { List ℕ };
+
+    ghost view = { λ k. take k.len k.bytes };
+
+    ghost invariant = { λ k. k.len ≤ 64 };
+}
+
+impl Key {
+    // The first bytes of the array.
+    pub(crate) fn new(bytes: [u8; 64], len: usize) -> Key
+        requires { len ≤ 64 }
+        ensures { result ≡ take len bytes }
+    {
+        Key { bytes, len }
+    }
+
+    /// The bytes.
+    pub fn bytes(&self) -> &[u8]
+        ensures value { result.now ≡ self.now }
+        ensures size { length result.now ≤ 64 }
+    {
+        &self.bytes[..self.len]
+    }
+
+    fn copy(&self) -> Key
+        ensures { result ≡ self.now }
+    {
+        Key {
+            bytes: self.bytes,
+            len: self.len,
+        }
+    }
+}
+
+/// Sectors of one device, encrypted by AES in XTS mode under the IV `plain64`.
+#[derive(Drop)]
+pub struct Crypt {
+    pub key: Key,
+    /// Added to a unit's number within the line.
+    pub iv_offset: u64,
+    pub base: Base,
+    /// None of them has an effect on what is read or written.
+    pub options: Options,
+}
+
+impl Crypt {
+    pub(crate) fn try_clone(&self, alloc: Global) -> Result<Crypt, AllocError>
+        ensures { IfOk result (λ crypt. crypt ≡ self.now) }
+    {
+        let base = self.base.try_clone(alloc)?;
+        let options = self.options.try_clone(alloc)?;
+        Ok(Crypt {
+            key: self.key.copy(),
+            iv_offset: self.iv_offset,
+            base,
+            options,
+        })
+    }
+}

@@ -1,0 +1,56 @@
+//! The optional arguments of a line.
+ghost use Rattle.std.specs.Prelude.{◌≡◌, [], ◌∷◌, ◌++◌, IfOk, MatchResult};
+
+use crate::table::Name;
+use std::alloc::{AllocError, Global};
+use std::marker::Model;
+
+/// Options as they were written, each once.
+#[derive(Drop)]
+pub struct Options {
+    words: Vec<Name>,
+}
+
+impl Model for Options {
+    ghost use Rattle.std.specs.Prelude.{List, ℕ};
+
+    ghost Value = { List (List ℕ) };
+
+    ghost view = { λ o. o.words.items };
+}
+
+impl Options {
+    pub(crate) fn new(alloc: Global) -> Options
+        ensures { result ≡ [] }
+    {
+        Options {
+            words: Vec::new(alloc),
+        }
+    }
+
+    pub(crate) fn push(&mut self, word: Name) -> Result<(), AllocError>
+        ensures { MatchResult result
+            (λ _. self.new ≡ self.old ++ word ∷ [])
+            (λ _. self.new ≡ self.old) }
+    {
+        self.words.push(word)?;
+        Ok(())
+    }
+
+    /// The options, in the order read.
+    pub fn as_slice(&self) -> &[Name]
+        ensures { result.now ≡ self.now }
+    {
+        self.words.as_slice()
+    }
+
+    pub(crate) fn try_clone(&self, alloc: Global) -> Result<Options, AllocError>
+        ensures { IfOk result (λ options. options ≡ self.now) }
+    {
+        let mut options = Options::new(alloc);
+        for word in self.as_slice() {
+            options.push(Name::new(alloc, word.as_slice())?)?;
+        }
+        Ok(options)
+    }
+}

@@ -1,0 +1,45 @@
+//! The arguments of a `verity` line.
+ghost use Rattle.std.specs.Prelude.{◌≡◌, IfOk};
+
+use crate::table::Name;
+use hash_tree::Salt;
+use std::alloc::{AllocError, Global};
+
+/// Blocks of one device, checked against a hash tree on another.
+#[derive(Drop)]
+pub struct Verity {
+    /// A device argument: the device of the data blocks, from its block 0 on.
+    pub data: Name,
+    /// A device argument: the device of the hash blocks.
+    pub hash: Name,
+    /// In bytes: 512, 1,024, 2,048 or 4,096.
+    pub data_block: u32,
+    /// In bytes: 512, 1,024, 2,048 or 4,096.
+    pub hash_block: u32,
+    /// The number of data blocks.
+    pub blocks: u64,
+    /// The first hash block of the tree, in hash blocks.
+    pub start: u64,
+    /// The digest of the root block.
+    pub root: [u8; 32],
+    pub salt: Salt,
+}
+
+impl Verity {
+    pub(crate) fn try_clone(&self, alloc: Global) -> Result<Verity, AllocError>
+        ensures { IfOk result (λ verity. verity ≡ self.now) }
+    {
+        let data = Name::new(alloc, self.data.as_slice())?;
+        let hash = Name::new(alloc, self.hash.as_slice())?;
+        Ok(Verity {
+            data,
+            hash,
+            data_block: self.data_block,
+            hash_block: self.hash_block,
+            blocks: self.blocks,
+            start: self.start,
+            root: self.root,
+            salt: self.salt,
+        })
+    }
+}

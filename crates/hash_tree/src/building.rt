@@ -1,0 +1,288 @@
+// The tree made digest by digest.
+ghost use Rattle.std.specs.Prelude.{true, false, ◌≡◌, ◌+◌, ◌*◌, ◌^◌, ◌<◌, ◌≤◌, ◌++◌, ◌∷◌, [], length, All, IfOk, OnOk, OnErr, is_err};
+ghost use Rattle.std.specs.Option.{unwrap_or};
+ghost use Rattle.hash_tree.specs.Shape.{IsShape, levels};
+ghost use Rattle.hash_tree.specs.Tree.{filled};
+ghost use Rattle.hash_tree.specs.Building.{begun_builder, begun_levels, pushed, completed, last_completed, built_root, HasSome, grow, close};
+
+use crate::{Salt, Shape, digest};
+use std::alloc::{AllocError, Global};
+use std::marker::Model;
+use std::mem;
+
+/// A hash block with its number on the hash device.
+#[derive(Drop)]
+pub struct Placed {
+    pub block: u64,
+    pub bytes: Vec<u8>,
+}
+
+impl Model for Placed {
+    ghost use Rattle.hash_tree.specs.Building.{PlacedRecord};
+
+    ghost Value = { PlacedRecord };
+
+    ghost view = { λ p. record { block = p.block; bytes = p.bytes.items } };
+}
+
+/// Where a level's next block will stand, and the bytes that it has so far.
+#[derive(Drop)]
+struct Level {
+    next: u64,
+    bytes: Vec<u8>,
+}
+
+impl Model for Level {
+    ghost use Rattle.hash_tree.specs.Building.{LevelRecord};
+
+    ghost Value = { LevelRecord };
+
+    ghost view = { λ l. record { next = l.next; bytes = l.bytes.items } };
+}
+
+/// A tree under construction: it takes the data blocks' digests in order, and has one block of each level.
+#[derive(Drop)]
+pub struct LevelBuilder {
+    alloc: Global,
+    hash_block: usize,
+    salt: Salt,
+    left: u64,
+    failed: bool,
+    levels: Vec<Level>,
+    root: [u8; 32],
+}
+
+impl Model for LevelBuilder {
+    ghost use Rattle.std.specs.Prelude.{◌≡◌, ◌+◌, ◌^◌, ◌≤◌, false, All};
+    ghost use Rattle.hash_tree.specs.Building.{BuilderRecord, HaveRoom};
+
+    ghost Value = { BuilderRecord };
+
+    ghost view = { λ b. record {
+      hash_block = b.hash_block;
+      salt = b.salt;
+      left = b.left;
+      failed = b.failed;
+      levels = b.levels.items;
+      root = b.root;
+    } };
+
+    ghost invariant = { λ b. b.failed ≡ false → HaveRoom b.left b.levels.items };
+}
+
+impl LevelBuilder {
+    /// A builder without a digest.
+    pub fn new(alloc: Global, shape: Shape, salt: Salt) -> Result<LevelBuilder, AllocError>
+        ensures value { IfOk result (λ b. b ≡ begun_builder shape salt) }
+        ensures valid { IsShape shape }
+    {
+        let hash_block = shape.hash_block() as usize;
+        let left = shape.blocks();
+        Ok(LevelBuilder {
+            alloc,
+            hash_block,
+            salt,
+            left,
+            failed: false,
+            levels: begun_levels(alloc, &shape)?,
+            root: [0; 32],
+        })
+    }
+
+    /// How many digests are still to come.
+    pub fn left(&self) -> u64
+        ensures { result ≡ self.now.left }
+    {
+        self.left
+    }
+
+    /// The next data block's digest; `out` gets the blocks that it completes. After want of memory
+    /// the builder answers nothing else.
+    pub fn push(&mut self, digest: [u8; 32], out: &mut Vec<Placed>) -> Result<(), AllocError>
+        requires { self.old.failed ≡ false → 0 < self.old.left }
+        ensures ok { OnOk result ((self.new ≡ pushed self.old (digest ∷ [])) × (out.new.items ≡ out.old.items ++ completed self.old (digest ∷ []))) }
+        ensures err { OnErr result (self.new.failed ≡ true) }
+        ensures some { HasSome out.old.items (completed self.old (digest ∷ [])) out.new.items }
+        ensures failed { self.old.failed ≡ true → (is_err result ≡ true) × (out.new.items ≡ out.old.items) }
+    {
+        if self.failed {
+            return Err(AllocError);
+        }
+        match rise(
+            self.alloc,
+            self.hash_block,
+            &self.salt,
+            &mut self.levels,
+            &mut self.root,
+            digest,
+            out,
+        ) {
+            Ok(()) => {
+                self.left -= 1;
+                Ok(())
+            }
+            Err(refused) => {
+                self.failed = true;
+                Err(refused)
+            }
+        }
+    }
+
+    /// The next digests, in order, as by `push`.
+    pub fn push_many(
+        &mut self,
+        digests: &[[u8; 32]],
+        out: &mut Vec<Placed>,
+    ) -> Result<(), AllocError>
+        requires { self.old.failed ≡ false → length digests.now ≤ self.old.left }
+        ensures ok { OnOk result ((self.new ≡ pushed self.old digests.now) × (out.new.items ≡ out.old.items ++ completed self.old digests.now)) }
+        ensures err { OnErr result (self.new.failed ≡ true) }
+        ensures some { HasSome out.old.items (completed self.old digests.now) out.new.items }
+        ensures failed { self.old.failed ≡ true → (is_err result ≡ true) × (out.new.items ≡ out.old.items) }
+    {
+        if self.failed {
+            return Err(AllocError);
+        }
+        for digest in digests {
+            self.push(*digest, out)?;
+        }
+        Ok(())
+    }
+
+    /// The end: `out` gets the blocks that were begun. Gives the root.
+    pub fn finish(self, out: &mut Vec<Placed>) -> Result<[u8; 32], AllocError>
+        requires { self.failed ≡ false → self.left ≡ 0 }
+        ensures root { IfOk result (λ r. r ≡ built_root self) }
+        ensures out { OnOk result (out.new.items ≡ out.old.items ++ last_completed self) }
+        ensures some { HasSome out.old.items (last_completed self) out.new.items }
+        ensures failed { self.failed ≡ true → (is_err result ≡ true) × (out.new.items ≡ out.old.items) }
+    {
+        if self.failed {
+            return Err(AllocError);
+        }
+        let mut levels = self.levels;
+        close_up(
+            self.alloc,
+            self.hash_block,
+            &self.salt,
+            &mut levels,
+            self.root,
+            None,
+            out,
+        )
+    }
+}
+
+/// The levels of a shape, without a digest.
+fn begun_levels(alloc: Global, shape: &Shape) -> Result<Vec<Level>, AllocError>
+    requires { IsShape shape.now }
+    ensures { IfOk result (λ v. v.items ≡ begun_levels shape.now 0 (levels shape.now)) }
+{
+    let count = shape.levels();
+    let mut levels = Vec::with_capacity(alloc, count as usize)?;
+    for level in 0..count {
+        levels.push(Level {
+            next: shape.position(level, 0),
+            bytes: Vec::new(alloc),
+        })?;
+    }
+    Ok(levels)
+}
+
+/// A digest comes to the lowest of these levels; a full block is put out, and its digest comes to the next level.
+fn rise(
+    alloc: Global,
+    hash_block: usize,
+    salt: &Salt,
+    levels: &mut [Level],
+    root: &mut [u8; 32],
+    coming: [u8; 32],
+    out: &mut Vec<Placed>,
+) -> Result<(), AllocError>
+    requires { All (λ l. l.next < 2 ^ 63) levels.old }
+    ensures levels { OnOk result (levels.new ≡ (grow hash_block salt.now levels.old root.old coming).levels) }
+    ensures root { OnOk result (root.new ≡ (grow hash_block salt.now levels.old root.old coming).root) }
+    ensures out { OnOk result (out.new.items ≡ out.old.items ++ (grow hash_block salt.now levels.old root.old coming).placed) }
+    ensures some { HasSome out.old.items (grow hash_block salt.now levels.old root.old coming).placed out.new.items }
+{
+    let Some((level, above)) = levels.split_first_mut() else {
+        *root = coming;
+        return Ok(());
+    };
+    append(&mut level.bytes, &coming, hash_block)?;
+    if level.bytes.len() < hash_block {
+        return Ok(());
+    }
+    let bytes = mem::replace(&mut level.bytes, Vec::new(alloc));
+    let next = digest(salt, &bytes);
+    let block = level.next;
+    level.next += 1;
+    out.push(Placed { block, bytes })?;
+    rise(alloc, hash_block, salt, above, root, next, out)
+}
+
+/// What is begun on these levels is put out, filled with zeros; gives the root.
+fn close_up(
+    alloc: Global,
+    hash_block: usize,
+    salt: &Salt,
+    levels: &mut [Level],
+    root: [u8; 32],
+    coming: Option<[u8; 32]>,
+    out: &mut Vec<Placed>,
+) -> Result<[u8; 32], AllocError>
+    ensures root { IfOk result (λ r. r ≡ (close hash_block salt.now levels.old root coming).root) }
+    ensures out { OnOk result (out.new.items ≡ out.old.items ++ (close hash_block salt.now levels.old root coming).placed) }
+    ensures some { HasSome out.old.items (close hash_block salt.now levels.old root coming).placed out.new.items }
+{
+    let Some((level, above)) = levels.split_first_mut() else {
+        return Ok(coming.unwrap_or(root));
+    };
+    let mut bytes = mem::replace(&mut level.bytes, Vec::new(alloc));
+    extend(&mut bytes, coming, hash_block)?;
+    if bytes.is_empty() {
+        return close_up(alloc, hash_block, salt, above, root, None, out);
+    }
+    fill(&mut bytes, hash_block)?;
+    let next = digest(salt, &bytes);
+    out.push(Placed {
+        block: level.next,
+        bytes,
+    })?;
+    close_up(alloc, hash_block, salt, above, root, Some(next), out)
+}
+
+/// A digest behind a block's bytes; the first one takes the memory for the whole block.
+fn append(bytes: &mut Vec<u8>, digest: &[u8; 32], hash_block: usize) -> Result<(), AllocError>
+    ensures { OnOk result (bytes.new.items ≡ bytes.old.items ++ digest.now) }
+{
+    if bytes.is_empty() {
+        bytes.reserve_exact(hash_block)?;
+    }
+    bytes.extend_from_slice(digest)
+}
+
+/// A digest behind the bytes, if there is one.
+fn extend(
+    bytes: &mut Vec<u8>,
+    digest: Option<[u8; 32]>,
+    hash_block: usize,
+) -> Result<(), AllocError>
+    ensures { OnOk result (bytes.new.items ≡ bytes.old.items ++ unwrap_or digest []) }
+{
+    if let Some(digest) = digest {
+        append(bytes, &digest, hash_block)?;
+    }
+    Ok(())
+}
+
+/// Zeros behind the bytes, up to that size.
+fn fill(bytes: &mut Vec<u8>, size: usize) -> Result<(), AllocError>
+    ensures { OnOk result (bytes.new.items ≡ filled size bytes.old.items) }
+{
+    let len = bytes.len();
+    if len < size {
+        bytes.resize(size, 0)?;
+    }
+    Ok(())
+}

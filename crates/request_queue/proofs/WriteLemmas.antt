@@ -1,0 +1,26 @@
+-- A part of a write that was written.
+use Rattle.std.proofs.Common.{◌≡◌, ℕ, ◌+◌, ◌-◌, ◌*◌, List, take, drop, refl, ap, ◌∙◌, subst, arith, Result, Ok, Err}
+use Rattle.std.specs.Prelude.{OnOk}
+use Rattle.stack_engine.specs.declared.fault.IoFault.{IoFault}
+use Rattle.stack_engine.specs.Leaves.{AllSteady}
+use Rattle.stack_engine.specs.Stacks.{StackRecord}
+use Rattle.stack_engine.specs.WritePieces.{AnyWrite, SteadyWrite, EachWrite}
+use Rattle.request_queue.specs.declared.range.SectorRange.{SectorRange}
+use Rattle.request_queue.specs.Flights.{writes, nothing}
+use Rattle.request_queue.specs.Serving.{PartDone}
+
+-- the bytes of a part, as the code cuts them out
+pub part-bytes : (now items : List ℕ) (done count : ℕ) → now ≡ items → take (done * 512 + count * 512 - done * 512) (drop (done * 512) now) ≡ take (512 * count) (drop (512 * done) items)
+part-bytes now items done count same =
+    let len : done * 512 + count * 512 - done * 512 ≡ 512 * count = omega arith in
+    let start : done * 512 ≡ 512 * done = omega arith in
+    ap (λ k. take k (drop (done * 512) now)) len ∙ ap (λ k. take (512 * count) (drop k now)) start ∙ ap (λ l. take (512 * count) (drop (512 * done) l)) same
+
+pub write-done : {v v' : StackRecord} {part : List ℕ} (piece : SectorRange) (done : ℕ) (items : List ℕ) (result : Result Unit IoFault) → AnyWrite v piece.device.0 piece.first part result v'
+    → (AllSteady v.leaves → SteadyWrite v piece.device.0 piece.first part result v') → part ≡ take (512 * piece.count) (drop (512 * done) items) → OnOk result (PartDone v piece done (writes items) v' (writes items))
+write-done piece done items (Err fault) any steady is = tt
+write-done {v} {v'} piece done items (Ok x) any steady is = record {
+  got = nothing;
+  answered = subst (λ l. EachWrite v piece.device.0 piece.first l (Ok tt) v') is (record { any = any; steady = steady });
+  is = refl;
+}

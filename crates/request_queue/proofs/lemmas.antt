@@ -1,0 +1,8 @@
+-- What callers may cite.
+pub mod TicketLemmas
+pub mod AdmissionLemmas
+pub mod PartLemmas
+pub mod PremiseLemmas
+pub mod BudgetLemmas
+pub mod ServedLemmas
+pub mod WholeRunLemmas

@@ -1,0 +1,120 @@
+-- From what holds of each part: what holds over any leaves, and what holds over steady ones.
+use Rattle.std.proofs.Common.{◌≡◌, ℕ, ◌+◌, List, [], ◌∷◌, sym, subst, Result, Ok, Err}
+use Rattle.block_device.specs.Device.{Device}
+use Rattle.dm_table.specs.declared.stack.Entry.{Entry}
+use Rattle.stack_loader.specs.declared.refusal.LoadFault.{LoadFault}
+use Rattle.stack_loader.specs.declared.refusal.RemoveFault.{RemoveFault}
+use Rattle.stack_engine.specs.declared.fault.IoFault.{IoFault}
+use Rattle.stack_engine.specs.Leaves.{AllSteady}
+use Rattle.stack_engine.specs.Stacks.{StackRecord, AnswerRecord}
+use Rattle.stack_engine.proofs.lemmas.LeafListLemmas.{AllSteady-kept}
+use Rattle.request_queue.specs.declared.fault.Held.{Held}
+use Rattle.request_queue.specs.declared.fault.Held.TheVariants.{Busy, Fault}
+use Rattle.request_queue.specs.declared.fault.SubmitFault.{SubmitFault}
+use Rattle.request_queue.specs.declared.reply.Progress.{Progress}
+use Rattle.request_queue.specs.declared.reply.Progress.TheVariants.{More, Done}
+use Rattle.request_queue.specs.declared.reply.Reply.{Reply}
+use Rattle.request_queue.specs.Requests.{RequestRecord}
+use Rattle.request_queue.specs.Flights.{FlightRecord}
+use Rattle.request_queue.specs.Parts.{Part, PartRelation, AnyPart, SteadyPart, EachPart, part_of_work}
+use Rattle.request_queue.specs.World.{World, Event, submit, step, load, remove_device, run, Step, Begins, Answers, Serves, Loads, Removes, Ends, at_once, later, Runs}
+use Rattle.request_queue.specs.Runs.{Turn, Run, last}
+use Rattle.request_queue.proofs.lemmas.PartLemmas.{any-keeps, each-any, each-steady, steady-any-part}
+
+-- parts of one kind are of the other, where a fact about the leaves goes on
+abbrev pub Passes : PartRelation → PartRelation → (List Device → Type 0) → Type 0
+Passes P Q F = (v : StackRecord) (d first : ℕ) (part : Part) (answer : Result AnswerRecord IoFault) (v' : StackRecord) → F v.leaves → P v d first part answer v' → Q v d first part answer v' × F v'.leaves
+
+module _ (P Q : PartRelation) (F : List Device → Type 0) (pass : Passes P Q F) where
+  answers-as : (w : World) (i : ℕ) (f : FlightRecord) (progress : Progress) (w' : World) → F w.stack.leaves → Answers P w i f progress w' → Answers Q w i f progress w' × F w'.stack.leaves
+  answers-as w i f More w' h s =
+      let p = pass w.stack f.rest.device.0 f.rest.first (part_of_work f.work _ _) (Ok s.got) s.stack h s.asks in
+      (record { got = s.got; stack = s.stack; asks = p.0; rest = s.rest; leaves = s.leaves }, subst (λ (x : World). F x.stack.leaves) (sym s.leaves) p.1)
+  answers-as w i f (Done (Ok reply)) w' h s =
+      let p = pass w.stack f.rest.device.0 f.rest.first (part_of_work f.work _ _) (Ok s.got) s.stack h s.asks in
+      (record { got = s.got; stack = s.stack; asks = p.0; last = s.last; replies = s.replies; leaves = s.leaves }, subst (λ (x : World). F x.stack.leaves) (sym s.leaves) p.1)
+  answers-as w i f (Done (Err fault)) w' h s =
+      let p = pass w.stack f.rest.device.0 f.rest.first (part_of_work f.work _ _) (Err fault) s.stack h s.asks in
+      (record { stack = s.stack; asks = p.0; leaves = s.leaves }, subst (λ (x : World). F x.stack.leaves) (sym s.leaves) p.1)
+
+  pub serves-as : (w : World) (t : ℕ) (progress : Progress) (w' : World) → F w.stack.leaves → Serves P w t progress w' → Serves Q w t progress w' × F w'.stack.leaves
+  serves-as w t progress w' h s =
+      let p = answers-as w s.i s.f progress w' h s.answers in
+      (record { i = s.i; f = s.f; at = s.at; some = s.some; answers = p.0 }, p.1)
+
+  ends-as : (t : ℕ) (answer : Result Reply IoFault) (w w' : World) → F w.stack.leaves → Ends P t answer w w' → Ends Q t answer w w' × F w'.stack.leaves
+  ends-as t answer w w' h (at_once s) = let p = serves-as w t (Done answer) w' h s in (at_once p.0, p.1)
+  ends-as t answer w w' h (later {v = v} s more) =
+      let p = serves-as w t More v h s in
+      let q = ends-as t answer v w' p.1 more in
+      (later p.0 q.0, q.1)
+
+  same-leaves : (w w' : World) → w' ≡ w → F w.stack.leaves → F w'.stack.leaves
+  same-leaves w w' e h = subst (λ (x : World). F x.stack.leaves) (sym e) h
+
+  begins-leaves : (w : World) (r : RequestRecord) (t : ℕ) (w' : World) → Begins w r t w' → F w.stack.leaves → F w'.stack.leaves
+  begins-leaves w r t w' b h = subst (λ (x : World). F x.stack.leaves) (sym b.leaves) h
+
+  loads-leaves : (w : World) (text : List Entry) (reply : Result Unit (Held LoadFault)) (w' : World) → Loads w text reply w' → F w.stack.leaves → F w'.stack.leaves
+  loads-leaves w text (Ok done) w' s h = subst (λ (x : World). F x.stack.leaves) (sym s.leaves) h
+  loads-leaves w text (Err Busy) w' s h = same-leaves w w' s.1 h
+  loads-leaves w text (Err (Fault fault)) w' s h = same-leaves w w' s.2 h
+
+  removes-leaves : (w : World) (name : List ℕ) (reply : Result Unit (Held RemoveFault)) (w' : World) → Removes w name reply w' → F w.stack.leaves → F w'.stack.leaves
+  removes-leaves w name (Ok done) w' s h = subst (λ (x : World). F x.stack.leaves) (sym s.leaves) h
+  removes-leaves w name (Err Busy) w' s h = same-leaves w w' s.1 h
+  removes-leaves w name (Err (Fault fault)) w' s h = same-leaves w w' s.2 h
+
+  runs-as : (w : World) (r : RequestRecord) (reply : Result (Result Reply IoFault) SubmitFault) (w' : World) → F w.stack.leaves → Runs P w r reply w' → Runs Q w r reply w' × F w'.stack.leaves
+  runs-as w r (Err fault) w' h s = (s, same-leaves w w' s.same h)
+  runs-as w r (Ok answer) w' h s =
+      let p = ends-as (w.given + 1) answer s.begun w' (begins-leaves w r (w.given + 1) s.begun s.begins h) s.ends in
+      (record { begun = s.begun; begins = s.begins; ends = p.0 }, p.1)
+
+  -- an event, with parts of the other kind
+  pub step-as : (w : World) (e : Event) (w' : World) → F w.stack.leaves → Step P w e w' → Step Q w e w' × F w'.stack.leaves
+  step-as w (submit r (Ok t)) w' h s = (s, begins-leaves w r t w' s h)
+  step-as w (submit r (Err fault)) w' h s = (s, same-leaves w w' s.same h)
+  step-as w (step t (Ok progress)) w' h s = serves-as w t progress w' h s
+  step-as w (step t (Err none)) w' h s = (s, same-leaves w w' s.1 h)
+  step-as w (load text reply) w' h s = (s, loads-leaves w text reply w' s h)
+  step-as w (remove_device name reply) w' h s = (s, removes-leaves w name reply w' s h)
+  step-as w (run r reply) w' h s = runs-as w r reply w' h s
+
+  pub run-as : (w : World) (turns : List Turn) → F w.stack.leaves → Run P w turns → Run Q w turns × F (last w turns).stack.leaves
+  run-as w [] h r = (tt, h)
+  run-as w (x ∷ more) h r =
+      let p = step-as w x.event x.after h r.0 in
+      let q = run-as x.after more p.1 r.1 in
+      ((p.0, q.0), q.1)
+
+-- ---- the two kinds
+
+abbrev Anything : List Device → Type 0
+Anything leaves = Unit {0}
+
+pass-any : Passes EachPart AnyPart Anything
+pass-any v d first part answer v' h p = (each-any v d first part answer v' p, tt)
+
+pass-steady : Passes EachPart SteadyPart AllSteady
+pass-steady v d first part answer v' h p = (each-steady v d first part answer v' h p, AllSteady-kept v.leaves v'.leaves (any-keeps v d first part answer v' (each-any v d first part answer v' p)).fixed h)
+
+pub serves-any : (w : World) (t : ℕ) (progress : Progress) (w' : World) → Serves EachPart w t progress w' → Serves AnyPart w t progress w'
+serves-any w t progress w' s = (serves-as EachPart AnyPart Anything pass-any w t progress w' tt s).0
+
+pub step-any : (w : World) (e : Event) (w' : World) → Step EachPart w e w' → Step AnyPart w e w'
+step-any w e w' s = (step-as EachPart AnyPart Anything pass-any w e w' tt s).0
+
+-- a run whatever the leaves answer
+pub run-any : (w : World) (turns : List Turn) → Run EachPart w turns → Run AnyPart w turns
+run-any w turns r = (run-as EachPart AnyPart Anything pass-any w turns tt r).0
+
+-- a run over steady leaves
+pub run-steady : (w : World) (turns : List Turn) → AllSteady w.stack.leaves → Run EachPart w turns → Run SteadyPart w turns × AllSteady (last w turns).stack.leaves
+run-steady w turns h r = run-as EachPart SteadyPart AllSteady pass-steady w turns h r
+
+pass-steady-any : Passes SteadyPart AnyPart Anything
+pass-steady-any v d first part answer v' h p = (steady-any-part v d first part answer v' p, tt)
+
+pub step-steady-any : (w : World) (e : Event) (w' : World) → Step SteadyPart w e w' → Step AnyPart w e w'
+step-steady-any w e w' s = (step-as SteadyPart AnyPart Anything pass-steady-any w e w' tt s).0

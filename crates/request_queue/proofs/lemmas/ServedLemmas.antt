@@ -1,0 +1,182 @@
+-- A request's own steps in a run, whatever is served in between.
+use Rattle.std.proofs.Common.{◌≡◌, ℕ, true, false, Bool, List, [], ◌∷◌, length, refl, ap, sym, ◌∙◌, subst, arith, Some, None, Ok, Err}
+use Rattle.std.specs.Prelude.{remove}
+use Rattle.stack_engine.specs.Leaves.{AllSteady}
+use Rattle.stack_engine.specs.Stacks.{StackRecord}
+use Rattle.request_queue.specs.declared.fault.Held.TheVariants.{Busy, Fault}
+use Rattle.request_queue.specs.declared.reply.Progress.{Progress}
+use Rattle.request_queue.specs.declared.reply.Progress.TheVariants.{More, Done}
+use Rattle.request_queue.specs.Requests.{RequestRecord}
+use Rattle.request_queue.specs.Flights.{FlightRecord, first_flight, next_flight}
+use Rattle.request_queue.specs.Parts.{PartRelation, AnyPart, SteadyPart, EachPart, Asks}
+use Rattle.request_queue.specs.World.{World, world, Event, submit, step, load, remove_device, run, Step, Serves, Begins, next_count}
+use Rattle.request_queue.specs.Runs.{Turn, Run, last, total, is_step, flight_of, served_for}
+use Rattle.request_queue.specs.Laws.{passage, passages, end_of, answer_to, IsServed, waits, goes_on, finishes, fails, RequestLaw, is_refusal, TurnLaw, QueueLaw}
+use Rattle.request_queue.proofs.lemmas.TicketLemmas.{test-same, at-ticket, find-at, find-changed, find-removed}
+use Rattle.request_queue.proofs.lemmas.PremiseLemmas.{step-any, run-any, run-steady}
+use Rattle.request_queue.proofs.lemmas.BudgetLemmas.{InOrder, Knows, Turned, own_turn, other_turn, turned, knows-turn, newly, whole-budget, whole-steps, untouched}
+
+-- a request that is over has no steps more
+pub no-steps : (t : ℕ) (v : World) (turns : List Turn) → Knows t v → flight_of v t ≡ None → Run AnyPart v turns → (passages t v turns ≡ []) × (answer_to t turns ≡ None)
+no-steps t v [] knows none r = (refl, refl)
+no-steps t v (x ∷ more) knows none r = by (turned v x.after t x.event knows.0 knows.1 r.0) (λ later still. no-steps t x.after more later still r.1)
+  where
+    by : Turned v t x.event x.after → (Knows t x.after → flight_of x.after t ≡ None → (passages t x.after more ≡ []) × (answer_to t more ≡ None))
+        → (passages t v (x ∷ more) ≡ []) × (answer_to t (x ∷ more) ≡ None)
+    by (own_turn is s) next = let clash : None ≡ Some s.f = sym none ∙ s.is in cc
+    by (other_turn is k) next = rw is (next (k.order, omega (arith, knows.1, k.given)) (k.same ∙ none))
+
+-- the step of a ticket
+data Own (part : PartRelation) (t : ℕ) (v : World) (e : Event) (w' : World) : Type 0 where
+  own_step : (progress : Progress) → e ≡ step t (Ok progress) → Serves part v t progress w' → Own part t v e w'
+
+own-step : (part : PartRelation) (t : ℕ) (v : World) (e : Event) (w' : World) → is_step t e ≡ true → Step part v e w' → Own part t v e w'
+own-step part t v (submit r reply) w' is s = let clash : false ≡ true = is in cc
+own-step part t v (step u (Ok progress)) w' is s =
+    let same = test-same u t is in
+    own_step progress (ap (λ n. step n (Ok progress)) same) (subst (λ n. Serves part v n progress w') same s)
+own-step part t v (step u (Err none)) w' is s = let clash : false ≡ true = is in cc
+own-step part t v (load text reply) w' is s = let clash : false ≡ true = is in cc
+own-step part t v (remove_device name reply) w' is s = let clash : false ≡ true = is in cc
+own-step part t v (run r reply) w' is s = let clash : false ≡ true = is in cc
+
+module _ (part : PartRelation) (t : ℕ) (v : World) (v' : World) (f : FlightRecord) (order : InOrder v) (there : flight_of v t ≡ Some f) where
+  -- the request that a step of its ticket serves
+  pub same-flight : (progress : Progress) (s : Serves part v t progress v') → s.f ≡ f
+  same-flight progress s =
+      let found : flight_of v t ≡ Some s.f = (find-at 0 v.given t s.i v.in_flight s.f order s.at.is (at-ticket v.in_flight t s.i s.f s.at)).1 in
+      let both : Some s.f ≡ Some f = sym found ∙ there in cc
+
+  pub after-more : (s : Serves part v t More v') → flight_of v' t ≡ Some (next_flight s.f (next_count v s.f) s.answers.got)
+  after-more s =
+      let own : s.f.ticket ≡ t = at-ticket v.in_flight t s.i s.f s.at in
+      let f' = next_flight s.f (next_count v s.f) s.answers.got in
+      let found = (find-changed 0 v.given t s.i v.in_flight s.f f' order s.at.is own own).1 in
+      subst (λ (y : World). flight_of y t ≡ Some f') (sym s.answers.leaves) found
+
+  after-removal : (stack : StackRecord) (i : ℕ) (g : FlightRecord) → Rattle.request_queue.specs.World.IsAt v.in_flight t i g → v' ≡ world stack v.given (remove v.in_flight i) → flight_of v' t ≡ None
+  after-removal stack i g at leaves =
+      let own : g.ticket ≡ t = at-ticket v.in_flight t i g at in
+      let none = (find-removed 0 v.given t i v.in_flight g order at.is own).1 in
+      subst (λ (y : World). flight_of y t ≡ None) (sym leaves) none
+
+-- one step of a request in front of those that follow
+module _ (part : PartRelation) (t : ℕ) (v : World) (x : Turn) (more : List Turn) (f : FlightRecord) (order : InOrder v) (there : flight_of v t ≡ Some f) (is : is_step t x.event ≡ true) where
+  step-in-front : (progress : Progress) → x.event ≡ step t (Ok progress) → Serves part v t progress x.after
+      → ((g : FlightRecord) → flight_of x.after t ≡ Some g → IsServed part g (passages t x.after more) (answer_to t more))
+      → (flight_of x.after t ≡ None → (passages t x.after more ≡ []) × (answer_to t more ≡ None))
+      → IsServed part f (passages t v (x ∷ more)) (answer_to t (x ∷ more))
+  step-in-front More e s next gone =
+      let now : x.after.stack ≡ s.answers.stack = ap (λ (y : World). y.stack) s.answers.leaves in
+      let ending : end_of x.event ≡ None = ap end_of e in
+      let asks : Asks part v.stack s.f (Ok s.answers.got) x.after.stack = subst (λ y. Asks part v.stack s.f (Ok s.answers.got) y) (sym now) s.answers.asks in
+      let rest = next (next_flight s.f (next_count v s.f) s.answers.got) (after-more part t v x.after f order there s) in
+      let whole : IsServed part s.f (passage v x ∷ passages t x.after more) (answer_to t more) = goes_on s.answers.got asks s.answers.rest rest in
+      rw (is, ending) (subst (λ g. IsServed part g (passage v x ∷ passages t x.after more) (answer_to t more)) (same-flight part t v x.after f order there More s) whole)
+  step-in-front (Done (Ok reply)) e s next gone =
+      let now : x.after.stack ≡ s.answers.stack = ap (λ (y : World). y.stack) s.answers.leaves in
+      let ending : end_of x.event ≡ Some (Ok reply) = ap end_of e in
+      let asks : Asks part v.stack s.f (Ok s.answers.got) x.after.stack = subst (λ y. Asks part v.stack s.f (Ok s.answers.got) y) (sym now) s.answers.asks in
+      let none = (gone (after-removal part t v x.after f order there s.answers.stack s.i s.f s.at s.answers.leaves)).0 in
+      let whole : IsServed part s.f (passage v x ∷ []) (Some (Ok reply)) = finishes s.answers.got asks s.answers.last s.answers.replies in
+      rw (is, ending, none) (subst (λ g. IsServed part g (passage v x ∷ []) (Some (Ok reply))) (same-flight part t v x.after f order there (Done (Ok reply)) s) whole)
+  step-in-front (Done (Err fault)) e s next gone =
+      let now : x.after.stack ≡ s.answers.stack = ap (λ (y : World). y.stack) s.answers.leaves in
+      let ending : end_of x.event ≡ Some (Err fault) = ap end_of e in
+      let asks : Asks part v.stack s.f (Err fault) x.after.stack = subst (λ y. Asks part v.stack s.f (Err fault) y) (sym now) s.answers.asks in
+      let none = (gone (after-removal part t v x.after f order there s.answers.stack s.i s.f s.at s.answers.leaves)).0 in
+      let whole : IsServed part s.f (passage v x ∷ []) (Some (Err fault)) = fails asks in
+      rw (is, ending, none) (subst (λ g. IsServed part g (passage v x ∷ []) (Some (Err fault))) (same-flight part t v x.after f order there (Done (Err fault)) s) whole)
+
+-- parts of that kind, whatever the leaves answer
+abbrev pub Includes : PartRelation → Type 0
+Includes part = (w : World) (e : Event) (w' : World) → Step part w e w' → Step AnyPart w e w'
+
+run-down : (part : PartRelation) → Includes part → (w : World) (turns : List Turn) → Run part w turns → Run AnyPart w turns
+run-down part down w [] r = tt
+run-down part down w (x ∷ more) r = (down w x.event x.after r.0, run-down part down x.after more r.1)
+
+-- Whatever is served in between, a request is served by its own steps.
+pub is-served : (part : PartRelation) → Includes part → (t : ℕ) (v : World) (turns : List Turn) (f : FlightRecord) → Knows t v → flight_of v t ≡ Some f → Run part v turns
+    → IsServed part f (passages t v turns) (answer_to t turns)
+is-served part down t v [] f knows there r = waits
+is-served part down t v (x ∷ more) f knows there r = by turn (λ g at. is-served part down t x.after more g later at r.1)
+  where
+    turn : Turned v t x.event x.after
+    turn = turned v x.after t x.event knows.0 knows.1 (down v x.event x.after r.0)
+
+    later : Knows t x.after
+    later = knows-turn t v x.event x.after knows.1 turn
+
+    mine : is_step t x.event ≡ true → Own part t v x.event x.after → ((g : FlightRecord) → flight_of x.after t ≡ Some g → IsServed part g (passages t x.after more) (answer_to t more))
+        → IsServed part f (passages t v (x ∷ more)) (answer_to t (x ∷ more))
+    mine is (own_step progress e s) next =
+        step-in-front part t v x more f knows.0 there is progress e s next (λ none. no-steps t x.after more later none (run-down part down x.after more r.1))
+
+    by : Turned v t x.event x.after → ((g : FlightRecord) → flight_of x.after t ≡ Some g → IsServed part g (passages t x.after more) (answer_to t more))
+        → IsServed part f (passages t v (x ∷ more)) (answer_to t (x ∷ more))
+    by (own_turn is s) next = mine is (own-step part t v x.event x.after is r.0) next
+    by (other_turn is k) next = rw is (next f (k.same ∙ there))
+
+-- ---- the laws
+
+-- its steps, counted
+passages-count : (t : ℕ) (v : World) (turns : List Turn) → length (passages t v turns) ≡ total (served_for t) v turns
+passages-count t v [] = refl
+passages-count t v (x ∷ more) = by (is_step t x.event) refl (passages-count t x.after more)
+  where
+    by : (b : Bool) → is_step t x.event ≡ b → length (passages t x.after more) ≡ total (served_for t) x.after more → length (passages t v (x ∷ more)) ≡ total (served_for t) v (x ∷ more)
+    by true is same = rw is (omega (arith, same))
+    by false is same = rw is (omega (arith, same))
+
+steady-any : Includes SteadyPart
+steady-any w e w' s = Rattle.request_queue.proofs.lemmas.PremiseLemmas.step-steady-any w e w' s
+
+-- what a request gets that was begun
+pub request-law : (w : World) (r : RequestRecord) (t : ℕ) (v : World) (turns : List Turn) → InOrder w → (b : Begins w r t v) → Run EachPart v turns → RequestLaw w r t b.range v turns
+request-law w r t v turns order b each =
+    let new = newly w r t v order b in
+    let knows : Knows t v = (new.order, new.old) in
+    let low = run-any v turns each in
+    let few = whole-steps w r t v turns order b low in
+    record {
+      any = is-served AnyPart (λ w' e v' s. s) t v turns (first_flight t b.range r) knows new.flight low;
+      steady = λ steady.
+          is-served SteadyPart steady-any t v turns (first_flight t b.range r) knows new.flight (run-steady v turns (subst (λ (s : StackRecord). AllSteady s.leaves) (sym new.stack) steady) each).0;
+      steps = omega (arith, few, passages-count t v turns);
+      moved = whole-budget w r t v turns order b low;
+    }
+
+-- a refusal leaves all as it was
+pub refusal-same : (part : PartRelation) (w : World) (e : Event) (w' : World) → is_refusal e ≡ true → Step part w e w' → w' ≡ w
+refusal-same part w (submit r (Ok ticket)) w' is s = let clash : false ≡ true = is in cc
+refusal-same part w (submit r (Err fault)) w' is s = s.same
+refusal-same part w (step t (Ok progress)) w' is s = let clash : false ≡ true = is in cc
+refusal-same part w (step t (Err none)) w' is s = s.1
+refusal-same part w (load text (Ok done)) w' is s = let clash : false ≡ true = is in cc
+refusal-same part w (load text (Err Busy)) w' is s = s.1
+refusal-same part w (load text (Err (Fault fault))) w' is s = s.2
+refusal-same part w (remove_device name (Ok done)) w' is s = let clash : false ≡ true = is in cc
+refusal-same part w (remove_device name (Err Busy)) w' is s = s.1
+refusal-same part w (remove_device name (Err (Fault fault))) w' is s = s.2
+refusal-same part w (run r (Ok answer)) w' is s = let clash : false ≡ true = is in cc
+refusal-same part w (run r (Err fault)) w' is s = s.same
+
+order-kept : (w : World) (turns : List Turn) → InOrder w → Run EachPart w turns → InOrder (last w turns)
+order-kept w [] order r = order
+order-kept w (x ∷ more) order r =
+    let turn = turned w x.after 0 x.event order (omega arith) (step-any w x.event x.after r.0) in
+    order-kept x.after more (knows-turn 0 w x.event x.after (omega arith) turn).0 r.1
+
+pub turn-law : (w : World) (x : Turn) → InOrder w → Step EachPart w x.event x.after → TurnLaw w x
+turn-law w x order s = record {
+  others = λ t old other. untouched w x.after t x.event order old (step-any w x.event x.after s) other;
+  refused = λ is. refusal-same EachPart w x.event x.after is s;
+}
+
+-- every run from a world whose tickets are in order
+pub queue-law : (w : World) → InOrder w → QueueLaw w
+queue-law w order = record {
+  requests = λ before done r t v b turns each. request-law (last w before) r t v turns (order-kept w before order done) b each;
+  turns = λ before done x s. turn-law (last w before) x (order-kept w before order done) s;
+}

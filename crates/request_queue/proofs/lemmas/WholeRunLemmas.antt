@@ -1,0 +1,304 @@
+-- Steps of one request up to its last, with nothing in between.
+use Rattle.std.proofs.Common.{◌≡◌, ◌<◌, ◌≤◌, ℕ, ◌+◌, ◌-◌, ◌*◌, ◌/◌, ◌%◌, List, [], ◌++◌, length, take, drop, refl, ap, sym, ◌∙◌, subst, arith, Option, Some, Result, Ok, Err}
+use Rattle.std.proofs.lemmas.List.{length-take-le, length-drop, take-append-drop}
+use Rattle.std.proofs.Math.Seq.{take-length, take-add}
+use Rattle.stack_loader.specs.Names.{mapped}
+use Rattle.stack_loader.specs.Rules.{IsLoaded}
+use Rattle.stack_engine.specs.declared.fault.IoFault.{IoFault}
+use Rattle.stack_engine.specs.declared.fault.IoFault.TheVariants as io
+use Rattle.stack_engine.specs.Pieces.{EachPiece, stack_over}
+use Rattle.stack_engine.specs.WritePieces.{EachWrite}
+use Rattle.stack_engine.specs.Reading.{Gets}
+use Rattle.stack_engine.specs.Stacks.{StackRecord, AnswerRecord}
+use Rattle.stack_engine.proofs.lemmas.PieceLemmas.{piece_expected, pieces_expected, no-pieces, more-pieces, fault-pieces, piece-got}
+use Rattle.stack_engine.proofs.lemmas.WritePieceLemmas.{write-none, write-then, write-ends}
+use Rattle.request_queue.specs.declared.fault.SubmitFault.{SubmitFault}
+use Rattle.request_queue.specs.declared.range.SectorRange.{SectorRange}
+use Rattle.request_queue.specs.declared.reply.Progress.TheVariants.{More, Done}
+use Rattle.request_queue.specs.declared.reply.Reply.{Reply}
+use Rattle.request_queue.specs.declared.reply.Reply.TheVariants.{Sectors, Written}
+use Rattle.request_queue.specs.Requests.{RequestRecord, a_read, a_write}
+use Rattle.request_queue.specs.Flights.{FlightRecord, reads, writes, first_flight, next_flight, next_work, joint_answer, nothing, reply_to}
+use Rattle.request_queue.specs.Parts.{EachPart, Asks, ending, part_of_work, done_of}
+use Rattle.request_queue.specs.World.{World, Serves, Begins, Ends, at_once, later, Runs, next_count}
+use Rattle.request_queue.specs.Runs.{flight_of}
+use Rattle.request_queue.specs.WholeRuns.{ReadsWhole, WritesWhole, Whole, RunAnswers}
+use Rattle.request_queue.proofs.lemmas.AdmissionLemmas.{admission-whole}
+use Rattle.request_queue.proofs.lemmas.PremiseLemmas.{serves-any}
+use Rattle.request_queue.proofs.lemmas.BudgetLemmas.{InOrder, has-served, newly, piece_len-within}
+use Rattle.request_queue.proofs.lemmas.ServedLemmas.{same-flight, after-more}
+
+-- a read of count sectors from base on, of which a were read
+pub record ReadSoFar (base : StackRecord) (range : SectorRange) (t : ℕ) (w : World) : Type 0 where
+  pub f : FlightRecord
+  pub there : flight_of w t ≡ Some f
+  pub order : InOrder w
+  pub config : w.stack.config ≡ base.config
+  pub device : f.rest.device ≡ range.device
+  pub done : ℕ
+  pub at : f.rest.first ≡ range.first + done
+  pub left : done + f.rest.count ≡ range.count
+  pub got : AnswerRecord
+  pub work : f.work ≡ reads got
+  pub gets : Gets (pieces_expected base.config (mapped range.device.0) range.first done) base.leaves w.stack.leaves (Ok got)
+
+-- the piece that a step of it reads
+piece-of : (base : StackRecord) (range : SectorRange) (t : ℕ) (w w' : World) (u : ReadSoFar base range t w) (f : FlightRecord) (answer : Result AnswerRecord IoFault) (stack : StackRecord) → f ≡ u.f → stack ≡ w'.stack
+    → Asks EachPart w.stack f answer stack → Gets (piece_expected base.config (mapped range.device.0) (range.first + u.done) (next_count w f)) w.stack.leaves w'.stack.leaves answer
+piece-of base range t w w' u f answer stack same now p =
+    let n = next_count w f in
+    let work : f.work ≡ reads u.got = ap (λ (x : FlightRecord). x.work) same ∙ u.work in
+    let piece : EachPiece w.stack f.rest.device.0 f.rest.first n answer stack = subst (λ x. EachPart w.stack f.rest.device.0 f.rest.first (part_of_work x (done_of f) n) answer stack) work p in
+    let device : f.rest.device.0 ≡ range.device.0 = ap (λ (x : FlightRecord). x.rest.device.0) same ∙ ap (λ d. d.0) u.device in
+    let first : f.rest.first ≡ range.first + u.done = ap (λ (x : FlightRecord). x.rest.first) same ∙ u.at in
+    subst (λ (x : StackRecord). Gets (piece_expected base.config (mapped range.device.0) (range.first + u.done) n) w.stack.leaves x.leaves answer) now
+    (subst (λ c. Gets (piece_expected c (mapped range.device.0) (range.first + u.done) n) w.stack.leaves stack.leaves answer) u.config
+    (subst (λ s. Gets (piece_expected w.stack.config (mapped range.device.0) s n) w.stack.leaves stack.leaves answer) first
+    (subst (λ d. Gets (piece_expected w.stack.config (mapped d) f.rest.first n) w.stack.leaves stack.leaves answer) device
+    (piece-got f.rest.device.0 f.rest.first n answer piece))))
+
+further : (base : StackRecord) (range : SectorRange) (t : ℕ) (w w' : World) → ReadSoFar base range t w → Serves EachPart w t More w' → ReadSoFar base range t w'
+further base range t w w' u s =
+    let own = has-served w t More w' u.order (serves-any w t More w' s) in
+    let same = same-flight EachPart t w w' u.f u.order u.there More s in
+    let n = next_count w s.f in
+    let most : n ≤ s.f.rest.count = piece_len-within w.stack.config s.f.rest in
+    let first : s.f.rest.first ≡ range.first + u.done = ap (λ (x : FlightRecord). x.rest.first) same ∙ u.at in
+    let count : s.f.rest.count ≡ u.f.rest.count = ap (λ (x : FlightRecord). x.rest.count) same in
+    record {
+      f = next_flight s.f n s.answers.got;
+      there = after-more EachPart t w w' u.f u.order u.there s;
+      order = own.order;
+      config = own.config ∙ u.config;
+      device = ap (λ (x : FlightRecord). x.rest.device) same ∙ u.device;
+      done = u.done + n;
+      at = omega (arith, first);
+      left = omega (arith, count, u.left, most);
+      got = joint_answer u.got s.answers.got;
+      work = ap (λ work. next_work work s.answers.got) (ap (λ (x : FlightRecord). x.work) same ∙ u.work);
+      gets = more-pieces base.config (mapped range.device.0) range.first u.done n {before = u.got} u.gets {answer = s.answers.got}
+          (piece-of base range t w w' u s.f (Ok s.answers.got) s.answers.stack same (sym (ap (λ (y : World). y.stack) s.answers.leaves)) s.answers.asks);
+    }
+
+whole-of : {v v' : StackRecord} (range : SectorRange) (answer : Result AnswerRecord IoFault) → v'.config ≡ v.config → Gets (pieces_expected v.config (mapped range.device.0) range.first range.count) v.leaves v'.leaves answer
+    → ReadsWhole v range answer v'
+whole-of range answer config p = record { config = config; moved = p.moved; may = p.may; exact = p.exact }
+
+-- its last step
+read-over : (base : StackRecord) (range : SectorRange) (t : ℕ) (name : List ℕ) (first count : ℕ) (answer : Result Reply IoFault) (w w' : World) → ReadSoFar base range t w → Serves EachPart w t (Done answer) w'
+    → Whole (a_read name first count) base range answer w'.stack
+read-over base range t name first count (Ok reply) w w' u s =
+    let own = has-served w t (Done (Ok reply)) w' u.order (serves-any w t (Done (Ok reply)) w' s) in
+    let same = same-flight EachPart t w w' u.f u.order u.there (Done (Ok reply)) s in
+    let n = next_count w s.f in
+    let all = joint_answer u.got s.answers.got in
+    let last : u.done + n ≡ range.count = omega (arith, s.answers.last, ap (λ (x : FlightRecord). x.rest.count) same, u.left) in
+    let work : next_work s.f.work s.answers.got ≡ reads all = ap (λ work. next_work work s.answers.got) (ap (λ (x : FlightRecord). x.work) same ∙ u.work) in
+    let is : reply ≡ Sectors all = s.answers.replies ∙ ap reply_to work in
+    let gets = more-pieces base.config (mapped range.device.0) range.first u.done n {before = u.got} u.gets {answer = s.answers.got}
+    (piece-of base range t w w' u s.f (Ok s.answers.got) s.answers.stack same (sym (ap (λ (y : World). y.stack) s.answers.leaves)) s.answers.asks) in
+    let whole : ReadsWhole base range (Ok all) w'.stack =
+    whole-of {v = base} {v' = w'.stack} range (Ok all) (own.config ∙ u.config) (subst (λ k. Gets (pieces_expected base.config (mapped range.device.0) range.first k) base.leaves w'.stack.leaves (Ok all)) last gets) in
+    subst (λ x. Whole (a_read name first count) base range (Ok x) w'.stack) (sym is) whole
+read-over base range t name first count (Err fault) w w' u s =
+    let own = has-served w t (Done (Err fault)) w' u.order (serves-any w t (Done (Err fault)) w' s) in
+    let same = same-flight EachPart t w w' u.f u.order u.there (Done (Err fault)) s in
+    let n = next_count w s.f in
+    let most : n ≤ s.f.rest.count = piece_len-within w.stack.config s.f.rest in
+    let inside : u.done + n ≤ range.count = omega (arith, most, ap (λ (x : FlightRecord). x.rest.count) same, u.left) in
+    whole-of {v = base} {v' = w'.stack} range (Err fault) (own.config ∙ u.config)
+    (fault-pieces base.config (mapped range.device.0) range.first u.done n {before = u.got} u.gets range.count fault inside
+    (piece-of base range t w w' u s.f (Err fault) s.answers.stack same (sym (ap (λ (y : World). y.stack) s.answers.leaves)) s.answers.asks))
+
+read-ends : (base : StackRecord) (range : SectorRange) (t : ℕ) (name : List ℕ) (first count : ℕ) (answer : Result Reply IoFault) (w w' : World) → ReadSoFar base range t w → Ends EachPart t answer w w'
+    → Whole (a_read name first count) base range answer w'.stack
+read-ends base range t name first count answer w w' u (at_once s) = read-over base range t name first count answer w w' u s
+read-ends base range t name first count answer w w' u (later {v = v} s more) = read-ends base range t name first count answer v w' (further base range t w v u s) more
+
+-- a read of which nothing was done yet
+read-begun : (w : World) (name : List ℕ) (first count t : ℕ) (v : World) → InOrder w → (b : Begins w (a_read name first count) t v) → ReadSoFar w.stack b.range t v
+read-begun w name first count t v order b =
+    let r = a_read name first count in
+    let new = newly w r t v order b in
+    record {
+      f = first_flight t b.range r;
+      there = new.flight;
+      order = new.order;
+      config = ap (λ (x : StackRecord). x.config) new.stack;
+      device = refl;
+      done = 0;
+      at = omega arith;
+      left = omega arith;
+      got = nothing;
+      work = refl;
+      gets = subst (λ (x : StackRecord). Gets (pieces_expected w.stack.config (mapped b.range.device.0) b.range.first 0) w.stack.leaves x.leaves (Ok nothing)) (sym new.stack)
+          (no-pieces w.stack.config (mapped b.range.device.0) b.range.first w.stack.leaves);
+    }
+
+-- ---- writes
+
+-- a write of bytes from the first sector on, of which as many sectors were written as are done
+pub record WriteSoFar (base : StackRecord) (range : SectorRange) (bytes : List ℕ) (t : ℕ) (w : World) : Type 0 where
+  pub f : FlightRecord
+  pub there : flight_of w t ≡ Some f
+  pub order : InOrder w
+  pub device : f.rest.device ≡ range.device
+  pub first : f.first ≡ range.first
+  pub done : ℕ
+  pub at : f.rest.first ≡ range.first + done
+  pub left : done + f.rest.count ≡ range.count
+  pub work : f.work ≡ writes bytes
+  pub put : EachWrite base range.device.0 range.first (take (512 * done) bytes) (Ok tt) w.stack
+
+-- the next sectors of some bytes
+abbrev next_bytes : List ℕ → ℕ → ℕ → List ℕ
+next_bytes bytes done n = take (512 * n) (drop (512 * done) bytes)
+
+-- the part that a step of it writes
+written-part : (base : StackRecord) (range : SectorRange) (bytes : List ℕ) (t : ℕ) (w w' : World) (u : WriteSoFar base range bytes t w) (f : FlightRecord) (answer : Result AnswerRecord IoFault) (stack : StackRecord)
+    → f ≡ u.f → stack ≡ w'.stack → Asks EachPart w.stack f answer stack → EachWrite w.stack range.device.0 (range.first + u.done) (next_bytes bytes u.done (next_count w f)) (ending answer) w'.stack
+written-part base range bytes t w w' u f answer stack same now p =
+    let n = next_count w f in
+    let work : f.work ≡ writes bytes = ap (λ (x : FlightRecord). x.work) same ∙ u.work in
+    let first : f.rest.first ≡ range.first + u.done = ap (λ (x : FlightRecord). x.rest.first) same ∙ u.at in
+    let start : f.first ≡ range.first = ap (λ (x : FlightRecord). x.first) same ∙ u.first in
+    let done : done_of f ≡ u.done = omega (arith, first, start) in
+    let device : f.rest.device.0 ≡ range.device.0 = ap (λ (x : FlightRecord). x.rest.device.0) same ∙ ap (λ d. d.0) u.device in
+    let piece : EachWrite w.stack f.rest.device.0 f.rest.first (next_bytes bytes (done_of f) n) (ending answer) stack =
+    subst (λ x. EachPart w.stack f.rest.device.0 f.rest.first (part_of_work x (done_of f) n) answer stack) work p in
+    subst (λ (x : StackRecord). EachWrite w.stack range.device.0 (range.first + u.done) (next_bytes bytes u.done n) (ending answer) x) now
+    (subst (λ k. EachWrite w.stack range.device.0 (range.first + u.done) (next_bytes bytes k n) (ending answer) stack) done
+    (subst (λ k. EachWrite w.stack range.device.0 k (next_bytes bytes (done_of f) n) (ending answer) stack) first
+    (subst (λ d. EachWrite w.stack d f.rest.first (next_bytes bytes (done_of f) n) (ending answer) stack) device piece)))
+
+-- the bytes so far and those of the next piece
+next_bytes-seam : (bytes : List ℕ) (a n : ℕ) → take (512 * a) bytes ++ next_bytes bytes a n ≡ take (512 * (a + n)) bytes
+next_bytes-seam bytes a n =
+    let more : 512 * a + 512 * n ≡ 512 * (a + n) = omega arith in
+    sym (take-add (512 * a) (512 * n) bytes) ∙ ap (λ k. take k bytes) more
+
+next_bytes-rest : (bytes : List ℕ) (a n : ℕ) → take (512 * a) bytes ++ (next_bytes bytes a n ++ drop (512 * n) (drop (512 * a) bytes)) ≡ bytes
+next_bytes-rest bytes a n = ap (λ l. take (512 * a) bytes ++ l) (take-append-drop (512 * n) (drop (512 * a) bytes)) ∙ take-append-drop (512 * a) bytes
+
+module _ (base : StackRecord) (loaded : IsLoaded base.config) (range : SectorRange) (bytes : List ℕ) (len : length bytes ≡ 512 * range.count) (t : ℕ) where
+  front-length : (a : ℕ) → a ≤ range.count → length (take (512 * a) bytes) ≡ 512 * a
+  front-length a h = length-take-le (512 * a) bytes (omega (arith, len, h))
+
+  next-length : (a n : ℕ) → a + n ≤ range.count → length (next_bytes bytes a n) ≡ 512 * n
+  next-length a n h =
+      let tail : length (drop (512 * a) bytes) ≡ length bytes - 512 * a = length-drop (512 * a) bytes in
+      length-take-le (512 * n) (drop (512 * a) bytes) (omega (arith, len, tail, h))
+
+  -- the next part, behind those before it
+  module _ (w w' : World) (u : WriteSoFar base range bytes t w) (n : ℕ) (inside : u.done + n ≤ range.count) where
+    front-whole : length (take (512 * u.done) bytes) % 512 ≡ 0
+    front-whole = omega (arith, front-length u.done (omega (arith, inside)))
+
+    next-at : range.first + u.done ≡ range.first + length (take (512 * u.done) bytes) / 512
+    next-at = omega (arith, front-length u.done (omega (arith, inside)))
+
+    put-more : EachWrite w.stack range.device.0 (range.first + u.done) (next_bytes bytes u.done n) (Ok tt) w'.stack → EachWrite base range.device.0 range.first (take (512 * (u.done + n)) bytes) (Ok tt) w'.stack
+    put-more p =
+        subst (λ l. EachWrite base range.device.0 range.first l (Ok tt) w'.stack) (next_bytes-seam bytes u.done n)
+        (write-then range.device.0 range.first (take (512 * u.done) bytes) (next_bytes bytes u.done n) loaded front-whole u.put
+        (subst (λ k. EachWrite w.stack range.device.0 k (next_bytes bytes u.done n) (Ok tt) w'.stack) next-at p))
+
+    put-ends : (fault : IoFault) → (fault ≡ io.NoMemory → ⊥) → EachWrite w.stack range.device.0 (range.first + u.done) (next_bytes bytes u.done n) (Err fault) w'.stack → EachWrite base range.device.0 range.first bytes (Err fault) w'.stack
+    put-ends fault kind p =
+        subst (λ l. EachWrite base range.device.0 range.first l (Err fault) w'.stack) (next_bytes-rest bytes u.done n)
+        (write-ends range.device.0 range.first (take (512 * u.done) bytes) (next_bytes bytes u.done n) loaded front-whole u.put
+        (drop (512 * n) (drop (512 * u.done) bytes)) fault (omega (arith, next-length u.done n inside)) kind
+        (subst (λ k. EachWrite w.stack range.device.0 k (next_bytes bytes u.done n) (Err fault) w'.stack) next-at p))
+
+    -- where memory ran out nothing more was written
+    put-nothing : EachWrite w.stack range.device.0 (range.first + u.done) (next_bytes bytes u.done n) (Err io.NoMemory) w'.stack → EachWrite base range.device.0 range.first (take (512 * u.done) bytes) (Ok tt) w'.stack
+    put-nothing p =
+        let same : w.stack ≡ w'.stack = ap (λ c. stack_over c w.stack.leaves) (sym p.any.config) ∙ ap (λ l. stack_over w'.stack.config l) (sym p.any.ends) in
+        subst (λ x. EachWrite base range.device.0 range.first (take (512 * u.done) bytes) (Ok tt) x) same u.put
+
+    put-fails : (fault : IoFault) → u.done < range.count → EachWrite w.stack range.device.0 (range.first + u.done) (next_bytes bytes u.done n) (Err fault) w'.stack → WritesWhole base range bytes (Err fault) w'.stack
+    put-fails io.ErrorTarget some p = put-ends io.ErrorTarget (λ e. cc) p
+    put-fails io.Mismatch some p = put-ends io.Mismatch (λ e. cc) p
+    put-fails (io.Device i) some p = put-ends (io.Device i) (λ e. cc) p
+    put-fails io.NoMemory some p = (u.done, some, put-nothing p)
+
+  write-further : (w w' : World) → WriteSoFar base range bytes t w → Serves EachPart w t More w' → WriteSoFar base range bytes t w'
+  write-further w w' u s =
+      let own = has-served w t More w' u.order (serves-any w t More w' s) in
+      let same = same-flight EachPart t w w' u.f u.order u.there More s in
+      let n = next_count w s.f in
+      let most : n ≤ s.f.rest.count = piece_len-within w.stack.config s.f.rest in
+      let first : s.f.rest.first ≡ range.first + u.done = ap (λ (x : FlightRecord). x.rest.first) same ∙ u.at in
+      let count : s.f.rest.count ≡ u.f.rest.count = ap (λ (x : FlightRecord). x.rest.count) same in
+      record {
+        f = next_flight s.f n s.answers.got;
+        there = after-more EachPart t w w' u.f u.order u.there s;
+        order = own.order;
+        device = ap (λ (x : FlightRecord). x.rest.device) same ∙ u.device;
+        first = ap (λ (x : FlightRecord). x.first) same ∙ u.first;
+        done = u.done + n;
+        at = omega (arith, first);
+        left = omega (arith, count, u.left, most);
+        work = ap (λ work. next_work work s.answers.got) (ap (λ (x : FlightRecord). x.work) same ∙ u.work);
+        put = put-more w w' u n (omega (arith, count, u.left, most))
+            (written-part base range bytes t w w' u s.f (Ok s.answers.got) s.answers.stack same (sym (ap (λ (y : World). y.stack) s.answers.leaves)) s.answers.asks);
+      }
+
+  write-over : (name : List ℕ) (first : ℕ) (answer : Result Reply IoFault) (w w' : World) → WriteSoFar base range bytes t w → Serves EachPart w t (Done answer) w' → Whole (a_write name first bytes) base range answer w'.stack
+  write-over name first (Ok reply) w w' u s =
+      let same = same-flight EachPart t w w' u.f u.order u.there (Done (Ok reply)) s in
+      let n = next_count w s.f in
+      let count : s.f.rest.count ≡ u.f.rest.count = ap (λ (x : FlightRecord). x.rest.count) same in
+      let last : u.done + n ≡ range.count = omega (arith, s.answers.last, count, u.left) in
+      let work : next_work s.f.work s.answers.got ≡ writes bytes = ap (λ work. next_work work s.answers.got) (ap (λ (x : FlightRecord). x.work) same ∙ u.work) in
+      let is : reply ≡ Written = s.answers.replies ∙ ap reply_to work in
+      let put = put-more w w' u n (omega (arith, last))
+      (written-part base range bytes t w w' u s.f (Ok s.answers.got) s.answers.stack same (sym (ap (λ (y : World). y.stack) s.answers.leaves)) s.answers.asks) in
+      let all : take (512 * (u.done + n)) bytes ≡ bytes = ap (λ k. take k bytes) (ap (λ k. 512 * k) last ∙ sym len) ∙ take-length bytes in
+      subst (λ x. Whole (a_write name first bytes) base range (Ok x) w'.stack) (sym is) (subst (λ l. EachWrite base range.device.0 range.first l (Ok tt) w'.stack) all put)
+  write-over name first (Err fault) w w' u s =
+      let same = same-flight EachPart t w w' u.f u.order u.there (Done (Err fault)) s in
+      let n = next_count w s.f in
+      let most : n ≤ s.f.rest.count = piece_len-within w.stack.config s.f.rest in
+      let count : s.f.rest.count ≡ u.f.rest.count = ap (λ (x : FlightRecord). x.rest.count) same in
+      put-fails w w' u n (omega (arith, most, count, u.left)) fault (omega (arith, most, count, u.left, s.some))
+      (written-part base range bytes t w w' u s.f (Err fault) s.answers.stack same (sym (ap (λ (y : World). y.stack) s.answers.leaves)) s.answers.asks)
+
+  write-finishes : (name : List ℕ) (first : ℕ) (answer : Result Reply IoFault) (w w' : World) → WriteSoFar base range bytes t w → Ends EachPart t answer w w' → Whole (a_write name first bytes) base range answer w'.stack
+  write-finishes name first answer w w' u (at_once s) = write-over name first answer w w' u s
+  write-finishes name first answer w w' u (later {v = v} s more) = write-finishes name first answer v w' (write-further w v u s) more
+
+-- a write of which nothing was done yet
+write-begun : (w : World) (name : List ℕ) (first : ℕ) (bytes : List ℕ) (t : ℕ) (v : World) → InOrder w → (b : Begins w (a_write name first bytes) t v) → WriteSoFar w.stack b.range bytes t v
+write-begun w name first bytes t v order b =
+    let r = a_write name first bytes in
+    let new = newly w r t v order b in
+    record {
+      f = first_flight t b.range r;
+      there = new.flight;
+      order = new.order;
+      device = refl;
+      first = refl;
+      done = 0;
+      at = omega arith;
+      left = omega arith;
+      work = refl;
+      put = subst (λ (x : StackRecord). EachWrite w.stack b.range.device.0 b.range.first [] (Ok tt) x) (sym new.stack) (write-none w.stack b.range.device.0 b.range.first);
+    }
+
+-- ---- both
+
+-- what is answered to a request that is served to its end at once
+pub whole-answers : (w : World) (r : RequestRecord) (t : ℕ) (answer : Result Reply IoFault) (v w' : World) → IsLoaded w.stack.config → InOrder w → Begins w r t v → Ends EachPart t answer v w' → RunAnswers w r (Ok answer) w'
+whole-answers w (a_read name first count) t answer v w' loaded order b e =
+    (b.range, b.admits, read-ends w.stack b.range t name first count answer v w' (read-begun w name first count t v order b) e)
+whole-answers w (a_write name first bytes) t answer v w' loaded order b e = (
+  b.range,
+  b.admits,
+  write-finishes w.stack loaded b.range bytes (admission-whole w name first bytes b.range b.admits) t name first answer v w' (write-begun w name first bytes t v order b) e,
+)
+
+-- a run answers for the request as a whole
+pub run-answers : (w : World) (r : RequestRecord) (outcome : Result (Result Reply IoFault) SubmitFault) (w' : World) → IsLoaded w.stack.config → InOrder w → Runs EachPart w r outcome w' → RunAnswers w r outcome w'
+run-answers w r (Ok answer) w' loaded order s = whole-answers w r (w.given + 1) answer s.begun w' loaded order s.begins s.ends
+run-answers w r (Err fault) w' loaded order s = tt

@@ -1,0 +1,7 @@
+use Rattle.request_queue.proofs.WriteLemmas.{part-bytes, write-done}
+use Rattle.request_queue.proofs.work.Work.serve.Goals as goal
+
+pub returns-in-Write-clause-ok : goal.returns-in-Write-clause-ok
+returns-in-Write-clause-ok g c =
+    rw c.in-Write.is (write-done c.args.piece c.args.done c.in-Write.bytes.items c.write_piece.result c.write_piece.ensures.any c.write_piece.ensures.steady
+    (part-bytes c.deref.result.now c.in-Write.bytes.items c.args.done c.args.piece.count c.deref.ensures.value))

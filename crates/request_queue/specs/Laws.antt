@@ -1,0 +1,95 @@
+-- What runs give the requests that are in flight in them.
+use Rattle.std.specs.Prelude.{◌≡◌, ℕ, ◌*◌, ◌<◌, ◌≤◌, Bool, true, false, List, [], ◌∷◌, length, Option, Some, None, Result, Ok, Err, if◌then◌else◌}
+use Rattle.stack_engine.specs.declared.fault.IoFault.{IoFault}
+use Rattle.stack_engine.specs.Leaves.{AllSteady}
+use Rattle.stack_engine.specs.Stacks.{StackRecord, AnswerRecord}
+use Rattle.request_queue.specs.declared.reply.Progress.TheVariants.{More, Done}
+use Rattle.request_queue.specs.declared.reply.Reply.{Reply}
+use Rattle.request_queue.specs.declared.range.SectorRange.{SectorRange}
+use Rattle.request_queue.specs.Flights.{FlightRecord, first_flight, next_flight, reply_to, work_cost, first_work}
+use Rattle.request_queue.specs.Parts.{PartRelation, AnyPart, SteadyPart, EachPart, Asks}
+use Rattle.request_queue.specs.Ranges.{piece_len}
+use Rattle.request_queue.specs.Requests.{RequestRecord}
+use Rattle.request_queue.specs.Runs.{Turn, Run, last, total, is_step, flight_of, moved_for}
+use Rattle.request_queue.specs.World.{World, Event, submit, step, load, remove_device, run, Step, Begins}
+
+-- ---- the steps of one request in a run
+
+-- the stack before a step and after it
+pub record Passage : Type 0 where
+  pub before : StackRecord
+  pub after : StackRecord
+
+abbrev pub passage : World → Turn → Passage
+passage w x = record { before = w.stack; after = x.after.stack }
+
+-- the steps of a ticket in a run, in order
+abbrev pub passages : ℕ → World → List Turn → List Passage
+passages t w [] = []
+passages t w (x ∷ more) = if is_step t x.event then passage w x ∷ passages t x.after more else passages t x.after more
+
+-- the answer that ends a request, where there is one yet
+abbrev pub end_of : Event → Option (Result Reply IoFault)
+end_of (submit r reply) = None
+end_of (step u (Ok More)) = None
+end_of (step u (Ok (Done answer))) = Some answer
+end_of (step u (Err none)) = None
+end_of (load text reply) = None
+end_of (remove_device name reply) = None
+end_of (run r reply) = None
+
+abbrev pub or_else : Option (Result Reply IoFault) → Option (Result Reply IoFault) → Option (Result Reply IoFault)
+or_else None later = later
+or_else (Some answer) later = Some answer
+
+-- what a run answers that ticket at last
+abbrev pub answer_to : ℕ → List Turn → Option (Result Reply IoFault)
+answer_to t [] = None
+answer_to t (x ∷ more) = if is_step t x.event then or_else (end_of x.event) (answer_to t more) else answer_to t more
+
+-- A request is served by these steps and no others: one piece at each, of the stack as it stands then. After the
+-- last piece, or at the first fault, it is over with that answer; with none it still waits.
+pub data IsServed (part : PartRelation) : FlightRecord → List Passage → Option (Result Reply IoFault) → Type 0 where
+  waits : {f : FlightRecord} → IsServed part f [] None
+  goes_on : {f : FlightRecord} {p : Passage} {more : List Passage} {answer : Option (Result Reply IoFault)} (got : AnswerRecord)
+      → Asks part p.before f (Ok got) p.after → piece_len p.before.config f.rest < f.rest.count
+      → IsServed part (next_flight f (piece_len p.before.config f.rest) got) more answer → IsServed part f (p ∷ more) answer
+  finishes : {f : FlightRecord} {p : Passage} {reply : Reply} (got : AnswerRecord)
+      → Asks part p.before f (Ok got) p.after → piece_len p.before.config f.rest ≡ f.rest.count
+      → reply ≡ reply_to (next_flight f (piece_len p.before.config f.rest) got).work → IsServed part f (p ∷ []) (Some (Ok reply))
+  fails : {f : FlightRecord} {p : Passage} {fault : IoFault} → Asks part p.before f (Err fault) p.after → IsServed part f (p ∷ []) (Some (Err fault))
+
+-- ---- what a run gives a request
+
+-- A request that was begun from world w, as world v, and the turns after it. Whatever the leaves answer and whatever
+-- is served in between, its own steps serve it; over steady leaves each piece is what the stack means at its step.
+-- It takes no more steps than it has sectors, and these move no more than its budget.
+pub record RequestLaw (w : World) (r : RequestRecord) (t : ℕ) (range : SectorRange) (v : World) (turns : List Turn) : Type 0 where
+  pub any : IsServed AnyPart (first_flight t range r) (passages t v turns) (answer_to t turns)
+  pub steady : AllSteady w.stack.leaves → IsServed SteadyPart (first_flight t range r) (passages t v turns) (answer_to t turns)
+  pub steps : length (passages t v turns) ≤ range.count
+  pub moved : total (moved_for t) v turns ≤ range.count * work_cost w.stack.config range.device.0 (first_work r)
+
+-- the event is a refusal
+abbrev pub is_refusal : Event → Bool
+is_refusal (submit r (Ok ticket)) = false
+is_refusal (submit r (Err fault)) = true
+is_refusal (step t (Ok progress)) = false
+is_refusal (step t (Err none)) = true
+is_refusal (load text (Ok done)) = false
+is_refusal (load text (Err fault)) = true
+is_refusal (remove_device name (Ok done)) = false
+is_refusal (remove_device name (Err fault)) = true
+is_refusal (run r (Ok answer)) = false
+is_refusal (run r (Err fault)) = true
+
+-- A turn leaves each request that it doesn't serve as it was, and a refusal leaves all as it was.
+pub record TurnLaw (w : World) (x : Turn) : Type 0 where
+  pub others : (t : ℕ) → t ≤ w.given → is_step t x.event ≡ false → flight_of x.after t ≡ flight_of w t
+  pub refused : is_refusal x.event ≡ true → x.after ≡ w
+
+-- What holds of every run from a world on.
+pub record QueueLaw (w : World) : Type 0 where
+  pub requests : (before : List Turn) → Run EachPart w before → (r : RequestRecord) (t : ℕ) (v : World) → (b : Begins (last w before) r t v)
+      → (turns : List Turn) → Run EachPart v turns → RequestLaw (last w before) r t b.range v turns
+  pub turns : (before : List Turn) → Run EachPart w before → (x : Turn) → Step EachPart (last w before) x.event x.after → TurnLaw (last w before) x

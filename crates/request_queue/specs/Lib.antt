@@ -1,0 +1,11 @@
+pub mod Ranges
+pub mod SubmitFaults
+pub mod Requests
+pub mod Flights
+pub mod Parts
+pub mod World
+pub mod Serving
+pub mod Runs
+pub mod Replies
+pub mod Laws
+pub mod WholeRuns

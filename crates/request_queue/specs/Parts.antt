@@ -1,0 +1,51 @@
+-- Parts of requests, each of which one call of the engine answers.
+use Rattle.std.specs.Prelude.{ℕ, ◌-◌, ◌*◌, List, take, drop, Result, Ok, Err}
+use Rattle.stack_engine.specs.declared.fault.IoFault.{IoFault}
+use Rattle.stack_engine.specs.Pieces.{AnyPiece, SteadyPiece, EachPiece}
+use Rattle.stack_engine.specs.WritePieces.{AnyWrite, SteadyWrite, EachWrite}
+use Rattle.stack_engine.specs.Stacks.{StackRecord, AnswerRecord}
+use Rattle.request_queue.specs.Flights.{FlightRecord, WorkRecord, reads, writes}
+use Rattle.request_queue.specs.Ranges.{piece_len}
+
+-- so many sectors are read, or these bytes are written
+pub data Part : Type 0 where
+  read_part : ℕ → Part
+  write_part : List ℕ → Part
+
+-- How a part is answered: of the stack, at mapped device d from the first sector on; and the stack that the answer
+-- leaves. What a write answers has no bytes.
+abbrev pub PartRelation : Type 1
+PartRelation = StackRecord → ℕ → ℕ → Part → Result AnswerRecord IoFault → StackRecord → Type 0
+
+-- how a write ends
+abbrev pub ending : Result AnswerRecord IoFault → Result Unit IoFault
+ending (Ok got) = Ok tt
+ending (Err fault) = Err fault
+
+-- whatever the leaves answer
+abbrev pub AnyPart : PartRelation
+AnyPart v d first (read_part n) answer v' = AnyPiece v d first n answer v'
+AnyPart v d first (write_part bytes) answer v' = AnyWrite v d first bytes (ending answer) v'
+
+-- over steady leaves: what the stack means
+abbrev pub SteadyPart : PartRelation
+SteadyPart v d first (read_part n) answer v' = SteadyPiece v d first n answer v'
+SteadyPart v d first (write_part bytes) answer v' = SteadyWrite v d first bytes (ending answer) v'
+
+-- both
+abbrev pub EachPart : PartRelation
+EachPart v d first (read_part n) answer v' = EachPiece v d first n answer v'
+EachPart v d first (write_part bytes) answer v' = EachWrite v d first bytes (ending answer) v'
+
+-- the next n sectors of a request, after as many as are done
+abbrev pub part_of_work : WorkRecord → ℕ → ℕ → Part
+part_of_work (reads got) done n = read_part n
+part_of_work (writes bytes) done n = write_part (take (512 * n) (drop (512 * done) bytes))
+
+-- how many sectors of it are done
+abbrev pub done_of : FlightRecord → ℕ
+done_of f = f.rest.first - f.first
+
+-- the part of its next piece is answered so
+abbrev pub Asks : PartRelation → StackRecord → FlightRecord → Result AnswerRecord IoFault → StackRecord → Type 0
+Asks part v f answer v' = part v f.rest.device.0 f.rest.first (part_of_work f.work (done_of f) (piece_len v.config f.rest)) answer v'

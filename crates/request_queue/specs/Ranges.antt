@@ -1,0 +1,47 @@
+-- Ranges of a mapped device's sectors, and their pieces.
+use Rattle.std.specs.Prelude.{ℕ, ◌+◌, ◌-◌, ◌^◌, ◌<◌, ◌≤◌, ◌||◌, ◌==◌, nat_lt, min, List, length, Option, Some, None, Result, Ok, Err, if◌then◌else◌}
+use Rattle.std.specs.Option.{option_map_or}
+use Rattle.stack_loader.specs.Records.{Configuration}
+use Rattle.stack_loader.specs.Names.{mapped, device_named, size}
+use Rattle.stack_loader.specs.Lines.{line_at}
+use Rattle.request_queue.specs.declared.fault.SubmitFault.{SubmitFault}
+use Rattle.request_queue.specs.declared.fault.SubmitFault.TheVariants.{NoSuchDevice, OutOfRange, Length}
+use Rattle.request_queue.specs.declared.range.SectorRange.{SectorRange}
+
+abbrev pub most_piece : ℕ
+most_piece = 128
+
+abbrev pub most_count : ℕ
+most_count = 2048
+
+-- count sectors of mapped device d, from the first on
+abbrev pub range_at : ℕ → ℕ → ℕ → SectorRange
+range_at d first count = record { device = record { 0 = d }; first = first; count = count }
+
+-- the sectors that are asked for by the device's name, or the first refusal
+abbrev pub range_in : Configuration → Option ℕ → ℕ → ℕ → Result SectorRange SubmitFault
+range_in c None first count = Err NoSuchDevice
+range_in c (Some d) first count =
+    if nat_lt (size c (mapped d)) (first + count) then Err OutOfRange
+    else if (count == 0) || nat_lt most_count count then Err Length
+    else Ok (range_at d first count)
+
+unfoldable pub range_of : Configuration → List ℕ → ℕ → ℕ → Result SectorRange SubmitFault
+range_of c name first count = range_in c (device_named c name) first count
+
+-- some sectors that lie inside their device
+pub record IsInside (c : Configuration) (range : SectorRange) : Type 0 where
+  pub device : range.device.0 < length c.devices
+  pub some : 0 < range.count
+  pub inside : range.first + range.count ≤ size c (mapped range.device.0)
+  pub count : range.count ≤ most_count
+  pub fits : range.first + range.count < 2 ^ 64
+
+-- what a range has after its first n sectors
+abbrev pub range_after : SectorRange → ℕ → SectorRange
+range_after range n = record { device = range.device; first = range.first + n; count = range.count - n }
+
+-- How many sectors the first piece of a range has: they stay in one line, and are at most 128.
+abbrev pub piece_len : Configuration → SectorRange → ℕ
+piece_len c range =
+    min most_piece (min range.count (option_map_or (λ p. p.1.start + p.1.length - range.first) (line_at c range.device.0 range.first) 0))

@@ -1,0 +1,51 @@
+// Which requests are begun.
+ghost use Rattle.std.specs.Prelude.{◌≡◌, IfOk, length, Err, Ok};
+ghost use Rattle.request_queue.specs.Flights.{IsAdmissible, IsWorkOn, writes};
+ghost use Rattle.request_queue.specs.Ranges.{IsInside};
+ghost use Rattle.request_queue.specs.Requests.{request_record, sectors_for, writable_sectors};
+
+use crate::fault::SubmitFault;
+use crate::range::{SectorRange, range_of};
+use crate::request::Request;
+use stack_loader::Config;
+
+/// The sectors of a write, unless its bytes aren't whole sectors or its device may not be written.
+fn writable_sectors(
+    config: &Config,
+    bytes: &[u8],
+    range: SectorRange,
+) -> Result<SectorRange, SubmitFault>
+    requires { IsInside config.now range }
+    ensures value { result ≡ writable_sectors config.now bytes.now (Ok range) }
+{
+    if !bytes.len().is_multiple_of(512) {
+        return Err(SubmitFault::Length);
+    }
+    if !config.writable(range.device) {
+        return Err(SubmitFault::ReadOnly);
+    }
+    Ok(range)
+}
+
+/// The sectors of a request, or its first refusal but those of the queue.
+pub(crate) fn sectors_for(config: &Config, request: &Request) -> Result<SectorRange, SubmitFault>
+    ensures value { result ≡ sectors_for config.now (request_record request.now) }
+    ensures admissible { IfOk result (λ range. IsAdmissible config.now (request_record request.now) range) }
+{
+    match request {
+        Request::Read {
+            device,
+            first,
+            count,
+        } => range_of(config, device.as_slice(), *first, *count),
+        Request::Write {
+            device,
+            first,
+            bytes,
+        } => {
+            let count = bytes.len().div_ceil(512) as u64;
+            let range = range_of(config, device.as_slice(), *first, count)?;
+            writable_sectors(config, bytes.as_slice(), range)
+        }
+    }
+}

@@ -1,0 +1,71 @@
+// Why calls of a queue are refused, and how a run fails.
+ghost use Rattle.std.specs.Prelude.{◌≡◌};
+ghost use Rattle.request_queue.specs.SubmitFaults.{submit_name, submit_number};
+
+use crate::request::Request;
+use stack_engine::IoFault;
+use thiserror::Error;
+
+/// Why a request isn't begun, in the order of the checks; memory may run out at any of them.
+#[derive(Clone, Copy, Debug, PartialEq, Eq, Error)]
+#[error("{}", self.name())]
+pub enum SubmitFault {
+    /// No mapped device has that name.
+    NoSuchDevice = 1,
+    /// The sectors end past the device.
+    OutOfRange = 2,
+    /// There are no sectors, or more than 2,048, or bytes that aren't whole sectors.
+    Length = 3,
+    /// A write to a device that may not be written.
+    ReadOnly = 4,
+    /// 64 requests are in flight, or 2^64 - 1 tickets were given.
+    Full = 5,
+    /// Memory ran out.
+    NoMemory = 6,
+}
+
+impl SubmitFault {
+    /// The number under which it is printed.
+    pub fn number(self) -> u8
+        ensures { result ≡ submit_number self }
+    {
+        self as u8
+    }
+
+    /// The name under which it is printed: the variant's.
+    pub fn name(self) -> &'static str
+        ensures { result.now ≡ submit_name self }
+    {
+        match self {
+            SubmitFault::NoSuchDevice => "NoSuchDevice",
+            SubmitFault::OutOfRange => "OutOfRange",
+            SubmitFault::Length => "Length",
+            SubmitFault::ReadOnly => "ReadOnly",
+            SubmitFault::Full => "Full",
+            SubmitFault::NoMemory => "NoMemory",
+        }
+    }
+}
+
+/// No request in flight has that ticket.
+#[derive(Clone, Copy, Debug, PartialEq, Eq, Error)]
+#[error("NoSuchTicket")]
+pub struct NoSuchTicket;
+
+/// Why a call isn't made that needs a queue with no request in flight.
+#[derive(Clone, Copy, Debug, PartialEq, Eq)]
+pub enum Held<F> {
+    /// A request is in flight.
+    Busy,
+    /// The call itself is refused.
+    Fault(F),
+}
+
+/// How a run ends where it gives no reply.
+#[derive(Debug, Drop)]
+pub enum RunFault {
+    /// It wasn't begun, and is handed back.
+    Submit(SubmitFault, Request),
+    /// It ended by a fault.
+    Io(IoFault),
+}

@@ -1,0 +1,19 @@
+//! Requests in flight over a stack, served piece by piece.
+#![tactic(auto)]
+
+mod admit;
+mod fault;
+mod flight;
+mod queue;
+mod range;
+mod reply;
+mod request;
+#[cfg(test)]
+mod tests;
+mod work;
+
+pub use fault::{Held, NoSuchTicket, RunFault, SubmitFault};
+pub use queue::Queue;
+pub use range::SectorRange;
+pub use reply::{Progress, Reply, Ticket};
+pub use request::Request;

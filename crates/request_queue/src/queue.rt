@@ -1,0 +1,204 @@
+// A queue of requests over a stack.
+ghost use Rattle.std.specs.Prelude.{◌≡◌, ◌≢◌, [], length, IfOk, IfErr, Ok, Err, None};
+ghost use Rattle.request_queue.specs.Laws.{QueueLaw};
+ghost use Rattle.request_queue.specs.Parts.{EachPart};
+ghost use Rattle.request_queue.specs.Replies.{outcome_of};
+ghost use Rattle.request_queue.specs.Requests.{request_record};
+ghost use Rattle.request_queue.specs.Runs.{flight_of};
+ghost use Rattle.request_queue.specs.WholeRuns.{RunAnswers};
+ghost use Rattle.request_queue.specs.World.{Ends, IsSoundWorld, Step, admission, load, remove_device, run, step, submit};
+ghost use Rattle.request_queue.specs.Flights.{IsAdmissible};
+ghost use Rattle.request_queue.specs.declared.fault.SubmitFault.{SubmitFault};
+ghost use Rattle.request_queue.specs.declared.request.Request.{Request};
+
+use crate::admit::sectors_for;
+use crate::fault::{Held, NoSuchTicket, RunFault, SubmitFault};
+use crate::flight::{Flight, place_of};
+use crate::range::SectorRange;
+use crate::reply::{Progress, Reply, Ticket};
+use crate::request::Request;
+use crate::work::Work;
+use block_device::BlockDev;
+use dm_table::StackText;
+use stack_engine::{IoFault, Stack};
+use stack_loader::{LoadFault, RemoveFault};
+use std::alloc::Global;
+use std::marker::Model;
+
+const MOST_IN_FLIGHT: usize = 64;
+
+/// A stack, and the requests in flight over it, in the order in which they were begun.
+#[derive(Drop)]
+pub struct Queue<D: BlockDev> {
+    alloc: Global,
+    stack: Stack<D>,
+    given: u64,
+    flights: Vec<Flight>,
+}
+
+impl<D: BlockDev> Model for Queue<D> {
+    ghost use Rattle.request_queue.specs.World.{World, IsSoundWorld};
+
+    ghost Value = { World };
+
+    ghost view = { λ q. record { stack = q.stack; given = q.given; in_flight = q.flights.items } };
+
+    ghost invariant = { λ q. IsSoundWorld q.stack.config q.given q.flights.items };
+}
+
+impl<D: BlockDev> Queue<D> {
+    /// A queue with no request. Each call of it is a `Step` of its world, so that `law` holds of every list of calls.
+    pub fn new(alloc: Global, stack: Stack<D>) -> Queue<D>
+        ensures value { result ≡ record { stack = stack; given = 0; in_flight = [] } }
+        ensures law { QueueLaw result }
+    {
+        Queue {
+            alloc,
+            stack,
+            given: 0,
+            flights: Vec::new(alloc),
+        }
+    }
+
+    pub fn stack(&self) -> &Stack<D>
+        ensures { result.now ≡ self.now.stack }
+    {
+        &self.stack
+    }
+
+    /// The stack, as the calls so far left it. What is still in flight is given up.
+    pub fn into_stack(self) -> Stack<D>
+        ensures { result ≡ self.stack }
+    {
+        let Queue {
+            alloc: _,
+            stack,
+            given: _,
+            flights: _,
+        } = self;
+        stack
+    }
+
+    /// How many requests are in flight.
+    pub fn in_flight(&self) -> usize
+        ensures value { result ≡ length self.now.in_flight }
+        ensures sound { IsSoundWorld self.now.stack.config self.now.given self.now.in_flight }
+    {
+        self.flights.len()
+    }
+
+    // The sectors of a request, or its first refusal.
+    fn admit(&self, request: &Request) -> Result<SectorRange, SubmitFault>
+        ensures value { result ≡ admission self.now (request_record request.now) }
+        ensures admissible { IfOk result (λ range. IsAdmissible self.now.stack.config (request_record request.now) range) }
+    {
+        let range = sectors_for(self.stack.config(), request)?;
+        if self.flights.len() >= MOST_IN_FLIGHT || self.given == u64::MAX {
+            return Err(SubmitFault::Full);
+        }
+        Ok(range)
+    }
+
+    /// Begins a request, or hands it back.
+    pub fn submit(&mut self, request: Request) -> Result<Ticket, (SubmitFault, Request)>
+        ensures ok { IfOk result (λ t. Step EachPart self.old (submit (request_record request) (Ok t.0)) self.new) }
+        ensures err { IfErr result (λ p. Step EachPart self.old (submit (request_record request) (Err p.0)) self.new) }
+        ensures back { IfErr result (λ p. p.1 ≡ request) }
+    {
+        let range = match self.admit(&request) {
+            Ok(range) => range,
+            Err(fault) => return Err((fault, request)),
+        };
+        let Ok(()) = self.flights.reserve(1) else {
+            return Err((SubmitFault::NoMemory, request));
+        };
+        let work = match Work::new(self.alloc, request, range.count) {
+            Ok(work) => work,
+            Err(request) => return Err((SubmitFault::NoMemory, request)),
+        };
+        let ticket = self.given + 1;
+        self.flights.push(Flight::new(ticket, range, work)).unwrap();
+        self.given = ticket;
+        Ok(Ticket(ticket))
+    }
+
+    /// Serves one piece of the request with that ticket.
+    pub fn step(&mut self, ticket: Ticket) -> Result<Progress, NoSuchTicket>
+        ensures { Step EachPart self.old (step ticket.0 result) self.new }
+    {
+        let Some(place) = place_of(self.flights.as_slice(), ticket.0) else {
+            return Err(NoSuchTicket);
+        };
+        match self.flights[place].serve(&mut self.stack) {
+            Err(fault) => {
+                self.flights.remove(place);
+                Ok(Progress::Done(Err(fault)))
+            }
+            Ok(()) if self.flights[place].left() > 0 => Ok(Progress::More),
+            Ok(()) => {
+                let flight = self.flights.remove(place);
+                Ok(Progress::Done(Ok(flight.into_reply())))
+            }
+        }
+    }
+
+    // Serves a request to its end.
+    fn finish(&mut self, ticket: Ticket) -> Result<Reply, IoFault>
+        requires there { flight_of self.old ticket.0 ≢ None }
+        ensures { Ends EachPart ticket.0 result self.old self.new }
+    {
+        // What holds of every queue is learned from a call.
+        let _sound = self.in_flight();
+        'pieces: loop {
+            match self.step(ticket) {
+                Ok(Progress::More) => {}
+                Ok(Progress::Done(answer)) => return answer,
+                Err(NoSuchTicket) => unreachable!(),
+            }
+        }
+    }
+
+    /// Begins a request, and serves it to its end.
+    pub fn run(&mut self, request: Request) -> Result<Reply, RunFault>
+        ensures step { Step EachPart self.old (run (request_record request) (outcome_of result)) self.new }
+        ensures whole { RunAnswers self.old (request_record request) (outcome_of result) self.new }
+        ensures back { (fault : SubmitFault) (back : Request) → result ≡ Err (RunFault.Submit fault back) → back ≡ request }
+    {
+        // As in `finish`; and what holds of every stack.
+        let _sound = self.in_flight();
+        let _loaded = self.stack.config();
+        match self.submit(request) {
+            Ok(ticket) => match self.finish(ticket) {
+                Ok(reply) => Ok(reply),
+                Err(fault) => Err(RunFault::Io(fault)),
+            },
+            Err((fault, request)) => Err(RunFault::Submit(fault, request)),
+        }
+    }
+
+    /// Puts the devices of a text in, all or none. It is `Busy` where a request is in flight.
+    pub fn load(&mut self, text: &StackText) -> Result<(), Held<LoadFault>>
+        ensures { Step EachPart self.old (load text.now result) self.new }
+    {
+        if !self.flights.is_empty() {
+            return Err(Held::Busy);
+        }
+        match self.stack.load(text) {
+            Ok(()) => Ok(()),
+            Err(fault) => Err(Held::Fault(fault)),
+        }
+    }
+
+    /// Removes the device of that name. It is `Busy` where a request is in flight.
+    pub fn remove(&mut self, name: &[u8]) -> Result<(), Held<RemoveFault>>
+        ensures { Step EachPart self.old (remove_device name.now result) self.new }
+    {
+        if !self.flights.is_empty() {
+            return Err(Held::Busy);
+        }
+        match self.stack.remove(name) {
+            Ok(()) => Ok(()),
+            Err(fault) => Err(Held::Fault(fault)),
+        }
+    }
+}

@@ -1,0 +1,30 @@
+use Rattle.std.proofs.Common.{length, take, map, ◌-◌, ◌≡◌, ◌≤◌, ◌+◌, ◌*◌, ◌%◌, Ok}
+use Rattle.stack_loader.specs.Names.{mapped}
+use Rattle.stack_loader.specs.Descend.{depth}
+use Rattle.stack_engine.specs.Writing.{sectors_in, destination_of, Writes}
+use Rattle.stack_engine.specs.Sources.{source_depth}
+use Rattle.stack_engine.specs.Caches.{KeepsCache}
+use Rattle.stack_engine.proofs.write.+write.Given as goal
+
+-- 8 times the depth and a rank, of which 0 to 4 are left for the steps of a target
+
+abbrev pub decreases-write_lower : goal.decreases-write_lower
+decreases-write_lower g l = 8 * depth l.config.now l.lower + 7
+
+abbrev pub decreases-write_device : goal.decreases-write_device
+decreases-write_device g l = 8 * depth l.config.now (mapped l.d.0) + 6
+
+abbrev pub decreases-write_run : goal.decreases-write_run
+decreases-write_run g l = 8 * source_depth l.config.now l.source + 5
+
+-- the bytes so far are written
+abbrev pub invariant-write_device-loop-at : goal.invariant-write_device-loop-at
+invariant-write_device-loop-at g l = record {
+  whole : l.at % 512 ≡ 0;
+  within : l.at ≤ length l.bytes;
+  so_far : Writes (destination_of l.config (mapped l.d.0)) l.first (sectors_in (take l.at l.bytes)) (map g.D.BlockDev.state l.fn.reader.devices.items) (map g.D.BlockDev.state l.reader.devices.items) (Ok tt);
+  cached : KeepsCache l.config (map g.D.BlockDev.state l.reader.devices.items) l.fn.reader.cache l.reader.cache;
+}
+
+abbrev pub decreases-write_device-loop-at : goal.decreases-write_device-loop-at
+decreases-write_device-loop-at g l = length l.initial.bytes - l.at

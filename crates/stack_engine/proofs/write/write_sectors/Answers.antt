@@ -1,0 +1,41 @@
+use Rattle.std.proofs.Common.{◌≤◌, ◌/◌, ◌<◌, length, Bool, true, false, ℕ, List, sym, subst, arith, inl, inr}
+use Rattle.block_device.specs.Device.{Device, IsWritten, HasFailed}
+use Rattle.stack_engine.specs.Writing.{sectors_in}
+use Rattle.stack_engine.proofs.LeafLemmas.{leaf-size}
+use Rattle.stack_engine.proofs.WritableLemmas.{leaf-writable}
+use Rattle.stack_engine.proofs.WriteLeafLemmas.{leaf-written, leaf-failed}
+use Rattle.stack_engine.proofs.lemmas.WriteRunLemmas.{length-sectors_in}
+use Rattle.stack_engine.proofs.write.write_sectors.Goals as goal
+
+pub write-requires-clause-range : goal.write-requires-clause-range
+write-requires-clause-range g c =
+    let size = leaf-size g.D.BlockDev.state c.args.devices.now _ c.requires.serve c.args.leaf c.index-devices-leaf.result c.requires.there in
+    record { some = c.requires.sectors.some; whole = c.requires.sectors.whole; inside = omega (arith, size, c.requires.inside) }
+
+pub write-requires-clause-allowed : goal.write-requires-clause-allowed
+write-requires-clause-allowed g c = leaf-writable g.D.BlockDev.state c.args.devices.now c.args.config.now c.requires.serve c.args.leaf c.index-devices-leaf.result c.requires.there c.requires.allowed
+
+-- the number of sectors that were written
+count : (bytes : List ℕ) (old new : Device) (first : ℕ) (ok : Bool) → IsWritten old first (length bytes / 512) ok new → IsWritten old first (length (sectors_in bytes)) ok new
+count bytes old new first ok r = subst (λ (n : ℕ). IsWritten old first n ok new) (sym (length-sectors_in bytes)) r
+
+some : (bytes : List ℕ) → 0 < length bytes / 512 → 0 < length (sectors_in bytes)
+some bytes h = omega (arith, h, length-sectors_in bytes)
+
+grows : (old new : Device) (first n : ℕ) → IsWritten old first n false new → HasFailed old new → old.failures ≤ new.failures
+grows old new first n r h = elim h [ inl more ↦ omega (arith, more) | inr full ↦ omega (arith, full, r.failures) ]
+
+pub returns-in-Ok : goal.returns-in-Ok
+returns-in-Ok g c =
+    let bytes = c.args.bytes.now in
+    let kept = c.in-Ok.ensures.moved in
+    leaf-written g.D.BlockDev.state g.met.D.BlockDev.whole c.args.devices.now c.args.leaf c.index-devices-leaf.result c.requires.there c.args.config.now c.args.first (sectors_in bytes)
+    (some bytes (omega (arith, c.requires.sectors.some, c.requires.sectors.whole))) c.write.new.self (omega (arith, kept.failures)) (count bytes _ _ c.args.first true kept) c.in-Ok.ensures.image
+
+pub returns-in-Err : goal.returns-in-Err
+returns-in-Err g c =
+    let bytes = c.args.bytes.now in
+    let kept = c.in-Err.ensures.moved in
+    leaf-failed g.D.BlockDev.state g.met.D.BlockDev.whole c.args.devices.now c.args.leaf c.index-devices-leaf.result c.requires.there c.args.config.now c.args.first (sectors_in bytes)
+    (some bytes (omega (arith, c.requires.sectors.some, c.requires.sectors.whole))) c.write.new.self (grows _ _ c.args.first _ kept c.in-Err.ensures.fault) (count bytes _ _ c.args.first false kept)
+    c.in-Err.ensures.fault (λ never. let clash = c.in-Err.ensures.sure never in cc)

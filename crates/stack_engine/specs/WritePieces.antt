@@ -1,0 +1,45 @@
+-- Pieces of a write: at most 128 sectors, which one call puts.
+use Rattle.std.specs.Prelude.{◌≡◌, ◌≤◌, ℕ, ◌*◌, ◌/◌, List, length, Result}
+use Rattle.stack_loader.specs.Names.{mapped}
+use Rattle.stack_loader.specs.Records.{Configuration}
+use Rattle.stack_loader.specs.Descend.{write_cost}
+use Rattle.stack_engine.specs.declared.fault.IoFault.{IoFault}
+use Rattle.stack_engine.specs.Meaning.{said_at}
+use Rattle.stack_engine.specs.May.{MayFault}
+use Rattle.stack_engine.specs.Puts.{put_on}
+use Rattle.stack_engine.specs.Leaves.{images_of, AllSteady}
+use Rattle.stack_engine.specs.Changes.{LeafSectors, reached, AreWritten, DifferWithin, AllWhole}
+use Rattle.stack_engine.specs.Writing.{AreSectors, MayEnd, IsPut, sectors_in}
+use Rattle.stack_engine.specs.Stacks.{StackRecord}
+
+-- the bytes of 1 to 128 whole sectors
+pub record ArePiece (bytes : List ℕ) : Type 0 where
+  pub sectors : AreSectors bytes
+  pub most : length bytes / 512 ≤ 128
+
+-- How a piece is written: of the stack, to mapped device d from its sector first on, these bytes; how it ends, and
+-- the stack that it leaves.
+abbrev pub WritePiece : Type 1
+WritePiece = StackRecord → ℕ → ℕ → List ℕ → Result Unit IoFault → StackRecord → Type 0
+
+-- the leaf sectors that n sectors of mapped device d from the first on reach
+abbrev pub piece_reached : Configuration → ℕ → ℕ → ℕ → LeafSectors
+piece_reached c d first n = reached (λ s. (said_at c (mapped d) s).reaches) first n
+
+-- whatever the leaves answer
+pub record AnyWrite (w : StackRecord) (d first : ℕ) (bytes : List ℕ) (result : Result Unit IoFault) (w' : StackRecord) : Type 0 where
+  pub config : w'.config ≡ w.config
+  pub whole : AllWhole w.leaves → AllWhole w'.leaves
+  pub moved : AreWritten (piece_reached w.config d first (length bytes / 512)) w.leaves (length bytes / 512 * write_cost w.config (mapped d)) w'.leaves
+  pub ends : MayEnd (MayFault w.config (mapped d) first (length bytes / 512)) w.leaves w'.leaves result
+
+-- over steady leaves: what the put leaves, and no leaf sector that isn't reached is changed
+pub record SteadyWrite (w : StackRecord) (d first : ℕ) (bytes : List ℕ) (result : Result Unit IoFault) (w' : StackRecord) : Type 0 where
+  pub any : AnyWrite w d first bytes result w'
+  pub exact : IsPut (put_on w.config (mapped d) first (sectors_in bytes) (images_of w.leaves)) (images_of w'.leaves) result
+  pub others : DifferWithin (piece_reached w.config d first (length bytes / 512)) (images_of w.leaves) (images_of w'.leaves)
+
+-- both
+pub record EachWrite (w : StackRecord) (d first : ℕ) (bytes : List ℕ) (result : Result Unit IoFault) (w' : StackRecord) : Type 0 where
+  pub any : AnyWrite w d first bytes result w'
+  pub steady : AllSteady w.leaves → SteadyWrite w d first bytes result w'

@@ -1,0 +1,85 @@
+-- Contracts of writes.
+use Rattle.std.specs.Prelude.{◌≡◌, ℕ, ◌+◌, ◌-◌, ◌*◌, ◌/◌, ◌%◌, ◌<◌, ◌≤◌, IsTrue, List, length, Result, Ok, Err}
+use Rattle.block_device.specs.Device.{Device, sectors_of}
+use Rattle.stack_loader.specs.declared.lower.Lower.{Lower}
+use Rattle.stack_loader.specs.Records.{Configuration}
+use Rattle.stack_loader.specs.Names.{may_write}
+use Rattle.stack_loader.specs.Descend.{write_cost}
+use Rattle.stack_engine.specs.declared.fault.IoFault.{IoFault}
+use Rattle.stack_engine.specs.declared.fault.IoFault.TheVariants as io
+use Rattle.stack_engine.specs.declared.source.Source.{Source}
+use Rattle.stack_engine.specs.declared.source.Source.TheVariants.{Below, Zeros, Fails}
+use Rattle.stack_engine.specs.Sectors.{SomeOf}
+use Rattle.stack_engine.specs.Outcomes.{Fault, error_target, mismatch, Images}
+use Rattle.stack_engine.specs.Meaning.{Said, said_at}
+use Rattle.stack_engine.specs.Puts.{Put, done, stopped, Putting, put_on}
+use Rattle.stack_engine.specs.Leaves.{images_of, AllSteady, LeafFailed}
+use Rattle.stack_engine.specs.Changes.{reached, AreWritten}
+use Rattle.stack_engine.specs.Sources.{source_said}
+
+-- the bytes of whole sectors, at least one
+pub record AreSectors (bytes : List ℕ) : Type 0 where
+  pub some : 0 < length bytes
+  pub whole : length bytes % 512 ≡ 0
+
+-- bytes as whole sectors
+abbrev pub sectors_in : List ℕ → List (List ℕ)
+sectors_in bytes = sectors_of (length bytes / 512) bytes
+
+-- Whatever the leaves answer: how a write may end, where these faults may come. The number of a leaf that failed
+-- counts from 1. Where memory ran out nothing was written.
+abbrev pub MayEnd : (Fault → Type 0) → List Device → List Device → Result Unit IoFault → Type 0
+MayEnd May old new (Ok x) = Unit {0}
+MayEnd May old new (Err io.ErrorTarget) = May error_target
+MayEnd May old new (Err io.Mismatch) = ⊥
+MayEnd May old new (Err (io.Device i)) = (1 ≤ i) × LeafFailed (i - 1) old new
+MayEnd May old new (Err io.NoMemory) = new ≡ old
+
+-- over steady leaves: these images are what the put leaves, unless a device failed or memory ran out
+abbrev pub IsPut : Put → Images → Result Unit IoFault → Type 0
+IsPut put images (Ok x) = put ≡ done images
+IsPut put images (Err io.ErrorTarget) = put ≡ stopped error_target images
+IsPut put images (Err io.Mismatch) = put ≡ stopped mismatch images
+IsPut put images (Err (io.Device i)) = Unit {0}
+IsPut put images (Err io.NoMemory) = Unit {0}
+
+-- where sectors are written: what is said of each, what a put of some does, and the leaf sectors that are written
+-- for one at most
+pub record Destination : Type 1 where
+  pub said : ℕ → Said
+  pub puts : ℕ → Putting
+  pub cost : ℕ
+
+-- a leaf or device
+abbrev pub destination_of : Configuration → Lower → Destination
+destination_of c lower = record { said = said_at c lower; puts = put_on c lower; cost = write_cost c lower }
+
+-- a write of sectors from the first on, all of whose growths were made before it
+pub record Writes (to : Destination) (first : ℕ) (sectors : List (List ℕ)) (old new : List Device) (result : Result Unit IoFault) : Type 0 where
+  pub moved : AreWritten (reached (λ s. (to.said s).reaches) first (length sectors)) old (length sectors * to.cost) new
+  pub ends : MayEnd (λ fault. SomeOf (λ s. (to.said s).meets fault) first (length sectors)) old new result
+  pub grown : result ≡ Err io.NoMemory → ⊥
+  pub exact : AllSteady old → IsPut (to.puts first sectors (images_of old)) (images_of new) result
+
+-- ---- what the engine writes as one run
+
+-- what a put of sectors from its j-th on does
+abbrev pub source_put : Configuration → Source → ℕ → Putting
+source_put c (Below lower first) j sectors images = put_on c lower (first + j) sectors images
+source_put c Zeros j sectors images = done images
+source_put c Fails j sectors images = stopped error_target images
+
+-- the leaf sectors that are written for one of its sectors at most
+abbrev pub source_write_cost : Configuration → Source → ℕ
+source_write_cost c (Below lower first) = write_cost c lower
+source_write_cost c Zeros = 0
+source_write_cost c Fails = 0
+
+-- what it lies on may be written
+abbrev pub SourceMayWrite : Configuration → Source → Type 0
+SourceMayWrite c (Below lower first) = IsTrue (may_write c lower)
+SourceMayWrite c Zeros = Unit {0}
+SourceMayWrite c Fails = Unit {0}
+
+abbrev pub source_destination : Configuration → Source → Destination
+source_destination c source = record { said = source_said c source; puts = source_put c source; cost = source_write_cost c source }

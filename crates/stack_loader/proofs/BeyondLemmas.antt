@@ -1,0 +1,80 @@
+-- The rules on what a line names.
+use Rattle.std.proofs.Common.{◌≡◌, ◌+◌, ◌≤◌, ◌<◌, ℕ, List, [], ◌∷◌, refl, sym, ap, ◌∙◌, Bool, true, false, not, ◌||◌, ◌&&◌, ◌==◌, Some, length, take, get_or, map, nat_lt, arith}
+use Rattle.std.specs.List.{list_any}
+use Rattle.std.specs.Option.{option_map_or}
+use Rattle.std.proofs.lemmas.List.{get_or_default, get_or-map, length-map, take_all}
+use Rattle.std.proofs.lemmas.List.Folds.{list_any_at, list_any_more}
+use Rattle.std.proofs.lemmas.Bool.Decides.{nat_tests}
+use Rattle.dm_table.specs.declared.table.Base.{Base}
+use Rattle.dm_table.specs.declared.table.Line.{Line}
+use Rattle.stack_loader.specs.declared.refusal.LoadKind.TheVariants.{LowerReadOnly}
+use Rattle.stack_loader.specs.declared.lower.Lower.{Lower}
+use Rattle.stack_loader.specs.Records.{Configuration}
+use Rattle.stack_loader.specs.Names.{named, names, size, may_write}
+use Rattle.stack_loader.specs.Passing.{Mean}
+use Rattle.stack_loader.specs.Rules.{first, refuse, line_rules, most_sectors, is_undivided, is_beyond, ends_beyond}
+use Rattle.stack_loader.proofs.MeaningLemmas.{device_of, mean-at, length-mean}
+
+-- the facts of one base
+pub record AtBase (c : Configuration) (lowers : List Lower) (bases : List Base) (i : ℕ) (base : Base) : Type 0 where
+  pub means : Mean c lowers (map device_of bases)
+  pub inside : i < length bases
+  pub is_base : base ≡ get_or bases i base
+
+pub length-bases : (c : Configuration) (lowers : List Lower) (bases : List Base) → Mean c lowers (map device_of bases) → length lowers ≡ length bases
+length-bases c lowers bases means = length-mean c lowers (map device_of bases) means ∙ length-map bases device_of
+
+ends-at : (c : Configuration) (lowers : List Lower) (bases : List Base) (i : ℕ) (base : Base) (d : Lower) (sectors room end : ℕ) → AtBase c lowers bases i base
+    → room ≡ size c (get_or lowers i d) → end ≡ base.offset + sectors → ends_beyond c sectors (get_or bases i base) ≡ nat_lt room end
+ends-at c lowers bases i base d sectors room end at is ends =
+    let low : i < length lowers = omega (arith, at.inside, length-bases c lowers bases at.means) in
+    let many : i < length (map device_of bases) = omega (arith, at.inside, length-map bases device_of) in
+    let lower = get_or lowers i d in
+    let name : base.device ≡ get_or (map device_of bases) i base.device = ap device_of at.is_base ∙ sym (get_or-map device_of bases i base base.device at.inside) in
+    let named-is = mean-at c lowers (map device_of bases) i base.device lower at.means many name (get_or_default lowers i d lower low) in
+    sym (ap (ends_beyond c sectors) at.is_base) ∙ ap (λ o. option_map_or (λ lower. nat_lt (size c lower) (base.offset + sectors)) o true) named-is
+    ∙ ap (λ n. nat_lt n (base.offset + sectors)) (sym is) ∙ ap (nat_lt room) (sym ends)
+
+lt-true : (m n : ℕ) → m < n → nat_lt m n ≡ true
+lt-true m n h = grind (arith, nat_tests)
+
+lt-false : (m n : ℕ) → n ≤ m → nat_lt m n ≡ false
+lt-false m n h = grind (arith, nat_tests)
+
+pub beyond-here : (c : Configuration) (lowers : List Lower) (bases : List Base) (i : ℕ) (base : Base) (d : Lower) (sectors room end : ℕ) → AtBase c lowers bases i base
+    → room ≡ size c (get_or lowers i d) → end ≡ base.offset + sectors → room < end → true ≡ list_any (ends_beyond c sectors) bases
+beyond-here c lowers bases i base d sectors room end at is ends past =
+    sym (list_any_at (ends_beyond c sectors) bases i base at.inside (ends-at c lowers bases i base d sectors room end at is ends ∙ lt-true room end past))
+
+pub beyond-step : (c : Configuration) (lowers : List Lower) (bases : List Base) (i : ℕ) (base : Base) (d : Lower) (sectors room end : ℕ) → AtBase c lowers bases i base
+    → room ≡ size c (get_or lowers i d) → end ≡ base.offset + sectors → end ≤ room → list_any (ends_beyond c sectors) (take i bases) ≡ false → list_any (ends_beyond c sectors) (take (i + 1) bases) ≡ false
+beyond-step c lowers bases i base d sectors room end at is ends low before =
+    list_any_more (ends_beyond c sectors) bases i base at.inside ∙ rw (before, ends-at c lowers bases i base d sectors room end at is ends ∙ lt-false room end low) refl
+
+pub beyond-none : (c : Configuration) (bases : List Base) (i sectors : ℕ) → length bases ≤ i → list_any (ends_beyond c sectors) (take i bases) ≡ false → false ≡ list_any (ends_beyond c sectors) bases
+beyond-none c bases i sectors past before = sym before ∙ ap (list_any (ends_beyond c sectors)) (take_all i bases past)
+
+pub read_only-lowers : (c : Configuration) (lowers : List Lower) (ns : List (List ℕ)) → Mean c lowers ns
+    → list_any (λ name. option_map_or (λ lower. not (may_write c lower)) (named c name) false) ns ≡ list_any (λ lower. not (may_write c lower)) lowers
+read_only-lowers c [] [] means = refl
+read_only-lowers c [] (n ∷ ns) means = let clash : [] ≡ map (named c) (n ∷ ns) = means in cc
+read_only-lowers c (l ∷ ls) [] means = let clash : map (λ (lower : Lower). Some lower) (l ∷ ls) ≡ [] = means in cc
+read_only-lowers c (l ∷ ls) (n ∷ ns) means =
+    let here : Some l ≡ named c n = cc in
+    let more : map (λ (lower : Lower). Some lower) ls ≡ map (named c) ns = cc in
+    rw (← here) (ap (λ b. not (may_write c l) || b) (read_only-lowers c ls ns more))
+
+-- ---- the last rule on a line
+
+at-zero : (n : ℕ) → (n ≡ 0 → ⊥) → (n == 0) ≡ false
+at-zero n h = grind (arith, nat_tests, h)
+
+at-same : (m n : ℕ) → m ≡ n → not (m == n) ≡ false
+at-same m n h = grind (arith, nat_tests)
+
+pub line-last : (c : Configuration) (writable : Bool) (d l before : ℕ) (line : Line) (lowers : List Lower) → (line.length ≡ 0 → ⊥) → line.start ≡ before → line.start + line.length ≤ most_sectors
+    → is_undivided line.length line.target ≡ false → is_beyond c line.length line.target ≡ false → Mean c lowers (names line.target)
+    → first (line_rules c writable d l before line) ≡ first (refuse LowerReadOnly d l (writable && list_any (λ lower. not (may_write c lower)) lowers) ∷ [])
+line-last c writable d l before line lowers some start low divides inside means =
+    rw (at-zero line.length some, at-same line.start before start, lt-false most_sectors (line.start + line.length) low, divides, inside)
+    (ap (λ b. first (refuse LowerReadOnly d l (writable && b) ∷ [])) (read_only-lowers c lowers (names line.target) means))

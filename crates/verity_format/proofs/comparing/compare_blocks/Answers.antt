@@ -1,0 +1,55 @@
+use Rattle.std.proofs.Common.{◌≡◌, ◌≢◌, ◌<◌, ◌+◌, ◌++◌, ◌∷◌, ◌∙◌, [], ℕ, List, Option, length, get_or, take, sym, ap, arith, subst, append_assoc}
+use Rattle.std.proofs.lemmas.List.{take_more, take_all}
+use Rattle.hash_tree.specs.Building.{PlacedRecord}
+use Rattle.hash_tree.specs.Placing.{IsLeastDiffering}
+use Rattle.hash_tree.proofs.lemmas.PlacingLemmas.{least-same, least-next}
+use Rattle.verity_format.specs.Blocks.{block_at}
+use Rattle.verity_format.specs.Comparing.{IsLeastWith}
+use Rattle.verity_format.proofs.BlockLemmas.{sectors-step}
+use Rattle.verity_format.proofs.ComparingLemmas.{ne_differ, ne_same}
+use Rattle.verity_format.proofs.DeviceLemmas.{only_read-then, full_read-then, steady-then}
+use Rattle.verity_format.proofs.comparing.compare_blocks.Goals.{then-ne, else-ne}
+use Rattle.verity_format.proofs.comparing.compare_blocks.Goals as goal
+
+pub loop-placed-preserved : goal.loop-placed-preserved
+loop-placed-preserved g c =
+    let out = c.args.blocks.now in
+    let i = c.loop-placed.placed-index in
+    let p : PlacedRecord = c.placed-item.result in
+    let old = g.H.BlockDev.state c.args.hash_dev.now in
+    let here = c.loop-placed.invariant in
+    let size = length c.args.block.now in
+    let device : ℕ → List ℕ = block_at old.image size in
+    let now : length c.read_block.new.block ≡ size = c.read_block.auto.block ∙ c.loop-placed.auto.block in
+    record {
+      read = only_read-then here.read c.read_block.ensures.read;
+      full = full_read-then _ _ _ here.full c.in_ok-read_block.ensures.full (sectors-step i (length c.loop-placed.block) (length c.read_block.new.block) c.read_block.auto.block);
+      least = subst (λ (n : ℕ). IsLeastWith old n (take (i + 1) out) c.args.least c.if-ne.least) (sym now) (λ steady ps so.
+          let more : ps ++ take (i + 1) out ≡ (ps ++ take i out) ++ p ∷ [] =
+          ap (λ xs. ps ++ xs) (take_more out i p c.loop-placed-test.true ∙ ap (λ q. take i out ++ q ∷ []) (sym c.placed-item.is)) ∙ sym (append_assoc ps (take i out) (p ∷ [])) in
+          let with : IsLeastWith old size (take i out) c.args.least c.loop-placed.least = subst (λ (n : ℕ). IsLeastWith old n (take i out) c.args.least c.loop-placed.least) c.loop-placed.auto.block here.least in
+          let before : IsLeastDiffering device (ps ++ take i out) c.loop-placed.least = with steady ps so in
+          let number : p.block ≡ c.placed.inside.block = sym (ap (λ (p : PlacedRecord). p.block) c.placed.view_is) in
+          let bytes : c.as_slice.result.now ≡ p.bytes = c.as_slice.ensures.value ∙ ap (λ (p : PlacedRecord). p.bytes) c.placed.view_is in
+          let stands : device p.block ≡ c.read_block.new.block =
+          ap device number
+          ∙ sym (c.in_ok-read_block.ensures.bytes (steady-then here.read.same steady)
+          ∙ ap (λ image. block_at image (length c.loop-placed.block) c.placed.inside.block) (here.read.image steady)
+          ∙ ap (λ n. block_at old.image n c.placed.inside.block) c.loop-placed.auto.block) in
+          subst (λ qs. IsLeastDiffering device qs c.if-ne.least) (sym more) (elim c.if-ne.branch [
+            | then-ne w ↦
+                let differ : device p.block ≢ p.bytes = λ same. ne_differ c.read_block.new.block c.as_slice.result.now w.if-ne.ensures (sym stands ∙ same ∙ sym bytes) in
+                rw (w.least-is, w.lesser.ensures, ← number) (least-next device (ps ++ take i out) p c.loop-placed.least differ before)
+            | else-ne w ↦
+                let same : device p.block ≡ p.bytes = stands ∙ ne_same c.read_block.new.block c.as_slice.result.now w.if-ne.ensures ∙ bytes in
+                rw w.least-is (least-same device (ps ++ take i out) p c.loop-placed.least same before)
+          ]));
+    }
+
+pub returns-clause-least : goal.returns-clause-least
+returns-clause-least g c =
+    let out = c.args.blocks.now in
+    let old = g.H.BlockDev.state c.args.hash_dev.now in
+    let all : take c.loop-placed.placed-index out ≡ out = take_all c.loop-placed.placed-index out c.loop-placed-test.false in
+    subst (λ xs. IsLeastWith old (length c.args.block.now) xs c.args.least c.loop-placed.least) all
+    (subst (λ (n : ℕ). IsLeastWith old n (take c.loop-placed.placed-index out) c.args.least c.loop-placed.least) c.loop-placed.auto.block c.loop-placed.invariant.least)

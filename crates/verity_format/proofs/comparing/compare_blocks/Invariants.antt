@@ -1,0 +1,14 @@
+use Rattle.std.proofs.Common.{◌++◌, ◌*◌, ◌/◌, List, IsTrue, length, take}
+use Rattle.hash_tree.specs.Building.{PlacedRecord}
+use Rattle.hash_tree.specs.Placing.{IsLeastDiffering}
+use Rattle.verity_format.specs.Blocks.{block_at, IsOnlyRead, IsFullRead}
+use Rattle.verity_format.specs.Comparing.{IsLeastWith}
+use Rattle.verity_format.proofs.comparing.compare_blocks.Given as goal
+
+-- the blocks compared so far
+abbrev pub invariant-loop-placed : goal.invariant-loop-placed
+invariant-loop-placed g l = record {
+  read : IsOnlyRead (g.H.BlockDev.state l.fn.hash_dev) (g.H.BlockDev.state l.hash_dev);
+  full : IsFullRead (g.H.BlockDev.state l.fn.hash_dev) (l.placed-index * (length l.block / 512)) (g.H.BlockDev.state l.hash_dev);
+  least : IsLeastWith (g.H.BlockDev.state l.fn.hash_dev) (length l.block) (take l.placed-index l.blocks) l.fn.least l.least;
+}

@@ -1,0 +1,10 @@
+use Rattle.verity_format.specs.Comparing.{IsComparing}
+use Rattle.verity_format.proofs.comparing.compare_tree.Given as goal
+
+-- the blocks compared so far
+abbrev pub invariant-loop-run : goal.invariant-loop-run
+invariant-loop-run g l =
+    IsComparing l.shape l.salt (g.D.BlockDev.state l.fn.data_dev) (g.H.BlockDev.state l.fn.hash_dev) (g.D.BlockDev.state l.data_dev) (g.H.BlockDev.state l.hash_dev) l.builder l.least
+
+abbrev pub decreases-loop-run : goal.decreases-loop-run
+decreases-loop-run g l = l.builder.left

@@ -1,0 +1,44 @@
+use Rattle.std.proofs.Common.{◌≡◌, ◌<◌, ◌≤◌, ◌-◌, ◌*◌, ◌/◌, ◌++◌, ◌∙◌, ℕ, List, All, sym, ap, subst, arith, length, drop, map}
+use Rattle.std.proofs.Math.Nat.{div_self}
+use Rattle.std.proofs.lemmas.List.{take_at}
+use Rattle.hash_tree.specs.Building.{completed}
+use Rattle.hash_tree.specs.Digests.{digest}
+use Rattle.verity_format.specs.Blocks.{IsFullRead, blocks_at}
+use Rattle.verity_format.specs.Growth.{IsDigest}
+use Rattle.verity_format.proofs.RunLemmas.{quotient-some}
+use Rattle.verity_format.proofs.SizeLemmas.{block-size}
+use Rattle.verity_format.proofs.growth.take_run.Goals as goal
+
+pub returns-clause-taken : goal.returns-clause-taken
+returns-clause-taken g c =
+    let v = c.in_ok-digests.digests in
+    let ds : List (List ℕ) = c.deref.result.now in
+    let put : List (List ℕ) = c.read_run.new.digests in
+    let s = c.args.shape.now in
+    let old = g.D.BlockDev.state c.args.device.now in
+    let new = g.D.BlockDev.state c.read_run.new.device in
+    let kept : length put ≡ v.len = c.read_run.auto.digests ∙ c.deref_mut.ensures.len in
+    let items : ds ≡ put = c.deref.ensures.value ∙ take_at put (drop (length put) v.items) v.len kept in
+    let count : length ds ≡ c.min-count.result = ap length items ∙ kept ∙ c.in_ok-digests.ensures.len in
+    let size : c.data_block-size.result ≡ s.data_block = c.data_block-size.ensures.value in
+    let block = block-size s.data_block c.data_block-size.ensures.valid.data_size in
+    let one : 1 ≤ length c.args.run.now / c.data_block-size.result = quotient-some _ _ (omega (arith, size, block.some)) (omega (arith, size, c.requires.run)) in
+    let are = c.in_ok-read_run.ensures.digests in
+    record {
+      digests = ds;
+      sized = subst (All IsDigest) (sym items) are.sized;
+      some = omega (arith, count, one, c.requires.left.0, c.min-count.ensures, c.left-left.ensures);
+      few = omega (arith, count, c.min-count.ensures, c.left-left.ensures);
+      after = c.in_ok-push_many.ensures.ok.0;
+      placed = c.in_ok-push_many.ensures.ok.1 ∙ ap (λ xs. xs ++ completed c.args.builder.now ds) c.new-out.ensures.items;
+      read =
+          subst (λ (n : ℕ). IsFullRead old (length ds * (n / 512)) new) size
+          (subst (λ (n : ℕ). IsFullRead old (n * (c.data_block-size.result / 512)) new) (c.deref_mut.ensures.len ∙ c.in_ok-digests.ensures.len ∙ sym count) c.in_ok-read_run.ensures.full);
+      over = λ steady.
+          items
+          ∙ are.over steady
+          ∙ ap (λ n. map (digest c.args.salt.now) (blocks_at old.image n (c.blocks-2.result - c.left-left.result) (length put))) size
+          ∙ ap (λ n. map (digest c.args.salt.now) (blocks_at old.image s.data_block (n - c.left-left.result) (length put))) c.blocks-2.ensures.value
+          ∙ ap (λ n. map (digest c.args.salt.now) (blocks_at old.image s.data_block (s.blocks - n) (length put))) c.left-left.ensures
+          ∙ ap (λ n. map (digest c.args.salt.now) (blocks_at old.image s.data_block (s.blocks - c.args.builder.now.left) n)) (ap length (sym items));
+    }

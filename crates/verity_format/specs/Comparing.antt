@@ -1,0 +1,32 @@
+-- Hash blocks compared with those that stand on a device.
+use Rattle.std.specs.Prelude.{◌≡◌, ℕ, ◌+◌, ◌*◌, ◌/◌, ◌^◌, ◌≤◌, min, IsTrue, Option, List, ◌++◌, length}
+use Rattle.block_device.specs.Device.{Device}
+use Rattle.hash_tree.specs.Shape.{ShapeRecord, sectors_of, area_blocks}
+use Rattle.hash_tree.specs.Building.{BuilderRecord, PlacedRecord, begun_builder, completed, numbered}
+use Rattle.hash_tree.specs.Placing.{IsLeastDiffering}
+use Rattle.verity_format.specs.Blocks.{IsFullRead, block_at}
+use Rattle.verity_format.specs.Image.{data_sectors, area_over, root_over}
+use Rattle.verity_format.specs.Growth.{IsTaken}
+
+-- a block of that size that lies on the device
+abbrev pub LiesOn : Device → ℕ → PlacedRecord → Type 0
+LiesOn device size p = p.block * (size / 512) + size / 512 ≤ min device.size (2 ^ 54)
+
+-- Over a steady device: whatever was compared before, with the least block that differs, this is the least with these blocks.
+abbrev pub IsLeastWith : Device → ℕ → List PlacedRecord → Option ℕ → Option ℕ → Type 0
+IsLeastWith device size out before least =
+    IsTrue device.steady → (ps : List PlacedRecord) → IsLeastDiffering (block_at device.image size) ps before → IsLeastDiffering (block_at device.image size) (ps ++ out) least
+
+-- the blocks that the first data blocks completed were read, each once, and the least of them that differs is known
+pub record IsComparing (shape : ShapeRecord) (salt : List ℕ) (data_dev hash_dev data_dev' hash_dev' : Device) (b : BuilderRecord) (least : Option ℕ) : Type 0 where
+  pub taken : IsTaken shape salt data_dev data_dev' b
+  pub read : IsFullRead hash_dev (length (completed (begun_builder shape salt) taken.digests) * (shape.hash_block / 512)) hash_dev'
+  pub found : IsTrue hash_dev.steady → IsLeastDiffering (block_at hash_dev.image shape.hash_block) (completed (begun_builder shape salt) taken.digests) least
+
+-- All data blocks and all hash blocks of the tree were read, each once, and no call failed. Over steady devices this
+-- is the least hash block that differs from the tree over the data, and its root.
+pub record IsTreeCompared (shape : ShapeRecord) (salt : List ℕ) (data_dev hash_dev data_dev' hash_dev' : Device) (least : Option ℕ) (digest : List ℕ) : Type 0 where
+  pub data_read : IsFullRead data_dev (data_sectors shape) data_dev'
+  pub hash_read : IsFullRead hash_dev (sectors_of (area_blocks shape) shape.hash_block) hash_dev'
+  pub root : IsTrue data_dev.steady → digest ≡ root_over shape salt data_dev.image
+  pub found : IsTrue data_dev.steady → IsTrue hash_dev.steady → IsLeastDiffering (block_at hash_dev.image shape.hash_block) (numbered 1 (area_over shape salt data_dev.image)) least

@@ -1,0 +1,37 @@
+-- A tree made of a device's data blocks, run by run.
+use Rattle.std.specs.Prelude.{◌≡◌, ◌⊎◌, ℕ, ◌-◌, ◌*◌, ◌/◌, ◌<◌, ◌≤◌, IsTrue, List, length, map, All}
+use Rattle.block_device.specs.Device.{Device, HasFailed}
+use Rattle.hash_tree.specs.Digests.{digest}
+use Rattle.hash_tree.specs.Shape.{ShapeRecord}
+use Rattle.hash_tree.specs.Building.{BuilderRecord, PlacedRecord, begun_builder, pushed, completed}
+use Rattle.verity_format.specs.declared.access.TreeFault.{TreeFault}
+use Rattle.verity_format.specs.declared.access.TreeFault.TheVariants.{Device as DeviceFailed, NoMemory}
+use Rattle.verity_format.specs.Blocks.{IsFullRead, blocks_at}
+
+abbrev pub IsDigest : List ℕ → Type 0
+IsDigest d = length d ≡ 32
+
+-- A run of data blocks was read, each once. The builder took their digests, and put out the blocks that these complete.
+pub record IsRunTaken (shape : ShapeRecord) (salt : List ℕ) (old new : Device) (b b' : BuilderRecord) (out : List PlacedRecord) : Type 0 where
+  pub digests : List (List ℕ)
+  pub sized : All IsDigest digests
+  pub some : 0 < length digests
+  pub few : length digests ≤ b.left
+  pub after : b' ≡ pushed b digests
+  pub placed : out ≡ completed b digests
+  pub read : IsFullRead old (length digests * (shape.data_block / 512)) new
+  pub over : IsTrue old.steady → digests ≡ map (digest salt) (blocks_at old.image shape.data_block (shape.blocks - b.left) (length digests))
+
+-- the first data blocks were read, each once, and the builder has taken their digests
+pub record IsTaken (shape : ShapeRecord) (salt : List ℕ) (old new : Device) (b : BuilderRecord) : Type 0 where
+  pub digests : List (List ℕ)
+  pub sized : All IsDigest digests
+  pub few : length digests ≤ shape.blocks
+  pub after : b ≡ pushed (begun_builder shape salt) digests
+  pub read : IsFullRead old (length digests * (shape.data_block / 512)) new
+  pub over : IsTrue old.steady → digests ≡ map (digest salt) (blocks_at old.image shape.data_block 0 (length digests))
+
+-- one of two devices failed in the call; where memory ran out neither did
+abbrev pub IsPairCause : Device → Device → Device → Device → TreeFault → Type 0
+IsPairCause data_dev hash_dev data_dev' hash_dev' DeviceFailed = HasFailed data_dev data_dev' ⊎ HasFailed hash_dev hash_dev'
+IsPairCause data_dev hash_dev data_dev' hash_dev' NoMemory = (data_dev'.failures ≡ data_dev.failures) × (hash_dev'.failures ≡ hash_dev.failures)

@@ -1,0 +1,58 @@
+-- Hash blocks written to a device.
+use Rattle.std.specs.Prelude.{◌≡◌, ◌⊎◌, ℕ, ◌+◌, ◌*◌, ◌/◌, ◌≤◌, IsTrue, List, length, take, drop}
+use Rattle.block_device.specs.Device.{Device, IsSameDevice, HasFailed, capped}
+use Rattle.hash_tree.specs.Shape.{ShapeRecord, sectors_of, area_blocks}
+use Rattle.hash_tree.specs.Building.{BuilderRecord, PlacedRecord, begun_builder, completed}
+use Rattle.hash_tree.specs.Placing.{written}
+use Rattle.verity_format.specs.declared.access.TreeFault.{TreeFault}
+use Rattle.verity_format.specs.declared.access.TreeFault.TheVariants.{Device as DeviceFailed, NoMemory}
+use Rattle.verity_format.specs.Blocks.{IsFullRead, block_at, blocks_at}
+use Rattle.verity_format.specs.Comparing.{LiesOn}
+use Rattle.verity_format.specs.Growth.{IsTaken}
+use Rattle.verity_format.specs.Image.{data_sectors, image_sectors, area_over, root_over}
+
+-- a block of that size that lies on the device
+abbrev pub MayStand : Device → ℕ → PlacedRecord → Type 0
+MayStand device size p = (length p.bytes ≡ size) × LiesOn device size p
+
+-- a block behind hash block 0 and within the first sectors
+abbrev pub StandsWithin : ℕ → ℕ → PlacedRecord → Type 0
+StandsWithin size last p = (1 ≤ p.block) × (p.block * (size / 512) + size / 512 ≤ last)
+
+-- At most n blocks of that size were written, each behind hash block 0 and within the first sectors, whether that failed or not.
+pub record IsPartWritten (size last n : ℕ) (old new : Device) : Type 0 where
+  pub same : IsSameDevice old new
+  pub reads : new.reads ≡ old.reads
+  pub writes : new.writes ≤ old.writes + n * (size / 512)
+  pub before : IsTrue old.steady → take (size / 512) new.image ≡ take (size / 512) old.image
+  pub after : IsTrue old.steady → drop last new.image ≡ drop last old.image
+
+-- these blocks were written, each once, and no call failed
+pub record AreWritten (size : ℕ) (old : Device) (ps : List PlacedRecord) (new : Device) : Type 0 where
+  pub writes : capped new.writes ≡ capped (old.writes + length ps * (size / 512))
+  pub failures : new.failures ≡ old.failures
+  pub blocks : IsTrue old.steady → (i : ℕ) → block_at new.image size i ≡ written (block_at old.image size) ps i
+
+-- at most the tree's blocks were written, whether that failed or not
+abbrev pub IsPartOfTree : ShapeRecord → Device → Device → Type 0
+IsPartOfTree shape old new = IsPartWritten shape.hash_block (image_sectors shape) (area_blocks shape) old new
+
+-- the blocks that the first data blocks completed were written, each once
+pub record IsWriting (shape : ShapeRecord) (salt : List ℕ) (data_dev hash_dev data_dev' hash_dev' : Device) (b : BuilderRecord) : Type 0 where
+  pub taken : IsTaken shape salt data_dev data_dev' b
+  pub part : IsPartWritten shape.hash_block (image_sectors shape) (length (completed (begun_builder shape salt) taken.digests)) hash_dev hash_dev'
+  pub done : AreWritten shape.hash_block hash_dev (completed (begun_builder shape salt) taken.digests) hash_dev'
+
+-- All data blocks were read and all blocks of the tree written, each once, and no call failed. Over steady devices
+-- the tree over the data stands there, and that is its root.
+pub record IsTreeWritten (shape : ShapeRecord) (salt : List ℕ) (data_dev hash_dev data_dev' hash_dev' : Device) (digest : List ℕ) : Type 0 where
+  pub read : IsFullRead data_dev (data_sectors shape) data_dev'
+  pub writes : capped hash_dev'.writes ≡ capped (hash_dev.writes + sectors_of (area_blocks shape) shape.hash_block)
+  pub failures : hash_dev'.failures ≡ hash_dev.failures
+  pub root : IsTrue data_dev.steady → digest ≡ root_over shape salt data_dev.image
+  pub tree : IsTrue data_dev.steady → IsTrue hash_dev.steady → blocks_at hash_dev'.image shape.hash_block 1 (area_blocks shape) ≡ area_over shape salt data_dev.image
+
+-- the data device failed and the hash device didn't, or the hash device failed; where memory ran out neither did
+abbrev pub IsWriteCause : Device → Device → Device → Device → TreeFault → Type 0
+IsWriteCause data_dev hash_dev data_dev' hash_dev' DeviceFailed = (HasFailed data_dev data_dev' × (hash_dev'.failures ≡ hash_dev.failures)) ⊎ HasFailed hash_dev hash_dev'
+IsWriteCause data_dev hash_dev data_dev' hash_dev' NoMemory = (data_dev'.failures ≡ data_dev.failures) × (hash_dev'.failures ≡ hash_dev.failures)

@@ -1,0 +1,82 @@
+// Hash blocks compared with those that stand on a device.
+ghost use Rattle.std.specs.Prelude.{◌≡◌, ◌+◌, ◌*◌, ◌/◌, ◌<◌, ◌≤◌, All, IsTrue, OnOk, OnErr, IfOk, IfErr, length};
+ghost use Rattle.block_device.specs.Device.{HasFailed};
+ghost use Rattle.hash_tree.specs.Placing.{lesser};
+ghost use Rattle.hash_tree.specs.Shape.{is_block_size};
+ghost use Rattle.verity_format.specs.Blocks.{IsOnlyRead, IsFullRead};
+ghost use Rattle.verity_format.specs.Comparing.{LiesOn, IsLeastWith, IsTreeCompared};
+ghost use Rattle.verity_format.specs.Growth.{IsPairCause};
+ghost use Rattle.verity_format.specs.Image.{data_sectors, tree_sectors};
+
+use crate::access::{TreeFault, read_block, zeros};
+use crate::growth::{RUN, take_run};
+use block_device::{BlockDev, DeviceFault};
+use hash_tree::{LevelBuilder, Placed, Salt, Shape};
+use std::alloc::{AllocError, Global};
+
+/// The lesser of the two numbers.
+fn lesser(least: Option<u64>, block: u64) -> u64
+    ensures { result ≡ lesser least block }
+{
+    match least {
+        Some(n) if n <= block => n,
+        _ => block,
+    }
+}
+
+/// The least number of a block that differs, of one that is known and of these, each read into `block`.
+fn compare_blocks<H: BlockDev>(
+    hash_dev: &mut H,
+    blocks: &[Placed],
+    block: &mut [u8],
+    least: Option<u64>,
+) -> Result<Option<u64>, DeviceFault>
+    requires size { IsTrue (is_block_size (length block.old)) }
+    requires inside { All (LiesOn (H.state hash_dev.old) (length block.old)) blocks.now }
+    ensures read { IsOnlyRead (H.state hash_dev.old) (H.state hash_dev.new) }
+    ensures least { IfOk result (λ r. IsLeastWith (H.state hash_dev.old) (length block.old) blocks.now least r) }
+    ensures full { OnOk result (IsFullRead (H.state hash_dev.old) (length blocks.now * (length block.old / 512)) (H.state hash_dev.new)) }
+    ensures fault { OnErr result (HasFailed (H.state hash_dev.old) (H.state hash_dev.new)) }
+{
+    let mut least = least;
+    for placed in blocks {
+        read_block(hash_dev, placed.block, block)?;
+        if &block[..] != placed.bytes.as_slice() {
+            least = Some(lesser(least, placed.block));
+        }
+    }
+    Ok(least)
+}
+
+/// The least hash block that differs from the tree over the data device, which begins at block 1, and its root.
+/// The tree is made and compared level by level.
+pub(crate) fn compare_tree<D: BlockDev, H: BlockDev>(
+    alloc: Global,
+    data_dev: &mut D,
+    hash_dev: &mut H,
+    shape: &Shape,
+    salt: &Salt,
+) -> Result<(Option<u64>, [u8; 32]), TreeFault>
+    requires start { shape.now.start ≡ 1 }
+    requires data_room { data_sectors shape.now ≤ (D.state data_dev.old).size }
+    requires tree_room { tree_sectors shape.now ≤ (H.state hash_dev.old).size }
+    ensures data_read { IsOnlyRead (D.state data_dev.old) (D.state data_dev.new) }
+    ensures hash_read { IsOnlyRead (H.state hash_dev.old) (H.state hash_dev.new) }
+    ensures compared { IfOk result (λ r. IsTreeCompared shape.now salt.now (D.state data_dev.old) (H.state hash_dev.old) (D.state data_dev.new) (H.state hash_dev.new) r.0 r.1) }
+    ensures fault { IfErr result (λ f. IsPairCause (D.state data_dev.old) (H.state hash_dev.old) (D.state data_dev.new) (H.state hash_dev.new) f) }
+{
+    let mut memory = zeros(alloc, RUN)?;
+    let mut block_memory = zeros(alloc, shape.hash_block() as usize)?;
+    let run = memory.as_mut_slice();
+    let block = block_memory.as_mut_slice();
+    let mut builder = LevelBuilder::new(alloc, *shape, *salt)?;
+    let mut least = None;
+    while builder.left() > 0 {
+        let out = take_run(alloc, data_dev, shape, salt, run, &mut builder)?;
+        least = compare_blocks(hash_dev, &out, block, least)?;
+    }
+    let mut out = Vec::new(alloc);
+    let root = builder.finish(&mut out)?;
+    let least = compare_blocks(hash_dev, &out, block, least)?;
+    Ok((least, root))
+}

@@ -1,0 +1,49 @@
+// A tree made of a device's data blocks, run by run.
+ghost use Rattle.std.specs.Prelude.{false, ◌≡◌, ◌<◌, ◌≤◌, IfOk, IfErr, length};
+ghost use Rattle.verity_format.specs.Access.{IsTreeCause};
+ghost use Rattle.verity_format.specs.Blocks.{IsOnlyRead};
+ghost use Rattle.verity_format.specs.Growth.{IsRunTaken};
+ghost use Rattle.verity_format.specs.Image.{data_sectors};
+
+use crate::access::{TreeFault, read_run};
+use block_device::BlockDev;
+use hash_tree::{LevelBuilder, Placed, Salt, Shape};
+use std::alloc::{AllocError, Global};
+
+/// How many bytes of the data are read in one call.
+pub(crate) const RUN: usize = 1 << 16;
+
+/// Reads the next data blocks, as many as fit `run`, and gives the hash blocks that their digests complete.
+pub(crate) fn take_run<D: BlockDev>(
+    alloc: Global,
+    device: &mut D,
+    shape: &Shape,
+    salt: &Salt,
+    run: &mut [u8],
+    builder: &mut LevelBuilder,
+) -> Result<Vec<Placed>, TreeFault>
+    requires ready { builder.old.failed ≡ false }
+    requires left { (0 < builder.old.left) × (builder.old.left ≤ shape.now.blocks) }
+    requires run { shape.now.data_block ≤ length run.old }
+    requires room { data_sectors shape.now ≤ (D.state device.old).size }
+    ensures read { IsOnlyRead (D.state device.old) (D.state device.new) }
+    ensures taken { IfOk result (λ out. IsRunTaken shape.now salt.now (D.state device.old) (D.state device.new) builder.old builder.new out.items) }
+    ensures fault { IfErr result (λ f. IsTreeCause (D.state device.old) (D.state device.new) f) }
+{
+    let size = shape.data_block() as usize;
+    let left = builder.left();
+    let index = shape.blocks() - left;
+    let count = (run.len() / size).min(left as usize);
+    let mut digests = vec![in alloc; [0u8; 32]; count]?;
+    read_run(
+        device,
+        salt,
+        size,
+        index,
+        &mut run[..count * size],
+        &mut digests,
+    )?;
+    let mut out = Vec::new(alloc);
+    builder.push_many(&digests, &mut out)?;
+    Ok(out)
+}

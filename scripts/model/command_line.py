@@ -1,0 +1,322 @@
+"""The subcommands: words, files, statuses."""
+
+import re
+
+from configuration import Configuration, Leaf, Refused, check_leaves
+from session import MOST_SECTORS, Session, Usage, check_request, costs
+from stack import SECTOR, Fault, FileImage, MemoryImage, Stack
+from tables import TextFault, digits_of, is_device_argument, number, read_stack, salt_of
+from verity import ImageFault, dump_lines, format_images, spelled_uuid, table_line, verify_images
+
+DONE, REFUSED, USAGE, FAULT = range(4)
+OPENING_FAULTS = ["NotFound", "NotAllowed", "TooLarge", "OtherFault", "NoMemory", "SameFile"]
+MOST_OF_A_TEXT = 1024 * 1024
+MOST_OF_MEMORY = 65536
+LONGEST_NAME = 255
+TARGETS = ("linear", "striped", "zero", "error", "crypt", "verity", "zero_blocks", "sector_size")
+OPTIONS = {
+    "format": (b"data-block", b"hash-block", b"blocks", b"salt", b"uuid"),
+    "verify": (), "dump": (), "table": (), "load": (),
+    "read": (b"cache",), "write": (b"cache",), "session": (b"cache",),
+}
+UUID = re.compile(rb"[0-9a-f]{8}(-[0-9a-f]{4}){3}-[0-9a-f]{12}", re.IGNORECASE)
+
+
+def features_without(names):
+    """What the program can do but for the names given.
+
+    `write` is the session's command, `write-command` the subcommand; `submit` takes `step`
+    with it, `crypt` and `verity` are targets."""
+    from session import COMMANDS
+    names = set(names) | ({"step"} if "submit" in names else set())
+    known = {*COMMANDS, *TARGETS, *(name + "-command" for name in OPTIONS)}
+    if names - known:
+        raise ValueError("no such part: " + ", ".join(sorted(names - known)))
+    return {
+        "session": {name for name in COMMANDS if name not in names},
+        "targets": {name for name in TARGETS if name not in names},
+        "commands": {name for name in OPTIONS if name + "-command" not in names},
+    }
+
+
+class Stop(Exception):
+    """The one line that ends a command, with the status."""
+
+    def __init__(self, line, status=REFUSED):
+        super().__init__(line)
+        self.line, self.status = line, status
+
+
+class Drawn(Exception):
+    """A format whose salt or uuid is drawn: no model tells what it prints."""
+
+
+class Files:
+    """A directory's files: bytearrays by path (two paths may share one), or other kinds.
+
+    The other kinds are the words `directory`, `pipe`, `character`."""
+
+    def __init__(self, nodes):
+        self.nodes, self.opened = nodes, []
+
+    def find(self, path):
+        if path == b"/dev/null":
+            return "character"
+        if path in (b".", b"/", b".."):
+            return "directory"
+        if any(len(part) > LONGEST_NAME for part in path.split(b"/")):
+            raise not_opened("OtherFault", path)
+        name, slash, _ = path.removeprefix(b"./").partition(b"/")
+        node = self.nodes.get(name)
+        if node is None or slash and node == "directory":
+            raise not_opened("NotFound", path)
+        if slash:
+            raise not_opened("OtherFault", path)
+        return node
+
+    def image(self, path, writable):
+        """The bytes of a file that is opened as an image."""
+        node = self.find(path)
+        if not isinstance(node, bytearray):
+            raise not_opened("OtherFault", path)
+        if any(node is other and (writable or changing) for other, changing in self.opened):
+            raise not_opened("SameFile", path)
+        self.opened.append((node, writable))
+        return node
+
+    def content(self, path):
+        """What a file holds that is read as it is opened."""
+        node = self.find(path)
+        if node == "character":
+            return bytearray()
+        if not isinstance(node, bytearray):
+            raise not_opened("OtherFault", path)
+        return node
+
+
+def not_opened(kind, path):
+    place = OPENING_FAULTS.index(kind) + 1
+    return Stop(b"refused %d %s %s" % (place, kind.encode(), path))
+
+
+def is_utf8(word):
+    try:
+        word.decode()
+    except UnicodeDecodeError:
+        return False
+    return True
+
+
+def cut_words(words, known):
+    """The options by name, and the other words.
+
+    Behind `--` the first of these may begin with `-`; no later one ever does."""
+    options, words = {}, list(words)
+    while words:
+        word = words[0]
+        if word == b"-" or not word.startswith(b"-"):
+            break
+        words.pop(0)
+        if word == b"--":
+            break
+        name, equals, value = word[2:].partition(b"=")
+        if not word.startswith(b"--") or name not in known or name in options:
+            raise Usage
+        if not equals:
+            if not words:
+                raise Usage
+            value = words.pop(0)
+        if not value:
+            raise Usage
+        options[name] = value
+    if any(word.startswith(b"-") and word != b"-" for word in words[1:]):
+        raise Usage
+    return options, words
+
+
+def the_number(word, below=2**64):
+    value = number(word, below)
+    if value is None:
+        raise Usage
+    return value
+
+
+def needed(value):
+    if value is None:
+        raise Usage
+    return value
+
+
+def exactly(words, count):
+    if len(words) != count:
+        raise Usage
+    return words
+
+
+def at_least(words, count):
+    if len(words) < count:
+        raise Usage
+    return words[:count], words[count:]
+
+
+def uuid_of(word):
+    """A uuid plain, hyphenated, in braces or behind `urn:uuid:`."""
+    if re.fullmatch(rb"[0-9a-fA-F]{32}", word):
+        return bytes.fromhex(word.decode())
+    inner = word
+    if word.startswith(b"urn:uuid:"):
+        inner = word[9:]
+    elif word.startswith(b"{") and word.endswith(b"}"):
+        inner = word[1:-1]
+    if not UUID.fullmatch(inner):
+        raise Usage
+    return bytes.fromhex(inner.replace(b"-", b"").decode())
+
+
+def binding(word):
+    """The name, kind and file or number of sectors of a binding."""
+    name, equals, rest = word.partition(b"=")
+    kind, colon, value = rest.partition(b":")
+    if not equals or not colon or kind not in (b"rw", b"ro", b"zero", b"ramp"):
+        raise Usage
+    if kind in (b"zero", b"ramp"):
+        value = the_number(value, MOST_OF_MEMORY + 1)
+        if value == 0:
+            raise Usage
+    return name, kind, value
+
+
+def bound(words, files):
+    """A stack over the leaves of the bindings, without a device."""
+    images, leaves = {}, []
+    for name, kind, value in words:
+        if kind in (b"zero", b"ramp"):
+            image = MemoryImage(value, kind == b"ramp")
+        else:
+            image = FileImage(files.image(value, kind == b"rw"))
+        images[name] = image
+        leaves.append(Leaf(name, image.sectors, kind != b"ro"))
+    check_leaves(leaves)
+    return Stack(Configuration(leaves), images)
+
+
+def stack_text(path, files):
+    text = bytes(files.content(path))
+    if len(text) > MOST_OF_A_TEXT:
+        raise Stop(b"refused input")
+    return text
+
+
+def loaded(text, bindings, files, features):
+    stack = bound(bindings, files)
+    stack.configuration = stack.configuration.after(read_stack(text, features["targets"]))
+    return stack
+
+
+def read_cache(options):
+    the_number(options.get(b"cache", b"64"), 65537)
+
+
+def run_format(options, words, files, _given, _features):
+    data_path, hash_path = exactly(words, 2)
+    sizes = [the_number(options.get(name, b"4096"), 2**32)
+             for name in (b"data-block", b"hash-block")]
+    blocks = the_number(options[b"blocks"]) if b"blocks" in options else None
+    salt = needed(salt_of(options.get(b"salt", b"-")))
+    uuid = uuid_of(options.get(b"uuid", b"0" * 32))
+    data, image = files.image(data_path, False), files.image(hash_path, True)
+    if b"salt" not in options or b"uuid" not in options:
+        raise Drawn
+    root, count = format_images(data, image, uuid, *sizes, blocks, salt)
+    lines = ["root " + root.hex(), "salt " + (salt.hex() or "-"), "uuid " + spelled_uuid(uuid),
+             "blocks %d" % count]
+    return [line.encode() for line in lines], DONE
+
+
+def run_verify(_options, words, files, _given, _features):
+    data_path, hash_path, root = exactly(words, 3)
+    root = needed(digits_of(root, 64, 64))
+    data, image = files.image(data_path, False), files.image(hash_path, False)
+    verdict = verify_images(data, image, root)
+    return [verdict.encode()], DONE if verdict == "matches" else FAULT
+
+
+def run_dump(_options, words, files, _given, _features):
+    path, = exactly(words, 1)
+    return [line.encode() for line in dump_lines(files.image(path, False))], DONE
+
+
+def run_table(_options, words, files, _given, _features):
+    path, root, data_name, hash_name = exactly(words, 4)
+    root = needed(digits_of(root, 64, 64))
+    if not is_device_argument(data_name) or not is_device_argument(hash_name):
+        raise Usage
+    return [table_line(files.image(path, False), root, data_name, hash_name)], DONE
+
+
+def run_load(_options, words, files, _given, features):
+    (path,), rest = at_least(words, 1)
+    bindings = [binding(word) for word in rest]
+    stack = loaded(stack_text(path, files), bindings, files, features)
+    configuration = stack.configuration
+    lines = []
+    for device in configuration.devices.values():
+        flag = "rw" if device.writable else "ro"
+        lines.append(device.name + (" %s %s" % (costs(configuration, device), flag)).encode())
+    return lines, DONE
+
+
+def run_read(options, words, files, _given, features):
+    read_cache(options)
+    (path, name, first, count), rest = at_least(words, 4)
+    first, count = the_number(first), the_number(count)
+    bindings = [binding(word) for word in rest]
+    stack = loaded(stack_text(path, files), bindings, files, features)
+    check_request(stack.configuration, name, first, count, None)
+    return Session(stack, features).run(name, first, count, None), DONE
+
+
+def run_write(options, words, files, _given, features):
+    read_cache(options)
+    (path, name, first, source), rest = at_least(words, 4)
+    first = the_number(first)
+    bindings = [binding(word) for word in rest]
+    text = stack_text(path, files)
+    node = files.content(source)
+    files.opened.append((node, False))
+    data = bytes(node[:(MOST_SECTORS + 1) * SECTOR])
+    stack = loaded(text, bindings, files, features)
+    count = -(-len(data) // SECTOR)
+    check_request(stack.configuration, name, first, count, len(data))
+    return Session(stack, features).run(name, first, count, data), DONE
+
+
+def run_session(options, words, files, given, features):
+    read_cache(options)
+    stack = bound([binding(word) for word in words], files)
+    return Session(stack, features).serve(given)
+
+
+COMMANDS = {
+    b"format": run_format, b"verify": run_verify, b"dump": run_dump, b"table": run_table,
+    b"load": run_load, b"read": run_read, b"write": run_write, b"session": run_session,
+}
+
+
+def run(words, given, files, features):
+    """The lines on standard output and the status; `files` is as the command leaves it."""
+    files.opened = []
+    try:
+        name = words[0].decode("latin-1") if words else ""
+        if name not in features["commands"] or not all(map(is_utf8, words)):
+            raise Usage
+        options, rest = cut_words(words[1:], OPTIONS[name])
+        return COMMANDS[words[0]](options, rest, files, given, features)
+    except Usage:
+        return [b"usage"], USAGE
+    except Stop as stop:
+        return [stop.line], stop.status
+    except (TextFault, Refused, ImageFault) as refusal:
+        return [refusal.text().encode()], REFUSED
+    except Fault as fault:
+        return [fault.text.encode()], FAULT

@@ -1,0 +1,136 @@
+"""The parts of random cases: runs and files, the dice, bindings."""
+
+import random
+from dataclasses import dataclass
+
+from strange_words import LEAF_NAMES, STRANGE_NUMBERS
+from tables import PREFIX
+
+
+@dataclass
+class Run:
+    """One call of the program: its words and its standard input."""
+    words: list
+    given: bytes = b""
+
+
+@dataclass
+class Case:
+    """Files by name (bytes, `directory`, `pipe`, or `link` or `symlink` and a name), runs."""
+    files: dict
+    runs: list
+
+
+def nodes(files):
+    """The files of a case as the model keeps them."""
+    made = {}
+    for name, content in files.items():
+        if isinstance(content, bytes):
+            made[name] = bytearray(content)
+        elif content in ("directory", "pipe"):
+            made[name] = content
+    for name, content in files.items():
+        if isinstance(content, tuple) and content[1] in made:
+            made[name] = made[content[1]]
+    return made
+
+
+class Dice:
+    """Draws the parts of one case, and keeps the files that they name."""
+
+    def __init__(self, seed, features):
+        self.random = random.Random(seed)
+        self.features = features
+        self.files = {}
+
+    def chance(self, share):
+        return self.random.random() < share
+
+    def pick(self, choices):
+        return self.random.choice(choices)
+
+    def below(self, most):
+        """A number from 0 to most, its ends often."""
+        if self.chance(0.4):
+            return self.pick([0, most])
+        return self.random.randint(0, most)
+
+    def has(self, kind, name):
+        """Whether a part is to be used: seldom, where the program hasn't got it."""
+        return self.chance(1.0 if name in self.features[kind] else 0.04)
+
+    def decimal(self, value):
+        return b"%s%d" % (b"0" * self.pick([0] * 12 + [1, 3]), value)
+
+    def space(self):
+        return self.pick([b"", b"", b"", b"", b"", b" ", b"\t", b"  ", b"\r"])
+
+    def content(self, sectors):
+        """Whole sectors: of one byte each, or of any bytes."""
+        parts = []
+        for _ in range(sectors):
+            one = bytes([self.random.randrange(256)]) * 512
+            parts.append(one if self.chance(0.7) else self.random.randbytes(512))
+            if self.chance(0.1):
+                parts[-1] = one[:511] + b"\xee" if self.chance(0.5) else b"\xee" + one[1:]
+        return b"".join(parts)
+
+    def sectors(self):
+        draw = self.random.random()
+        if draw < 0.5:
+            return self.random.randint(1, 16)
+        if draw < 0.8:
+            return self.random.randint(17, 64)
+        return self.pick([127, 128, 129, 200, 256, 257, 300, 1000, 2047, 2048, 2049, 2500, 65535, 65536])
+
+    def new_file(self, content, stem=b"f"):
+        name = stem + b"%d" % len(self.files)
+        self.files[name] = content
+        return name
+
+    def bindings(self):
+        words = []
+        for name in self.random.sample(LEAF_NAMES, self.random.randint(1, 4)):
+            if self.chance(0.65):
+                kind = b"ramp" if self.chance(0.7) else b"zero"
+                words.append(b"%s=%s:%d" % (name, kind, self.sectors()))
+            else:
+                content = self.content(self.random.randint(0, 24))
+                if self.chance(0.3):
+                    content += self.random.randbytes(self.random.randint(1, 511))
+                path = self.new_file(content)
+                kind = b"ro" if self.chance(0.4) else b"rw"
+                words.append(b"%s=%s:%s" % (name, kind, path))
+        if self.chance(0.04):
+            self.spoil_bindings(words)
+        return words
+
+    def spoil_bindings(self, words):
+        """Puts one binding in that may be refused, or is at the edge of it."""
+        kind = self.random.randrange(8)
+        if kind == 0:
+            words.append(self.pick(words))
+        elif kind == 1:
+            words[:] = [b"L%d=zero:1" % at for at in range(self.pick([63, 64, 65]))]
+        elif kind == 2:
+            words.append(self.pick([b"n" * 256, b"n" * 255, b"", b"x,y", PREFIX + b"x", b"x y",
+                                    b"x;y", b"x\\y", b"\xc3\xa9", b"\xff"]) + b"=zero:2")
+        elif kind == 3:
+            self.files.update({b"dir": "directory", b"pipe": "pipe"})
+            path = self.pick([b"dir", b".", b"pipe", b"missing", b"", b"/dev/null", b"n" * 256,
+                              b"dir/x", b"pipe/x", b"\xff"])
+            words.append(b"K=%s:%s" % (self.pick([b"ro", b"rw"]), path))
+        elif kind == 4:
+            path = self.new_file(self.content(3))
+            other = b"other"
+            self.files[other] = (self.pick(["link", "symlink"]), path)
+            for name, file in ((b"K", path), (b"M", self.pick([other, path, b"./" + path]))):
+                words.append(b"%s=%s:%s" % (name, self.pick([b"ro", b"rw"]), file))
+        elif kind == 5:
+            words.append(b"K=%s:%s" % (self.pick([b"zero", b"ramp"]), self.pick(STRANGE_NUMBERS)))
+        elif kind == 6:
+            words.append(self.pick([b"K", b"K=", b"K=zero", b"K=Zero:1", b"=zero:1", b"K=x:y", b"K=ro",
+                                    b"K:zero=1", b"K=ro=x:y", b""]))
+        else:
+            words.append(b"K=ro:a:b=c")
+        self.random.shuffle(words)

@@ -1,0 +1,221 @@
+"""Stacks: what sectors mean through their lines, what writes put, what the leaves are asked."""
+
+from cipher import xts_decrypt, xts_encrypt
+from configuration import Leaf
+from tables import LARGE_UNITS, ZERO_BLOCKS, Crypt, Error, Linear, Striped, Verity, Zero
+from verity import Tree, digest
+
+SECTOR = 512
+MOST_OF_A_PIECE = 128
+
+
+class Fault(Exception):
+    """The fault that ends a request: its reply stands in `text`."""
+
+    def __init__(self, text):
+        super().__init__(text)
+        self.text = text
+
+
+ERROR_TARGET = "fault 1 ErrorTarget"
+MISMATCH = "fault 2 Mismatch"
+
+
+class MemoryImage:
+    """Sectors in memory: zeros, or sector k filled with the byte k modulo 256."""
+
+    def __init__(self, sectors, ramp):
+        self.sectors, self.ramp, self.changed = sectors, ramp, {}
+
+    def read(self, first, count):
+        if not self.ramp and not self.changed:
+            return bytes(count * SECTOR)
+        return b"".join(self.sector(at) for at in range(first, first + count))
+
+    def sector(self, at):
+        return self.changed.get(at) or bytes([at % 256 if self.ramp else 0]) * SECTOR
+
+    def write(self, first, data):
+        for at in range(len(data) // SECTOR):
+            self.changed[first + at] = bytes(data[at * SECTOR:(at + 1) * SECTOR])
+
+
+class FileImage:
+    """The whole sectors of a file's bytes."""
+
+    def __init__(self, content):
+        self.content, self.sectors = content, len(content) // SECTOR
+
+    def read(self, first, count):
+        return bytes(self.content[first * SECTOR:(first + count) * SECTOR])
+
+    def write(self, first, data):
+        self.content[first * SECTOR:first * SECTOR + len(data)] = data
+
+
+class Moved:
+    """How many sectors the leaves were asked for: exactly, or at most where that is open.
+
+    Trees may be cached, and units of several sectors read in more than one way: their
+    requests have a budget by the costs, and no number of their own."""
+
+    def __init__(self):
+        self.reads = self.writes = 0
+        self.open_reads = self.open_writes = False
+        self.read_budget = self.write_budget = self.shared_budget = 0
+
+    def allows(self, reads, writes):
+        if self.open_writes:
+            most = self.read_budget + self.write_budget + self.shared_budget
+            return reads + writes <= most and reads >= 0
+        if writes != self.writes:
+            return False
+        return reads <= self.read_budget if self.open_reads else reads == self.reads
+
+
+class Stack:
+    def __init__(self, configuration, images):
+        self.configuration, self.images, self.moved = configuration, images, Moved()
+
+    def line_at(self, device, sector):
+        """The line of a sector, and the sectors left in it from there."""
+        for line in device.lines:
+            if sector < line.start + line.length:
+                return line, line.start + line.length - sector
+        raise IndexError(sector)
+
+    def is_open(self, device):
+        """Whether the sectors moved by a read through a device are left open."""
+        if isinstance(device, Leaf):
+            return False
+        for line in device.lines:
+            target = line.target
+            if isinstance(target, Verity) or (isinstance(target, Crypt) and target.unit() > 1):
+                return True
+        return any(self.is_open(lower) for lower in self.configuration.lowers(device))
+
+    def piece(self, device, first, count):
+        """How many sectors the next piece of a request has."""
+        return min(count, MOST_OF_A_PIECE, self.line_at(device, first)[1])
+
+    def read_piece(self, device, first, count):
+        self.moved.read_budget += count * self.configuration.read_cost(device)
+        self.moved.open_reads |= self.is_open(device)
+        return self.read_run(device, first, count)
+
+    def write_piece(self, device, first, data):
+        count = len(data) // SECTOR
+        if self.is_open(device):
+            self.moved.open_writes = True
+        self.moved.shared_budget += count * self.configuration.write_cost(device)
+        self.write_run(device, first, data)
+
+    def runs(self, device, first, count):
+        """The runs of sectors that stay in one line, with the sector within the line."""
+        while count:
+            line, rest = self.line_at(device, first)
+            part = min(count, rest)
+            yield line.target, first - line.start, part
+            first, count = first + part, count - part
+
+    def lower_runs(self, target, at, count):
+        """Where the sectors of a linear or striped line stand, in rising order."""
+        lower = self.configuration.lower
+        if isinstance(target, Linear):
+            yield lower(target.device), target.offset + at, count
+            return
+        while count:
+            chunk, inside = divmod(at, target.chunk)
+            row, place = divmod(chunk, len(target.stripes))
+            device, offset = target.stripes[place]
+            part = min(count, target.chunk - inside)
+            yield lower(device), offset + row * target.chunk + inside, part
+            at, count = at + part, count - part
+
+    def read_run(self, lower, first, count):
+        if isinstance(lower, Leaf):
+            self.moved.reads += count
+            return self.images[lower.name].read(first, count)
+        return b"".join(self.read_line(*run) for run in self.runs(lower, first, count))
+
+    def read_line(self, target, at, count):
+        if isinstance(target, Zero):
+            return bytes(count * SECTOR)
+        if isinstance(target, Error):
+            raise Fault(ERROR_TARGET)
+        if isinstance(target, (Linear, Striped)):
+            runs = self.lower_runs(target, at, count)
+            return b"".join(self.read_run(*run) for run in runs)
+        reader = self.read_unit if isinstance(target, Crypt) else self.read_block
+        size = target.unit() if isinstance(target, Crypt) else target.data_block // SECTOR
+        parts = []
+        for unit in range(at // size, (at + count - 1) // size + 1):
+            begin, end = max(at, unit * size), min(at + count, (unit + 1) * size)
+            whole = reader(target, unit)
+            parts.append(whole[(begin - unit * size) * SECTOR:(end - unit * size) * SECTOR])
+        return b"".join(parts)
+
+    def unit_number(self, target, unit):
+        number = (unit * target.unit() + target.iv_offset) % 2**64
+        return number // target.unit() if LARGE_UNITS in target.options else number
+
+    def read_unit(self, target, unit):
+        size = target.unit()
+        device = self.configuration.lower(target.device)
+        data = self.read_run(device, target.offset + unit * size, size)
+        return xts_decrypt(target.key, self.unit_number(target, unit), data)
+
+    def read_block(self, target, block):
+        """A verified data block: each hash block from the root down, then the block itself."""
+        tree = Tree(target.data_block, target.hash_block, target.blocks, target.start)
+        hash_device = self.configuration.lower(target.hash_device)
+        expected, size = target.digest, target.hash_block // SECTOR
+        for place, slot in tree.way(block):
+            hashes = self.read_run(hash_device, place * size, size)
+            if digest(target.salt, hashes) != expected:
+                raise Fault(MISMATCH)
+            expected = hashes[32 * slot:32 * slot + 32]
+        zeros = bytes(target.data_block)
+        if ZERO_BLOCKS in target.options and expected == digest(target.salt, zeros):
+            return zeros
+        size = target.data_block // SECTOR
+        data = self.read_run(self.configuration.lower(target.device), block * size, size)
+        if digest(target.salt, data) != expected:
+            raise Fault(MISMATCH)
+        return data
+
+    def write_run(self, lower, first, data):
+        if isinstance(lower, Leaf):
+            self.moved.writes += len(data) // SECTOR
+            self.images[lower.name].write(first, data)
+            return
+        done = 0
+        for target, at, count in self.runs(lower, first, len(data) // SECTOR):
+            self.write_line(target, at, data[done * SECTOR:(done + count) * SECTOR])
+            done += count
+
+    def write_line(self, target, at, data):
+        if isinstance(target, Error):
+            raise Fault(ERROR_TARGET)
+        if isinstance(target, (Linear, Striped)):
+            done = 0
+            for lower, first, count in self.lower_runs(target, at, len(data) // SECTOR):
+                self.write_run(lower, first, data[done * SECTOR:(done + count) * SECTOR])
+                done += count
+        if isinstance(target, Crypt):
+            self.write_units(target, at, data)
+
+    def write_units(self, target, at, data):
+        """Unit by unit: one that is covered in part is read, changed and put whole."""
+        size, end = target.unit(), at + len(data) // SECTOR
+        device = self.configuration.lower(target.device)
+        for unit in range(at // size, (end - 1) // size + 1):
+            begin, stop = max(at, unit * size), min(end, (unit + 1) * size)
+            part = data[(begin - at) * SECTOR:(stop - at) * SECTOR]
+            if stop - begin < size:
+                whole = bytearray(self.read_unit(target, unit))
+                place = (begin - unit * size) * SECTOR
+                whole[place:place + len(part)] = part
+                part = bytes(whole)
+            sealed = xts_encrypt(target.key, self.unit_number(target, unit), bytes(part))
+            self.write_run(device, target.offset + unit * size, sealed)

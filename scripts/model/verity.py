@@ -1,0 +1,189 @@
+"""Verity images: where hash blocks stand, superblock, formatting, verifying, table line."""
+
+import struct
+from dataclasses import dataclass
+from hashlib import sha256
+
+BLOCK_SIZES = (512, 1024, 2048, 4096)
+LIMIT = 2**54
+SUPERBLOCK_FAULTS = [
+    "Signature", "Version", "HashType", "Algorithm", "DataBlockSize", "HashBlockSize",
+    "DataBlocks", "SaltSize", "TooSmall", "Device",
+]
+FORMAT_FAULTS = ["Shape", "DataTooSmall", "HashTooSmall", "HashReadOnly", "Device"]
+
+
+class ImageFault(Exception):
+    """A refusal by its kind's name, out of the list whose places are the numbers."""
+
+    def __init__(self, kind, kinds, needed=""):
+        super().__init__(kind)
+        self.kind, self.kinds, self.needed = kind, kinds, needed
+
+    def text(self):
+        return "refused %d %s%s" % (self.kinds.index(self.kind) + 1, self.kind, self.needed)
+
+
+class Tree:
+    """The places of a hash tree; levels[l] is the number of blocks of level l."""
+
+    def __init__(self, data_block, hash_block, blocks, start=0):
+        self.data_block, self.hash_block = data_block, hash_block
+        self.blocks, self.start = blocks, start
+        self.slots = hash_block // 32
+        self.levels = []
+        count = blocks
+        while count > 1:
+            count = -(-count // self.slots)
+            self.levels.append(count)
+
+    def first(self, level):
+        """The hash block at which a level begins: the top level stands first."""
+        return self.start + sum(self.levels[level + 1:])
+
+    def data_sectors(self):
+        return self.blocks * self.data_block // 512
+
+    def end_sectors(self):
+        """The end of the tree in sectors of the hash device, 0 without a hash block."""
+        end = self.start + sum(self.levels)
+        return end * self.hash_block // 512 if self.levels else 0
+
+    def way(self, block):
+        """From the top level down: the hash block's number, and the slot in it of the way."""
+        steps = []
+        for level in range(len(self.levels)):
+            steps.append((self.first(level) + block // self.slots, block % self.slots))
+            block //= self.slots
+        return steps[::-1]
+
+
+def digest(salt, block):
+    return sha256(salt + block).digest()
+
+
+def grown(tree, salt, blocks):
+    """The hash blocks of a tree over data blocks, by their numbers, and the root digest."""
+    digests = [digest(salt, block) for block in blocks]
+    placed = {}
+    for level in range(len(tree.levels)):
+        packed = b"".join(digests)
+        size = tree.hash_block
+        made = [packed[at:at + size].ljust(size, b"\0") for at in range(0, len(packed), size)]
+        for count, block in enumerate(made):
+            placed[tree.first(level) + count] = block
+        digests = [digest(salt, block) for block in made]
+    return placed, digests[0]
+
+
+@dataclass
+class Superblock:
+    uuid: bytes
+    data_block: int
+    hash_block: int
+    blocks: int
+    salt: bytes
+
+    def tree(self):
+        return Tree(self.data_block, self.hash_block, self.blocks, 1)
+
+    def encode(self):
+        head = struct.pack("<8sII16s32sIIQH6x", b"verity", 1, 1, self.uuid, b"sha256",
+                           self.data_block, self.hash_block, self.blocks, len(self.salt))
+        return (head + self.salt).ljust(512, b"\0")
+
+
+def has_shape(data_block, hash_block, blocks):
+    """Whether data and tree are of sizes that a device can have."""
+    if data_block not in BLOCK_SIZES or hash_block not in BLOCK_SIZES or blocks == 0:
+        return False
+    tree = Tree(data_block, hash_block, blocks, 1)
+    return tree.data_sectors() <= LIMIT and tree.end_sectors() <= LIMIT
+
+
+def decode(octets):
+    """The superblock that 512 bytes hold, or the first field that is wrong."""
+    fields = struct.unpack("<8sII16s32sIIQH", octets[:82])
+    signature, version, kind, uuid, algorithm, data_block, hash_block, blocks, size = fields
+    wrong = [
+        ("Signature", signature != b"verity\0\0"), ("Version", version != 1),
+        ("HashType", kind != 1), ("Algorithm", algorithm.split(b"\0")[0] != b"sha256"),
+        ("DataBlockSize", data_block not in BLOCK_SIZES),
+        ("HashBlockSize", hash_block not in BLOCK_SIZES),
+    ]
+    for name, is_wrong in wrong:
+        if is_wrong:
+            raise ImageFault(name, SUPERBLOCK_FAULTS)
+    if not has_shape(data_block, hash_block, blocks):
+        raise ImageFault("DataBlocks", SUPERBLOCK_FAULTS)
+    if size > 256:
+        raise ImageFault("SaltSize", SUPERBLOCK_FAULTS)
+    return Superblock(uuid, data_block, hash_block, blocks, bytes(octets[88:88 + size]))
+
+
+def read_superblock(image):
+    if len(image) < 512:
+        raise ImageFault("TooSmall", SUPERBLOCK_FAULTS)
+    return decode(bytes(image[:512]))
+
+
+def data_blocks(image, superblock):
+    size = superblock.data_block
+    return [bytes(image[at:at + size]) for at in range(0, superblock.blocks * size, size)]
+
+
+def format_images(data, image, uuid, data_block, hash_block, blocks, salt):
+    """Writes superblock and tree to `image`, a bytearray; gives the root and the blocks."""
+    if blocks is None and data_block in BLOCK_SIZES:
+        blocks = len(data) // 512 // (data_block // 512)
+    if not has_shape(data_block, hash_block, blocks):
+        raise ImageFault("Shape", FORMAT_FAULTS)
+    superblock = Superblock(uuid, data_block, hash_block, blocks, salt)
+    tree = superblock.tree()
+    if tree.data_sectors() > len(data) // 512:
+        raise ImageFault("DataTooSmall", FORMAT_FAULTS)
+    needed = (1 + sum(tree.levels)) * hash_block // 512
+    if needed > len(image) // 512:
+        raise ImageFault("HashTooSmall", FORMAT_FAULTS, " needed %d" % needed)
+    placed, root = grown(tree, salt, data_blocks(data, superblock))
+    image[:hash_block] = superblock.encode().ljust(hash_block, b"\0")
+    for place, block in placed.items():
+        image[place * hash_block:(place + 1) * hash_block] = block
+    return root, blocks
+
+
+def verify_images(data, image, root):
+    """What stands: `matches`, `root differs` or the least hash block that differs."""
+    superblock = read_superblock(image)
+    tree = superblock.tree()
+    whole = max(tree.end_sectors(), 1)
+    if tree.data_sectors() > len(data) // 512 or whole > len(image) // 512:
+        raise ImageFault("TooSmall", SUPERBLOCK_FAULTS)
+    placed, found = grown(tree, superblock.salt, data_blocks(data, superblock))
+    size = superblock.hash_block
+    for place in sorted(placed):
+        if image[place * size:(place + 1) * size] != placed[place]:
+            return "area differs at block %d" % place
+    return "matches" if found == root else "root differs"
+
+
+def spelled_uuid(uuid):
+    digits = uuid.hex()
+    return "-".join([digits[:8], digits[8:12], digits[12:16], digits[16:20], digits[20:]])
+
+
+def dump_lines(image):
+    superblock = read_superblock(image)
+    return [
+        "uuid " + spelled_uuid(superblock.uuid), "hash_type 1", "algorithm sha256",
+        "data_block %d" % superblock.data_block, "hash_block %d" % superblock.hash_block,
+        "data_blocks %d" % superblock.blocks, "salt " + (superblock.salt.hex() or "-"),
+    ]
+
+
+def table_line(image, root, data_name, hash_name):
+    superblock = read_superblock(image)
+    sectors = superblock.tree().data_sectors()
+    return b"0 %d verity 1 %s %s %d %d %d 1 sha256 %s %s" % (
+        sectors, data_name, hash_name, superblock.data_block, superblock.hash_block,
+        superblock.blocks, root.hex().encode(), superblock.salt.hex().encode() or b"-")
