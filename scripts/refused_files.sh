@@ -77,10 +77,10 @@ chmod 644 data sync.so
 sizes=(--data-block 512 --hash-block 512 --salt=- --uuid 6c0b2c0e-5a0d-4b5c-9a44-1d1f6a3b2c7e)
 trap '' XFSZ
 limit=$(ulimit -S -f)
-ulimit -S -f 1
+ulimit -S -f 2
 expect 1 'refused 5 Device' format "${sizes[@]}" data made
 ulimit -S -f "$limit"
-if cmp -s -n 512 made /dev/zero && ! cmp -s -n 1024 made /dev/zero; then passed=$((passed + 1)); else failed=$((failed + 1)) && echo 'a superblock stands before a tree that was not written'; fi
+if cmp -s -n 1024 made /dev/zero && ! cmp -s -n 2048 made /dev/zero; then passed=$((passed + 1)); else failed=$((failed + 1)) && echo 'a superblock stands before a tree that was not written'; fi
 export LD_PRELOAD=$room/sync.so
 expect 1 'refused 5 Device' format "${sizes[@]}" data made
 unset LD_PRELOAD

@@ -193,7 +193,8 @@ impl<D: BlockDev> Queue<D> {
     pub fn remove(&mut self, name: &[u8]) -> Result<(), Held<RemoveFault>>
         ensures { Step EachPart self.old (remove_device name.now result) self.new }
     {
-        if !self.flights.is_empty() {
+        let busy = !self.flights.is_empty();
+        if busy {
             return Err(Held::Busy);
         }
         match self.stack.remove(name) {

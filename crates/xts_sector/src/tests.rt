@@ -119,19 +119,30 @@ const SIZES: [usize; 11] = [16, 32, 48, 64, 80, 112, 496, 512, 528, 1024, 4096];
 
 const NUMBERS: [u64; 3] = [0, 1, u64::MAX];
 
+/// A key whose bytes are multiples of `step`.
+fn some_key(step: u8) -> [u8; 32] {
+    let mut key = [0; 32];
+    let mut last = step;
+    for byte in key.iter_mut() {
+        *byte = last;
+        last = last.wrapping_add(step);
+    }
+    key
+}
+
 #[test]
 fn units_as_the_plain_code(rt: HostRuntime) -> Result<(), Fail> {
-    let mut bytes = [0; 64];
-    for (k, byte) in bytes.iter_mut().enumerate() {
-        *byte = (7 * k % 256) as u8;
-    }
-    let mut halves = [[0; 32]; 2];
-    halves[0].copy_from_slice(&bytes[..32]);
-    halves[1].copy_from_slice(&bytes[32..]);
+    let data_key = some_key(3);
+    let tweak_key = some_key(5);
     let plain = PlainXts {
-        data_key: PlainKey::new(&halves[0]),
-        tweak_key: PlainKey::new(&halves[1]),
+        data_key: PlainKey::new(&data_key),
+        tweak_key: PlainKey::new(&tweak_key),
     };
+    let mut bytes = [0; 64];
+    for k in 0..32_usize {
+        bytes[k] = data_key[k];
+        bytes[k + 32] = tweak_key[k];
+    }
     let key = XtsKey::new(&bytes).ok_or("a key was refused")?;
     for size in SIZES {
         for number in NUMBERS {

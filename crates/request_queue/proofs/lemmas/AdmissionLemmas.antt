@@ -1,5 +1,5 @@
 -- What an admitted request has.
-use Rattle.std.proofs.Common.{◌≡◌, ◌<◌, ◌≤◌, ◌==◌, ◌||◌, ℕ, ◌+◌, ◌*◌, ◌/◌, ◌%◌, nat_lt, true, false, Bool, List, length, refl, sym, ap, subst, arith, Option, Some, None, Result, Ok, Err}
+use Rattle.std.proofs.Common.{◌≡◌, ◌<◌, ◌==◌, ◌||◌, ℕ, ◌+◌, ◌*◌, ◌/◌, ◌%◌, nat_lt, true, false, Bool, List, length, refl, sym, ap, subst, arith, Option, Some, None, Result, Ok, Err}
 use Rattle.std.specs.Prelude.{not, min, IsTrue, IfOk, if◌then◌else◌}
 use Rattle.stack_loader.specs.Records.{Configuration}
 use Rattle.stack_loader.specs.Names.{mapped, may_write, size, device_named}

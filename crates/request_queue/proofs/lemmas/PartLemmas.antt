@@ -1,5 +1,5 @@
 -- What parts of requests leave, whatever kind they are of.
-use Rattle.std.proofs.Common.{◌≡◌, ℕ, ◌+◌, ◌*◌, ◌/◌, ◌≤◌, List, length, take, drop, map, arith, Result}
+use Rattle.std.proofs.Common.{◌≡◌, ℕ, ◌+◌, ◌*◌, ◌/◌, ◌≤◌, length, take, drop, map, arith, Result}
 use Rattle.std.proofs.lemmas.List.{length-take}
 use Rattle.std.proofs.Math.Nat.{mul-le-mul_right}
 use Rattle.stack_loader.specs.Records.{Configuration}
