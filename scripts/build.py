@@ -1,6 +1,8 @@
 #!/usr/bin/env python3
 """Proves and builds the program and the libraries below it, as many side by side as processors and memory allow.
 
+build.py [CPU]: the program for that processor, as x86-64-v3, which has AVX2; else for the kit's default.
+
 What stands in the crates' out/ is used where it still holds, as by `rt run`. Says on standard error how far it is, and
 shows what rt said of a crate that isn't proved.
 """
@@ -91,11 +93,11 @@ class Build:
         return all(RT.in_lanes(tasks).values())
 
 
-def build_program():
+def build_program(cpu):
     """Builds the program over its libraries, and returns what rt said where it could not."""
     with tempfile.TemporaryFile("w+", errors="replace") as log:
         how = {"cwd": f"{TOP}/crates/{PROGRAM}", "stdin": subprocess.DEVNULL, "stdout": log, "stderr": log}
-        ran = subprocess.run(["rt", "run", "--", "session"], **how)
+        ran = subprocess.run(["rt", "run", *cpu, "--", "session"], **how)
         log.seek(0)
         return log.read() if ran.returncode else ""
 
@@ -115,7 +117,7 @@ def main():
         os.close(it)
     if is_well:
         tell("building the program")
-        build.log = build_program()
+        build.log = build_program([f"--cpu={it}" for it in sys.argv[1:]])
     if not is_well or build.log:
         print(build.log, end="", file=sys.stderr)
         tell(f"not built, after {since(START)}: what rt said is above")

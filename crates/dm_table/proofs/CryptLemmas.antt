@@ -1,5 +1,5 @@
 -- The arguments of a `crypt` line: too few, within the grammar's limits, printed and read back.
-use Rattle.std.proofs.Common.{◌≡◌, ℕ, ◌<◌, Bool, true, eqb, List, [], ◌∷◌, ◌++◌, length, take, flat_map, codes, Ok, Err, refl, ap, sym, subst, ◌∙◌, inl, inr, arith}
+use Rattle.std.proofs.Common.{◌≡◌, ℕ, ◌<◌, true, eqb, List, [], ◌∷◌, ◌++◌, length, take, codes, Ok, Err, refl, ap, sym, subst, ◌∙◌, inl, inr, arith}
 use Rattle.std.specs.Prelude.{◌⊎◌}
 use Rattle.std.proofs.lemmas.Bool.{cases_Bool, cond-true, cond-false, eq-eqb, ne_eqb}
 use Rattle.std.proofs.lemmas.List.{take_all, take-append-le}
@@ -8,15 +8,14 @@ use Rattle.hex.proofs.HexLemmas.{length-encode_with}
 use Rattle.hex.specs.Hex.{lower_digits}
 use Rattle.dm_table.specs.declared.crypt.Crypt.{Crypt}
 use Rattle.dm_table.specs.declared.fault.TextKind.TheVariants as kinds
-use Rattle.dm_table.specs.Words.{Word, words}
+use Rattle.dm_table.specs.Words.{Word}
 use Rattle.dm_table.specs.Reading.{Read}
 use Rattle.dm_table.specs.Arguments.{number_at, base_at, bytes_at}
 use Rattle.dm_table.specs.Options.{options_at}
-use Rattle.dm_table.specs.Crypt.{crypt_options, cipher_at, key_at, crypt_at, crypt_words, ReadsCrypt}
-use Rattle.dm_table.specs.Print.{spaced_word}
+use Rattle.dm_table.specs.Crypt.{crypt_options, cipher_at, key_at, crypt_at, crypt_words}
 use Rattle.dm_table.specs.Grammar.{IsCryptOfGrammar}
 use Rattle.dm_table.proofs.StepLemmas.{bind_ok, ok_same, number_at-fits, base-grammar}
-use Rattle.dm_table.proofs.PrintedLemmas.{ArePrinted, printed-decimal, printed-device, number_at-decimal, base_at-printed, words-spaced}
+use Rattle.dm_table.proofs.PrintedLemmas.{ArePrinted, printed-decimal, printed-device, number_at-decimal, base_at-printed}
 use Rattle.dm_table.proofs.BytesLemmas.{bytes_at-grammar, bytes_at-printed, printed-bytes}
 use Rattle.dm_table.proofs.OptionLemmas.{options-grammar, options-printed, printed-options}
 
@@ -97,7 +96,8 @@ key_at-short word r short e = ap (λ n. bytes_at n kinds.Key word) (cond-false _
 pub key-front : (bytes rest : List ℕ) → length bytes ≡ 32 → take 32 (bytes ++ rest) ≡ bytes
 key-front bytes rest size = take-append-le 32 bytes rest (omega (arith, size)) ∙ take_all 32 bytes (omega (arith, size))
 
-printed-crypt : (crypt : Crypt) → IsCryptOfGrammar crypt → ArePrinted (codes "crypt" ∷ crypt_words true crypt)
+-- each word may stand in a text
+pub printed-crypt : (crypt : Crypt) → IsCryptOfGrammar crypt → ArePrinted (codes "crypt" ∷ crypt_words true crypt)
 unfolding crypt_words
 printed-crypt crypt h = (
   (omega arith, refl),
@@ -125,12 +125,3 @@ printed-crypt crypt h = (
 
     known : ArePrinted crypt_options
     known = ((omega arith, refl), ((omega arith, refl), ((omega arith, refl), ((omega arith, refl), ((omega arith, refl), tt)))))
-
--- what was printed with its key gives the arguments back
-pub crypt-reads : (show : Bool) (crypt : Crypt) (before text : List ℕ) → show ≡ true → IsCryptOfGrammar crypt
-    → text ≡ before ++ flat_map spaced_word (codes "crypt" ∷ crypt_words show crypt) → before ≡ [] → ReadsCrypt (words text) crypt
-crypt-reads show crypt before text shown h printed none =
-    let target = λ (b : Bool). flat_map spaced_word (codes "crypt" ∷ crypt_words b crypt) in
-    let whole = printed ∙ ap (λ t. t ++ target show) none ∙ ap target shown in
-    let cut = ap words whole ∙ words-spaced (codes "crypt") (crypt_words true crypt) (printed-crypt crypt h) in
-    subst (λ ws. ReadsCrypt ws crypt) (sym cut) (refl, crypt-printed crypt h)

@@ -7,7 +7,7 @@ use Rattle.std.proofs.lemmas.List.Elements.{All-nil, All-cons}
 use Rattle.dm_table.specs.declared.table.Base.{Base}
 use Rattle.dm_table.specs.declared.table.Line.{Line}
 use Rattle.dm_table.specs.declared.table.Target.{Target}
-use Rattle.dm_table.specs.declared.table.Target.TheVariants.{Linear, Striped, Zero, Error}
+use Rattle.dm_table.specs.declared.table.Target.TheVariants.{Linear, Striped, Zero, Error, Crypt, Verity}
 use Rattle.dm_table.specs.declared.stack.Entry.{Entry}
 use Rattle.dm_table.specs.declared.fault.TextKind.TheVariants as kinds
 use Rattle.dm_table.specs.Words.{Word, is_white, is_text, words, trimmed_text, lines_of, entries_of, fields_of}
@@ -15,11 +15,15 @@ use Rattle.dm_table.specs.Numbers.{number}
 use Rattle.dm_table.specs.Names.{is_mapped_name}
 use Rattle.dm_table.specs.Reading.{Read, ◌>>=◌, at_place}
 use Rattle.dm_table.specs.Arguments.{number_at, base_at}
-use Rattle.dm_table.specs.Lines.{linear_at, bases_at, stripes_at, chunk_at, pairs_at, striped_at, bare_at, target_at, line_of}
+use Rattle.dm_table.specs.Lines.{linear_at, bases_at, stripes_at, chunk_at, pairs_at, striped_at, bare_at, crypt_target_at, verity_target_at, target_at, line_of}
+use Rattle.dm_table.specs.Crypt.{crypt_at}
+use Rattle.dm_table.specs.Verity.{verity_at}
 use Rattle.dm_table.specs.Grammar.{IsBaseOfGrammar, IsTargetOfGrammar, IsLineOfGrammar, IsTableOfGrammar}
 use Rattle.dm_table.specs.TableText.{is_skipped, table_lines, some_lines, table_of}
 use Rattle.dm_table.specs.StackText.{name_at, minor_at, flags_at, entry_lines, Head, head_of, entry_of, entries_from, stack_of, IsEntryOfGrammar, IsStackOfGrammar}
 use Rattle.dm_table.proofs.StepLemmas.{bind_ok, ok_same, ok_or_ok, chosen, number-fits, number_at-fits, number_if-some, base-grammar}
+use Rattle.dm_table.proofs.CryptLemmas.{crypt-grammar}
+use Rattle.dm_table.proofs.VerityLemmas.{verity-grammar}
 
 linear-grammar : (arguments : List Word) (target : Target) → linear_at arguments ≡ Ok target → IsTargetOfGrammar target
 unfolding linear_at
@@ -71,6 +75,18 @@ unfolding bare_at
 bare-grammar target [] read h e = subst IsTargetOfGrammar (ok_same target read e) h
 bare-grammar target (word ∷ more) read h e = cc
 
+crypt_target-grammar : (arguments : List Word) (target : Target) → crypt_target_at arguments ≡ Ok target → IsTargetOfGrammar target
+unfolding crypt_target_at
+crypt_target-grammar arguments target e =
+    let crypt = bind_ok (crypt_at arguments) _ target e in
+    subst IsTargetOfGrammar (ok_same (Crypt crypt.0) target crypt.2) (crypt-grammar arguments crypt.0 crypt.1)
+
+verity_target-grammar : (arguments : List Word) (target : Target) → verity_target_at arguments ≡ Ok target → IsTargetOfGrammar target
+unfolding verity_target_at
+verity_target-grammar arguments target e =
+    let verity = bind_ok (verity_at arguments) _ target e in
+    subst IsTargetOfGrammar (ok_same (Verity verity.0) target verity.2) (verity-grammar arguments verity.0 verity.1)
+
 -- a choice between two results
 either : {A E : Type 0} (P : A → Type 0) (x : A) (b : Bool) (r s : Result A E) → (r ≡ Ok x → P x) → (s ≡ Ok x → P x) → cond b r s ≡ Ok x → P x
 either P x true r s f g h = f h
@@ -82,7 +98,9 @@ target-grammar type arguments target e =
     either IsTargetOfGrammar target (bytes_eq type (codes "linear")) (linear_at arguments) _ (linear-grammar arguments target)
     (either IsTargetOfGrammar target (bytes_eq type (codes "striped")) (striped_at arguments) _ (striped-grammar arguments target)
     (either IsTargetOfGrammar target (bytes_eq type (codes "zero")) (bare_at Zero arguments) _ (bare-grammar Zero arguments target tt)
-    (either IsTargetOfGrammar target (bytes_eq type (codes "error")) (bare_at Error arguments) (Err kinds.Target) (bare-grammar Error arguments target tt) (λ h. cc)))) e
+    (either IsTargetOfGrammar target (bytes_eq type (codes "error")) (bare_at Error arguments) _ (bare-grammar Error arguments target tt)
+    (either IsTargetOfGrammar target (bytes_eq type (codes "crypt")) (crypt_target_at arguments) _ (crypt_target-grammar arguments target)
+    (either IsTargetOfGrammar target (bytes_eq type (codes "verity")) (verity_target_at arguments) (Err kinds.Target) (verity_target-grammar arguments target) (λ h. cc)))))) e
 
 pub line-grammar : (ws : List Word) (line : Line) → line_of ws ≡ Ok line → IsLineOfGrammar line
 unfolding line_of

@@ -1,3 +1,4 @@
+pub mod lemmas
 pub mod CutLemmas
 pub mod NumberLemmas
 pub mod LineLemmas
@@ -12,4 +13,5 @@ pub mod BytesLemmas
 pub mod OptionLemmas
 pub mod CryptLemmas
 pub mod VerityLemmas
+pub mod HiddenKeyLemmas
 mod WorkedTextLemmas

@@ -8,7 +8,7 @@ use Rattle.dm_table.specs.declared.fault.TextKind.TheVariants as kinds
 use Rattle.dm_table.specs.Words.{Word}
 use Rattle.dm_table.specs.Reading.{◌>>=◌}
 use Rattle.dm_table.specs.Arguments.{number_at}
-use Rattle.dm_table.specs.Lines.{linear_at, stripes_at, chunk_at, pairs_at, bases_at, striped_at, bare_at, target_at, line_of}
+use Rattle.dm_table.specs.Lines.{linear_at, stripes_at, chunk_at, pairs_at, bases_at, striped_at, bare_at, crypt_target_at, verity_target_at, target_at, line_of}
 
 -- a striped line at each of its faults
 pub striped-stripes : (count size : Word) (pairs : List Word) (kind : TextKind) → stripes_at count ≡ Err kind → striped_at (count ∷ size ∷ pairs) ≡ Err kind
@@ -73,6 +73,14 @@ pub target-error : (type : Word) (arguments : List Word) → bytes_eq type (code
 unfolding target_at
 target-error type arguments linear striped zeros errors = cond-false _ _ _ linear ∙ cond-false _ _ _ striped ∙ cond-false _ _ _ zeros ∙ cond-true _ _ _ errors
 
-pub target-other : (type : Word) (arguments : List Word) → bytes_eq type (codes "linear") ≡ false → bytes_eq type (codes "striped") ≡ false → bytes_eq type (codes "zero") ≡ false → bytes_eq type (codes "error") ≡ false → target_at type arguments ≡ Err kinds.Target
+pub target-crypt : (type : Word) (arguments : List Word) → bytes_eq type (codes "linear") ≡ false → bytes_eq type (codes "striped") ≡ false → bytes_eq type (codes "zero") ≡ false → bytes_eq type (codes "error") ≡ false → bytes_eq type (codes "crypt") ≡ true → target_at type arguments ≡ crypt_target_at arguments
 unfolding target_at
-target-other type arguments linear striped zeros errors = cond-false _ _ _ linear ∙ cond-false _ _ _ striped ∙ cond-false _ _ _ zeros ∙ cond-false _ _ _ errors
+target-crypt type arguments linear striped zeros errors crypt = cond-false _ _ _ linear ∙ cond-false _ _ _ striped ∙ cond-false _ _ _ zeros ∙ cond-false _ _ _ errors ∙ cond-true _ _ _ crypt
+
+pub target-verity : (type : Word) (arguments : List Word) → bytes_eq type (codes "linear") ≡ false → bytes_eq type (codes "striped") ≡ false → bytes_eq type (codes "zero") ≡ false → bytes_eq type (codes "error") ≡ false → bytes_eq type (codes "crypt") ≡ false → bytes_eq type (codes "verity") ≡ true → target_at type arguments ≡ verity_target_at arguments
+unfolding target_at
+target-verity type arguments linear striped zeros errors crypt verity = cond-false _ _ _ linear ∙ cond-false _ _ _ striped ∙ cond-false _ _ _ zeros ∙ cond-false _ _ _ errors ∙ cond-false _ _ _ crypt ∙ cond-true _ _ _ verity
+
+pub target-other : (type : Word) (arguments : List Word) → bytes_eq type (codes "linear") ≡ false → bytes_eq type (codes "striped") ≡ false → bytes_eq type (codes "zero") ≡ false → bytes_eq type (codes "error") ≡ false → bytes_eq type (codes "crypt") ≡ false → bytes_eq type (codes "verity") ≡ false → target_at type arguments ≡ Err kinds.Target
+unfolding target_at
+target-other type arguments linear striped zeros errors crypt verity = cond-false _ _ _ linear ∙ cond-false _ _ _ striped ∙ cond-false _ _ _ zeros ∙ cond-false _ _ _ errors ∙ cond-false _ _ _ crypt ∙ cond-false _ _ _ verity

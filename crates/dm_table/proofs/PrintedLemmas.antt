@@ -1,5 +1,5 @@
 -- Printed words, numbers and device arguments read back.
-use Rattle.std.proofs.Common.{◌≡◌, ℕ, ◌^◌, ◌<◌, ◌≤◌, ◌==◌, Bool, true, false, not, ◌&&◌, ◌||◌, eqb, ltb, leb, List, [], ◌∷◌, ◌++◌, length, take, drop, filter, flat_map, codes, decimal, All, Some, Ok, Err, ok_or, refl, ap, sym, subst, ◌∙◌, inl, inr, take-append-drop, arith}
+use Rattle.std.proofs.Common.{◌≡◌, ℕ, ◌^◌, ◌<◌, ◌≤◌, ◌==◌, Bool, true, false, not, ◌&&◌, ◌||◌, eqb, ltb, leb, List, [], ◌∷◌, ◌++◌, length, take, drop, filter, codes, decimal, All, Some, Ok, Err, ok_or, refl, ap, sym, subst, ◌∙◌, inl, inr, take-append-drop, arith}
 use Rattle.std.specs.List.{list_all, starts_with, join_with_byte}
 use Rattle.std.specs.Cmp.Lexicographic.{pointwise}
 use Rattle.std.specs.Char.{is_ascii_digit}
@@ -9,7 +9,7 @@ use Rattle.std.proofs.lemmas.Fmt.{decimal_is_IsNumeral}
 use Rattle.std.proofs.lemmas.Str.Parse.{digit_from_value}
 use Rattle.std.proofs.lemmas.List.Elements.{All-nil, All-cons, All-append}
 use Rattle.std.proofs.lemmas.List.Folds.{list_all-append}
-use Rattle.std.proofs.lemmas.List.Splits.{slice_split_none, slice_split_at, slice_split-cons_yes}
+use Rattle.std.proofs.lemmas.List.Splits.{slice_split_none, slice_split_at}
 use Rattle.dm_table.specs.declared.table.Base.{Base}
 use Rattle.dm_table.specs.declared.fault.TextKind.TheVariants as kinds
 use Rattle.dm_table.specs.Words.{Word, is_white, is_graphic, words}
@@ -18,8 +18,6 @@ use Rattle.dm_table.specs.Names.{is_device, is_mapped_name, is_mapped_byte, is_l
 use Rattle.dm_table.specs.Reading.{◌>>=◌}
 use Rattle.dm_table.specs.Arguments.{number_at, base_at}
 use Rattle.dm_table.specs.Grammar.{IsBaseOfGrammar}
-use Rattle.dm_table.specs.Print.{spaced_word}
-use Rattle.dm_table.proofs.PrintLemmas.{join-spaced}
 use Rattle.dm_table.proofs.NumberLemmas.{number-some}
 
 -- a word that may stand in a text
@@ -174,13 +172,3 @@ base_at-printed base h =
     ap (λ r. r >>= (λ device. number_at (decimal base.offset) >>= (λ sector. Ok (record { device = device; offset = sector }))))
     (cond-true (is_device base.device) (Ok base.device) (Err kinds.Name) h.device)
     ∙ ap (λ r. r >>= (λ sector. Ok (record { device = base.device; offset = sector }))) (number_at-decimal base.offset h.offset)
-
--- a space before a word changes no word
-words-space : (text : List ℕ) → words (32 ∷ text) ≡ words text
-unfolding words
-words-space text = ap (filter (λ w. ltb 0 (length w))) (slice_split-cons_yes is_white 32 text refl)
-
--- words, each after a space, are those words
-pub words-spaced : (word : Word) (more : List Word) → ArePrinted (word ∷ more) → words (flat_map spaced_word (word ∷ more)) ≡ word ∷ more
-words-spaced word more printed =
-    words-space (word ++ flat_map spaced_word more) ∙ ap words (sym (join-spaced word more)) ∙ words-joined word more printed

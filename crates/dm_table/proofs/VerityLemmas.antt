@@ -1,5 +1,5 @@
 -- The arguments of a `verity` line: too few, within the grammar's limits, printed and read back.
-use Rattle.std.proofs.Common.{◌≡◌, ℕ, ◌*◌, ◌/◌, ◌^◌, ◌<◌, ◌≤◌, ◌&&◌, Bool, true, false, leb, List, [], ◌∷◌, ◌++◌, length, flat_map, decimal, Ok, Err, ok_or, Option, Some, None, codes, refl, ap, sym, subst, ◌∙◌, inl, inr, arith}
+use Rattle.std.proofs.Common.{◌≡◌, ℕ, ◌*◌, ◌/◌, ◌^◌, ◌<◌, ◌≤◌, ◌&&◌, Bool, true, false, leb, List, [], ◌∷◌, length, decimal, Ok, Err, ok_or, Option, Some, None, codes, refl, ap, sym, subst, ◌∙◌, inl, inr, arith}
 use Rattle.std.specs.Prelude.{◌⊎◌, ◌↔◌, IsSome, IfSome}
 use Rattle.std.specs.Str.{bytes_eq}
 use Rattle.std.proofs.lemmas.Slice.Eq.{bytes_eq-Decides}
@@ -10,16 +10,15 @@ use Rattle.hash_tree.specs.Shape.{is_block_size}
 use Rattle.hash_tree.proofs.lemmas.ShapeFaultLemmas.{is_block_size-cases}
 use Rattle.dm_table.specs.declared.verity.Verity.{Verity}
 use Rattle.dm_table.specs.declared.fault.TextKind.TheVariants as kinds
-use Rattle.dm_table.specs.Words.{Word, words}
+use Rattle.dm_table.specs.Words.{Word}
 use Rattle.dm_table.specs.Names.{is_device}
 use Rattle.dm_table.specs.Numbers.{number, number_if}
 use Rattle.dm_table.specs.Arguments.{device_at, number_at, bytes_at}
 use Rattle.dm_table.specs.Options.{options_at}
-use Rattle.dm_table.specs.Verity.{version_at, block_size_at, algorithm_at, digest_at, salt_at, salt_word, verity_at, verity_words, ReadsVerity}
-use Rattle.dm_table.specs.Print.{spaced_word}
+use Rattle.dm_table.specs.Verity.{version_at, block_size_at, algorithm_at, digest_at, salt_at, salt_word, verity_at, verity_words}
 use Rattle.dm_table.specs.Grammar.{IsVerityOfGrammar}
 use Rattle.dm_table.proofs.StepLemmas.{bind_ok, ok_same, ok_or_ok, chosen, number_if-some, number_at-fits}
-use Rattle.dm_table.proofs.PrintedLemmas.{IsPrinted, ArePrinted, printed-decimal, printed-device, number-decimal, number_at-decimal, words-spaced}
+use Rattle.dm_table.proofs.PrintedLemmas.{IsPrinted, ArePrinted, printed-decimal, printed-device, number-decimal, number_at-decimal}
 use Rattle.dm_table.proofs.BytesLemmas.{bytes_at-grammar, bytes_at-printed, printed-bytes}
 
 and-false : (a : Bool) → (a && false) ≡ false
@@ -177,7 +176,8 @@ printed-salt : (salt : List ℕ) → IsBytes salt → IsPrinted (salt_word salt)
 printed-salt [] each = (omega arith, refl)
 printed-salt (byte ∷ more) each = printed-bytes (byte ∷ more) (omega arith) each
 
-printed-verity : (verity : Verity) → IsVerityOfGrammar verity → ArePrinted (codes "verity" ∷ verity_words verity)
+-- each word may stand in a text
+pub printed-verity : (verity : Verity) → IsVerityOfGrammar verity → ArePrinted (codes "verity" ∷ verity_words verity)
 unfolding verity_words
 printed-verity verity h =
     let size = h.root_size in (
@@ -208,11 +208,3 @@ printed-verity verity h =
         ),
       ),
     )
-
--- what was printed gives the arguments back
-pub verity-reads : (verity : Verity) (before text : List ℕ) → IsVerityOfGrammar verity
-    → text ≡ before ++ flat_map spaced_word (codes "verity" ∷ verity_words verity) → before ≡ [] → ReadsVerity (words text) verity
-verity-reads verity before text h printed none =
-    let target = flat_map spaced_word (codes "verity" ∷ verity_words verity) in
-    let cut = ap words (printed ∙ ap (λ t. t ++ target) none) ∙ words-spaced (codes "verity") (verity_words verity) (printed-verity verity h) in
-    subst (λ ws. ReadsVerity ws verity) (sym cut) (refl, verity-printed verity h)

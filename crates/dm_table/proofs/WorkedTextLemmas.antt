@@ -1,9 +1,10 @@
 -- Worked texts: what they say, or their first fault.
-use Rattle.std.proofs.Common.{◌≡◌, ℕ, Bool, List, [], ◌∷◌, ◌++◌, refl, codes, true, false, Ok, Err, Result}
+use Rattle.std.proofs.Common.{◌≡◌, ℕ, Bool, List, [], ◌∷◌, ◌++◌, replicate, refl, codes, true, false, Ok, Err, Result}
+use Rattle.hex.specs.Hex.{decode_pairs, encode_with}
 use Rattle.dm_table.specs.declared.table.Base.{Base}
 use Rattle.dm_table.specs.declared.table.Line.{Line}
 use Rattle.dm_table.specs.declared.table.Target.{Target}
-use Rattle.dm_table.specs.declared.table.Target.TheVariants.{Linear, Striped, Zero, Error}
+use Rattle.dm_table.specs.declared.table.Target.TheVariants.{Linear, Striped, Zero, Error, Crypt as crypt_target, Verity as verity_target}
 use Rattle.dm_table.specs.declared.stack.Entry.{Entry}
 use Rattle.dm_table.specs.declared.fault.TextFault.{TextFault}
 use Rattle.dm_table.specs.declared.fault.TextKind.{TextKind}
@@ -11,8 +12,11 @@ use Rattle.dm_table.specs.declared.fault.TextKind.TheVariants as kinds
 use Rattle.dm_table.specs.Words.{words, trimmed_text, lines_of, entries_of, fields_of}
 use Rattle.dm_table.specs.Numbers.{number}
 use Rattle.dm_table.specs.Names.{is_mapped_name, is_device}
-use Rattle.dm_table.specs.Arguments.{base_at}
-use Rattle.dm_table.specs.Lines.{linear_at, striped_at, bare_at, target_at, line_of}
+use Rattle.dm_table.specs.Arguments.{base_at, bytes_at}
+use Rattle.dm_table.specs.Options.{options_at, known_at}
+use Rattle.dm_table.specs.Crypt.{key_at, crypt_at, crypt_words}
+use Rattle.dm_table.specs.Verity.{salt_at, verity_at, verity_words}
+use Rattle.dm_table.specs.Lines.{linear_at, striped_at, bare_at, crypt_target_at, verity_target_at, target_at, line_of}
 use Rattle.dm_table.specs.TableText.{table_of}
 use Rattle.dm_table.specs.StackText.{head_of, entry_of, stack_of}
 use Rattle.dm_table.specs.Print.{target_words, line_text, table_text}
@@ -60,7 +64,75 @@ unfolding table_of lines_of words number is_device line_of target_at linear_at s
 tables = (refl, refl, refl)
 
 -- a printed table
-printed : table_text (line 0 8 (Linear (base (codes "D") 2)) ∷ line 8 32 (Striped 8 (base (codes "A") 0 ∷ base (codes "/dev/mapper/b") 16 ∷ [])) ∷ line 40 1 Error ∷ line 41 1 Zero ∷ [])
+printed : table_text false (line 0 8 (Linear (base (codes "D") 2)) ∷ line 8 32 (Striped 8 (base (codes "A") 0 ∷ base (codes "/dev/mapper/b") 16 ∷ [])) ∷ line 40 1 Error ∷ line 41 1 Zero ∷ [])
     ≡ codes "0 8 linear D 2\n8 32 striped 2 8 A 0 /dev/mapper/b 16\n40 1 error\n41 1 zero\n"
 unfolding digits line_text target_words
 printed = refl
+
+-- a `crypt` line, its key in digits of either case
+abbrev crypt_line : List (List ℕ) → Line
+crypt_line options =
+    let key = replicate 16 10 ++ replicate 16 177 in
+    line 0 8 (crypt_target (record { key = key; iv_offset = 7; base = base (codes "D") 16; options = options }))
+
+abbrev crypt_front : List ℕ
+crypt_front = codes "0 8 crypt aes-xts-plain64 "
+
+abbrev first_fault : TextKind → Result (List Line) TextFault
+first_fault kind = Err (record { entry = 0; line = 1; kind = kind })
+
+crypt_tables : (table_of (crypt_front ++ codes "0a0A0a0A0a0A0a0A0a0A0a0A0a0A0a0Ab1B1b1B1b1B1b1B1b1B1b1B1b1B1b1B1 07 D 016") ≡ Ok (crypt_line [] ∷ []))
+    × (table_of (crypt_front ++ codes "0a0A0a0A0a0A0a0A0a0A0a0A0a0A0a0Ab1B1b1B1b1B1b1B1b1B1b1B1b1B1b1B1 7 D 16 02 no_read_workqueue allow_discards") ≡ Ok (crypt_line (codes "no_read_workqueue" ∷ codes "allow_discards" ∷ []) ∷ []))
+unfolding table_of lines_of words number is_mapped_name is_device line_of target_at crypt_target_at crypt_at key_at bytes_at decode_pairs base_at options_at known_at
+crypt_tables = (refl, refl)
+
+-- a `crypt` line at each fault, with faults behind it
+crypt_faults : (table_of (codes "0 8 crypt aes-cbc-plain64 x y D") ≡ first_fault kinds.ArgCount)
+    × (table_of (codes "0 8 crypt aes-cbc-plain64 x y a,b z") ≡ first_fault kinds.Cipher)
+    × (table_of (crypt_front ++ codes "0a0A0a0A0a0A0a0A0a0A0a0A0a0A0a0Ab1B1b1B1b1B1b1B1b1B1b1B1b1B1b1B y a,b z") ≡ first_fault kinds.Key)
+    × (table_of (crypt_front ++ codes "0a0A0a0A0a0A0a0A0a0A0a0A0a0A0a0Ab1B1b1B1b1B1b1B1b1B1b1B1b1B1b1Bg y a,b z") ≡ first_fault kinds.Key)
+    × (table_of (crypt_front ++ codes "0a0A0a0A0a0A0a0A0a0A0a0A0a0A0a0Ab1B1b1B1b1B1b1B1b1B1b1B1b1B1b1B1 y a,b z") ≡ first_fault kinds.Number)
+    × (table_of (crypt_front ++ codes "0a0A0a0A0a0A0a0A0a0A0a0A0a0A0a0Ab1B1b1B1b1B1b1B1b1B1b1B1b1B1b1B1 7 a,b z") ≡ first_fault kinds.Name)
+    × (table_of (crypt_front ++ codes "0a0A0a0A0a0A0a0A0a0A0a0A0a0A0a0Ab1B1b1B1b1B1b1B1b1B1b1B1b1B1b1B1 7 D z w") ≡ first_fault kinds.Number)
+    × (table_of (crypt_front ++ codes "0a0A0a0A0a0A0a0A0a0A0a0A0a0A0a0Ab1B1b1B1b1B1b1B1b1B1b1B1b1B1b1B1 7 D 16 w no") ≡ first_fault kinds.Number)
+    × (table_of (crypt_front ++ codes "0a0A0a0A0a0A0a0A0a0A0a0A0a0A0a0Ab1B1b1B1b1B1b1B1b1B1b1B1b1B1b1B1 7 D 16 2 no") ≡ first_fault kinds.ArgCount)
+    × (table_of (crypt_front ++ codes "0a0A0a0A0a0A0a0A0a0A0a0A0a0A0a0Ab1B1b1B1b1B1b1B1b1B1b1B1b1B1b1B1 7 D 16 1 no") ≡ first_fault kinds.Option)
+    × (table_of (crypt_front ++ codes "0a0A0a0A0a0A0a0A0a0A0a0A0a0A0a0Ab1B1b1B1b1B1b1B1b1B1b1B1b1B1b1B1 7 D 16 2 allow_discards allow_discards") ≡ first_fault kinds.Option)
+unfolding table_of lines_of words number is_mapped_name is_device line_of target_at crypt_target_at crypt_at key_at bytes_at decode_pairs base_at options_at known_at
+crypt_faults = (refl, refl, refl, refl, refl, refl, refl, refl, refl, refl, refl)
+
+-- a `verity` line
+abbrev verity_line : List ℕ → Line
+verity_line salt =
+    line 0 8 (verity_target (record { «data» = codes "D"; hash = codes "/dev/mapper/t"; data_block = 4096; hash_block = 512; blocks = 1; start = 3; root = replicate 32 171; salt = salt }))
+
+verity_tables : (table_of (codes "0 8 verity 01 D /dev/mapper/t 4096 0512 1 03 sha256 abABabABabABabABabABabABabABabABabABabABabABabABabABabABabABabAB -") ≡ Ok (verity_line [] ∷ []))
+    × (table_of (codes "0 8 verity 1 D /dev/mapper/t 4096 512 1 3 sha256 abABabABabABabABabABabABabABabABabABabABabABabABabABabABabABabAB 0a0B 0") ≡ Ok (verity_line (10 ∷ 11 ∷ []) ∷ []))
+unfolding table_of lines_of words number is_mapped_name is_device line_of target_at verity_target_at verity_at salt_at bytes_at decode_pairs options_at known_at
+verity_tables = (refl, refl)
+
+-- a `verity` line at each fault, with faults behind it
+verity_faults : (table_of (codes "0 8 verity 2 a,b a,b x x x x x x") ≡ first_fault kinds.ArgCount)
+    × (table_of (codes "0 8 verity 2 a,b a,b x x x x x x x") ≡ first_fault kinds.Version)
+    × (table_of (codes "0 8 verity 1 a,b a,b x x x x x x x") ≡ first_fault kinds.Name)
+    × (table_of (codes "0 8 verity 1 D a,b x x x x x x x") ≡ first_fault kinds.Name)
+    × (table_of (codes "0 8 verity 1 D t 8192 x x x x x x") ≡ first_fault kinds.BlockSize)
+    × (table_of (codes "0 8 verity 1 D t 4096 256 x x x x x") ≡ first_fault kinds.BlockSize)
+    × (table_of (codes "0 8 verity 1 D t 4096 512 x x x x x") ≡ first_fault kinds.Number)
+    × (table_of (codes "0 8 verity 1 D t 4096 512 1 x x x x") ≡ first_fault kinds.Number)
+    × (table_of (codes "0 8 verity 1 D t 4096 512 1 3 sha512 x x") ≡ first_fault kinds.Algorithm)
+    × (table_of (codes "0 8 verity 1 D t 4096 512 1 3 sha256 x x") ≡ first_fault kinds.Digest)
+    × (table_of (codes "0 8 verity 1 D t 4096 512 1 3 sha256 abABabABabABabABabABabABabABabABabABabABabABabABabABabABabABabAB a x") ≡ first_fault kinds.Salt)
+    × (table_of (codes "0 8 verity 1 D t 4096 512 1 3 sha256 abABabABabABabABabABabABabABabABabABabABabABabABabABabABabABabAB - x") ≡ first_fault kinds.Number)
+    × (table_of (codes "0 8 verity 1 D t 4096 512 1 3 sha256 abABabABabABabABabABabABabABabABabABabABabABabABabABabABabABabAB - 1") ≡ first_fault kinds.ArgCount)
+    × (table_of (codes "0 8 verity 1 D t 4096 512 1 3 sha256 abABabABabABabABabABabABabABabABabABabABabABabABabABabABabABabAB - 1 x") ≡ first_fault kinds.Option)
+unfolding table_of lines_of words number is_mapped_name is_device line_of target_at verity_target_at verity_at salt_at bytes_at decode_pairs options_at known_at
+verity_faults = (refl, refl, refl, refl, refl, refl, refl, refl, refl, refl, refl, refl, refl, refl)
+
+-- lines printed with the key, and with zeros in place of it
+printed_keys : (table_text true (crypt_line (codes "allow_discards" ∷ []) ∷ []) ≡ codes "0 8 crypt aes-xts-plain64 0a0a0a0a0a0a0a0a0a0a0a0a0a0a0a0ab1b1b1b1b1b1b1b1b1b1b1b1b1b1b1b1 7 D 16 1 allow_discards\n")
+    × (table_text false (crypt_line [] ∷ []) ≡ codes "0 8 crypt aes-xts-plain64 0000000000000000000000000000000000000000000000000000000000000000 7 D 16\n")
+    × (table_text false (verity_line [] ∷ []) ≡ codes "0 8 verity 1 D /dev/mapper/t 4096 512 1 3 sha256 abababababababababababababababababababababababababababababababab -\n")
+    × (table_text false (verity_line (10 ∷ 11 ∷ []) ∷ []) ≡ codes "0 8 verity 1 D /dev/mapper/t 4096 512 1 3 sha256 abababababababababababababababababababababababababababababababab 0a0b\n")
+unfolding digits line_text target_words crypt_words verity_words encode_with
+printed_keys = (refl, refl, refl, refl)

@@ -1,5 +1,5 @@
 -- The arguments of a `crypt` line, as the kernel's dm-crypt page lists them.
-use Rattle.std.specs.Prelude.{◌≡◌, ℕ, ◌*◌, Bool, ◌==◌, if◌then◌else◌, List, [], ◌∷◌, length, replicate, codes, decimal, Ok, Err}
+use Rattle.std.specs.Prelude.{ℕ, ◌*◌, Bool, ◌==◌, if◌then◌else◌, List, [], ◌∷◌, length, replicate, codes, decimal, Ok, Err}
 use Rattle.std.specs.Str.{bytes_eq}
 use Rattle.hex.specs.Hex.{encode_lower}
 use Rattle.dm_table.specs.declared.crypt.Crypt.{Crypt}
@@ -44,8 +44,3 @@ key_word show key = if show then encode_lower key else replicate (2 * length key
 unfoldable pub crypt_words : Bool → Crypt → List Word
 crypt_words show crypt =
     cipher ∷ key_word show crypt.key ∷ decimal crypt.iv_offset ∷ crypt.base.device ∷ decimal crypt.base.offset ∷ options_words crypt.options
-
--- the words are those of a `crypt` line with these arguments
-abbrev pub ReadsCrypt : List Word → Crypt → Type 0
-ReadsCrypt [] crypt = ⊥
-ReadsCrypt (type ∷ arguments) crypt = (type ≡ codes "crypt") × (crypt_at arguments ≡ Ok crypt)

@@ -7,7 +7,7 @@ use Rattle.dm_table.specs.declared.verity.Verity.{Verity}
 use Rattle.dm_table.specs.declared.table.Base.{Base}
 use Rattle.dm_table.specs.declared.table.Line.{Line}
 use Rattle.dm_table.specs.declared.table.Target.{Target}
-use Rattle.dm_table.specs.declared.table.Target.TheVariants.{Linear, Striped, Zero, Error}
+use Rattle.dm_table.specs.declared.table.Target.TheVariants.{Linear, Striped, Zero, Error, Crypt as crypt_target, Verity as verity_target}
 use Rattle.dm_table.specs.Names.{is_device}
 use Rattle.dm_table.specs.Options.{AreOptionsOfGrammar}
 use Rattle.dm_table.specs.Crypt.{crypt_options}
@@ -59,6 +59,8 @@ IsTargetOfGrammar (Linear base) = IsBaseOfGrammar base
 IsTargetOfGrammar (Striped chunk bases) = IsStripedOfGrammar chunk bases
 IsTargetOfGrammar Zero = Unit {0}
 IsTargetOfGrammar Error = Unit {0}
+IsTargetOfGrammar (crypt_target crypt) = IsCryptOfGrammar crypt
+IsTargetOfGrammar (verity_target verity) = IsVerityOfGrammar verity
 
 pub record IsLineOfGrammar (line : Line) : Type 0 where
   pub start : line.start < 2 ^ 64

@@ -12,3 +12,4 @@ pub mod Grammar
 pub mod TableText
 pub mod StackText
 pub mod Print
+pub mod Keys

@@ -4,12 +4,14 @@ use Rattle.std.specs.Str.{bytes_eq}
 use Rattle.dm_table.specs.declared.table.Base.{Base}
 use Rattle.dm_table.specs.declared.table.Line.{Line}
 use Rattle.dm_table.specs.declared.table.Target.{Target}
-use Rattle.dm_table.specs.declared.table.Target.TheVariants.{Linear, Striped, Zero, Error}
+use Rattle.dm_table.specs.declared.table.Target.TheVariants.{Linear, Striped, Zero, Error, Crypt, Verity}
 use Rattle.dm_table.specs.declared.fault.TextKind.TheVariants as kinds
 use Rattle.dm_table.specs.Words.{Word}
 use Rattle.dm_table.specs.Numbers.{number, number_if}
 use Rattle.dm_table.specs.Reading.{Read, ◌>>=◌}
 use Rattle.dm_table.specs.Arguments.{number_at, base_at}
+use Rattle.dm_table.specs.Crypt.{crypt_at}
+use Rattle.dm_table.specs.Verity.{verity_at}
 
 -- exactly `<dev> <offset>`
 unfoldable pub linear_at : List Word → Read Target
@@ -53,6 +55,16 @@ unfoldable pub bare_at : Target → List Word → Read Target
 bare_at target [] = Ok target
 bare_at target (word ∷ more) = Err kinds.ArgCount
 
+unfoldable pub crypt_target_at : List Word → Read Target
+crypt_target_at words = do
+  crypt ← crypt_at words
+  Ok (Crypt crypt)
+
+unfoldable pub verity_target_at : List Word → Read Target
+verity_target_at words = do
+  verity ← verity_at words
+  Ok (Verity verity)
+
 -- the target of that type with those arguments
 unfoldable pub target_at : Word → List Word → Read Target
 target_at type arguments =
@@ -60,6 +72,8 @@ target_at type arguments =
     else if bytes_eq type (codes "striped") then striped_at arguments
     else if bytes_eq type (codes "zero") then bare_at Zero arguments
     else if bytes_eq type (codes "error") then bare_at Error arguments
+    else if bytes_eq type (codes "crypt") then crypt_target_at arguments
+    else if bytes_eq type (codes "verity") then verity_target_at arguments
     else Err kinds.Target
 
 -- `<start_sector> <num_sectors> <target_type> <target_args>`

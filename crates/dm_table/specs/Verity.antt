@@ -1,5 +1,5 @@
 -- The arguments of a `verity` line, as the kernel's dm-verity page lists them.
-use Rattle.std.specs.Prelude.{◌≡◌, ℕ, ◌/◌, ◌&&◌, ◌==◌, nat_le, if◌then◌else◌, List, [], ◌∷◌, length, codes, decimal, Ok, Err, ok_or}
+use Rattle.std.specs.Prelude.{ℕ, ◌/◌, ◌&&◌, ◌==◌, nat_le, if◌then◌else◌, List, [], ◌∷◌, length, codes, decimal, Ok, Err, ok_or}
 use Rattle.std.specs.Str.{bytes_eq}
 use Rattle.hex.specs.Hex.{encode_lower}
 use Rattle.hash_tree.specs.Shape.{is_block_size}
@@ -60,8 +60,3 @@ unfoldable pub verity_words : Verity → List Word
 verity_words verity =
     codes "1" ∷ verity.data ∷ verity.hash ∷ decimal verity.data_block ∷ decimal verity.hash_block ∷ decimal verity.blocks ∷ decimal verity.start
     ∷ codes "sha256" ∷ encode_lower verity.root ∷ salt_word verity.salt ∷ []
-
--- the words are those of a `verity` line with these arguments
-abbrev pub ReadsVerity : List Word → Verity → Type 0
-ReadsVerity [] verity = ⊥
-ReadsVerity (type ∷ arguments) verity = (type ≡ codes "verity") × (verity_at arguments ≡ Ok verity)

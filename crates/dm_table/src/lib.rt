@@ -15,13 +15,13 @@ mod print;
 mod print_crypt;
 mod print_options;
 mod print_verity;
+#[cfg(test)]
+mod rows;
 mod stack;
 mod stack_text;
 mod table;
 mod table_text;
 mod target;
-#[cfg(test)]
-mod target_tests;
 #[cfg(test)]
 mod tests;
 mod verity;

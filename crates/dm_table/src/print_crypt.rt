@@ -1,9 +1,7 @@
 //! The arguments of a `crypt` line, printed.
-ghost use Rattle.std.specs.Prelude.{◌≡◌, ◌*◌, ◌≤◌, ◌∷◌, ◌++◌, [], OnOk, IsTrue, codes, flat_map, length, replicate};
+ghost use Rattle.std.specs.Prelude.{◌≡◌, ◌*◌, ◌≤◌, ◌∷◌, ◌++◌, OnOk, codes, flat_map, length, replicate};
 ghost use Rattle.hex.specs.Hex.{encode_lower};
-ghost use Rattle.dm_table.specs.Words.{words};
-ghost use Rattle.dm_table.specs.Crypt.{crypt_words, key_word, ReadsCrypt};
-ghost use Rattle.dm_table.specs.Grammar.{IsCryptOfGrammar};
+ghost use Rattle.dm_table.specs.Crypt.{crypt_words, key_word};
 ghost use Rattle.dm_table.specs.Print.{spaced_word};
 
 use crate::crypt::{Crypt, Key};
@@ -18,11 +16,9 @@ pub(crate) fn print_crypt(
     crypt: &Crypt,
     show_keys: bool,
 ) -> Result<(), AllocError>
-    ensures text { OnOk result
+    ensures { OnOk result
         (text.new.items ≡ text.old.items
         ++ flat_map spaced_word (codes "crypt" ∷ crypt_words show_keys crypt.now)) }
-    ensures reads_back { IsTrue show_keys → IsCryptOfGrammar crypt.now → OnOk result
-        (text.old.items ≡ [] → ReadsCrypt (words text.new.items) crypt.now) }
 {
     push_spaced(text, b"crypt")?;
     push_spaced(text, b"aes-xts-plain64")?;

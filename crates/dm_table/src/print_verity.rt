@@ -1,8 +1,6 @@
 //! The arguments of a `verity` line, printed.
-ghost use Rattle.std.specs.Prelude.{◌≡◌, ◌≤◌, ◌∷◌, ◌++◌, [], OnOk, codes, flat_map, length};
-ghost use Rattle.dm_table.specs.Words.{words};
-ghost use Rattle.dm_table.specs.Verity.{salt_word, verity_words, ReadsVerity};
-ghost use Rattle.dm_table.specs.Grammar.{IsVerityOfGrammar};
+ghost use Rattle.std.specs.Prelude.{◌≡◌, ◌≤◌, ◌∷◌, ◌++◌, OnOk, codes, flat_map, length};
+ghost use Rattle.dm_table.specs.Verity.{salt_word, verity_words};
 ghost use Rattle.dm_table.specs.Print.{spaced_word};
 
 use crate::digits::push_digits;
@@ -12,11 +10,9 @@ use std::alloc::AllocError;
 
 /// Prints the target of a `verity` line.
 pub(crate) fn print_verity(text: &mut Vec<u8>, verity: &Verity) -> Result<(), AllocError>
-    ensures text { OnOk result
+    ensures { OnOk result
         (text.new.items ≡ text.old.items
         ++ flat_map spaced_word (codes "verity" ∷ verity_words verity.now)) }
-    ensures reads_back { IsVerityOfGrammar verity.now → OnOk result
-        (text.old.items ≡ [] → ReadsVerity (words text.new.items) verity.now) }
 {
     push_spaced(text, b"verity")?;
     push_spaced(text, b"1")?;

@@ -2,6 +2,8 @@
 ghost use Rattle.std.specs.Prelude.{◌≡◌, List, ℕ, ◌∷◌, [], ◌++◌, length, IfOk, MatchResult};
 ghost use Rattle.dm_table.specs.Grammar.{IsTableOfGrammar};
 
+use crate::crypt::Crypt;
+use crate::verity::Verity;
 use std::alloc::{AllocError, Global};
 use std::marker::Model;
 
@@ -119,6 +121,10 @@ pub enum Target {
     Zero,
     /// `error`: every read and every write fails.
     Error,
+    /// `crypt`: sectors of one device, from its offset on, encrypted there.
+    Crypt(Crypt),
+    /// `verity`: blocks of one device, checked against a hash tree on another.
+    Verity(Verity),
 }
 
 impl Target {
@@ -133,6 +139,8 @@ impl Target {
             },
             Target::Zero => Target::Zero,
             Target::Error => Target::Error,
+            Target::Crypt(crypt) => Target::Crypt(crypt.try_clone(alloc)?),
+            Target::Verity(verity) => Target::Verity(verity.try_clone(alloc)?),
         })
     }
 }

@@ -4,11 +4,13 @@ ghost use Rattle.dm_table.specs.Reading.{IsReading};
 ghost use Rattle.dm_table.specs.Arguments.{base_at};
 ghost use Rattle.dm_table.specs.Lines.{bases_at, chunk_at, linear_at, stripes_at, striped_at, target_at, bare_at};
 
+use crate::crypt_arguments::read_crypt;
 use crate::cut::Words;
 use crate::fault::{LineFault, TextKind};
 use crate::name::is_device;
 use crate::numbers::number;
 use crate::table::{Base, Bases, Name, Target};
+use crate::verity_arguments::read_verity;
 use std::alloc::Global;
 
 /// Reads the arguments of that target type.
@@ -27,6 +29,10 @@ pub(crate) fn read_target(
         read_bare(Target::Zero, arguments)
     } else if kind == b"error".as_slice() {
         read_bare(Target::Error, arguments)
+    } else if kind == b"crypt".as_slice() {
+        Ok(Target::Crypt(read_crypt(alloc, arguments)?))
+    } else if kind == b"verity".as_slice() {
+        Ok(Target::Verity(read_verity(alloc, arguments)?))
     } else {
         Err(LineFault::Kind(TextKind::Target))
     }

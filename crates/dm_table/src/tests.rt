@@ -1,6 +1,7 @@
 //! What no session shows, which reads stack texts alone: tables as texts of their own, and what a stack text gives.
 use crate::fault::ParseFault;
 use crate::print::print_table;
+use crate::rows::{CRYPT, EACH_TARGET, HIDDEN, VERITY};
 use crate::stack::StackText;
 use crate::stack_text::parse_stack;
 use crate::table::Target;
@@ -12,12 +13,12 @@ const SPELLED: &str =
     "0 8 linear D 2\n8 32 striped 2 8 A 0 /dev/mapper/b 16\n40 1 error\n41 18446744073709551615 zero\n";
 
 // The table, copied and printed, or what its fault is printed as.
-fn table_text(alloc: Global, text: &str) -> Result<Vec<u8>, Fail> {
+fn table_text(alloc: Global, text: &str, show_keys: bool) -> Result<Vec<u8>, Fail> {
     if text.len() >= 1 << 24 {
         return Err("a text of this size is not tried".into());
     }
     match parse_table(alloc, text.as_bytes()) {
-        Ok(table) => Ok(print_table(alloc, &table.try_clone(alloc)?, false)?),
+        Ok(table) => Ok(print_table(alloc, &table.try_clone(alloc)?, show_keys)?),
         Err(fault) => Ok(format!(in alloc; "{fault}")?.into_bytes()),
     }
 }
@@ -46,8 +47,15 @@ fn texts_of_tables(rt: HostRuntime) -> Result<(), Fail> {
         ("0 8 zero\x7f", "entry 0, line 0: NotText"),
         ("0 8 zero \u{80}", "entry 0, line 0: NotText"),
     ] {
-        let got = table_text(rt.alloc(), text)?;
+        let got = table_text(rt.alloc(), text, false)?;
         assert_eq!(rt; got.as_slice(), want.as_bytes(), "{text}");
+    }
+    for (show_keys, rows) in [(true, CRYPT), (false, HIDDEN), (true, VERITY)] {
+        for row in rows.lines() {
+            let (text, want) = row.split_once(" => ").ok_or("a row without `=>`")?;
+            let got = table_text(rt.alloc(), text, show_keys)?;
+            assert_eq!(rt; got.as_slice().trim_ascii_end(), want.as_bytes(), "{row}");
+        }
     }
     Ok(())
 }
@@ -89,15 +97,14 @@ fn fields_of_entries(rt: HostRuntime) -> Result<(), Fail> {
 #[test]
 fn makes_a_stack_of_one_table(rt: HostRuntime) -> Result<(), Fail> {
     let alloc = rt.alloc();
-    let text = b"0 8 striped 1 8 D 3\n8 1 linear E 1\n9 1 zero\n10 1 error\n".as_slice();
-    let table = parse_table(alloc, text)?;
+    let table = parse_table(alloc, EACH_TARGET.as_bytes())?;
     let stack = StackText::single(alloc, b"one".as_slice(), true, table.try_clone(alloc)?)?;
     let [entry] = stack.as_slice() else {
         return Err("one entry".into());
     };
     assert_eq!(rt; (stack.entries(), entry.number), (1, 1));
     let printed = print_table(alloc, &entry.table, true)?;
-    assert_eq!(rt; printed.as_slice(), text);
+    assert_eq!(rt; printed.as_slice(), EACH_TARGET.as_bytes());
     let Err(fault) = StackText::single(alloc, b"a,b".as_slice(), true, table) else {
         return Err("a comma in a name".into());
     };

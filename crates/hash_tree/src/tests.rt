@@ -76,28 +76,6 @@ fn superblock(alloc: Global, made: &Made, salt: &Salt) -> Result<Vec<u8>, AllocE
     Ok(bytes)
 }
 
-#[test]
-fn areas_are_those_of_veritysetup(rt: HostRuntime) -> Result<(), Fail> {
-    let alloc = rt.alloc();
-    for made in &MADE {
-        let seed = made.seed;
-        let salt = salt_of(alloc, made.salt)?;
-        let shape = shape_of(made)?;
-        let bytes = data(alloc, seed, made.data_block.wrapping_mul(made.blocks) / 32)?;
-        let digests = digests_of(alloc, made, &salt, &bytes)?;
-        assert_eq!(rt; digests.len() as u64, shape.blocks(), "{seed}");
-        let (tree, root) = area(alloc, &shape, &salt, &digests)?;
-        assert_eq!(rt; root, made.root, "{seed}");
-        let mut image = superblock(alloc, made, &salt)?;
-        image.extend_from_slice(&tree)?;
-        assert_eq!(rt; image.len(), made.image_len, "{seed}");
-        let mut hasher = Sha256::new();
-        hasher.update(image.as_slice());
-        assert_eq!(rt; hasher.finalize(), made.image, "{seed}");
-    }
-    Ok(())
-}
-
 // The chain of a data block, read at the places that the shape gives.
 fn read_chain(
     rt: &impl Abort,
@@ -135,29 +113,6 @@ fn read_chain(
     })
 }
 
-#[test]
-fn chains_hold_and_changed_ones_do_not(rt: HostRuntime) -> Result<(), Fail> {
-    let alloc = rt.alloc();
-    for made in &MADE {
-        let seed = made.seed;
-        let salt = salt_of(alloc, made.salt)?;
-        let shape = shape_of(made)?;
-        let bytes = data(alloc, seed, made.data_block.wrapping_mul(made.blocks) / 32)?;
-        let digests = digests_of(alloc, made, &salt, &bytes)?;
-        assert_eq!(rt; digests.len() as u64, shape.blocks(), "{seed}");
-        let (tree, root) = area(alloc, &shape, &salt, &digests)?;
-        for index in [
-            0,
-            u64::from(made.blocks) / 2,
-            u64::from(made.blocks).wrapping_sub(1),
-        ] {
-            let mut chain = read_chain(&rt, alloc, &shape, &bytes, &tree, index)?;
-            check_chain(&rt, &mut chain, &shape, &salt, &root);
-        }
-    }
-    Ok(())
-}
-
 // The chain holds, and no longer where a bit of a block, the index or the root is another.
 fn check_chain(rt: &impl Abort, chain: &mut Chain, shape: &Shape, salt: &Salt, root: &[u8; 32]) {
     let index = chain.index;
@@ -190,6 +145,37 @@ fn change(block: &mut Vec<u8>) {
     }
 }
 
+// Roots and images are those of each line, and so are the chains of three of its blocks.
+#[test]
+fn trees_are_those_of_veritysetup(rt: HostRuntime) -> Result<(), Fail> {
+    let alloc = rt.alloc();
+    for made in &MADE {
+        let seed = made.seed;
+        let salt = salt_of(alloc, made.salt)?;
+        let shape = shape_of(made)?;
+        let bytes = data(alloc, seed, made.data_block.wrapping_mul(made.blocks) / 32)?;
+        let digests = digests_of(alloc, made, &salt, &bytes)?;
+        assert_eq!(rt; digests.len() as u64, shape.blocks(), "{seed}");
+        let (tree, root) = area(alloc, &shape, &salt, &digests)?;
+        assert_eq!(rt; root, made.root, "{seed}");
+        let mut image = superblock(alloc, made, &salt)?;
+        image.extend_from_slice(&tree)?;
+        assert_eq!(rt; image.len(), made.image_len, "{seed}");
+        let mut hasher = Sha256::new();
+        hasher.update(image.as_slice());
+        assert_eq!(rt; hasher.finalize(), made.image, "{seed}");
+        for index in [
+            0,
+            u64::from(made.blocks) / 2,
+            u64::from(made.blocks).wrapping_sub(1),
+        ] {
+            let mut chain = read_chain(&rt, alloc, &shape, &bytes, &tree, index)?;
+            check_chain(&rt, &mut chain, &shape, &salt, &root);
+        }
+    }
+    Ok(())
+}
+
 // A chain of two hash blocks and a content, each of one byte.
 fn chain_of(
     alloc: Global,
@@ -212,20 +198,16 @@ fn chain_of(
 fn collide_names_the_topmost_place(rt: HostRuntime) -> Result<(), Fail> {
     let alloc = rt.alloc();
     let expected = chain_of(alloc, 5, 1, 2, 3)?;
-    assert_eq!(rt; collide(&expected, &chain_of(alloc, 5, 1, 2, 3)?), None);
-    assert_eq!(rt;
-        collide(&expected, &chain_of(alloc, 5, 9, 2, 3)?),
-        Some(Place::Hash(0))
-    );
-    assert_eq!(rt;
-        collide(&expected, &chain_of(alloc, 5, 1, 9, 9)?),
-        Some(Place::Hash(1))
-    );
-    assert_eq!(rt;
-        collide(&expected, &chain_of(alloc, 5, 1, 2, 9)?),
-        Some(Place::Content)
-    );
-    assert_eq!(rt; collide(&expected, &chain_of(alloc, 6, 9, 9, 9)?), None);
+    for (index, top, below, content, place) in [
+        (5u64, 1u8, 2u8, 3u8, None),
+        (5, 9, 2, 3, Some(Place::Hash(0))),
+        (5, 1, 9, 9, Some(Place::Hash(1))),
+        (5, 1, 2, 9, Some(Place::Content)),
+        (6, 9, 9, 9, None),
+    ] {
+        let got = chain_of(alloc, index, top, below, content)?;
+        assert_eq!(rt; collide(&expected, &got), place, "{top} {below} {content}");
+    }
     let mut shorter = chain_of(alloc, 5, 9, 9, 9)?;
     shorter.path.truncate(1);
     assert_eq!(rt; collide(&expected, &shorter), None);
@@ -267,31 +249,28 @@ fn shapes_have_their_sizes(rt: HostRuntime) -> Result<(), Fail> {
     Ok(())
 }
 
-// The fault of a shape, if there is one.
-fn fault(data_block: u32, hash_block: u32, blocks: u64, start: u64) -> Option<ShapeFault> {
-    Shape::new(data_block, hash_block, blocks, start).err()
-}
+// The sizes of the blocks, how many there are, where the tree begins, and the shape's fault.
+const SHAPES: [(u32, u32, u64, u64, Option<ShapeFault>); 12] = [
+    (6144, 4096, 0, 1, Some(ShapeFault::BlockSize)),
+    (4096, 256, 0, 1, Some(ShapeFault::BlockSize)),
+    (4096, 4096, 0, 1, Some(ShapeFault::NoBlocks)),
+    (4096, 4096, u64::MAX, 1, Some(ShapeFault::TooLarge)),
+    (512, 512, 1 << 54, 1 << 53, None),
+    (512, 512, 1 << 54, (1 << 54) - 1, Some(ShapeFault::TooLarge)),
+    (512, 4096, 1 << 54, 0, None),
+    (512, 4096, (1 << 54) + 1, 0, Some(ShapeFault::TooLarge)),
+    (512, 512, 2, (1 << 54) - 1, None),
+    (512, 512, 2, 1 << 54, Some(ShapeFault::TooLarge)),
+    (512, 512, 2, u64::MAX, Some(ShapeFault::TooLarge)),
+    (512, 512, 1, u64::MAX, None),
+];
 
 #[test]
 fn shapes_are_refused_in_order(rt: HostRuntime) {
-    assert_eq!(rt; fault(6144, 4096, 0, 1), Some(ShapeFault::BlockSize));
-    assert_eq!(rt; fault(4096, 256, 0, 1), Some(ShapeFault::BlockSize));
-    assert_eq!(rt; fault(4096, 4096, 0, 1), Some(ShapeFault::NoBlocks));
-    assert_eq!(rt; fault(4096, 4096, u64::MAX, 1), Some(ShapeFault::TooLarge));
-    assert_eq!(rt; fault(512, 512, 1 << 54, 1 << 53), None);
-    assert_eq!(rt;
-        fault(512, 512, 1 << 54, (1 << 54) - 1),
-        Some(ShapeFault::TooLarge)
-    );
-    assert_eq!(rt; fault(512, 4096, 1 << 54, 0), None);
-    assert_eq!(rt;
-        fault(512, 4096, (1 << 54) + 1, 0),
-        Some(ShapeFault::TooLarge)
-    );
-    assert_eq!(rt; fault(512, 512, 2, (1 << 54) - 1), None);
-    assert_eq!(rt; fault(512, 512, 2, 1 << 54), Some(ShapeFault::TooLarge));
-    assert_eq!(rt; fault(512, 512, 2, u64::MAX), Some(ShapeFault::TooLarge));
-    assert_eq!(rt; fault(512, 512, 1, u64::MAX), None);
+    for (data_block, hash_block, blocks, start, fault) in SHAPES {
+        let answer = Shape::new(data_block, hash_block, blocks, start);
+        assert_eq!(rt; answer.err(), fault, "{blocks} {start}");
+    }
 }
 
 #[test]

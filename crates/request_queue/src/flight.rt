@@ -1,5 +1,5 @@
 // Requests in flight.
-ghost use Rattle.std.specs.Prelude.{◌≡◌, OnOk, IfErr, position};
+ghost use Rattle.std.specs.Prelude.{◌≡◌, OnOk, IfErr, find, option_map, position};
 ghost use Rattle.request_queue.specs.Flights.{FlightRecord, has_ticket, reply_to, work_record};
 ghost use Rattle.request_queue.specs.Flights.{IsSoundFlight};
 ghost use Rattle.request_queue.specs.Serving.{NextPiece, FailedPiece};
@@ -47,6 +47,12 @@ impl Flight {
         self.ticket
     }
 
+    pub(crate) fn first(&self) -> u64
+        ensures { result ≡ self.now.first }
+    {
+        self.first
+    }
+
     /// How many sectors are left.
     pub(crate) fn left(&self) -> u64
         ensures { result ≡ self.now.rest.count }
@@ -89,4 +95,12 @@ pub(crate) fn place_of(flights: &[Flight], ticket: u64) -> Option<usize>
     ensures { result ≡ position (has_ticket ticket) flights.now }
 {
     flights.iter().position(|flight| flight.ticket() == ticket)
+}
+
+/// The first sector of the request with that ticket.
+pub(crate) fn first_of(flights: &[Flight], ticket: u64) -> Option<u64>
+    ensures { result ≡ option_map (λ f. f.first) (find (has_ticket ticket) flights.now) }
+{
+    let flight = flights.iter().find(|flight| flight.ticket() == ticket)?;
+    Some(flight.first())
 }

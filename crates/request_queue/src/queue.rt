@@ -1,5 +1,5 @@
 // A queue of requests over a stack.
-ghost use Rattle.std.specs.Prelude.{◌≡◌, ◌≢◌, [], length, IfOk, IfErr, Ok, Err, None};
+ghost use Rattle.std.specs.Prelude.{◌≡◌, ◌≢◌, [], length, option_map, IfOk, IfErr, Ok, Err, None};
 ghost use Rattle.request_queue.specs.Laws.{QueueLaw};
 ghost use Rattle.request_queue.specs.Parts.{EachPart};
 ghost use Rattle.request_queue.specs.Replies.{outcome_of};
@@ -13,7 +13,7 @@ ghost use Rattle.request_queue.specs.declared.request.Request.{Request};
 
 use crate::admit::sectors_for;
 use crate::fault::{Held, NoSuchTicket, RunFault, SubmitFault};
-use crate::flight::{Flight, place_of};
+use crate::flight::{Flight, first_of, place_of};
 use crate::range::SectorRange;
 use crate::reply::{Progress, Reply, Ticket};
 use crate::request::Request;
@@ -85,6 +85,13 @@ impl<D: BlockDev> Queue<D> {
         ensures sound { IsSoundWorld self.now.stack.config self.now.given self.now.in_flight }
     {
         self.flights.len()
+    }
+
+    /// The first sector of the request in flight with that ticket.
+    pub fn first_sector(&self, ticket: Ticket) -> Option<u64>
+        ensures { result ≡ option_map (λ f. f.first) (flight_of self.now ticket.0) }
+    {
+        first_of(self.flights.as_slice(), ticket.0)
     }
 
     // The sectors of a request, or its first refusal.

@@ -1,5 +1,5 @@
 -- Commands that end early.
-use Rattle.std.proofs.Common.{◌≡◌, List, ℕ, Option, refl}
+use Rattle.std.proofs.Common.{List, ℕ, Option, refl}
 use Rattle.stack_commands.specs.declared.fault.CommandFault.{CommandFault}
 use Rattle.stack_commands.specs.declared.fault.CommandFault.TheVariants.{Usage, NoMemory, TooLong, Open, Leaves, Text, Load, Submit, Io, Format, Verify, Differs, Random, Session}
 use Rattle.stack_commands.specs.Endings.{IsQuiet}

@@ -1,10 +1,10 @@
 -- Leaves that are synced one after another.
-use Rattle.std.proofs.Common.{◌≡◌, ◌<◌, ◌≤◌, ◌+◌, ◌-◌, ℕ, zero, suc, true, false, IsTrue, List, [], ◌∷◌, length, map, set, get_or, refl, ap, sym, subst, arith}
+use Rattle.std.proofs.Common.{◌≡◌, ◌<◌, ◌+◌, ◌-◌, ℕ, zero, suc, true, false, IsTrue, List, [], ◌∷◌, length, map, set, get_or, refl, ap, sym, subst, arith}
 use Rattle.block_device.specs.Device.{Device, HasFailed}
 use Rattle.block_device.specs.declared.any.AnyDev.{AnyDev}
 use Rattle.stack_engine.specs.declared.fault.IoFault.TheVariants as io
 use Rattle.stack_engine.specs.Leaves.{LeafFailed}
-use Rattle.stack_commands.specs.Transfers.{FailsToSync}
+use Rattle.stack_commands.specs.Syncs.{FailsToSync}
 
 -- a leaf of which the same is seen
 pub same-seen : (f : AnyDev → Device) (xs : List AnyDev) (i : ℕ) (d v : AnyDev) → i < length xs → f v ≡ f (get_or xs i d) → map f (set xs i v) ≡ map f xs

@@ -13,8 +13,7 @@ use Rattle.stack_commands.specs.declared.command_words.Invocation.{Invocation}
 use Rattle.stack_commands.specs.declared.command_words.Invocation.TheVariants.{Load, Read, Write, Session, Format, Verify, Dump, Table}
 use Rattle.stack_commands.specs.declared.command_words.Sectors.{Sectors}
 use Rattle.stack_commands.specs.declared.command_words.Transfer.{Transfer}
-use Rattle.stack_commands.specs.Reads.{Wanted}
-use Rattle.stack_commands.specs.Transfers.{Place}
+use Rattle.request_queue.specs.Requests.{RequestRecord, a_read, a_write}
 use Rattle.stack_commands.specs.Bindings.{BindingRecord, binding_of, binding_record}
 
 pub data InvocationRecord : Type 0 where
@@ -142,12 +141,12 @@ invocation_record (Dump hash) = dump hash.now
 invocation_record (Table hash root image_name hash_name) = table hash.now root image_name.now hash_name.now
 
 -- the sectors that are wanted
-abbrev pub wanted_of : Sectors → Wanted
-wanted_of sectors = record { name = sectors.name.now; first = sectors.first; count = sectors.count }
+abbrev pub read_request : Sectors → RequestRecord
+read_request sectors = a_read sectors.name.now sectors.first sectors.count
 
 -- where a transfer's bytes go
-abbrev pub place_of : Transfer → Place
-place_of transfer = record { name = transfer.name.now; first = transfer.first }
+abbrev pub write_request : Transfer → List ℕ → RequestRecord
+write_request transfer bytes = a_write transfer.name.now transfer.first bytes
 
 -- the fault is `Usage` with that cause, or memory ran out
 abbrev pub IsUsage : CommandFault → Type 0 → Type 0

@@ -1,8 +1,7 @@
 -- Which files are open, and how: one file may not be open twice where one of the two may write.
-use Rattle.std.specs.Prelude.{◌≡◌, ◌==◌, ◌&&◌, ◌||◌, Bool, true, false, List, [], ◌∷◌, ◌++◌, map, Option, Some, None}
+use Rattle.std.specs.Prelude.{◌≡◌, ◌==◌, ◌&&◌, ◌||◌, Bool, false, List, [], ◌∷◌, ◌++◌, map, Option, Some, None}
 use Rattle.std.specs.List.{list_any}
 use Rattle.block_device.specs.Any.{any_id}
-use Rattle.block_device.specs.FileId.{file_id}
 use Rattle.block_device.specs.contracts.any.AnyDevBlockDev.TheImpl.{ghosts}
 use Rattle.block_device.specs.declared.any.AnyDev.{AnyDev}
 use Rattle.block_device.specs.declared.file_id.FileId.{FileId}

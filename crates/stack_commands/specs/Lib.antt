@@ -4,7 +4,7 @@ pub mod Configuration
 pub mod Endings
 pub mod FileUses
 pub mod Formats
-pub mod Reads
+pub mod Requests
 pub mod SuperblockTexts
+pub mod Syncs
 pub mod VerityTexts
-pub mod Transfers

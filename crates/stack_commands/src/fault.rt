@@ -7,9 +7,10 @@ ghost use Rattle.stack_commands.specs.Endings.{load_ending, text_ending};
 use block_device::OpenFault;
 use clap::error::ErrorKind;
 use dm_table::{ParseFault, TextFault};
+use request_queue::SubmitFault;
 use stack_engine::IoFault;
 use stack_loader::{ConfigFault, LoadFault, Refusal};
-use stack_session::{SessionFault, SubmitFault, WriteFault};
+use stack_session::{SessionFault, WriteFault};
 use std::alloc::{AllocError, AllocFailed};
 use verity_format::{FormatFault, Verdict, VerifyFault};
 
@@ -98,14 +99,6 @@ impl From<LoadFault> for CommandFault<'_> {
             LoadFault::Refused(refusal) => CommandFault::Load(refusal),
             LoadFault::NoMemory => CommandFault::NoMemory,
         }
-    }
-}
-
-impl From<SubmitFault> for CommandFault<'_> {
-    ghost from_gives = { λ fault given. given ≡ command_fault.Submit fault };
-
-    fn from(fault: SubmitFault) -> Self {
-        CommandFault::Submit(fault)
     }
 }
 

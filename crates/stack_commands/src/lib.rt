@@ -16,6 +16,7 @@ mod opening;
 mod program;
 mod random;
 mod read;
+mod request;
 mod serve;
 mod source;
 mod superblock_text;

@@ -1,25 +1,27 @@
 // The command `read`: loads a stack, and prints sectors of one of its devices.
-ghost use Rattle.std.specs.Prelude.{◌≡◌, ◌≤◌, ◌^◌, ◌/◌, ◌*◌, ◌+◌, ◌<◌, List, ℕ, length, map, Ok, OnOk, IfOk, IfErr};
+ghost use Rattle.std.specs.Prelude.{◌≡◌, ◌≤◌, ◌^◌, length, map, Ok, OnOk, IfOk, IfErr};
 ghost use Rattle.std.specs.Io.KnownBytes.{Appends};
 ghost use Rattle.stack_loader.specs.Records.{Configuration};
 ghost use Rattle.stack_engine.specs.Leaves.{ServeLeaves};
 ghost use Rattle.stack_engine.specs.Pieces.{stack_over};
-ghost use Rattle.stack_engine.specs.Stacks.{StackRecord};
-ghost use Rattle.stack_session.specs.declared.range.SectorRange.{SectorRange as Range};
-ghost use Rattle.stack_session.specs.Texts.{sector_lines};
-ghost use Rattle.stack_commands.specs.CommandWords.{wanted_of};
+ghost use Rattle.request_queue.specs.declared.reply.Reply.{Reply as Told};
+ghost use Rattle.request_queue.specs.World.{World};
+ghost use Rattle.stack_session.specs.Texts.{reply_text};
+ghost use Rattle.stack_commands.specs.CommandWords.{read_request};
 ghost use Rattle.stack_commands.specs.Configuration.{configuration_of};
 ghost use Rattle.stack_commands.specs.Endings.{IsQuiet};
-ghost use Rattle.stack_commands.specs.Reads.{FailsToFetch, Fetches};
+ghost use Rattle.stack_commands.specs.Requests.{FailsToServe, IsServed, new_world};
 
 use crate::bindings::Binding;
 use crate::command_words::Sectors;
 use crate::configuration::configuration_of;
 use crate::fault::CommandFault;
 use crate::opening::{OpenLeaves, open_all, stack_text};
+use crate::request::serve_request;
 use block_device::{AnyDev, BlockDev};
+use request_queue::{Queue, Reply, Request};
 use stack_engine::Stack;
-use stack_session::{Counted, SectorRange, range_of, read_sectors, say_sectors};
+use stack_session::{Counted, say_reply};
 use std::alloc::Global;
 use std::fs::File;
 use std::io::Write;
@@ -51,9 +53,9 @@ fn read<'a, W: Write>(
 ) -> Result<(), CommandFault<'a>>
     requires text { length text.now ≤ 2 ^ 20 }
     requires served { ServeLeaves over.leaves.items (map ⟦<AnyDev as BlockDev>⟧.state over.devices.items) }
-    ensures ok { OnOk result ((c : Configuration) × (range : Range) × (bytes : List ℕ) × (after : StackRecord) × (configuration_of over.leaves.items text.now ≡ Ok c)
-        × Fetches (stack_over c (map ⟦<AnyDev as BlockDev>⟧.state over.devices.items)) (wanted_of sectors.entry) range bytes after
-        × Appends (W.contents writer.old.inner) (W.contents writer.new.inner) (sector_lines (length bytes / 512) range.first bytes)) }
+    ensures ok { OnOk result ((c : Configuration) × (reply : Told) × (after : World) × (configuration_of over.leaves.items text.now ≡ Ok c)
+        × IsServed (new_world (stack_over c (map ⟦<AnyDev as BlockDev>⟧.state over.devices.items))) (read_request sectors.entry) reply after
+        × Appends (W.contents writer.old.inner) (W.contents writer.new.inner) (reply_text sectors.entry.first reply)) }
     ensures quiet { IfErr result (λ fault. IsQuiet fault (W.contents writer.old.inner) (W.contents writer.new.inner)) }
 {
     let OpenLeaves { leaves, devices } = over;
@@ -61,30 +63,31 @@ fn read<'a, W: Write>(
         Ok(config) => config,
         Err(fault) => return Err(fault),
     };
-    let Ok(mut stack) = Stack::new(alloc, config, devices, cache) else {
+    let Ok(stack) = Stack::new(alloc, config, devices, cache) else {
         return Err(CommandFault::NoMemory);
     };
-    match fetch(alloc, &mut stack, sectors) {
-        Ok((range, bytes)) => Ok(say_sectors(writer, range.first, bytes.as_slice())?),
+    let mut queue = Queue::new(alloc, stack);
+    match fetch(alloc, &mut queue, sectors) {
+        Ok(reply) => Ok(say_reply(writer, sectors.first, reply)?),
         Err(fault) => Err(fault),
     }
 }
 
-// The sectors that are wanted, and their bytes.
+// The sectors that are wanted.
 fn fetch<'a>(
     alloc: Global,
-    stack: &mut Stack<AnyDev>,
+    queue: &mut Queue<AnyDev>,
     sectors: Sectors<'_>,
-) -> Result<(SectorRange, Vec<u8>), CommandFault<'a>>
-    ensures ok { IfOk result (λ got. Fetches stack.old (wanted_of sectors.entry) got.0 got.1.items stack.new) }
-    ensures err { IfErr result (λ fault. FailsToFetch stack.old (wanted_of sectors.entry) fault stack.new) }
-    ensures len { IfOk result (λ got. length got.1.items ≡ 512 * got.0.count) }
-    ensures fits { IfOk result (λ got. got.0.first + got.0.count < 2 ^ 64) }
+) -> Result<Reply, CommandFault<'a>>
+    ensures ok { IfOk result (λ reply. IsServed queue.old (read_request sectors.entry) reply queue.new) }
+    ensures err { IfErr result (λ fault. FailsToServe queue.old (read_request sectors.entry) fault queue.new) }
 {
     let Sectors { name, first, count } = sectors;
-    let range = range_of(stack.config(), name.as_bytes(), first, count)?;
-    match read_sectors(alloc, stack, range) {
-        Ok(bytes) => Ok((range, bytes)),
-        Err(fault) => Err(CommandFault::Io(fault)),
-    }
+    let device = Vec::from_slice(alloc, name.as_bytes())?;
+    let request = Request::Read {
+        device,
+        first,
+        count,
+    };
+    serve_request(queue, request)
 }

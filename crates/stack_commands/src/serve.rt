@@ -5,6 +5,7 @@ use crate::bindings::Binding;
 use crate::fault::CommandFault;
 use crate::opening::{OpenLeaves, open_all};
 use crate::sync::sync_stack;
+use request_queue::Queue;
 use stack_engine::Stack;
 use stack_loader::Config;
 use stack_session::{Counted, session};
@@ -25,11 +26,12 @@ pub fn serve_files<'a, R: Files<File = File> + AllocGlobal, S: Read, W: Write>(
 {
     let OpenLeaves { leaves, devices } = open_all(rt, &[], bindings)?;
     let config = Config::new(rt.alloc(), leaves)?;
-    let Ok(mut stack) = Stack::new(rt.alloc(), config, devices, cache) else {
+    let Ok(stack) = Stack::new(rt.alloc(), config, devices, cache) else {
         return Err(CommandFault::NoMemory);
     };
-    let outcome = session(rt.alloc(), &mut stack, reader, writer);
-    let synced = sync_stack(stack);
+    let mut queue = Queue::new(rt.alloc(), stack);
+    let outcome = session(rt.alloc(), &mut queue, reader, writer);
+    let synced = sync_stack(queue.into_stack());
     outcome?;
     Ok(synced?)
 }

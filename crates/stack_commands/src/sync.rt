@@ -1,7 +1,7 @@
 // Has what was written to images put on their media.
 ghost use Rattle.std.specs.Prelude.{◌≡◌, ◌≤◌, List, length, map, IsOk, IsTrue, OnOk, OnErr, IfErr};
 ghost use Rattle.block_device.specs.Device.{Device, HasFailed};
-ghost use Rattle.stack_commands.specs.Transfers.{FailsToSync};
+ghost use Rattle.stack_commands.specs.Syncs.{FailsToSync};
 
 use block_device::{AnyDev, BlockDev, DeviceFault};
 use stack_engine::{IoFault, Stack};

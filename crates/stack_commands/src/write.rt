@@ -1,22 +1,26 @@
 // The command `write`: loads a stack, and writes a file's bytes to one of its devices.
-ghost use Rattle.std.specs.Prelude.{◌≡◌, ◌≤◌, ◌^◌, length, map, Ok, IfOk, OnOk, IfErr};
+ghost use Rattle.std.specs.Prelude.{◌≡◌, ◌≤◌, ◌^◌, length, map, Ok, IfOk, IfErr};
 ghost use Rattle.stack_loader.specs.Records.{Configuration};
 ghost use Rattle.stack_engine.specs.Leaves.{ServeLeaves};
 ghost use Rattle.stack_engine.specs.Pieces.{stack_over};
-ghost use Rattle.stack_commands.specs.CommandWords.{place_of};
+ghost use Rattle.request_queue.specs.declared.reply.Reply.{Reply as Told};
+ghost use Rattle.request_queue.specs.World.{World};
+ghost use Rattle.stack_commands.specs.CommandWords.{write_request};
 ghost use Rattle.stack_commands.specs.Configuration.{configuration_of};
-ghost use Rattle.stack_commands.specs.Transfers.{FailsToStore, Stores};
+ghost use Rattle.stack_commands.specs.Requests.{FailsToServe, IsServed, new_world};
 
 use crate::bindings::Binding;
 use crate::command_words::Transfer;
 use crate::configuration::configuration_of;
 use crate::fault::CommandFault;
 use crate::opening::{OpenLeaves, open_all, stack_text};
-use crate::source::read_source;
+use crate::request::serve_request;
+use crate::source::{Source, read_source};
 use crate::sync::sync_stack;
 use block_device::{AnyDev, BlockDev};
+use request_queue::{Queue, Reply, Request};
 use stack_engine::Stack;
-use stack_session::{Counted, say_written, write_range_of, write_sectors};
+use stack_session::{Counted, say_written};
 use std::alloc::Global;
 use std::fs::File;
 use std::io::Write;
@@ -33,9 +37,8 @@ pub fn write_files<'a, R: Files<File = File> + AllocGlobal, W: Write>(
     writer: &mut Counted<W>,
 ) -> Result<(), CommandFault<'a>> {
     let text = stack_text(rt, stack)?;
-    let source = read_source(rt, transfer.source)?;
-    let over = open_all(rt, &[source.file], bindings)?;
-    let bytes = source.bytes.as_slice();
+    let Source { file, bytes } = read_source(rt, transfer.source)?;
+    let over = open_all(rt, &[file], bindings)?;
     let stack = write(rt.alloc(), over, cache, text.as_slice(), transfer, bytes)?;
     sync_stack(stack)?;
     Ok(say_written(writer)?)
@@ -48,47 +51,44 @@ fn write<'a>(
     cache: u32,
     text: &[u8],
     transfer: Transfer<'_>,
-    bytes: &[u8],
+    bytes: Vec<u8>,
 ) -> Result<Stack<AnyDev>, CommandFault<'a>>
     requires text { length text.now ≤ 2 ^ 20 }
     requires served { ServeLeaves over.leaves.items (map ⟦<AnyDev as BlockDev>⟧.state over.devices.items) }
-    ensures { IfOk result (λ after. (c : Configuration) × (configuration_of over.leaves.items text.now ≡ Ok c)
-        × Stores (stack_over c (map ⟦<AnyDev as BlockDev>⟧.state over.devices.items)) (place_of transfer.entry) bytes.now after) }
+    ensures { IfOk result (λ stack. (c : Configuration) × (reply : Told) × (after : World) × (configuration_of over.leaves.items text.now ≡ Ok c)
+        × IsServed (new_world (stack_over c (map ⟦<AnyDev as BlockDev>⟧.state over.devices.items))) (write_request transfer.entry bytes.items) reply after
+        × (stack ≡ after.stack)) }
 {
     let OpenLeaves { leaves, devices } = over;
     let config = match configuration_of(alloc, leaves, text) {
         Ok(config) => config,
         Err(fault) => return Err(fault),
     };
-    let Ok(mut stack) = Stack::new(alloc, config, devices, cache) else {
+    let Ok(stack) = Stack::new(alloc, config, devices, cache) else {
         return Err(CommandFault::NoMemory);
     };
-    match store(&mut stack, transfer, bytes) {
-        Ok(()) => Ok(stack),
+    let mut queue = Queue::new(alloc, stack);
+    match store(alloc, &mut queue, transfer, bytes) {
+        Ok(_) => Ok(queue.into_stack()),
         Err(fault) => Err(fault),
     }
 }
 
 // Writes the bytes to the device from its first sector on.
 fn store<'a>(
-    stack: &mut Stack<AnyDev>,
+    alloc: Global,
+    queue: &mut Queue<AnyDev>,
     transfer: Transfer<'_>,
-    bytes: &[u8],
-) -> Result<(), CommandFault<'a>>
-    ensures ok { OnOk result (Stores stack.old (place_of transfer.entry) bytes.now stack.new) }
-    ensures err { IfErr result (λ fault. FailsToStore stack.old (place_of transfer.entry) bytes.now fault stack.new) }
+    bytes: Vec<u8>,
+) -> Result<Reply, CommandFault<'a>>
+    ensures ok { IfOk result (λ reply. IsServed queue.old (write_request transfer.entry bytes.items) reply queue.new) }
+    ensures err { IfErr result (λ fault. FailsToServe queue.old (write_request transfer.entry bytes.items) fault queue.new) }
 {
-    let range = match write_range_of(
-        stack.config(),
-        transfer.name.as_bytes(),
-        transfer.first,
-        bytes.len(),
-    ) {
-        Ok(range) => range,
-        Err(fault) => return Err(CommandFault::Submit(fault)),
+    let device = Vec::from_slice(alloc, transfer.name.as_bytes())?;
+    let request = Request::Write {
+        device,
+        first: transfer.first,
+        bytes,
     };
-    match write_sectors(stack, range, bytes) {
-        Ok(()) => Ok(()),
-        Err(fault) => Err(CommandFault::Io(fault)),
-    }
+    serve_request(queue, request)
 }

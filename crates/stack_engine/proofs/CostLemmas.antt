@@ -5,11 +5,11 @@ use Rattle.std.proofs.Math.Nat.{le-max_left, le-max_right}
 use Rattle.dm_table.specs.declared.table.Base.{Base}
 use Rattle.dm_table.specs.declared.table.Line.{Line}
 use Rattle.dm_table.specs.declared.table.Target.{Target}
-use Rattle.dm_table.specs.declared.table.Target.TheVariants.{Linear, Striped, Zero, Error}
+use Rattle.dm_table.specs.declared.table.Target.TheVariants.{Linear, Striped, Zero, Error, Crypt as crypt_target, Verity as verity_target}
 use Rattle.stack_loader.specs.declared.lower.Lower.{Lower}
 use Rattle.stack_loader.specs.declared.lower.Lower.TheVariants.{Leaf as leaf}
 use Rattle.stack_loader.specs.Records.{Configuration}
-use Rattle.stack_loader.specs.Names.{mapped, named, names, lines_of}
+use Rattle.stack_loader.specs.Names.{mapped, named, lines_of}
 use Rattle.stack_loader.specs.Descend.{descend, greatest, known, by_name, line_read_cost, line_write_cost, cost_rule, read_cost, write_cost}
 use Rattle.stack_loader.specs.Lines.{IsLine}
 use Rattle.stack_loader.proofs.lemmas.CostRuleLemmas.{IsLineLocal, line_read_cost-local, line_write_cost-local, cost-rule}
@@ -36,29 +36,33 @@ each_name f [] n h = tt
 each_name f (base ∷ bases) n h =
     (omega (arith, h, le-max_left (f base.device) (greatest (map (λ base. f base.device) bases))), each_name f bases n (omega (arith, h, le-max_right (f base.device) (greatest (map (λ base. f base.device) bases)))))
 
--- no device that a line names costs more than the line
-abbrev CoversNames : ((List ℕ → ℕ) → Target → ℕ) → Type 0
-CoversNames line_cost = (f : List ℕ → ℕ) (target : Target) → AllByRecursion (λ name. f name ≤ line_cost f target) (names target)
+-- no device on which a sector of a line lies costs more than the line
+abbrev CoversBeneath : ((List ℕ → ℕ) → Target → ℕ) → Type 0
+CoversBeneath line_cost = (f : List ℕ → ℕ) (target : Target) (s : ℕ) (p : List ℕ × ℕ) → beneath target s ≡ Some p → f p.0 ≤ line_cost f target
 
-names_cost : CoversNames line_read_cost
-names_cost f (Linear base) = (omega arith, tt)
-names_cost f (Striped chunk bases) = each_name f bases _ (omega arith)
-names_cost f Zero = tt
-names_cost f Error = tt
+beneath_cost : CoversBeneath line_read_cost
+beneath_cost f (Linear base) s p e = of_beneath (λ name. f name ≤ line_read_cost f (Linear base)) (Linear base) s p (omega arith, tt) e
+beneath_cost f (Striped chunk bases) s p e = of_beneath (λ name. f name ≤ line_read_cost f (Striped chunk bases)) (Striped chunk bases) s p (each_name f bases _ (omega arith)) e
+beneath_cost f Zero s p e = cc
+beneath_cost f Error s p e = cc
+beneath_cost f (crypt_target crypt) s p e = of_beneath (λ name. f name ≤ line_read_cost f (crypt_target crypt)) (crypt_target crypt) s p (omega arith, tt) e
+beneath_cost f (verity_target verity) s p e = cc
 
-names_write_cost : CoversNames line_write_cost
-names_write_cost f (Linear base) = (omega arith, tt)
-names_write_cost f (Striped chunk bases) = each_name f bases _ (omega arith)
-names_write_cost f Zero = tt
-names_write_cost f Error = tt
+beneath_write_cost : CoversBeneath line_write_cost
+beneath_write_cost f (Linear base) s p e = of_beneath (λ name. f name ≤ line_write_cost f (Linear base)) (Linear base) s p (omega arith, tt) e
+beneath_write_cost f (Striped chunk bases) s p e = of_beneath (λ name. f name ≤ line_write_cost f (Striped chunk bases)) (Striped chunk bases) s p (each_name f bases _ (omega arith)) e
+beneath_write_cost f Zero s p e = cc
+beneath_write_cost f Error s p e = cc
+beneath_write_cost f (crypt_target crypt) s p e = of_beneath (λ name. f name ≤ line_write_cost f (crypt_target crypt)) (crypt_target crypt) s p (omega arith, tt) e
+beneath_write_cost f (verity_target verity) s p e = cc
 
 module _ (c : Configuration) (d l : ℕ) (line : Line) (s : ℕ) (p : List ℕ × ℕ) (lower : Lower) (valid : IsValid c) (at : IsLine c d l line) (under : beneath line.target s ≡ Some p) (is : named c p.0 ≡ Some lower) where
-  falls : (line_cost : (List ℕ → ℕ) → Target → ℕ) → IsLineLocal line_cost → CoversNames line_cost → descend 0 (cost_rule c line_cost) lower ≤ descend 0 (cost_rule c line_cost) (mapped d)
+  falls : (line_cost : (List ℕ → ℕ) → Target → ℕ) → IsLineLocal line_cost → CoversBeneath line_cost → descend 0 (cost_rule c line_cost) lower ≤ descend 0 (cost_rule c line_cost) (mapped d)
   falls line_cost local covers =
       let cost : Lower → ℕ = descend 0 (cost_rule c line_cost) in
       let by : List ℕ → ℕ = by_name c 0 cost in
       let all : List ℕ = map (λ (x : Line). line_cost by x.target) (lines_of c d) in
-      let here : by p.0 ≤ line_cost by line.target = of_beneath (λ name. by name ≤ line_cost by line.target) line.target s p (covers by line.target) under in
+      let here : by p.0 ≤ line_cost by line.target = covers by line.target s p under in
       let whole : line_cost by line.target ≤ greatest all =
       at_place (λ (x : Line). line_cost by x.target ≤ greatest all) (lines_of c d) l line (at_most_greatest (λ (x : Line). line_cost by x.target) (lines_of c d) (greatest all) (omega arith)) at in
       let same : by p.0 ≡ cost lower = ap (known 0 cost) is in
@@ -66,7 +70,7 @@ module _ (c : Configuration) (d l : ℕ) (line : Line) (s : ℕ) (p : List ℕ �
 
   -- a device on which a line's sector lies costs no more than the line's own
   pub cost-falls : read_cost c lower ≤ read_cost c (mapped d)
-  cost-falls = falls line_read_cost line_read_cost-local names_cost
+  cost-falls = falls line_read_cost line_read_cost-local beneath_cost
 
   pub write_cost-falls : write_cost c lower ≤ write_cost c (mapped d)
-  write_cost-falls = falls line_write_cost line_write_cost-local names_write_cost
+  write_cost-falls = falls line_write_cost line_write_cost-local beneath_write_cost

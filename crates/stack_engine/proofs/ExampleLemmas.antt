@@ -1,10 +1,11 @@
 -- Worked values of the definitions.
-use Rattle.std.proofs.Common.{◌≡◌, ℕ, List, [], ◌∷◌, ◌++◌, replicate, refl, codes, true, Ok, Err}
+use Rattle.std.proofs.Common.{◌≡◌, ℕ, List, [], ◌∷◌, ◌++◌, ◌-◌, ◌^◌, replicate, refl, codes, true, Ok, Err}
 use Rattle.block_device.specs.Device.{filled, ramp_image, zeros_image}
 use Rattle.dm_table.specs.declared.table.Base.{Base}
 use Rattle.dm_table.specs.declared.table.Line.{Line}
 use Rattle.dm_table.specs.declared.table.Target.{Target}
-use Rattle.dm_table.specs.declared.table.Target.TheVariants.{Linear, Striped, Zero, Error}
+use Rattle.dm_table.specs.declared.table.Target.TheVariants.{Linear, Striped, Zero, Error, Crypt as crypt_target}
+use Rattle.xts_sector.specs.Xts.{encrypted, decrypted}
 use Rattle.stack_loader.specs.Records.{Configuration, DeviceRecord, LeafRecord}
 use Rattle.stack_loader.specs.Names.{mapped}
 use Rattle.stack_loader.specs.Descend.{descend, read_cost}
@@ -142,3 +143,36 @@ overlapping = record {
 puts_overlapping : (put_on overlapping (mapped 0) 1 (x ∷ y ∷ []) (empty 4 ∷ []) ≡ done ((y ∷ x ∷ empty 2) ∷ [])) × ((said_at overlapping (mapped 0) 3).reaches ≡ (0, 1) ∷ [])
 unfolding descend
 puts_overlapping = (refl, refl)
+
+-- ---- units: their numbers count within the line, and wrap
+
+abbrev key : List ℕ
+key = replicate 32 7
+
+abbrev crypt : ℕ → List ℕ → ℕ → Target
+crypt iv_offset name offset = crypt_target (record { key = key; iv_offset = iv_offset; base = base name offset; options = [] })
+
+abbrev last : ℕ
+last = 2 ^ 64 - 1
+
+abbrev units : Configuration
+units = record {
+  leaves = leaf_of (codes "D") 8 ∷ [];
+  devices = dev (codes "a") (line 0 2 Zero ∷ line 2 4 (crypt last (codes "D") 3) ∷ [])
+      ∷ dev (codes "b") (line 0 6 (crypt 5 (codes "/dev/mapper/a") 0) ∷ []) ∷ [];
+}
+
+reads_units : (sector units (ramp_image 8 ∷ []) (mapped 0) 2 ≡ Ok (decrypted key last (filled 3))) × (sector units (ramp_image 8 ∷ []) (mapped 0) 3 ≡ Ok (decrypted key 0 (filled 4)))
+    × (sector units (ramp_image 8 ∷ []) (mapped 1) 3 ≡ Ok (decrypted key 8 (decrypted key 0 (filled 4))))
+unfolding descend
+reads_units = (refl, refl, refl)
+
+-- each line encrypts what it hands down
+puts_units : (put_on units (mapped 0) 1 (x ∷ y ∷ z ∷ []) (empty 8 ∷ []) ≡ done ((empty 3 ++ (encrypted key last y ∷ encrypted key 0 z ∷ empty 3)) ∷ []))
+    × (put_on units (mapped 1) 2 (x ∷ []) (empty 8 ∷ []) ≡ done ((empty 3 ++ (encrypted key last (encrypted key 7 x) ∷ empty 4)) ∷ []))
+unfolding descend
+puts_units = (refl, refl)
+
+reaches_units : ((said_at units (mapped 0) 3).reaches ≡ (0, 4) ∷ []) × ((said_at units (mapped 0) 1).encrypts ≡ ⊥) × ((said_at units (mapped 0) 2).encrypts ≡ Unit {0})
+unfolding descend
+reaches_units = (refl, refl, refl)

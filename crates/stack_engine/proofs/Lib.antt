@@ -5,6 +5,13 @@ pub mod LeafLemmas
 pub mod WriteLeafLemmas
 pub mod WritableLemmas
 pub mod StripeLemmas
+pub mod VerityLineLemmas
+pub mod BlockPartLemmas
 pub mod SourceLemmas
+pub mod EncryptLemmas
+pub mod CryptLemmas
+pub mod CryptReadLemmas
 pub mod WriteSourceLemmas
+pub mod CryptWriteLemmas
+pub mod HeldLemmas
 pub mod ExampleLemmas

@@ -8,7 +8,7 @@ use Rattle.std.proofs.lemmas.Option.{slice_get_within, get_or_from_slice_get}
 use Rattle.dm_table.specs.declared.table.Base.{Base}
 use Rattle.dm_table.specs.declared.table.Line.{Line}
 use Rattle.dm_table.specs.declared.table.Target.{Target}
-use Rattle.dm_table.specs.declared.table.Target.TheVariants.{Linear, Striped, Zero, Error}
+use Rattle.dm_table.specs.declared.table.Target.TheVariants.{Linear, Striped, Zero, Error, Crypt as crypt_target, Verity as verity_target}
 use Rattle.stack_loader.specs.declared.lower.Lower.{Lower}
 use Rattle.stack_loader.specs.declared.lower.Lower.TheVariants.{Leaf as leaf, Device as device}
 use Rattle.stack_loader.specs.Records.{Configuration, DeviceRecord, LeafRecord}
@@ -105,6 +105,8 @@ of_beneath P (Striped chunk bases) s p all e = stripe bases (s / chunk % length 
     stripe (base ∷ list) (suc k) all e = stripe list k all.1 e
 of_beneath P Zero s p all e = cc
 of_beneath P Error s p all e = cc
+of_beneath P (crypt_target crypt) s p all e = let same : (crypt.base.device, crypt.base.offset + s) ≡ p = cc in subst (λ (q : List ℕ × ℕ). P q.0) same all.0
+of_beneath P (verity_target verity) s p all e = cc
 
 -- a device on which a line's sector lies has a smaller depth
 pub depth-falls : (c : Configuration) (d l : ℕ) (line : Line) (s : ℕ) (p : List ℕ × ℕ) (lower : Lower) → IsValid c → IsLine c d l line → beneath line.target s ≡ Some p → named c p.0 ≡ Some lower

@@ -1,27 +1,36 @@
 -- What is read from where a device's sectors come from, and what is read of the device.
-use Rattle.std.proofs.Common.{◌≡◌, ℕ, ◌+◌, ◌-◌, ◌*◌, ◌<◌, ◌≤◌, List, length, ◌++◌, take, replicate, Option, Result, Ok, Err, refl, sym, ap, ◌∙◌, subst, arith}
+use Rattle.std.proofs.Common.{◌≡◌, ℕ, ◌+◌, ◌-◌, ◌*◌, ◌<◌, ◌≤◌, List, length, ◌++◌, take, replicate, Option, Some, Result, Ok, Err, refl, sym, ap, ◌∙◌, subst, arith}
+use Rattle.std.specs.Prelude.{slice_get}
 use Rattle.std.proofs.lemmas.List.{take-replicate, drop-replicate, length-replicate}
 use Rattle.block_device.specs.Device.{Device}
+use Rattle.dm_table.specs.declared.table.Line.{Line}
 use Rattle.dm_table.specs.declared.table.Target.{Target}
+use Rattle.dm_table.specs.declared.table.Target.TheVariants.{Crypt as crypt_target}
 use Rattle.stack_loader.specs.declared.lower.Lower.{Lower}
 use Rattle.stack_loader.specs.declared.lower.Lower.TheVariants.{Leaf}
 use Rattle.stack_loader.specs.Records.{Configuration}
-use Rattle.stack_loader.specs.Names.{mapped}
+use Rattle.stack_loader.specs.Names.{mapped, lines_of}
+use Rattle.stack_loader.specs.Lines.{IsLine}
 use Rattle.stack_loader.specs.Descend.{known, depth, read_cost}
 use Rattle.stack_loader.specs.Rules.{IsLoaded}
 use Rattle.stack_engine.specs.declared.fault.IoFault.{IoFault}
 use Rattle.stack_engine.specs.declared.fault.IoFault.TheVariants as io
+use Rattle.stack_engine.specs.declared.source.BlockPart.{BlockPart}
 use Rattle.stack_engine.specs.declared.source.Source.{Source}
-use Rattle.stack_engine.specs.declared.source.Source.TheVariants.{Below, Zeros, Fails}
-use Rattle.stack_engine.specs.Outcomes.{error_target, zero_sector}
-use Rattle.stack_engine.specs.Found.{FoundRecord, AllKept}
-use Rattle.stack_engine.specs.Meaning.{Said, none_said, line_said, said_at}
-use Rattle.stack_engine.specs.May.{part}
+use Rattle.stack_engine.specs.declared.source.Source.TheVariants.{Below, Encrypted, Zeros, Fails, Block}
+use Rattle.stack_engine.specs.Units.{unit_number, decrypted_unit}
+use Rattle.xts_sector.specs.Xts.{decrypted}
+use Rattle.stack_engine.proofs.lemmas.UnitLemmas.{unit-later}
+use Rattle.stack_engine.specs.Outcomes.{error_target, zero_sector, part}
+use Rattle.stack_engine.specs.Found.{FoundRecord}
+use Rattle.stack_engine.specs.Kept.{AllKept}
+use Rattle.stack_engine.specs.Beneath.{beneath, said_or}
+use Rattle.stack_engine.specs.Meaning.{Said, none_said, crypt_said, line_said, said_at, said_by_name}
 use Rattle.stack_engine.specs.Leaves.{images_of}
 use Rattle.stack_engine.specs.Places.{place_of, run_expected, Read}
-use Rattle.stack_engine.specs.Sources.{ComeFrom, IsServed, source_said, source_cost, source_place, source_depth, SourceHolds, ReadsSource}
+use Rattle.stack_engine.specs.Sources.{line_key, LieInBlock, BeginsAt, ComeFrom, IsServed, said_of_line, part_said, source_said, source_cost, source_place, source_depth, SourceHolds, ReadsSource}
 use Rattle.stack_engine.specs.Reading.{Gets, Reads}
-use Rattle.stack_engine.proofs.lemmas.SectorLemmas.{said_by_name, said_at-line, line_said-beneath}
+use Rattle.stack_engine.proofs.lemmas.SectorLemmas.{said_at-line, line_said-beneath}
 use Rattle.stack_engine.proofs.CostLemmas.{cost-falls}
 use Rattle.stack_engine.proofs.LoadedLemmas.{depth-falls}
 use Rattle.stack_engine.proofs.lemmas.LeafListLemmas.{AreRead-none}
@@ -31,38 +40,72 @@ use Rattle.stack_engine.proofs.lemmas.RunLemmas.{run_ok, run_err, Passes, pass}
 
 -- ---- what is said of the sectors where those of a device come from
 
-module _ (c : Configuration) (d l : ℕ) (target : Target) (w n j : ℕ) (below : j < n) where
-  come-said : (source : Source) → ComeFrom c target w n source → line_said (said_by_name c) d l target (w + j) ≡ source_said c source j
+-- a part of line l of device d from its sector w on
+part-said : (c : Configuration) (d l w j : ℕ) (line : Line) (b : BlockPart) → IsLine c d l line → BeginsAt d l w b → part_said c b j ≡ line_said (said_by_name c) d l line.target (w + j)
+part-said c d l w j line b is begins =
+    ap (λ (k : ℕ). said_of_line c k b.line (slice_get (lines_of c k) b.line) (b.first + j)) begins.0
+    ∙ ap (λ (k : ℕ). said_of_line c d k (slice_get (lines_of c d) k) (b.first + j)) begins.1
+    ∙ ap (λ (k : ℕ). said_of_line c d l (slice_get (lines_of c d) l) (k + j)) begins.2
+    ∙ ap (λ (o : Option Line). said_of_line c d l o (w + j)) is
+
+module _ (c : Configuration) (d l : ℕ) (line : Line) (is : IsLine c d l line) (w n j : ℕ) (below : j < n) where
+  come-said : (source : Source) → ComeFrom c (d, l) line.target w n source → line_said (said_by_name c) d l line.target (w + j) ≡ source_said c source j
   come-said (Below lower first) come =
       let on = come.1 in
-      line_said-beneath (said_by_name c) d l target (w + j) (on.name, first + j) come.0 (on.under j below)
+      line_said-beneath (said_by_name c) d l line.target (w + j) (on.name, first + j) come.0 (on.under j below)
       ∙ ap (λ (o : Option Lower). known {A = ℕ → Said} (λ t. none_said) (said_at c) o (first + j)) on.is
+  come-said (Encrypted e k unit lower first) come =
+      let unit_is = come.0 in
+      let on = come.1 in
+      let crypt = unit_is.crypt in
+      let there : beneath (crypt_target crypt) (w + j) ≡ Some (on.name, first + j) = ap (λ (t : Target). beneath t (w + j)) (sym unit_is.is) ∙ on.under j below in
+      let number : unit_number crypt.iv_offset (w + j) ≡ unit_number unit j = unit-later crypt.iv_offset w j ∙ ap (λ (i : ℕ). unit_number i j) (sym unit_is.number) in
+      ap (λ (t : Target). line_said (said_by_name c) d l t (w + j)) unit_is.is
+      ∙ ap (λ (o : Option (List ℕ × ℕ)). crypt_said (decrypted_unit crypt.key crypt.iv_offset (w + j)) (said_or none_said (said_by_name c) o)) there
+      ∙ ap (λ (o : Option Lower). crypt_said (decrypted_unit crypt.key crypt.iv_offset (w + j)) (known {A = ℕ → Said} (λ t. none_said) (said_at c) o (first + j))) on.is
+      ∙ ap (λ (key : List ℕ). crypt_said (decrypted_unit key crypt.iv_offset (w + j)) (said_at c lower (first + j))) (sym unit_is.key)
+      ∙ ap (λ (i : ℕ). crypt_said (decrypted (line_key c e.0 k) i) (said_at c lower (first + j))) number
   come-said Zeros come = ap (λ (t : Target). line_said (said_by_name c) d l t (w + j)) come
   come-said Fails come = ap (λ (t : Target). line_said (said_by_name c) d l t (w + j)) come
+  come-said (Block b) come = sym (part-said c d l w j line b is come.0)
 
 pub served-said : (c : Configuration) (d s n j : ℕ) (source : Source) → IsLoaded c → j < n → IsServed c d s n source → source_said c source j ≡ said_at c (mapped d) (s + j)
 served-said c d s n j source loaded below r =
-    sym (said_at-line c loaded.valid d s j r.number r.line r.found r.start (omega (arith, below, r.fits)) ∙ come-said c d r.number r.line.target (s - r.line.start) n j below source r.come)
+    sym (said_at-line c loaded.valid d s j r.number r.line r.found r.start (omega (arith, below, r.fits)) ∙ come-said c d r.number r.line r.is (s - r.line.start) n j below source r.come)
 
 pub served-cost : (c : Configuration) (d s n : ℕ) (source : Source) → IsLoaded c → 0 < n → IsServed c d s n source → source_cost c source ≤ read_cost c (mapped d)
 served-cost c d s n (Below lower first) loaded some r =
     let on = r.come.1 in
     cost-falls c d r.number r.line (s - r.line.start + 0) (on.name, first + 0) lower loaded.valid r.is (on.under 0 some) on.is
+served-cost c d s n (Encrypted e k unit lower first) loaded some r =
+    let on = r.come.1 in
+    cost-falls c d r.number r.line (s - r.line.start + 0) (on.name, first + 0) lower loaded.valid r.is (on.under 0 some) on.is
 served-cost c d s n Zeros loaded some r = omega arith
 served-cost c d s n Fails loaded some r = omega arith
+served-cost c d s n (Block b) loaded some r = let same : read_cost c (mapped b.device.0) ≡ read_cost c (mapped d) = ap (λ (k : ℕ). read_cost c (mapped k)) r.come.0.0 in omega (arith, same)
 
 -- the lower device stands less deep
 pub served-depth : (c : Configuration) (d s n : ℕ) (source : Source) → IsLoaded c → 0 < n → IsServed c d s n source → source_depth c source ≤ depth c (mapped d)
 served-depth c d s n (Below lower first) loaded some r =
     let on = r.come.1 in
     let falls = depth-falls c d r.number r.line (s - r.line.start + 0) (on.name, first + 0) lower loaded.valid r.is (on.under 0 some) on.is in omega (arith, falls)
+served-depth c d s n (Encrypted e k unit lower first) loaded some r =
+    let on = r.come.1 in
+    let falls = depth-falls c d r.number r.line (s - r.line.start + 0) (on.name, first + 0) lower loaded.valid r.is (on.under 0 some) on.is in omega (arith, falls)
 served-depth c d s n Zeros loaded some r = omega arith
 served-depth c d s n Fails loaded some r = omega arith
+served-depth c d s n (Block b) loaded some r = let same : depth c (mapped b.device.0) ≡ depth c (mapped d) = ap (λ (k : ℕ). depth c (mapped k)) r.come.0.0 in omega (arith, same)
 
 pub served-holds : (c : Configuration) (d s n : ℕ) (source : Source) → IsServed c d s n source → SourceHolds c source n
 served-holds c d s n (Below lower first) r = r.come.1.inside
+served-holds c d s n (Encrypted e k unit lower first) r = (r.come.1.inside, r.come.0.has)
 served-holds c d s n Zeros r = tt
 served-holds c d s n Fails r = tt
+served-holds c d s n (Block b) r =
+    let w : ℕ = s - r.line.start in
+    subst (λ (k : ℕ). LieInBlock c k b.line b.first n) (sym r.come.0.0)
+    (subst (λ (k : ℕ). LieInBlock c d k b.first n) (sym r.come.0.1)
+    (subst (λ (k : ℕ). LieInBlock c d r.number k n) (sym r.come.0.2) r.come.1))
 
 -- ---- reads
 

@@ -28,25 +28,25 @@ pub names-at : (c : Configuration) (d l : ℕ) (line : Line) → IsLine c d l li
 names-at c d l line is = ap (λ (o : Option Line). option_map_or (λ (x : Line). names x.target) o []) is
 
 -- what the i-th name of a line means
-named-by : (c : Configuration) (d l i : ℕ) (target : Target) (name : List ℕ) (lower : Lower) → names_at c d l ≡ names target → slice_get (names target) i ≡ Some name → lower_at c d l i ≡ Some lower → named c name ≡ Some lower
+pub named-by : (c : Configuration) (d l i : ℕ) (target : Target) (name : List ℕ) (lower : Lower) → names_at c d l ≡ names target → slice_get (names target) i ≡ Some name → lower_at c d l i ≡ Some lower → named c name ≡ Some lower
 named-by c d l i target name lower all at is =
     sym (ap (option_and_then (named c)) at) ∙ sym (ap (λ (ns : List (List ℕ)). option_and_then (named c) (slice_get ns i)) all) ∙ is
 
 -- a range that doesn't end past the device that is named
-inside_named : (c : Configuration) (name : List ℕ) (lower : Lower) (end : ℕ) → ends_past c name end ≡ false → named c name ≡ Some lower → end ≤ size c lower
+pub inside_named : (c : Configuration) (name : List ℕ) (lower : Lower) (end : ℕ) → ends_past c name end ≡ false → named c name ≡ Some lower → end ≤ size c lower
 inside_named c name lower end h is = ltb-false (size c lower) end (sym (ap (λ (o : Option Lower). option_map_or (λ lower. nat_lt (size c lower) end) o true) is) ∙ h)
 
-small_named : (c : Configuration) (name : List ℕ) (end : ℕ) → IsLoaded c → ends_past c name end ≡ false → end ≤ most_sectors
+pub small_named : (c : Configuration) (name : List ℕ) (end : ℕ) → IsLoaded c → ends_past c name end ≡ false → end ≤ most_sectors
 small_named c name end loaded h = go (named c name) refl
   where
     go : (o : Option Lower) → named c name ≡ o → end ≤ most_sectors
     go None e = let clash : true ≡ false = sym (ap (λ (o : Option Lower). option_map_or (λ lower. nat_lt (size c lower) end) o true) e) ∙ h in cc
     go (Some lower) e = omega (arith, inside_named c name lower end h e, size-small c lower loaded)
 
-target-names : (c : Configuration) (d l n : ℕ) (target : Target) → HasTarget c d l target n → names_at c d l ≡ names target
+pub target-names : (c : Configuration) (d l n : ℕ) (target : Target) → HasTarget c d l target n → names_at c d l ≡ names target
 target-names c d l n target t = names-at c d l t.line t.is ∙ ap names t.has
 
-target-inside : (c : Configuration) (d l n : ℕ) (target : Target) → IsLoaded c → (t : HasTarget c d l target n) → is_beyond c t.line.length target ≡ false
+pub target-inside : (c : Configuration) (d l n : ℕ) (target : Target) → IsLoaded c → (t : HasTarget c d l target n) → is_beyond c t.line.length target ≡ false
 target-inside c d l n target loaded t = sym (ap (is_beyond c t.line.length) t.has) ∙ line-inside c d l t.line loaded.valid t.is
 
 target-divided : (c : Configuration) (d l n : ℕ) (target : Target) → IsLoaded c → (t : HasTarget c d l target n) → is_undivided t.line.length target ≡ false

@@ -1,12 +1,6 @@
 -- What a read finds on its way: chains of verity lines, each from the root digest down to a data block.
 use Rattle.std.specs.Prelude.{◌≡◌, ◌≢◌, ℕ, List, ◌++◌, Contains, All, AllPairs}
 use Rattle.hash_tree.specs.Chain.{ChainRecord}
-use Rattle.block_device.specs.Device.{Device}
-use Rattle.dm_table.specs.declared.table.Line.{Line}
-use Rattle.dm_table.specs.declared.table.Target.{Target}
-use Rattle.dm_table.specs.declared.table.Target.TheVariants.{Linear, Striped, Zero, Error}
-use Rattle.stack_loader.specs.Records.{Configuration}
-use Rattle.stack_loader.specs.Lines.{IsLine}
 use Rattle.stack_engine.specs.Sectors.{SomeOf}
 
 -- a chain, and the line that gave it: device and line count from 0
@@ -36,19 +30,3 @@ pub record Grown (entries : ℕ → List Entry) (first n : ℕ) (old new : List 
   pub is : new ≡ old ++ added
   pub used : AreUsed entries first n added
   pub distinct : AreDistinct old → AreDistinct new
-
--- What holds of a chain that such a line gave, while the leaves are these. No line gives one yet.
-abbrev pub LineKeeps : Configuration → List Device → Target → ChainRecord → Type 0
-LineKeeps c leaves (Linear base) chain = ⊥
-LineKeeps c leaves (Striped chunk bases) chain = ⊥
-LineKeeps c leaves Zero chain = ⊥
-LineKeeps c leaves Error chain = ⊥
-
--- what holds of a chain that was found: it has its line, and what this line keeps
-pub record IsKept (c : Configuration) (leaves : List Device) (x : FoundRecord) : Type 0 where
-  pub line : Line
-  pub is : IsLine c x.device x.line line
-  pub keeps : LineKeeps c leaves line.target x.chain
-
-abbrev pub AllKept : Configuration → List Device → List FoundRecord → Type 0
-AllKept c leaves found = All (IsKept c leaves) found

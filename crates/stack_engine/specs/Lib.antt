@@ -1,13 +1,17 @@
 pub mod Sectors
 pub mod Outcomes
+pub mod Units
 pub mod Beneath
 pub mod Found
+pub mod Blocks
 pub mod Meaning
 pub mod May
 pub mod Leaves
+pub mod Kept
 pub mod Places
 pub mod Reading
 pub mod Sources
+pub mod Walks
 pub mod Caches
 pub mod Puts
 pub mod Changes
@@ -16,3 +20,4 @@ pub mod Stacks
 pub mod Pieces
 pub mod WritePieces
 pub mod IoFaults
+pub mod Laws

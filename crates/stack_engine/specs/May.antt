@@ -1,15 +1,11 @@
 -- What a read of sectors may answer over devices that answer anything.
-use Rattle.std.specs.Prelude.{◌≡◌, ℕ, ◌+◌, ◌*◌, ◌<◌, List, length, take, drop}
+use Rattle.std.specs.Prelude.{◌≡◌, ℕ, ◌+◌, ◌*◌, ◌<◌, List, length}
 use Rattle.stack_loader.specs.declared.lower.Lower.{Lower}
 use Rattle.stack_loader.specs.Records.{Configuration}
 use Rattle.stack_engine.specs.Sectors.{SomeOf}
-use Rattle.stack_engine.specs.Outcomes.{Fault}
+use Rattle.stack_engine.specs.Outcomes.{Fault, part}
 use Rattle.stack_engine.specs.Found.{FoundRecord, AreDistinct, AreUsed}
 use Rattle.stack_engine.specs.Meaning.{said_at}
-
--- the j-th sector of some bytes
-abbrev pub part : List ℕ → ℕ → List ℕ
-part bytes j = take 512 (drop (512 * j) bytes)
 
 -- n sectors from the first on, each of which is so
 pub record IsRun (Is : ℕ → List ℕ → Type 0) (first n : ℕ) (bytes : List ℕ) : Type 0 where

@@ -3,7 +3,7 @@ use Rattle.std.specs.Prelude.{ℕ, suc, ◌+◌, ◌%◌, Bool, true, false, nat
 use Rattle.std.specs.List.{slice_index_or}
 use Rattle.std.specs.Option.{option_map_or}
 use Rattle.block_device.specs.Device.{spliced}
-use Rattle.dm_table.specs.declared.table.Target.TheVariants.{Linear, Striped, Zero, Error}
+use Rattle.dm_table.specs.declared.table.Target.TheVariants.{Linear, Striped, Zero, Error, Crypt as crypt_target, Verity as verity_target}
 use Rattle.stack_loader.specs.declared.lower.Lower.{Lower}
 use Rattle.stack_loader.specs.declared.lower.Lower.TheVariants.{Leaf as leaf, Device as device}
 use Rattle.stack_loader.specs.Records.{Configuration}
@@ -11,6 +11,7 @@ use Rattle.stack_loader.specs.Descend.{descend}
 use Rattle.stack_loader.specs.Lines.{line_at}
 use Rattle.stack_engine.specs.Sectors.{OnLine, sector_rule}
 use Rattle.stack_engine.specs.Outcomes.{Fault, error_target, Images}
+use Rattle.stack_engine.specs.Units.{encrypted_unit, changed_from}
 use Rattle.stack_engine.specs.Beneath.{beneath, said_or}
 
 -- the images that a write leaves: all was put, or a fault ended it
@@ -73,6 +74,8 @@ line_put at d l (Linear base) s sectors images = said_or none_put at (beneath (L
 line_put at d l (Striped chunk bases) s sectors images = put_runs (λ t. said_or none_put at (beneath (Striped chunk bases) t)) (runs_from (in_one_chunk chunk) s sectors) images
 line_put at d l Zero s sectors images = done images
 line_put at d l Error s sectors images = stopped error_target images
+line_put at d l (crypt_target crypt) s sectors images = said_or none_put at (beneath (crypt_target crypt) s) (changed_from (encrypted_unit crypt.key crypt.iv_offset) s sectors) images
+line_put at d l (verity_target verity) s sectors images = done images
 
 -- a run from sector s of a leaf or device on: a device's is cut at its lines
 abbrev pub put_rule : Configuration → (Lower → ℕ → Putting) → Lower → ℕ → Putting

@@ -7,7 +7,8 @@ use Rattle.stack_engine.specs.declared.fault.IoFault.{IoFault}
 use Rattle.stack_engine.specs.declared.fault.IoFault.TheVariants as io
 use Rattle.stack_engine.specs.Outcomes.{Fault, error_target, mismatch, Outcome}
 use Rattle.stack_engine.specs.Leaves.{images_of, AllSteady, AreRead, LeafFailed}
-use Rattle.stack_engine.specs.Found.{Grown, AllKept}
+use Rattle.stack_engine.specs.Found.{Grown}
+use Rattle.stack_engine.specs.Kept.{AllKept}
 use Rattle.stack_engine.specs.Places.{Place, place_of, Expected, run_expected, Read}
 
 -- Whatever the leaves answer: with an x that is so, or by a fault that may come. The number of a leaf

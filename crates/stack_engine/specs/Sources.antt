@@ -1,18 +1,25 @@
--- Where the sectors of a device come from, as the engine reads them: from a lower device, as zeros, or not at all.
-use Rattle.std.specs.Prelude.{◌≡◌, ℕ, ◌+◌, ◌-◌, ◌<◌, ◌≤◌, List, Some, Result}
+-- Where the sectors of a device come from, as the engine reads them: from a lower device, as they are or encrypted
+-- there, as zeros, not at all, or from a data block that is checked.
+use Rattle.std.specs.Prelude.{◌≡◌, ℕ, ◌+◌, ◌-◌, ◌%◌, ◌<◌, ◌≤◌, IsTrue, List, [], length, slice_get, Option, Some, None, is_some, Result}
+use Rattle.std.specs.Option.{option_map_or}
+use Rattle.dm_table.specs.declared.crypt.Crypt.{Crypt}
+use Rattle.dm_table.specs.declared.verity.Verity.{Verity}
 use Rattle.dm_table.specs.declared.table.Line.{Line}
 use Rattle.dm_table.specs.declared.table.Target.{Target}
-use Rattle.dm_table.specs.declared.table.Target.TheVariants.{Zero, Error}
+use Rattle.dm_table.specs.declared.table.Target.TheVariants.{Zero, Error, Crypt as crypt_target, Verity as verity_target}
 use Rattle.stack_loader.specs.declared.lower.Lower.{Lower}
 use Rattle.stack_loader.specs.Records.{Configuration}
-use Rattle.stack_loader.specs.Names.{named, size}
+use Rattle.stack_loader.specs.Names.{mapped, named, lines_of, size}
 use Rattle.stack_loader.specs.Descend.{depth, read_cost}
-use Rattle.stack_loader.specs.Lines.{line_at, IsLine}
+use Rattle.stack_loader.specs.Lines.{line_at, IsLine, key_at}
+use Rattle.stack_loader.specs.Trees.{block_sectors}
 use Rattle.stack_engine.specs.declared.fault.IoFault.{IoFault}
+use Rattle.stack_engine.specs.declared.source.BlockPart.{BlockPart}
 use Rattle.stack_engine.specs.declared.source.Source.{Source}
-use Rattle.stack_engine.specs.declared.source.Source.TheVariants.{Below, Zeros, Fails}
+use Rattle.stack_engine.specs.declared.source.Source.TheVariants.{Below, Encrypted, Zeros, Fails, Block}
+use Rattle.stack_engine.specs.Units.{unit_number, decrypted_unit}
 use Rattle.stack_engine.specs.Beneath.{beneath, HandsOn}
-use Rattle.stack_engine.specs.Meaning.{Said, said_at, zero_said, error_said}
+use Rattle.stack_engine.specs.Meaning.{Said, none_said, zero_said, error_said, crypt_said, line_said, said_at, said_by_name}
 use Rattle.stack_engine.specs.Places.{Place, Read}
 use Rattle.stack_engine.specs.Reading.{Finds}
 
@@ -23,11 +30,22 @@ pub record LieOn (c : Configuration) (target : Target) (w n : ℕ) (lower : Lowe
   pub under : (j : ℕ) → j < n → beneath target (w + j) ≡ Some (name, first + j)
   pub inside : first + n ≤ size c lower
 
--- they come from there
-abbrev pub ComeFrom : Configuration → Target → ℕ → ℕ → Source → Type 0
-ComeFrom c target w n (Below lower first) = HandsOn target × LieOn c target w n lower first
-ComeFrom c target w n Zeros = target ≡ Zero
-ComeFrom c target w n Fails = target ≡ Error
+-- line l of device d has a key
+pub record HasKey (c : Configuration) (d l : ℕ) : Type 0 where
+  pub device : d < length c.devices
+  pub key : IsTrue (is_some (key_at c d l))
+
+-- the key of a line, where it has one
+abbrev pub line_key : Configuration → ℕ → ℕ → List ℕ
+line_key c d l = option_map_or (λ key. key) (key_at c d l) []
+
+-- sector w of a line is the unit of that number under the key of line l of device d
+pub record IsUnit (c : Configuration) (target : Target) (w d l unit : ℕ) : Type 0 where
+  pub crypt : Crypt
+  pub is : target ≡ crypt_target crypt
+  pub has : HasKey c d l
+  pub key : line_key c d l ≡ crypt.key
+  pub number : unit ≡ unit_number crypt.iv_offset w
 
 -- n sectors of line l of device d, which has that target
 pub record HasTarget (c : Configuration) (d l : ℕ) (target : Target) (n : ℕ) : Type 0 where
@@ -35,6 +53,24 @@ pub record HasTarget (c : Configuration) (d l : ℕ) (target : Target) (n : ℕ)
   pub is : IsLine c d l line
   pub has : line.target ≡ target
   pub fits : n ≤ line.length
+
+-- n sectors of a verity line, the l-th of device d, from its sector w on lie in one data block
+pub record LieInBlock (c : Configuration) (d l w n : ℕ) : Type 0 where
+  pub verity : Verity
+  pub has : HasTarget c d l (verity_target verity) (w + n)
+  pub within : w % block_sectors verity + n ≤ block_sectors verity
+
+-- the part begins at sector w of line l of device d
+abbrev pub BeginsAt : ℕ → ℕ → ℕ → BlockPart → Type 0
+BeginsAt d l w b = (b.device.0 ≡ d) × (b.line ≡ l) × (b.first ≡ w)
+
+-- n sectors of a line of that target, its device's and its own number at hand, from its sector w on, come from there
+abbrev pub ComeFrom : Configuration → ℕ × ℕ → Target → ℕ → ℕ → Source → Type 0
+ComeFrom c at target w n (Below lower first) = HandsOn target × LieOn c target w n lower first
+ComeFrom c at target w n (Encrypted d l unit lower first) = IsUnit c target w d.0 l unit × LieOn c target w n lower first
+ComeFrom c at target w n Zeros = target ≡ Zero
+ComeFrom c at target w n Fails = target ≡ Error
+ComeFrom c at target w n (Block b) = BeginsAt at.0 at.1 w b × LieInBlock c at.0 at.1 w n
 
 -- n sectors of device d from s on lie in one line, and come from there
 pub record IsServed (c : Configuration) (d s n : ℕ) (source : Source) : Type 0 where
@@ -44,19 +80,31 @@ pub record IsServed (c : Configuration) (d s n : ℕ) (source : Source) : Type 0
   pub is : IsLine c d number line
   pub start : line.start ≤ s
   pub fits : s + n ≤ line.start + line.length
-  pub come : ComeFrom c line.target (s - line.start) n source
+  pub come : ComeFrom c (d, number) line.target (s - line.start) n source
+
+-- what is said of sector s of line l of device d, where the line was looked for
+abbrev pub said_of_line : Configuration → ℕ → ℕ → Option Line → ℕ → Said
+said_of_line c d l None s = none_said
+said_of_line c d l (Some line) s = line_said (said_by_name c) d l line.target s
+
+abbrev pub part_said : Configuration → BlockPart → ℕ → Said
+part_said c b j = said_of_line c b.device.0 b.line (slice_get (lines_of c b.device.0) b.line) (b.first + j)
 
 -- what is said of its sector j
 abbrev pub source_said : Configuration → Source → ℕ → Said
 source_said c (Below lower first) j = said_at c lower (first + j)
+source_said c (Encrypted d l unit lower first) j = crypt_said (decrypted_unit (line_key c d.0 l) unit j) (said_at c lower (first + j))
 source_said c Zeros j = zero_said
 source_said c Fails j = error_said
+source_said c (Block b) j = part_said c b j
 
 -- the leaf sectors that are read for one of its sectors at most
 abbrev pub source_cost : Configuration → Source → ℕ
 source_cost c (Below lower first) = read_cost c lower
+source_cost c (Encrypted d l unit lower first) = read_cost c lower
 source_cost c Zeros = 0
 source_cost c Fails = 0
+source_cost c (Block b) = read_cost c (mapped b.device.0)
 
 abbrev pub source_place : Configuration → Source → Place
 source_place c source = record { said = source_said c source; cost = source_cost c source }
@@ -64,14 +112,18 @@ source_place c source = record { said = source_said c source; cost = source_cost
 -- how deep the devices stand, for the measure of the recursion
 abbrev pub source_depth : Configuration → Source → ℕ
 source_depth c (Below lower first) = depth c lower + 1
+source_depth c (Encrypted d l unit lower first) = depth c lower + 1
 source_depth c Zeros = 0
 source_depth c Fails = 0
+source_depth c (Block b) = depth c (mapped b.device.0)
 
--- n sectors of it lie inside the lower device
+-- n sectors of it lie inside the lower device, and it has its key; or they lie in one data block
 abbrev pub SourceHolds : Configuration → Source → ℕ → Type 0
 SourceHolds c (Below lower first) n = first + n ≤ size c lower
+SourceHolds c (Encrypted d l unit lower first) n = (first + n ≤ size c lower) × HasKey c d.0 l
 SourceHolds c Zeros n = Unit {0}
 SourceHolds c Fails n = Unit {0}
+SourceHolds c (Block b) n = LieInBlock c b.device.0 b.line b.first n
 
 -- a read of its first n sectors
 abbrev pub ReadsSource : Configuration → Source → ℕ → Read → Result (List ℕ) IoFault → Type 0

@@ -1,5 +1,5 @@
 -- Contracts of writes.
-use Rattle.std.specs.Prelude.{◌≡◌, ℕ, ◌+◌, ◌-◌, ◌*◌, ◌/◌, ◌%◌, ◌<◌, ◌≤◌, IsTrue, List, length, Result, Ok, Err}
+use Rattle.std.specs.Prelude.{◌≡◌, ℕ, ◌+◌, ◌-◌, ◌*◌, ◌/◌, ◌%◌, ◌<◌, ◌≤◌, ◌⊎◌, IsTrue, List, [], ◌++◌, length, drop, Result, Ok, Err}
 use Rattle.block_device.specs.Device.{Device, sectors_of}
 use Rattle.stack_loader.specs.declared.lower.Lower.{Lower}
 use Rattle.stack_loader.specs.Records.{Configuration}
@@ -8,14 +8,15 @@ use Rattle.stack_loader.specs.Descend.{write_cost}
 use Rattle.stack_engine.specs.declared.fault.IoFault.{IoFault}
 use Rattle.stack_engine.specs.declared.fault.IoFault.TheVariants as io
 use Rattle.stack_engine.specs.declared.source.Source.{Source}
-use Rattle.stack_engine.specs.declared.source.Source.TheVariants.{Below, Zeros, Fails}
+use Rattle.stack_engine.specs.declared.source.Source.TheVariants.{Below, Encrypted, Zeros, Fails, Block}
+use Rattle.stack_engine.specs.Units.{encrypted_unit, changed_from}
 use Rattle.stack_engine.specs.Sectors.{SomeOf}
 use Rattle.stack_engine.specs.Outcomes.{Fault, error_target, mismatch, Images}
 use Rattle.stack_engine.specs.Meaning.{Said, said_at}
 use Rattle.stack_engine.specs.Puts.{Put, done, stopped, Putting, put_on}
 use Rattle.stack_engine.specs.Leaves.{images_of, AllSteady, LeafFailed}
 use Rattle.stack_engine.specs.Changes.{reached, AreWritten}
-use Rattle.stack_engine.specs.Sources.{source_said}
+use Rattle.stack_engine.specs.Sources.{line_key, source_said}
 
 -- the bytes of whole sectors, at least one
 pub record AreSectors (bytes : List ℕ) : Type 0 where
@@ -54,6 +55,21 @@ pub record Destination : Type 1 where
 abbrev pub destination_of : Configuration → Lower → Destination
 destination_of c lower = record { said = said_at c lower; puts = put_on c lower; cost = write_cost c lower }
 
+-- a write encrypts some of n sectors from the first on
+abbrev pub SomeEncrypt : (ℕ → Said) → ℕ → ℕ → Type 0
+SomeEncrypt said first n = SomeOf (λ s. (said s).encrypts) first n
+
+-- The bytes of a write: a buffer's, where they may be encrypted on the way, or the caller's, where none is. The
+-- other ones are none.
+pub record AreHeld (said : ℕ → Said) (first : ℕ) (plain buffer : List ℕ) : Type 0 where
+  pub sectors : AreSectors (plain ++ buffer)
+  pub one : (plain ≡ []) ⊎ ((buffer ≡ []) × (SomeEncrypt said first (length plain / 512) → ⊥))
+
+-- a buffer for a write of some bytes: it has all of them where some may be encrypted, and else none
+pub record IsBufferFor (said : ℕ → Said) (first : ℕ) (bytes buffer : List ℕ) : Type 0 where
+  pub held : AreHeld said first (drop (length buffer) bytes) buffer
+  pub same : drop (length buffer) bytes ++ buffer ≡ bytes
+
 -- a write of sectors from the first on, all of whose growths were made before it
 pub record Writes (to : Destination) (first : ℕ) (sectors : List (List ℕ)) (old new : List Device) (result : Result Unit IoFault) : Type 0 where
   pub moved : AreWritten (reached (λ s. (to.said s).reaches) first (length sectors)) old (length sectors * to.cost) new
@@ -66,20 +82,26 @@ pub record Writes (to : Destination) (first : ℕ) (sectors : List (List ℕ)) (
 -- what a put of sectors from its j-th on does
 abbrev pub source_put : Configuration → Source → ℕ → Putting
 source_put c (Below lower first) j sectors images = put_on c lower (first + j) sectors images
+source_put c (Encrypted d l unit lower first) j sectors images = put_on c lower (first + j) (changed_from (encrypted_unit (line_key c d.0 l) unit) j sectors) images
 source_put c Zeros j sectors images = done images
 source_put c Fails j sectors images = stopped error_target images
+source_put c (Block b) j sectors images = done images
 
 -- the leaf sectors that are written for one of its sectors at most
 abbrev pub source_write_cost : Configuration → Source → ℕ
 source_write_cost c (Below lower first) = write_cost c lower
+source_write_cost c (Encrypted d l unit lower first) = write_cost c lower
 source_write_cost c Zeros = 0
 source_write_cost c Fails = 0
+source_write_cost c (Block b) = 0
 
--- what it lies on may be written
+-- what it lies on may be written; a verity line's block never is
 abbrev pub SourceMayWrite : Configuration → Source → Type 0
 SourceMayWrite c (Below lower first) = IsTrue (may_write c lower)
+SourceMayWrite c (Encrypted d l unit lower first) = IsTrue (may_write c lower)
 SourceMayWrite c Zeros = Unit {0}
 SourceMayWrite c Fails = Unit {0}
+SourceMayWrite c (Block b) = ⊥
 
 abbrev pub source_destination : Configuration → Source → Destination
 source_destination c source = record { said = source_said c source; puts = source_put c source; cost = source_write_cost c source }

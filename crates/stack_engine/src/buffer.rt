@@ -1,7 +1,19 @@
-// The buffer into which a piece is read.
-ghost use Rattle.std.specs.Prelude.{◌≡◌, ◌*◌, IfOk, vec_len};
+// The buffers of pieces.
+ghost use Rattle.std.specs.Prelude.{◌≡◌, ◌≤◌, ◌+◌, ◌*◌, ◌/◌, length, replicate, IfOk, OnErr, vec_len};
+ghost use Rattle.stack_loader.specs.Names.{mapped, size};
+ghost use Rattle.stack_loader.specs.Rules.{IsLoaded};
+ghost use Rattle.stack_engine.specs.Meaning.{said_at};
+ghost use Rattle.stack_engine.specs.Writing.{AreSectors, SomeEncrypt, IsBufferFor};
 
+use crate::encrypts::device_encrypts;
+use stack_loader::{Config, DevId};
 use std::alloc::{AllocError, Global};
+
+pub(crate) fn fill_zeros(out: &mut [u8])
+    ensures { out.new ≡ replicate (length out.old) 0 }
+{
+    out.fill(0);
+}
 
 /// Room for so many sectors, made by slices.
 pub(crate) fn zero_sectors(alloc: Global, sectors: u32) -> Result<Vec<u8>, AllocError>
@@ -13,4 +25,25 @@ pub(crate) fn zero_sectors(alloc: Global, sectors: u32) -> Result<Vec<u8>, Alloc
         bytes.extend_from_slice(&zeros)?;
     }
     Ok(bytes)
+}
+
+/// The bytes of a write once more where a line on its way encrypts some of them; else none.
+pub(crate) fn bytes_to_encrypt(
+    alloc: Global,
+    config: &Config,
+    d: DevId,
+    first: u64,
+    bytes: &[u8],
+) -> Result<Vec<u8>, AllocError>
+    requires loaded { IsLoaded config.now }
+    requires sectors { AreSectors bytes.now }
+    requires inside { first + length bytes.now / 512 ≤ size config.now (mapped d.0) }
+    ensures ok { IfOk result (λ buffer. IsBufferFor (said_at config.now (mapped d.0)) first bytes.now buffer.items) }
+    ensures err { OnErr result (SomeEncrypt (said_at config.now (mapped d.0)) first (length bytes.now / 512)) }
+{
+    if device_encrypts(config, d, first, bytes.len() as u64 / 512) {
+        Vec::from_slice(alloc, bytes)
+    } else {
+        Ok(Vec::new(alloc))
+    }
 }

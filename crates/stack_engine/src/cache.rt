@@ -3,7 +3,7 @@ ghost use Rattle.std.specs.Prelude.{◌≡◌};
 
 use std::marker::Model;
 
-/// How many hash blocks a stack may keep. No target of today has blocks to keep.
+/// How many hash blocks a stack may keep. None is kept yet.
 #[derive(Drop)]
 pub(crate) struct Cache {
     capacity: u32,

@@ -5,8 +5,10 @@ mod answer;
 mod buffer;
 mod cache;
 mod counters;
+mod encrypts;
 mod fault;
 mod found;
+pub mod laws;
 mod read;
 mod reader;
 mod serve;
@@ -14,6 +16,8 @@ mod source;
 mod stack;
 #[cfg(test)]
 mod tests;
+mod tree;
+mod units;
 mod write;
 
 pub use answer::Answer;

@@ -1,27 +1,28 @@
 // Reads through the lines of a stack, down to its leaves.
-ghost use Rattle.std.specs.Prelude.{◌≡◌, ◌<◌, ◌≤◌, ◌+◌, ◌*◌, ◌/◌, ◌%◌, List, length, map, replicate};
+ghost use Rattle.std.specs.Prelude.{◌≡◌, ◌<◌, ◌≤◌, ◌+◌, ◌*◌, ◌/◌, ◌%◌, List, length, map};
 ghost use Rattle.stack_loader.specs.Names.{mapped, size};
 ghost use Rattle.stack_loader.specs.Rules.{IsLoaded};
 ghost use Rattle.stack_engine.specs.Leaves.{ServeLeaves};
-ghost use Rattle.stack_engine.specs.Found.{FoundRecord, AllKept};
+ghost use Rattle.stack_engine.specs.Found.{FoundRecord};
+ghost use Rattle.stack_engine.specs.Kept.{AllKept};
 ghost use Rattle.stack_engine.specs.Places.{place_of, run_expected};
 ghost use Rattle.stack_engine.specs.Reading.{Gets, Reads, buffer_answer};
-ghost use Rattle.stack_engine.specs.Sources.{SourceHolds, ReadsSource};
+ghost use Rattle.stack_engine.specs.Sources.{LieInBlock, SourceHolds, ReadsSource};
+ghost use Rattle.stack_engine.specs.Walks.{IsTreeOf, block_in, checked_expected, GetsChain};
 ghost use Rattle.stack_engine.specs.Caches.{IsCacheOf, KeepsCache};
 
+use crate::buffer::{fill_zeros, zero_sectors};
 use crate::fault::IoFault;
 use crate::found::Found;
 use crate::reader::Reader;
 use crate::serve::run_at;
-use crate::source::Source;
+use crate::source::{BlockPart, Source};
+use crate::tree::{Extent, Tree, copy_part, data_extent, find, hash_extent, tree_at, verity_at};
+use crate::units::decrypt;
 use block_device::BlockDev;
+use dm_table::Verity;
+use hash_tree::{Chain, Salt, digest, digest_in};
 use stack_loader::{Config, DevId, Lower};
-
-fn fill_zeros(out: &mut [u8])
-    ensures { out.new ≡ replicate (length out.old) 0 }
-{
-    out.fill(0);
-}
 
 /// The sectors of a leaf, by one call of its device.
 fn read_leaf<D: BlockDev>(
@@ -97,11 +98,166 @@ fn read_run<D: BlockDev>(
 {
     match source {
         Source::Below { lower, first } => read_lower(config, reader, lower, first, out, found),
+        Source::Encrypted {
+            d,
+            line,
+            unit,
+            lower,
+            first,
+        } => match read_lower(config, reader, lower, first, out, found) {
+            Ok(()) => {
+                decrypt(config, d, line, unit, out);
+                Ok(())
+            }
+            Err(fault) => Err(fault),
+        },
         Source::Zeros => {
             fill_zeros(out);
             Ok(())
         }
         Source::Fails => Err(IoFault::ErrorTarget),
+        Source::Block(part) => read_block(config, reader, part, out, found),
+    }
+}
+
+/// Sectors of one data block of a verity line: of its chain, which is found here once.
+#[cycle(read)]
+fn read_block<D: BlockDev>(
+    config: &Config,
+    reader: &mut Reader<D>,
+    part: BlockPart,
+    out: &mut [u8],
+    found: &mut Vec<Found>,
+) -> Result<(), IoFault>
+    requires loaded { IsLoaded config.now }
+    requires serve { ServeLeaves config.now.leaves (map D.state reader.old.devices.items) }
+    requires some { 0 < length out.old }
+    requires whole { length out.old % 512 ≡ 0 }
+    requires inside { LieInBlock config.now part.device.0 part.line part.first (length out.old / 512) }
+    requires kept { AllKept config.now (map D.state reader.old.devices.items) found.old.items }
+    requires cache { IsCacheOf config.now (map D.state reader.old.devices.items) reader.old.cache }
+    ensures reads { ReadsSource config.now (Source.Block part) (length out.old / 512)
+        (record { old = map D.state reader.old.devices.items; new = map D.state reader.new.devices.items; before = found.old.items; after = found.new.items })
+        (buffer_answer result out.new) }
+    ensures cached { KeepsCache config.now (map D.state reader.new.devices.items) reader.old.cache reader.new.cache }
+{
+    let verity = verity_at(config, part.device, part.line);
+    let sectors = u64::from(verity.data_block / 512);
+    let index = part.first / sectors;
+    let within = part.first % sectors;
+    match find(found.as_slice(), part.device.0, part.line, index) {
+        Some(at) => {
+            copy_part(found.as_slice(), at, within, out);
+            Ok(())
+        }
+        None => {
+            let tree = tree_at(config, part.device, part.line, verity);
+            match walk(config, reader, verity, &tree, index) {
+                Err(fault) => Err(fault),
+                Ok(chain) => {
+                    let at = found.len();
+                    let one = Found {
+                        device: part.device.0,
+                        line: part.line,
+                        chain,
+                    };
+                    match found.push(one) {
+                        Err(_) => Err(IoFault::NoMemory),
+                        Ok(()) => {
+                            copy_part(found.as_slice(), at, within, out);
+                            Ok(())
+                        }
+                    }
+                }
+            }
+        }
+    }
+}
+
+/// The chain of a data block, from the root down to the first block that has another digest.
+#[cycle(read)]
+fn walk<D: BlockDev>(
+    config: &Config,
+    reader: &mut Reader<D>,
+    verity: &Verity,
+    tree: &Tree,
+    index: u64,
+) -> Result<Chain, IoFault>
+    requires loaded { IsLoaded config.now }
+    requires serve { ServeLeaves config.now.leaves (map D.state reader.old.devices.items) }
+    requires tree { IsTreeOf config.now verity.now tree.now }
+    requires index { index < verity.now.blocks }
+    requires cache { IsCacheOf config.now (map D.state reader.old.devices.items) reader.old.cache }
+    ensures reads { GetsChain (block_in config.now verity.now index)
+        (map D.state reader.old.devices.items) (map D.state reader.new.devices.items) result }
+    ensures cached { KeepsCache config.now (map D.state reader.new.devices.items) reader.old.cache reader.new.cache }
+{
+    let mut expected = verity.root;
+    let mut path: Vec<Vec<u8>> = Vec::new(reader.alloc);
+    let mut level = tree.shape.levels();
+    while level > 0 {
+        level -= 1;
+        let extent = hash_extent(config, verity, tree, level, index);
+        match read_checked(config, reader, extent, &verity.salt, &expected) {
+            Err(first) => return Err(first),
+            Ok(block) => {
+                expected = digest_in(block.as_slice(), tree.shape.slot_on_path(level, index));
+                match path.push(block) {
+                    Err(_) => return Err(IoFault::NoMemory),
+                    Ok(()) => {}
+                }
+            }
+        }
+    }
+    let extent = data_extent(config, verity, tree, index);
+    match read_checked(config, reader, extent, &verity.salt, &expected) {
+        Err(fault) => Err(fault),
+        Ok(content) => Ok(Chain {
+            index,
+            content,
+            path,
+        }),
+    }
+}
+
+/// Those sectors as one block, if it has the digest. Chains of lines beneath are dropped.
+#[cycle(read)]
+fn read_checked<D: BlockDev>(
+    config: &Config,
+    reader: &mut Reader<D>,
+    extent: Extent,
+    salt: &Salt,
+    expected: &[u8; 32],
+) -> Result<Vec<u8>, IoFault>
+    requires loaded { IsLoaded config.now }
+    requires serve { ServeLeaves config.now.leaves (map D.state reader.old.devices.items) }
+    requires some { 0 < extent.sectors }
+    requires inside { extent.first + extent.sectors ≤ size config.now extent.lower }
+    requires cache { IsCacheOf config.now (map D.state reader.old.devices.items) reader.old.cache }
+    ensures reads { Gets (checked_expected (λ block. block.items) (place_of config.now extent.lower) extent.first extent.sectors salt.now expected.now)
+        (map D.state reader.old.devices.items) (map D.state reader.new.devices.items) result }
+    ensures cached { KeepsCache config.now (map D.state reader.new.devices.items) reader.old.cache reader.new.cache }
+{
+    let mut block = match zero_sectors(reader.alloc, extent.sectors) {
+        Ok(block) => block,
+        Err(_) => return Err(IoFault::NoMemory),
+    };
+    let mut beneath = Vec::new(reader.alloc);
+    match read_lower(
+        config,
+        reader,
+        extent.lower,
+        extent.first,
+        block.as_mut_slice(),
+        &mut beneath,
+    ) {
+        Err(fault) => return Err(fault),
+        Ok(()) => {}
+    }
+    if digest(salt, block.as_slice()) == *expected {
+        Ok(block)
+    } else {
+        Err(IoFault::Mismatch)
     }
 }
 

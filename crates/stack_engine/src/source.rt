@@ -1,15 +1,37 @@
 // Where the sectors of a device come from and go to.
-use stack_loader::Lower;
+use stack_loader::{DevId, Lower};
 
 /// What gives and takes the sectors of a run, from its first to its last alike.
 #[derive(Clone, Copy)]
 pub(crate) enum Source {
     /// The sectors of a leaf or device, from that one on.
-    Below { lower: Lower, first: u64 },
+    Below {
+        lower: Lower,
+        first: u64,
+    },
+    /// The same, encrypted there under the key of line `line` of device `d`: units, numbered from `unit` on.
+    Encrypted {
+        d: DevId,
+        line: u32,
+        unit: u64,
+        lower: Lower,
+        first: u64,
+    },
     /// Zeros; what is written is dropped.
     Zeros,
     /// No sectors: an `error` line, where writes fail too.
     Fails,
+    /// Sectors of one data block of a `verity` line, which is never written.
+    Block(BlockPart),
+}
+
+/// The sectors of a line from that one on, in the data block that has it. Lines of a device and sectors of a
+/// line count from 0.
+#[derive(Clone, Copy)]
+pub(crate) struct BlockPart {
+    pub(crate) device: DevId,
+    pub(crate) line: u32,
+    pub(crate) first: u64,
 }
 
 /// So many sectors of a device, in one line.

@@ -8,10 +8,12 @@ ghost use Rattle.stack_loader.specs.declared.refusal.Refusal.{Refusal};
 ghost use Rattle.stack_engine.specs.Leaves.{ServeLeaves, AllSteady, reads_of, writes_of};
 ghost use Rattle.stack_engine.specs.Pieces.{AnyPiece, SteadyPiece};
 ghost use Rattle.stack_engine.specs.Stacks.{StackRecord, IsSound};
+ghost use Rattle.stack_engine.specs.Meaning.{said_at};
 ghost use Rattle.stack_engine.specs.WritePieces.{ArePiece, AnyWrite, SteadyWrite};
+ghost use Rattle.stack_engine.specs.Writing.{SomeEncrypt};
 
 use crate::answer::Answer;
-use crate::buffer::zero_sectors;
+use crate::buffer::{bytes_to_encrypt, zero_sectors};
 use crate::cache::Cache;
 use crate::counters::counted;
 use crate::fault::IoFault;
@@ -111,16 +113,22 @@ impl<D: BlockDev> Stack<D> {
 
     /// Writes whole sectors of a device, 1 to 128, from `first` on, in rising order up to the first fault. They lie
     /// inside the device, which may be written. `exact` in `steady` is what the stack means; `any` holds whatever the
-    /// leaves answer. Today it takes no memory.
+    /// leaves answer. It takes memory only where a `crypt` line is on the way, once and before the first access.
     pub fn write_piece(&mut self, d: DevId, first: u64, bytes: &[u8]) -> Result<(), IoFault>
         requires piece { ArePiece bytes.now }
         requires inside { first + length bytes.now / 512 ≤ size self.old.config (mapped d.0) }
         requires allowed { IsTrue (may_write self.old.config (mapped d.0)) }
         ensures any { AnyWrite self.old d.0 first bytes.now result self.new }
         ensures steady { AllSteady self.old.leaves → SteadyWrite self.old d.0 first bytes.now result self.new }
-        ensures memory { result ≡ Err IoFault.NoMemory → ⊥ }
+        ensures memory { result ≡ Err IoFault.NoMemory → SomeEncrypt (said_at self.old.config (mapped d.0)) first (length bytes.now / 512) }
     {
-        write_device(&self.config, &mut self.reader, d, first, bytes)
+        let mut buffer = match bytes_to_encrypt(self.reader.alloc, &self.config, d, first, bytes) {
+            Ok(buffer) => buffer,
+            Err(_) => return Err(IoFault::NoMemory),
+        };
+        let plain = &bytes[buffer.len()..];
+        let copy = buffer.as_mut_slice();
+        write_device(&self.config, &mut self.reader, d, first, plain, copy)
     }
 
     /// Puts the devices of a text in, all or none.

@@ -1,5 +1,7 @@
 // Stacks made of texts, and pieces read from them.
+mod crypt;
 mod leaves;
+mod verity;
 mod writes;
 
 ghost use Rattle.std.specs.Prelude.{◌≡◌, ◌∷◌, [], IfOk};

@@ -1,16 +1,18 @@
 // Writes through the lines of a stack, down to its leaves.
-ghost use Rattle.std.specs.Prelude.{◌≡◌, ◌<◌, ◌≤◌, ◌+◌, ◌/◌, IsTrue, length, map};
+ghost use Rattle.std.specs.Prelude.{◌≡◌, ◌<◌, ◌≤◌, ◌+◌, ◌-◌, ◌/◌, ◌⊎◌, ◌++◌, [], IsTrue, length, map, take, drop};
 ghost use Rattle.stack_loader.specs.Names.{mapped, size, may_write};
 ghost use Rattle.stack_loader.specs.Rules.{IsLoaded};
 ghost use Rattle.stack_engine.specs.Leaves.{ServeLeaves};
-ghost use Rattle.stack_engine.specs.Sources.{SourceHolds};
-ghost use Rattle.stack_engine.specs.Writing.{AreSectors, sectors_in, destination_of, Writes, SourceMayWrite, source_destination};
+ghost use Rattle.stack_engine.specs.Meaning.{said_at};
+ghost use Rattle.stack_engine.specs.Sources.{SourceHolds, source_said};
+ghost use Rattle.stack_engine.specs.Writing.{AreSectors, AreHeld, sectors_in, destination_of, Writes, SourceMayWrite, source_destination};
 ghost use Rattle.stack_engine.specs.Caches.{IsCacheOf, KeepsCache};
 
 use crate::fault::IoFault;
 use crate::reader::Reader;
 use crate::serve::run_at;
 use crate::source::Source;
+use crate::units::encrypt;
 use block_device::BlockDev;
 use stack_loader::{Config, DevId, Lower};
 
@@ -37,7 +39,7 @@ fn write_sectors<D: BlockDev>(
     }
 }
 
-/// The sectors of a leaf. No line of today keeps blocks in the cache, so none goes stale by it.
+/// The sectors of a leaf. No block is kept in the cache yet, so none goes stale by it.
 fn write_leaf<D: BlockDev>(
     config: &Config,
     reader: &mut Reader<D>,
@@ -58,28 +60,48 @@ fn write_leaf<D: BlockDev>(
     write_sectors(config, reader.devices.as_mut_slice(), leaf, first, bytes)
 }
 
-/// The sectors of a leaf or a mapped device.
+/// The bytes of a write, which are in one of two places.
+fn held<'a>(plain: &'a [u8], buffer: &'a [u8]) -> &'a [u8]
+    requires { (plain.now ≡ []) ⊎ (buffer.now ≡ []) }
+    ensures { result.now ≡ plain.now ++ buffer.now }
+{
+    if plain.is_empty() { buffer } else { plain }
+}
+
+/// What lies between two places, as far as the bytes go.
+fn between(bytes: &[u8], at: usize, end: usize) -> &[u8]
+    requires { at ≤ end }
+    ensures { result.now ≡ take (end - at) (drop at bytes.now) }
+{
+    let from = at.min(bytes.len());
+    let to = end.min(bytes.len());
+    &bytes[from..to]
+}
+
+/// The sectors of a leaf or a mapped device. Their bytes are the caller's, `plain`, where no line encrypts them; else
+/// they are those of `buffer` and are encrypted there, each part by the lines on its way. The other one is empty.
 #[cycle(write)]
 fn write_lower<D: BlockDev>(
     config: &Config,
     reader: &mut Reader<D>,
     lower: Lower,
     first: u64,
-    bytes: &[u8],
+    plain: &[u8],
+    buffer: &mut [u8],
 ) -> Result<(), IoFault>
     requires loaded { IsLoaded config.now }
     requires serve { ServeLeaves config.now.leaves (map D.state reader.old.devices.items) }
     requires allowed { IsTrue (may_write config.now lower) }
-    requires sectors { AreSectors bytes.now }
-    requires inside { first + length bytes.now / 512 ≤ size config.now lower }
+    requires bytes { AreHeld (said_at config.now lower) first plain.now buffer.old }
+    requires inside { first + length (plain.now ++ buffer.old) / 512 ≤ size config.now lower }
     requires cache { IsCacheOf config.now (map D.state reader.old.devices.items) reader.old.cache }
-    ensures writes { Writes (destination_of config.now lower) first (sectors_in bytes.now)
+    ensures writes { Writes (destination_of config.now lower) first (sectors_in (plain.now ++ buffer.old))
         (map D.state reader.old.devices.items) (map D.state reader.new.devices.items) result }
     ensures cached { KeepsCache config.now (map D.state reader.new.devices.items) reader.old.cache reader.new.cache }
 {
     match lower {
-        Lower::Leaf(leaf) => write_leaf(config, reader, leaf, first, bytes),
-        Lower::Device(d) => write_device(config, reader, d, first, bytes),
+        Lower::Leaf(leaf) => write_leaf(config, reader, leaf, first, held(plain, buffer)),
+        Lower::Device(d) => write_device(config, reader, d, first, plain, buffer),
     }
 }
 
@@ -89,22 +111,34 @@ fn write_run<D: BlockDev>(
     config: &Config,
     reader: &mut Reader<D>,
     source: Source,
-    bytes: &[u8],
+    plain: &[u8],
+    buffer: &mut [u8],
 ) -> Result<(), IoFault>
     requires loaded { IsLoaded config.now }
     requires serve { ServeLeaves config.now.leaves (map D.state reader.old.devices.items) }
     requires allowed { SourceMayWrite config.now source }
-    requires sectors { AreSectors bytes.now }
-    requires inside { SourceHolds config.now source (length bytes.now / 512) }
+    requires bytes { AreHeld (source_said config.now source) 0 plain.now buffer.old }
+    requires inside { SourceHolds config.now source (length (plain.now ++ buffer.old) / 512) }
     requires cache { IsCacheOf config.now (map D.state reader.old.devices.items) reader.old.cache }
-    ensures writes { Writes (source_destination config.now source) 0 (sectors_in bytes.now)
+    ensures writes { Writes (source_destination config.now source) 0 (sectors_in (plain.now ++ buffer.old))
         (map D.state reader.old.devices.items) (map D.state reader.new.devices.items) result }
     ensures cached { KeepsCache config.now (map D.state reader.new.devices.items) reader.old.cache reader.new.cache }
 {
     match source {
-        Source::Below { lower, first } => write_lower(config, reader, lower, first, bytes),
+        Source::Below { lower, first } => write_lower(config, reader, lower, first, plain, buffer),
+        Source::Encrypted {
+            d,
+            line,
+            unit,
+            lower,
+            first,
+        } => {
+            encrypt(config, d, line, unit, buffer);
+            write_lower(config, reader, lower, first, plain, buffer)
+        }
         Source::Zeros => Ok(()),
         Source::Fails => Err(IoFault::ErrorTarget),
+        Source::Block(_) => unreachable!(),
     }
 }
 
@@ -115,24 +149,30 @@ pub(crate) fn write_device<D: BlockDev>(
     reader: &mut Reader<D>,
     d: DevId,
     first: u64,
-    bytes: &[u8],
+    plain: &[u8],
+    buffer: &mut [u8],
 ) -> Result<(), IoFault>
     requires loaded { IsLoaded config.now }
     requires serve { ServeLeaves config.now.leaves (map D.state reader.old.devices.items) }
     requires allowed { IsTrue (may_write config.now (mapped d.0)) }
-    requires sectors { AreSectors bytes.now }
-    requires inside { first + length bytes.now / 512 ≤ size config.now (mapped d.0) }
+    requires bytes { AreHeld (said_at config.now (mapped d.0)) first plain.now buffer.old }
+    requires inside { first + length (plain.now ++ buffer.old) / 512 ≤ size config.now (mapped d.0) }
     requires cache { IsCacheOf config.now (map D.state reader.old.devices.items) reader.old.cache }
-    ensures writes { Writes (destination_of config.now (mapped d.0)) first (sectors_in bytes.now)
+    ensures writes { Writes (destination_of config.now (mapped d.0)) first (sectors_in (plain.now ++ buffer.old))
         (map D.state reader.old.devices.items) (map D.state reader.new.devices.items) result }
     ensures cached { KeepsCache config.now (map D.state reader.new.devices.items) reader.old.cache reader.new.cache }
 {
+    let room = buffer.len();
+    let len = held(plain, buffer).len();
     let mut at = 0;
-    while at < bytes.len() {
-        let rest = (bytes.len() - at) as u64 / 512;
+    while at < len {
+        let rest = (len - at) as u64 / 512;
         let run = run_at(config, d, first + at as u64 / 512, rest);
         let end = at + run.count as usize * 512;
-        match write_run(config, reader, run.source, &bytes[at..end]) {
+        let part = between(plain, at, end);
+        let from = at.min(room);
+        let to = end.min(room);
+        match write_run(config, reader, run.source, part, &mut buffer[from..to]) {
             Ok(()) => at = end,
             Err(fault) => return Err(fault),
         }

@@ -1,15 +1,14 @@
 -- Names after a load.
-use Rattle.std.proofs.Common.{◌≡◌, ◌+◌, ◌<◌, ℕ, List, [], ◌∷◌, ◌++◌, refl, sym, ap, ◌∙◌, Bool, true, false, ◌||◌, cond, Option, Some, None, length, length-append, map, filter, find, nat_lt, arith}
-use Rattle.std.specs.Prelude.{is_none, IsTrue, All, count_by}
-use Rattle.std.proofs.lemmas.Bool.Decides.{nat_tests}
-use Rattle.std.proofs.lemmas.List.Sums.{length-filter}
+use Rattle.std.proofs.Common.{◌≡◌, ◌+◌, ℕ, List, [], ◌∷◌, ◌++◌, refl, sym, ap, ◌∙◌, Bool, true, false, cond, Option, Some, None, map, filter, find}
+use Rattle.std.specs.Prelude.{is_none, IsTrue, All}
 use Rattle.std.specs.List.{AllByRecursion, IsDistinct, list_any, position_from}
 use Rattle.std.specs.Option.{option_map_or}
 use Rattle.std.specs.Str.{bytes_eq}
 use Rattle.std.proofs.lemmas.Iterator.Adapters.{position_from-zero}
-use Rattle.std.proofs.lemmas.List.{map-append, length-map}
+use Rattle.std.proofs.lemmas.List.{map-append}
 use Rattle.std.proofs.lemmas.List.Elements.{All-from_recursion, recursion_from_All}
 use Rattle.dm_table.specs.declared.stack.Entry.{Entry}
+use Rattle.dm_table.specs.Grammar.{IsTableOfGrammar}
 use Rattle.dm_table.specs.Names.{is_mapped_name}
 use Rattle.dm_table.specs.StackText.{IsStackOfGrammar, IsEntryOfGrammar}
 use Rattle.stack_loader.specs.declared.refusal.LoadKind.TheVariants.{DuplicateName}
@@ -17,8 +16,7 @@ use Rattle.stack_loader.specs.Records.{Configuration, DeviceRecord}
 use Rattle.stack_loader.specs.Names.{device_named}
 use Rattle.stack_loader.proofs.lemmas.ValidLineLemmas.{apart}
 use Rattle.stack_loader.proofs.lemmas.CycleLemmas.{acyclic}
-use Rattle.stack_loader.specs.Rules.{first, duplicate_names, replacement, new_device, after_load, IsLoaded, IsValid, rules, is_too_many, most_lines}
-use Rattle.stack_loader.specs.Descend.{most_devices}
+use Rattle.stack_loader.specs.Rules.{first, duplicate_names, replacement, new_device, after_load, IsLoaded, IsValid, rules}
 use Rattle.stack_loader.proofs.LeafLemmas.{none-all, over_map, change}
 use Rattle.stack_loader.proofs.DuplicateNameLemmas.{bytes_eq-sym}
 
@@ -148,6 +146,26 @@ mapped-after c text old grammar =
     (kept (λ (e : Entry). IsTrue (is_mapped_name e.name)) (λ e. is_none (device_named c e.name)) text
     (change IsEntryOfGrammar (λ (e : Entry). IsTrue (is_mapped_name e.name)) (λ e g. g.name) text (recursion_from_All IsEntryOfGrammar text grammar.each)))))))
 
+tables-after : (c : Configuration) (text : List Entry) → All (λ d. IsTableOfGrammar d.table) c.devices → IsStackOfGrammar text → All (λ d. IsTableOfGrammar d.table) (after_load c text).devices
+tables-after c text old grammar =
+    All-from_recursion (λ (d : DeviceRecord). IsTableOfGrammar d.table) (after_load c text).devices
+    (append (λ (d : DeviceRecord). IsTableOfGrammar d.table) (map (replacement text) c.devices) (map new_device (filter (λ e. is_none (device_named c e.name)) text))
+    (over_map (λ (d : DeviceRecord). IsTableOfGrammar d.table) (replacement text) c.devices
+    (change (λ (d : DeviceRecord). IsTableOfGrammar d.table) (λ (d : DeviceRecord). IsTableOfGrammar (replacement text d).table) (λ d here. replaced d here text entries) c.devices (recursion_from_All (λ (d : DeviceRecord). IsTableOfGrammar d.table) c.devices old)))
+    (over_map (λ (d : DeviceRecord). IsTableOfGrammar d.table) new_device (filter (λ e. is_none (device_named c e.name)) text)
+    (kept (λ (e : Entry). IsTableOfGrammar e.table) (λ e. is_none (device_named c e.name)) text entries)))
+  where
+    entries : AllByRecursion (λ (e : Entry). IsTableOfGrammar e.table) text
+    entries = change IsEntryOfGrammar (λ (e : Entry). IsTableOfGrammar e.table) (λ e g. g.table) text (recursion_from_All IsEntryOfGrammar text grammar.each)
+
+    replaced : (d : DeviceRecord) → IsTableOfGrammar d.table → (text : List Entry) → AllByRecursion (λ (e : Entry). IsTableOfGrammar e.table) text → IsTableOfGrammar (replacement text d).table
+    replaced d here [] all = here
+    replaced d here (e ∷ more) all = go (bytes_eq e.name d.name) (replaced d here more all.1)
+      where
+        go : (b : Bool) → IsTableOfGrammar (replacement more d).table → IsTableOfGrammar (option_map_or (λ (e : Entry). record d { writable = e.writable; table = e.table }) (cond b (Some e) (find (λ (e : Entry). bytes_eq e.name d.name) more)) d).table
+        go true later = all.0
+        go false later = later
+
 pub loaded-after : (c : Configuration) (text : List Entry) → IsLoaded c → IsStackOfGrammar text → first (duplicate_names [] text) ≡ None → first (rules (after_load c text)) ≡ None → IsLoaded (after_load c text)
 unfolding IsValid
-loaded-after c text loaded grammar fresh valid = record { leaves = loaded.leaves; distinct = distinct-after c text loaded.distinct fresh; mapped = mapped-after c text loaded.mapped grammar; valid = valid; acyclic = acyclic (after_load c text) valid }
+loaded-after c text loaded grammar fresh valid = record { leaves = loaded.leaves; distinct = distinct-after c text loaded.distinct fresh; mapped = mapped-after c text loaded.mapped grammar; tables = tables-after c text loaded.tables grammar; valid = valid; acyclic = acyclic (after_load c text) valid }

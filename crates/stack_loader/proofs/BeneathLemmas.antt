@@ -1,7 +1,8 @@
 -- What each device names.
-use Rattle.std.proofs.Common.{◌≡◌, ◌<◌, ℕ, List, [], ◌∷◌, ◌++◌, refl, ap, ◌∙◌, true, Option, Some, None, length, get_or, map}
+use Rattle.std.proofs.Common.{◌≡◌, ◌<◌, ℕ, List, [], ◌∷◌, ◌++◌, refl, ap, ◌∙◌, Bool, true, ◌||◌, Option, Some, None, length, get_or, map}
 use Rattle.std.specs.Prelude.{flat_map, filter_map, slice_get, position}
-use Rattle.std.specs.List.{AllByRecursion, cons_option}
+use Rattle.std.specs.List.{AllByRecursion, cons_option, list_any}
+use Rattle.std.proofs.lemmas.List.Folds.{list_any-append}
 use Rattle.std.specs.Option.{option_map_or, option_map, option_or}
 use Rattle.std.specs.Str.{bytes_eq}
 use Rattle.std.proofs.lemmas.List.Quantifiers.{position-Some}
@@ -10,6 +11,7 @@ use Rattle.stack_loader.specs.declared.lower.Lower.{Lower}
 use Rattle.stack_loader.specs.declared.lower.Lower.TheVariants.{Leaf as leaf, Device as device}
 use Rattle.stack_loader.specs.Records.{Configuration, DeviceRecord}
 use Rattle.stack_loader.specs.Names.{mapped, named, names, lowers, lines_of, path_of}
+use Rattle.stack_loader.specs.Cycles.{is_mapped, names_device}
 use Rattle.stack_loader.specs.Kept.{AreLowers, meanings}
 use Rattle.stack_loader.specs.Passing.{Mean, RowsMean}
 use Rattle.stack_loader.proofs.ListLemmas.{same_row}
@@ -41,6 +43,16 @@ lowers-flat c (r ∷ rs) (x ∷ xs) means =
     let here : map (λ (lower : Lower). Some lower) r ≡ map (named c) (names x.target) = cc in
     let more : map (map (λ (lower : Lower). Some lower)) rs ≡ map (λ (line : Line). map (named c) (names line.target)) xs = cc in
     filter-row c r (names x.target) (flat_map (λ (line : Line). names line.target) xs) here ∙ ap (λ ys. r ++ ys) (lowers-flat c rs xs more)
+
+-- ---- a device that another names, by its rows
+
+list_any-flat : {X : Type 0} (p : X → Bool) (rows : List (List X)) → list_any p (flat_map (λ row. row) rows) ≡ list_any (list_any p) rows
+list_any-flat p [] = refl
+list_any-flat p (row ∷ rows) = list_any-append p row (flat_map (λ row. row) rows) ∙ ap (λ b. list_any p row || b) (list_any-flat p rows)
+
+pub names_device-rows : (c : Configuration) (lowers : List (List (List Lower))) → AreLowers c lowers → (d e : ℕ) → names_device c d e ≡ list_any (list_any (is_mapped e)) (get_or lowers d [])
+names_device-rows c lowers are d e =
+    ap (list_any (is_mapped e)) (lowers-flat c (get_or lowers d []) (lines_of c d) (rows-of c lowers are d)) ∙ list_any-flat (is_mapped e) (get_or lowers d [])
 
 -- ---- what is beneath is inside
 

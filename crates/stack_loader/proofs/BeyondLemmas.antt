@@ -7,12 +7,12 @@ use Rattle.std.proofs.lemmas.List.Folds.{list_any_at, list_any_more}
 use Rattle.std.proofs.lemmas.Bool.Decides.{nat_tests}
 use Rattle.dm_table.specs.declared.table.Base.{Base}
 use Rattle.dm_table.specs.declared.table.Line.{Line}
-use Rattle.stack_loader.specs.declared.refusal.LoadKind.TheVariants.{LowerReadOnly}
+use Rattle.stack_loader.specs.declared.refusal.LoadKind.TheVariants.{NeedsReadOnly, LowerReadOnly}
 use Rattle.stack_loader.specs.declared.lower.Lower.{Lower}
 use Rattle.stack_loader.specs.Records.{Configuration}
 use Rattle.stack_loader.specs.Names.{named, names, size, may_write}
 use Rattle.stack_loader.specs.Passing.{Mean}
-use Rattle.stack_loader.specs.Rules.{first, refuse, line_rules, most_sectors, is_undivided, is_beyond, ends_beyond}
+use Rattle.stack_loader.specs.Rules.{first, refuse, line_rules, most_sectors, is_undivided, is_beyond, is_uncovered, is_tree_beyond, needs_read_only, ends_past, ends_beyond}
 use Rattle.stack_loader.proofs.MeaningLemmas.{device_of, mean-at, length-mean}
 
 -- the facts of one base
@@ -54,6 +54,15 @@ beyond-step c lowers bases i base d sectors room end at is ends low before =
 pub beyond-none : (c : Configuration) (bases : List Base) (i sectors : ℕ) → length bases ≤ i → list_any (ends_beyond c sectors) (take i bases) ≡ false → false ≡ list_any (ends_beyond c sectors) bases
 beyond-none c bases i sectors past before = sym before ∙ ap (list_any (ends_beyond c sectors)) (take_all i bases past)
 
+-- one range of a name, by what the name means
+pub past-at : (c : Configuration) (lowers : List Lower) (ns : List (List ℕ)) (i : ℕ) (name : List ℕ) (d : Lower) (room end : ℕ) → Mean c lowers ns → i < length ns → name ≡ get_or ns i name
+    → room ≡ size c (get_or lowers i d) → nat_lt room end ≡ ends_past c name end
+past-at c lowers ns i name d room end means low is read =
+    let within : i < length lowers = omega (arith, low, length-mean c lowers ns means) in
+    let lower = get_or lowers i d in
+    let named-is = mean-at c lowers ns i name lower means low is (get_or_default lowers i d lower within) in
+    ap (λ n. nat_lt n end) read ∙ sym (ap (λ o. option_map_or (λ lower. nat_lt (size c lower) end) o true) named-is)
+
 pub read_only-lowers : (c : Configuration) (lowers : List Lower) (ns : List (List ℕ)) → Mean c lowers ns
     → list_any (λ name. option_map_or (λ lower. not (may_write c lower)) (named c name) false) ns ≡ list_any (λ lower. not (may_write c lower)) lowers
 read_only-lowers c [] [] means = refl
@@ -64,7 +73,7 @@ read_only-lowers c (l ∷ ls) (n ∷ ns) means =
     let more : map (λ (lower : Lower). Some lower) ls ≡ map (named c) ns = cc in
     rw (← here) (ap (λ b. not (may_write c l) || b) (read_only-lowers c ls ns more))
 
--- ---- the last rule on a line
+-- ---- the last rules on a line
 
 at-zero : (n : ℕ) → (n ≡ 0 → ⊥) → (n == 0) ≡ false
 at-zero n h = grind (arith, nat_tests, h)
@@ -72,9 +81,19 @@ at-zero n h = grind (arith, nat_tests, h)
 at-same : (m n : ℕ) → m ≡ n → not (m == n) ≡ false
 at-same m n h = grind (arith, nat_tests)
 
-pub line-last : (c : Configuration) (writable : Bool) (d l before : ℕ) (line : Line) (lowers : List Lower) → (line.length ≡ 0 → ⊥) → line.start ≡ before → line.start + line.length ≤ most_sectors
-    → is_undivided line.length line.target ≡ false → is_beyond c line.length line.target ≡ false → Mean c lowers (names line.target)
-    → first (line_rules c writable d l before line) ≡ first (refuse LowerReadOnly d l (writable && list_any (λ lower. not (may_write c lower)) lowers) ∷ [])
-line-last c writable d l before line lowers some start low divides inside means =
-    rw (at-zero line.length some, at-same line.start before start, lt-false most_sectors (line.start + line.length) low, divides, inside)
-    (ap (λ b. first (refuse LowerReadOnly d l (writable && b) ∷ [])) (read_only-lowers c lowers (names line.target) means))
+-- a line that none of the rules before the last two refuses
+pub record IsPassedLine (c : Configuration) (before : ℕ) (line : Line) : Type 0 where
+  pub some : line.length ≡ 0 → ⊥
+  pub start : line.start ≡ before
+  pub low : line.start + line.length ≤ most_sectors
+  pub divides : is_undivided line.length line.target ≡ false
+  pub inside : is_beyond c line.length line.target ≡ false
+  pub covered : is_uncovered line.length line.target ≡ false
+  pub tree : is_tree_beyond c line.target ≡ false
+
+pub line-last : (c : Configuration) (writable : Bool) (d l before : ℕ) (line : Line) (lowers : List Lower) → IsPassedLine c before line → Mean c lowers (names line.target)
+    → first (line_rules c writable d l before line)
+    ≡ first (refuse NeedsReadOnly d l (writable && needs_read_only line.target) ∷ refuse LowerReadOnly d l (writable && list_any (λ lower. not (may_write c lower)) lowers) ∷ [])
+line-last c writable d l before line lowers p means =
+    rw (at-zero line.length p.some, at-same line.start before p.start, lt-false most_sectors (line.start + line.length) p.low, p.divides, p.inside, p.covered, p.tree)
+    (ap (λ b. first (refuse NeedsReadOnly d l (writable && needs_read_only line.target) ∷ refuse LowerReadOnly d l (writable && b) ∷ [])) (read_only-lowers c lowers (names line.target) means))

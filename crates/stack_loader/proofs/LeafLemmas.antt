@@ -9,7 +9,7 @@ use Rattle.stack_loader.specs.declared.refusal.ConfigFault.{ConfigFault}
 use Rattle.stack_loader.specs.declared.refusal.ConfigFault.TheVariants.{DuplicateLeaf, TooMany, BadName, TooLarge}
 use Rattle.stack_loader.specs.Records.{LeafRecord, DeviceRecord}
 use Rattle.stack_loader.specs.Leaves.{has_duplicate, first_fault}
-use Rattle.stack_loader.specs.declared.check.Facts.{Facts}
+use Rattle.stack_loader.specs.declared.facts.Facts.{Facts}
 use Rattle.stack_loader.specs.Facts.{IsKept}
 use Rattle.stack_loader.proofs.lemmas.CycleLemmas.{acyclic}
 use Rattle.stack_loader.specs.Rules.{AreLeaves, IsValid, is_leaf_name, most_leaves, most_sectors}
@@ -72,15 +72,16 @@ empty-distinct : IsDistinct bytes_eq []
 unfolding IsDistinct
 empty-distinct = tt
 
-pub kept-empty : (leaves : List LeafRecord) (facts : Facts) → first_fault leaves ≡ None → facts.depths.items ≡ [] → facts.read_costs.items ≡ [] → facts.write_costs.items ≡ [] → facts.lowers.items ≡ []
+pub kept-empty : (leaves : List LeafRecord) (facts : Facts) → first_fault leaves ≡ None → facts.depths.items ≡ [] → facts.read_costs.items ≡ [] → facts.write_costs.items ≡ [] → facts.lowers.items ≡ [] → facts.keys.items ≡ []
     → IsKept (record { leaves = leaves; devices = [] }) facts
-kept-empty leaves facts h no_depth no_read no_write no_name = record {
+kept-empty leaves facts h no_depth no_read no_write no_name no_key = record {
   loaded = record {
     leaves = leaves-sound leaves h;
     distinct = empty-distinct;
     mapped = All-nil (λ (d : DeviceRecord). IsTrue (Rattle.dm_table.specs.Names.is_mapped_name d.name));
+    tables = All-nil (λ (d : DeviceRecord). Rattle.dm_table.specs.Grammar.IsTableOfGrammar d.table);
     valid = empty-valid leaves;
     acyclic = acyclic (record { leaves = leaves; devices = [] }) (empty-valid leaves);
   };
-  facts = record { depths = no_depth; reads = no_read; writes = no_write; lowers = rw no_name refl };
+  facts = record { depths = no_depth; reads = no_read; writes = no_write; lowers = rw no_name refl; keys = no_key };
 }

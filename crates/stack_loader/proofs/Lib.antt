@@ -11,6 +11,8 @@ pub mod UnknownNameLemmas
 pub mod TableLemmas
 pub mod BeneathLemmas
 pub mod DepthLemmas
+pub mod TreeLemmas
+pub mod CappedLemmas
 pub mod CostLemmas
 pub mod DeviceSetLemmas
 pub mod ClosureLemmas
@@ -26,3 +28,4 @@ pub mod RemoveLemmas
 pub mod RemovalRuleLemmas
 pub mod RemovalFactLemmas
 pub mod WorkedLoadLemmas
+pub mod WorkedVerityLemmas

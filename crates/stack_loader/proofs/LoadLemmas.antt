@@ -2,13 +2,14 @@
 use Rattle.std.proofs.Common.{◌≡◌, List, Option, Some, None, sym, subst}
 use Rattle.dm_table.specs.declared.stack.Entry.{Entry}
 use Rattle.dm_table.specs.StackText.{IsStackOfGrammar}
-use Rattle.stack_loader.specs.declared.check.Facts.{Facts}
+use Rattle.stack_loader.specs.declared.facts.Facts.{Facts}
 use Rattle.stack_loader.specs.declared.check.Next.{Next}
 use Rattle.stack_loader.specs.declared.refusal.LoadFault.{LoadFault}
 use Rattle.stack_loader.specs.declared.refusal.LoadFault.TheVariants.{Refused}
 use Rattle.stack_loader.specs.declared.refusal.Refusal.{Refusal}
 use Rattle.stack_loader.specs.Records.{Configuration, DeviceRecord, LeafRecord, configuration}
-use Rattle.stack_loader.specs.Facts.{AreFacts, IsNext, IsKept}
+use Rattle.stack_loader.specs.Facts.{AreFacts, IsKept}
+use Rattle.stack_loader.specs.Next.{IsNext}
 use Rattle.stack_loader.specs.Passing.{IsFirst}
 use Rattle.stack_loader.specs.Rules.{first, rules, after_load, IsLoaded}
 use Rattle.stack_loader.proofs.AfterLoadLemmas.{loaded-after}

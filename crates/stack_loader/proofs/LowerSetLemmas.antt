@@ -1,20 +1,17 @@
 -- The set of what each device names.
-use Rattle.std.proofs.Common.{◌≡◌, ◌+◌, ◌<◌, ◌≤◌, ℕ, List, [], ◌∷◌, ◌++◌, refl, sym, ap, ◌∙◌, Bool, ◌||◌, length, get_or, arith, length-append}
-use Rattle.std.specs.Prelude.{flat_map}
+use Rattle.std.proofs.Common.{◌≡◌, ◌+◌, ◌<◌, ◌≤◌, ℕ, List, [], ◌∷◌, ◌++◌, sym, ap, ◌∙◌, length, get_or, arith, length-append}
 use Rattle.std.specs.List.{list_any}
 use Rattle.std.proofs.Math.Decide.{dec_le}
 use Rattle.std.proofs.lemmas.List.{get_or_append_left, get_or_default}
 use Rattle.std.proofs.Math.Seq.{get_or-append_seam}
-use Rattle.std.proofs.lemmas.List.Folds.{list_any-append}
 use Rattle.stack_loader.specs.declared.lower.Lower.{Lower}
 use Rattle.stack_loader.specs.declared.device_set.DeviceSet.{DeviceSet}
 use Rattle.stack_loader.specs.Records.{Configuration}
-use Rattle.stack_loader.specs.Names.{lines_of}
 use Rattle.stack_loader.specs.Descend.{most_devices}
-use Rattle.stack_loader.specs.Cycles.{is_mapped, names_device}
+use Rattle.stack_loader.specs.Cycles.{is_mapped}
 use Rattle.stack_loader.specs.DeviceSet.{contains, set_at, AreLowerSets}
 use Rattle.stack_loader.specs.Kept.{AreLowers}
-use Rattle.stack_loader.proofs.BeneathLemmas.{rows-of, lowers-flat}
+use Rattle.stack_loader.proofs.BeneathLemmas.{names_device-rows}
 use Rattle.stack_loader.proofs.KeptLemmas.{length-lowers}
 
 -- the sets of the first n devices
@@ -41,14 +38,6 @@ sets_more lowers n rows set sets next low is all step before = record {
     go d e (no inside) lower few =
         let low' : d < n = grind (arith, inside) in
         ap (λ s. contains s e) (get_or_append_left sets (set ∷ []) (record { bits = 0 }) d (omega (arith, low', before.count))) ∙ before.each d e low' few
-
-list_any-flat : {X : Type 0} (p : X → Bool) (rows : List (List X)) → list_any p (flat_map (λ row. row) rows) ≡ list_any (list_any p) rows
-list_any-flat p [] = refl
-list_any-flat p (row ∷ rows) = list_any-append p row (flat_map (λ row. row) rows) ∙ ap (λ b. list_any p row || b) (list_any-flat p rows)
-
-pub names_device-rows : (c : Configuration) (lowers : List (List (List Lower))) → AreLowers c lowers → (d e : ℕ) → names_device c d e ≡ list_any (list_any (is_mapped e)) (get_or lowers d [])
-names_device-rows c lowers are d e =
-    ap (list_any (is_mapped e)) (lowers-flat c (get_or lowers d []) (lines_of c d) (rows-of c lowers are d)) ∙ list_any-flat (is_mapped e) (get_or lowers d [])
 
 pub lower_sets-named : (c : Configuration) (lowers : List (List (List Lower))) (n : ℕ) (sets : List DeviceSet) → AreLowers c lowers → length lowers ≤ most_devices → length lowers ≤ n → n ≤ length lowers → SetsSoFar lowers n sets → AreLowerSets c sets
 lower_sets-named c lowers n sets are few past inside so-far = record {

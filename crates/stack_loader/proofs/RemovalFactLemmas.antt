@@ -9,9 +9,10 @@ use Rattle.std.proofs.lemmas.List.Edits.{length-remove, get_or-remove_below, get
 use Rattle.std.proofs.lemmas.List.Elements.{All-from_recursion, recursion_from_All}
 use Rattle.std.proofs.lemmas.List.Folds.{list_any_at}
 use Rattle.std.proofs.lemmas.List.FromFn.{fill_by_all, get_or-map-range_with_len, get_or-range_with_len, length-range_with_len}
+use Rattle.dm_table.specs.Grammar.{IsTableOfGrammar}
 use Rattle.dm_table.specs.Names.{is_mapped_name}
 use Rattle.dm_table.specs.declared.table.Line.{Line}
-use Rattle.stack_loader.specs.declared.check.Facts.{Facts}
+use Rattle.stack_loader.specs.declared.facts.Facts.{Facts}
 use Rattle.stack_loader.specs.declared.lower.Lower.{Lower}
 use Rattle.stack_loader.specs.declared.refusal.RemoveFault.TheVariants.{NoSuchDevice, InUse}
 use Rattle.stack_loader.specs.Records.{Configuration, DeviceRecord}
@@ -19,11 +20,11 @@ use Rattle.stack_loader.specs.Names.{mapped, named, names, device_named}
 use Rattle.stack_loader.specs.Descend.{depth, read_cost, write_cost, line_read_cost, line_write_cost}
 use Rattle.stack_loader.specs.Cycles.{is_mapped, names_device}
 use Rattle.stack_loader.specs.Facts.{AreFacts, IsKept, AreWithout}
-use Rattle.stack_loader.specs.Kept.{AreLowers, meanings, each_mapped}
+use Rattle.stack_loader.specs.Kept.{AreLowers, meanings, each_mapped, keys_from}
 use Rattle.stack_loader.specs.Removal.{is_in_use, removal_fault, after_removal, lower_after}
 use Rattle.stack_loader.specs.Rules.{IsLoaded}
 use Rattle.stack_loader.proofs.KeptLemmas.{length-each_mapped, length-lowers, lines_of-read}
-use Rattle.stack_loader.proofs.LowerSetLemmas.{names_device-rows}
+use Rattle.stack_loader.proofs.BeneathLemmas.{names_device-rows}
 use Rattle.stack_loader.proofs.RemoveLemmas.{map-remove, all-remove, filter-remove, place_before, place_before-same, place_before-later, place_before-earlier}
 use Rattle.stack_loader.proofs.RemovalRuleLemmas.{valid-after}
 use Rattle.stack_loader.proofs.lemmas.CostRuleLemmas.{line_read_cost-local, line_write_cost-local}
@@ -182,6 +183,7 @@ facts-after c d unused old new are without-it = record {
   writes = values-after (write_cost c) (write_cost (without c d)) old.write_costs.items new.write_costs.items (length c.devices) (length (remove c.devices d)) d are.writes unused.inside count without-it.writes
       (λ e other. cost-after c d unused line_write_cost line_write_cost-local (mapped e) other);
   lowers = rw without-it.lowers (lowers-kept c d unused old.lowers.items are.lowers);
+  keys = without-it.keys ∙ ap (λ keys. remove keys d) are.keys ∙ sym (map-remove (λ (x : DeviceRecord). keys_from 0 x.table) c.devices d unused.inside);
 }
   where
     count : length (remove c.devices d) + 1 ≡ length c.devices
@@ -194,6 +196,8 @@ kept-after c d unused old new kept without-it = record {
     distinct = distinct-remove c.devices d unused.inside kept.loaded.distinct;
     mapped = All-from_recursion (λ (x : DeviceRecord). IsTrue (is_mapped_name x.name)) (remove c.devices d)
         (all-remove (λ (x : DeviceRecord). IsTrue (is_mapped_name x.name)) c.devices d unused.inside (recursion_from_All (λ (x : DeviceRecord). IsTrue (is_mapped_name x.name)) c.devices kept.loaded.mapped));
+    tables = All-from_recursion (λ (x : DeviceRecord). IsTableOfGrammar x.table) (remove c.devices d)
+        (all-remove (λ (x : DeviceRecord). IsTableOfGrammar x.table) c.devices d unused.inside (recursion_from_All (λ (x : DeviceRecord). IsTableOfGrammar x.table) c.devices kept.loaded.tables));
     valid = valid-after c d unused kept.loaded.valid kept.loaded.acyclic;
     acyclic = acyclic (without c d) (valid-after c d unused kept.loaded.valid kept.loaded.acyclic);
   };

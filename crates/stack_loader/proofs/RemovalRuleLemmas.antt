@@ -1,5 +1,5 @@
 -- No rule refuses what stands after a removal.
-use Rattle.std.proofs.Common.{subst, ◌≡◌, ◌+◌, ◌-◌, ◌≤◌, ℕ, zero, suc, List, [], ◌∷◌, ◌++◌, refl, sym, ap, ◌∙◌, Bool, true, false, not, ◌&&◌, ◌==◌, Option, Some, None, length, map, take, nat_lt, arith}
+use Rattle.std.proofs.Common.{subst, ◌≡◌, ◌+◌, ◌-◌, ◌≤◌, ℕ, zero, suc, List, [], ◌∷◌, ◌++◌, refl, sym, ap, ◌∙◌, Bool, true, false, not, ◌==◌, Option, Some, None, length, map, take, nat_lt, arith}
 use Rattle.std.specs.Prelude.{flat_map, slice_get, is_none}
 use Rattle.std.specs.List.{AllByRecursion, enumerate_from, list_any, remove}
 use Rattle.std.specs.Option.{option_map, option_map_or}
@@ -7,10 +7,9 @@ use Rattle.std.proofs.Math.Decide.{dec_le}
 use Rattle.std.proofs.lemmas.Bool.{ltb-false}
 use Rattle.std.proofs.lemmas.Bool.Decides.{nat_tests}
 use Rattle.std.proofs.lemmas.List.Edits.{length-remove}
-use Rattle.dm_table.specs.declared.table.Base.{Base}
 use Rattle.dm_table.specs.declared.table.Line.{Line}
 use Rattle.dm_table.specs.declared.table.Target.{Target}
-use Rattle.dm_table.specs.declared.table.Target.TheVariants.{Linear, Striped, Zero, Error}
+use Rattle.dm_table.specs.declared.table.Target.TheVariants.{Linear, Striped, Zero, Error, Crypt, Verity}
 use Rattle.stack_loader.specs.declared.lower.Lower.{Lower}
 use Rattle.stack_loader.specs.declared.lower.Lower.TheVariants.{Leaf as leaf, Device as device}
 use Rattle.stack_loader.specs.declared.refusal.LoadKind.{LoadKind}
@@ -18,10 +17,11 @@ use Rattle.stack_loader.specs.declared.refusal.LoadKind.TheVariants.{TooMany, No
 use Rattle.stack_loader.specs.declared.refusal.Refusal.{Refusal}
 use Rattle.stack_loader.specs.Records.{Configuration, DeviceRecord}
 use Rattle.stack_loader.specs.Names.{mapped, named, names, lowers, sectors_of, size, may_write}
+use Rattle.stack_loader.specs.Trees.{tree_sectors}
 use Rattle.stack_loader.specs.Descend.{depth, read_cost, line_read_cost, most_devices}
 use Rattle.stack_loader.specs.Cycles.{is_mapped, names_device, Leads, by_line, by_chain, IsOnCycle, is_on_cycle}
 use Rattle.stack_loader.specs.Removal.{place_after, lower_after}
-use Rattle.stack_loader.specs.Rules.{IsValid, first, refuse, each_device, ends_past, is_beyond, is_undivided, ranges, names_read_only, line_faults, line_rules, table_rules, unknown_in, unknown_names, cycles, is_too_many, most_lines, most_sectors, depth_rules, cost_rules, device_rules, most_depth, most_cost}
+use Rattle.stack_loader.specs.Rules.{IsValid, first, refuse, each_device, ends_past, is_beyond, is_tree_beyond, ranges, names_read_only, line_faults, line_rules, table_rules, unknown_in, unknown_names, cycles, is_too_many, most_lines, depth_rules, cost_rules, device_rules, most_depth, most_cost}
 use Rattle.stack_loader.proofs.KeptLemmas.{lines_of-read}
 use Rattle.stack_loader.proofs.RemoveLemmas.{slice_get-remove, list_any-remove, place_before, place_before-same}
 use Rattle.stack_loader.proofs.lemmas.CostRuleLemmas.{line_read_cost-local}
@@ -74,6 +74,14 @@ is_beyond-after c d unused len target avoids =
     any-same (λ (range : List ℕ × ℕ). ends_past (without c d) range.0 range.1) (λ (range : List ℕ × ℕ). ends_past c range.0 range.1) (ranges len target)
     (all-map (λ range apart. ends-after c d unused range.0 range.1 apart) (ranges len target) (ranges-names (Avoids c d) len target avoids))
 
+is_tree_beyond-after : (c : Configuration) (d : ℕ) → IsUnused c d → (target : Target) → AllByRecursion (Avoids c d) (names target) → is_tree_beyond (without c d) target ≡ is_tree_beyond c target
+is_tree_beyond-after c d unused (Linear base) avoids = refl
+is_tree_beyond-after c d unused (Striped chunk bases) avoids = refl
+is_tree_beyond-after c d unused Zero avoids = refl
+is_tree_beyond-after c d unused Error avoids = refl
+is_tree_beyond-after c d unused (Crypt crypt) avoids = refl
+is_tree_beyond-after c d unused (Verity verity) avoids = ends-after c d unused verity.hash (tree_sectors verity) avoids.1.0
+
 read_only-after : (c : Configuration) (d : ℕ) → IsUnused c d → (name : List ℕ) → Avoids c d name
     → option_map_or (λ lower. not (may_write (without c d) lower)) (named (without c d) name) false ≡ option_map_or (λ lower. not (may_write c lower)) (named c name) false
 read_only-after c d unused name avoids =
@@ -101,7 +109,7 @@ line_rules-after : (c : Configuration) (d : ℕ) → IsUnused c d → (writable 
     → first (line_rules c writable e l before line) ≡ None → first (line_rules (without c d) writable k m before line) ≡ None
 line_rules-after c d unused writable before line avoids e l k m h =
     let same : line_faults (without c d) writable before line ≡ line_faults c writable before line =
-    rw (is_beyond-after c d unused line.length line.target avoids, names_read_only-after c d unused line.target avoids) refl in
+    rw (is_beyond-after c d unused line.length line.target avoids, is_tree_beyond-after c d unused line.target avoids, names_read_only-after c d unused line.target avoids) refl in
     let P : List (LoadKind × Bool) → Type 0 = AllByRecursion (λ (fault : LoadKind × Bool). fault.1 ≡ false) in
     none-faults k m (line_faults (without c d) writable before line) (subst P (sym same) (faults-none e l (line_faults c writable before line) h))
 

@@ -1,5 +1,5 @@
 -- The rules in their order: the first part that refuses decides.
-use Rattle.std.proofs.Common.{◌≡◌, ◌+◌, ◌-◌, ℕ, List, [], ◌∷◌, ◌++◌, refl, ap, ◌∙◌, true, false, Option, Some, None, length, map, nat_lt, arith}
+use Rattle.std.proofs.Common.{◌≡◌, ◌+◌, ◌-◌, ℕ, List, [], ◌∷◌, ◌++◌, refl, ap, ◌∙◌, false, Option, None, length, map, nat_lt, arith}
 use Rattle.std.specs.Prelude.{flat_map}
 use Rattle.std.specs.List.{enumerate_from, range_with_len}
 use Rattle.std.proofs.lemmas.List.FromFn.{length-map-range_with_len}
@@ -15,6 +15,8 @@ use Rattle.stack_loader.specs.Descend.{depth, read_cost}
 use Rattle.stack_loader.specs.Kept.{each_mapped}
 use Rattle.stack_loader.specs.Passing.{IsFirst, above}
 use Rattle.stack_loader.specs.Rules.{first, refuse, rules, is_too_many, unknown_names, cycles, each_device, table_rules, device_rules, depth_rules, cost_rules, most_depth, most_cost}
+use Rattle.stack_loader.specs.Costs.{capped}
+use Rattle.stack_loader.proofs.CappedLemmas.{above-capped}
 use Rattle.stack_loader.proofs.ScanLemmas.{first-none, first-some}
 
 pub left : (fault : LoadFault) (xs ys : List (Option Refusal)) → IsFirst fault xs → IsFirst fault (xs ++ ys)
@@ -87,8 +89,8 @@ above-from kind most f k (x ∷ xs) =
 pub depths-above : (c : Configuration) (values : List ℕ) → values ≡ each_mapped (depth c) (length c.devices) → above TooDeep most_depth values ≡ depth_rules c
 depths-above c values is = ap (above TooDeep most_depth) is ∙ above-from TooDeep most_depth (depth c) 0 c.devices
 
-pub costs-above : (c : Configuration) (values : List ℕ) → values ≡ each_mapped (read_cost c) (length c.devices) → above CostTooLarge most_cost values ≡ cost_rules c
-costs-above c values is = ap (above CostTooLarge most_cost) is ∙ above-from CostTooLarge most_cost (read_cost c) 0 c.devices
+pub costs-above : (c : Configuration) (values : List ℕ) → values ≡ each_mapped (λ x. capped (read_cost c x)) (length c.devices) → above CostTooLarge most_cost values ≡ cost_rules c
+costs-above c values is = ap (above CostTooLarge most_cost) is ∙ above-from CostTooLarge most_cost (λ x. capped (read_cost c x)) 0 c.devices ∙ above-capped (read_cost c) (enumerate_from 1 c.devices)
 
 pub length-values : (f : Lower → ℕ) (n : ℕ) (values : List ℕ) → values ≡ each_mapped f n → length values ≡ n
 length-values f n values is = ap length is ∙ length-map-range_with_len (λ d. f (mapped d)) 0 n

@@ -5,6 +5,9 @@ pub mod CostRuleLemmas
 pub mod ValidLemmas
 pub mod ValidLineLemmas
 pub mod RangeLemmas
+pub mod LoadedLineLemmas
+pub mod CryptLineLemmas
+pub mod VerityLineLemmas
 pub mod RenumberLemmas
 pub mod RemovalLemmas
 pub mod RemovedDeviceLemmas

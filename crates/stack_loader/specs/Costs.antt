@@ -1,5 +1,5 @@
 -- Costs of devices, from the lowest depth up.
-use Rattle.std.specs.Prelude.{◌≡◌, ◌<◌, ℕ, List, map, length, slice_index, None}
+use Rattle.std.specs.Prelude.{◌≡◌, ◌<◌, ◌+◌, ℕ, min, List, map, length, slice_index, None}
 use Rattle.dm_table.specs.declared.table.Line.{Line}
 use Rattle.dm_table.specs.declared.table.Target.{Target}
 use Rattle.stack_loader.specs.declared.costs.Direction.{Direction}
@@ -10,7 +10,7 @@ use Rattle.stack_loader.specs.Records.{Configuration, DeviceRecord}
 use Rattle.stack_loader.specs.Names.{mapped}
 use Rattle.stack_loader.specs.Descend.{greatest, descend, by_name, cost_rule, line_read_cost, line_write_cost, depth}
 use Rattle.stack_loader.specs.Kept.{AreLowers, each_mapped}
-use Rattle.stack_loader.specs.Rules.{first, depth_rules}
+use Rattle.stack_loader.specs.Rules.{first, depth_rules, most_cost}
 
 abbrev pub line_cost : Direction → (List ℕ → ℕ) → Target → ℕ
 line_cost Read = line_read_cost
@@ -39,6 +39,10 @@ pub record AreMeasured (c : Configuration) (rows : List (List (List Lower))) (va
   pub depths : values ≡ each_mapped (depth c) (length c.devices)
   pub low : first (depth_rules c) ≡ None
 
--- the costs of all devices of less depth than k
+-- a cost, as long as it is not above the limit, and otherwise the least that is
+abbrev pub capped : ℕ → ℕ
+capped cost = min (most_cost + 1) cost
+
+-- the capped costs of all devices of less depth than k
 pub record AreCosts (c : Configuration) (direction : Direction) (k : ℕ) (costs : List ℕ) : Type 0 where
-  pub each : (d : ℕ) → d < length costs → depth c (mapped d) < k → slice_index costs d ≡ cost c direction (mapped d)
+  pub each : (d : ℕ) → d < length costs → depth c (mapped d) < k → slice_index costs d ≡ capped (cost c direction (mapped d))

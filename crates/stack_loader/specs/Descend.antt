@@ -1,11 +1,12 @@
 -- What is said of a device by what holds of the devices beneath it: depths and costs.
-use Rattle.std.specs.Prelude.{ℕ, zero, suc, ◌+◌, max, List, [], ◌∷◌, map, Option, Some, None}
+use Rattle.std.specs.Prelude.{ℕ, zero, suc, ◌+◌, ◌*◌, max, List, [], ◌∷◌, map, Option, Some, None}
 use Rattle.dm_table.specs.declared.table.Target.{Target}
-use Rattle.dm_table.specs.declared.table.Target.TheVariants.{Linear, Striped, Zero, Error}
+use Rattle.dm_table.specs.declared.table.Target.TheVariants.{Linear, Striped, Zero, Error, Crypt, Verity}
 use Rattle.stack_loader.specs.declared.lower.Lower.{Lower}
 use Rattle.stack_loader.specs.declared.lower.Lower.TheVariants.{Leaf as leaf, Device as device}
 use Rattle.stack_loader.specs.Records.{Configuration}
 use Rattle.stack_loader.specs.Names.{named, lowers, lines_of}
+use Rattle.stack_loader.specs.Trees.{block_sectors, path_sectors}
 
 -- the most mapped devices that a configuration may have
 abbrev pub most_devices : ℕ
@@ -46,6 +47,8 @@ line_read_cost cost (Linear base) = cost base.device
 line_read_cost cost (Striped chunk bases) = greatest (map (λ base. cost base.device) bases)
 line_read_cost cost Zero = 0
 line_read_cost cost Error = 0
+line_read_cost cost (Crypt crypt) = cost crypt.base.device
+line_read_cost cost (Verity verity) = block_sectors verity * cost verity.data + path_sectors verity * cost verity.hash
 
 -- leaf sectors written for a sector of it, at most
 abbrev pub line_write_cost : (List ℕ → ℕ) → Target → ℕ
@@ -53,6 +56,8 @@ line_write_cost cost (Linear base) = cost base.device
 line_write_cost cost (Striped chunk bases) = greatest (map (λ base. cost base.device) bases)
 line_write_cost cost Zero = 0
 line_write_cost cost Error = 0
+line_write_cost cost (Crypt crypt) = cost crypt.base.device
+line_write_cost cost (Verity verity) = 0
 
 -- a leaf's sector is one, and a device costs what its dearest line does
 abbrev pub cost_rule : Configuration → ((List ℕ → ℕ) → Target → ℕ) → (Lower → ℕ) → Lower → ℕ

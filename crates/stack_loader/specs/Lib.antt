@@ -1,5 +1,6 @@
 pub mod Records
 pub mod Names
+pub mod Trees
 pub mod Descend
 pub mod Cycles
 pub mod Lines
@@ -15,3 +16,4 @@ pub mod Places
 pub mod Index
 pub mod Removal
 pub mod Facts
+pub mod Next

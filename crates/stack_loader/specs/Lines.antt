@@ -1,8 +1,10 @@
 -- The lines of a device by their sectors and numbers.
-use Rattle.std.specs.Prelude.{◌≡◌, ℕ, ◌+◌, ◌≤◌, ◌<◌, List, [], ◌∷◌, find, nat_lt, slice_get, Option, Some, option_and_then}
+use Rattle.std.specs.Prelude.{◌≡◌, ℕ, ◌+◌, ◌≤◌, ◌<◌, List, [], ◌∷◌, find, nat_lt, slice_get, Option, Some, None, option_and_then}
 use Rattle.std.specs.List.{enumerate_from}
 use Rattle.std.specs.Option.{option_map_or}
 use Rattle.dm_table.specs.declared.table.Line.{Line}
+use Rattle.dm_table.specs.declared.table.Target.{Target}
+use Rattle.dm_table.specs.declared.table.Target.TheVariants.{Linear, Striped, Zero, Error, Crypt, Verity}
 use Rattle.stack_loader.specs.declared.lower.Lower.{Lower}
 use Rattle.stack_loader.specs.Records.{Configuration}
 use Rattle.stack_loader.specs.Names.{lines_of, names, named}
@@ -45,3 +47,16 @@ names_at c d l = option_map_or (λ line. names line.target) (slice_get (lines_of
 
 abbrev pub lower_at : Configuration → ℕ → ℕ → ℕ → Option Lower
 lower_at c d l i = option_and_then (named c) (slice_get (names_at c d l) i)
+
+-- the key that a target has, if it is a crypt line's
+abbrev pub key_of : Target → Option (List ℕ)
+key_of (Linear base) = None
+key_of (Striped chunk bases) = None
+key_of Zero = None
+key_of Error = None
+key_of (Crypt crypt) = Some crypt.key
+key_of (Verity verity) = None
+
+-- the key of line l of device d, if it is a crypt line
+abbrev pub key_at : Configuration → ℕ → ℕ → Option (List ℕ)
+key_at c d l = option_and_then (λ line. key_of line.target) (slice_get (lines_of c d) l)

@@ -4,7 +4,7 @@ use Rattle.std.specs.Str.{bytes_eq}
 use Rattle.std.specs.Option.{option_or, option_map_or}
 use Rattle.dm_table.specs.declared.table.Line.{Line}
 use Rattle.dm_table.specs.declared.table.Target.{Target}
-use Rattle.dm_table.specs.declared.table.Target.TheVariants.{Linear, Striped, Zero, Error}
+use Rattle.dm_table.specs.declared.table.Target.TheVariants.{Linear, Striped, Zero, Error, Crypt, Verity}
 use Rattle.stack_loader.specs.declared.lower.Lower.{Lower}
 use Rattle.stack_loader.specs.declared.lower.Lower.TheVariants.{Leaf as leaf, Device as device}
 use Rattle.stack_loader.specs.Records.{Configuration}
@@ -19,6 +19,8 @@ names (Linear base) = base.device ∷ []
 names (Striped chunk bases) = map (λ base. base.device) bases
 names Zero = []
 names Error = []
+names (Crypt crypt) = crypt.base.device ∷ []
+names (Verity verity) = verity.data ∷ verity.hash ∷ []
 
 -- how a table names a mapped device
 abbrev pub path_of : List ℕ → List ℕ

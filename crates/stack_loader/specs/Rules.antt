@@ -7,13 +7,15 @@ use Rattle.dm_table.specs.declared.stack.Entry.{Entry}
 use Rattle.dm_table.specs.declared.table.Base.{Base}
 use Rattle.dm_table.specs.declared.table.Line.{Line}
 use Rattle.dm_table.specs.declared.table.Target.{Target}
-use Rattle.dm_table.specs.declared.table.Target.TheVariants.{Linear, Striped, Zero, Error}
+use Rattle.dm_table.specs.declared.table.Target.TheVariants.{Linear, Striped, Zero, Error, Crypt, Verity}
+use Rattle.dm_table.specs.Grammar.{IsTableOfGrammar}
 use Rattle.dm_table.specs.Names.{is_mapped_name, is_name_of, is_leaf_byte, mapper}
 use Rattle.stack_loader.specs.declared.refusal.LoadKind.{LoadKind}
-use Rattle.stack_loader.specs.declared.refusal.LoadKind.TheVariants.{DuplicateName, TooMany, NoSuchDevice, StandsOnItself, ZeroLength, Gap, TooLarge, StripesDontDivide, BeyondDevice, LowerReadOnly, TooDeep, CostTooLarge}
+use Rattle.stack_loader.specs.declared.refusal.LoadKind.TheVariants.{DuplicateName, TooMany, NoSuchDevice, StandsOnItself, ZeroLength, Gap, TooLarge, StripesDontDivide, BeyondDevice, LineBeyondTree, TreeBeyondDevice, NeedsReadOnly, LowerReadOnly, TooDeep, CostTooLarge}
 use Rattle.stack_loader.specs.declared.refusal.Refusal.{Refusal}
 use Rattle.stack_loader.specs.Records.{Configuration, DeviceRecord, LeafRecord}
 use Rattle.stack_loader.specs.Names.{mapped, named, names, sectors_of, size, may_write, device_named}
+use Rattle.stack_loader.specs.Trees.{data_sectors, tree_sectors}
 use Rattle.stack_loader.specs.Descend.{depth, read_cost, most_devices}
 use Rattle.stack_loader.specs.Cycles.{is_on_cycle, IsOnCycle, IsFirstOnCycle}
 
@@ -63,12 +65,14 @@ ends_past c name end = option_map_or (λ lower. nat_lt (size c lower) end) (name
 abbrev pub range_from : ℕ → Base → List ℕ × ℕ
 range_from sectors base = (base.device, base.offset + sectors)
 
--- the mapped ranges of a line of so many sectors, or its stripes' shares
+-- the mapped ranges of a line of so many sectors, its stripes' shares, or all its data blocks
 abbrev pub ranges : ℕ → Target → List (List ℕ × ℕ)
 ranges len (Linear base) = range_from len base ∷ []
 ranges len (Striped chunk bases) = map (range_from (len / length bases)) bases
 ranges len Zero = []
 ranges len Error = []
+ranges len (Crypt crypt) = range_from len crypt.base ∷ []
+ranges len (Verity verity) = (verity.data, data_sectors verity) ∷ []
 
 -- so many sectors from a base end past its device
 abbrev pub ends_beyond : Configuration → ℕ → Base → Bool
@@ -84,6 +88,35 @@ is_undivided len (Linear base) = false
 is_undivided len (Striped chunk bases) = not (len % (length bases * chunk) == 0)
 is_undivided len Zero = false
 is_undivided len Error = false
+is_undivided len (Crypt crypt) = false
+is_undivided len (Verity verity) = false
+
+-- the line has more sectors than its data blocks
+abbrev pub is_uncovered : ℕ → Target → Bool
+is_uncovered len (Linear base) = false
+is_uncovered len (Striped chunk bases) = false
+is_uncovered len Zero = false
+is_uncovered len Error = false
+is_uncovered len (Crypt crypt) = false
+is_uncovered len (Verity verity) = nat_lt (data_sectors verity) len
+
+-- the tree, if it has a block, ends past the hash device
+abbrev pub is_tree_beyond : Configuration → Target → Bool
+is_tree_beyond c (Linear base) = false
+is_tree_beyond c (Striped chunk bases) = false
+is_tree_beyond c Zero = false
+is_tree_beyond c Error = false
+is_tree_beyond c (Crypt crypt) = false
+is_tree_beyond c (Verity verity) = ends_past c verity.hash (tree_sectors verity)
+
+-- no sector of such a line can be written
+abbrev pub needs_read_only : Target → Bool
+needs_read_only (Linear base) = false
+needs_read_only (Striped chunk bases) = false
+needs_read_only Zero = false
+needs_read_only Error = false
+needs_read_only (Crypt crypt) = false
+needs_read_only (Verity verity) = true
 
 -- the line names a leaf or device that may not be written
 abbrev pub names_read_only : Configuration → Target → Bool
@@ -97,6 +130,9 @@ line_faults c writable before line =
     ∷ (TooLarge, nat_lt most_sectors (line.start + line.length))
     ∷ (StripesDontDivide, is_undivided line.length line.target)
     ∷ (BeyondDevice, is_beyond c line.length line.target)
+    ∷ (LineBeyondTree, is_uncovered line.length line.target)
+    ∷ (TreeBeyondDevice, is_tree_beyond c line.target)
+    ∷ (NeedsReadOnly, writable && needs_read_only line.target)
     ∷ (LowerReadOnly, writable && names_read_only c line.target)
     ∷ []
 
@@ -185,10 +221,11 @@ pub record AreLeaves (leaves : List LeafRecord) : Type 0 where
   pub names : All (λ l. IsTrue (is_leaf_name l.name)) leaves
   pub sizes : All (λ l. l.sectors ≤ most_sectors) leaves
 
--- a configuration that loads have made: each name once, no device on a cycle, and no rule refuses it
+-- a configuration that loads have made: each name once, tables as they are read, no device on a cycle, and no rule refuses it
 pub record IsLoaded (c : Configuration) : Type 0 where
   pub leaves : AreLeaves c.leaves
   pub distinct : IsDistinct bytes_eq (map (λ d. d.name) c.devices)
   pub mapped : All (λ d. IsTrue (is_mapped_name d.name)) c.devices
+  pub tables : All (λ d. IsTableOfGrammar d.table) c.devices
   pub valid : IsValid c
   pub acyclic : (d : ℕ) → IsOnCycle c d → ⊥

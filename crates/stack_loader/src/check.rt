@@ -3,16 +3,18 @@ ghost use Rattle.std.specs.Prelude.{◌≡◌, ◌≤◌, length, nat_lt};
 ghost use Rattle.std.specs.List.{list_any};
 ghost use Rattle.stack_loader.specs.Records.{configuration};
 ghost use Rattle.stack_loader.specs.Passing.{IsPassed, above};
-ghost use Rattle.stack_loader.specs.Facts.{AreFacts, IsNext};
+ghost use Rattle.stack_loader.specs.Facts.{AreFacts};
+ghost use Rattle.stack_loader.specs.Next.{IsNext};
 ghost use Rattle.stack_loader.specs.Descend.{most_devices};
 ghost use Rattle.stack_loader.specs.Rules.{first, rules, load_rules, is_too_many, most_leaves, most_lines};
 
 use crate::costs::{Direction, costs};
 use crate::cycles::cycle_refusal;
 use crate::depths::depths;
+use crate::facts::Facts;
+use crate::keys::device_keys;
 use crate::leaf::Leaf;
 use crate::lower_sets::{MOST_DEVICES, lower_sets};
-use crate::lowers::DeviceLowers;
 use crate::mapped::Mapped;
 use crate::next::{copied_devices, duplicate, planned_devices};
 use crate::planned::Planned;
@@ -26,22 +28,13 @@ const MOST_LINES: usize = 256;
 
 pub(crate) const MOST_DEPTH: u64 = 8;
 
-const MOST_COST: u64 = 1 << 32;
+pub(crate) const MOST_COST: u64 = 1 << 32;
 
 const TOO_MANY: Refusal = Refusal {
     kind: LoadKind::TooMany,
     device: 0,
     line: 0,
 };
-
-/// What is computed once of a configuration.
-#[derive(Drop)]
-pub(crate) struct Facts {
-    pub(crate) depths: Vec<u64>,
-    pub(crate) read_costs: Vec<u64>,
-    pub(crate) write_costs: Vec<u64>,
-    pub(crate) lowers: Vec<DeviceLowers>,
-}
 
 fn has_long_table(devices: &[Planned<'_>]) -> bool
     ensures { result ≡ list_any (λ d. nat_lt most_lines (length d.table)) devices.now }
@@ -111,11 +104,13 @@ pub(crate) fn check(
         None => {}
     }
     let write_costs = costs(alloc, Direction::Write, devices, rows, levels)?;
+    let keys = device_keys(alloc, devices)?;
     Ok(Facts {
         depths,
         read_costs,
         write_costs,
         lowers,
+        keys,
     })
 }
 

@@ -1,14 +1,15 @@
 // A loaded configuration.
-ghost use Rattle.std.specs.Prelude.{◌≡◌, ◌<◌, length, slice_get, None, Some, [], IfOk, IfErr, OnOk, OnErr, Err, option_map};
+ghost use Rattle.std.specs.Prelude.{◌≡◌, ◌<◌, length, slice_get, None, Some, [], IfOk, IfErr, OnOk, OnErr, Err, option_map, IsTrue, is_some};
 ghost use Rattle.stack_loader.specs.Names.{device_named, name_of, lines_of, mapped, size, may_write};
 ghost use Rattle.stack_loader.specs.Descend.{depth, read_cost, write_cost};
-ghost use Rattle.stack_loader.specs.Lines.{IsIn, names_at, lower_at};
+ghost use Rattle.stack_loader.specs.Lines.{IsIn, names_at, lower_at, key_at};
 ghost use Rattle.stack_loader.specs.Leaves.{first_fault};
 ghost use Rattle.stack_loader.specs.declared.refusal.Refusal.{Refusal};
 ghost use Rattle.stack_loader.specs.Rules.{IsLoaded, IsRefusal, after_load, first_refusal};
 ghost use Rattle.stack_loader.specs.Removal.{after_removal, removal_fault};
 
-use crate::check::{Facts, next_load};
+use crate::check::next_load;
+use crate::facts::Facts;
 use crate::leaf::Leaf;
 use crate::leaves::leaves_fault;
 use crate::lower::{DevId, Lower};
@@ -19,6 +20,7 @@ use crate::sectors::line_of;
 use dm_table::{StackText, Table};
 use std::alloc::Global;
 use std::marker::Model;
+use xts_sector::XtsKey;
 
 /// Leaves, and the mapped devices that loads have put on them.
 #[derive(Drop)]
@@ -58,6 +60,7 @@ impl Config {
                     read_costs: Vec::new(alloc),
                     write_costs: Vec::new(alloc),
                     lowers: Vec::new(alloc),
+                    keys: Vec::new(alloc),
                 },
             }),
         }
@@ -190,5 +193,14 @@ impl Config {
         ensures { lower_at self.now d.0 line i ≡ Some result }
     {
         self.facts.lowers[d.0 as usize].at(line as usize, i as usize)
+    }
+
+    /// The key of a `crypt` line, made ready at loading. Lines of a device count from 0.
+    pub fn key(&self, d: DevId, line: u32) -> &XtsKey
+        requires device { d.0 < length self.now.devices }
+        requires crypt { IsTrue (is_some (key_at self.now d.0 line)) }
+        ensures { key_at self.now d.0 line ≡ Some result.now }
+    {
+        self.facts.keys[d.0 as usize].at(line)
     }
 }

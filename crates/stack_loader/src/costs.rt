@@ -1,17 +1,21 @@
 // Costs of all devices.
-ghost use Rattle.std.specs.Prelude.{◌≡◌, ◌<◌, ◌≤◌, ◌+◌, ℕ, List, length, map, slice_index, IfOk};
+ghost use Rattle.std.specs.Prelude.{◌≡◌, ◌<◌, ◌≤◌, ◌+◌, ◌^◌, ℕ, List, length, map, slice_index, slice_get, All, IfOk};
+ghost use Rattle.std.specs.Option.{option_map_or};
+ghost use Rattle.dm_table.specs.declared.table.Target.TheVariants as target;
 ghost use Rattle.stack_loader.specs.Records.{Configuration, LeafRecord, configuration};
+ghost use Rattle.dm_table.specs.Grammar.{IsTargetOfGrammar, IsLineOfGrammar, IsVerityOfGrammar};
 ghost use Rattle.stack_loader.specs.Names.{names};
 ghost use Rattle.stack_loader.specs.Descend.{greatest, by_name, line_read_cost, line_write_cost};
 ghost use Rattle.stack_loader.specs.Kept.{each_mapped};
 ghost use Rattle.stack_loader.specs.Passing.{Mean, RowsMean};
-ghost use Rattle.stack_loader.specs.Costs.{line_cost, cost, cost_in, dearest, AreRows, AreMeasured, AreCosts};
+ghost use Rattle.stack_loader.specs.Costs.{line_cost, cost, cost_in, capped, dearest, AreRows, AreMeasured, AreCosts};
 
-use crate::check::MOST_DEPTH;
+use crate::check::{MOST_COST, MOST_DEPTH};
 use crate::lower::Lower;
 use crate::lowers::{DeviceLowers, LineLowers};
 use crate::planned::Planned;
-use dm_table::{Line, Target};
+use crate::tree::{block_sectors, path_sectors, verity_of};
+use dm_table::{Line, Target, Verity};
 use std::alloc::{AllocError, Global};
 
 /// Whether a cost is of a sector that is read or of one that is written.
@@ -44,25 +48,47 @@ fn greatest_cost(costs: &[u64], lowers: &[Lower]) -> u64
     greatest
 }
 
-fn line_read_cost(costs: &[u64], target: &Target, lowers: &[Lower]) -> u64
+/// The cost of the i-th lower device; of none where there is none.
+fn cost_at(costs: &[u64], lowers: &[Lower], i: usize) -> u128
+    ensures value { result ≡ option_map_or (cost_in costs.now) (slice_get lowers.now i) 0 }
+    ensures fits { result < 2 ^ 64 }
+{
+    match lowers.get(i) {
+        Some(lower) => u128::from(cost_in(costs, *lower)),
+        None => 0,
+    }
+}
+
+/// What a sector of a verity line costs: its data block, and a hash block of each level.
+fn verity_cost(costs: &[u64], verity: &Verity, lowers: &[Lower]) -> u128
+    requires { IsVerityOfGrammar verity.now }
+    ensures { (c : Configuration) → Mean c lowers.now (names (target.Verity verity.now)) → result ≡ line_read_cost (by_name c 0 (cost_in costs.now)) (target.Verity verity.now) }
+{
+    let block = u128::from(block_sectors(verity)) * cost_at(costs, lowers, 0);
+    block + u128::from(path_sectors(verity)) * cost_at(costs, lowers, 1)
+}
+
+fn line_read_cost(costs: &[u64], target: &Target, lowers: &[Lower]) -> u128
+    requires { IsTargetOfGrammar target.now }
     ensures { (c : Configuration) → Mean c lowers.now (names target.now) → result ≡ line_read_cost (by_name c 0 (cost_in costs.now)) target.now }
 {
-    match target {
-        Target::Linear(_) | Target::Striped { .. } => greatest_cost(costs, lowers),
-        Target::Zero | Target::Error => 0,
+    match verity_of(target) {
+        Some(verity) => verity_cost(costs, verity, lowers),
+        None => u128::from(greatest_cost(costs, lowers)),
     }
 }
 
-fn line_write_cost(costs: &[u64], target: &Target, lowers: &[Lower]) -> u64
+fn line_write_cost(costs: &[u64], target: &Target, lowers: &[Lower]) -> u128
     ensures { (c : Configuration) → Mean c lowers.now (names target.now) → result ≡ line_write_cost (by_name c 0 (cost_in costs.now)) target.now }
 {
-    match target {
-        Target::Linear(_) | Target::Striped { .. } => greatest_cost(costs, lowers),
-        Target::Zero | Target::Error => 0,
+    match verity_of(target) {
+        Some(_) => 0,
+        None => u128::from(greatest_cost(costs, lowers)),
     }
 }
 
-fn line_cost(direction: Direction, costs: &[u64], target: &Target, lowers: &[Lower]) -> u64
+fn line_cost(direction: Direction, costs: &[u64], target: &Target, lowers: &[Lower]) -> u128
+    requires { IsTargetOfGrammar target.now }
     ensures { (c : Configuration) → Mean c lowers.now (names target.now) → result ≡ line_cost direction (by_name c 0 (cost_in costs.now)) target.now }
 {
     match direction {
@@ -72,8 +98,9 @@ fn line_cost(direction: Direction, costs: &[u64], target: &Target, lowers: &[Low
 }
 
 /// The cost of a device's dearest line, where the devices that it names have the costs.
-fn dearest(direction: Direction, costs: &[u64], lines: &[Line], rows: &[LineLowers]) -> u64
-    requires { length lines.now ≤ length rows.now }
+fn dearest(direction: Direction, costs: &[u64], lines: &[Line], rows: &[LineLowers]) -> u128
+    requires rows { length lines.now ≤ length rows.now }
+    requires grammar { All IsLineOfGrammar lines.now }
     ensures { (c : Configuration) → RowsMean c rows.now lines.now → result ≡ dearest c direction (cost_in costs.now) lines.now }
 {
     let mut greatest = 0;
@@ -81,6 +108,13 @@ fn dearest(direction: Direction, costs: &[u64], lines: &[Line], rows: &[LineLowe
         greatest = greatest.max(line_cost(direction, costs, &line.target, rows[i].as_slice()));
     }
     greatest
+}
+
+// A cost above the limit is kept as the least that is: so no number wraps, and the rule sees it.
+fn capped(cost: u128) -> u64
+    ensures { result ≡ capped cost }
+{
+    cost.min(u128::from(MOST_COST) + 1) as u64
 }
 
 /// Sets the costs of the devices of a depth, where those of less depth have theirs.
@@ -100,7 +134,8 @@ fn settle(
     for (d, device) in devices.iter().enumerate() {
         let here = depths[d];
         if here == depth {
-            costs[d] = dearest(direction, costs, device.table().lines(), lowers[d].lines());
+            let cost = dearest(direction, costs, device.table().lines(), lowers[d].lines());
+            costs[d] = capped(cost);
         }
     }
 }
@@ -111,7 +146,7 @@ fn zeros(alloc: Global, devices: &[Planned<'_>]) -> Result<Vec<u64>, AllocError>
     devices.iter().map(|_device| 0).collect(alloc)
 }
 
-/// The costs of all devices, whose depths are at most 8.
+/// The costs of all devices, whose depths are at most 8; one above the limit as the least that is.
 pub(crate) fn costs(
     alloc: Global,
     direction: Direction,
@@ -121,7 +156,7 @@ pub(crate) fn costs(
 ) -> Result<Vec<u64>, AllocError>
     requires rows { AreRows lowers.now devices.now }
     requires depths { length depths.now ≡ length devices.now }
-    ensures { (leaves : List LeafRecord) → let c = configuration leaves devices.now in AreMeasured c lowers.now depths.now → IfOk result (λ costs. costs.items ≡ each_mapped (cost c direction) (length c.devices)) }
+    ensures { (leaves : List LeafRecord) → let c = configuration leaves devices.now in AreMeasured c lowers.now depths.now → IfOk result (λ costs. costs.items ≡ each_mapped (λ x. capped (cost c direction x)) (length c.devices)) }
 {
     let mut costs = zeros(alloc, devices)?;
     for depth in 1..MOST_DEPTH + 1 {

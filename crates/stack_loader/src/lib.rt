@@ -7,7 +7,9 @@ mod costs;
 mod cycles;
 mod depths;
 mod device_set;
+mod facts;
 mod index;
+mod keys;
 mod leaf;
 mod leaves;
 mod lower;
@@ -21,6 +23,7 @@ mod removal;
 mod resolve;
 mod rules;
 mod sectors;
+mod tree;
 
 pub use config::Config;
 pub use leaf::Leaf;

@@ -66,8 +66,14 @@ pub enum LoadKind {
     TooLarge = 7,
     /// The length of a striped line is no multiple of stripes times chunk.
     StripesDontDivide = 8,
-    /// A range or a stripe's share ends past the device that it names.
+    /// A range, a stripe's share or all data blocks of a verity line end past the device that is named.
     BeyondDevice = 9,
+    /// A verity line has more sectors than its data blocks.
+    LineBeyondTree = 10,
+    /// The tree of a verity line ends past the hash device.
+    TreeBeyondDevice = 11,
+    /// A verity line stands in a writable device.
+    NeedsReadOnly = 12,
     /// A line of a writable device names a read-only leaf or device.
     LowerReadOnly = 13,
     /// A device's depth is above 8: it is 1 more than that of the deepest that it names, and a leaf's is 0.
@@ -80,7 +86,7 @@ impl LoadKind {
     ghost use Rattle.std.specs.Prelude.{◌≡◌};
     ghost use Rattle.stack_loader.specs.FaultKinds.{load_number, load_name};
 
-    /// The number that is printed, 1 to 9 and 13 to 15.
+    /// The number that is printed, 1 to 15.
     pub fn number(self) -> u8
         ensures { result ≡ load_number self }
     {
@@ -101,6 +107,9 @@ impl LoadKind {
             LoadKind::TooLarge => "TooLarge",
             LoadKind::StripesDontDivide => "StripesDontDivide",
             LoadKind::BeyondDevice => "BeyondDevice",
+            LoadKind::LineBeyondTree => "LineBeyondTree",
+            LoadKind::TreeBeyondDevice => "TreeBeyondDevice",
+            LoadKind::NeedsReadOnly => "NeedsReadOnly",
             LoadKind::LowerReadOnly => "LowerReadOnly",
             LoadKind::TooDeep => "TooDeep",
             LoadKind::CostTooLarge => "CostTooLarge",

@@ -24,6 +24,8 @@ pub(crate) fn name_count(target: &Target) -> usize
         Target::Linear(_) => 1,
         Target::Striped { bases, .. } => bases.as_slice().len(),
         Target::Zero | Target::Error => 0,
+        Target::Crypt(_) => 1,
+        Target::Verity(_) => 2,
     }
 }
 
@@ -36,6 +38,14 @@ fn name_at(target: &Target, i: usize) -> &[u8]
         Target::Linear(base) => base.device.as_slice(),
         Target::Striped { bases, .. } => bases.as_slice()[i].device.as_slice(),
         Target::Zero | Target::Error => &[],
+        Target::Crypt(crypt) => crypt.base.device.as_slice(),
+        Target::Verity(verity) => {
+            if i == 0 {
+                verity.data.as_slice()
+            } else {
+                verity.hash.as_slice()
+            }
+        }
     }
 }
 

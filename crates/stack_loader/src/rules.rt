@@ -1,5 +1,5 @@
 // The rules on each line.
-ghost use Rattle.std.specs.Prelude.{◌≡◌, ◌≤◌, not, ℕ, map, option_map, length, All};
+ghost use Rattle.std.specs.Prelude.{◌≡◌, ◌≤◌, ◌∷◌, [], not, ℕ, map, option_map, length, All};
 ghost use Rattle.std.specs.List.{list_any};
 ghost use Rattle.dm_table.specs.Grammar.{IsTargetOfGrammar};
 ghost use Rattle.stack_loader.specs.Records.{configuration};
@@ -7,7 +7,8 @@ ghost use Rattle.stack_loader.specs.Names.{size, may_write, names};
 ghost use Rattle.stack_loader.specs.Descend.{most_devices};
 ghost use Rattle.stack_loader.specs.Kept.{AreLowers};
 ghost use Rattle.stack_loader.specs.Passing.{Mean, RowsMean, refusal_at};
-ghost use Rattle.stack_loader.specs.Rules.{first, line_rules, ends_beyond, is_beyond, is_undivided, each_device, table_rules, most_lines};
+ghost use Rattle.stack_loader.specs.declared.refusal.LoadKind.TheVariants as kinds;
+ghost use Rattle.stack_loader.specs.Rules.{first, refuse, line_rules, ends_beyond, is_beyond, is_undivided, is_uncovered, is_tree_beyond, needs_read_only, each_device, table_rules, most_lines};
 
 use crate::leaf::Leaf;
 use crate::leaves::MOST_SECTORS;
@@ -15,6 +16,7 @@ use crate::lower::Lower;
 use crate::lowers::{DeviceLowers, LineLowers};
 use crate::planned::Planned;
 use crate::refusal::{LoadKind, Refusal};
+use crate::tree::{data_sectors, tree_sectors};
 use dm_table::{Base, Line, Target};
 use std::slice;
 
@@ -58,7 +60,8 @@ fn is_undivided(line: &Line) -> bool
             let width = bases.as_slice().len() as u128 * u128::from(*chunk);
             u128::from(line.length) % width != 0
         }
-        Target::Linear(_) | Target::Zero | Target::Error => false,
+        Target::Linear(_) | Target::Zero | Target::Error | Target::Crypt(_) | Target::Verity(_) =>
+            false,
     }
 }
 
@@ -82,7 +85,7 @@ fn are_beyond(
     false
 }
 
-/// Whether a range or a stripe's share ends past the device that it names.
+/// Whether a range, a stripe's share or all data blocks of a verity line end past the device that is named.
 fn is_beyond(leaves: &[Leaf], devices: &[Planned<'_>], lowers: &[Lower], line: &Line) -> bool
     requires grammar { IsTargetOfGrammar line.now.target }
     requires lowers { Mean (configuration leaves.now devices.now) lowers.now (names line.now.target) }
@@ -98,6 +101,59 @@ fn is_beyond(leaves: &[Leaf], devices: &[Planned<'_>], lowers: &[Lower], line: &
             are_beyond(leaves, devices, lowers, bases, share)
         }
         Target::Zero | Target::Error => false,
+        Target::Crypt(crypt) => {
+            let base = slice::from_ref(&crypt.base);
+            are_beyond(leaves, devices, lowers, base, line.length)
+        }
+        Target::Verity(verity) => size_of(leaves, devices, lowers[0]) < data_sectors(verity),
+    }
+}
+
+/// Whether the line has more sectors than its data blocks.
+fn is_uncovered(line: &Line) -> bool
+    ensures { result ≡ is_uncovered line.now.length line.now.target }
+{
+    match &line.target {
+        Target::Verity(verity) => data_sectors(verity) < u128::from(line.length),
+        Target::Linear(_)
+        | Target::Striped { .. }
+        | Target::Zero
+        | Target::Error
+        | Target::Crypt(_) => false,
+    }
+}
+
+/// Whether the tree ends past the hash device.
+fn is_tree_beyond(
+    leaves: &[Leaf],
+    devices: &[Planned<'_>],
+    lowers: &[Lower],
+    target: &Target,
+) -> bool
+    requires grammar { IsTargetOfGrammar target.now }
+    requires lowers { Mean (configuration leaves.now devices.now) lowers.now (names target.now) }
+    ensures { result ≡ is_tree_beyond (configuration leaves.now devices.now) target.now }
+{
+    match target {
+        Target::Verity(verity) => size_of(leaves, devices, lowers[1]) < tree_sectors(verity),
+        Target::Linear(_)
+        | Target::Striped { .. }
+        | Target::Zero
+        | Target::Error
+        | Target::Crypt(_) => false,
+    }
+}
+
+fn needs_read_only(target: &Target) -> bool
+    ensures { result ≡ needs_read_only target.now }
+{
+    match target {
+        Target::Verity(_) => true,
+        Target::Linear(_)
+        | Target::Striped { .. }
+        | Target::Zero
+        | Target::Error
+        | Target::Crypt(_) => false,
     }
 }
 
@@ -108,6 +164,24 @@ fn has_read_only(leaves: &[Leaf], devices: &[Planned<'_>], lowers: &[Lower]) -> 
     lowers
         .iter()
         .any(|lower| !may_write(leaves, devices, *lower))
+}
+
+/// The first rule by which a line may not stand in a writable device.
+fn write_fault(
+    leaves: &[Leaf],
+    devices: &[Planned<'_>],
+    lowers: &[Lower],
+    target: &Target,
+) -> Option<LoadKind>
+    ensures { (d l : ℕ) → option_map (refusal_at d l) result ≡ first (refuse kinds.NeedsReadOnly d l (needs_read_only target.now) ∷ refuse kinds.LowerReadOnly d l (list_any (λ lower. not (may_write (configuration leaves.now devices.now) lower)) lowers.now) ∷ []) }
+{
+    if needs_read_only(target) {
+        return Some(LoadKind::NeedsReadOnly);
+    }
+    if has_read_only(leaves, devices, lowers) {
+        return Some(LoadKind::LowerReadOnly);
+    }
+    None
 }
 
 /// The first rule that refuses a line, where the lines before it have so many sectors.
@@ -138,10 +212,16 @@ fn line_fault(
     if is_beyond(leaves, devices, lowers, line) {
         return Some(LoadKind::BeyondDevice);
     }
-    if writable && has_read_only(leaves, devices, lowers) {
-        return Some(LoadKind::LowerReadOnly);
+    if is_uncovered(line) {
+        return Some(LoadKind::LineBeyondTree);
     }
-    None
+    if is_tree_beyond(leaves, devices, lowers, &line.target) {
+        return Some(LoadKind::TreeBeyondDevice);
+    }
+    if !writable {
+        return None;
+    }
+    write_fault(leaves, devices, lowers, &line.target)
 }
 
 /// The first rule that refuses a line of the d-th device, from 1.

@@ -7,8 +7,8 @@ mod loads;
 mod removal;
 mod replaced;
 mod steps;
+mod trees;
 
-use crate::check::first_above;
 use crate::config::Config;
 use crate::leaf::Leaf;
 use crate::refusal::{LoadFault, LoadKind, Refusal};
@@ -56,20 +56,6 @@ fn answers_each_case(rt: HostRuntime) -> Result<(), Fail> {
         None
     );
     assert_eq!(rt; steps::difference(alloc, &removal::REMOVALS)?, None);
-    Ok(())
-}
-
-// Today's targets cost at most 1, so no text reaches this rule.
-#[test]
-fn finds_the_first_cost_above_the_limit(rt: HostRuntime) -> Result<(), Fail> {
-    let costs = [1, 1 << 32, (1 << 32) + 1, (1 << 32) + 2];
-    assert_eq!(rt;
-        first_above(&costs, 1 << 32, LoadKind::CostTooLarge),
-        refused(LoadKind::CostTooLarge, 3, 0)
-    );
-    assert_eq!(rt;
-        first_above(&costs[..2], 1 << 32, LoadKind::CostTooLarge),
-        None
-    );
+    assert_eq!(rt; steps::difference(alloc, &trees::TREES)?, None);
     Ok(())
 }

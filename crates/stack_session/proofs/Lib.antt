@@ -1,13 +1,9 @@
 pub mod lemmas
 pub mod IntakeLemmas
-pub mod RangeLemmas
-pub mod AccessLemmas
+pub mod CommandLemmas
 pub mod ReplyLemmas
 pub mod ReplyingLemmas
-pub mod RequestLemmas
 pub mod SectorTextLemmas
 pub mod SessionLemmas
-pub mod WholeReadLemmas
-pub mod WriteLemmas
-pub mod WholeWriteLemmas
+pub mod SteppingLemmas
 pub mod WorkedValueLemmas

@@ -1,5 +1,5 @@
 -- Sectors that are printed one after another.
-use Rattle.std.proofs.Common.{◌≡◌, ℕ, zero, suc, ◌+◌, ◌-◌, ◌*◌, ◌/◌, ◌%◌, ◌<◌, ◌≤◌, List, [], ◌++◌, length, take, drop, refl, ap, sym, ◌∙◌, append_assoc, append-nil, arith, subst, length-drop}
+use Rattle.std.proofs.Common.{◌≡◌, ℕ, zero, suc, ◌+◌, ◌-◌, ◌/◌, ◌<◌, ◌≤◌, List, [], ◌++◌, length, take, drop, refl, ap, sym, ◌∙◌, append_assoc, append-nil, arith, subst, length-drop}
 use Rattle.std.specs.Prelude.{Option}
 use Rattle.std.specs.Io.KnownBytes.{Appends}
 use Rattle.std.proofs.KnownBytes.{Appends-nil, Appends-trans}
@@ -9,26 +9,23 @@ use Rattle.stack_session.specs.Texts.{sector_line, sector_lines}
 pub record Saying (first : ℕ) (bytes : List ℕ) (number : ℕ) (rest : List ℕ) (old new : Option (List ℕ)) : Type 0 where
   pub done : List ℕ
   pub count : ℕ
-  pub size : length rest ≡ 512 * count
+  pub size : count ≡ length rest / 512
   pub numbered : number + count ≡ first + length bytes / 512
   pub written : Appends old new done
   pub joined : sector_lines (length bytes / 512) first bytes ≡ done ++ sector_lines count number rest
 
-pub saying_starts : (first : ℕ) (bytes : List ℕ) (w : Option (List ℕ)) → length bytes % 512 ≡ 0 → Saying first bytes first bytes w w
-saying_starts first bytes w whole = record {
+pub saying_starts : (first : ℕ) (bytes : List ℕ) (w : Option (List ℕ)) → Saying first bytes first bytes w w
+saying_starts first bytes w = record {
   done = [];
   count = length bytes / 512;
-  size = omega (arith, whole);
+  size = refl;
   numbered = refl;
   written = Appends-nil w;
   joined = refl;
 }
 
--- something is left, so a whole sector is
-pub saying_room : {first number : ℕ} {bytes rest : List ℕ} {old new : Option (List ℕ)} → Saying first bytes number rest old new → 0 < length rest → 512 ≤ length rest
-saying_room s some = omega (arith, s.size, some)
-
-pub saying_number : {first number : ℕ} {bytes rest : List ℕ} {old new : Option (List ℕ)} → Saying first bytes number rest old new → 0 < length rest → number < first + length bytes / 512
+-- a sector is left, so its number is below the last one's
+pub saying_number : {first number : ℕ} {bytes rest : List ℕ} {old new : Option (List ℕ)} → Saying first bytes number rest old new → 512 ≤ length rest → number < first + length bytes / 512
 saying_number s some = omega (arith, s.size, s.numbered, some)
 
 lines_split : (count number : ℕ) (rest : List ℕ) → 0 < count → sector_lines count number rest ≡ sector_line number (take 512 rest) ++ sector_lines (count - 1) (number + 1) (drop 512 rest)
@@ -36,7 +33,7 @@ lines_split zero number rest some = let no : ⊥ = omega (arith, some) in absurd
 lines_split (suc count) number rest some = let same : suc count - 1 ≡ count = omega arith in rw same refl
 
 -- the next sector
-pub saying_more : {first number : ℕ} {bytes rest : List ℕ} {old mid : Option (List ℕ)} (new : Option (List ℕ)) → Saying first bytes number rest old mid → 0 < length rest
+pub saying_more : {first number : ℕ} {bytes rest : List ℕ} {old mid : Option (List ℕ)} (new : Option (List ℕ)) → Saying first bytes number rest old mid → 512 ≤ length rest
     → Appends mid new (sector_line number (take 512 rest)) → Saying first bytes (number + 1) (drop 512 rest) old new
 saying_more {first} {number} {bytes} {rest} {old} {mid} new s some line = record {
   done = s.done ++ sector_line number (take 512 rest);
@@ -49,14 +46,14 @@ saying_more {first} {number} {bytes} {rest} {old} {mid} new s some line = record
       ∙ sym (append_assoc s.done (sector_line number (take 512 rest)) (sector_lines (s.count - 1) (number + 1) (drop 512 rest)));
 }
 
-none_left : (count number : ℕ) (rest : List ℕ) → 512 * count ≡ 0 → sector_lines count number rest ≡ []
+none_left : (count number : ℕ) (rest : List ℕ) → count ≡ 0 → sector_lines count number rest ≡ []
 none_left zero number rest none = refl
 none_left (suc count) number rest none = let no : ⊥ = omega (arith, none) in absurd no
 
--- nothing is left
-pub saying_ends : {first number : ℕ} {bytes rest : List ℕ} {old new : Option (List ℕ)} → Saying first bytes number rest old new → length rest ≡ 0
+-- no whole sector is left
+pub saying_ends : {first number : ℕ} {bytes rest : List ℕ} {old new : Option (List ℕ)} → Saying first bytes number rest old new → length rest < 512
     → Appends old new (sector_lines (length bytes / 512) first bytes)
 saying_ends {first} {number} {bytes} {rest} {old} {new} s none =
     subst (λ t. Appends old new t)
-    (sym (s.joined ∙ ap (λ t. s.done ++ t) (none_left s.count number rest (sym s.size ∙ none)) ∙ append-nil s.done))
+    (sym (s.joined ∙ ap (λ t. s.done ++ t) (none_left s.count number rest (omega (arith, s.size, none))) ∙ append-nil s.done))
     s.written

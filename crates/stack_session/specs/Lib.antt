@@ -1,8 +1,7 @@
+pub mod Accesses
+pub mod Commands
 pub mod Counted
-pub mod Ranges
+pub mod QueueSessions
 pub mod Replies
-pub mod Requests
 pub mod Session
-pub mod SubmitFaults
 pub mod Texts
-pub mod Writes

@@ -3,14 +3,24 @@ use Rattle.std.specs.Prelude.{ℕ, zero, suc, ◌+◌, ◌/◌, ◌==◌, List, 
 use Rattle.std.specs.List.{list_all}
 use Rattle.hex.specs.Hex.{encode_lower}
 use Rattle.dm_table.specs.declared.fault.TextFault.{TextFault}
+use Rattle.stack_loader.specs.declared.refusal.LoadFault.{LoadFault}
+use Rattle.stack_loader.specs.declared.refusal.LoadFault.TheVariants as load
 use Rattle.stack_loader.specs.declared.refusal.Refusal.{Refusal}
 use Rattle.stack_loader.specs.declared.refusal.RemoveFault.{RemoveFault}
 use Rattle.stack_engine.specs.declared.fault.IoFault.{IoFault}
 use Rattle.stack_engine.specs.declared.fault.IoFault.TheVariants as io
-use Rattle.stack_session.specs.declared.range.SubmitFault.{SubmitFault}
 use Rattle.dm_table.specs.TextKinds.{text_number, text_name}
 use Rattle.stack_loader.specs.FaultKinds.{load_number, load_name, removal_number, removal_name}
-use Rattle.stack_session.specs.SubmitFaults.{submit_number, submit_name}
+use Rattle.request_queue.specs.declared.fault.Held.{Held}
+use Rattle.request_queue.specs.declared.fault.Held.TheVariants.{Busy, Fault}
+use Rattle.request_queue.specs.declared.fault.NoSuchTicket.{NoSuchTicket}
+use Rattle.request_queue.specs.declared.fault.SubmitFault.{SubmitFault}
+use Rattle.request_queue.specs.declared.fault.SubmitFault.TheVariants as submit
+use Rattle.request_queue.specs.declared.reply.Progress.{Progress}
+use Rattle.request_queue.specs.declared.reply.Progress.TheVariants.{More, Done}
+use Rattle.request_queue.specs.declared.reply.Reply.{Reply}
+use Rattle.request_queue.specs.declared.reply.Reply.TheVariants.{Sectors, Written}
+use Rattle.request_queue.specs.SubmitFaults.{submit_number, submit_name}
 
 abbrev pub usage_text : List ℕ
 usage_text = codes "usage\n"
@@ -29,12 +39,18 @@ abbrev pub sector_lines : ℕ → ℕ → List ℕ → List ℕ
 sector_lines zero n bytes = []
 sector_lines (suc count) n bytes = sector_line n (take 512 bytes) ++ sector_lines count (n + 1) (drop 512 bytes)
 
-abbrev pub loaded_text : ℕ → List ℕ
-loaded_text count = codes "loaded " ++ (decimal count ++ codes "\n")
-
 -- number and name, and then a rest
 abbrev pub kind_then : ℕ → List ℕ → List ℕ → List ℕ
 kind_then number name rest = decimal number ++ (codes " " ++ (name ++ rest))
+
+-- ---- loads and removals
+
+-- requests are in flight
+abbrev pub busy_text : List ℕ
+busy_text = codes "busy\n"
+
+abbrev pub loaded_text : ℕ → List ℕ
+loaded_text count = codes "loaded " ++ (decimal count ++ codes "\n")
 
 -- the first fault of a text: its entry, its line and its kind
 abbrev pub fault_text : TextFault → List ℕ
@@ -44,8 +60,12 @@ fault_text f = codes "text fault " ++ (decimal f.entry ++ (codes " " ++ (decimal
 abbrev pub refusal_text : Refusal → List ℕ
 refusal_text r = codes "refused " ++ kind_then (load_number r.kind) (load_name r.kind) (codes " device " ++ (decimal r.device ++ (codes " line " ++ (decimal r.line ++ codes "\n"))))
 
-abbrev pub submit_text : SubmitFault → List ℕ
-submit_text fault = codes "refused " ++ kind_then (submit_number fault) (submit_name fault) (codes "\n")
+-- a load of so many entries
+abbrev pub load_text : ℕ → Result Unit (Held LoadFault) → List ℕ
+load_text count (Ok done) = loaded_text count
+load_text count (Err Busy) = busy_text
+load_text count (Err (Fault (load.Refused refusal))) = refusal_text refusal
+load_text count (Err (Fault load.NoMemory)) = no_memory
 
 abbrev pub removed_text : List ℕ
 removed_text = codes "removed\n"
@@ -54,24 +74,63 @@ removed_text = codes "removed\n"
 abbrev pub removal_text : RemoveFault → List ℕ
 removal_text fault = codes "refused " ++ kind_then (removal_number fault) (removal_name fault) (codes "\n")
 
+abbrev pub remove_text : Result Unit (Held RemoveFault) → List ℕ
+remove_text (Ok done) = removed_text
+remove_text (Err Busy) = busy_text
+remove_text (Err (Fault fault)) = removal_text fault
+
+-- ---- requests
+
+-- a request that isn't begun
+abbrev pub submit_text : SubmitFault → List ℕ
+submit_text submit.NoMemory = no_memory
+submit_text fault = codes "refused " ++ kind_then (submit_number fault) (submit_name fault) (codes "\n")
+
+-- one that is begun, and its ticket
+abbrev pub ticket_text : ℕ → List ℕ
+ticket_text ticket = codes "ticket " ++ (decimal ticket ++ codes "\n")
+
+abbrev pub submission_text : Result ℕ SubmitFault → List ℕ
+submission_text (Ok ticket) = ticket_text ticket
+submission_text (Err fault) = submit_text fault
+
 abbrev pub io_text : IoFault → List ℕ
 io_text io.ErrorTarget = codes "fault 1 ErrorTarget\n"
 io_text io.Mismatch = codes "fault 2 Mismatch\n"
 io_text (io.Device leaf) = codes "fault 3 Device " ++ (decimal leaf ++ codes "\n")
 io_text io.NoMemory = no_memory
 
--- the sectors that were read, or the fault
-abbrev pub answer_text : ℕ → Result (List ℕ) IoFault → List ℕ
-answer_text first (Ok bytes) = sector_lines (length bytes / 512) first bytes
-answer_text first (Err fault) = io_text fault
-
 abbrev pub written_text : List ℕ
 written_text = codes "written\n"
 
--- that all was written, or the fault
-abbrev pub write_text : Result Unit IoFault → List ℕ
-write_text (Ok done) = written_text
-write_text (Err fault) = io_text fault
+-- what a request gave that began at that sector
+abbrev pub reply_text : ℕ → Reply → List ℕ
+reply_text first (Sectors got) = sector_lines (length got.bytes / 512) first got.bytes
+reply_text first Written = written_text
+
+-- the same, or the fault that ended it
+abbrev pub answer_text : ℕ → Result Reply IoFault → List ℕ
+answer_text first (Ok reply) = reply_text first reply
+answer_text first (Err fault) = io_text fault
+
+-- a request that was served to its end, unless it wasn't begun
+abbrev pub run_text : ℕ → Result (Result Reply IoFault) SubmitFault → List ℕ
+run_text first (Ok answer) = answer_text first answer
+run_text first (Err fault) = submit_text fault
+
+abbrev pub more_text : List ℕ
+more_text = codes "more\n"
+
+abbrev pub no_ticket_text : List ℕ
+no_ticket_text = codes "refused 1 NoSuchTicket\n"
+
+-- a piece of a request that began at that sector
+abbrev pub step_text : ℕ → Result Progress NoSuchTicket → List ℕ
+step_text first (Ok More) = more_text
+step_text first (Ok (Done answer)) = answer_text first answer
+step_text first (Err none) = no_ticket_text
+
+-- ---- what is told
 
 -- a device's size and depth, and the most leaf sectors that one sector read and one written move
 abbrev pub cost_text : ℕ → ℕ → ℕ → ℕ → List ℕ

@@ -1,21 +1,15 @@
 // What a line of a session asks for.
 ghost use Rattle.std.specs.Prelude.{◌≡◌, ◌≤◌, length, option_map, IfSome};
-ghost use Rattle.stack_session.specs.Requests.{IsWithin, after_word, byte_of, command_request, cost, lone_request, moved, name_request, only_word, read_request, remove, request_of, table, write_count, write_request};
+ghost use Rattle.stack_session.specs.Accesses.{IsSmall, access_record};
+ghost use Rattle.stack_session.specs.Commands.{IsWithin, access_in, access_of, after_word, byte_of, command_of, command_record, command_with, cost, lone_command, moved, only_word, read_of, remove, step, submit, table, ticket_of, write_count, write_of};
+ghost use Rattle.stack_session.specs.Commands.{run};
 
+use crate::access::{Access, Filling};
 use crate::verb::{Verb, verb_of};
 use dm_table::{Words, number, white_len, word_len};
 
 // One more than a write may have, so that this is refused and not called usage.
 const MOST_ASKED: u64 = 2049;
-
-/// Sectors of the device of that name, of which every byte shall be the same.
-#[derive(Clone, Copy, Debug, PartialEq, Eq)]
-pub struct Filling<'a> {
-    pub name: &'a [u8],
-    pub first: u64,
-    pub count: u64,
-    pub byte: u8,
-}
 
 /// What a line asks for.
 #[derive(Clone, Copy, Debug, PartialEq, Eq)]
@@ -24,14 +18,12 @@ pub enum Command<'a> {
     Nothing,
     /// A stack text to load.
     Load(&'a [u8]),
-    /// Sectors of the device of that name.
-    Read {
-        name: &'a [u8],
-        first: u64,
-        count: u64,
-    },
-    /// Sectors to write.
-    Write(Filling<'a>),
+    /// Sectors to read or to write at once.
+    Run(Access<'a>),
+    /// Sectors to read or to write step by step.
+    Submit(Access<'a>),
+    /// The ticket of which the next piece is to be served.
+    Step(u64),
     /// The device of that name is to be removed.
     Remove(&'a [u8]),
     /// The size, the depth and the costs of the device of that name.
@@ -45,9 +37,9 @@ pub enum Command<'a> {
 }
 
 /// `load TEXT`, where the text is the rest of the line, `read NAME FIRST COUNT`, `write NAME FIRST COUNT BB`,
-/// `remove NAME`, `cost NAME`, `table NAME` or `moved`.
+/// `submit` and one of these two, `step T`, `remove NAME`, `cost NAME`, `table NAME` or `moved`.
 pub fn command_of(line: &[u8]) -> Command<'_>
-    ensures value { command_request result ≡ request_of line.now }
+    ensures value { command_record result ≡ command_of line.now }
     ensures short { IsWithin (length line.now) result }
 {
     let mut words = Words::new(line);
@@ -56,8 +48,10 @@ pub fn command_of(line: &[u8]) -> Command<'_>
     };
     match verb_of(word) {
         Some(Verb::Load) => Command::Load(after_word(line)),
-        Some(Verb::Read) => read_of(words),
-        Some(Verb::Write) => write_of(words),
+        Some(Verb::Read) => run_of(read_of(words)),
+        Some(Verb::Write) => run_of(write_of(words)),
+        Some(Verb::Submit) => submit_of(access_of(words)),
+        Some(Verb::Step) => step_of(words),
         Some(Verb::Remove) => remove_of(words),
         Some(Verb::Cost) => cost_of(words),
         Some(Verb::Table) => table_of(words),
@@ -66,10 +60,45 @@ pub fn command_of(line: &[u8]) -> Command<'_>
     }
 }
 
-// `NAME FIRST COUNT`
-fn read_of(mut words: Words<'_>) -> Command<'_>
-    ensures value { command_request result ≡ read_request words.entry }
+fn run_of(access: Option<Access<'_>>) -> Command<'_>
+    requires { IfSome access IsSmall }
+    ensures value { command_record result ≡ command_with run (option_map access_record access.entry) }
     ensures short { IsWithin 0 result }
+{
+    match access {
+        Some(access) => Command::Run(access),
+        None => Command::Usage,
+    }
+}
+
+fn submit_of(access: Option<Access<'_>>) -> Command<'_>
+    requires { IfSome access IsSmall }
+    ensures value { command_record result ≡ command_with submit (option_map access_record access.entry) }
+    ensures short { IsWithin 0 result }
+{
+    match access {
+        Some(access) => Command::Submit(access),
+        None => Command::Usage,
+    }
+}
+
+// `read NAME FIRST COUNT` or `write NAME FIRST COUNT BB`
+fn access_of(mut words: Words<'_>) -> Option<Access<'_>>
+    ensures value { option_map access_record result ≡ access_of words.entry }
+    ensures small { IfSome result IsSmall }
+{
+    let word = words.next_word()?;
+    match verb_of(word) {
+        Some(Verb::Read) => read_of(words),
+        Some(Verb::Write) => write_of(words),
+        _ => None,
+    }
+}
+
+// `NAME FIRST COUNT`
+fn read_of(mut words: Words<'_>) -> Option<Access<'_>>
+    ensures value { option_map access_record result ≡ read_of words.entry }
+    ensures small { IfSome result IsSmall }
 {
     let (Some(name), Some(first), Some(count), None) = (
         words.next_word(),
@@ -77,18 +106,18 @@ fn read_of(mut words: Words<'_>) -> Command<'_>
         words.next_word(),
         words.next_word(),
     ) else {
-        return Command::Usage;
+        return None;
     };
     let (Some(first), Some(count)) = (number(first), number(count)) else {
-        return Command::Usage;
+        return None;
     };
-    Command::Read { name, first, count }
+    Some(Access::Read { name, first, count })
 }
 
 // `NAME FIRST COUNT BB`
-fn write_of(mut words: Words<'_>) -> Command<'_>
-    ensures value { command_request result ≡ write_request words.entry }
-    ensures short { IsWithin 0 result }
+fn write_of(mut words: Words<'_>) -> Option<Access<'_>>
+    ensures value { option_map access_record result ≡ write_of words.entry }
+    ensures small { IfSome result IsSmall }
 {
     let (Some(name), Some(first), Some(count), Some(byte), None) = (
         words.next_word(),
@@ -97,18 +126,18 @@ fn write_of(mut words: Words<'_>) -> Command<'_>
         words.next_word(),
         words.next_word(),
     ) else {
-        return Command::Usage;
+        return None;
     };
     let (Some(first), Some(count), Some(byte)) = (number(first), write_count(count), byte_of(byte))
     else {
-        return Command::Usage;
+        return None;
     };
-    Command::Write(Filling {
+    Some(Access::Write(Filling {
         name,
         first,
         count,
         byte,
-    })
+    }))
 }
 
 // How many sectors are to be written.
@@ -134,9 +163,26 @@ fn byte_of(word: &[u8]) -> Option<u8>
     }
 }
 
+// `T`
+fn step_of(words: Words<'_>) -> Command<'_>
+    ensures value { command_record result ≡ command_with step (ticket_of words.entry) }
+    ensures short { IsWithin 0 result }
+{
+    match ticket_of(words) {
+        Some(ticket) => Command::Step(ticket),
+        None => Command::Usage,
+    }
+}
+
+fn ticket_of(words: Words<'_>) -> Option<u64>
+    ensures { result ≡ ticket_of words.entry }
+{
+    number(only_word(words)?)
+}
+
 // `NAME`
 fn remove_of(words: Words<'_>) -> Command<'_>
-    ensures value { command_request result ≡ name_request remove words.entry }
+    ensures value { command_record result ≡ command_with remove (only_word words.entry) }
     ensures short { IsWithin 0 result }
 {
     match only_word(words) {
@@ -147,7 +193,7 @@ fn remove_of(words: Words<'_>) -> Command<'_>
 
 // `NAME`
 fn cost_of(words: Words<'_>) -> Command<'_>
-    ensures value { command_request result ≡ name_request cost words.entry }
+    ensures value { command_record result ≡ command_with cost (only_word words.entry) }
     ensures short { IsWithin 0 result }
 {
     match only_word(words) {
@@ -158,7 +204,7 @@ fn cost_of(words: Words<'_>) -> Command<'_>
 
 // `NAME`
 fn table_of(words: Words<'_>) -> Command<'_>
-    ensures value { command_request result ≡ name_request table words.entry }
+    ensures value { command_record result ≡ command_with table (only_word words.entry) }
     ensures short { IsWithin 0 result }
 {
     match only_word(words) {
@@ -169,7 +215,7 @@ fn table_of(words: Words<'_>) -> Command<'_>
 
 // No further word.
 fn moved_of(mut words: Words<'_>) -> Command<'_>
-    ensures value { command_request result ≡ lone_request moved words.entry }
+    ensures value { command_record result ≡ lone_command moved words.entry }
     ensures short { IsWithin 0 result }
 {
     match words.next_word() {

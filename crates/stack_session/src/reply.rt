@@ -2,13 +2,13 @@
 ghost use Rattle.std.specs.Prelude.{◌≡◌, ◌+◌, ◌*◌, ◌/◌, ◌%◌, ◌<◌, decimal, ◌^◌, ◌==◌, ◌++◌, codes, length, slice_index};
 ghost use Rattle.std.specs.List.{list_all};
 ghost use Rattle.stack_session.specs.Counted.{Writes};
-ghost use Rattle.stack_session.specs.Texts.{usage_text, no_memory, loaded_text, fault_text, refusal_text, removed_text, removal_text, written_text, submit_text, io_text, sector_line, sector_lines, moved_text};
+ghost use Rattle.stack_session.specs.Texts.{usage_text, no_memory, busy_text, loaded_text, fault_text, refusal_text, removed_text, removal_text, ticket_text, more_text, no_ticket_text, written_text, submit_text, io_text, reply_text, sector_line, sector_lines, moved_text};
 ghost use Rattle.stack_session.specs.Replies.{cost_of};
 
 use crate::counted::Counted;
 use crate::fault::WriteFault;
-use crate::range::SubmitFault;
 use dm_table::TextFault;
+use request_queue::{Reply, SubmitFault, Ticket};
 use stack_engine::IoFault;
 use stack_loader::{Config, DevId, Refusal, RemoveFault};
 use std::io::Write;
@@ -27,6 +27,13 @@ pub fn say_loaded<W: Write>(writer: &mut Counted<W>, count: usize) -> Result<(),
     ensures { Writes W.contents writer.old writer.new (loaded_text count) result }
 {
     writer.print(format_args!("loaded {count}\n"))
+}
+
+/// `busy`
+pub fn say_busy<W: Write>(writer: &mut Counted<W>) -> Result<(), WriteFault>
+    ensures { Writes W.contents writer.old writer.new busy_text result }
+{
+    writer.put(b"busy\n")
 }
 
 /// `no memory`
@@ -54,13 +61,38 @@ pub fn say_refusal<W: Write>(writer: &mut Counted<W>, refusal: Refusal) -> Resul
     writer.print(format_args!("refused {number} {name} device {device} line {line}\n"))
 }
 
-/// `refused K NAME`
+/// `ticket T`
+pub fn say_ticket<W: Write>(writer: &mut Counted<W>, ticket: Ticket) -> Result<(), WriteFault>
+    ensures { Writes W.contents writer.old writer.new (ticket_text ticket.0) result }
+{
+    let Ticket(number) = ticket;
+    writer.print(format_args!("ticket {number}\n"))
+}
+
+/// `more`
+pub fn say_more<W: Write>(writer: &mut Counted<W>) -> Result<(), WriteFault>
+    ensures { Writes W.contents writer.old writer.new more_text result }
+{
+    writer.put(b"more\n")
+}
+
+/// `refused 1 NoSuchTicket`
+pub fn say_no_ticket<W: Write>(writer: &mut Counted<W>) -> Result<(), WriteFault>
+    ensures { Writes W.contents writer.old writer.new no_ticket_text result }
+{
+    writer.put(b"refused 1 NoSuchTicket\n")
+}
+
+/// `refused K NAME`, or `no memory`.
 pub fn say_submit_fault<W: Write>(
     writer: &mut Counted<W>,
     fault: SubmitFault,
 ) -> Result<(), WriteFault>
     ensures { Writes W.contents writer.old writer.new (submit_text fault) result }
 {
+    if fault == SubmitFault::NoMemory {
+        return say_no_memory(writer);
+    }
     let (number, name) = (fault.number(), fault.name());
     writer.print(format_args!("refused {number} {name}\n"))
 }
@@ -103,7 +135,7 @@ pub fn say_io_fault<W: Write>(writer: &mut Counted<W>, fault: IoFault) -> Result
 }
 
 // Writes a number.
-fn say_number<W: Write>(writer: &mut Counted<W>, number: u64) -> Result<(), WriteFault>
+fn say_number<W: Write>(writer: &mut Counted<W>, number: u128) -> Result<(), WriteFault>
     ensures { Writes W.contents writer.old writer.new (decimal number) result }
 {
     writer.print(number)
@@ -121,7 +153,7 @@ fn is_filled(bytes: &[u8]) -> bool
 // Writes one line: a number, a text and digits.
 fn say_digits<W: Write>(
     writer: &mut Counted<W>,
-    number: u64,
+    number: u128,
     between: &[u8],
     digits: &[u8],
 ) -> Result<(), WriteFault>
@@ -137,7 +169,7 @@ fn say_digits<W: Write>(
 #[tactic(auto, unfolding(crate::specs::Texts::sector_line))]
 fn say_sector<W: Write>(
     writer: &mut Counted<W>,
-    number: u64,
+    number: u128,
     sector: &[u8],
 ) -> Result<(), WriteFault>
     requires { length sector.now ≡ 512 }
@@ -159,19 +191,32 @@ pub fn say_sectors<W: Write>(
     first: u64,
     bytes: &[u8],
 ) -> Result<(), WriteFault>
-    requires whole { length bytes.now % 512 ≡ 0 }
-    requires fits { first + length bytes.now / 512 < 2 ^ 64 }
     ensures { Writes W.contents writer.old writer.new (sector_lines (length bytes.now / 512) first bytes.now) result }
 {
-    let mut number = first;
+    // No number of a sector wraps, whatever the first is.
+    let mut number = u128::from(first);
     let mut rest = bytes;
-    'sectors: while !rest.is_empty() {
+    'sectors: while rest.len() >= SECTOR {
         let (sector, after) = rest.split_at(SECTOR);
         say_sector(writer, number, sector)?;
         number += 1;
         rest = after;
     }
     Ok(())
+}
+
+/// Writes what a request gave that began at that sector: its sectors, or `written`.
+pub fn say_reply<W: Write>(
+    writer: &mut Counted<W>,
+    first: u64,
+    reply: Reply,
+) -> Result<(), WriteFault>
+    ensures { Writes W.contents writer.old writer.new (reply_text first reply) result }
+{
+    match reply {
+        Reply::Sectors(answer) => say_sectors(writer, first, answer.bytes.as_slice()),
+        Reply::Written => say_written(writer),
+    }
 }
 
 /// `sectors S depth D read R write W`

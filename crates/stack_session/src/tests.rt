@@ -6,6 +6,7 @@ ghost use Rattle.std.specs.Prelude.{◌≡◌, false};
 
 use crate::{Counted, SessionFault, session};
 use block_device::MemoryDev;
+use request_queue::Queue;
 use stack_engine::Stack;
 use stack_loader::Config;
 use std::io::{Read, Write};
@@ -30,10 +31,11 @@ fn end_of<R: Read, W: Write>(
     let alloc = rt.alloc();
     let config = Config::new(alloc, Vec::new(alloc))?;
     let devices: Vec<MemoryDev> = Vec::new(alloc);
-    let Ok(mut stack) = Stack::new(alloc, config, devices, 0) else {
+    let Ok(stack) = Stack::new(alloc, config, devices, 0) else {
         return Ok(Some(SessionFault::NoMemory));
     };
-    match session(alloc, &mut stack, reader, writer) {
+    let mut queue = Queue::new(alloc, stack);
+    match session(alloc, &mut queue, reader, writer) {
         Ok(()) => Ok(None),
         Err(fault) => Ok(Some(fault)),
     }

@@ -1,6 +1,6 @@
 // The names of a session's commands.
 ghost use Rattle.std.specs.Prelude.{◌≡◌};
-ghost use Rattle.stack_session.specs.Requests.{verb_of};
+ghost use Rattle.stack_session.specs.Commands.{verb_of};
 
 /// A command of a session.
 #[derive(Clone, Copy, Debug, PartialEq, Eq)]
@@ -8,6 +8,8 @@ pub enum Verb {
     Load,
     Read,
     Write,
+    Submit,
+    Step,
     Remove,
     Cost,
     Table,
@@ -15,7 +17,7 @@ pub enum Verb {
 }
 
 /// The command of that name.
-#[tactic(auto, unfolding(crate::specs::Requests::verb_of))]
+#[tactic(auto, unfolding(crate::specs::Commands::verb_of))]
 pub fn verb_of(word: &[u8]) -> Option<Verb>
     ensures { result ≡ verb_of word.now }
 {
@@ -25,6 +27,10 @@ pub fn verb_of(word: &[u8]) -> Option<Verb>
         Some(Verb::Read)
     } else if word == b"write".as_slice() {
         Some(Verb::Write)
+    } else if word == b"submit".as_slice() {
+        Some(Verb::Submit)
+    } else if word == b"step".as_slice() {
+        Some(Verb::Step)
     } else if word == b"remove".as_slice() {
         Some(Verb::Remove)
     } else if word == b"cost".as_slice() {

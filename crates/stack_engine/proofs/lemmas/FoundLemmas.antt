@@ -3,15 +3,18 @@ use Rattle.std.proofs.Common.{◌≡◌, ℕ, ◌+◌, ◌≤◌, List, [], ◌+
 use Rattle.std.proofs.lemmas.List.Elements.{Contains-append_left, All-append, All-nil}
 use Rattle.block_device.specs.Device.{Device}
 use Rattle.dm_table.specs.declared.table.Target.{Target}
-use Rattle.dm_table.specs.declared.table.Target.TheVariants.{Linear, Striped, Zero, Error}
+use Rattle.dm_table.specs.declared.table.Target.TheVariants.{Linear, Striped, Zero, Error, Crypt as crypt_target, Verity as verity_target}
 use Rattle.stack_loader.specs.declared.lower.Lower.{Lower}
 use Rattle.stack_loader.specs.Records.{Configuration}
 use Rattle.stack_engine.specs.Sectors.{SomeOf}
 use Rattle.stack_engine.specs.Beneath.{beneath, said_or}
 use Rattle.stack_engine.specs.Meaning.{Said, none_said, said_at}
-use Rattle.stack_engine.specs.Leaves.{AreRead}
+use Rattle.stack_engine.specs.Leaves.{AllSteady, AreRead}
+use Rattle.stack_engine.proofs.lemmas.LeafListLemmas.{AllSteady-kept, images-kept}
 use Rattle.stack_engine.proofs.lemmas.SectorLemmas.{IsHandedUp, said_at-each}
-use Rattle.stack_engine.specs.Found.{FoundRecord, Entry, entry_of, AreUsed, Grown, LineKeeps, AllKept}
+use Rattle.stack_engine.specs.Found.{FoundRecord, Entry, entry_of, AreUsed, Grown}
+use Rattle.stack_engine.specs.Outcomes.{Images}
+use Rattle.stack_engine.specs.Kept.{block_of, LineKeeps, AllKept}
 
 pub Grown-none : (entries : ℕ → List Entry) (first n : ℕ) (found : List FoundRecord) → Grown entries first n found found
 Grown-none entries first n found = record { added = []; is = sym (append-nil found); used = All-nil _; distinct = λ h. h }
@@ -49,6 +52,13 @@ LineKeeps-later c (Linear base) x a h = absurd h
 LineKeeps-later c (Striped chunk bases) x a h = absurd h
 LineKeeps-later c Zero x a h = absurd h
 LineKeeps-later c Error x a h = absurd h
+LineKeeps-later c (crypt_target crypt) x a h = absurd h
+LineKeeps-later c {old = old} {new = new} (verity_target v) x a h = record {
+  good = h.good;
+  exact = λ steady.
+      let before : AllSteady old = AllSteady-kept new old (sym a.moved.fixed) steady in
+      ap (λ (m : Images). block_of c m v x.chain.index) (images-kept a before) ∙ h.exact before;
+}
 
 pub kept-later : (c : Configuration) {old new : List Device} {n : ℕ} (found : List FoundRecord) → AreRead old n new → AllKept c old found → AllKept c new found
 kept-later c found a all = λ k d below.
@@ -72,6 +82,9 @@ line_said-mono at all d l (Linear base) s = said_or-mono at all (beneath (Linear
 line_said-mono at all d l (Striped chunk bases) s = said_or-mono at all (beneath (Striped chunk bases) s)
 line_said-mono at all d l Zero s = λ u v more b h. h
 line_said-mono at all d l Error s = λ u v more b h. h
+line_said-mono at all d l (crypt_target crypt) s = λ u v more b h. (h.0, said_or-mono at all (beneath (crypt_target crypt) s) u v more h.0 h.1, h.2)
+line_said-mono at all d l (verity_target line) s = λ u v more b h.
+    (h.0, record { given = more h.0 h.1.given; at = h.1.at; good = h.1.good }, h.2)
 
 pub said_at-mono : (c : Configuration) (lower : Lower) (s : ℕ) → IsMono (said_at c lower s)
 said_at-mono c lower s = said_at-each c IsMono (λ u v more b h. h) (λ i s u v more b h. h) line_said-mono lower s

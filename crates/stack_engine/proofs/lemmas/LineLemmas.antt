@@ -17,10 +17,10 @@ end_of line = line.start + line.length
 abbrev pub found_from : ℕ → List Line → ℕ → Option (ℕ × Line)
 found_from k lines s = find (λ p. nat_lt s (p.1.start + p.1.length)) (enumerate_from k lines)
 
-here : (k : ℕ) (line : Line) (lines : List Line) (s : ℕ) → s < end_of line → found_from k (line ∷ lines) s ≡ Some (k, line)
+pub here : (k : ℕ) (line : Line) (lines : List Line) (s : ℕ) → s < end_of line → found_from k (line ∷ lines) s ≡ Some (k, line)
 here k line lines s h = ap (λ (b : Bool). cond b (Some (k, line)) (found_from (k + 1) lines s)) (lt-ltb s (line.start + line.length) h)
 
-later : (k : ℕ) (line : Line) (lines : List Line) (s : ℕ) → end_of line ≤ s → found_from k (line ∷ lines) s ≡ found_from (k + 1) lines s
+pub later : (k : ℕ) (line : Line) (lines : List Line) (s : ℕ) → end_of line ≤ s → found_from k (line ∷ lines) s ≡ found_from (k + 1) lines s
 later k line lines s h = ap (λ (b : Bool). cond b (Some (k, line)) (found_from (k + 1) lines s)) (le-ltb s (line.start + line.length) h)
 
 -- further on in the same line

@@ -9,7 +9,7 @@ use Rattle.block_device.specs.Device.{spliced}
 use Rattle.dm_table.specs.declared.table.Base.{Base}
 use Rattle.dm_table.specs.declared.table.Line.{Line}
 use Rattle.dm_table.specs.declared.table.Target.{Target}
-use Rattle.dm_table.specs.declared.table.Target.TheVariants.{Linear, Striped, Zero, Error}
+use Rattle.dm_table.specs.declared.table.Target.TheVariants.{Linear, Striped, Zero, Error, Crypt as crypt_target, Verity as verity_target}
 use Rattle.stack_loader.specs.declared.lower.Lower.{Lower}
 use Rattle.stack_loader.specs.declared.lower.Lower.TheVariants.{Leaf as leaf, Device as device}
 use Rattle.stack_loader.specs.Records.{Configuration}
@@ -21,6 +21,7 @@ use Rattle.stack_loader.specs.Rules.{IsValid, most_depth}
 use Rattle.stack_loader.proofs.lemmas.ValidLemmas.{depth-low}
 use Rattle.stack_engine.specs.Sectors.{on_found, sector_rule}
 use Rattle.stack_engine.specs.Outcomes.{Images}
+use Rattle.stack_engine.specs.Units.{encrypted_unit, changed_from}
 use Rattle.stack_engine.specs.Beneath.{beneath, said_or, HandsOn}
 use Rattle.stack_engine.specs.Puts.{Put, done, stopped, then_put, Putting, none_put, Run, run_before, runs_from, put_runs, in_one_line, in_one_chunk, leaf_put, line_put, put_rule, put_on}
 use Rattle.stack_engine.proofs.StripeLemmas.{chunk-more}
@@ -215,6 +216,13 @@ module _ (at : List ℕ → ℕ → Putting) (adds : (name : List ℕ) → Adds 
       ∙ then_same (put_runs f (runs_from (in_one_chunk chunk) s (bytes ∷ [])) images) _ _ (λ i. sym (each (suc s) more i))
   line-adds d l Zero s bytes more images = refl
   line-adds d l Error s bytes more images = refl
+  line-adds d l (crypt_target crypt) s bytes more images =
+      let f : ℕ → List ℕ → List ℕ = encrypted_unit crypt.key crypt.iv_offset in
+      let t : ℕ = crypt.base.offset + s in
+      let e : suc t ≡ crypt.base.offset + suc s = omega arith in
+      adds crypt.base.device t (f s bytes) (changed_from f (suc s) more) images
+      ∙ ap (λ (n : ℕ). then_put (at crypt.base.device t (f s bytes ∷ []) images) (at crypt.base.device n (changed_from f (suc s) more))) e
+  line-adds d l (verity_target verity) s bytes more images = refl
 
 -- ---- devices
 
@@ -282,6 +290,9 @@ line_put-asks at at' d l (Striped chunk bases) s all =
     (fun_ext (λ t. said_or-same none_put at at' (Striped chunk bases) t all))
 line_put-asks at at' d l Zero s all = refl
 line_put-asks at at' d l Error s all = refl
+line_put-asks at at' d l (crypt_target crypt) s all =
+    ap (λ (put : Putting). λ (sectors : List (List ℕ)) (images : Images). put (changed_from (encrypted_unit crypt.key crypt.iv_offset) s sectors) images) (said_or-same none_put at at' (crypt_target crypt) s all)
+line_put-asks at at' d l (verity_target verity) s all = refl
 
 put_rule-local : (c : Configuration) → IsLocal c (put_rule c)
 put_rule-local c f g (leaf i) all = refl
@@ -317,3 +328,5 @@ line_put-beneath at d l (Striped chunk bases) s p bytes images hands e =
     ∙ ap (λ (o : Option (List ℕ × ℕ)). said_or none_put at o (bytes ∷ []) images) e
 line_put-beneath at d l Zero s p bytes images hands e = absurd hands
 line_put-beneath at d l Error s p bytes images hands e = absurd hands
+line_put-beneath at d l (crypt_target crypt) s p bytes images hands e = absurd hands
+line_put-beneath at d l (verity_target verity) s p bytes images hands e = absurd hands

@@ -6,7 +6,7 @@ use Rattle.std.proofs.Math.Path.{fun_ext}
 use Rattle.dm_table.specs.declared.table.Base.{Base}
 use Rattle.dm_table.specs.declared.table.Line.{Line}
 use Rattle.dm_table.specs.declared.table.Target.{Target}
-use Rattle.dm_table.specs.declared.table.Target.TheVariants.{Linear, Striped, Zero, Error}
+use Rattle.dm_table.specs.declared.table.Target.TheVariants.{Linear, Striped, Zero, Error, Crypt as crypt_target, Verity as verity_target}
 use Rattle.stack_loader.specs.declared.lower.Lower.{Lower}
 use Rattle.stack_loader.specs.declared.lower.Lower.TheVariants.{Leaf as leaf, Device as device}
 use Rattle.stack_loader.specs.Records.{Configuration}
@@ -18,7 +18,8 @@ use Rattle.stack_loader.specs.Rules.{IsValid, most_depth}
 use Rattle.stack_loader.proofs.lemmas.ValidLemmas.{depth-low}
 use Rattle.stack_engine.specs.Sectors.{OnLine, on_found, sector_rule, by_sector}
 use Rattle.stack_engine.specs.Beneath.{beneath, said_or, HandsOn}
-use Rattle.stack_engine.specs.Meaning.{Said, leaf_said, none_said, line_said, said_at}
+use Rattle.stack_engine.specs.Units.{decrypted_unit}
+use Rattle.stack_engine.specs.Meaning.{Said, leaf_said, none_said, crypt_said, verity_said, line_said, said_at, said_by_name}
 use Rattle.stack_engine.proofs.lemmas.LineLemmas.{found-more}
 
 -- it asks only of the devices that the line names
@@ -99,18 +100,19 @@ said_or-same none at at' (Linear base) s (all_and same more) = ap (λ h. h (base
 said_or-same none at at' (Striped chunk bases) s all = stripe-same none at at' bases (s / chunk % length bases) (λ base. base.offset + s / chunk / length bases * chunk + s % chunk) all
 said_or-same none at at' Zero s all = refl
 said_or-same none at at' Error s all = refl
+said_or-same none at at' (crypt_target crypt) s (all_and same more) = ap (λ h. h (crypt.base.offset + s)) same
+said_or-same none at at' (verity_target verity) s all = refl
 
 line_said-asks : AsksOfNames line_said
 line_said-asks at at' d l (Linear base) s all = said_or-same none_said at at' (Linear base) s all
 line_said-asks at at' d l (Striped chunk bases) s all = said_or-same none_said at at' (Striped chunk bases) s all
 line_said-asks at at' d l Zero s all = refl
 line_said-asks at at' d l Error s all = refl
+line_said-asks at at' d l (crypt_target crypt) s all = ap (crypt_said (decrypted_unit crypt.key crypt.iv_offset s)) (said_or-same none_said at at' (crypt_target crypt) s all)
+line_said-asks at at' d l (verity_target v) s (all_and on_data (all_and on_hash more)) =
+    ap (λ (f : ℕ → Said). verity_said f (at v.hash) d l v s) on_data ∙ ap (λ (f : ℕ → Said). verity_said (at' v.data) f d l v s) on_hash
 
 -- ---- the sectors of one line
-
--- what is said by the names of a configuration
-abbrev pub said_by_name : Configuration → List ℕ → ℕ → Said
-said_by_name c = by_name c (λ t. none_said) (said_at c)
 
 pub said_at-line : (c : Configuration) (valid : IsValid c) (d s j l : ℕ) (line : Line) → line_at c d s ≡ Some (l, line) → line.start ≤ s → s + j < line.start + line.length
     → said_at c (mapped d) (s + j) ≡ line_said (said_by_name c) d l line.target (s - line.start + j)
@@ -122,6 +124,8 @@ line_said-beneath at d l (Linear base) s p hands e = ap (said_or none_said at) e
 line_said-beneath at d l (Striped chunk bases) s p hands e = ap (said_or none_said at) e
 line_said-beneath at d l Zero s p hands e = absurd hands
 line_said-beneath at d l Error s p hands e = absurd hands
+line_said-beneath at d l (crypt_target crypt) s p hands e = absurd hands
+line_said-beneath at d l (verity_target verity) s p hands e = absurd hands
 
 -- ---- leaves
 

@@ -1,9 +1,10 @@
 -- Spans of sectors.
-use Rattle.std.proofs.Common.{◌≡◌, ℕ, zero, suc, ◌+◌, ◌*◌, ◌<◌, ◌≤◌, List, [], ◌∷◌, length, get_or, take, drop, replicate, refl, sym, ap, ◌∙◌, arith, Ok, Err}
-use Rattle.std.proofs.lemmas.List.{append_assoc, drop_more, replicate-append-replicate}
+use Rattle.std.proofs.Common.{◌≡◌, ℕ, zero, suc, ◌+◌, ◌*◌, ◌<◌, ◌≤◌, List, [], ◌∷◌, ◌++◌, length, get_or, take, drop, replicate, refl, sym, ap, ◌∙◌, arith, Ok, Err}
+use Rattle.std.proofs.lemmas.List.{append_assoc, drop-drop, drop_more, replicate-append-replicate}
+use Rattle.std.proofs.Math.Seq.{take-add}
 use Rattle.std.specs.List.{concat}
 use Rattle.block_device.specs.Device.{run_of}
-use Rattle.stack_engine.specs.Outcomes.{Outcome, Fault, joint_outcome, span, zero_sector}
+use Rattle.stack_engine.specs.Outcomes.{Outcome, Fault, joint_outcome, span, zero_sector, part}
 
 -- a leaf's span
 pub span_image : (f : ℕ → Outcome) (image : List (List ℕ)) (first n : ℕ) → ((s : ℕ) → f s ≡ Ok (get_or image s zero_sector)) → first + n ≤ length image → span f first n ≡ Ok (concat (run_of image first n))
@@ -60,3 +61,23 @@ span_zeros f a (suc n) is =
     let len : 512 + 512 * n ≡ 512 * suc n = omega arith in
     ap (λ (x : Outcome). joint_outcome x (span f (suc a) n)) first ∙ ap (joint_outcome (Ok (replicate 512 0))) rest
     ∙ ap Ok (replicate-append-replicate 512 (512 * n) 0) ∙ ap (λ (j : ℕ). Ok (replicate j 0)) len
+
+-- sectors that follow one another in some bytes
+part_first : (content : List ℕ) (w n : ℕ) → 512 * w + (512 + 512 * n) ≤ length content → part content w ++ take (512 * n) (drop (512 * suc w) content) ≡ take (512 * suc n) (drop (512 * w) content)
+part_first content w n h =
+    let len : 512 + 512 * n ≡ 512 * suc n = omega arith in
+    let at : 512 * w + 512 ≡ 512 * suc w = omega arith in
+    ap (λ (j : ℕ). part content w ++ take (512 * n) (drop j content)) (sym at)
+    ∙ ap (λ (l : List ℕ). part content w ++ take (512 * n) l) (sym (drop-drop 512 (512 * w) content))
+    ∙ sym (take-add 512 (512 * n) (drop (512 * w) content))
+    ∙ ap (λ (j : ℕ). take j (drop (512 * w) content)) len
+
+-- sectors of one block
+pub span_block : (f : ℕ → Outcome) (content : List ℕ) (a w n : ℕ) → ((j : ℕ) → j < n → f (a + j) ≡ Ok (part content (w + j))) → 512 * w + 512 * n ≤ length content → span f a n ≡ Ok (take (512 * n) (drop (512 * w) content))
+span_block f content a w zero is h = refl
+span_block f content a w (suc n) is h =
+    let a0 : a + 0 ≡ a = omega arith in
+    let w0 : w + 0 ≡ w = omega arith in
+    let first : f a ≡ Ok (part content w) = ap f (sym a0) ∙ is 0 (omega arith) ∙ ap (λ (j : ℕ). Ok (part content j)) w0 in
+    let rest = span_block f content (suc a) (suc w) n (λ j h. let x : suc a + j ≡ a + suc j = omega arith in let y : w + suc j ≡ suc w + j = omega arith in ap f x ∙ is (suc j) (omega (arith, h)) ∙ ap (λ (j : ℕ). Ok (part content j)) y) (omega (arith, h)) in
+    ap (λ (x : Outcome). joint_outcome x (span f (suc a) n)) first ∙ ap (joint_outcome (Ok (part content w))) rest ∙ ap Ok (part_first content w n (omega (arith, h)))

@@ -51,7 +51,7 @@ put-ends p next images (io.Device i) h = tt
 put-ends p next images io.NoMemory h = tt
 
 -- the same write by other faults that may come
-MayEnd-as : (May More : Fault → Type 0) (old new : List Device) (result : Result Unit IoFault) → ((x : Fault) → May x → More x) → MayEnd May old new result → MayEnd More old new result
+pub MayEnd-as : (May More : Fault → Type 0) (old new : List Device) (result : Result Unit IoFault) → ((x : Fault) → May x → More x) → MayEnd May old new result → MayEnd More old new result
 MayEnd-as May More old new (Ok x) more h = tt
 MayEnd-as May More old new (Err io.ErrorTarget) more h = more error_target h
 MayEnd-as May More old new (Err io.Mismatch) more h = h

@@ -5,7 +5,7 @@ use Rattle.std.specs.List.{AllByRecursion, cons_option}
 use Rattle.dm_table.specs.declared.table.Base.{Base}
 use Rattle.dm_table.specs.declared.table.Line.{Line}
 use Rattle.dm_table.specs.declared.table.Target.{Target}
-use Rattle.dm_table.specs.declared.table.Target.TheVariants.{Linear, Striped, Zero, Error}
+use Rattle.dm_table.specs.declared.table.Target.TheVariants.{Linear, Striped, Zero, Error, Crypt, Verity}
 use Rattle.stack_loader.specs.declared.lower.Lower.{Lower}
 use Rattle.stack_loader.specs.declared.lower.Lower.TheVariants.{Leaf as leaf, Device as device}
 use Rattle.stack_loader.specs.Records.{Configuration}
@@ -28,12 +28,16 @@ line_read_cost-local cost other (Linear base) all = all.0
 line_read_cost-local cost other (Striped chunk bases) all = bases-same cost other bases all
 line_read_cost-local cost other Zero all = refl
 line_read_cost-local cost other Error all = refl
+line_read_cost-local cost other (Crypt crypt) all = all.0
+line_read_cost-local cost other (Verity verity) all = rw (all.0, all.1.0) refl
 
 pub line_write_cost-local : IsLineLocal line_write_cost
 line_write_cost-local cost other (Linear base) all = all.0
 line_write_cost-local cost other (Striped chunk bases) all = bases-same cost other bases all
 line_write_cost-local cost other Zero all = refl
 line_write_cost-local cost other Error all = refl
+line_write_cost-local cost other (Crypt crypt) all = all.0
+line_write_cost-local cost other (Verity verity) all = refl
 
 -- ---- from the devices beneath to the names of each line
 

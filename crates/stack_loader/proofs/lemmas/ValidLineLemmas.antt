@@ -12,7 +12,7 @@ use Rattle.stack_loader.specs.declared.refusal.Refusal.{Refusal}
 use Rattle.stack_loader.specs.Names.{sectors_of}
 use Rattle.stack_loader.specs.Lines.{Follow}
 use Rattle.stack_loader.specs.Descend.{most_devices}
-use Rattle.stack_loader.specs.Rules.{IsValid, first, each_device, device_rules, depth_rules, cost_rules, unknown_names, cycles, table_rules, line_faults, line_rules, refusals_at, refuse, is_too_many, most_lines, most_sectors, is_undivided, is_beyond, names_read_only}
+use Rattle.stack_loader.specs.Rules.{IsValid, first, each_device, device_rules, depth_rules, cost_rules, unknown_names, cycles, table_rules, line_faults, line_rules, refusals_at, refuse, is_too_many, most_lines, most_sectors, is_undivided, is_beyond, is_uncovered, is_tree_beyond, needs_read_only, names_read_only}
 
 -- two lists in which nothing refuses
 pub parts : (xs ys : List (Option Refusal)) → first (xs ++ ys) ≡ None → (first xs ≡ None) × (first ys ≡ None)
@@ -85,6 +85,9 @@ pub record IsSound (c : Configuration) (writable : Bool) (before : ℕ) (line : 
   pub low : line.start + line.length ≤ most_sectors
   pub divides : is_undivided line.length line.target ≡ false
   pub inside : is_beyond c line.length line.target ≡ false
+  pub covered : is_uncovered line.length line.target ≡ false
+  pub tree : is_tree_beyond c line.target ≡ false
+  pub read_only : (writable && needs_read_only line.target) ≡ false
   pub lowers : (writable && names_read_only c line.target) ≡ false
 
 pub sound : (c : Configuration) → IsValid c → (d : ℕ) (x : DeviceRecord) → slice_get c.devices d ≡ Some x
@@ -98,7 +101,7 @@ sound c valid d x device l line there =
     from : (before : ℕ) → first (line_rules c x.writable (d + 1) (l + 1) before line) ≡ None → IsSound c x.writable before line
     from before h =
         let a = faults-none (d + 1) (l + 1) (line_faults c x.writable before line) h in
-        record { some = at_least_one line.length a.0; start = equal line.start before a.1.0; low = Rattle.std.proofs.lemmas.Bool.ltb-false most_sectors (line.start + line.length) a.1.1.0; divides = a.1.1.1.0; inside = a.1.1.1.1.0; lowers = a.1.1.1.1.1.0 }
+        record { some = at_least_one line.length a.0; start = equal line.start before a.1.0; low = Rattle.std.proofs.lemmas.Bool.ltb-false most_sectors (line.start + line.length) a.1.1.0; divides = a.1.1.1.0; inside = a.1.1.1.1.0; covered = a.1.1.1.1.1.0; tree = a.1.1.1.1.1.1.0; read_only = a.1.1.1.1.1.1.1.0; lowers = a.1.1.1.1.1.1.1.1.0 }
 
 -- ---- lines follow each other
 

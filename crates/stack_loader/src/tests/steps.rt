@@ -3,6 +3,7 @@ use super::{leaf, load};
 use crate::config::Config;
 use crate::lower::{DevId, Lower};
 use crate::resolve::name_count;
+use dm_table::Target;
 use std::alloc::Global;
 use std::test::Fail;
 
@@ -63,6 +64,44 @@ fn write_line(text: &mut String, config: &Config, d: DevId, line: u32) -> Result
         }
     }
     Ok(())
+}
+
+/// The first of 32 zero bytes, as the key of a line encrypts them for unit 0; a dash for a line without a key.
+fn write_key(text: &mut String, config: &Config, d: DevId, line: u32) -> Result<(), Fail> {
+    if d.0 as usize >= config.count() {
+        return Ok(());
+    }
+    match config.table(d).lines().get(line as usize) {
+        None => {}
+        Some(row) => match &row.target {
+            Target::Crypt(_) => {
+                let mut unit = [0u8; 32];
+                config.key(d, line).encrypt(0, &mut unit);
+                let first = u32::from_be_bytes([unit[0], unit[1], unit[2], unit[3]]);
+                write!(text, " {first:08x}")?;
+            }
+            Target::Linear(_)
+            | Target::Striped { .. }
+            | Target::Zero
+            | Target::Error
+            | Target::Verity(_) => write!(text, " -")?,
+        },
+    }
+    Ok(())
+}
+
+/// The keys of a device's lines.
+fn keys(alloc: Global, config: &Config, name: &str) -> Result<String, Fail> {
+    let mut text = String::new(alloc);
+    match config.device(name.as_bytes()) {
+        None => text.push_str("none")?,
+        Some(d) => {
+            for line in 0u32..4 {
+                write_key(&mut text, config, d, line)?;
+            }
+        }
+    }
+    Ok(text)
 }
 
 /// Size, flag, depth, costs, what its lines name, and the line of its middle sector with what is left there.
@@ -127,6 +166,8 @@ fn answer(alloc: Global, config: &mut Config, step: &Step) -> Result<String, Fai
         loaded(alloc, config, words)
     } else if verb == "remove" {
         removed(alloc, config, words)
+    } else if verb == "keys" {
+        keys(alloc, config, words)
     } else if verb == "lines" {
         walked(alloc, config, words)
     } else {

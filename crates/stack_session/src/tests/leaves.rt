@@ -2,6 +2,7 @@ ghost use Rattle.std.specs.Prelude.{◌≡◌, ◌∷◌, [], IfOk};
 
 use crate::{Counted, session};
 use block_device::{BlockDev, FailAt, MemoryDev};
+use request_queue::Queue;
 use stack_engine::Stack;
 use stack_loader::{Config, Leaf};
 use std::alloc::{AllocError, Global};
@@ -43,10 +44,11 @@ fn over<D: BlockDev + Drop>(
     let config = Config::new(alloc, leaves)?;
     let mut reader = Counted::new(input.as_bytes());
     let mut writer = Counted::new(Vec::new(alloc));
-    let Ok(mut stack) = Stack::new(alloc, config, devices, 0) else {
+    let Ok(stack) = Stack::new(alloc, config, devices, 0) else {
         return Ok(String::new(alloc));
     };
-    session(alloc, &mut stack, &mut reader, &mut writer)?;
+    let mut queue = Queue::new(alloc, stack);
+    session(alloc, &mut queue, &mut reader, &mut writer)?;
     Ok(String::from_utf8(writer.into_inner())?)
 }
 
@@ -55,15 +57,15 @@ fn failing(rt: &HostRuntime, k: u64) -> Result<FailAt<MemoryDev>, Fail> {
     Ok(FailAt::new(MemoryDev::ramp(rt.alloc(), 256, true)?, k))
 }
 
-// A fault names its leaf, counted from 1; what was read before it isn't printed, and the session goes on.
+// A fault names its leaf, counted from 1, and ends its request alone; what was read before it isn't printed.
 #[test]
 fn faults(rt: HostRuntime) -> Result<(), Fail> {
     for (first, second, input, output) in [
         (
             1,
             0,
-            "load a,,,rw,0 8 linear A 0\nread a 3 1\nread a 3 1\nmoved\n",
-            "loaded 1\nfault 3 Device 1\n3 all 03\nmoved 2 0\n",
+            "load a,,,rw,0 4 linear A 2,4 4 zero\nread a 3 2\nread a 3 2\nmoved\n",
+            "loaded 1\nfault 3 Device 1\n3 all 05\n4 all 00\nmoved 2 0\n",
         ),
         (
             0,
@@ -76,6 +78,12 @@ fn faults(rt: HostRuntime) -> Result<(), Fail> {
             2,
             "load a,,,rw,0 256 linear B 0\nread a 0 200\nread a 255 1\nmoved\n",
             "loaded 1\nfault 3 Device 2\n255 all ff\nmoved 201 0\n",
+        ),
+        (
+            0,
+            2,
+            "load a,,,rw,0 256 linear B 0\nsubmit read a 0 200\nsubmit read a 255 1\nstep 1\nstep 1\nstep 1\nstep 2\nmoved\n",
+            "loaded 1\nticket 1\nticket 2\nmore\nfault 3 Device 2\nrefused 1 NoSuchTicket\n255 all ff\nmoved 201 0\n",
         ),
     ] {
         let text = over(&rt, failing(&rt, first)?, failing(&rt, second)?, input)?;

@@ -17,27 +17,42 @@ fn params() -> Result<Superblock, Fail> {
     Ok(Superblock::new(UUID, 512, 512, 17, empty_salt()?)?)
 }
 
-// A data device, and a hash device of these bytes or else of zeros; one of them fails at its k-th call.
+#[derive(Clone, Copy, Debug, PartialEq, Eq)]
+enum Call {
+    Format,
+    Verify,
+    ReadChain,
+    ReadSuperblock,
+}
+
+#[derive(Clone, Copy, Debug, PartialEq, Eq)]
+enum Failing {
+    Data,
+    Hash,
+}
+
+// How a call ended.
+#[derive(Clone, Copy, Debug, PartialEq, Eq)]
+enum Ended {
+    Well,
+    WithDevice,
+    Otherwise,
+}
+
+// A data device, and a hash device of these bytes; one of them fails at its k-th call.
 fn pair(
     alloc: Global,
-    image: Option<&[u8]>,
-    fails: &str,
+    image: &[u8],
+    failing: Failing,
     k: u64,
 ) -> Result<(FailAt<MemoryDev>, FailAt<MemoryDev>), Fail> {
     let data = MemoryDev::ramp(alloc, 17, true)?;
-    let hash = match image {
-        Some(bytes) => MemoryDev::new(bytes.to_vec(alloc)?, true),
-        None => MemoryDev::zeros(alloc, 4, true)?,
+    let hash = MemoryDev::new(image.to_vec(alloc)?, true);
+    let (data_k, hash_k) = match failing {
+        Failing::Data => (k, 0),
+        Failing::Hash => (0, k),
     };
-    let (data_k, hash_k) = if fails == "data" { (k, 0) } else { (0, k) };
     Ok((FailAt::new(data, data_k), FailAt::new(hash, hash_k)))
-}
-
-// The formatted hash image, and its root.
-fn image_of(rt: &impl Abort, alloc: Global) -> Result<(Vec<u8>, [u8; 32]), Fail> {
-    let (mut data_dev, mut hash_dev) = pair(alloc, None, "none", 0)?;
-    let root = format(alloc, &mut data_dev, &mut hash_dev, params()?)?;
-    Ok((bytes_of(rt, alloc, &mut hash_dev)?, root))
 }
 
 // Whether the hash image begins with a superblock. The inner device is asked, which never fails.
@@ -48,79 +63,94 @@ fn is_formatted(hash_dev: &mut FailAt<MemoryDev>) -> bool {
         && decode(&sector).is_ok()
 }
 
-#[test]
-fn formatting_answers_each_failure(rt: HostRuntime) -> Result<(), Fail> {
+// A format ends well with a superblock, and with a failure without one.
+fn format_ended(
+    alloc: Global,
+    data_dev: &mut FailAt<MemoryDev>,
+    hash_dev: &mut FailAt<MemoryDev>,
+) -> Result<Ended, Fail> {
+    let answer = format(alloc, data_dev, hash_dev, params()?);
+    Ok(match (answer, is_formatted(hash_dev)) {
+        (Ok(_), true) => Ended::Well,
+        (Err(FormatFault::Device), false) => Ended::WithDevice,
+        _ => Ended::Otherwise,
+    })
+}
+
+fn chain_ended<R: Abort + AllocGlobal>(
+    rt: &R,
+    data_dev: &mut FailAt<MemoryDev>,
+    hash_dev: &mut FailAt<MemoryDev>,
+    root: &[u8; 32],
+) -> Result<Ended, Fail> {
+    let shape = params()?.shape();
+    let salt = params()?.salt();
+    Ok(match chain_of(rt, data_dev, hash_dev, &shape, 16) {
+        Ok(chain) if chain.holds(&shape, &salt, root) => Ended::Well,
+        Err(ChainFault::Device) => Ended::WithDevice,
+        _ => Ended::Otherwise,
+    })
+}
+
+// How the call ended on these devices; a format is the one of which nothing stands there before.
+fn end_of<R: Abort + AllocGlobal>(
+    rt: &R,
+    call: Call,
+    data_dev: &mut FailAt<MemoryDev>,
+    hash_dev: &mut FailAt<MemoryDev>,
+    root: &[u8; 32],
+) -> Result<Ended, Fail> {
     let alloc = rt.alloc();
-    for fails in ["data", "hash"] {
+    match call {
+        Call::Format => format_ended(alloc, data_dev, hash_dev),
+        Call::Verify => Ok(match verify(alloc, data_dev, hash_dev, root) {
+            Ok(Verdict::Matches) => Ended::Well,
+            Err(VerifyFault::Device) => Ended::WithDevice,
+            _ => Ended::Otherwise,
+        }),
+        Call::ReadChain => chain_ended(rt, data_dev, hash_dev, root),
+        Call::ReadSuperblock => Ok(match read_superblock(hash_dev) {
+            Ok(superblock) if superblock.blocks() == 17 => Ended::Well,
+            Err(VerifyFault::Device) => Ended::WithDevice,
+            _ => Ended::Otherwise,
+        }),
+    }
+}
+
+#[test]
+fn each_failure_is_answered(rt: HostRuntime) -> Result<(), Fail> {
+    let alloc = rt.alloc();
+    let zeros = [0u8; 2048];
+    let (mut data_dev, mut hash_dev) = pair(alloc, &zeros, Failing::Hash, 0)?;
+    let root = format(alloc, &mut data_dev, &mut hash_dev, params()?)?;
+    let image = bytes_of(&rt, alloc, &mut hash_dev)?;
+    for (call, failing) in [
+        (Call::Format, Failing::Data),
+        (Call::Format, Failing::Hash),
+        (Call::Verify, Failing::Data),
+        (Call::Verify, Failing::Hash),
+        (Call::ReadChain, Failing::Data),
+        (Call::ReadChain, Failing::Hash),
+        (Call::ReadSuperblock, Failing::Hash),
+    ] {
+        let held = if call == Call::Format {
+            zeros.as_slice()
+        } else {
+            image.as_slice()
+        };
         let mut met = 0u64;
         for k in 1..MANY {
-            let (mut data_dev, mut hash_dev) = pair(alloc, None, fails, k)?;
-            let answer = format(alloc, &mut data_dev, &mut hash_dev, params()?);
+            let (mut data_dev, mut hash_dev) = pair(alloc, held, failing, k)?;
+            let end = end_of(&rt, call, &mut data_dev, &mut hash_dev, &root)?;
             assert_eq!(rt; data_dev.writes(), 0);
             if data_dev.failures() == 0 && hash_dev.failures() == 0 {
-                assert!(rt; answer.is_ok());
-                assert!(rt; is_formatted(&mut hash_dev));
+                assert_eq!(rt; end, Ended::Well, "{call:?} {failing:?}");
                 break;
             }
-            assert_eq!(rt; answer, Err(FormatFault::Device), "{fails} {k}");
-            assert!(rt; !is_formatted(&mut hash_dev), "{fails} {k}");
+            assert_eq!(rt; end, Ended::WithDevice, "{call:?} {failing:?} {k}");
             met = k;
         }
-        assert!(rt; 0 < met && met < MANY - 1, "{fails} {met}");
+        assert!(rt; 0 < met && met < MANY - 1, "{call:?} {failing:?} {met}");
     }
-    Ok(())
-}
-
-#[test]
-fn verifying_answers_each_failure(rt: HostRuntime) -> Result<(), Fail> {
-    let alloc = rt.alloc();
-    let (image, root) = image_of(&rt, alloc)?;
-    for fails in ["data", "hash"] {
-        let mut met = 0u64;
-        for k in 1..MANY {
-            let (mut data_dev, mut hash_dev) = pair(alloc, Some(&image), fails, k)?;
-            let answer = verify(alloc, &mut data_dev, &mut hash_dev, &root);
-            if data_dev.failures() == 0 && hash_dev.failures() == 0 {
-                assert_eq!(rt; answer, Ok(Verdict::Matches));
-                break;
-            }
-            assert_eq!(rt; answer, Err(VerifyFault::Device), "{fails} {k}");
-            met = k;
-        }
-        assert!(rt; 0 < met && met < MANY - 1, "{fails} {met}");
-    }
-    Ok(())
-}
-
-#[test]
-fn reading_a_chain_answers_each_failure(rt: HostRuntime) -> Result<(), Fail> {
-    let alloc = rt.alloc();
-    let (image, root) = image_of(&rt, alloc)?;
-    let shape = params()?.shape();
-    for fails in ["data", "hash"] {
-        let mut met = 0u64;
-        for k in 1..MANY {
-            let (mut data_dev, mut hash_dev) = pair(alloc, Some(&image), fails, k)?;
-            let answer = chain_of(&rt, &mut data_dev, &mut hash_dev, &shape, 16);
-            if data_dev.failures() == 0 && hash_dev.failures() == 0 {
-                assert!(rt; answer?.holds(&shape, &params()?.salt(), &root));
-                break;
-            }
-            assert_eq!(rt; answer.err(), Some(ChainFault::Device), "{fails} {k}");
-            met = k;
-        }
-        assert!(rt; 0 < met && met < MANY - 1, "{fails} {met}");
-    }
-    Ok(())
-}
-
-#[test]
-fn reading_a_superblock_answers_a_failure(rt: HostRuntime) -> Result<(), Fail> {
-    let alloc = rt.alloc();
-    let (image, _root) = image_of(&rt, alloc)?;
-    let (_data_dev, mut hash_dev) = pair(alloc, Some(&image), "hash", 1)?;
-    let answer = read_superblock(&mut hash_dev);
-    assert_eq!(rt; answer.err(), Some(VerifyFault::Device));
-    assert_eq!(rt; read_superblock(&mut hash_dev)?.blocks(), 17);
     Ok(())
 }

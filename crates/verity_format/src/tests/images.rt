@@ -9,7 +9,7 @@ use std::test::Fail;
 
 // Each line: the sizes of a data block and of a hash block, the number of data blocks, the salt, the seed of
 // the data, the root, and the size and the SHA-256 digest of the hash image.
-const SMALL: [&str; 18] = [
+const LINES: [&str; 20] = [
     "512 512 5 01080f161d242b323940474e555c636a71787f868d949ba2a9b0b7bec5ccd3da case0 2f57af2af72819586c59a8d1b01ddebd4f2e39d13591b935173ff51a93d931ff 1024 60a335c6b74863ff8bbfebd21d9a9b6865e5f674db9d8043879dbb262429c79b",
     "512 2048 5 01080f161d242b323940474e555c636a71787f868d949ba2a9b0b7bec5ccd3da case2 5ac00205b4f0521ca82557d89142713ca22e50c5cbf4dcb838ba95b53ce7d328 4096 a3a214c4f342984180b6fba0d730647b6a27d843d8b5abbba4af4ccb63ccc00f",
     "1024 512 5 01080f161d242b323940474e555c636a71787f868d949ba2a9b0b7bec5ccd3da case4 2e787e72daef93aeff9cc4c9e96a07df91abbdda660ef79eca2dc3b69f72e538 1024 ded7b421a27ee228e12912fb07efd6d22c3d027886762728c7c2f1e30208ecf3",
@@ -28,10 +28,6 @@ const SMALL: [&str; 18] = [
     "512 4096 129 01080f161d242b323940474e555c636a71787f868d949ba2a9b0b7bec5ccd3dae1e8eff6fd040b121920272e353c434a51585f666d747b828990979ea5acb3bac1c8cfd6dde4ebf2f900070e151c232a31383f464d545b626970777e858c939aa1a8afb6bdc4cbd2d9e0e7eef5fc030a11181f262d343b424950575e656c737a81888f969da4abb2b9c0c7ced5dce3eaf1f8ff060d141b222930373e454c535a61686f767d848b9299a0a7aeb5bcc3cad1d8dfe6edf4fb020910171e252c333a41484f565d646b727980878e959ca3aab1b8bfc6cdd4dbe2e9f0f7fe050c131a21282f363d444b525960676e757c838a91989fa6adb4bbc2c9d0d7dee5ecf3fa case30 e1616fc399b51a495a338f1a9016f6a5dcabca2a43d243f50678cbd6ef4fd6b9 16384 ef12e9bdc8ac68f7643f55ffd1e0a58c71623f5bebbb11b88d499bb0b1625a21",
     "2048 2048 100 01080f161d242b323940474e555c636a71787f868d949ba2a9b0b7bec5ccd3dae1e8eff6fd040b121920272e353c434a51585f666d747b case32 37bd960236de6730163c792e11d4aaa2b9c7912693bef39572efe1054694b393 8192 2e321d0008df898788e1103a5ba0e8f1b39a80f7cb4484536aee9a29f9965108",
     "4096 4096 9 01080f161d242b323940474e555c636a71787f868d949ba2a9b0b7bec5ccd3dae1e8eff6fd040b121920272e353c434a51585f666d747b828990979ea5acb3 case34 d0fec47c339f860e3b8f824d3f17cb383a7283aa7bb6345672d30f1c5ca329ce 8192 6f616dcbbdac56d8083e1237faea306a9da00f7a9c56bbcacd00b0b3eeaecc58",
-];
-
-// Of 64 MiB of data, on two levels and on three.
-const LARGE: [&str; 2] = [
     "4096 4096 16384 01080f161d242b323940474e555c636a71787f868d949ba2a9b0b7bec5ccd3da case22 4dfa1605d6fd2c403034a9b46dcdb8313d7494794d604251e30c863682685346 532480 8048eef8902d7053ca3acb32b55c6fb3c4ee3f9c1538d5d3ec0a2ae8b77d5dde",
     "4096 4096 16385 01080f161d242b323940474e555c636a71787f868d949ba2a9b0b7bec5ccd3da case23 555198b8a33f8137a2a141170304295125f0038f0c3c54127e0b43ab36fe9c87 544768 db67b586e51de3594216de7d22f41e71f664898f628720de7f7a1bab8fd02f87",
 ];
@@ -124,106 +120,147 @@ fn is_as_made<R: Abort + AllocGlobal>(rt: &R, line: &str) -> Result<(), Fail> {
     Ok(())
 }
 
+// The last two images are of 64 MiB, on two levels and on three: they take seconds as the gate builds the test, and more
+// than a minute as `rt try` does.
 #[test]
 fn formats_as_veritysetup_does(rt: HostRuntime) -> Result<(), Fail> {
-    for line in &SMALL {
+    for line in &LINES {
         is_as_made(&rt, line)?;
     }
     Ok(())
 }
 
-// Takes seconds as the gate builds it, and more than a minute as `rt try` does.
-#[test]
-fn formats_large_images_as_veritysetup_does(rt: HostRuntime) -> Result<(), Fail> {
-    for line in &LARGE {
-        is_as_made(&rt, line)?;
-    }
-    Ok(())
-}
-
-// The bytes with some bits of one byte flipped.
-fn flipped(alloc: Global, bytes: &[u8], at: usize, bits: u8) -> Result<MemoryDev, Fail> {
-    let mut held = bytes.to_vec(alloc)?;
+// The device with some bits of one byte flipped.
+fn flipped(
+    rt: &impl Abort,
+    alloc: Global,
+    mut dev: MemoryDev,
+    at: usize,
+    bits: u8,
+) -> Result<MemoryDev, Fail> {
+    let mut held = bytes_of(rt, alloc, &mut dev)?;
     let byte = held.get_mut(at).ok_or("past the image")?;
     *byte ^= bits;
     Ok(MemoryDev::new(held, false))
 }
 
-// What is found after bits of one byte of the hash image were flipped: 129 blocks of 512 bytes, hash blocks of
-// 4,096 on two levels, which begin at blocks 1 and 2, and a salt of 256.
-const FOUND_ON_TWO_LEVELS: [(usize, u8, Result<Verdict, VerifyFault>); 23] = [
-    (7, 1, Err(VerifyFault::Super(SuperFault::Signature))),
-    (8, 2, Err(VerifyFault::Super(SuperFault::Version))),
-    (12, 1, Err(VerifyFault::Super(SuperFault::HashType))),
-    (16, 1, Ok(Verdict::Matches)),
-    (37, 1, Err(VerifyFault::Super(SuperFault::Algorithm))),
-    (63, 1, Ok(Verdict::Matches)),
-    (64, 1, Err(VerifyFault::Super(SuperFault::DataBlockSize))),
-    (69, 1, Err(VerifyFault::Super(SuperFault::HashBlockSize))),
-    (72, 1, Ok(Verdict::AreaDiffers(1))),
-    (72, 2, Err(VerifyFault::TooSmall)),
-    (79, 1, Err(VerifyFault::Super(SuperFault::DataBlocks))),
-    (80, 1, Err(VerifyFault::Super(SuperFault::SaltSize))),
-    (81, 1, Ok(Verdict::AreaDiffers(1))),
-    (82, 1, Ok(Verdict::Matches)),
-    (88, 1, Ok(Verdict::AreaDiffers(1))),
-    (343, 1, Ok(Verdict::AreaDiffers(1))),
-    (344, 1, Ok(Verdict::Matches)),
-    (4095, 1, Ok(Verdict::Matches)),
-    (4096, 1, Ok(Verdict::AreaDiffers(1))),
-    (8191, 1, Ok(Verdict::AreaDiffers(1))),
-    (8192, 1, Ok(Verdict::AreaDiffers(2))),
-    (12288, 1, Ok(Verdict::AreaDiffers(3))),
-    (16383, 1, Ok(Verdict::AreaDiffers(3))),
+const HASH: bool = false;
+
+const DATA: bool = true;
+
+// One block, and no level.
+const NO_LEVEL: usize = 8;
+
+// 257 blocks of 512 bytes, hash blocks of that size on levels that begin at blocks 1, 2 and 4; block 20 holds one digest.
+const THREE_LEVELS: usize = 13;
+
+// 129 blocks of 512 bytes, hash blocks of 4,096 on levels that begin at blocks 1 and 2, and a salt of 256.
+const TWO_LEVELS: usize = 15;
+
+// What is found under a line's root after bits of one byte of an image were flipped. The digest of a changed data block
+// stands on each level, and with no level it is the root.
+const FOUND: [(usize, bool, usize, u8, Result<Verdict, VerifyFault>); 31] = [
+    (
+        TWO_LEVELS,
+        HASH,
+        7,
+        1,
+        Err(VerifyFault::Super(SuperFault::Signature)),
+    ),
+    (
+        TWO_LEVELS,
+        HASH,
+        8,
+        2,
+        Err(VerifyFault::Super(SuperFault::Version)),
+    ),
+    (
+        TWO_LEVELS,
+        HASH,
+        12,
+        1,
+        Err(VerifyFault::Super(SuperFault::HashType)),
+    ),
+    (TWO_LEVELS, HASH, 16, 1, Ok(Verdict::Matches)),
+    (
+        TWO_LEVELS,
+        HASH,
+        37,
+        1,
+        Err(VerifyFault::Super(SuperFault::Algorithm)),
+    ),
+    (TWO_LEVELS, HASH, 63, 1, Ok(Verdict::Matches)),
+    (
+        TWO_LEVELS,
+        HASH,
+        64,
+        1,
+        Err(VerifyFault::Super(SuperFault::DataBlockSize)),
+    ),
+    (
+        TWO_LEVELS,
+        HASH,
+        69,
+        1,
+        Err(VerifyFault::Super(SuperFault::HashBlockSize)),
+    ),
+    (TWO_LEVELS, HASH, 72, 1, Ok(Verdict::AreaDiffers(1))),
+    (TWO_LEVELS, HASH, 72, 2, Err(VerifyFault::TooSmall)),
+    (
+        TWO_LEVELS,
+        HASH,
+        79,
+        1,
+        Err(VerifyFault::Super(SuperFault::DataBlocks)),
+    ),
+    (
+        TWO_LEVELS,
+        HASH,
+        80,
+        1,
+        Err(VerifyFault::Super(SuperFault::SaltSize)),
+    ),
+    (TWO_LEVELS, HASH, 81, 1, Ok(Verdict::AreaDiffers(1))),
+    (TWO_LEVELS, HASH, 82, 1, Ok(Verdict::Matches)),
+    (TWO_LEVELS, HASH, 88, 1, Ok(Verdict::AreaDiffers(1))),
+    (TWO_LEVELS, HASH, 343, 1, Ok(Verdict::AreaDiffers(1))),
+    (TWO_LEVELS, HASH, 344, 1, Ok(Verdict::Matches)),
+    (TWO_LEVELS, HASH, 4095, 1, Ok(Verdict::Matches)),
+    (TWO_LEVELS, HASH, 4096, 1, Ok(Verdict::AreaDiffers(1))),
+    (TWO_LEVELS, HASH, 8191, 1, Ok(Verdict::AreaDiffers(1))),
+    (TWO_LEVELS, HASH, 8192, 1, Ok(Verdict::AreaDiffers(2))),
+    (TWO_LEVELS, HASH, 12288, 1, Ok(Verdict::AreaDiffers(3))),
+    (TWO_LEVELS, HASH, 16383, 1, Ok(Verdict::AreaDiffers(3))),
+    (THREE_LEVELS, HASH, 512, 1, Ok(Verdict::AreaDiffers(1))),
+    (THREE_LEVELS, HASH, 1024, 1, Ok(Verdict::AreaDiffers(2))),
+    (THREE_LEVELS, HASH, 2048, 1, Ok(Verdict::AreaDiffers(4))),
+    (THREE_LEVELS, HASH, 10271, 1, Ok(Verdict::AreaDiffers(20))),
+    (THREE_LEVELS, HASH, 10751, 1, Ok(Verdict::AreaDiffers(20))),
+    (THREE_LEVELS, DATA, 0, 1, Ok(Verdict::AreaDiffers(1))),
+    (THREE_LEVELS, DATA, 131583, 1, Ok(Verdict::AreaDiffers(1))),
+    (NO_LEVEL, DATA, 4095, 1, Ok(Verdict::RootDiffers)),
 ];
 
-// The same of 257 blocks of 512 bytes, hash blocks of that size on three levels, which begin at blocks 1, 2
-// and 4; block 20 holds one digest.
-const FOUND_ON_THREE_LEVELS: [(usize, u8, Result<Verdict, VerifyFault>); 5] = [
-    (512, 1, Ok(Verdict::AreaDiffers(1))),
-    (1024, 1, Ok(Verdict::AreaDiffers(2))),
-    (2048, 1, Ok(Verdict::AreaDiffers(4))),
-    (10271, 1, Ok(Verdict::AreaDiffers(20))),
-    (10751, 1, Ok(Verdict::AreaDiffers(20))),
-];
-
-// That is found after each change of the line's hash image.
-fn finds_each<R: Abort + AllocGlobal>(
-    rt: &R,
-    line: &str,
-    changes: &[(usize, u8, Result<Verdict, VerifyFault>)],
-) -> Result<(), Fail> {
-    let alloc = rt.alloc();
-    let made = made_of(alloc, line)?;
-    let (mut data_dev, mut hash_dev, root) = formatted(rt, alloc, &made)?;
-    let image = bytes_of(rt, alloc, &mut hash_dev)?;
-    for (at, bits, found) in changes {
-        let mut changed = flipped(alloc, &image, *at, *bits)?;
-        let verdict = verify(alloc, &mut data_dev, &mut changed, &root);
-        assert_eq!(rt; verdict, *found, "at {at}");
-    }
-    Ok(())
-}
-
 #[test]
-fn finds_a_changed_byte_of_the_hash_image(rt: HostRuntime) -> Result<(), Fail> {
-    finds_each(&rt, SMALL[15], &FOUND_ON_TWO_LEVELS)?;
-    finds_each(&rt, SMALL[13], &FOUND_ON_THREE_LEVELS)
-}
-
-// The digest of a changed block stands on each level, and with no level it is the root.
-#[test]
-fn finds_a_changed_byte_of_the_data(rt: HostRuntime) -> Result<(), Fail> {
+fn finds_a_changed_byte(rt: HostRuntime) -> Result<(), Fail> {
     let alloc = rt.alloc();
-    for (line, at, found) in [
-        (SMALL[13], 0usize, Verdict::AreaDiffers(1)),
-        (SMALL[13], 131583, Verdict::AreaDiffers(1)),
-        (SMALL[8], 4095, Verdict::RootDiffers),
-    ] {
-        let (mut data_dev, mut hash_dev, root) = formatted(&rt, alloc, &made_of(alloc, line)?)?;
-        let data = bytes_of(&rt, alloc, &mut data_dev)?;
-        let mut changed = flipped(alloc, &data, at, 1)?;
-        let verdict = verify(alloc, &mut changed, &mut hash_dev, &root)?;
+    for (line, device, at, bits, found) in FOUND {
+        let made = made_of(alloc, LINES.get(line).ok_or("no such line")?)?;
+        let (mut data_dev, mut hash_dev, root) = formatted(&rt, alloc, &made)?;
+        if device == DATA {
+            data_dev = flipped(&rt, alloc, data_dev, at, bits)?;
+        } else {
+            hash_dev = flipped(&rt, alloc, hash_dev, at, bits)?;
+        }
+        let verdict = verify(alloc, &mut data_dev, &mut hash_dev, &root);
+        assert_eq!(rt; verdict, found, "at {at}");
+        // Under another root the same stands first.
+        let found = if found == Ok(Verdict::Matches) {
+            Ok(Verdict::RootDiffers)
+        } else {
+            found
+        };
+        let verdict = verify(alloc, &mut data_dev, &mut hash_dev, &[0; 32]);
         assert_eq!(rt; verdict, found, "at {at}");
     }
     Ok(())

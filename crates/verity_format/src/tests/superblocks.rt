@@ -8,10 +8,11 @@ use std::test::Fail;
 
 // Each line: the sizes of a data block and of a hash block, the number of data blocks, the salt, and the
 // superblock up to its last byte that isn't zero.
-const WRITTEN: [&str; 4] = [
+const WRITTEN: [&str; 5] = [
     "512 512 5 01080f161d242b323940474e555c636a71787f868d949ba2a9b0b7bec5ccd3da 766572697479000001000000010000000123456789abcdef0123456789abcdef736861323536000000000000000000000000000000000000000000000000000000020000000200000500000000000000200000000000000001080f161d242b323940474e555c636a71787f868d949ba2a9b0b7bec5ccd3da",
     "4096 4096 1 - 766572697479000001000000010000000123456789abcdef0123456789abcdef7368613235360000000000000000000000000000000000000000000000000000001000000010000001",
     "4096 4096 128 01080f161d242b323940474e555c636a71787f868d949ba2a9b0b7bec5ccd3da 766572697479000001000000010000000123456789abcdef0123456789abcdef736861323536000000000000000000000000000000000000000000000000000000100000001000008000000000000000200000000000000001080f161d242b323940474e555c636a71787f868d949ba2a9b0b7bec5ccd3da",
+    "4096 4096 129 - 766572697479000001000000010000000123456789abcdef0123456789abcdef7368613235360000000000000000000000000000000000000000000000000000001000000010000081",
     "512 4096 129 01080f161d242b323940474e555c636a71787f868d949ba2a9b0b7bec5ccd3dae1e8eff6fd040b121920272e353c434a51585f666d747b828990979ea5acb3bac1c8cfd6dde4ebf2f900070e151c232a31383f464d545b626970777e858c939aa1a8afb6bdc4cbd2d9e0e7eef5fc030a11181f262d343b424950575e656c737a81888f969da4abb2b9c0c7ced5dce3eaf1f8ff060d141b222930373e454c535a61686f767d848b9299a0a7aeb5bcc3cad1d8dfe6edf4fb020910171e252c333a41484f565d646b727980878e959ca3aab1b8bfc6cdd4dbe2e9f0f7fe050c131a21282f363d444b525960676e757c838a91989fa6adb4bbc2c9d0d7dee5ecf3fa 766572697479000001000000010000000123456789abcdef0123456789abcdef736861323536000000000000000000000000000000000000000000000000000000020000001000008100000000000000000100000000000001080f161d242b323940474e555c636a71787f868d949ba2a9b0b7bec5ccd3dae1e8eff6fd040b121920272e353c434a51585f666d747b828990979ea5acb3bac1c8cfd6dde4ebf2f900070e151c232a31383f464d545b626970777e858c939aa1a8afb6bdc4cbd2d9e0e7eef5fc030a11181f262d343b424950575e656c737a81888f969da4abb2b9c0c7ced5dce3eaf1f8ff060d141b222930373e454c535a61686f767d848b9299a0a7aeb5bcc3cad1d8dfe6edf4fb020910171e252c333a41484f565d646b727980878e959ca3aab1b8bfc6cdd4dbe2e9f0f7fe050c131a21282f363d444b525960676e757c838a91989fa6adb4bbc2c9d0d7dee5ecf3fa",
 ];
 
@@ -46,106 +47,52 @@ fn reads_and_writes_superblocks(rt: HostRuntime) -> Result<(), Fail> {
     Ok(())
 }
 
-// What is read after one byte was set.
-fn fault_with(bytes: &[u8; 512], at: usize, byte: u8) -> Option<SuperFault> {
-    let mut changed = *bytes;
-    if at < 512 {
-        changed[at] = byte;
-    }
-    decode(&changed).err()
-}
+// A byte and what it is set to, whether the salt's size is set to 257 before, and what is read then.
+const CHANGED: [(usize, u8, bool, Option<SuperFault>); 17] = [
+    (0, 0, false, Some(SuperFault::Signature)),
+    (8, 2, false, Some(SuperFault::Version)),
+    (12, 0, false, Some(SuperFault::HashType)),
+    (37, 0, false, Some(SuperFault::Algorithm)),
+    (38, 1, false, Some(SuperFault::Algorithm)),
+    (65, 0x18, false, Some(SuperFault::DataBlockSize)),
+    (69, 0x18, false, Some(SuperFault::HashBlockSize)),
+    (72, 0, false, Some(SuperFault::DataBlocks)),
+    (79, 0xff, false, Some(SuperFault::DataBlocks)),
+    (81, 2, false, Some(SuperFault::SaltSize)),
+    (8, 1, true, Some(SuperFault::SaltSize)),
+    (8, 2, true, Some(SuperFault::Version)),
+    (39, 1, false, None),
+    (63, 1, false, None),
+    (82, 1, false, None),
+    (88, 1, false, None),
+    (511, 1, false, None),
+];
 
-fn stands_at(bytes: &[u8; 512], at: usize, part: &[u8]) -> bool {
-    at <= 512 && bytes[at..].starts_with(part)
-}
-
-#[test]
-fn writes_each_field_at_its_place(rt: HostRuntime) -> Result<(), Fail> {
-    let salt = Salt::new(&[]).ok_or("salt")?;
-    let bytes = Superblock::new([0; 16], 4096, 4096, 129, salt)?.encode();
-    let alloc = rt.alloc();
-    assert!(rt;
-        stands_at(
-            &bytes,
-            0,
-            &hex_bytes(alloc, "76657269747900000100000001000000")?
-        )
-    );
-    assert!(rt; stands_at(&bytes, 32, &hex_bytes(alloc, "736861323536")?));
-    assert!(rt;
-        stands_at(
-            &bytes,
-            64,
-            &hex_bytes(alloc, "001000000010000081000000000000000000")?
-        )
-    );
-    Ok(())
-}
+// The sizes of the blocks, how many data blocks there are, and the shape's fault.
+const REFUSED: [(u32, u32, u64, ShapeFault); 3] = [
+    (6144, 4096, 1, ShapeFault::BlockSize),
+    (4096, 4096, 0, ShapeFault::NoBlocks),
+    (4096, 4096, u64::MAX, ShapeFault::TooLarge),
+];
 
 #[test]
 fn refuses_wrong_fields(rt: HostRuntime) -> Result<(), Fail> {
     let salt = Salt::new(&[]).ok_or("salt")?;
     let bytes = Superblock::new([0; 16], 4096, 4096, 129, salt)?.encode();
-    for (at, byte, fault) in [
-        (0usize, 0u8, Some(SuperFault::Signature)),
-        (8, 2, Some(SuperFault::Version)),
-        (12, 0, Some(SuperFault::HashType)),
-        (37, 0, Some(SuperFault::Algorithm)),
-        (38, 1, Some(SuperFault::Algorithm)),
-        (65, 0x18, Some(SuperFault::DataBlockSize)),
-        (69, 0x18, Some(SuperFault::HashBlockSize)),
-        (72, 0, Some(SuperFault::DataBlocks)),
-        (79, 0xff, Some(SuperFault::DataBlocks)),
-        (81, 2, Some(SuperFault::SaltSize)),
-        (39, 1, None),
-        (63, 1, None),
-        (82, 1, None),
-        (88, 1, None),
-        (511, 1, None),
-    ] {
-        assert_eq!(rt; fault_with(&bytes, at, byte), fault, "at {at}");
+    for (at, byte, is_salt_large, fault) in CHANGED {
+        let mut changed = bytes;
+        if is_salt_large {
+            changed[80] = 1;
+            changed[81] = 1;
+        }
+        *changed.get_mut(at).ok_or("past the sector")? = byte;
+        assert_eq!(rt; decode(&changed).err(), fault, "at {at}");
     }
-    Ok(())
-}
-
-// The bytes with a salt size of 257 and the version given.
-fn with_both(bytes: &[u8; 512], version: u8) -> [u8; 512] {
-    let mut changed = *bytes;
-    changed[80] = 1;
-    changed[81] = 1;
-    changed[8] = version;
-    changed
-}
-
-#[test]
-fn answers_the_first_wrong_field(rt: HostRuntime) -> Result<(), Fail> {
-    let salt = Salt::new(&[]).ok_or("salt")?;
-    let bytes = Superblock::new([0; 16], 4096, 4096, 129, salt)?.encode();
-    assert_eq!(rt;
-        decode(&with_both(&bytes, 1)).err(),
-        Some(SuperFault::SaltSize)
-    );
-    assert_eq!(rt;
-        decode(&with_both(&bytes, 2)).err(),
-        Some(SuperFault::Version)
-    );
-    Ok(())
-}
-
-#[test]
-fn refuses_shapes(rt: HostRuntime) -> Result<(), Fail> {
-    let salt = Salt::new(&[]).ok_or("salt")?;
-    assert_eq!(rt;
-        Superblock::new([0; 16], 6144, 4096, 1, salt).err(),
-        Some(ShapeFault::BlockSize)
-    );
-    assert_eq!(rt;
-        Superblock::new([0; 16], 4096, 4096, 0, salt).err(),
-        Some(ShapeFault::NoBlocks)
-    );
-    assert_eq!(rt;
-        Superblock::new([0; 16], 4096, 4096, u64::MAX, salt).err(),
-        Some(ShapeFault::TooLarge)
-    );
+    for (data_block, hash_block, blocks, fault) in REFUSED {
+        let answer = Superblock::new([0; 16], data_block, hash_block, blocks, salt);
+        assert_eq!(rt; answer.err(), Some(fault));
+    }
+    let text = format!(in rt.alloc(); "{}", SuperFault::SaltSize)?;
+    assert_eq!(rt; text.as_str(), "SaltSize");
     Ok(())
 }

@@ -3,12 +3,11 @@ use Rattle.dm_table.specs.Options.{options_words}
 use Rattle.dm_table.specs.Crypt.{cipher, key_word, crypt_words}
 use Rattle.dm_table.specs.Print.{base_words, spaced_word}
 use Rattle.dm_table.proofs.PrintLemmas.{then_word, then_words}
-use Rattle.dm_table.proofs.CryptLemmas.{crypt-reads}
 use Rattle.dm_table.proofs.print_crypt.print_crypt.Goals as goal
 
-pub returns-clause-text : goal.returns-clause-text
+pub returns : goal.returns
 unfolding crypt_words
-returns-clause-text c =
+returns c =
     let v = c.args.crypt.now in
     let key = key_word c.args.show_keys v.key in
     let last = c.print_options.new.text.items in
@@ -22,6 +21,3 @@ returns-clause-text c =
     then_word c.push_spaced-2.new.text.items c.print_key.new.text.items last key key w2 refl c.in_ok-print_key.ensures (
     then_word c.print_key.new.text.items c.push_spaced_number.new.text.items last (decimal v.iv_offset) (decimal v.iv_offset) w3 refl c.in_ok-push_spaced_number.ensures (
     then_words c.push_spaced_number.new.text.items c.print_base.new.text.items last (base_words v.base) w4 c.in_ok-print_base.ensures options))))
-
-pub returns-clause-reads_back : goal.returns-clause-reads_back
-returns-clause-reads_back c = λ shown h none. crypt-reads c.args.show_keys c.args.crypt.now c.args.text.now.items _ shown h (returns-clause-text c) none

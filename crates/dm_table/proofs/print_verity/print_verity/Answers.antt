@@ -3,12 +3,11 @@ use Rattle.hex.specs.Hex.{encode_lower}
 use Rattle.dm_table.specs.Words.{Word}
 use Rattle.dm_table.specs.Verity.{salt_word, verity_words}
 use Rattle.dm_table.proofs.PrintLemmas.{then_word, then_none}
-use Rattle.dm_table.proofs.VerityLemmas.{verity-reads}
 use Rattle.dm_table.proofs.print_verity.print_verity.Goals as goal
 
-pub returns-clause-text : goal.returns-clause-text
+pub returns : goal.returns
 unfolding verity_words
-returns-clause-text c =
+returns c =
     let v = c.args.verity.now in
     let last = c.print_salt.new.text.items in
     let w11 : List Word = [] in
@@ -34,6 +33,3 @@ returns-clause-text c =
     then_word c.push_spaced-5.new.text.items c.push_digits.new.text.items last (encode_lower v.root) (encode_lower v.root) w10 refl c.in_ok-push_digits.ensures (
     then_word c.push_digits.new.text.items c.print_salt.new.text.items last (salt_word v.salt) (salt_word c.bytes.result.now) w11 (ap salt_word c.bytes.ensures.value) c.in_ok-print_salt.ensures (
     then_none last)))))))))))
-
-pub returns-clause-reads_back : goal.returns-clause-reads_back
-returns-clause-reads_back c = λ h none. verity-reads c.args.verity.now c.args.text.now.items _ h (returns-clause-text c) none

@@ -1,4 +1,4 @@
-use Rattle.std.proofs.Common.{◌≡◌, false, arith, rules, sym, subst}
+use Rattle.std.proofs.Common.{arith, rules, sym, subst}
 use Rattle.std.proofs.lemmas.Grind.{common_steps}
 use Rattle.stack_commands.specs.FileUses.{AreApartBeside}
 use Rattle.stack_commands.proofs.FileUseLemmas.{AreApartBeside-last}

@@ -1,4 +1,4 @@
-use Rattle.std.proofs.Common.{◌<◌, length, map, arith, ◌∙◌}
+use Rattle.std.proofs.Common.{map, arith, ◌∙◌}
 use Rattle.block_device.specs.contracts.any.AnyDevBlockDev.TheImpl.{ghosts}
 use Rattle.stack_commands.proofs.SyncLemmas.{same-seen, fails-at}
 use Rattle.stack_commands.proofs.sync.sync_leaves.Goals as goal

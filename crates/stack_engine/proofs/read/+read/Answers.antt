@@ -1,21 +1,42 @@
-use Rattle.std.proofs.Common.{◌≡◌, ◌≤◌, ◌+◌, ◌/◌, ◌*◌, ◌-◌, length, take, drop, map, replicate, ℕ, List, ◌++◌, Result, Ok, Err, sym, ap, ◌∙◌, subst, arith}
-use Rattle.std.proofs.lemmas.List.{length-take, length-drop, length-append}
+use Rattle.std.proofs.Common.{◌≡◌, ◌<◌, ◌≤◌, ◌+◌, ◌/◌, ◌*◌, ◌-◌, ◌%◌, suc, length, take, drop, map, replicate, get_or, ℕ, List, [], ◌∷◌, ◌++◌, Vec, Global, Some, Result, Ok, Err, sym, ap, ◌∙◌, subst, arith}
+use Rattle.std.proofs.lemmas.List.{length-take, length-drop, length-append, map-append}
+use Rattle.std.proofs.Math.Seq.{get_or-append_seam}
+use Rattle.std.proofs.lemmas.Slice.Eq.{bytes_eq-Decides}
 use Rattle.std.proofs.lemmas.Slice.{take-put_mid}
 use Rattle.std.proofs.lemmas.List.{with_items_is}
 use Rattle.std.specs.Vec.{with_items}
 use borrow.Rule.Slice.PartMut.{put_mid}
-use Rattle.stack_loader.specs.Names.{mapped}
+use Rattle.hash_tree.specs.Digests.{digest, digest_in}
+use Rattle.hash_tree.specs.Shape.{ShapeRecord, slot, ancestor}
+use Rattle.block_device.specs.Device.{Device}
+use Rattle.stack_loader.specs.Records.{Configuration}
+use Rattle.stack_loader.specs.Names.{mapped, named}
+use Rattle.stack_loader.specs.Descend.{depth}
+use Rattle.stack_loader.specs.Trees.{block_sectors}
+use Rattle.stack_loader.specs.declared.lower.DevId.{DevId}
 use Rattle.stack_loader.specs.declared.lower.Lower.TheVariants.{Leaf}
 use Rattle.stack_loader.specs.declared.lower.Lower.{Lower}
 use Rattle.stack_engine.specs.declared.fault.IoFault.TheVariants.{ErrorTarget}
 use Rattle.stack_engine.specs.declared.source.Source.{Source}
+use Rattle.stack_engine.specs.declared.source.Source.TheVariants.{Encrypted, Block}
+use Rattle.stack_engine.specs.Found.{FoundRecord, entry_of}
+use Rattle.stack_engine.specs.declared.tree.Extent.{Extent}
+use Rattle.stack_engine.specs.Blocks.{hash_sectors, hash_start, next_digest}
+use Rattle.stack_engine.specs.Walks.{checked_expected, place_named, block_in, GetsChain, IsWalked}
 use Rattle.stack_engine.specs.declared.fault.IoFault.{IoFault}
-use Rattle.stack_engine.specs.Places.{place_of, run_expected, Read}
+use Rattle.stack_engine.specs.Places.{Place, place_of, run_expected, Read}
 use Rattle.stack_engine.specs.Reading.{Gets, Reads, buffer_answer}
 use Rattle.stack_engine.specs.Sources.{SourceHolds, ReadsSource}
 use Rattle.stack_engine.proofs.lemmas.LeafListLemmas.{leaves_kept}
 use Rattle.stack_engine.proofs.LoadedLemmas.{size-small}
 use Rattle.stack_engine.proofs.SourceLemmas.{served-depth, served-holds, below_of, leaf_of, empty_read, zeros_of, fails_of, device_ok, device_err, same_reads}
+use Rattle.stack_engine.proofs.VerityLineLemmas.{data-whole, hash-whole, part-within, part-index, place-named, hash-depth, data-depth}
+use Rattle.stack_engine.proofs.BlockPartLemmas.{kept_length, contains_at, part-room, part_found, part_walked, part_err, part_full}
+use Rattle.stack_engine.proofs.lemmas.BlockLemmas.{length-content}
+use Rattle.stack_engine.proofs.lemmas.WalkLemmas.{checked_ok, walk_down, walk_stops, walk_ends, walk_fails, walk_full}
+use Rattle.stack_engine.proofs.read.+read.Goals.{read_block-in-Err-push, read_block-in-Ok-push}
+use Rattle.stack_engine.proofs.LeafLemmas.{all-whole}
+use Rattle.stack_engine.proofs.CryptReadLemmas.{crypt_of, crypt_fault}
 use Rattle.stack_engine.proofs.read.+read.Goals as goal
 
 pub read_device-overflow_add-first : goal.read_device-overflow_add-first
@@ -141,3 +162,318 @@ read_run-returns-in-Zeros-clause-reads g t c =
     let whole : length c.args.out.now ≡ 512 * n = omega (arith, c.requires.whole) in
     subst (λ (s : Source). ReadsSource c.args.config.now s n (empty_read old c.args.found.now.items) (Ok c.fill_zeros.new.out)) (sym c.in-Zeros.is)
     (zeros_of c.args.config.now n old c.args.found.now.items c.fill_zeros.new.out c.requires.kept (c.fill_zeros.ensures ∙ ap (λ (k : ℕ). replicate k 0) whole))
+
+pub read_run-returns-in-Ok-clause-reads : goal.read_run-returns-in-Ok-clause-reads
+read_run-returns-in-Ok-clause-reads g t c =
+    let config = c.args.config.now in
+    let state = g.D.BlockDev.state in
+    let run = c.in-Encrypted in
+    let n : ℕ = length c.args.out.now / 512 in
+    let call = c.read_lower-in-Encrypted in
+    let did : Read = record { old = map state c.args.reader.now.devices.items; new = map state call.new.reader.devices.items; before = c.args.found.now.items; after = call.new.found.items } in
+    let whole = all-whole state g.met.D.BlockDev.whole c.args.reader.now.devices.items in
+    subst (λ (s : Source). ReadsSource config s n did (Ok c.decrypt.new.units)) (sym run.is)
+    (subst (λ (b : List ℕ). ReadsSource config (Encrypted run.d run.line run.unit run.lower run.first) n did (Ok b)) (sym c.decrypt.ensures)
+    (crypt_of config run.d run.line run.unit run.lower run.first n did call.new.out c.requires.loaded whole c.in-Ok.ensures.reads))
+
+pub read_run-returns-in-Err-clause-reads : goal.read_run-returns-in-Err-clause-reads
+read_run-returns-in-Err-clause-reads g t c =
+    let config = c.args.config.now in
+    let state = g.D.BlockDev.state in
+    let run = c.in-Encrypted in
+    let n : ℕ = length c.args.out.now / 512 in
+    let call = c.read_lower-in-Encrypted in
+    let did : Read = record { old = map state c.args.reader.now.devices.items; new = map state call.new.reader.devices.items; before = c.args.found.now.items; after = call.new.found.items } in
+    subst (λ (s : Source). ReadsSource config s n did (Err c.in-Err.fault)) (sym run.is)
+    (crypt_fault config run.d run.line run.unit run.lower run.first n did c.in-Err.fault c.in-Err.ensures.reads)
+
+-- ---- data blocks of verity lines
+
+abbrev bytes : Vec ℕ Global → List ℕ
+bytes = λ v. v.items
+
+abbrev any_found : FoundRecord
+any_found = record { device = 0; line = 0; chain = record { index = 0; content = []; path = [] } }
+
+pub read_run-returns-in-Block-clause-reads : goal.read_run-returns-in-Block-clause-reads
+read_run-returns-in-Block-clause-reads g t c =
+    let state = g.D.BlockDev.state in
+    let n : ℕ = length c.args.out.now / 512 in
+    let did : Read = record { old = map state c.args.reader.now.devices.items; new = map state c.read_block.new.reader.devices.items; before = c.args.found.now.items; after = c.read_block.new.found.items } in
+    let answer : Result (List ℕ) IoFault = buffer_answer c.read_block.result c.read_block.new.out in
+    subst (λ (s : Source). ReadsSource c.args.config.now s n did answer) (sym c.in-Block.is) c.read_block.ensures.reads
+
+pub read_block-copy_part-requires-clause-inside : goal.read_block-copy_part-requires-clause-inside
+read_block-copy_part-requires-clause-inside g t c =
+    λ x.
+    let v = c.verity_at-verity.result.now in
+    let p = c.args.part in
+    let found = c.args.found.now.items in
+    let sectors : c.from-sectors.result ≡ block_sectors v = c.from-sectors.ensures in
+    let whole = data-whole c.args.config.now p.device.0 p.line p.first (length c.args.out.now / 512) v c.requires.loaded c.verity_at-verity.ensures in
+    let within = part-within c.args.config.now p.device.0 p.line p.first (length c.args.out.now / 512) v c.requires.loaded c.verity_at-verity.ensures c.requires.inside in
+    let there : c.in-Some.at < length found = omega (arith, c.in-Some.ensures.some.0, ap (λ (l : List FoundRecord). length l) c.as_slice.ensures.value) in
+    let at : entry_of (get_or found c.in-Some.at x) ≡ (p.device.0, p.line, p.first / block_sectors v) =
+    ap (λ (l : List FoundRecord). entry_of (get_or l c.in-Some.at x)) (sym c.as_slice.ensures.value) ∙ c.in-Some.ensures.some.1 x ∙ ap (λ (k : ℕ). (p.device.0, p.line, p.first / k)) sectors in
+    let len = kept_length c.args.config.now (map g.D.BlockDev.state c.args.reader.now.devices.items) p.device.0 p.line (p.first / block_sectors v) v found c.in-Some.at x c.verity_at-verity.ensures c.requires.kept there at in
+    let same : length ((get_or c.as_slice-in-Some.result.now c.in-Some.at x).chain.content) ≡ v.data_block = ap (λ (l : List FoundRecord). length ((get_or l c.in-Some.at x).chain.content)) c.as_slice-in-Some.ensures.value ∙ len in
+    let room = part-room v p.first c.from-sectors.result (length c.args.out.now) sectors whole.whole within c.requires.whole in
+    omega (arith, same, room)
+
+pub read_block-walk-requires : goal.read_block-walk-requires
+read_block-walk-requires g t c κs within =
+    let v = c.verity_at-verity.result.now in
+    let p = c.args.part in
+    let n : ℕ = length c.args.out.now / 512 in
+    let config = c.args.config.now in
+    let depths : depth config (mapped c.tree_at-tree.result.device.0) ≡ depth config (mapped p.device.0) = ap (λ (x : DevId). depth config (mapped x.0)) c.tree_at-tree.ensures.at in
+    let sectors : c.from-sectors.result ≡ block_sectors v = c.from-sectors.ensures in
+    let index : p.first / c.from-sectors.result < v.blocks =
+    subst (λ (k : ℕ). p.first / k < v.blocks) (sym sectors) (part-index config p.device.0 p.line p.first n v c.requires.loaded c.verity_at-verity.ensures c.requires.inside (omega (arith, c.requires.some, c.requires.whole))) in
+    (omega (arith, depths), (within, (c.requires.loaded, (c.requires.serve, (c.tree_at-tree.ensures.tree, (index, tt))))))
+
+pub read_block-copy_part-requires-in-Ok-push-clause-inside : goal.read_block-copy_part-requires-in-Ok-push-clause-inside
+read_block-copy_part-requires-in-Ok-push-clause-inside g t c =
+    λ x.
+    let v = c.verity_at-verity.result.now in
+    let p = c.args.part in
+    let found = c.args.found.now.items in
+    let sectors : c.from-sectors.result ≡ block_sectors v = c.from-sectors.ensures in
+    let whole = data-whole c.args.config.now p.device.0 p.line p.first (length c.args.out.now / 512) v c.requires.loaded c.verity_at-verity.ensures in
+    let within = part-within c.args.config.now p.device.0 p.line p.first (length c.args.out.now / 512) v c.requires.loaded c.verity_at-verity.ensures c.requires.inside in
+    let one : FoundRecord = record { device = p.device.0; line = p.line; chain = c.in-Ok.chain } in
+    let value : c.as_slice-in-Ok-push.result.now ≡ found ++ (one ∷ []) = c.as_slice-in-Ok-push.ensures.value ∙ c.in-Ok-push.ensures.items in
+    let at : c.len-at.result ≡ length found = c.len-at.ensures ∙ c.args.found.now.ok.0 in
+    let here : get_or c.as_slice-in-Ok-push.result.now c.len-at.result x ≡ one = ap (λ (l : List FoundRecord). get_or l c.len-at.result x) value ∙ ap (λ (k : ℕ). get_or (found ++ (one ∷ [])) k x) at ∙ get_or-append_seam found one [] x in
+    let len : length ((get_or c.as_slice-in-Ok-push.result.now c.len-at.result x).chain.content) ≡ v.data_block = ap (λ (y : FoundRecord). length y.chain.content) here ∙ length-content v one.chain c.in-Ok.ensures.reads.may.1 in
+    let room = part-room v p.first c.from-sectors.result (length c.args.out.now) sectors whole.whole within c.requires.whole in
+    omega (arith, len, room)
+
+pub read_block-returns-in-Some-clause-reads : goal.read_block-returns-in-Some-clause-reads
+read_block-returns-in-Some-clause-reads g t c =
+    let v = c.verity_at-verity.result.now in
+    let p = c.args.part in
+    let n : ℕ = length c.args.out.now / 512 in
+    let found = c.args.found.now.items in
+    let sectors : c.from-sectors.result ≡ block_sectors v = c.from-sectors.ensures in
+    let whole = data-whole c.args.config.now p.device.0 p.line p.first n v c.requires.loaded c.verity_at-verity.ensures in
+    let within = part-within c.args.config.now p.device.0 p.line p.first n v c.requires.loaded c.verity_at-verity.ensures c.requires.inside in
+    let x = get_or found c.in-Some.at any_found in
+    let there : c.in-Some.at < length found = omega (arith, c.in-Some.ensures.some.0, ap (λ (l : List FoundRecord). length l) c.as_slice.ensures.value) in
+    let at : entry_of x ≡ (p.device.0, p.line, p.first / block_sectors v) =
+    ap (λ (l : List FoundRecord). entry_of (get_or l c.in-Some.at any_found)) (sym c.as_slice.ensures.value) ∙ c.in-Some.ensures.some.1 any_found ∙ ap (λ (k : ℕ). (p.device.0, p.line, p.first / k)) sectors in
+    let len : length c.args.out.now ≡ 512 * n = omega (arith, c.requires.whole) in
+    let is : c.copy_part.new.out ≡ take (512 * n) (drop (512 * (p.first % block_sectors v)) x.chain.content) =
+    c.copy_part.ensures any_found
+    ∙ ap (λ (l : List FoundRecord). take (length c.args.out.now) (drop (512 * (p.first % c.from-sectors.result)) ((get_or l c.in-Some.at any_found).chain.content))) c.as_slice-in-Some.ensures.value
+    ∙ ap (λ (k : ℕ). take k (drop (512 * (p.first % c.from-sectors.result)) x.chain.content)) len
+    ∙ ap (λ (k : ℕ). take (512 * n) (drop (512 * (p.first % k)) x.chain.content)) sectors in
+    part_found c.args.config.now v p n c.requires.loaded c.verity_at-verity.ensures (omega (arith, c.requires.some, c.requires.whole)) within whole.whole _ found x at (contains_at found c.in-Some.at any_found there) c.requires.kept is
+
+pub read_block-returns-in-Err-clause-reads : goal.read_block-returns-in-Err-clause-reads
+read_block-returns-in-Err-clause-reads g t c =
+    let v = c.verity_at-verity.result.now in
+    let p = c.args.part in
+    let n : ℕ = length c.args.out.now / 512 in
+    let sectors : c.from-sectors.result ≡ block_sectors v = c.from-sectors.ensures in
+    let whole = data-whole c.args.config.now p.device.0 p.line p.first n v c.requires.loaded c.verity_at-verity.ensures in
+    let within = part-within c.args.config.now p.device.0 p.line p.first n v c.requires.loaded c.verity_at-verity.ensures c.requires.inside in
+    let q = subst (λ (k : ℕ). GetsChain (block_in c.args.config.now v (p.first / k)) (map g.D.BlockDev.state c.args.reader.now.devices.items) (map g.D.BlockDev.state c.walk.new.reader.devices.items) (Err c.in-Err.fault)) sectors c.in-Err.ensures.reads in
+    part_err c.args.config.now v p n c.requires.loaded c.verity_at-verity.ensures (omega (arith, c.requires.some, c.requires.whole)) within whole.whole c.args.found.now.items c.in-Err.fault c.requires.kept q
+
+pub read_block-returns-after-push-clause-reads : goal.read_block-returns-after-push-clause-reads
+read_block-returns-after-push-clause-reads g t c =
+    let v = c.verity_at-verity.result.now in
+    let p = c.args.part in
+    let n : ℕ = length c.args.out.now / 512 in
+    let config = c.args.config.now in
+    let old = map g.D.BlockDev.state c.args.reader.now.devices.items in
+    let new = map g.D.BlockDev.state c.walk.new.reader.devices.items in
+    let found = c.args.found.now.items in
+    let some : 0 < n = omega (arith, c.requires.some, c.requires.whole) in
+    let sectors : c.from-sectors.result ≡ block_sectors v = c.from-sectors.ensures in
+    let whole = data-whole config p.device.0 p.line p.first n v c.requires.loaded c.verity_at-verity.ensures in
+    let within = part-within config p.device.0 p.line p.first n v c.requires.loaded c.verity_at-verity.ensures c.requires.inside in
+    let q = subst (λ (k : ℕ). GetsChain (block_in config v (p.first / k)) old new (Ok c.in-Ok.chain)) sectors c.in-Ok.ensures.reads in
+    let Does : List FoundRecord → Result (List ℕ) IoFault → Type 0 = λ u r. ReadsSource config (Block p) n (record { old = old; new = new; before = found; after = u }) r in
+    elim c.match-push.branch [
+      | read_block-in-Err-push w ↦
+          subst (λ (u : List FoundRecord). Does u (buffer_answer c.match-push.result c.match-push.out)) (sym w.in-Err-push.ensures.items)
+          (subst (λ (r : Result Unit IoFault). Does found (buffer_answer r c.match-push.out)) (sym w.result-is)
+          (part_full config v p n c.requires.loaded c.verity_at-verity.ensures some within whole.whole found c.in-Ok.chain c.requires.kept q))
+      | read_block-in-Ok-push w ↦
+          let one : FoundRecord = record { device = p.device.0; line = p.line; chain = c.in-Ok.chain } in
+          let items : c.push.new.self.items ≡ found ++ (one ∷ []) = w.in-Ok-push.ensures.items in
+          let value : w.as_slice-in-Ok-push.result.now ≡ found ++ (one ∷ []) = w.as_slice-in-Ok-push.ensures.value ∙ items in
+          let at : c.len-at.result ≡ length found = c.len-at.ensures ∙ c.args.found.now.ok.0 in
+          let here : get_or w.as_slice-in-Ok-push.result.now c.len-at.result any_found ≡ one =
+          ap (λ (l : List FoundRecord). get_or l c.len-at.result any_found) value ∙ ap (λ (k : ℕ). get_or (found ++ (one ∷ [])) k any_found) at ∙ get_or-append_seam found one [] any_found in
+          let len : length c.args.out.now ≡ 512 * n = omega (arith, c.requires.whole) in
+          let is : c.match-push.out ≡ take (512 * n) (drop (512 * (p.first % block_sectors v)) c.in-Ok.chain.content) =
+          w.out-is ∙ w.copy_part-in-Ok-push.ensures any_found
+          ∙ ap (λ (y : FoundRecord). take (length c.args.out.now) (drop (512 * (p.first % c.from-sectors.result)) y.chain.content)) here
+          ∙ ap (λ (k : ℕ). take k (drop (512 * (p.first % c.from-sectors.result)) c.in-Ok.chain.content)) len
+          ∙ ap (λ (k : ℕ). take (512 * n) (drop (512 * (p.first % k)) c.in-Ok.chain.content)) sectors in
+          subst (λ (u : List FoundRecord). Does u (buffer_answer c.match-push.result c.match-push.out)) (sym items)
+          (subst (λ (r : Result Unit IoFault). Does (found ++ (one ∷ [])) (buffer_answer r c.match-push.out)) (sym w.result-is)
+          (part_walked config v p n c.requires.loaded c.verity_at-verity.ensures some within whole.whole found c.in-Ok.chain c.requires.kept
+          (λ k h y same. c.in-None.ensures.none k (omega (arith, h, ap (λ (l : List FoundRecord). length l) c.as_slice.ensures.value)) y
+          (ap (λ (l : List FoundRecord). entry_of (get_or l k y)) c.as_slice.ensures.value ∙ same ∙ ap (λ (k : ℕ). (p.device.0, p.line, p.first / k)) (sym sectors)))
+          q is))
+    ]
+
+-- ---- one block that is checked
+
+pub read_checked-returns-then-eq-clause-reads : goal.read_checked-returns-then-eq-clause-reads
+read_checked-returns-then-eq-clause-reads g t c =
+    let e = c.args.extent in
+    let state = g.D.BlockDev.state in
+    let block = c.in-Ok.block in
+    let out = c.read_lower.new.out in
+    let held : length out ≡ block.len = c.read_lower.auto.out ∙ ap (λ (l : List ℕ). length l) c.as_mut_slice.ensures.value ∙ sym block.ok.0 in
+    let items : bytes (with_items block out) ≡ out = with_items_is block out held in
+    let size : block.len ≡ e.sectors * 512 = c.in-Ok.ensures in
+    let value : c.as_slice.result.now ≡ out = c.as_slice.ensures.value ∙ items in
+    let good : c.digest.result ≡ c.args.expected.now = (bytes_eq-Decides c.digest.result c.args.expected.now).0 (sym c.eq.ensures ∙ c.if-eq.true) in
+    let count : length c.as_mut_slice.result.now / 512 ≡ e.sectors = omega (arith, held, size, c.read_lower.auto.out) in
+    let got = subst (λ (k : ℕ). Reads c.args.config.now e.lower e.first k (record { old = map state c.args.reader.now.devices.items; new = map state c.read_lower.new.reader.devices.items; before = c.new-beneath.result.items; after = c.read_lower.new.found.items }) (Ok out)) count c.in-Ok-read_lower.ensures.reads in
+    checked_ok bytes (place_of c.args.config.now e.lower) e.first e.sectors c.args.salt.now c.args.expected.now c.read_lower.new.found.items (with_items block out) items
+    (ap (digest c.args.salt.now) (sym value) ∙ sym c.digest.ensures ∙ good) got.got
+
+-- ---- the walk
+
+-- a block that was read where it stands, as one of the place that a name means
+checked_as : {old new : List Device} (c : Configuration) (name : List ℕ) (lower : Lower) (first n : ℕ) (salt expected : List ℕ) (result : Result (Vec ℕ Global) IoFault) (e : Extent) → named c name ≡ Some lower
+    → e ≡ record { lower = lower; first = first; sectors = n } → Gets (checked_expected bytes (place_of c e.lower) e.first e.sectors salt expected) old new result
+    → Gets (checked_expected bytes (place_named c name) first n salt expected) old new result
+checked_as {old = old} {new = new} c name lower first n salt expected result e is at q =
+    subst (λ (x : Place). Gets (checked_expected bytes x first n salt expected) old new result) (sym (place-named c name lower is))
+    (subst (λ (x : Extent). Gets (checked_expected bytes (place_of c x.lower) x.first x.sectors salt expected) old new result) at q)
+
+pub walk-read_checked-requires : goal.walk-read_checked-requires
+walk-read_checked-requires g t c κs within =
+    let config = c.args.config.now in
+    let extent = c.hash_extent-extent in
+    let deep = hash-depth config c.args.verity.now c.args.tree.now c.requires.loaded c.requires.tree in
+    let same : depth config extent.result.lower ≡ depth config c.args.tree.now.hash = ap (λ (e : Extent). depth config e.lower) extent.ensures.value in
+    (omega (arith, deep, same), (within, (c.requires.loaded, (leaves_kept config.leaves _ _ c.loop-level.invariant.walked.moved.moved.fixed c.requires.serve, (extent.ensures.some, (extent.ensures.inside, tt))))))
+
+pub walk-returns-in-Err-clause-reads : goal.walk-returns-in-Err-clause-reads
+walk-returns-in-Err-clause-reads g t c =
+    let v = c.args.verity.now in
+    let config = c.args.config.now in
+    let tree = c.args.tree.now in
+    let is = c.requires.tree in
+    let state = g.D.BlockDev.state in
+    let b = block_in config v c.args.index in
+    let level : ℕ = c.loop-level.level - 1 in
+    let above : c.loop-level.level ≡ suc level = omega (arith, c.loop-level-test.true) in
+    let path = map bytes c.loop-level.path.items in
+    let old = map state c.args.reader.now.devices.items in
+    let mid = map state c.loop-level.reader.devices.items in
+    let walked : IsWalked b (suc level) c.loop-level.expected path old mid = subst (λ (k : ℕ). IsWalked b k c.loop-level.expected path old mid) above c.loop-level.invariant.walked in
+    let size = hash-whole config tree.device.0 tree.line 0 0 v c.requires.loaded is.is in
+    walk_stops bytes b level size.whole walked c.in-Err.first
+    (checked_as config v.hash tree.hash (hash_start v level c.args.index) (hash_sectors v) v.salt c.loop-level.expected (Err c.in-Err.first) c.hash_extent-extent.result is.on_hash c.hash_extent-extent.ensures.value c.in-Err.ensures.reads)
+
+pub walk-digest_in-expected-requires : goal.walk-digest_in-expected-requires
+walk-digest_in-expected-requires g t c =
+    let v = c.args.verity.now in
+    let tree = c.args.tree.now in
+    let is = c.requires.tree in
+    let size = hash-whole c.args.config.now tree.device.0 tree.line 0 0 v c.requires.loaded is.is in
+    let sectors : c.hash_extent-extent.result.sectors ≡ hash_sectors v = ap (λ (e : Extent). e.sectors) c.hash_extent-extent.ensures.value in
+    let len : length c.as_slice.result.now ≡ 512 * c.hash_extent-extent.result.sectors = ap (λ (l : List ℕ). length l) c.as_slice.ensures.value ∙ c.in-Ok.ensures.reads.may.0 in
+    let block : tree.shape.hash_block ≡ v.hash_block = ap (λ (t : ShapeRecord). t.hash_block) is.shape_is in
+    omega (arith, len, sectors, size.whole, block, c.slot_on_path.ensures.inside)
+
+pub walk-returns-in-Err-push-clause-reads : goal.walk-returns-in-Err-push-clause-reads
+walk-returns-in-Err-push-clause-reads g t c =
+    let v = c.args.verity.now in
+    let config = c.args.config.now in
+    let tree = c.args.tree.now in
+    let is = c.requires.tree in
+    let state = g.D.BlockDev.state in
+    let b = block_in config v c.args.index in
+    let level : ℕ = c.loop-level.level - 1 in
+    let above : c.loop-level.level ≡ suc level = omega (arith, c.loop-level-test.true) in
+    let path = map bytes c.loop-level.path.items in
+    let old = map state c.args.reader.now.devices.items in
+    let mid = map state c.loop-level.reader.devices.items in
+    let walked : IsWalked b (suc level) c.loop-level.expected path old mid = subst (λ (k : ℕ). IsWalked b k c.loop-level.expected path old mid) above c.loop-level.invariant.walked in
+    let size = hash-whole config tree.device.0 tree.line 0 0 v c.requires.loaded is.is in
+    let block = c.in-Ok.block in
+    let down = walk_down bytes b level size.whole walked block
+    (checked_as config v.hash tree.hash (hash_start v level c.args.index) (hash_sectors v) v.salt c.loop-level.expected (Ok block) c.hash_extent-extent.result is.on_hash c.hash_extent-extent.ensures.value c.in-Ok.ensures.reads) in
+    walk_full b level down
+
+pub walk-loop-level-preserved : goal.walk-loop-level-preserved
+walk-loop-level-preserved g t c =
+    let v = c.args.verity.now in
+    let config = c.args.config.now in
+    let tree = c.args.tree.now in
+    let is = c.requires.tree in
+    let state = g.D.BlockDev.state in
+    let b = block_in config v c.args.index in
+    let level : ℕ = c.loop-level.level - 1 in
+    let above : c.loop-level.level ≡ suc level = omega (arith, c.loop-level-test.true) in
+    let path = map bytes c.loop-level.path.items in
+    let old = map state c.args.reader.now.devices.items in
+    let mid = map state c.loop-level.reader.devices.items in
+    let walked : IsWalked b (suc level) c.loop-level.expected path old mid = subst (λ (k : ℕ). IsWalked b k c.loop-level.expected path old mid) above c.loop-level.invariant.walked in
+    let size = hash-whole config tree.device.0 tree.line 0 0 v c.requires.loaded is.is in
+    let block = c.in-Ok.block in
+    let down = walk_down bytes b level size.whole walked block
+    (checked_as config v.hash tree.hash (hash_start v level c.args.index) (hash_sectors v) v.salt c.loop-level.expected (Ok block) c.hash_extent-extent.result is.on_hash c.hash_extent-extent.ensures.value c.in-Ok.ensures.reads) in
+    let new = map state c.read_checked.new.reader.devices.items in
+    let expected : c.digest_in-expected.result ≡ next_digest v level c.args.index block.items =
+    c.digest_in-expected.ensures ∙ ap (λ (b : List ℕ). digest_in b c.slot_on_path.result) c.as_slice.ensures.value
+    ∙ ap (digest_in block.items) (c.slot_on_path.ensures.value ∙ ap (λ (t : ShapeRecord). slot t (ancestor t level c.args.index)) is.shape_is) in
+    let longer : map bytes c.push.new.self.items ≡ path ++ (block.items ∷ []) = ap (map bytes) c.in-Ok-push.ensures.items ∙ map-append bytes c.loop-level.path.items (block ∷ []) in
+    record {
+      walked = subst (λ (p : List (List ℕ)). IsWalked b level c.digest_in-expected.result p old new) (sym longer)
+          (subst (λ (e : List ℕ). IsWalked b level e (path ++ (block.items ∷ [])) old new) (sym expected) down);
+      cached = record { capacity = c.in-Ok.ensures.cached.capacity ∙ c.loop-level.invariant.cached.capacity; sound = tt };
+    }
+
+pub walk-read_checked-requires-2 : goal.walk-read_checked-requires-2
+walk-read_checked-requires-2 g t c κs within =
+    let config = c.args.config.now in
+    let extent = c.data_extent-extent in
+    let deep = data-depth config c.args.verity.now c.args.tree.now c.requires.loaded c.requires.tree in
+    let same : depth config extent.result.lower ≡ depth config c.args.tree.now.data = ap (λ (e : Extent). depth config e.lower) extent.ensures.value in
+    (omega (arith, deep, same), (within, (c.requires.loaded, (leaves_kept config.leaves _ _ c.loop-level.invariant.walked.moved.moved.fixed c.requires.serve, (extent.ensures.some, (extent.ensures.inside, tt))))))
+
+pub walk-returns-in-Err-read_checked-clause-reads : goal.walk-returns-in-Err-read_checked-clause-reads
+walk-returns-in-Err-read_checked-clause-reads g t c =
+    let v = c.args.verity.now in
+    let config = c.args.config.now in
+    let tree = c.args.tree.now in
+    let is = c.requires.tree in
+    let state = g.D.BlockDev.state in
+    let b = block_in config v c.args.index in
+    let none : c.loop-level.level ≡ 0 = omega (arith, c.loop-level-test.false) in
+    let path = map bytes c.loop-level.path.items in
+    let old = map state c.args.reader.now.devices.items in
+    let mid = map state c.loop-level.reader.devices.items in
+    let walked : IsWalked b 0 c.loop-level.expected path old mid = subst (λ (k : ℕ). IsWalked b k c.loop-level.expected path old mid) none c.loop-level.invariant.walked in
+    let size = data-whole config tree.device.0 tree.line 0 0 v c.requires.loaded is.is in
+    walk_fails bytes b size.whole walked c.in-Err-read_checked.fault
+    (checked_as config v.data tree.data (block_sectors v * c.args.index) (block_sectors v) v.salt c.loop-level.expected (Err c.in-Err-read_checked.fault) c.data_extent-extent.result is.on_data c.data_extent-extent.ensures.value c.in-Err-read_checked.ensures.reads)
+
+pub walk-returns-in-Ok-read_checked-clause-reads : goal.walk-returns-in-Ok-read_checked-clause-reads
+walk-returns-in-Ok-read_checked-clause-reads g t c =
+    let v = c.args.verity.now in
+    let config = c.args.config.now in
+    let tree = c.args.tree.now in
+    let is = c.requires.tree in
+    let state = g.D.BlockDev.state in
+    let b = block_in config v c.args.index in
+    let none : c.loop-level.level ≡ 0 = omega (arith, c.loop-level-test.false) in
+    let path = map bytes c.loop-level.path.items in
+    let old = map state c.args.reader.now.devices.items in
+    let mid = map state c.loop-level.reader.devices.items in
+    let walked : IsWalked b 0 c.loop-level.expected path old mid = subst (λ (k : ℕ). IsWalked b k c.loop-level.expected path old mid) none c.loop-level.invariant.walked in
+    let size = data-whole config tree.device.0 tree.line 0 0 v c.requires.loaded is.is in
+    walk_ends bytes b size.whole walked c.in-Ok-read_checked.content c.requires.index
+    (checked_as config v.data tree.data (block_sectors v * c.args.index) (block_sectors v) v.salt c.loop-level.expected (Ok c.in-Ok-read_checked.content) c.data_extent-extent.result is.on_data c.data_extent-extent.ensures.value c.in-Ok-read_checked.ensures.reads)

@@ -3,10 +3,12 @@ use Rattle.stack_loader.specs.Names.{mapped}
 use Rattle.stack_loader.specs.Descend.{depth}
 use Rattle.stack_engine.specs.Reading.{Reads}
 use Rattle.stack_engine.specs.Sources.{source_depth}
+use Rattle.stack_engine.specs.Walks.{block_in, IsWalked}
 use Rattle.stack_engine.specs.Caches.{KeepsCache}
 use Rattle.stack_engine.proofs.read.+read.Given as goal
 
--- 8 times the depth and a rank, of which 0 to 4 are left for the steps of a target
+-- 8 times the depth and a rank, of which 0 to 4 are left for the steps of a target: a data block takes 4, the walk to it 3,
+-- and a block that is checked 8 times its own depth and 8
 
 abbrev pub decreases-read_lower : goal.decreases-read_lower
 decreases-read_lower g l = 8 * depth l.config.now l.lower + 7
@@ -29,3 +31,23 @@ invariant-read_device-loop-at g l = record {
 
 abbrev pub decreases-read_device-loop-at : goal.decreases-read_device-loop-at
 decreases-read_device-loop-at g l = length l.initial.out - l.at
+
+abbrev pub decreases-read_block : goal.decreases-read_block
+decreases-read_block g l = 8 * depth l.config.now (mapped l.part.device.0) + 4
+
+abbrev pub decreases-walk : goal.decreases-walk
+decreases-walk g l = 8 * depth l.config.now (mapped l.tree.now.device.0) + 3
+
+abbrev pub decreases-read_checked : goal.decreases-read_checked
+decreases-read_checked g l = 8 * depth l.config.now l.extent.lower + 8
+
+-- what the path so far shows
+abbrev pub invariant-walk-loop-level : goal.invariant-walk-loop-level
+invariant-walk-loop-level g l = record {
+  walked : IsWalked (block_in l.config l.verity l.index) l.level l.expected (map (λ b. b.items) l.path.items)
+      (map g.D.BlockDev.state l.fn.reader.devices.items) (map g.D.BlockDev.state l.reader.devices.items);
+  cached : KeepsCache l.config (map g.D.BlockDev.state l.reader.devices.items) l.fn.reader.cache l.reader.cache;
+}
+
+abbrev pub decreases-walk-loop-level : goal.decreases-walk-loop-level
+decreases-walk-loop-level g l = l.level

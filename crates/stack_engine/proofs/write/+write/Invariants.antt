@@ -1,4 +1,4 @@
-use Rattle.std.proofs.Common.{length, take, map, ◌-◌, ◌≡◌, ◌≤◌, ◌+◌, ◌*◌, ◌%◌, Ok}
+use Rattle.std.proofs.Common.{length, take, drop, map, ◌-◌, ◌≡◌, ◌≤◌, ◌+◌, ◌++◌, ◌*◌, ◌%◌, Ok}
 use Rattle.stack_loader.specs.Names.{mapped}
 use Rattle.stack_loader.specs.Descend.{depth}
 use Rattle.stack_engine.specs.Writing.{sectors_in, destination_of, Writes}
@@ -17,14 +17,15 @@ decreases-write_device g l = 8 * depth l.config.now (mapped l.d.0) + 6
 abbrev pub decreases-write_run : goal.decreases-write_run
 decreases-write_run g l = 8 * source_depth l.config.now l.source + 5
 
--- the bytes so far are written
+-- the bytes so far are written, and the buffer's others are as they were
 abbrev pub invariant-write_device-loop-at : goal.invariant-write_device-loop-at
 invariant-write_device-loop-at g l = record {
   whole : l.at % 512 ≡ 0;
-  within : l.at ≤ length l.bytes;
-  so_far : Writes (destination_of l.config (mapped l.d.0)) l.first (sectors_in (take l.at l.bytes)) (map g.D.BlockDev.state l.fn.reader.devices.items) (map g.D.BlockDev.state l.reader.devices.items) (Ok tt);
+  within : l.at ≤ length (l.plain ++ l.fn.buffer);
+  rest : drop l.at l.buffer ≡ drop l.at l.fn.buffer;
+  so_far : Writes (destination_of l.config (mapped l.d.0)) l.first (sectors_in (take l.at (l.plain ++ l.fn.buffer))) (map g.D.BlockDev.state l.fn.reader.devices.items) (map g.D.BlockDev.state l.reader.devices.items) (Ok tt);
   cached : KeepsCache l.config (map g.D.BlockDev.state l.reader.devices.items) l.fn.reader.cache l.reader.cache;
 }
 
 abbrev pub decreases-write_device-loop-at : goal.decreases-write_device-loop-at
-decreases-write_device-loop-at g l = length l.initial.bytes - l.at
+decreases-write_device-loop-at g l = l.initial.len - l.at

@@ -4,15 +4,17 @@ use Rattle.std.proofs.lemmas.Result.{err_from_is_err_and}
 use Rattle.stack_loader.specs.declared.refusal.LoadFault.TheVariants.{Refused}
 use Rattle.stack_loader.specs.declared.refusal.LoadKind.TheVariants.{TooDeep, CostTooLarge}
 use Rattle.stack_loader.specs.Records.{Configuration, configuration}
-use Rattle.stack_loader.specs.Descend.{most_devices, depth, read_cost}
+use Rattle.stack_loader.specs.Descend.{most_devices, depth, read_cost, write_cost}
 use Rattle.stack_loader.specs.Facts.{AreFacts}
 use Rattle.stack_loader.specs.Depths.{rounds}
 use Rattle.stack_loader.specs.Kept.{AreLowers}
 use Rattle.stack_loader.specs.Passing.{above}
 use Rattle.stack_loader.specs.Rules.{first, rules, unknown_names, most_depth, most_cost}
+use Rattle.stack_loader.proofs.lemmas.ValidLemmas.{costs-low}
 use Rattle.stack_loader.proofs.lemmas.ValidLineLemmas.{or-false}
-use Rattle.stack_loader.specs.Costs.{AreMeasured}
+use Rattle.stack_loader.specs.Costs.{AreMeasured, capped}
 use Rattle.stack_loader.proofs.DepthLemmas.{rounds-depths}
+use Rattle.stack_loader.proofs.CappedLemmas.{each-exact, write_cost-one}
 use Rattle.stack_loader.proofs.CostLemmas.{lowers-rows}
 use Rattle.stack_loader.proofs.PassingLemmas.{IsFirst-passed, passed-IsFirst}
 use Rattle.stack_loader.proofs.StageLemmas.{Known, unknown-first, cycles-first, lines-first, depths-first, costs-first, none-first, depths-above, costs-above, length-values}
@@ -94,7 +96,7 @@ first_above-requires-2 c =
     let measured : AreMeasured c' c.in_ok-lowers.lowers.items c.in_ok-depths.depths.items = record { lowers = are; depths = depths; low = no_deep } in
     let reads = c.in_ok-read_costs.ensures c'.leaves (rw (c.as_slice-rows.ensures.value, c.as_slice-levels.ensures.value) measured) in
     let low = ltb-false most_devices (length c.args.devices.now) (or-false _ _ few).0 in
-    rw c.as_slice.ensures.value (omega (arith, low, length-values (read_cost c') (length c.args.devices.now) c.in_ok-read_costs.read_costs.items reads))
+    rw c.as_slice.ensures.value (omega (arith, low, length-values (λ x. capped (read_cost c' x)) (length c.args.devices.now) c.in_ok-read_costs.read_costs.items reads))
 
 pub costs-requires-clause-rows : goal.costs-requires-clause-rows
 costs-requires-clause-rows c =
@@ -166,8 +168,9 @@ returns c =
       none-first c' known no_cycle no_line no_deep no_cost,
       record {
         depths = depths;
-        reads = reads;
-        writes = c.in_ok-write_costs.ensures c'.leaves (rw (c.as_slice-rows.ensures.value, c.as_slice-levels.ensures.value) measured);
+        reads = reads ∙ each-exact (read_cost c') (costs-low c' no_cost) (length c.args.devices.now);
+        writes = c.in_ok-write_costs.ensures c'.leaves (rw (c.as_slice-rows.ensures.value, c.as_slice-levels.ensures.value) measured) ∙ each-exact (write_cost c') (λ x. omega (arith, write_cost-one c' x)) (length c.args.devices.now);
         lowers = are;
+        keys = c.in_ok-keys.ensures;
       },
     )

@@ -1,4 +1,4 @@
-use Rattle.std.proofs.Common.{◌≡◌, ◌+◌, arith}
+use Rattle.std.proofs.Common.{◌+◌, arith}
 use Rattle.stack_loader.specs.declared.lower.Lower.TheVariants.{Leaf as leaf}
 use Rattle.stack_loader.specs.Records.{configuration}
 use Rattle.stack_loader.proofs.BeyondLemmas.{length-bases, beyond-here, beyond-step, beyond-none}

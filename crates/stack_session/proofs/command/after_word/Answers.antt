@@ -2,7 +2,7 @@ use Rattle.std.proofs.Common.{drop, ◌∙◌, ap}
 use Rattle.std.specs.List.{position_or_len}
 use Rattle.std.proofs.lemmas.List.{take_rest}
 use Rattle.dm_table.specs.Words.{is_white}
-use Rattle.stack_session.specs.Requests.{after_word}
+use Rattle.stack_session.specs.Commands.{after_word}
 use Rattle.stack_session.proofs.command.after_word.Goals as goal
 
 pub returns-clause-value : goal.returns-clause-value

@@ -1,4 +1,4 @@
-use Rattle.stack_session.proofs.RequestLemmas.{byte_of-ok, byte_of-err}
+use Rattle.stack_session.proofs.CommandLemmas.{byte_of-ok, byte_of-err}
 use Rattle.stack_session.proofs.command.byte_of.Goals as goal
 
 pub returns-in-Ok : goal.returns-in-Ok

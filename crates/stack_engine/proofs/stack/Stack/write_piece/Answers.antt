@@ -1,21 +1,37 @@
-use Rattle.std.proofs.Common.{map, refl, subst}
+use Rattle.std.proofs.Common.{◌≡◌, ℕ, ◌-◌, List, ◌++◌, length, take, drop, map, refl, ap, ◌∙◌, subst, arith}
+use Rattle.std.proofs.lemmas.List.{take_all, length-drop}
+use Rattle.stack_loader.specs.Names.{mapped}
 use Rattle.stack_engine.specs.Stacks.{StackRecord}
 use Rattle.stack_engine.specs.Pieces.{stack_over}
+use Rattle.stack_engine.specs.Writing.{sectors_in, destination_of, Writes}
 use Rattle.stack_engine.specs.WritePieces.{EachWrite}
 use Rattle.stack_engine.proofs.lemmas.WritePieceLemmas.{each-write, write-sound}
 use Rattle.stack_engine.proofs.LeafLemmas.{all-whole}
 use Rattle.stack_engine.proofs.stack.Stack.write_piece.Given as given
 use Rattle.stack_engine.proofs.stack.Stack.write_piece.Goals as goal
 
+-- the bytes that were handed down are those of the piece
+bytes_of : (g : given.Over) (c : goal.After-drop-buffer g) → take (length c.args.bytes.now - c.len.result) (drop c.len.result c.args.bytes.now) ++ c.as_mut_slice-copy.result.now ≡ c.args.bytes.now
+bytes_of g c =
+    let items = c.in-Ok.buffer.items in
+    let count : c.len.result ≡ length items = c.len.ensures ∙ c.in-Ok.buffer.ok.0 in
+    ap (λ (l : List ℕ). l ++ c.as_mut_slice-copy.result.now) (take_all (length c.args.bytes.now - c.len.result) (drop c.len.result c.args.bytes.now) (omega (arith, length-drop c.len.result c.args.bytes.now)))
+    ∙ ap (λ (k : ℕ). drop k c.args.bytes.now ++ c.as_mut_slice-copy.result.now) count
+    ∙ ap (λ (l : List ℕ). drop (length items) c.args.bytes.now ++ l) c.as_mut_slice-copy.ensures.value
+    ∙ c.in-Ok.ensures.ok.same
+
 -- what the write did, of the stack's own devices
-piece : (g : given.Over) (c : goal.After-write_device g)
+piece : (g : given.Over) (c : goal.After-drop-buffer g)
     → EachWrite (stack_over c.self.inside.config (map g.D.BlockDev.state c.self.inside.reader.devices.items)) c.args.d.0 c.args.first c.args.bytes.now c.write_device.result
     (stack_over c.self.inside.config (map g.D.BlockDev.state c.write_device.new.reader.devices.items))
 piece g c =
-    each-write c.args.d.0 c.args.first c.args.bytes.now c.write_device.result refl (λ was. all-whole g.D.BlockDev.state g.met.D.BlockDev.whole c.write_device.new.reader.devices.items) c.write_device.ensures.writes
+    let state = g.D.BlockDev.state in
+    let Is : List ℕ → Type 0 = λ b.
+    Writes (destination_of c.self.inside.config (mapped c.args.d.0)) c.args.first (sectors_in b) (map state c.self.inside.reader.devices.items) (map state c.write_device.new.reader.devices.items) c.write_device.result in
+    each-write c.args.d.0 c.args.first c.args.bytes.now c.write_device.result refl (λ was. all-whole state g.met.D.BlockDev.whole c.write_device.new.reader.devices.items) (subst Is (bytes_of g c) c.write_device.ensures.writes)
 
 -- of the stack as it was
-whole : (g : given.Over) (c : goal.After-write_device g)
+whole : (g : given.Over) (c : goal.After-drop-buffer g)
     → EachWrite c.args.self.now c.args.d.0 c.args.first c.args.bytes.now c.write_device.result (stack_over c.self.inside.config (map g.D.BlockDev.state c.write_device.new.reader.devices.items))
 whole g c =
     subst (λ (w : StackRecord). EachWrite w c.args.d.0 c.args.first c.args.bytes.now c.write_device.result (stack_over c.self.inside.config (map g.D.BlockDev.state c.write_device.new.reader.devices.items))) c.self.view_is (piece g c)

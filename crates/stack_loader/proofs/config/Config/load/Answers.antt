@@ -3,7 +3,7 @@ use Rattle.std.proofs.lemmas.Result.{err_from_is_err_and}
 use Rattle.dm_table.specs.declared.stack.Entry.{Entry}
 use Rattle.stack_loader.specs.declared.refusal.LoadFault.TheVariants.{Refused}
 use Rattle.stack_loader.specs.Records.{Configuration, configuration}
-use Rattle.stack_loader.specs.Facts.{IsNext}
+use Rattle.stack_loader.specs.Next.{IsNext}
 use Rattle.stack_loader.specs.Passing.{IsFirst}
 use Rattle.stack_loader.specs.Rules.{first, load_rules, after_load, first_refusal}
 use Rattle.stack_loader.proofs.lemmas.ValidLineLemmas.{few}

@@ -1,0 +1,26 @@
+// Requests that a command makes of a stack.
+ghost use Rattle.std.specs.Prelude.{◌≡◌, IfOk, IfErr};
+ghost use Rattle.request_queue.specs.Requests.{request_record};
+ghost use Rattle.stack_commands.specs.Requests.{FailsToServe, IsServed};
+
+use crate::fault::CommandFault;
+use block_device::AnyDev;
+use request_queue::{Queue, Reply, Request, RunFault};
+
+/// Serves a request to its end.
+pub fn serve_request<'a>(
+    queue: &mut Queue<AnyDev>,
+    request: Request,
+) -> Result<Reply, CommandFault<'a>>
+    ensures ok { IfOk result (λ reply. IsServed queue.old (request_record request) reply queue.new) }
+    ensures err { IfErr result (λ fault. FailsToServe queue.old (request_record request) fault queue.new) }
+{
+    match queue.run(request) {
+        Ok(reply) => Ok(reply),
+        Err(RunFault::Submit(fault, request)) => {
+            drop(request);
+            Err(CommandFault::Submit(fault))
+        }
+        Err(RunFault::Io(fault)) => Err(CommandFault::Io(fault)),
+    }
+}

@@ -1,0 +1,131 @@
+-- Sectors of one data block of a verity line of a configuration, read from its chain.
+use Rattle.std.proofs.Common.{◌≡◌, ℕ, ◌+◌, ◌*◌, ◌/◌, ◌%◌, ◌<◌, ◌≤◌, List, [], ◌∷◌, ◌++◌, length, get_or, Contains, take, drop, Option, Some, Ok, Err, refl, sym, ap, ◌∙◌, subst, arith}
+use Rattle.std.specs.Prelude.{slice_get}
+use Rattle.std.proofs.lemmas.List.Elements.{Contains-push}
+use Rattle.std.proofs.lemmas.List.{get_or_default}
+use Rattle.std.proofs.Math.Nat.{mul-le-mul_right}
+use Rattle.hash_tree.specs.Chain.{ChainRecord}
+use Rattle.block_device.specs.Device.{Device}
+use Rattle.dm_table.specs.declared.verity.Verity.{Verity}
+use Rattle.dm_table.specs.declared.table.Line.{Line}
+use Rattle.dm_table.specs.declared.table.Target.{Target}
+use Rattle.dm_table.specs.declared.table.Target.TheVariants.{Verity as verity_target}
+use Rattle.stack_loader.specs.Records.{Configuration}
+use Rattle.stack_loader.specs.Names.{mapped, lines_of}
+use Rattle.stack_loader.specs.Descend.{by_name, read_cost, line_read_cost}
+use Rattle.stack_loader.specs.Rules.{IsLoaded}
+use Rattle.stack_loader.specs.Trees.{block_sectors}
+use Rattle.stack_loader.proofs.lemmas.LoadedLineLemmas.{line-read-cost}
+use Rattle.stack_engine.specs.declared.fault.IoFault.{IoFault}
+use Rattle.stack_engine.specs.declared.fault.IoFault.TheVariants as io
+use Rattle.stack_engine.specs.declared.source.BlockPart.{BlockPart}
+use Rattle.stack_engine.specs.declared.source.Source.TheVariants.{Block}
+use Rattle.stack_engine.specs.Outcomes.{Images}
+use Rattle.stack_engine.specs.Found.{FoundRecord, Entry, entry_of}
+use Rattle.stack_engine.specs.Meaning.{line_said, said_by_name}
+use Rattle.stack_engine.specs.Kept.{block_of, LineKeeps, IsOfVerity, IsKept, AllKept}
+use Rattle.stack_engine.specs.Leaves.{images_of, AllSteady}
+use Rattle.stack_engine.specs.Sources.{said_of_line, source_place, ReadsSource}
+use Rattle.stack_engine.specs.Walks.{HasVerity, block_in, chain_expected, GetsChain}
+use Rattle.stack_engine.proofs.lemmas.LeafListLemmas.{AreRead-none, AreRead-more, AllSteady-kept, images-kept}
+use Rattle.stack_engine.proofs.lemmas.FoundLemmas.{Grown-none, kept-later}
+use Rattle.stack_engine.proofs.lemmas.RunLemmas.{Passes, pass}
+use Rattle.stack_engine.proofs.lemmas.BlockLemmas.{block_place, chain_fills, block_fails, length-content, AllKept-push, Grown-push}
+
+-- what was found for an entry of a verity line
+pub kept_for : (c : Configuration) (leaves : List Device) (d l i : ℕ) (v : Verity) (x : FoundRecord) → HasVerity c d l v → entry_of x ≡ (d, l, i) → IsKept c leaves x → IsOfVerity c leaves v x.chain
+kept_for c leaves d l i v x line at kept =
+    let device : x.device ≡ d = ap (λ (e : Entry). e.0) at in
+    let number : x.line ≡ l = ap (λ (e : Entry). e.1) at in
+    let found : slice_get (lines_of c d) l ≡ Some kept.line = ap (λ (k : ℕ). slice_get (lines_of c k) l) (sym device) ∙ ap (slice_get (lines_of c x.device)) (sym number) ∙ kept.is in
+    let both : Some kept.line ≡ Some line.line = sym found ∙ line.is in
+    let lines : kept.line ≡ line.line = cc in
+    let target : kept.line.target ≡ verity_target v = ap (λ (y : Line). y.target) lines ∙ line.has in
+    subst (λ (t : Target). LineKeeps c leaves t x.chain) target kept.keeps
+
+pub contains_at : (found : List FoundRecord) (k : ℕ) (x : FoundRecord) → k < length found → Contains found (get_or found k x)
+contains_at found k x h = (k, h, get_or_default found k (get_or found k x) x h)
+
+pub kept_at : (c : Configuration) (leaves : List Device) (found : List FoundRecord) (x : FoundRecord) → AllKept c leaves found → Contains found x → IsKept c leaves x
+kept_at c leaves found x all given = subst (IsKept c leaves) given.2 (all given.0 x given.1)
+
+pub kept_length : (c : Configuration) (leaves : List Device) (d l i : ℕ) (v : Verity) (found : List FoundRecord) (k : ℕ) (x : FoundRecord) → HasVerity c d l v → AllKept c leaves found → k < length found
+    → entry_of (get_or found k x) ≡ (d, l, i) → length ((get_or found k x).chain.content) ≡ v.data_block
+kept_length c leaves d l i v found k x line kept h here =
+    length-content v (get_or found k x).chain (kept_for c leaves d l i v (get_or found k x) line here (kept_at c leaves found (get_or found k x) kept (contains_at found k x h))).good
+
+-- a part of a block lies inside it
+pub part-room : (v : Verity) (w sectors len : ℕ) → sectors ≡ block_sectors v → 512 * block_sectors v ≡ v.data_block → w % block_sectors v + len / 512 ≤ block_sectors v → len % 512 ≡ 0 → 512 * (w % sectors) + len ≤ v.data_block
+part-room v w sectors len is whole within even = let same : w % sectors ≡ w % block_sectors v = ap (λ (k : ℕ). w % k) is in omega (arith, same, whole, within, even)
+
+module _ (c : Configuration) (v : Verity) (p : BlockPart) (n : ℕ) (loaded : IsLoaded c) (line : HasVerity c p.device.0 p.line v) (some : 0 < n)
+    (within : p.first % block_sectors v + n ≤ block_sectors v) (whole : 512 * block_sectors v ≡ v.data_block) where
+  passes : Passes (block_place (block_in c v (p.first / block_sectors v)) (p.device.0, p.line) p.first (read_cost c (mapped p.device.0))) (source_place c (Block p)) 0 0 n
+  passes = record {
+    said = λ j h.
+        sym (ap (λ (o : Option Line). said_of_line c p.device.0 p.line o (p.first + (0 + j))) line.is
+        ∙ ap (λ (t : Target). line_said (said_by_name c) p.device.0 p.line t (p.first + (0 + j))) line.has);
+    cost = omega arith;
+  }
+
+  block-cost : (chain_expected (block_in c v (p.first / block_sectors v))).cost ≤ read_cost c (mapped p.device.0)
+  block-cost = subst (λ (t : Target). line_read_cost (by_name c 0 (read_cost c)) t ≤ read_cost c (mapped p.device.0)) line.has (line-read-cost c p.device.0 p.line line.line loaded.valid line.is)
+
+  -- from a chain that is there
+  pub part_found : (leaves : List Device) (found : List FoundRecord) (x : FoundRecord) {bytes : List ℕ} → entry_of x ≡ (p.device.0, p.line, p.first / block_sectors v) → Contains found x → AllKept c leaves found
+      → bytes ≡ take (512 * n) (drop (512 * (p.first % block_sectors v)) x.chain.content)
+      → ReadsSource c (Block p) n (record { old = leaves; new = leaves; before = found; after = found }) (Ok bytes)
+  part_found leaves found x here given kept is =
+      let one = kept_for c leaves p.device.0 p.line (p.first / block_sectors v) v x line here (kept_at c leaves found x kept given) in
+      let number : x.chain.index ≡ p.first / block_sectors v = ap (λ (e : Entry). e.2) here in
+      pass passes (record { old = leaves; new = leaves; before = found; after = found }) (Ok _) (record {
+        got = chain_fills (block_in c v (p.first / block_sectors v)) (p.device.0, p.line) p.first n (read_cost c (mapped p.device.0)) refl within whole found x (AreRead-none _ leaves)
+            (λ steady. ap (block_of c (images_of leaves) v) (sym number) ∙ one.exact steady) one.good here given is;
+        grown = Grown-none _ 0 n found;
+        kept = kept;
+      })
+
+  -- from a chain that was walked
+  pub part_walked : {old new : List Device} (found : List FoundRecord) (chain : ChainRecord) {bytes : List ℕ} → AllKept c old found
+      → ((k : ℕ) → k < length found → (y : FoundRecord) → entry_of (get_or found k y) ≡ (p.device.0, p.line, p.first / block_sectors v) → ⊥)
+      → GetsChain (block_in c v (p.first / block_sectors v)) old new (Ok chain)
+      → bytes ≡ take (512 * n) (drop (512 * (p.first % block_sectors v)) chain.content)
+      → ReadsSource c (Block p) n (record { old = old; new = new; before = found; after = found ++ (record { device = p.device.0; line = p.line; chain = chain } ∷ []) }) (Ok bytes)
+  part_walked {old = old} {new = new} found chain kept none q is =
+      let x : FoundRecord = record { device = p.device.0; line = p.line; chain = chain } in
+      let here : entry_of x ≡ (p.device.0, p.line, p.first / block_sectors v) = ap (λ (k : ℕ). (p.device.0, p.line, k)) q.may.0 in
+      let one : IsOfVerity c new v chain = record {
+        good = q.may.1;
+        exact = λ steady.
+            let before : AllSteady old = AllSteady-kept new old (sym q.moved.moved.fixed) steady in
+            ap (block_of c (images_of new) v) q.may.0 ∙ ap (λ (m : Images). block_of c m v (p.first / block_sectors v)) (images-kept q.moved before) ∙ q.exact before;
+      } in
+      pass passes (record { old = old; new = new; before = found; after = found ++ (x ∷ []) }) (Ok _) (record {
+        got = chain_fills (block_in c v (p.first / block_sectors v)) (p.device.0, p.line) p.first n (read_cost c (mapped p.device.0)) refl within whole (found ++ (x ∷ [])) x
+            (AreRead-more (let most = mul-le-mul_right (read_cost c (mapped p.device.0)) some in omega (arith, most, block-cost)) q.moved) q.exact q.may.1 here (Contains-push found x) is;
+        grown = Grown-push _ 0 n found x some (0, omega arith, (let e : p.first + 0 ≡ p.first = omega arith in ap (λ (k : ℕ). (p.device.0, p.line, k / block_sectors v)) e ∙ sym here)) (λ k h y same. none k h y (same ∙ here));
+        kept = AllKept-push c new found x (kept-later c found q.moved kept) (record { line = line.line; is = line.is; keeps = subst (λ (t : Target). LineKeeps c new t chain) (sym line.has) one });
+      })
+
+  -- a walk that ended by a fault
+  pub part_err : {old new : List Device} (found : List FoundRecord) (fault : IoFault) → AllKept c old found → GetsChain (block_in c v (p.first / block_sectors v)) old new (Err fault)
+      → ReadsSource c (Block p) n (record { old = old; new = new; before = found; after = found }) (Err fault)
+  part_err {old = old} {new = new} found fault kept q =
+      pass passes (record { old = old; new = new; before = found; after = found }) (Err fault) (record {
+        got = block_fails (block_in c v (p.first / block_sectors v)) (p.device.0, p.line) p.first n (read_cost c (mapped p.device.0)) refl within whole found fault some block-cost q;
+        grown = Grown-none _ 0 n found;
+        kept = kept-later c found q.moved kept;
+      })
+
+  -- no memory for the chain
+  pub part_full : {old new : List Device} (found : List FoundRecord) (chain : ChainRecord) → AllKept c old found → GetsChain (block_in c v (p.first / block_sectors v)) old new (Ok chain)
+      → ReadsSource c (Block p) n (record { old = old; new = new; before = found; after = found }) (Err io.NoMemory)
+  part_full {old = old} {new = new} found chain kept q = record {
+    got = record {
+      moved = AreRead-more (let most = mul-le-mul_right (read_cost c (mapped p.device.0)) some in omega (arith, most, block-cost)) q.moved;
+      may = tt;
+      exact = λ steady. tt;
+    };
+    grown = Grown-none _ 0 n found;
+    kept = kept-later c found q.moved kept;
+  }

@@ -1,0 +1,109 @@
+-- The chains of an answer.
+use Rattle.std.proofs.Common.{◌≡◌, ◌≢◌, ℕ, ◌+◌, ◌/◌, List, [], ◌∷◌, ◌++◌, get_or, Contains, Option, Some, None, refl, sym, ap, ◌∙◌, subst, arith, inl, inr}
+use Rattle.std.proofs.lemmas.List.{append_cancel_left, get_or_default}
+use Rattle.std.proofs.lemmas.Bool.{cases_lt}
+use Rattle.hash_tree.specs.declared.difference.Place.{Place}
+use Rattle.hash_tree.specs.Chain.{IsGood, formed}
+use Rattle.hash_tree.specs.Difference.{IsTopmostDifference, IsCollision, block_at as chain_block}
+use Rattle.hash_tree.specs.Digests.{digest}
+use Rattle.hash_tree.specs.Laws.{AreBlocks, ForgedBlocksCollide}
+use Rattle.hash_tree.specs.Tree.{root}
+use Rattle.dm_table.specs.declared.table.Target.{Target}
+use Rattle.dm_table.specs.declared.table.Target.TheVariants.{Linear, Striped, Zero, Error, Crypt as crypt_target, Verity as verity_target}
+use Rattle.dm_table.specs.declared.verity.Verity.{Verity}
+use Rattle.stack_loader.specs.declared.lower.Lower.{Lower}
+use Rattle.stack_loader.specs.Records.{Configuration}
+use Rattle.stack_loader.specs.Rules.{IsLoaded}
+use Rattle.stack_loader.specs.Trees.{tree_of}
+use Rattle.stack_engine.specs.Beneath.{beneath, said_or}
+use Rattle.stack_engine.specs.Found.{FoundRecord, Entry, entry_of, AreDistinct}
+use Rattle.stack_engine.specs.Laws.{digests_of, IsSha256Collision}
+use Rattle.stack_engine.specs.May.{MayBe}
+use Rattle.stack_engine.specs.Meaning.{Said, none_said, line_said, said_at, IsShown}
+use Rattle.stack_engine.specs.Outcomes.{part}
+use Rattle.stack_engine.specs.Walks.{HasVerity}
+use Rattle.stack_engine.proofs.VerityLineLemmas.{line-facts}
+use Rattle.stack_engine.proofs.lemmas.EachLineLemmas.{IsHandedUpIn, said_at-each_in}
+
+-- ---- what stands for an entry on a sector's way
+
+-- a good chain of that entry's line
+abbrev IsShownIn : Configuration → List FoundRecord → Entry → Type 0
+IsShownIn c chains e = (x : FoundRecord) × (v : Verity) × HasVerity c e.0 e.1 v × IsShown chains e v x
+
+-- what a sector may be shows a good chain for each entry on its way
+abbrev ShowsEntries : Configuration → Said → Type 0
+ShowsEntries c said = (chains : List FoundRecord) (bytes : List ℕ) (e : Entry) → said.may chains bytes → Contains said.entries e → IsShownIn c chains e
+
+or-shows : (c : Configuration) (at : List ℕ → ℕ → Said) → ((name : List ℕ) (s : ℕ) → ShowsEntries c (at name s)) → (o : Option (List ℕ × ℕ)) → ShowsEntries c (said_or none_said at o)
+or-shows c at all None chains bytes e may there = absurd may
+or-shows c at all (Some p) chains bytes e may there = all p.0 p.1 chains bytes e may there
+
+line-shows : (c : Configuration) → IsHandedUpIn c (ShowsEntries c)
+line-shows c at all d l line is s = go line.target refl
+  where
+    go : (target : Target) → line.target ≡ target → ShowsEntries c (line_said at d l target s)
+    go (Linear base) has = or-shows c at all (beneath (Linear base) s)
+    go (Striped chunk bases) has = or-shows c at all (beneath (Striped chunk bases) s)
+    go Zero has = λ chains bytes e may there. absurd (omega (arith, there.1))
+    go Error has = λ chains bytes e may there. absurd may
+    go (crypt_target crypt) has = λ chains bytes e may there. or-shows c at all (beneath (crypt_target crypt) s) chains may.0 e may.1 there
+    go (verity_target v) has = λ chains bytes e may there.
+        let here : Entry = (d, l, s / (v.data_block / 512)) in
+        let first : there.0 ≡ 0 = omega (arith, there.1) in
+        let same : here ≡ e = ap (λ (k : ℕ). get_or (here ∷ []) k e) (sym first) ∙ there.2 in
+        subst (IsShownIn c chains) same (may.0, v, record { line = line; is = is; has = has; fits = omega arith }, may.1)
+
+at-shows : (c : Configuration) (lower : Lower) (s : ℕ) → ShowsEntries c (said_at c lower s)
+at-shows c lower s = said_at-each_in c (ShowsEntries c) (λ chains bytes e may there. absurd may) (λ i s chains bytes e may there. absurd (omega (arith, there.1))) (line-shows c) lower s
+
+-- ---- chains of an answer
+
+-- no two chains have one entry
+same-chain : (chains : List FoundRecord) (x y : FoundRecord) → AreDistinct chains → Contains chains x → Contains chains y → entry_of x ≡ entry_of y → x ≡ y
+same-chain chains x y distinct a b e = elim (cases_lt a.0 b.0) [
+  | inl low ↦
+      let left : get_or chains a.0 x ≡ x = a.2 in
+      let right : get_or chains b.0 x ≡ y = get_or_default chains b.0 x y b.1 ∙ b.2 in
+      absurd (distinct a.0 b.0 x low b.1 (ap entry_of left ∙ e ∙ ap entry_of (sym right)))
+  | inr high ↦ elim (cases_lt b.0 a.0) [
+    | inl low ↦
+        let left : get_or chains b.0 x ≡ y = get_or_default chains b.0 x y b.1 ∙ b.2 in
+        absurd (distinct b.0 a.0 x low a.1 (ap entry_of left ∙ sym e ∙ ap entry_of (sym a.2)))
+    | inr other ↦
+        let same : a.0 ≡ b.0 = omega (arith, high, other) in
+        sym a.2 ∙ ap (λ (k : ℕ). get_or chains k x) same ∙ get_or_default chains b.0 x y b.1 ∙ b.2
+  ]
+]
+
+-- each is good for its line
+pub answered-good : (c : Configuration) (lower : Lower) (first n : ℕ) (bytes : List ℕ) (chains : List FoundRecord) → MayBe c lower first n bytes chains
+    → (x : FoundRecord) → Contains chains x → (v : Verity) × HasVerity c x.device x.line v × IsGood (tree_of v) v.salt v.root x.chain
+answered-good c lower first n bytes chains may x there =
+    let some = may.read.used there.0 x there.1 in
+    let on_way : Contains (said_at c lower (first + some.0)).entries (entry_of x) = subst (λ (y : FoundRecord). Contains (said_at c lower (first + some.0)).entries (entry_of y)) there.2 some.2 in
+    let shown = at-shows c lower (first + some.0) chains (part bytes some.0) (entry_of x) (may.read.run.sectors some.0 some.1) on_way in
+    let same : shown.0 ≡ x = same-chain chains shown.0 x may.distinct shown.3.given there shown.3.at in
+    (shown.1, shown.2, subst (λ (y : FoundRecord). IsGood (tree_of shown.1) shown.1.salt shown.1.root y.chain) same shown.3.good)
+
+one-line : (c : Configuration) (d l : ℕ) (v w : Verity) → HasVerity c d l v → HasVerity c d l w → v ≡ w
+one-line c d l v w a b = Rattle.stack_engine.proofs.VerityLineLemmas.same-verity c d l 0 0 v w a b
+
+-- a collision of blocks is one of SHA-256's inputs
+sha-collision : (salt a b : List ℕ) → IsCollision salt a b → IsSha256Collision (salt ++ a) (salt ++ b)
+unfolding digest
+sha-collision salt a b same = record { differ = λ e. same.differ (append_cancel_left salt a b e); same = same.same }
+
+pub forged-collide : ForgedBlocksCollide → (c : Configuration) → IsLoaded c → (lower : Lower) (first n : ℕ) (bytes : List ℕ) (chains : List FoundRecord) → MayBe c lower first n bytes chains
+    → (x : FoundRecord) → Contains chains x → (v : Verity) → HasVerity c x.device x.line v
+    → (blocks : List (List ℕ)) → AreBlocks v.blocks v.data_block blocks → v.root ≡ root v.hash_block v.salt (digests_of v blocks)
+    → x.chain.content ≢ get_or blocks x.chain.index []
+    → (place : Place) × (IsTopmostDifference (formed (tree_of v) v.salt blocks x.chain.index) x.chain place
+    × IsSha256Collision (v.salt ++ chain_block (formed (tree_of v) v.salt blocks x.chain.index) place) (v.salt ++ chain_block x.chain place))
+forged-collide law c loaded lower first n bytes chains may x there v has blocks even is differs =
+    let all = answered-good c lower first n bytes chains may x there in
+    let same : all.0 ≡ v = one-line c x.device x.line all.0 v all.1 has in
+    let good : IsGood (tree_of v) v.salt v.root x.chain = subst (λ (w : Verity). IsGood (tree_of w) w.salt w.root x.chain) same all.2 in
+    let shape = (line-facts c x.device x.line v loaded has).2.shape in
+    let found = law (tree_of v) shape v.salt blocks even x.chain (subst (λ (r : List ℕ). IsGood (tree_of v) v.salt r x.chain) is good) differs in
+    (found.0, (found.1.0, sha-collision v.salt (chain_block (formed (tree_of v) v.salt blocks x.chain.index) found.0) (chain_block x.chain found.0) found.1.1))

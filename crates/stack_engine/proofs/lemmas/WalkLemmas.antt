@@ -1,0 +1,158 @@
+-- The walk to a data block of a verity line.
+use Rattle.std.proofs.Common.{◌≡◌, ℕ, suc, ◌+◌, ◌*◌, ◌<◌, ◌≤◌, Bool, false, cond, List, [], ◌∷◌, ◌++◌, length, Ok, Err, refl, sym, ap, ◌∙◌, subst, arith, inl, inr}
+use Rattle.std.specs.Str.{bytes_eq}
+use Rattle.std.proofs.lemmas.Slice.Eq.{bytes_eq-Decides}
+use Rattle.std.proofs.lemmas.List.{append_assoc, append-nil, length-append}
+use Rattle.std.proofs.Math.Nat.{mul-le-mul_right, mul_assoc}
+use Rattle.hash_tree.specs.Chain.{HangsFrom}
+use Rattle.hash_tree.specs.Digests.{digest}
+use Rattle.hash_tree.specs.Shape.{levels}
+use Rattle.block_device.specs.Device.{Device}
+use Rattle.stack_loader.specs.Trees.{tree_of, block_sectors}
+use Rattle.stack_engine.specs.declared.fault.IoFault.{IoFault}
+use Rattle.stack_engine.specs.declared.fault.IoFault.TheVariants as io
+use Rattle.stack_engine.specs.Outcomes.{mismatch, Outcome, Images, then_outcome}
+use Rattle.stack_engine.specs.Found.{FoundRecord}
+use Rattle.stack_engine.specs.Blocks.{hash_sectors, hash_start, next_digest, checked, checked_span}
+use Rattle.stack_engine.specs.Leaves.{images_of, AllSteady, AreRead}
+use Rattle.stack_engine.specs.Places.{Place, Expected, run_expected}
+use Rattle.stack_engine.specs.Reading.{Gets}
+use Rattle.stack_engine.specs.Walks.{checked_expected, DataBlock, means_below, chain_expected, GetsChain, IsWalked}
+use Rattle.stack_engine.proofs.lemmas.LeafListLemmas.{AreRead-none, AreRead-then, AreRead-more, AllSteady-kept, images-kept}
+use Rattle.stack_engine.proofs.lemmas.RunLemmas.{fault_passes}
+
+-- ---- one block that is checked
+
+pub checked-same : (salt expected block : List ℕ) → digest salt block ≡ expected → checked salt expected block ≡ Ok block
+checked-same salt expected block e = ap (λ (b : Bool). cond b (Ok block) (Err mismatch)) ((bytes_eq-Decides (digest salt block) expected).1 e)
+
+checked-other : (salt expected block : List ℕ) → bytes_eq (digest salt block) expected ≡ false → checked salt expected block ≡ Err mismatch
+checked-other salt expected block e = ap (λ (b : Bool). cond b (Ok block) (Err mismatch)) e
+
+module _ {A : Type 0} (bytes_of : A → List ℕ) (place : Place) (first n : ℕ) (salt expected : List ℕ) {old new : List Device} (chains : List FoundRecord) where
+  pub checked_ok : (x : A) {bytes : List ℕ} → bytes_of x ≡ bytes → digest salt bytes ≡ expected → Gets (run_expected place chains first n) old new (Ok bytes)
+      → Gets (checked_expected bytes_of place first n salt expected) old new (Ok x)
+  checked_ok x {bytes = bytes} is good p = record {
+    moved = p.moved;
+    may = (ap length is ∙ p.may.len, ap (digest salt) is ∙ good);
+    exact = λ steady. ap (λ (s : Outcome). then_outcome s (checked salt expected)) (p.exact steady) ∙ checked-same salt expected bytes good ∙ ap Ok (sym is);
+  }
+
+  pub checked_differs : {bytes : List ℕ} → bytes_eq (digest salt bytes) expected ≡ false → Gets (run_expected place chains first n) old new (Ok bytes)
+      → Gets (checked_expected bytes_of place first n salt expected) old new (Err io.Mismatch)
+  checked_differs {bytes = bytes} bad p = record {
+    moved = p.moved;
+    may = inl refl;
+    exact = λ steady. ap (λ (s : Outcome). then_outcome s (checked salt expected)) (p.exact steady) ∙ checked-other salt expected bytes bad;
+  }
+
+  pub checked_err : (fault : IoFault) → Gets (run_expected place chains first n) old new (Err fault) → Gets (checked_expected bytes_of place first n salt expected) old new (Err fault)
+  checked_err fault p =
+      fault_passes {wanted = run_expected place chains first n} {wanted' = checked_expected bytes_of place first n salt expected} fault p (AreRead-none 0 old) (omega arith)
+      (λ x meets. inr meets) (λ steady x is. ap (λ (s : Outcome). then_outcome s (checked salt expected)) is)
+
+pub checked_full : {A : Type 0} (bytes_of : A → List ℕ) (place : Place) (first n : ℕ) (salt expected : List ℕ) (leaves : List Device) → Gets (checked_expected bytes_of place first n salt expected) leaves leaves (Err io.NoMemory)
+checked_full bytes_of place first n salt expected leaves = record { moved = AreRead-none _ leaves; may = tt; exact = λ steady. tt }
+
+-- ---- the walk
+
+-- before the first step
+pub walk_starts : (b : DataBlock) (leaves : List Device) → IsWalked b (levels (tree_of b.verity)) b.verity.root [] leaves leaves
+walk_starts b leaves = record {
+  count = omega arith;
+  moved = AreRead-none _ leaves;
+  hangs = λ rest content h hangs. hangs;
+  exact = λ steady. refl;
+}
+
+-- the cost of some hash blocks on the way
+levels_cost : (v hb cost m n : ℕ) → m + n ≤ v → m * (hb * cost) + n * (hb * cost) ≤ v * hb * cost
+levels_cost v hb cost m n h =
+    let same : v * hb * cost ≡ v * (hb * cost) = mul_assoc v hb cost in
+    let most : (m + n) * (hb * cost) ≤ v * (hb * cost) = mul-le-mul_right (hb * cost) h in
+    omega (arith, same, most)
+
+-- what is expected of the next block: the hash block of level l, or the data block
+abbrev hash_expected : {A : Type 0} → (A → List ℕ) → DataBlock → ℕ → List ℕ → Expected A
+hash_expected bytes_of b l expected = checked_expected bytes_of b.on_hash (hash_start b.verity l b.index) (hash_sectors b.verity) b.verity.salt expected
+
+abbrev data_expected : {A : Type 0} → (A → List ℕ) → DataBlock → List ℕ → Expected A
+data_expected bytes_of b expected = checked_expected bytes_of b.on_data (block_sectors b.verity * b.index) (block_sectors b.verity) b.verity.salt expected
+
+-- the meaning goes on with what the next hash block means
+means-step : {A : Type 0} (bytes_of : A → List ℕ) (b : DataBlock) (l : ℕ) {expected : List ℕ} {path : List (List ℕ)} {old mid : List Device} → IsWalked b (suc l) expected path old mid → AllSteady old
+    → (x : Outcome) → (hash_expected bytes_of b l expected).means (images_of mid) ≡ x
+    → (chain_expected b).means (images_of old) ≡ then_outcome x (λ block. means_below b (images_of old) l (next_digest b.verity l b.index block))
+means-step bytes_of b l {expected = expected} {old = old} {mid = mid} p steady x is =
+    let images : images_of mid ≡ images_of old = images-kept p.moved steady in
+    p.exact steady
+    ∙ ap (λ (y : Outcome). then_outcome y (λ block. means_below b (images_of old) l (next_digest b.verity l b.index block)))
+    (ap (λ (m : Images). checked_span (λ s. (b.on_hash.said s).means m) (hash_start b.verity l b.index) (hash_sectors b.verity) b.verity.salt expected) (sym images) ∙ is)
+
+-- and with what the data block means
+means-end : {A : Type 0} (bytes_of : A → List ℕ) (b : DataBlock) {expected : List ℕ} {path : List (List ℕ)} {old mid : List Device} → IsWalked b 0 expected path old mid → AllSteady old
+    → (x : Outcome) → (data_expected bytes_of b expected).means (images_of mid) ≡ x → (chain_expected b).means (images_of old) ≡ x
+means-end bytes_of b {expected = expected} {old = old} {mid = mid} p steady x is =
+    let images : images_of mid ≡ images_of old = images-kept p.moved steady in
+    p.exact steady
+    ∙ ap (λ (m : Images). checked_span (λ s. (b.on_data.said s).means m) (block_sectors b.verity * b.index) (block_sectors b.verity) b.verity.salt expected) (sym images)
+    ∙ is
+
+path_cost : (b : DataBlock) {expected : List ℕ} {path : List (List ℕ)} {old mid : List Device} → IsWalked b 0 expected path old mid
+    → length path * (hash_sectors b.verity * b.on_hash.cost) + block_sectors b.verity * b.on_data.cost ≤ (chain_expected b).cost
+path_cost b {path = path} p =
+    let most = levels_cost (levels (tree_of b.verity)) (hash_sectors b.verity) b.on_hash.cost (length path) 0 (omega (arith, p.count)) in omega (arith, most)
+
+module _ {A : Type 0} (bytes_of : A → List ℕ) (b : DataBlock) (l : ℕ) {expected : List ℕ} {path : List (List ℕ)} {old mid new : List Device} (whole : 512 * hash_sectors b.verity ≡ b.verity.hash_block) (p : IsWalked b (suc l) expected path old mid) where
+  -- a step down
+  pub walk_down : (x : A) → Gets (checked_expected bytes_of b.on_hash (hash_start b.verity l b.index) (hash_sectors b.verity) b.verity.salt expected) mid new (Ok x)
+      → IsWalked b l (next_digest b.verity l b.index (bytes_of x)) (path ++ (bytes_of x ∷ [])) old new
+  walk_down x q =
+      let block : List ℕ = bytes_of x in
+      let len : length (path ++ (block ∷ [])) ≡ length path + 1 = length-append path (block ∷ []) in
+      record {
+        count = omega (arith, p.count, len);
+        moved = subst (λ (k : ℕ). AreRead old (k * (hash_sectors b.verity * b.on_hash.cost)) new) (sym len) (AreRead-more (omega arith) (AreRead-then p.moved q.moved));
+        hangs = λ rest content h hangs.
+            let at : next_digest b.verity l b.index block ≡ next_digest b.verity (length rest) b.index block = ap (λ (k : ℕ). next_digest b.verity k b.index block) (sym h) in
+            let size : length block ≡ b.verity.hash_block = q.may.0 ∙ whole in
+            subst (λ (y : List (List ℕ)). HangsFrom (tree_of b.verity) b.verity.salt b.index b.verity.root y content) (sym (append_assoc path (block ∷ []) rest))
+            (p.hangs (block ∷ rest) content (omega (arith, h)) (size, q.may.1, subst (λ (e : List ℕ). HangsFrom (tree_of b.verity) b.verity.salt b.index e rest content) at hangs));
+        exact = λ steady. means-step bytes_of b l p steady (Ok block) (q.exact (AllSteady-kept old mid p.moved.moved.fixed steady));
+      }
+
+  -- a fault on the way down
+  pub walk_stops : (fault : IoFault) → Gets (checked_expected bytes_of b.on_hash (hash_start b.verity l b.index) (hash_sectors b.verity) b.verity.salt expected) mid new (Err fault)
+      → GetsChain b old new (Err fault)
+  walk_stops fault q =
+      fault_passes {wanted = hash_expected bytes_of b l expected} {wanted' = chain_expected b} fault q p.moved
+      (let most = levels_cost (levels (tree_of b.verity)) (hash_sectors b.verity) b.on_hash.cost (length path) 1 (omega (arith, p.count)) in omega (arith, most))
+      (λ x meets. elim meets [ inl differs ↦ inl differs | inr some ↦ inr (inr (l, omega (arith, p.count), some)) ])
+      (λ steady x is. means-step bytes_of b l p steady (Err x) is)
+
+module _ {A : Type 0} (bytes_of : A → List ℕ) (b : DataBlock) {expected : List ℕ} {path : List (List ℕ)} {old mid new : List Device} (whole : 512 * block_sectors b.verity ≡ b.verity.data_block) (p : IsWalked b 0 expected path old mid) where
+  -- the data block at last
+  pub walk_ends : (x : A) → b.index < b.verity.blocks → Gets (checked_expected bytes_of b.on_data (block_sectors b.verity * b.index) (block_sectors b.verity) b.verity.salt expected) mid new (Ok x)
+      → GetsChain b old new (Ok (record { index = b.index; content = bytes_of x; path = path }))
+  walk_ends x h q =
+      let size : length (bytes_of x) ≡ b.verity.data_block = q.may.0 ∙ whole in
+      record {
+        moved = AreRead-more (path_cost b p) (AreRead-then p.moved q.moved);
+        may = (refl, record { index = h; path = omega (arith, p.count); hangs = subst (λ (y : List (List ℕ)). HangsFrom (tree_of b.verity) b.verity.salt b.index b.verity.root y (bytes_of x)) (append-nil path) (p.hangs [] (bytes_of x) refl (size, q.may.1)) });
+        exact = λ steady. means-end bytes_of b p steady (Ok (bytes_of x)) (q.exact (AllSteady-kept old mid p.moved.moved.fixed steady));
+      }
+
+  pub walk_fails : (fault : IoFault) → Gets (checked_expected bytes_of b.on_data (block_sectors b.verity * b.index) (block_sectors b.verity) b.verity.salt expected) mid new (Err fault)
+      → GetsChain b old new (Err fault)
+  walk_fails fault q =
+      fault_passes {wanted = data_expected bytes_of b expected} {wanted' = chain_expected b} fault q p.moved (path_cost b p)
+      (λ x meets. elim meets [ inl differs ↦ inl differs | inr some ↦ inr (inl some) ])
+      (λ steady x is. means-end bytes_of b p steady (Err x) is)
+
+-- no memory for the path
+pub walk_full : (b : DataBlock) (l : ℕ) {expected : List ℕ} {path : List (List ℕ)} {old new : List Device} → IsWalked b l expected path old new → GetsChain b old new (Err io.NoMemory)
+walk_full b l {path = path} p = record {
+  moved = AreRead-more (let most = levels_cost (levels (tree_of b.verity)) (hash_sectors b.verity) b.on_hash.cost (length path) 0 (omega (arith, p.count)) in omega (arith, most)) p.moved;
+  may = tt;
+  exact = λ steady. tt;
+}

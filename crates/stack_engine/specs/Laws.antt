@@ -1,0 +1,100 @@
+-- Laws of what a stack means and of what is answered.
+use Rattle.std.specs.Prelude.{◌≡◌, ◌≢◌, ℕ, ◌-◌, ◌*◌, List, [], ◌∷◌, ◌++◌, flat_map, map, All, Contains, Some, Ok}
+use Rattle.std.specs.List.{slice_index_or, concat}
+use Rattle.sha2.specs.Sha256.{sha256}
+use Rattle.hash_tree.specs.declared.difference.Place.{Place}
+use Rattle.hash_tree.specs.Chain.{IsGood, formed}
+use Rattle.hash_tree.specs.Difference.{IsTopmostDifference, block_at as chain_block}
+use Rattle.hash_tree.specs.Digests.{digest}
+use Rattle.hash_tree.specs.Laws.{AreBlocks}
+use Rattle.hash_tree.specs.Shape.{area_blocks}
+use Rattle.hash_tree.specs.Tree.{root, area}
+use Rattle.block_device.specs.Device.{IsSector}
+use Rattle.dm_table.specs.declared.table.Line.{Line}
+use Rattle.dm_table.specs.declared.table.Target.TheVariants.{Verity as verity_target}
+use Rattle.dm_table.specs.declared.verity.Verity.{Verity}
+use Rattle.stack_loader.specs.declared.lower.Lower.{Lower}
+use Rattle.stack_loader.specs.declared.lower.Lower.TheVariants.{Leaf as leaf, Device as device}
+use Rattle.stack_loader.specs.Descend.{descend}
+use Rattle.stack_loader.specs.Lines.{line_at}
+use Rattle.stack_loader.specs.Names.{mapped, lowers}
+use Rattle.stack_loader.specs.Records.{Configuration}
+use Rattle.stack_loader.specs.Rules.{IsLoaded}
+use Rattle.stack_loader.specs.Trees.{tree_of, data_sectors}
+use Rattle.stack_engine.specs.Blocks.{hash_sectors}
+use Rattle.stack_engine.specs.Found.{FoundRecord}
+use Rattle.stack_engine.specs.May.{MayBe}
+use Rattle.stack_engine.specs.Meaning.{sector, said_by_name}
+use Rattle.stack_engine.specs.Outcomes.{Images, Outcome, span, part}
+use Rattle.stack_engine.specs.Walks.{HasVerity}
+
+-- ---- a verity line over formatted devices
+
+-- each sector has 512 bytes
+abbrev pub AreWhole : Images → Type 0
+AreWhole images = All (λ image. All IsSector image) images
+
+-- sector s of the device of that name
+abbrev pub named_sector : Configuration → Images → List ℕ → ℕ → Outcome
+named_sector c images name s = (said_by_name c name s).means images
+
+abbrev pub digests_of : Verity → List (List ℕ) → List (List ℕ)
+digests_of v blocks = map (digest v.salt) blocks
+
+-- The data device of a verity line begins with the blocks, the hash device has their tree where the line says, and
+-- the line has its root.
+pub record AreFormatted (c : Configuration) (images : Images) (v : Verity) (blocks : List (List ℕ)) : Type 0 where
+  pub sized : AreBlocks v.blocks v.data_block blocks
+  pub on_data : span (named_sector c images v.data) 0 (data_sectors v) ≡ Ok (concat blocks)
+  pub on_hash : span (named_sector c images v.hash) (hash_sectors v * v.start) (hash_sectors v * area_blocks (tree_of v)) ≡ Ok (concat (area v.hash_block v.salt (digests_of v blocks)))
+  pub root_is : v.root ≡ root v.hash_block v.salt (digests_of v blocks)
+
+-- sector s of a device lies in a verity line, the l-th
+pub record LiesInVerity (c : Configuration) (d s l : ℕ) (line : Line) (v : Verity) : Type 0 where
+  pub found : line_at c d s ≡ Some (l, line)
+  pub has : line.target ≡ verity_target v
+
+-- a sector of a verity line over formatted devices is the data's
+abbrev pub FormattedDataIsRead : Type 0
+FormattedDataIsRead = (c : Configuration) → IsLoaded c → (images : Images) → AreWhole images
+    → (d s l : ℕ) (line : Line) (v : Verity) → LiesInVerity c d s l line v
+    → (blocks : List (List ℕ)) → AreFormatted c images v blocks
+    → sector c images (mapped d) s ≡ Ok (part (concat blocks) (s - line.start))
+
+-- ---- the leaves beneath a device
+
+abbrev pub leaves_rule : Configuration → (Lower → List ℕ) → Lower → List ℕ
+leaves_rule c below (leaf i) = i ∷ []
+leaves_rule c below (device d) = flat_map below (lowers c d.0)
+
+-- the numbers of the leaves on which it stands
+abbrev pub leaves_beneath : Configuration → Lower → List ℕ
+leaves_beneath c = descend [] (leaves_rule c)
+
+-- a span depends on the images of the leaves beneath its device alone
+abbrev pub SpansStandOnLeaves : Type 0
+SpansStandOnLeaves = (c : Configuration) (lower : Lower) (images other : Images)
+    → All (λ i. slice_index_or images i [] ≡ slice_index_or other i []) (leaves_beneath c lower)
+    → (first n : ℕ) → span (sector c images lower) first n ≡ span (sector c other lower) first n
+
+-- ---- answered chains
+
+-- each chain of an answer is good for the line that it names
+abbrev pub AnsweredChainsAreGood : Type 0
+AnsweredChainsAreGood = (c : Configuration) (lower : Lower) (first n : ℕ) (bytes : List ℕ) (chains : List FoundRecord) → MayBe c lower first n bytes chains
+    → (x : FoundRecord) → Contains chains x → (v : Verity) × HasVerity c x.device x.line v × IsGood (tree_of v) v.salt v.root x.chain
+
+-- two different inputs of one SHA-256 digest
+pub record IsSha256Collision (a b : List ℕ) : Type 0 where
+  pub differ : a ≢ b
+  pub same : sha256 a ≡ sha256 b
+
+-- An answered chain whose content isn't the formatted block: at the topmost place where it differs from the chain
+-- formed of the blocks stand two different inputs of one digest.
+abbrev pub ForgedAnswersCollide : Type 0
+ForgedAnswersCollide = (c : Configuration) → IsLoaded c → (lower : Lower) (first n : ℕ) (bytes : List ℕ) (chains : List FoundRecord) → MayBe c lower first n bytes chains
+    → (x : FoundRecord) → Contains chains x → (v : Verity) → HasVerity c x.device x.line v
+    → (blocks : List (List ℕ)) → AreBlocks v.blocks v.data_block blocks → v.root ≡ root v.hash_block v.salt (digests_of v blocks)
+    → x.chain.content ≢ slice_index_or blocks x.chain.index []
+    → (place : Place) × (IsTopmostDifference (formed (tree_of v) v.salt blocks x.chain.index) x.chain place
+    × IsSha256Collision (v.salt ++ chain_block (formed (tree_of v) v.salt blocks x.chain.index) place) (v.salt ++ chain_block x.chain place))

@@ -1,0 +1,30 @@
+//! Laws of the definitions: each function's contract is the law, and its call gives it.
+ghost use Rattle.stack_engine.specs.Laws.{FormattedDataIsRead, SpansStandOnLeaves, AnsweredChainsAreGood, ForgedAnswersCollide};
+
+use hash_tree::laws::{forged_blocks_collide, formed_chains_are_good};
+
+/// Where the data device begins with some blocks, the hash device has their tree and the line its root, a sector
+/// of the verity line is the data's sector.
+pub fn formatted_data_is_read()
+    ensures { FormattedDataIsRead }
+{
+    formed_chains_are_good();
+}
+
+/// A span of a device depends on the images of the leaves beneath it alone.
+pub fn spans_stand_on_leaves()
+    ensures { SpansStandOnLeaves }
+{}
+
+/// Each chain of an answer is good for the line that it names.
+pub fn answered_chains_are_good()
+    ensures { AnsweredChainsAreGood }
+{}
+
+/// An answered chain with another content than the block under the root: the place that `hash_tree::collide` names
+/// for the formatted chain and this one has two different inputs of one SHA-256 digest.
+pub fn forged_answers_collide()
+    ensures { ForgedAnswersCollide }
+{
+    forged_blocks_collide();
+}

@@ -1,0 +1,277 @@
+// Reads through `verity` lines: trees of several shapes, whole and with one bit changed, and devices that answer
+// another block each time.
+use super::{is_fault, is_filled, read, stack_of};
+use crate::{Answer, IoFault};
+use block_device::{MemoryDev, ScriptDev};
+use hash_tree::{Salt, Shape, area, digest};
+use std::alloc::Global;
+use std::test::Fail;
+
+/// The sizes of a data and a hash block in bytes, the number of data blocks, and the tree's first hash block.
+#[derive(Clone, Copy)]
+struct Row {
+    data_block: u32,
+    hash_block: u32,
+    blocks: u64,
+    start: u64,
+}
+
+/// The bytes of the data and of the hash device, and the line's arguments behind its devices.
+#[derive(Drop)]
+struct Made {
+    data: Vec<u8>,
+    hash: Vec<u8>,
+    arguments: String,
+}
+
+/// Data whose sector k is filled with the byte k + 1, with its tree.
+fn formatted(alloc: Global, row: &Row) -> Result<Made, Fail> {
+    let salt = Salt::new(b"salt").ok_or("no salt")?;
+    let shape = Shape::new(row.data_block, row.hash_block, row.blocks, row.start).map_err(
+        |_| "no shape",
+    )?;
+    let mut data = Vec::new(alloc);
+    let mut digests = Vec::new(alloc);
+    let mut filling = 0u8;
+    for _ in 0..row.blocks {
+        let mut block = Vec::new(alloc);
+        for _ in 0..row.data_block / 512 {
+            filling = filling.wrapping_add(1);
+            block.extend_from_slice(&[filling; 512])?;
+        }
+        digests.push(digest(&salt, block.as_slice()))?;
+        data.extend_from_slice(block.as_slice())?;
+    }
+    if digests.len() as u64 != shape.blocks() {
+        return Err(Fail::from("a block too few"));
+    }
+    let (tree, root) = area(alloc, &shape, &salt, digests.as_slice())?;
+    let mut hash = Vec::new(alloc);
+    for _ in 0..row.start {
+        for _ in 0..row.hash_block / 512 {
+            hash.extend_from_slice(&[0; 512])?;
+        }
+    }
+    hash.extend_from_slice(tree.as_slice())?;
+    let mut arguments = String::new(alloc);
+    write!(
+        arguments,
+        "{} {} {} {} sha256 ",
+        row.data_block, row.hash_block, row.blocks, row.start
+    )?;
+    for byte in &root {
+        for n in [*byte / 16, *byte % 16] {
+            arguments.push(b"0123456789abcdef"[(n % 16) as usize] as char)?;
+        }
+    }
+    arguments.push_str(" 73616c74")?;
+    Ok(Made {
+        data,
+        hash,
+        arguments,
+    })
+}
+
+/// The bytes, with one bit of that one changed.
+fn with_changed_bit(alloc: Global, bytes: &[u8], at: u64) -> Result<Vec<u8>, Fail> {
+    let mut changed = Vec::from_slice(alloc, bytes)?;
+    if at < changed.len() as u64 {
+        changed[at as usize] ^= 1;
+    }
+    Ok(changed)
+}
+
+/// Whether the answer has one chain, of that device, line 0 and that block.
+fn has_chain(answer: &Option<Result<Answer, IoFault>>, device: u32, index: u64) -> bool {
+    let Some(Ok(answer)) = answer else {
+        return false;
+    };
+    let chains = answer.chains.as_slice();
+    chains.len() == 1
+        && chains[0].device == device
+        && chains[0].line == 0
+        && chains[0].chain.index == index
+}
+
+/// Whether hash block k of so many, the top one first, is on the way to a data block: the trees here have one hash
+/// block, or one over two of 16 digests.
+fn is_on_way(hash_blocks: u64, k: u64, block: u64) -> bool {
+    hash_blocks == 1 || k == 0 || (k == 1) == (block < 16)
+}
+
+/// Whether exactly those blocks are answered whose way is whole, where the bit at that place of the data and then of
+/// the tree is changed.
+fn answers_whole_ways(alloc: Global, row: &Row, made: &Made, broken: u64) -> Result<bool, Fail> {
+    let data_size = row.blocks * u64::from(row.data_block);
+    let begin = row.start * u64::from(row.hash_block);
+    let hash_blocks = (made.hash.len() as u64).saturating_sub(begin)
+        / u64::from(row.hash_block.max(1));
+    let data = with_changed_bit(alloc, made.data.as_slice(), broken)?;
+    let beyond = broken.saturating_sub(data_size).saturating_add(begin);
+    let hash = if broken < data_size {
+        Vec::from_slice(alloc, made.hash.as_slice())?
+    } else {
+        with_changed_bit(alloc, made.hash.as_slice(), beyond)?
+    };
+    let sectors = u64::from(row.data_block / 512);
+    let mut text = String::new(alloc);
+    write!(
+        text,
+        "v,,,ro,0 {} verity 1 A B {}",
+        row.blocks * sectors,
+        made.arguments
+    )?;
+    let mut stack = stack_of(
+        alloc,
+        MemoryDev::new(data, false),
+        MemoryDev::new(hash, false),
+        text.as_bytes(),
+    )?;
+    for block in 0..row.blocks {
+        let first = block * sectors;
+        let answer = read(&mut stack, b"v", first, 1);
+        let whole = if broken < data_size {
+            broken / u64::from(row.data_block.max(1)) != block
+        } else {
+            let k = (broken - data_size) / u64::from(row.hash_block.max(1));
+            k >= hash_blocks || !is_on_way(hash_blocks, k, block)
+        };
+        let right = if whole {
+            is_filled(&answer, &[(first as u8).wrapping_add(1)]) && has_chain(&answer, 0, block)
+        } else {
+            is_fault(&answer, IoFault::Mismatch)
+        };
+        if !right {
+            return Ok(false);
+        }
+    }
+    Ok(true)
+}
+
+#[test]
+fn answers_exactly_the_blocks_whose_way_is_whole(rt: HostRuntime) -> Result<(), Fail> {
+    let alloc = rt.alloc();
+    let small = Row {
+        data_block: 512,
+        hash_block: 512,
+        blocks: 1,
+        start: 0,
+    };
+    let rows = [
+        small,
+        Row {
+            blocks: 2,
+            start: 3,
+            ..small
+        },
+        Row {
+            blocks: 16,
+            ..small
+        },
+        Row {
+            blocks: 17,
+            start: 2,
+            ..small
+        },
+        Row {
+            data_block: 4096,
+            blocks: 17,
+            start: 1,
+            ..small
+        },
+        Row {
+            hash_block: 4096,
+            blocks: 17,
+            start: 2,
+            ..small
+        },
+        Row {
+            data_block: 4096,
+            hash_block: 4096,
+            blocks: 2,
+            ..small
+        },
+    ];
+    for row in &rows {
+        let made = formatted(alloc, row)?;
+        let data_size = row.blocks * u64::from(row.data_block);
+        let begin = row.start * u64::from(row.hash_block);
+        let end = data_size + (made.hash.len() as u64).saturating_sub(begin);
+        // A bit of each data block, and one of each hash block that holds a digest; and none at all.
+        let mut broken = 7;
+        while broken < data_size {
+            assert!(rt; answers_whole_ways(alloc, row, &made, broken)?);
+            broken += u64::from(row.data_block.max(1));
+        }
+        broken = data_size + 7;
+        while broken < end {
+            assert!(rt; answers_whole_ways(alloc, row, &made, broken)?);
+            broken += u64::from(row.hash_block.max(1));
+        }
+        assert!(rt; answers_whole_ways(alloc, row, &made, end)?);
+    }
+    Ok(())
+}
+
+#[test]
+fn reads_parts_of_blocks_and_lines_on_lines(rt: HostRuntime) -> Result<(), Fail> {
+    let alloc = rt.alloc();
+    let row = Row {
+        data_block: 4096,
+        hash_block: 512,
+        blocks: 2,
+        start: 1,
+    };
+    let made = formatted(alloc, &row)?;
+    let mut text = String::new(alloc);
+    // The lower line ends inside its second block, and two lines stand on one another.
+    write!(
+        text,
+        "a,,,ro,0 11 verity 1 A B {};w,,,ro,0 16 verity 1 A B {};v,,,ro,0 16 verity 1 /dev/mapper/w B {}",
+        made.arguments, made.arguments, made.arguments
+    )?;
+    let data = MemoryDev::new(made.data, false);
+    let hash = MemoryDev::new(made.hash, false);
+    let mut stack = stack_of(alloc, data, hash, text.as_bytes())?;
+    let last = read(&mut stack, b"a", 10, 1);
+    assert!(rt; is_filled(&last, &[11]) && has_chain(&last, 0, 1));
+    assert_eq!(rt; stack.moved(), (9, 0));
+    // Each sector of a block in one piece: its way is read once.
+    let whole = read(&mut stack, b"a", 0, 8);
+    assert!(rt; is_filled(&whole, &[1, 2, 3, 4, 5, 6, 7, 8]) && has_chain(&whole, 0, 0));
+    assert_eq!(rt; stack.moved(), (18, 0));
+    let top = read(&mut stack, b"v", 9, 2);
+    assert!(rt; is_filled(&top, &[10, 11]) && has_chain(&top, 2, 1));
+    // One hash block of its own, and the lower block with its hash block, once for all its sectors.
+    assert_eq!(rt; stack.moved(), (28, 0));
+    Ok(())
+}
+
+#[test]
+fn answers_the_block_that_it_checked(rt: HostRuntime) -> Result<(), Fail> {
+    let alloc = rt.alloc();
+    let salt = Salt::new(b"").ok_or("no salt")?;
+    let shape = Shape::new(512, 512, 2, 1).map_err(|_| "no shape")?;
+    let zeros = digest(&salt, &[0; 512]);
+    let (tree, root) = area(alloc, &shape, &salt, &[zeros, zeros])?;
+    let other = with_changed_bit(alloc, tree.as_slice(), 0)?;
+    let mut blocks = Vec::new(alloc);
+    blocks.push(tree)?;
+    blocks.push(other)?;
+    let mut text = String::from_str(alloc, "v,,,ro,0 2 verity 1 A B 512 512 2 1 sha256 ")?;
+    for byte in &root {
+        for n in [*byte / 16, *byte % 16] {
+            text.push(b"0123456789abcdef"[(n % 16) as usize] as char)?;
+        }
+    }
+    text.push_str(" -")?;
+    let data = ScriptDev::new(2, Vec::new(alloc));
+    let hash = ScriptDev::new(2, blocks);
+    let mut stack = stack_of(alloc, data, hash, text.as_bytes())?;
+    let first = read(&mut stack, b"v", 0, 1);
+    assert!(rt; is_filled(&first, &[0]) && has_chain(&first, 0, 0));
+    assert_eq!(rt; stack.moved(), (2, 0));
+    assert!(rt; is_fault(&read(&mut stack, b"v", 0, 1), IoFault::Mismatch));
+    assert_eq!(rt; stack.moved(), (3, 0));
+    Ok(())
+}

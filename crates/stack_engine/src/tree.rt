@@ -1,0 +1,149 @@
+// What a read of a verity line's blocks uses.
+ghost use Rattle.std.specs.Prelude.{◌≡◌, ◌<◌, ◌≤◌, ◌+◌, ◌*◌, ℕ, length, take, drop, get_or, IfSome, IfNone};
+ghost use Rattle.hash_tree.specs.Shape.{levels};
+ghost use Rattle.stack_loader.specs.Names.{size};
+ghost use Rattle.stack_loader.specs.Rules.{IsLoaded};
+ghost use Rattle.stack_loader.specs.Trees.{tree_of, block_sectors};
+ghost use Rattle.stack_engine.specs.Blocks.{hash_sectors, hash_start};
+ghost use Rattle.stack_engine.specs.Found.{FoundRecord, entry_of};
+ghost use Rattle.stack_engine.specs.Walks.{HasVerity, IsOnVerity, IsTreeOf};
+
+use crate::found::Found;
+use dm_table::{Target, Verity};
+use hash_tree::Shape;
+use stack_loader::{Config, DevId, Lower};
+
+/// Where the blocks of a verity line lie: the devices of its data blocks and of its hash blocks, and the shape.
+#[derive(Clone, Copy)]
+pub(crate) struct Tree {
+    pub(crate) device: DevId,
+    pub(crate) line: u32,
+    pub(crate) data: Lower,
+    pub(crate) hash: Lower,
+    pub(crate) shape: Shape,
+}
+
+/// So many sectors of a leaf or device, from that one on.
+#[derive(Clone, Copy)]
+pub(crate) struct Extent {
+    pub(crate) lower: Lower,
+    pub(crate) first: u64,
+    pub(crate) sectors: u32,
+}
+
+/// The arguments of a verity line.
+pub(crate) fn verity_at(config: &Config, d: DevId, line: u32) -> &Verity
+    requires loaded { IsLoaded config.now }
+    requires line { IsOnVerity config.now d.0 line }
+    ensures { HasVerity config.now d.0 line result.now }
+{
+    let lines = config.table(d).lines();
+    match &lines[line as usize].target {
+        Target::Verity(verity) => verity,
+        Target::Linear(_)
+        | Target::Striped { .. }
+        | Target::Zero
+        | Target::Error
+        | Target::Crypt(_) => { unreachable!() }
+    }
+}
+
+/// Where its blocks lie.
+pub(crate) fn tree_at(config: &Config, d: DevId, line: u32, verity: &Verity) -> Tree
+    requires loaded { IsLoaded config.now }
+    requires line { HasVerity config.now d.0 line verity.now }
+    ensures tree { IsTreeOf config.now verity.now result }
+    ensures at { result.device ≡ d }
+{
+    let data = config.lower(d, line, 0);
+    let hash = config.lower(d, line, 1);
+    match Shape::new(
+        verity.data_block,
+        verity.hash_block,
+        verity.blocks,
+        verity.start,
+    ) {
+        Ok(shape) => Tree {
+            device: d,
+            line,
+            data,
+            hash,
+            shape,
+        },
+        Err(_) => unreachable!(),
+    }
+}
+
+/// Where the hash block of a level stands on the way to a data block.
+pub(crate) fn hash_extent(
+    config: &Config,
+    verity: &Verity,
+    tree: &Tree,
+    level: u32,
+    index: u64,
+) -> Extent
+    requires loaded { IsLoaded config.now }
+    requires tree { IsTreeOf config.now verity.now tree.now }
+    requires level { level < levels (tree_of verity.now) }
+    requires index { index < verity.now.blocks }
+    ensures value { result ≡ record { lower = tree.now.hash; first = hash_start verity.now level index; sectors = hash_sectors verity.now } }
+    ensures some { 0 < result.sectors }
+    ensures inside { result.first + result.sectors ≤ size config.now result.lower }
+{
+    let place = tree
+        .shape
+        .position(level, tree.shape.block_on_path(level, index));
+    let sectors = verity.hash_block / 512;
+    Extent {
+        lower: tree.hash,
+        first: u64::from(sectors) * place,
+        sectors,
+    }
+}
+
+/// Where a data block stands.
+pub(crate) fn data_extent(config: &Config, verity: &Verity, tree: &Tree, index: u64) -> Extent
+    requires loaded { IsLoaded config.now }
+    requires tree { IsTreeOf config.now verity.now tree.now }
+    requires index { index < verity.now.blocks }
+    ensures value { result ≡ record { lower = tree.now.data; first = block_sectors verity.now * index; sectors = block_sectors verity.now } }
+    ensures some { 0 < result.sectors }
+    ensures inside { result.first + result.sectors ≤ size config.now result.lower }
+{
+    let sectors = verity.data_block / 512;
+    Extent {
+        lower: tree.data,
+        first: u64::from(sectors) * index,
+        sectors,
+    }
+}
+
+/// The chain of that block, if it was found.
+pub(crate) fn find(found: &[Found], device: u32, line: u32, index: u64) -> Option<usize>
+    ensures some { IfSome result (λ k. (k < length found.now) × ((x : FoundRecord) → entry_of (get_or found.now k x) ≡ (device, line, index))) }
+    ensures none { IfNone result ((k : ℕ) → k < length found.now → (x : FoundRecord) → entry_of (get_or found.now k x) ≡ (device, line, index) → ⊥) }
+{
+    let mut at = 0;
+    for one in found {
+        let chain = &one.chain;
+        if one.device == device && one.line == line && chain.index == index {
+            return Some(at);
+        }
+        at += 1;
+    }
+    None
+}
+
+/// The sectors of a chain's content, from that one on.
+pub(crate) fn copy_part(found: &[Found], at: usize, within: u64, out: &mut [u8])
+    requires at { at < length found.now }
+    requires small { within ≤ 8 }
+    requires inside { (x : FoundRecord) → 512 * within + length out.old ≤ length ((get_or found.now at x).chain.content) }
+    ensures { (x : FoundRecord) → out.new ≡ take (length out.old) (drop (512 * within) ((get_or found.now at x).chain.content)) }
+{
+    let from = within as usize * 512;
+    let one = &found[at];
+    let chain = &one.chain;
+    let content = chain.content.as_slice();
+    out.copy_from_slice(&content[from..from + out.len()]);
+}

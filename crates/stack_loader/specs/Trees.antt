@@ -1,0 +1,33 @@
+-- The data blocks of a verity line, and the hash tree over them.
+use Rattle.std.specs.Prelude.{ℕ, ◌*◌, ◌/◌, Option, Some, None}
+use Rattle.hash_tree.specs.Shape.{ShapeRecord, shape_of, sectors_of, levels, area_end}
+use Rattle.dm_table.specs.declared.table.Target.{Target}
+use Rattle.dm_table.specs.declared.table.Target.TheVariants.{Linear, Striped, Zero, Error, Crypt, Verity as verity_target}
+use Rattle.dm_table.specs.declared.verity.Verity.{Verity}
+
+-- the shape that its arguments say
+abbrev pub tree_of : Verity → ShapeRecord
+tree_of verity = shape_of verity.data_block verity.hash_block verity.blocks verity.start
+
+-- the sectors of all data blocks, and those up to the end of the tree
+abbrev pub data_sectors : Verity → ℕ
+data_sectors verity = sectors_of verity.blocks verity.data_block
+
+abbrev pub tree_sectors : Verity → ℕ
+tree_sectors verity = sectors_of (area_end (tree_of verity)) verity.hash_block
+
+-- the sectors of a data block, and of a hash block of each level
+abbrev pub block_sectors : Verity → ℕ
+block_sectors verity = verity.data_block / 512
+
+abbrev pub path_sectors : Verity → ℕ
+path_sectors verity = levels (tree_of verity) * (verity.hash_block / 512)
+
+-- the arguments of a verity line
+abbrev pub verity_of : Target → Option Verity
+verity_of (Linear base) = None
+verity_of (Striped chunk bases) = None
+verity_of Zero = None
+verity_of Error = None
+verity_of (Crypt crypt) = None
+verity_of (verity_target verity) = Some verity

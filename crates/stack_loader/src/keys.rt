@@ -1,0 +1,109 @@
+// The keys of crypt lines, made ready once at loading.
+ghost use Rattle.std.specs.Prelude.{◌≡◌, ◌≤◌, ◌<◌, ◌^◌, ◌==◌, IsTrue, is_some, find, Some, option_copied, length, All, IfOk};
+ghost use Rattle.std.specs.Option.{option_map};
+ghost use Rattle.dm_table.specs.Grammar.{IsTargetOfGrammar, IsLineOfGrammar};
+ghost use Rattle.stack_loader.specs.Kept.{keys_from, AreKeys};
+ghost use Rattle.stack_loader.specs.Lines.{key_of};
+ghost use Rattle.stack_loader.specs.Rules.{most_lines};
+
+use crate::planned::Planned;
+use dm_table::{Line, Target};
+use std::alloc::{AllocError, Global};
+use std::marker::Model;
+use xts_sector::XtsKey;
+
+/// The key of a line, after the line's number in its device.
+#[derive(Drop)]
+pub(crate) struct LineKey {
+    pub(crate) line: u32,
+    pub(crate) key: XtsKey,
+}
+
+/// The keys of a device's crypt lines, in the order of the lines.
+#[derive(Drop)]
+pub(crate) struct DeviceKeys {
+    list: Vec<LineKey>,
+}
+
+impl Model for DeviceKeys {
+    ghost use Rattle.std.specs.Prelude.{List};
+    ghost use Rattle.stack_loader.specs.declared.keys.LineKey.{LineKey};
+
+    ghost Value = { List LineKey };
+
+    ghost view = { λ k. k.list.items };
+}
+
+impl DeviceKeys {
+    pub(crate) fn new(list: Vec<LineKey>) -> DeviceKeys
+        ensures { result ≡ list.items }
+    {
+        DeviceKeys { list }
+    }
+
+    fn find(&self, line: u32) -> Option<&LineKey>
+        ensures { option_copied result ≡ find (λ k. k.line == line) self.now }
+    {
+        self.list.iter().find(|key| key.line == line)
+    }
+
+    /// The key of that line.
+    pub(crate) fn at(&self, line: u32) -> &XtsKey
+        requires { IsTrue (is_some (find (λ k. k.line == line) self.now)) }
+        ensures { option_map (λ k. k.key) (find (λ k. k.line == line) self.now) ≡ Some result.now }
+    {
+        match self.find(line) {
+            Some(found) => &found.key,
+            None => unreachable!(),
+        }
+    }
+}
+
+/// The key that a target has.
+fn key_of(target: &Target) -> Option<XtsKey>
+    requires { IsTargetOfGrammar target.now }
+    ensures { result ≡ key_of target.now }
+{
+    match target {
+        Target::Crypt(crypt) => XtsKey::new(crypt.key.bytes()),
+        Target::Linear(_)
+        | Target::Striped { .. }
+        | Target::Zero
+        | Target::Error
+        | Target::Verity(_) => None,
+    }
+}
+
+/// The keys of the crypt lines of a device.
+fn line_keys(alloc: Global, lines: &[Line]) -> Result<DeviceKeys, AllocError>
+    requires few { length lines.now < 2 ^ 32 }
+    requires grammar { All IsLineOfGrammar lines.now }
+    ensures { IfOk result (λ keys. keys ≡ keys_from 0 lines.now) }
+{
+    let mut list = Vec::new(alloc);
+    for (i, line) in lines.iter().enumerate() {
+        match key_of(&line.target) {
+            Some(key) => list.push(LineKey {
+                line: i as u32,
+                key,
+            })?,
+            None => {}
+        }
+    }
+    Ok(DeviceKeys::new(list))
+}
+
+/// The same for each device.
+pub(crate) fn device_keys(
+    alloc: Global,
+    devices: &[Planned<'_>],
+) -> Result<Vec<DeviceKeys>, AllocError>
+    requires { All (λ d. length d.table ≤ most_lines) devices.now }
+    ensures { IfOk result (λ keys. AreKeys devices.now keys.items) }
+{
+    let mut keys = Vec::with_capacity(alloc, devices.len())?;
+    for device in devices {
+        keys.push(line_keys(alloc, device.table().lines())?)?;
+    }
+    Ok(keys)
+}

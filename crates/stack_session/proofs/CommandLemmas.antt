@@ -1,0 +1,46 @@
+-- What a line asks for, by its first word.
+use Rattle.std.proofs.Common.{◌≡◌, ◌≤◌, ℕ, List, [], ◌∷◌, length, drop, ap, sym, ◌∙◌, refl, arith, length-drop, Option, Some, None, Result, Ok, Err}
+use Rattle.std.specs.Prelude.{option_map, slice_index}
+use Rattle.std.specs.Result.{result_ok, MatchResult}
+use Rattle.hex.specs.Hex.{decode_sized}
+use Rattle.hex.specs.declared.error.FromHexError.{FromHexError}
+use Rattle.std.specs.List.{prefix_len, position_or_len}
+use Rattle.dm_table.specs.Words.{words, is_white}
+use Rattle.stack_session.specs.declared.verb.Verb.{Verb}
+use Rattle.stack_session.specs.Commands.{command_of, words_command, verb_command, verb_of, after_word, byte_of, nothing}
+
+pub command_of-nothing : (line : List ℕ) → words line ≡ [] → command_of line ≡ nothing
+unfolding command_of
+command_of-nothing line none = ap (words_command line) none
+
+-- a line that begins with a word
+pub command_of-words : (line word : List ℕ) (more : List (List ℕ)) (verb : Option Verb) → words line ≡ word ∷ more → verb ≡ verb_of word → command_of line ≡ verb_command verb line more
+unfolding command_of
+command_of-words line word more verb cut is =
+    ap (words_command line) cut ∙ ap (λ v. verb_command v line more) (sym is)
+
+-- the text of a load is a part of its line
+pub length-after_word : (line : List ℕ) → length (after_word line) ≤ length line
+unfolding after_word
+length-after_word line =
+    omega (arith, length-drop (prefix_len is_white line) line, length-drop (position_or_len is_white (drop (prefix_len is_white line) line)) (drop (prefix_len is_white line) line))
+
+-- what a decoder into one byte answers
+abbrev pub Decodes : List ℕ → List ℕ → Result Unit FromHexError → Type 0
+Decodes word out r = MatchResult (decode_sized word 1) (λ bytes. (r ≡ Ok tt) × (out ≡ bytes)) (λ e. r ≡ Err e)
+
+pub byte_of-ok : (word out : List ℕ) (r : Result Unit FromHexError) (u : Unit) → r ≡ Ok u → Decodes word out r → Some (slice_index out 0) ≡ byte_of word
+unfolding byte_of
+byte_of-ok word out r u is decodes = go (decode_sized word 1) decodes
+  where
+    go : (x : Result (List ℕ) FromHexError) → MatchResult x (λ bytes. (r ≡ Ok tt) × (out ≡ bytes)) (λ e. r ≡ Err e) → Some (slice_index out 0) ≡ option_map (λ bytes. slice_index bytes 0) (result_ok x)
+    go (Ok bytes) h = ap (λ b. Some (slice_index b 0)) h.1
+    go (Err e) h = let clash : Ok u ≡ Err e = sym is ∙ h in cc
+
+pub byte_of-err : (word out : List ℕ) (r : Result Unit FromHexError) (fault : FromHexError) → r ≡ Err fault → Decodes word out r → None ≡ byte_of word
+unfolding byte_of
+byte_of-err word out r fault is decodes = go (decode_sized word 1) decodes
+  where
+    go : (x : Result (List ℕ) FromHexError) → MatchResult x (λ bytes. (r ≡ Ok tt) × (out ≡ bytes)) (λ e. r ≡ Err e) → None ≡ option_map (λ (bytes : List ℕ). slice_index bytes 0) (result_ok x)
+    go (Ok bytes) h = let clash : Err fault ≡ Ok tt = sym is ∙ h.0 in cc
+    go (Err e) h = refl

@@ -1,0 +1,84 @@
+-- Sessions over another relation of steps: whatever the leaves answer, over steady ones.
+use Rattle.std.proofs.Common.{◌++◌, ◌≡◌, ◌≤◌, length, ℕ, List, [], ◌∷◌, sym, subst, inl, inr, Result, Ok, Err}
+use Rattle.block_device.specs.Device.{Device}
+use Rattle.dm_table.specs.declared.stack.Entry.{Entry}
+use Rattle.dm_table.specs.declared.fault.TextFault.{TextFault}
+use Rattle.dm_table.specs.StackText.{stack_of}
+use Rattle.stack_engine.specs.Leaves.{AllSteady}
+use Rattle.request_queue.specs.Parts.{AnyPart, SteadyPart, EachPart}
+use Rattle.request_queue.specs.Runs.{Turn}
+use Rattle.request_queue.specs.World.{World, Event, Step}
+use Rattle.request_queue.proofs.lemmas.PremiseLemmas.{step-any, run-steady}
+use Rattle.stack_session.specs.declared.fault.SessionFault.{SessionFault}
+use Rattle.std.specs.Prelude.{IfSome, OnOk}
+use Rattle.stack_session.specs.Counted.{Grows}
+use Rattle.stack_session.specs.Session.{Streams, ServesAll, IsSession}
+use Rattle.stack_session.specs.QueueSessions.{IsLed, IsQueueSession}
+use Rattle.stack_session.specs.Commands.{CommandRecord, nothing, load, run, submit, step, remove, cost, table, moved, usage, command_of}
+use Rattle.stack_session.specs.Replies.{Stepping, WholeStep, RepliesToText, RepliesTo, Replies}
+use Rattle.stack_session.proofs.IntakeLemmas.{if_some_map}
+use Rattle.stack_session.proofs.ReplyingLemmas.{IsSession-as}
+use Rattle.stack_session.proofs.lemmas.TurnLemmas.{lines-led}
+
+-- each step of one relation is one of the other, and a fact about the leaves goes on
+abbrev Yields : Stepping → Stepping → (List Device → Type 0) → Type 0
+Yields a b P = (w : World) (e : Event) (w' : World) → P w.stack.leaves → a w e w' → b w e w' × P w'.stack.leaves
+
+module _ (a b : Stepping) (P : List Device → Type 0) (yields : Yields a b P) where
+  same-leaves : (w w' : World) → w' ≡ w → P w.stack.leaves → P w'.stack.leaves
+  same-leaves w w' e p = subst (λ (x : World). P x.stack.leaves) (sym e) p
+
+  text-as : (w : World) (r : Result (List Entry) TextFault) (reply : List ℕ) (w' : World) → P w.stack.leaves → RepliesToText a w r reply w' → RepliesToText b w r reply w' × P w'.stack.leaves
+  text-as w (Err fault) reply w' p r = (r, same-leaves w w' r.1 p)
+  text-as w (Ok entries) reply w' p r = let s = yields w _ w' p r.1 in ((r.0, s.0, r.2), s.1)
+
+  command-as : (w : World) (c : CommandRecord) (reply : List ℕ) (w' : World) → P w.stack.leaves → RepliesTo a w c reply w' → RepliesTo b w c reply w' × P w'.stack.leaves
+  command-as w nothing reply w' p r = (r, same-leaves w w' r.1 p)
+  command-as w usage reply w' p r = (r, same-leaves w w' r.1 p)
+  command-as w (load text) reply w' p (inl r) = let s = text-as w (stack_of text) reply w' p r in (inl s.0, s.1)
+  command-as w (load text) reply w' p (inr none) = (inr none, same-leaves w w' none.1 p)
+  command-as w (run r) reply w' p (inl s) = let t = yields w _ w' p s.1 in (inl (s.0, t.0, s.2), t.1)
+  command-as w (run r) reply w' p (inr none) = (inr none, same-leaves w w' none.1 p)
+  command-as w (submit r) reply w' p (inl s) = let t = yields w _ w' p s.1 in (inl (s.0, t.0, s.2), t.1)
+  command-as w (submit r) reply w' p (inr none) = (inr none, same-leaves w w' none.1 p)
+  command-as w (step ticket) reply w' p s = let t = yields w _ w' p s.1 in ((s.0, t.0, s.2), t.1)
+  command-as w (remove name) reply w' p s = let t = yields w _ w' p s.1 in ((s.0, t.0, s.2), t.1)
+  command-as w (cost name) reply w' p r = (r, same-leaves w w' r.1 p)
+  command-as w (table name) reply w' p (inl r) = (inl r, same-leaves w w' r.1 p)
+  command-as w (table name) reply w' p (inr none) = (inr none, same-leaves w w' none.1 p)
+  command-as w moved reply w' p r = (r, same-leaves w w' r.1 p)
+
+  line-as : (w : World) (line reply : List ℕ) (w' : World) → P w.stack.leaves → Replies a w line reply w' → Replies b w line reply w' × P w'.stack.leaves
+  line-as w line reply w' p r = let s = command-as w (command_of line) reply w' p r.to in (record { to = s.0 }, s.1)
+
+  -- a session over another relation of steps
+  session-as : (first last : World) (old new : Streams) (result : Result Unit SessionFault) → P first.stack.leaves
+      → IsSession (Replies a) first last old new result → IsSession (Replies b) first last old new result
+  session-as first last old new result p s = IsSession-as (Replies a) (Replies b) (λ (w : World). P w.stack.leaves) line-as first last old new result p s
+
+yields_any : Yields WholeStep (Step AnyPart) (λ leaves. Unit {0})
+yields_any w e w' p s = (step-any w e w' s.each, tt)
+
+yields_steady : Yields WholeStep (Step SteadyPart) AllSteady
+yields_steady w e w' steady s =
+    let turn : Turn = record { event = e; after = w' } in
+    let r = run-steady w (turn ∷ []) steady (s.each, tt) in
+    (r.0.0, r.1)
+
+yields_each : Yields WholeStep (Step EachPart) (λ leaves. Unit {0})
+yields_each w e w' p s = (s.each, tt)
+
+session-led : (first last : World) (old new : Streams) (result : Result Unit SessionFault) → IsSession (Replies (Step EachPart)) first last old new result → OnOk result (IfSome old.input (λ bytes. IsLed EachPart first last))
+session-led first last old new (Err fault) s = tt
+session-led first last old new (Ok done) s =
+    if_some_map old.input (λ bytes. (length bytes ≤ 16777216) × Grows old.output new.output (ServesAll (Replies (Step EachPart)) first bytes last)) (λ bytes. IsLed EachPart first last)
+    (λ bytes k. lines-led EachPart first (k.1.holds.whole ++ k.1.holds.rest ∷ []) k.1.holds.texts last k.1.holds.run) s.ok
+
+-- all that is said of a session follows from what is known of each step
+pub queue-session : (first last : World) (old new : Streams) (result : Result Unit SessionFault) → IsSession (Replies WholeStep) first last old new result → IsQueueSession first last old new result
+queue-session first last old new result s = record {
+  any = session-as WholeStep (Step AnyPart) (λ leaves. Unit {0}) yields_any first last old new result tt s;
+  steady = λ steady. session-as WholeStep (Step SteadyPart) AllSteady yields_steady first last old new result steady s;
+  whole = s;
+  led = session-led first last old new result (session-as WholeStep (Step EachPart) (λ leaves. Unit {0}) yields_each first last old new result tt s);
+}

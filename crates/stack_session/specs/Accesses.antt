@@ -1,0 +1,20 @@
+-- Sectors that a line asks to be read or written, as the queue's requests.
+use Rattle.std.specs.Prelude.{ℕ, ◌*◌, ◌≤◌, replicate}
+use Rattle.request_queue.specs.Requests.{RequestRecord, a_read, a_write}
+use Rattle.stack_session.specs.declared.access.Access.{Access}
+use Rattle.stack_session.specs.declared.access.Access.TheVariants.{Read, Write}
+
+-- the request for the sectors, each byte of which is the one that is asked for
+abbrev pub access_record : Access → RequestRecord
+access_record (Read name first count) = a_read name.now first count
+access_record (Write filling) = a_write filling.name.now filling.first (replicate (512 * filling.count) filling.byte)
+
+-- its first sector
+abbrev pub first_of : RequestRecord → ℕ
+first_of (a_read name first count) = first
+first_of (a_write name first bytes) = first
+
+-- a write has at most 2,049 sectors
+abbrev pub IsSmall : Access → Type 0
+IsSmall (Read name first count) = Unit {0}
+IsSmall (Write filling) = filling.count ≤ 2049

@@ -1,0 +1,26 @@
+-- A session whose lines are served by a queue.
+use Rattle.std.specs.Prelude.{◌≡◌, List, Result, IfSome, OnOk}
+use Rattle.stack_engine.specs.Leaves.{AllSteady}
+use Rattle.request_queue.specs.Parts.{PartRelation, AnyPart, SteadyPart, EachPart}
+use Rattle.request_queue.specs.Runs.{Turn, Run, last}
+use Rattle.request_queue.specs.World.{World, Step}
+use Rattle.stack_session.specs.declared.fault.SessionFault.{SessionFault}
+use Rattle.stack_session.specs.Session.{Streams, IsSession}
+use Rattle.stack_session.specs.Replies.{Replies, WholeStep}
+
+-- events of the queue lead from the first world to the last
+pub record IsLed (part : PartRelation) (w w' : World) : Type 0 where
+  pub turns : List Turn
+  pub run : Run part w turns
+  pub ends : last w turns ≡ w'
+
+-- What a session read and wrote, from the first world of its queue to the last.
+pub record IsQueueSession (first end : World) (old new : Streams) (result : Result Unit SessionFault) : Type 0 where
+  -- whatever the leaves answer
+  pub any : IsSession (Replies (Step AnyPart)) first end old new result
+  -- over steady leaves
+  pub steady : AllSteady first.stack.leaves → IsSession (Replies (Step SteadyPart)) first end old new result
+  -- each read and each write as a whole, both at once
+  pub whole : IsSession (Replies WholeStep) first end old new result
+  -- its lines are a run of the queue, of which the queue's law speaks
+  pub led : OnOk result (IfSome old.input (λ bytes. IsLed EachPart first end))
