@@ -9,7 +9,7 @@ use Rattle.aes_block.specs.State.{IsBytes}
 use Rattle.aes_block.specs.KeyExpansion.{word, rot_word, sub_word, add_words, round_constant, key_term, with_word, expansion, key_schedule, round_key, key_words, rounds}
 use Rattle.aes_block.specs.Key.{IsKeyLength}
 use Rattle.aes_block.proofs.BytesLemmas.{IsBytes-take, IsBytes-drop, IsBytes-append}
-use Rattle.aes_block.proofs.FieldLemmas.{xor_byte, power_of_x_lt}
+use Rattle.aes_block.proofs.lemmas.FieldLemmas.{xor_byte, power_of_x_lt}
 use Rattle.aes_block.proofs.SubByteLemmas.{sub_byte_lt}
 
 -- ---- a longer array

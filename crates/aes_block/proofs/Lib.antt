@@ -1,14 +1,9 @@
 pub mod lemmas
 pub mod ExampleRows
-pub mod ByteLemmas
 pub mod BytesLemmas
 pub mod SubByteLemmas
-pub mod FieldLemmas
-pub mod ColumnLemmas
-pub mod StateLemmas
 pub mod TableLemmas
 pub mod StateColumnLemmas
 pub mod RoundLemmas
 pub mod KeyScheduleLemmas
-pub mod CipherLemmas
 pub mod AesKeyLemmas

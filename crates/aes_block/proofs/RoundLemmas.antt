@@ -3,10 +3,10 @@ use Rattle.std.proofs.Common.{◌≡◌, ℕ, ◌+◌, ◌-◌, ◌*◌, ◌%◌
 use Rattle.aes_block.specs.Field.{sub_byte, inv_sub_byte}
 use Rattle.aes_block.specs.State.{IsBytes, IsBlock, byte_at, state_of}
 use Rattle.aes_block.specs.Rounds.{sub_bytes, shift_rows, mix_columns, add_round_key, inv_shift_rows, inv_sub_bytes, inv_mix_columns}
-use Rattle.aes_block.proofs.FieldLemmas.{xor_byte, xor_twice}
+use Rattle.aes_block.proofs.lemmas.FieldLemmas.{xor_byte, xor_twice}
 use Rattle.aes_block.proofs.SubByteLemmas.{sub_byte_lt, inv_sub_byte_lt, inv_sub_byte-sub_byte, sub_byte-inv_sub_byte}
-use Rattle.aes_block.proofs.StateLemmas.{byte_at-state_of, state_of-same, state_of-byte_at, IsBlock-state_of}
-use Rattle.aes_block.proofs.ColumnLemmas.{combined, combined_lt, combined-xor, mixed_is, unmixed_is, twice, mixed-unmixed, unmixed-mixed}
+use Rattle.aes_block.proofs.lemmas.StateLemmas.{byte_at-state_of, state_of-same, state_of-byte_at, IsBlock-state_of}
+use Rattle.aes_block.proofs.lemmas.ColumnLemmas.{combined, combined_lt, combined-xor, mixed_is, unmixed_is, twice, mixed-unmixed, unmixed-mixed}
 
 -- a state whose bytes are those of a block is that block
 same_block : (f : ℕ → ℕ → ℕ) (s : List ℕ) → IsBlock s → ((r c : ℕ) → r < 4 → c < 4 → f r c ≡ byte_at s r c) → state_of f ≡ s

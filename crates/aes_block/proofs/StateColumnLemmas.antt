@@ -11,9 +11,9 @@ use Rattle.aes_block.specs.KeyExpansion.{round_key}
 use Rattle.aes_block.specs.declared.s_box.TheConstants.{S_BOX, INV_S_BOX}
 use Rattle.aes_block.specs.declared.encryption_tables.TheConstants.{ENCRYPTION_0, ENCRYPTION_1, ENCRYPTION_2, ENCRYPTION_3}
 use Rattle.aes_block.specs.declared.decryption_tables.TheConstants.{DECRYPTION_0, DECRYPTION_1, DECRYPTION_2, DECRYPTION_3}
-use Rattle.aes_block.proofs.ColumnLemmas.{combined, mixed_is, unmixed_is}
+use Rattle.aes_block.proofs.lemmas.ColumnLemmas.{combined, mixed_is, unmixed_is}
 use Rattle.aes_block.proofs.SubByteLemmas.{sub_byte_lt, inv_sub_byte_lt, s_box_is, inv_s_box_is}
-use Rattle.aes_block.proofs.StateLemmas.{length-state_of, byte_at-state_of, same_state, IsBlock-state_of}
+use Rattle.aes_block.proofs.lemmas.StateLemmas.{length-state_of, byte_at-state_of, same_state, IsBlock-state_of}
 use Rattle.aes_block.proofs.TableLemmas.{products, below_four, row_of-shares, row_of-xor, encryption_0_is, encryption_1_is, encryption_2_is, encryption_3_is, decryption_0_is, decryption_1_is, decryption_2_is, decryption_3_is}
 
 pub byte_at-state_of_columns : (w : List ℕ) (r c : ℕ) → r < 4 → c < 4 → byte_at (state_of_columns w) r c ≡ row_of (slice_index w c) r

@@ -3,7 +3,7 @@ use Rattle.std.proofs.Common.{◌≡◌, ℕ, ◌<◌, ◌%◌, nat_eq, true, re
 use Rattle.std.specs.Prelude.{slice_index}
 use Rattle.aes_block.specs.Field.{product_low, product, inverse, affine, inv_affine, sub_byte, inv_sub_byte}
 use Rattle.aes_block.specs.declared.s_box.TheConstants.{S_BOX, INV_S_BOX}
-use Rattle.aes_block.proofs.ByteLemmas.{all_below, same_below}
+use Rattle.aes_block.proofs.lemmas.ByteLemmas.{all_below, same_below}
 
 s_box-computed : all_below 256 (λ b. nat_eq (slice_index S_BOX b) (sub_byte b)) ≡ true
 unfolding product product_low inverse affine sub_byte

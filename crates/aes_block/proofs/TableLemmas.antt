@@ -8,9 +8,9 @@ use Rattle.aes_block.specs.Columns.{row_of}
 use Rattle.aes_block.specs.declared.s_box.TheConstants.{S_BOX, INV_S_BOX}
 use Rattle.aes_block.specs.declared.encryption_tables.TheConstants.{ENCRYPTION_0, ENCRYPTION_1, ENCRYPTION_2, ENCRYPTION_3}
 use Rattle.aes_block.specs.declared.decryption_tables.TheConstants.{DECRYPTION_0, DECRYPTION_1, DECRYPTION_2, DECRYPTION_3}
-use Rattle.aes_block.proofs.ByteLemmas.{all_below, same_below}
-use Rattle.aes_block.proofs.FieldLemmas.{product_lt}
-use Rattle.aes_block.proofs.ColumnLemmas.{combined}
+use Rattle.aes_block.proofs.lemmas.ByteLemmas.{all_below, same_below}
+use Rattle.aes_block.proofs.lemmas.FieldLemmas.{product_lt}
+use Rattle.aes_block.proofs.lemmas.ColumnLemmas.{combined}
 use Rattle.aes_block.proofs.SubByteLemmas.{s_box_is, inv_s_box_is}
 
 -- the word of four rows

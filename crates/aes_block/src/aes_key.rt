@@ -1,8 +1,10 @@
 //! An AES key.
 
-ghost use Rattle.std.specs.Prelude.{◌≡◌, ◌↔◌, ◌%◌, length, IsSome, IfSome};
+ghost use Rattle.std.specs.Prelude.{◌≡◌, ◌↔◌, ◌+◌, ◌*◌, ◌%◌, length, IsSome, IfSome};
 ghost use Rattle.aes_block.specs.Blocks.{cipher_blocks, inverse_cipher_blocks};
 ghost use Rattle.aes_block.specs.Key.{IsKeyLength};
+ghost use Rattle.aes_block.specs.KeyExpansion.{rounds, key_schedule};
+ghost use Rattle.aes_block.specs.State.{IsBytes};
 ghost use Rattle.aes_block.specs.Cipher.{cipher, inverse_cipher};
 
 use crate::blocks::block;
@@ -47,6 +49,15 @@ impl AesKey {
             }
             _ => None,
         }
+    }
+
+    /// The key schedule: the round keys one after the other, 16 bytes each.
+    pub fn schedule(&self) -> &[u8]
+        ensures value { result.now ≡ key_schedule self.now }
+        ensures len { length result.now ≡ 16 * rounds self.now + 16 }
+        ensures key { IsKeyLength (length self.now) × IsBytes self.now }
+    {
+        &self.schedule[..16 * (self.rounds + 1)]
     }
 
     /// The block enciphered.

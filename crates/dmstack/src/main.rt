@@ -1,7 +1,8 @@
 //! The program: hands the command line, standard input and standard output to `stack_commands`.
 #![tactic(auto)]
 
-use stack_commands::{CommandFault, command, end};
+use command_faults::{CommandFault, end};
+use stack_commands::command;
 use stack_session::Counted;
 use std::io::{BufWriter, ErrorKind};
 use std::process::ExitCode;

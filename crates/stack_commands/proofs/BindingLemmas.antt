@@ -1,8 +1,14 @@
--- How a word is cut.
-use Rattle.std.proofs.Common.{◌≡◌, ◌<◌, ℕ, true, false, Bool, List, length, refl, arith, nat_lt, Some, None, ◌==◌}
+-- How a word is cut, and what stands behind names.
+use Rattle.std.proofs.Common.{◌≡◌, ◌<◌, ◌+◌, ℕ, zero, suc, true, false, Bool, List, [], ◌∷◌, ◌++◌, length, map, take, get_or, refl, ap, sym, subst, ◌∙◌, arith, nat_lt, Some, None, ◌==◌}
+use Rattle.std.proofs.lemmas.List.{map-append, take_more}
 use Rattle.std.specs.List.{position_or_len, before_first, after_first}
 use Rattle.std.proofs.lemmas.Bool.{lt-ltb, ltb-true}
-use Rattle.stack_commands.specs.Bindings.{cut}
+use Rattle.block_device.specs.Device.{Device}
+use Rattle.block_device.specs.declared.any.AnyDev.{AnyDev}
+use Rattle.stack_loader.specs.Records.{LeafRecord}
+use Rattle.stack_engine.specs.Leaves.{ServeLeaves}
+use Rattle.stack_commands.specs.declared.bindings.Binding.{Binding}
+use Rattle.stack_commands.specs.Bindings.{AreBound, AreDevicesOf, BackingRecord, BindingRecord, IsDeviceOf, backing_record, binding_record, cut}
 
 pub cut-some : (b : ℕ) (text before behind : List ℕ) → position_or_len (λ x. x == b) text < length text
     → before ≡ before_first (λ x. x == b) text → behind ≡ after_first (λ x. x == b) text → cut b text ≡ Some (before, behind)
@@ -23,3 +29,36 @@ cut-none b text lacks =
         go : (t : Bool) → nat_lt m n ≡ t → nat_lt m n ≡ false
         go false is = is
         go true is = let lt : m < n = ltb-true m n is in absurd (omega arith)
+
+AreDevicesOf-last : (backings : List BackingRecord) (devices : List Device) (backing : BackingRecord) (device : Device) → AreDevicesOf backings devices
+    → IsDeviceOf backing device → AreDevicesOf (backings ++ backing ∷ []) (devices ++ device ∷ [])
+AreDevicesOf-last [] [] backing device are is = (is, tt)
+AreDevicesOf-last [] (d ∷ ds) backing device are is = absurd are
+AreDevicesOf-last (b ∷ bs) [] backing device are is = absurd are
+AreDevicesOf-last (b ∷ bs) (d ∷ ds) backing device are is = (are.0, AreDevicesOf-last bs ds backing device are.1 is)
+
+-- one more binding, with its leaf and its device
+AreBound-last : (f : AnyDev → Device) (bindings : List BindingRecord) (binding : BindingRecord) (leaves leaves' : List LeafRecord) (devices devices' : List AnyDev) (device : AnyDev)
+    → AreBound bindings leaves (map f devices) → map (λ leaf. leaf.name) leaves' ≡ map (λ leaf. leaf.name) leaves ++ binding.name ∷ []
+    → devices' ≡ devices ++ device ∷ [] → IsDeviceOf binding.backing (f device) → ServeLeaves leaves' (map f devices') → AreBound (bindings ++ binding ∷ []) leaves' (map f devices')
+AreBound-last f bindings binding leaves leaves' devices devices' device bound named more is served = record {
+  names = named ∙ (ap (λ t. t ++ binding.name ∷ []) bound.names ∙ sym (map-append (λ b. b.name) bindings (binding ∷ [])));
+  devices_of =
+      let last = AreDevicesOf-last (map (λ b. b.backing) bindings) (map f devices) binding.backing (f device) bound.devices_of is in
+      let backings : map (λ b. b.backing) bindings ++ binding.backing ∷ [] ≡ map (λ b. b.backing) (bindings ++ binding ∷ []) = sym (map-append (λ b. b.backing) bindings (binding ∷ [])) in
+      let found : map f devices ++ f device ∷ [] ≡ map f devices' = sym (map-append f devices (device ∷ [])) ∙ ap (map f) (sym more) in
+      subst (λ t. AreDevicesOf t (map f devices')) backings (subst (AreDevicesOf (map (λ b. b.backing) bindings ++ binding.backing ∷ [])) found last);
+  served = served;
+}
+
+pub AreBound-more : (f : AnyDev → Device) (bindings : List Binding) (i : ℕ) (d : Binding) (leaves leaves' : List LeafRecord) (devices devices' : List AnyDev) (device : AnyDev)
+    → i < length bindings → AreBound (map binding_record (take i bindings)) leaves (map f devices)
+    → map (λ leaf. leaf.name) leaves' ≡ map (λ leaf. leaf.name) leaves ++ (get_or bindings i d).name.now ∷ [] → devices' ≡ devices ++ device ∷ []
+    → IsDeviceOf (backing_record (get_or bindings i d).backing) (f device) → ServeLeaves leaves' (map f devices')
+    → AreBound (map binding_record (take (i + 1) bindings)) leaves' (map f devices')
+AreBound-more f bindings i d leaves leaves' devices devices' device there bound named more is served =
+    let binding = binding_record (get_or bindings i d) in
+    let same : map binding_record (take i bindings) ++ binding_record (get_or bindings i d) ∷ [] ≡ map binding_record (take (i + 1) bindings) =
+    sym (ap (map binding_record) (take_more bindings i d there) ∙ map-append binding_record (take i bindings) (get_or bindings i d ∷ [])) in
+    subst (λ t. AreBound t leaves' (map f devices')) same
+    (AreBound-last f (map binding_record (take i bindings)) binding leaves leaves' devices devices' device bound named more is served)

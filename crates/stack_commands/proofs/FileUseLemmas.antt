@@ -5,8 +5,9 @@ use Rattle.std.specs.Prelude.{◌||◌, ◌&&◌}
 use Rattle.std.specs.List.{list_any}
 use Rattle.block_device.specs.declared.any.AnyDev.{AnyDev}
 use Rattle.block_device.specs.declared.file_id.FileId.{FileId}
+use Rattle.command_faults.specs.OneFile.{is_one_file}
 use Rattle.stack_commands.specs.declared.file_use.FileUse.{FileUse}
-use Rattle.stack_commands.specs.FileUses.{AreApart, AreApartBeside, has_clash, is_clash, is_one_file, use_of}
+use Rattle.stack_commands.specs.FileUses.{AreApart, AreApartBeside, has_clash, is_clash, use_of}
 
 or-first : (a b : Bool) → (a || b) ≡ false → a ≡ false
 or-first false b none = refl

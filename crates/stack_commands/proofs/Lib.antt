@@ -1,6 +1,9 @@
 pub mod BindingLemmas
+pub mod CommandLemmas
 pub mod CommandWordLemmas
 pub mod ConfigurationLemmas
-pub mod EndingLemmas
 pub mod FileUseLemmas
+pub mod GrammarLemmas
+pub mod OpeningLemmas
+pub mod ServeLemmas
 pub mod SyncLemmas

@@ -1,10 +1,12 @@
 -- The names that a command line binds to devices.
-use Rattle.std.specs.Prelude.{◌≡◌, ℕ, ◌==◌, ◌&&◌, nat_le, nat_lt, Bool, true, false, List, length, codes, Option, Some, None, option_map, if◌then◌else◌}
+use Rattle.std.specs.Prelude.{◌≡◌, ℕ, ◌==◌, ◌&&◌, nat_le, nat_lt, Bool, true, false, List, [], ◌∷◌, map, length, codes, Option, Some, None, option_map, if◌then◌else◌}
 use Rattle.std.specs.List.{position_or_len, before_first, after_first}
 use Rattle.std.specs.Option.{option_and_then}
 use Rattle.std.specs.Str.{bytes_eq}
 use Rattle.block_device.specs.Device.{Device, in_memory, zeros_image, ramp_image}
 use Rattle.block_device.specs.File.{opened}
+use Rattle.stack_loader.specs.Records.{LeafRecord}
+use Rattle.stack_engine.specs.Leaves.{ServeLeaves}
 use Rattle.dm_table.specs.Numbers.{number, number_if}
 use Rattle.stack_commands.specs.declared.bindings.Backing.{Backing}
 use Rattle.stack_commands.specs.declared.bindings.Backing.TheVariants.{File, Zeros, Ramp}
@@ -73,3 +75,16 @@ abbrev pub may_write : BackingRecord → Bool
 may_write (file path writable) = writable
 may_write (zeros n) = true
 may_write (ramp n) = true
+
+-- the devices are those that stand behind the names, in their order
+abbrev pub AreDevicesOf : List BackingRecord → List Device → Type 0
+AreDevicesOf [] [] = Unit {0}
+AreDevicesOf (backing ∷ backings) (device ∷ devices) = IsDeviceOf backing device × AreDevicesOf backings devices
+AreDevicesOf [] (device ∷ devices) = ⊥
+AreDevicesOf (backing ∷ backings) [] = ⊥
+
+-- the leaves have the names of the bindings, and are the devices behind these
+pub record AreBound (bindings : List BindingRecord) (leaves : List LeafRecord) (devices : List Device) : Type 0 where
+  pub names : map (λ leaf. leaf.name) leaves ≡ map (λ binding. binding.name) bindings
+  pub devices_of : AreDevicesOf (map (λ binding. binding.backing) bindings) devices
+  pub served : ServeLeaves leaves devices

@@ -7,8 +7,8 @@ use Rattle.std.specs.Result.{result_ok}
 use Rattle.hex.specs.Hex.{decode_sized}
 use Rattle.dm_table.specs.Names.{is_device}
 use Rattle.dm_table.specs.Numbers.{number, number_if}
-use Rattle.stack_commands.specs.declared.fault.CommandFault.{CommandFault}
-use Rattle.stack_commands.specs.declared.fault.CommandFault.TheVariants.{Usage, NoMemory}
+use Rattle.command_faults.specs.declared.fault.CommandFault.{CommandFault}
+use Rattle.command_faults.specs.declared.fault.CommandFault.TheVariants.{Usage, NoMemory}
 use Rattle.stack_commands.specs.declared.command_words.Invocation.{Invocation}
 use Rattle.stack_commands.specs.declared.command_words.Invocation.TheVariants.{Load, Read, Write, Session, Format, Verify, Dump, Table}
 use Rattle.stack_commands.specs.declared.command_words.Sectors.{Sectors}
@@ -140,11 +140,11 @@ invocation_record (Verify image hash root) = verify image.now hash.now root
 invocation_record (Dump hash) = dump hash.now
 invocation_record (Table hash root image_name hash_name) = table hash.now root image_name.now hash_name.now
 
--- the sectors that are wanted
+-- the request for the sectors that are wanted
 abbrev pub read_request : Sectors → RequestRecord
 read_request sectors = a_read sectors.name.now sectors.first sectors.count
 
--- where a transfer's bytes go
+-- the request to put bytes where a transfer's go
 abbrev pub write_request : Transfer → List ℕ → RequestRecord
 write_request transfer bytes = a_write transfer.name.now transfer.first bytes
 

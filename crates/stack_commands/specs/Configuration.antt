@@ -10,8 +10,8 @@ use Rattle.stack_loader.specs.Leaves.{first_fault}
 use Rattle.stack_loader.specs.Names.{mapped, name_of, size, may_write}
 use Rattle.stack_loader.specs.Descend.{depth, read_cost, write_cost}
 use Rattle.stack_loader.specs.Rules.{first_refusal, after_load}
-use Rattle.stack_commands.specs.declared.fault.CommandFault.{CommandFault}
-use Rattle.stack_commands.specs.declared.fault.CommandFault.TheVariants.{Leaves, Text, Load}
+use Rattle.command_faults.specs.declared.fault.CommandFault.{CommandFault}
+use Rattle.command_faults.specs.declared.fault.CommandFault.TheVariants.{Leaves, Text, Load}
 
 -- leaves with no mapped device
 abbrev pub leaves_alone : List LeafRecord → Configuration

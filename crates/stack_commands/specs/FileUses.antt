@@ -1,23 +1,11 @@
 -- Which files are open, and how: one file may not be open twice where one of the two may write.
-use Rattle.std.specs.Prelude.{◌≡◌, ◌==◌, ◌&&◌, ◌||◌, Bool, false, List, [], ◌∷◌, ◌++◌, map, Option, Some, None}
+use Rattle.std.specs.Prelude.{◌≡◌, ◌&&◌, ◌||◌, Bool, false, List, [], ◌∷◌, ◌++◌, map}
 use Rattle.std.specs.List.{list_any}
 use Rattle.block_device.specs.Any.{any_id}
 use Rattle.block_device.specs.contracts.any.AnyDevBlockDev.TheImpl.{ghosts}
 use Rattle.block_device.specs.declared.any.AnyDev.{AnyDev}
-use Rattle.block_device.specs.declared.file_id.FileId.{FileId}
-use Rattle.block_device.specs.declared.file_id.FileId.TheVariants.{Inode, BlockDevice}
+use Rattle.command_faults.specs.OneFile.{is_one_file}
 use Rattle.stack_commands.specs.declared.file_use.FileUse.{FileUse}
-
-abbrev pub is_id : FileId → FileId → Bool
-is_id (Inode device inode) (Inode device' inode') = (device == device') && (inode == inode')
-is_id (BlockDevice device) (BlockDevice device') = device == device'
-is_id id id' = false
-
--- both are one file; of what the system tells nothing, this isn't known
-abbrev pub is_one_file : Option FileId → Option FileId → Bool
-is_one_file (Some id) (Some id') = is_id id id'
-is_one_file (Some id) None = false
-is_one_file None id = false
 
 -- both are one file, and one of them may write
 abbrev pub is_clash : FileUse → FileUse → Bool

@@ -1,10 +1,10 @@
 pub mod Bindings
 pub mod CommandWords
+pub mod Commands
 pub mod Configuration
-pub mod Endings
 pub mod FileUses
-pub mod Formats
+pub mod Grammar
+pub mod Openings
 pub mod Requests
-pub mod SuperblockTexts
+pub mod StackCommands
 pub mod Syncs
-pub mod VerityTexts

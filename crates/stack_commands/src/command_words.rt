@@ -5,7 +5,7 @@ ghost use Rattle.stack_commands.specs.Bindings.{binding_record};
 ghost use Rattle.stack_commands.specs.CommandWords.{IsUsage, bindings_of, cache_of, dump_of, format_of, invocation_at, invocation_of, invocation_record, is_option, load_of, read_of, root_of, session_of, table_of, verify_of, write_of};
 
 use crate::bindings::{Binding, binding_of};
-use crate::fault::CommandFault;
+use command_faults::CommandFault;
 use dm_table::{is_device, number};
 use std::alloc::Global;
 

@@ -2,7 +2,7 @@
 ghost use Rattle.std.specs.Prelude.{◌≡◌, ◌⊎◌, ◌≤◌, ◌^◌, length, Ok, Err, IfOk, IfErr};
 ghost use Rattle.stack_commands.specs.Configuration.{configuration_of};
 
-use crate::fault::CommandFault;
+use command_faults::CommandFault;
 use dm_table::parse_stack;
 use stack_loader::{Config, Leaf};
 use std::alloc::Global;

@@ -1,9 +1,10 @@
 // Which files are open, and how.
 ghost use Rattle.std.specs.Prelude.{◌≡◌};
 ghost use Rattle.std.specs.List.{list_any};
-ghost use Rattle.stack_commands.specs.FileUses.{has_clash, is_clash, is_id, is_one_file, use_of};
+ghost use Rattle.stack_commands.specs.FileUses.{has_clash, is_clash, use_of};
 
 use block_device::{AnyDev, BlockDev, FileId};
+use command_faults::is_one_file;
 
 /// Which file is open, where the system tells it, and whether it may be written.
 #[derive(Clone, Copy, Debug, PartialEq, Eq)]
@@ -58,30 +59,4 @@ fn is_clash(a: FileUse, b: FileUse) -> bool
     ensures { result ≡ is_clash a b }
 {
     is_one_file(a.id, b.id) && (a.writable || b.writable)
-}
-
-/// Whether both are one file, as far as the system tells.
-pub fn is_one_file(a: Option<FileId>, b: Option<FileId>) -> bool
-    ensures { result ≡ is_one_file a b }
-{
-    match (a, b) {
-        (Some(a), Some(b)) => is_id(a, b),
-        _ => false,
-    }
-}
-
-fn is_id(a: FileId, b: FileId) -> bool
-    ensures { result ≡ is_id a b }
-{
-    match (a, b) {
-        (
-            FileId::Inode { device, inode },
-            FileId::Inode {
-                device: other_device,
-                inode: other_inode,
-            },
-        ) => device == other_device && inode == other_inode,
-        (FileId::BlockDevice(device), FileId::BlockDevice(other)) => device == other,
-        _ => false,
-    }
 }

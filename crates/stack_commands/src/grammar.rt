@@ -1,19 +1,72 @@
 // What clap is told of the command line.
-use clap::{Arg, ArgAction, Command};
+ghost use Rattle.std.specs.Prelude.{false, true, ◌≡◌, map, string_bytes, IfOk, IfErr};
+ghost use Rattle.clap.specs.Simple.{app_of, subcommand_of, subcommand_rows_of};
+ghost use Rattle.clap.specs.Takes.{takes};
+ghost use Rattle.clap.specs.Walk.{rule_of};
+ghost use Rattle.clap.specs.declared.builder.command.Command.TheViews.{out-Command as fields_of};
+ghost use Rattle.stack_commands.specs.CommandWords.{IsUsage};
+ghost use Rattle.stack_commands.specs.Grammar.{cached, formatting, grammar, option, positional, program, with_images, with_stacks};
+
+use clap::error::ErrorKind;
+use clap::{Arg, ArgAction, ArgMatches, Command};
+use command_faults::CommandFault;
 use std::alloc::{AllocError, Global};
 
-/// The commands with their options. The first positional word ends the options of its command.
-pub fn grammar<'a>(alloc: Global) -> Result<Command<'a>, AllocError> {
+/// The command that the words name, with its options and its positional words.
+pub fn matches_of<'a>(
+    alloc: Global,
+    words: &'a [String],
+) -> Result<ArgMatches<'a>, CommandFault<'a>>
+    ensures ok { IfOk result (λ found. subcommand_rows_of found ≡ subcommand_of grammar (map string_bytes words.now)) }
+    ensures err { IfErr result (λ fault. IsUsage fault (takes grammar (map string_bytes words.now) ≡ true → ⊥)) }
+{
+    let command = grammar(alloc)?;
+    match command.try_get_matches_from(words) {
+        Ok(matches) => Ok(matches),
+        Err(error) => match error.kind() {
+            ErrorKind::OutOfMemory => Err(CommandFault::NoMemory),
+            _ => Err(CommandFault::Usage),
+        },
+    }
+}
+
+// The commands with their options. The first positional word ends the options of its command.
+#[tactic(auto, unfolding(crate::specs::Grammar::grammar))]
+fn grammar<'a>(alloc: Global) -> Result<Command<'a>, AllocError>
+    ensures { IfOk result (λ c. app_of c ≡ grammar) }
+{
+    let images = with_images(alloc, program(alloc))?;
+    with_stacks(alloc, images)
+}
+
+// A command is wanted, and there is no help.
+fn program<'a>(alloc: Global) -> Command<'a>
+    ensures { app_of result ≡ program }
+{
     Command::new(alloc, "dmstack")
         .no_binary_name(true)
         .disable_help_flag(true)
         .disable_help_subcommand(true)
         .disable_version_flag(true)
         .subcommand_required(true)
+}
+
+// Adds the commands on images.
+fn with_images<'a>(alloc: Global, command: Command<'a>) -> Result<Command<'a>, AllocError>
+    ensures { IfOk result (λ c. app_of c ≡ with_images (app_of command.entry)) }
+{
+    command
         .subcommand(formatting(alloc)?)?
         .subcommand(positional(alloc, "verify")?)?
         .subcommand(positional(alloc, "dump")?)?
-        .subcommand(positional(alloc, "table")?)?
+        .subcommand(positional(alloc, "table")?)
+}
+
+// Adds the commands on stacks.
+fn with_stacks<'a>(alloc: Global, command: Command<'a>) -> Result<Command<'a>, AllocError>
+    ensures { IfOk result (λ c. app_of c ≡ with_stacks (app_of command.entry)) }
+{
+    command
         .subcommand(positional(alloc, "load")?)?
         .subcommand(cached(alloc, "read")?)?
         .subcommand(cached(alloc, "write")?)?
@@ -21,7 +74,10 @@ pub fn grammar<'a>(alloc: Global) -> Result<Command<'a>, AllocError> {
 }
 
 // A command of positional words.
-fn positional<'a>(alloc: Global, name: &'a str) -> Result<Command<'a>, AllocError> {
+fn positional<'a>(alloc: Global, name: &'a str) -> Result<Command<'a>, AllocError>
+    ensures app { IfOk result (λ c. app_of c ≡ positional name.entry.now) }
+    ensures local { IfOk result (λ c. (fields_of c).has_globals ≡ false) }
+{
     let words = Arg::new(alloc, "words")
         .num_args(0..)
         .action(ArgAction::Append)
@@ -30,12 +86,18 @@ fn positional<'a>(alloc: Global, name: &'a str) -> Result<Command<'a>, AllocErro
 }
 
 // A command of positional words that may say how many blocks are cached.
-fn cached<'a>(alloc: Global, name: &'a str) -> Result<Command<'a>, AllocError> {
+fn cached<'a>(alloc: Global, name: &'a str) -> Result<Command<'a>, AllocError>
+    ensures app { IfOk result (λ c. app_of c ≡ cached name.entry.now) }
+    ensures local { IfOk result (λ c. (fields_of c).has_globals ≡ false) }
+{
     positional(alloc, name)?.arg(option(alloc, "cache"))
 }
 
 // The command that makes an image, with the image's parts as options.
-fn formatting<'a>(alloc: Global) -> Result<Command<'a>, AllocError> {
+fn formatting<'a>(alloc: Global) -> Result<Command<'a>, AllocError>
+    ensures app { IfOk result (λ c. app_of c ≡ formatting) }
+    ensures local { IfOk result (λ c. (fields_of c).has_globals ≡ false) }
+{
     positional(alloc, "format")?
         .arg(option(alloc, "data-block"))?
         .arg(option(alloc, "hash-block"))?
@@ -45,6 +107,9 @@ fn formatting<'a>(alloc: Global) -> Result<Command<'a>, AllocError> {
 }
 
 // An option that has a value.
-fn option<'a>(alloc: Global, name: &'a str) -> Arg<'a> {
+fn option<'a>(alloc: Global, name: &'a str) -> Arg<'a>
+    ensures rule { rule_of result ≡ option name.entry.now }
+    ensures local { result.global ≡ false }
+{
     Arg::new(alloc, name).long(name).action(ArgAction::Set)
 }

@@ -1,29 +1,24 @@
 // The options of `format`.
-use crate::fault::CommandFault;
+ghost use Rattle.std.specs.Prelude.{IfErr};
+ghost use Rattle.stack_commands.specs.CommandWords.{IsUsage};
+
 use clap::ArgMatches;
+use command_faults::CommandFault;
 use dm_table::number;
 use hash_tree::Salt;
+use image_commands::ImageOptions;
 use std::alloc::Global;
 use uuid::Uuid;
 
 const BLOCK_SIZE: u32 = 4096;
 
-/// What `format` is to make. Where there is no salt or identifier, one is drawn; where there is no number of
-/// blocks, all whole blocks are taken.
-#[derive(Clone, Copy)]
-pub struct ImageOptions {
-    pub data_block: u32,
-    pub hash_block: u32,
-    pub blocks: Option<u64>,
-    pub salt: Option<Salt>,
-    pub uuid: Option<[u8; 16]>,
-}
-
 /// `[--data-block N] [--hash-block N] [--blocks N] [--salt HEX] [--uuid U]`
 pub fn options_of<'a>(
     alloc: Global,
     found: &ArgMatches<'_>,
-) -> Result<ImageOptions, CommandFault<'a>> {
+) -> Result<ImageOptions, CommandFault<'a>>
+    ensures { IfErr result (λ fault. IsUsage fault (Unit {0})) }
+{
     let data_block = block_size_of(found.get_str("data-block"))?;
     let hash_block = block_size_of(found.get_str("hash-block"))?;
     let blocks = count_of(found.get_str("blocks"))?;
@@ -39,7 +34,9 @@ pub fn options_of<'a>(
 }
 
 // A block size of 4,096 bytes unless the word says another.
-fn block_size_of<'a>(word: Option<&str>) -> Result<u32, CommandFault<'a>> {
+fn block_size_of<'a>(word: Option<&str>) -> Result<u32, CommandFault<'a>>
+    ensures { IfErr result (λ fault. IsUsage fault (Unit {0})) }
+{
     match count_of(word)? {
         None => Ok(BLOCK_SIZE),
         Some(size) => match u32::try_from(size) {
@@ -49,7 +46,9 @@ fn block_size_of<'a>(word: Option<&str>) -> Result<u32, CommandFault<'a>> {
     }
 }
 
-fn count_of<'a>(word: Option<&str>) -> Result<Option<u64>, CommandFault<'a>> {
+fn count_of<'a>(word: Option<&str>) -> Result<Option<u64>, CommandFault<'a>>
+    ensures { IfErr result (λ fault. IsUsage fault (Unit {0})) }
+{
     let Some(word) = word else {
         return Ok(None);
     };
@@ -60,7 +59,9 @@ fn count_of<'a>(word: Option<&str>) -> Result<Option<u64>, CommandFault<'a>> {
 }
 
 // `-` for an empty salt, or 2 to 512 hexadecimal digits.
-fn salt_of<'a>(alloc: Global, word: Option<&str>) -> Result<Option<Salt>, CommandFault<'a>> {
+fn salt_of<'a>(alloc: Global, word: Option<&str>) -> Result<Option<Salt>, CommandFault<'a>>
+    ensures { IfErr result (λ fault. IsUsage fault (Unit {0})) }
+{
     let Some(word) = word else {
         return Ok(None);
     };
@@ -81,7 +82,9 @@ fn salt_of<'a>(alloc: Global, word: Option<&str>) -> Result<Option<Salt>, Comman
     }
 }
 
-fn uuid_of<'a>(word: Option<&str>) -> Result<Option<[u8; 16]>, CommandFault<'a>> {
+fn uuid_of<'a>(word: Option<&str>) -> Result<Option<[u8; 16]>, CommandFault<'a>>
+    ensures { IfErr result (λ fault. IsUsage fault (Unit {0})) }
+{
     let Some(word) = word else {
         return Ok(None);
     };

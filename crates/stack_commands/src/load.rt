@@ -1,15 +1,17 @@
 // The command `load`: checks a stack, and says what its devices are.
-ghost use Rattle.std.specs.Prelude.{◌≡◌, ◌⊎◌, ◌≤◌, ◌<◌, ◌^◌, codes, if◌then◌else◌, length, Ok, Err, IfErr, OnOk};
+ghost use Rattle.std.specs.Prelude.{◌≡◌, ◌≤◌, ◌<◌, ◌^◌, codes, if◌then◌else◌, length, map, Ok, IfErr, OnOk};
 ghost use Rattle.std.specs.Io.KnownBytes.{Appends};
 ghost use Rattle.stack_loader.specs.Records.{Configuration};
 ghost use Rattle.stack_session.specs.Counted.{Writes};
-ghost use Rattle.stack_commands.specs.Endings.{IsQuiet, MayEnd};
+ghost use Rattle.command_faults.specs.Endings.{IsQuiet};
+ghost use Rattle.stack_commands.specs.Bindings.{binding_record};
 ghost use Rattle.stack_commands.specs.Configuration.{configuration_of, device_facts, device_line, devices_text};
+ghost use Rattle.stack_commands.specs.StackCommands.{FailsToList, FailsToLoad, IsStackEnd, PrintsDevices};
 
 use crate::bindings::Binding;
 use crate::configuration::configuration_of;
-use crate::fault::CommandFault;
 use crate::opening::{OpenLeaves, open_all, stack_text};
+use command_faults::CommandFault;
 use stack_loader::{Config, DevId, Leaf};
 use stack_session::{Counted, WriteFault};
 use std::alloc::Global;
@@ -18,19 +20,24 @@ use std::io::Write;
 use std::rt::Files;
 
 /// `load STACK BINDING...`: the devices of a stack file over the bindings.
+#[tactic(auto, using(command_faults::proofs::lemmas::EndingLemmas::quiet))]
 pub fn load_files<'a, R: Files<File = File> + AllocGlobal, W: Write>(
     rt: &R,
     stack: &'a str,
     bindings: &[Binding<'a>],
     writer: &mut Counted<W>,
-) -> Result<(), CommandFault<'a>> {
+) -> Result<(), CommandFault<'a>>
+    ensures ok { OnOk result (PrintsDevices (map binding_record bindings.now) (W.contents writer.old.inner) (W.contents writer.new.inner)) }
+    ensures err { IfErr result (IsStackEnd stack.now (map binding_record bindings.now) FailsToList) }
+    ensures quiet { IfErr result (λ fault. IsQuiet fault (W.contents writer.old.inner) (W.contents writer.new.inner)) }
+{
     let text = stack_text(rt, stack)?;
     let OpenLeaves { leaves, devices: _ } = open_all(rt, &[], bindings)?;
     load(rt.alloc(), leaves, text.as_slice(), writer)
 }
 
 // Loads a text over the leaves, and writes a line for each mapped device.
-#[tactic(auto, using(crate::proofs::EndingLemmas::quiet))]
+#[tactic(auto, using(command_faults::proofs::lemmas::EndingLemmas::quiet))]
 fn load<'a, W: Write>(
     alloc: Global,
     leaves: Vec<Leaf>,
@@ -40,7 +47,7 @@ fn load<'a, W: Write>(
     requires { length text.now ≤ 2 ^ 20 }
     ensures ok { OnOk result ((c : Configuration) × (configuration_of leaves.items text.now ≡ Ok c)
         × Appends (W.contents writer.old.inner) (W.contents writer.new.inner) (devices_text c)) }
-    ensures err { IfErr result (λ fault. (configuration_of leaves.items text.now ≡ Err fault) ⊎ MayEnd fault) }
+    ensures err { IfErr result (FailsToLoad leaves.items text.now) }
     ensures quiet { IfErr result (λ fault. IsQuiet fault (W.contents writer.old.inner) (W.contents writer.new.inner)) }
 {
     match configuration_of(alloc, leaves, text) {

@@ -1,14 +1,14 @@
 // Opens what a command line names.
-ghost use Rattle.std.specs.Prelude.{false, ◌≡◌, ◌≤◌, ◌^◌, ◌++◌, [], ◌∷◌, length, map, IfOk, OnOk};
-ghost use Rattle.block_device.specs.File.{opened};
+ghost use Rattle.std.specs.Prelude.{false, ◌≡◌, ◌≤◌, ◌^◌, ◌++◌, [], ◌∷◌, length, map, IfOk, IfErr, OnOk};
 ghost use Rattle.stack_engine.specs.Leaves.{ServeLeaves};
-ghost use Rattle.stack_commands.specs.Bindings.{IsDeviceOf, backing_record, may_write};
+ghost use Rattle.stack_commands.specs.Bindings.{AreBound, IsDeviceOf, backing_record, binding_record};
 ghost use Rattle.stack_commands.specs.FileUses.{AreApart, AreApartBeside, has_clash, use_of};
+ghost use Rattle.stack_commands.specs.Openings.{IsBackingEnd, IsBindingEnd, IsTextEnd};
 
 use crate::bindings::{Backing, Binding};
-use crate::fault::CommandFault;
 use crate::file_use::{FileUse, has_clash};
-use block_device::{AnyDev, BlockDev, FileDev, MemoryDev, OpenFault};
+use block_device::{AnyDev, BlockDev, MemoryDev, OpenFault};
+use command_faults::{CommandFault, open_file};
 use stack_loader::Leaf;
 use std::alloc::{AllocError, Global};
 use std::fs;
@@ -23,7 +23,8 @@ pub fn stack_text<'a, R: Files<File = File> + AllocGlobal>(
     rt: &R,
     path: &'a str,
 ) -> Result<Vec<u8>, CommandFault<'a>>
-    ensures { IfOk result (λ text. length text.items ≤ 2 ^ 20) }
+    ensures ok { IfOk result (λ text. length text.items ≤ 2 ^ 20) }
+    ensures err { IfErr result (IsTextEnd path.now) }
 {
     let file = match fs::open(rt, path) {
         Ok(file) => file,
@@ -41,20 +42,6 @@ pub fn stack_text<'a, R: Files<File = File> + AllocGlobal>(
             fault: OpenFault::OtherFault,
             path,
         }),
-    }
-}
-
-/// The file as a device.
-pub fn open_file<'a, R: Files<File = File>>(
-    rt: &R,
-    path: &'a str,
-    writable: bool,
-) -> Result<FileDev, CommandFault<'a>>
-    ensures { IfOk result (λ f. (⟦<FileDev as BlockDev>⟧.state f) ≡ opened (⟦<FileDev as BlockDev>⟧.state f).size writable) }
-{
-    match FileDev::open(rt, path, writable) {
-        Ok(file) => Ok(file),
-        Err(fault) => Err(CommandFault::Open { fault, path }),
     }
 }
 
@@ -104,6 +91,7 @@ fn open_backing<'a, R: Files<File = File> + AllocGlobal>(
 ) -> Result<AnyDev, CommandFault<'a>>
     ensures device { IfOk result (λ device. IsDeviceOf (backing_record backing.entry) (⟦<AnyDev as BlockDev>⟧.state device)) }
     ensures apart { IfOk result (λ device. has_clash files.now devices.now (use_of device) ≡ false) }
+    ensures err { IfErr result (IsBackingEnd (backing_record backing.entry)) }
 {
     match backing {
         Backing::File { path, writable } => {
@@ -126,10 +114,9 @@ pub fn open_all<'a, R: Files<File = File> + AllocGlobal>(
     bindings: &[Binding<'a>],
 ) -> Result<OpenLeaves, CommandFault<'a>>
     requires { AreApart files.now }
-    ensures served { IfOk result (λ over. ServeLeaves over.leaves.items (map ⟦<AnyDev as BlockDev>⟧.state over.devices.items)) }
-    ensures names { IfOk result (λ over. map (λ leaf. leaf.name) over.leaves.items ≡ map (λ binding. binding.name.now) bindings.now) }
-    ensures flags { IfOk result (λ over. map (λ device. (⟦<AnyDev as BlockDev>⟧.state device).may_write) over.devices.items ≡ map (λ binding. may_write (backing_record binding.backing)) bindings.now) }
+    ensures bound { IfOk result (λ over. AreBound (map binding_record bindings.now) over.leaves.items (map ⟦<AnyDev as BlockDev>⟧.state over.devices.items)) }
     ensures apart { IfOk result (λ over. AreApartBeside files.now over.devices.items) }
+    ensures err { IfErr result (IsBindingEnd (map binding_record bindings.now)) }
 {
     let mut open_leaves = OpenLeaves::new(rt.alloc());
     'bindings: for binding in bindings {

@@ -1,19 +1,19 @@
 // The whole program: its words, a reader and a writer in, the status out.
-ghost use Rattle.std.specs.Prelude.{false, ◌≡◌};
+ghost use Rattle.std.specs.Prelude.{false, ◌≡◌, ◌⊎◌, map, string_bytes, OnOk, IfErr};
+ghost use Rattle.stack_session.specs.Session.{streams};
+ghost use Rattle.stack_commands.specs.CommandWords.{invocation_record};
+ghost use Rattle.stack_commands.specs.Commands.{EndsEarly, Fails, IsDone, IsRunEnd, Succeeds};
 
 use crate::command_words::{Invocation, invocation_of};
-use crate::dump::dump_file;
-use crate::ending::end;
-use crate::fault::CommandFault;
-use crate::format::format_files;
-use crate::grammar::grammar;
+use crate::grammar::matches_of;
 use crate::image_options::options_of;
 use crate::load::load_files;
 use crate::read::read_files;
 use crate::serve::serve_files;
-use crate::table::{LineWords, print_table_of_file};
-use crate::verify::verify_files;
 use crate::write::write_files;
+use clap::ArgMatches;
+use command_faults::{CommandFault, end};
+use image_commands::{LineWords, dump_file, format_files, print_table_of_file, verify_files};
 use stack_session::Counted;
 use std::fs::File;
 use std::io::{Read, Write};
@@ -32,6 +32,8 @@ pub fn command<R: Files<File = File> + AllocGlobal + RandomSource, S: Read, W: W
 ) -> u8
     requires reader { reader.old.failed ≡ false }
     requires writer { writer.old.failed ≡ false }
+    ensures { ((result ≡ 0) × IsDone (map string_bytes words.now) (streams (S.remaining reader.old.inner) (W.contents writer.old.inner)) (streams (S.remaining reader.new.inner) (W.contents writer.new.inner)))
+        ⊎ EndsEarly (map string_bytes words.now) (streams (S.remaining reader.old.inner) (W.contents writer.old.inner)) (streams (S.remaining reader.new.inner) (W.contents writer.new.inner)) writer.new.failed result }
 {
     match run(rt, words, reader, writer) {
         Ok(()) => DONE,
@@ -48,14 +50,35 @@ fn run<'a, R: Files<File = File> + AllocGlobal + RandomSource, S: Read, W: Write
 ) -> Result<(), CommandFault<'a>>
     requires reader { reader.old.failed ≡ false }
     requires writer { writer.old.failed ≡ false }
+    ensures ok { OnOk result (IsDone (map string_bytes words.now) (streams (S.remaining reader.old.inner) (W.contents writer.old.inner)) (streams (S.remaining reader.new.inner) (W.contents writer.new.inner))) }
+    ensures err { IfErr result (IsRunEnd (map string_bytes words.now) (streams (S.remaining reader.old.inner) (W.contents writer.old.inner)) (streams (S.remaining reader.new.inner) (W.contents writer.new.inner))) }
 {
     let alloc = rt.alloc();
-    let matches = grammar(alloc)?.try_get_matches_from(words)?;
+    let matches = matches_of(alloc, words)?;
     let Some((name, found)) = matches.subcommand() else {
         return Err(CommandFault::Usage);
     };
     let words = found.get_strs("words").unwrap_or(&[]);
-    match invocation_of(alloc, name.as_bytes(), found.get_str("cache"), words)? {
+    match invocation_of(alloc, name.as_bytes(), found.get_str("cache"), words) {
+        Ok(invocation) => invoke(rt, invocation, found, reader, writer),
+        Err(fault) => Err(fault),
+    }
+}
+
+// Runs a command, whose options stand in what was found.
+fn invoke<'a, R: Files<File = File> + AllocGlobal + RandomSource, S: Read, W: Write>(
+    rt: &R,
+    invocation: Invocation<'a>,
+    found: &ArgMatches<'a>,
+    reader: &mut Counted<S>,
+    writer: &mut Counted<W>,
+) -> Result<(), CommandFault<'a>>
+    requires reader { reader.old.failed ≡ false }
+    requires writer { writer.old.failed ≡ false }
+    ensures ok { OnOk result (Succeeds (invocation_record invocation.entry) (streams (S.remaining reader.old.inner) (W.contents writer.old.inner)) (streams (S.remaining reader.new.inner) (W.contents writer.new.inner))) }
+    ensures err { IfErr result (Fails (invocation_record invocation.entry) (streams (S.remaining reader.old.inner) (W.contents writer.old.inner)) (streams (S.remaining reader.new.inner) (W.contents writer.new.inner))) }
+{
+    match invocation {
         Invocation::Load { stack, bindings } => load_files(rt, stack, bindings.as_slice(), writer),
         Invocation::Read {
             cache,
@@ -73,7 +96,7 @@ fn run<'a, R: Files<File = File> + AllocGlobal + RandomSource, S: Read, W: Write
             serve_files(rt, cache, bindings.as_slice(), reader, writer)
         }
         Invocation::Format { data, hash } => {
-            let options = options_of(alloc, found)?;
+            let options = options_of(rt.alloc(), found)?;
             format_files(rt, options, data, hash, writer)
         }
         Invocation::Verify { data, hash, root } => verify_files(rt, data, hash, &root, writer),

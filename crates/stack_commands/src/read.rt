@@ -7,18 +7,20 @@ ghost use Rattle.stack_engine.specs.Pieces.{stack_over};
 ghost use Rattle.request_queue.specs.declared.reply.Reply.{Reply as Told};
 ghost use Rattle.request_queue.specs.World.{World};
 ghost use Rattle.stack_session.specs.Texts.{reply_text};
+ghost use Rattle.stack_commands.specs.Bindings.{binding_record};
 ghost use Rattle.stack_commands.specs.CommandWords.{read_request};
 ghost use Rattle.stack_commands.specs.Configuration.{configuration_of};
-ghost use Rattle.stack_commands.specs.Endings.{IsQuiet};
+ghost use Rattle.command_faults.specs.Endings.{IsQuiet};
 ghost use Rattle.stack_commands.specs.Requests.{FailsToServe, IsServed, new_world};
+ghost use Rattle.stack_commands.specs.StackCommands.{FailsToAsk, IsStackEnd, PrintsReply};
 
 use crate::bindings::Binding;
 use crate::command_words::Sectors;
 use crate::configuration::configuration_of;
-use crate::fault::CommandFault;
 use crate::opening::{OpenLeaves, open_all, stack_text};
 use crate::request::serve_request;
 use block_device::{AnyDev, BlockDev};
+use command_faults::CommandFault;
 use request_queue::{Queue, Reply, Request};
 use stack_engine::Stack;
 use stack_session::{Counted, say_reply};
@@ -28,6 +30,7 @@ use std::io::Write;
 use std::rt::Files;
 
 /// `read [--cache N] STACK NAME FIRST COUNT BINDING...`: sectors of a device of a stack file over the bindings.
+#[tactic(auto, using(command_faults::proofs::lemmas::EndingLemmas::quiet))]
 pub fn read_files<'a, R: Files<File = File> + AllocGlobal, W: Write>(
     rt: &R,
     cache: u32,
@@ -35,14 +38,18 @@ pub fn read_files<'a, R: Files<File = File> + AllocGlobal, W: Write>(
     sectors: Sectors<'_>,
     bindings: &[Binding<'a>],
     writer: &mut Counted<W>,
-) -> Result<(), CommandFault<'a>> {
+) -> Result<(), CommandFault<'a>>
+    ensures ok { OnOk result (PrintsReply (map binding_record bindings.now) (read_request sectors.entry) (W.contents writer.old.inner) (W.contents writer.new.inner)) }
+    ensures err { IfErr result (IsStackEnd stack.now (map binding_record bindings.now) (FailsToAsk (read_request sectors.entry))) }
+    ensures quiet { IfErr result (λ fault. IsQuiet fault (W.contents writer.old.inner) (W.contents writer.new.inner)) }
+{
     let text = stack_text(rt, stack)?;
     let over = open_all(rt, &[], bindings)?;
     read(rt.alloc(), over, cache, text.as_slice(), sectors, writer)
 }
 
 // Loads a text over the leaves, and writes the sectors as a session does.
-#[tactic(auto, using(crate::proofs::EndingLemmas::quiet))]
+#[tactic(auto, using(command_faults::proofs::lemmas::EndingLemmas::quiet))]
 fn read<'a, W: Write>(
     alloc: Global,
     over: OpenLeaves,
@@ -56,6 +63,7 @@ fn read<'a, W: Write>(
     ensures ok { OnOk result ((c : Configuration) × (reply : Told) × (after : World) × (configuration_of over.leaves.items text.now ≡ Ok c)
         × IsServed (new_world (stack_over c (map ⟦<AnyDev as BlockDev>⟧.state over.devices.items))) (read_request sectors.entry) reply after
         × Appends (W.contents writer.old.inner) (W.contents writer.new.inner) (reply_text sectors.entry.first reply)) }
+    ensures err { IfErr result (FailsToAsk (read_request sectors.entry) over.leaves.items text.now (map ⟦<AnyDev as BlockDev>⟧.state over.devices.items)) }
     ensures quiet { IfErr result (λ fault. IsQuiet fault (W.contents writer.old.inner) (W.contents writer.new.inner)) }
 {
     let OpenLeaves { leaves, devices } = over;

@@ -1,10 +1,13 @@
 // The command `session`: serves the lines of a reader.
-ghost use Rattle.std.specs.Prelude.{false, ◌≡◌};
+ghost use Rattle.std.specs.Prelude.{false, ◌≡◌, map, Ok, OnOk, IfErr};
+ghost use Rattle.stack_session.specs.Session.{streams};
+ghost use Rattle.stack_commands.specs.Bindings.{binding_record};
+ghost use Rattle.stack_commands.specs.StackCommands.{IsServeEnd, Serves};
 
 use crate::bindings::Binding;
-use crate::fault::CommandFault;
 use crate::opening::{OpenLeaves, open_all};
 use crate::sync::sync_stack;
+use command_faults::CommandFault;
 use request_queue::Queue;
 use stack_engine::Stack;
 use stack_loader::Config;
@@ -23,6 +26,8 @@ pub fn serve_files<'a, R: Files<File = File> + AllocGlobal, S: Read, W: Write>(
 ) -> Result<(), CommandFault<'a>>
     requires reader { reader.old.failed ≡ false }
     requires writer { writer.old.failed ≡ false }
+    ensures ok { OnOk result (Serves (map binding_record bindings.now) (streams (S.remaining reader.old.inner) (W.contents writer.old.inner)) (streams (S.remaining reader.new.inner) (W.contents writer.new.inner)) (Ok tt)) }
+    ensures err { IfErr result (IsServeEnd (map binding_record bindings.now) (streams (S.remaining reader.old.inner) (W.contents writer.old.inner)) (streams (S.remaining reader.new.inner) (W.contents writer.new.inner))) }
 {
     let OpenLeaves { leaves, devices } = open_all(rt, &[], bindings)?;
     let config = Config::new(rt.alloc(), leaves)?;

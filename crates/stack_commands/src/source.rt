@@ -1,7 +1,10 @@
 // The file whose bytes are written.
-use crate::fault::CommandFault;
+ghost use Rattle.std.specs.Prelude.{false, ◌≡◌, IfOk, IfErr};
+ghost use Rattle.stack_commands.specs.Openings.{IsReadEnd};
+
 use crate::file_use::FileUse;
 use block_device::{FileId, OpenFault};
+use command_faults::CommandFault;
 use std::fs;
 use std::io::{ErrorKind, Read};
 use std::rt::Files;
@@ -20,7 +23,10 @@ pub struct Source {
 pub fn read_source<'a, R: Files<File = fs::File> + AllocGlobal>(
     rt: &R,
     path: &'a str,
-) -> Result<Source, CommandFault<'a>> {
+) -> Result<Source, CommandFault<'a>>
+    ensures ok { IfOk result (λ source. source.file.writable ≡ false) }
+    ensures err { IfErr result (IsReadEnd path.now) }
+{
     let file = match fs::open(rt, path) {
         Ok(file) => file,
         Err(error) => return Err(not_read(error.kind(), path)),
@@ -47,7 +53,9 @@ pub fn read_source<'a, R: Files<File = fs::File> + AllocGlobal>(
 }
 
 // The fault of a file that isn't opened.
-fn not_read(kind: ErrorKind, path: &str) -> CommandFault<'_> {
+fn not_read(kind: ErrorKind, path: &str) -> CommandFault<'_>
+    ensures { IsReadEnd path.now result }
+{
     CommandFault::Open {
         fault: OpenFault::from(kind),
         path,

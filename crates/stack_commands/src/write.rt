@@ -1,23 +1,26 @@
 // The command `write`: loads a stack, and writes a file's bytes to one of its devices.
-ghost use Rattle.std.specs.Prelude.{◌≡◌, ◌≤◌, ◌^◌, length, map, Ok, IfOk, IfErr};
+ghost use Rattle.std.specs.Prelude.{◌≡◌, ◌≤◌, ◌^◌, length, map, Ok, OnOk, IfOk, IfErr};
 ghost use Rattle.stack_loader.specs.Records.{Configuration};
 ghost use Rattle.stack_engine.specs.Leaves.{ServeLeaves};
 ghost use Rattle.stack_engine.specs.Pieces.{stack_over};
 ghost use Rattle.request_queue.specs.declared.reply.Reply.{Reply as Told};
 ghost use Rattle.request_queue.specs.World.{World};
+ghost use Rattle.command_faults.specs.Endings.{IsQuiet};
+ghost use Rattle.stack_commands.specs.Bindings.{binding_record};
 ghost use Rattle.stack_commands.specs.CommandWords.{write_request};
 ghost use Rattle.stack_commands.specs.Configuration.{configuration_of};
 ghost use Rattle.stack_commands.specs.Requests.{FailsToServe, IsServed, new_world};
+ghost use Rattle.stack_commands.specs.StackCommands.{FailsToAsk, IsWriteFilesEnd, PrintsWritten};
 
 use crate::bindings::Binding;
 use crate::command_words::Transfer;
 use crate::configuration::configuration_of;
-use crate::fault::CommandFault;
 use crate::opening::{OpenLeaves, open_all, stack_text};
 use crate::request::serve_request;
 use crate::source::{Source, read_source};
 use crate::sync::sync_stack;
 use block_device::{AnyDev, BlockDev};
+use command_faults::CommandFault;
 use request_queue::{Queue, Reply, Request};
 use stack_engine::Stack;
 use stack_session::{Counted, say_written};
@@ -28,6 +31,7 @@ use std::rt::Files;
 
 /// `write [--cache N] STACK NAME FIRST SOURCE BINDING..`: the bytes of the source file to a device of a stack file
 /// over the bindings, whose images are synced before anything is printed.
+#[tactic(auto, using(command_faults::proofs::lemmas::EndingLemmas::quiet))]
 pub fn write_files<'a, R: Files<File = File> + AllocGlobal, W: Write>(
     rt: &R,
     cache: u32,
@@ -35,7 +39,11 @@ pub fn write_files<'a, R: Files<File = File> + AllocGlobal, W: Write>(
     transfer: Transfer<'a>,
     bindings: &[Binding<'a>],
     writer: &mut Counted<W>,
-) -> Result<(), CommandFault<'a>> {
+) -> Result<(), CommandFault<'a>>
+    ensures ok { OnOk result (PrintsWritten (map binding_record bindings.now) (write_request transfer.entry) (W.contents writer.old.inner) (W.contents writer.new.inner)) }
+    ensures err { IfErr result (IsWriteFilesEnd stack.now transfer.entry.source.now (map binding_record bindings.now) (write_request transfer.entry)) }
+    ensures quiet { IfErr result (λ fault. IsQuiet fault (W.contents writer.old.inner) (W.contents writer.new.inner)) }
+{
     let text = stack_text(rt, stack)?;
     let Source { file, bytes } = read_source(rt, transfer.source)?;
     let over = open_all(rt, &[file], bindings)?;
@@ -55,9 +63,10 @@ fn write<'a>(
 ) -> Result<Stack<AnyDev>, CommandFault<'a>>
     requires text { length text.now ≤ 2 ^ 20 }
     requires served { ServeLeaves over.leaves.items (map ⟦<AnyDev as BlockDev>⟧.state over.devices.items) }
-    ensures { IfOk result (λ stack. (c : Configuration) × (reply : Told) × (after : World) × (configuration_of over.leaves.items text.now ≡ Ok c)
+    ensures ok { IfOk result (λ stack. (c : Configuration) × (reply : Told) × (after : World) × (configuration_of over.leaves.items text.now ≡ Ok c)
         × IsServed (new_world (stack_over c (map ⟦<AnyDev as BlockDev>⟧.state over.devices.items))) (write_request transfer.entry bytes.items) reply after
         × (stack ≡ after.stack)) }
+    ensures err { IfErr result (FailsToAsk (write_request transfer.entry bytes.items) over.leaves.items text.now (map ⟦<AnyDev as BlockDev>⟧.state over.devices.items)) }
 {
     let OpenLeaves { leaves, devices } = over;
     let config = match configuration_of(alloc, leaves, text) {

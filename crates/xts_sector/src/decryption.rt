@@ -23,7 +23,7 @@ fn decrypt_part(key: &AesKey, first: u128, blocks: &mut [u8]) -> u128
     let masks = &mut all[..blocks.len()];
     let next = fill_masks(first, masks);
     add_masks(blocks, masks);
-    key.decrypt_blocks(blocks);
+    aes_lanes::decrypt_blocks(key, blocks);
     add_masks(blocks, masks);
     next
 }

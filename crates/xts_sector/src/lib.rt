@@ -1,4 +1,4 @@
-//! XTS-AES on data units of whole blocks (IEEE 1619-2007), over the block cipher of `aes_block`.
+//! XTS-AES on data units of whole blocks (IEEE 1619-2007), over the block cipher of `aes_block`, many blocks at once by `aes_lanes`.
 #![tactic(auto)]
 
 mod decryption;

@@ -5,7 +5,7 @@ use Rattle.aes_block.specs.Blocks.{block, joined, cipher_blocks, inverse_cipher_
 use Rattle.aes_block.specs.Rounds.{add_round_key}
 use Rattle.aes_block.specs.KeyExpansion.{rounds, key_schedule, round_key}
 use Rattle.aes_block.specs.Cipher.{cipher_with, cipher, inverse_rounds, inverse_cipher_with, inverse_cipher}
-use Rattle.aes_block.proofs.StateLemmas.{length-state_of}
+use Rattle.aes_block.proofs.lemmas.StateLemmas.{length-state_of}
 use Rattle.aes_block.proofs.lemmas.BlockLemmas.{joined-same, length-joined, block-joined, joined-block}
 
 length-added : (s k : List ℕ) → length (add_round_key s k) ≡ 16

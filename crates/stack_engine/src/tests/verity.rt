@@ -1,5 +1,5 @@
-// Reads through `verity` lines: trees of several shapes, whole and with one bit changed, and devices that answer
-// another block each time.
+// Reads through `verity` lines: parts of blocks, lines over each other, and devices that answer another block each
+// time. Every block of many trees, with each block changed in turn, is read by rows of the finished program.
 use super::{is_fault, is_filled, read, stack_of};
 use crate::{Answer, IoFault};
 use block_device::{MemoryDev, ScriptDev};
@@ -87,130 +87,10 @@ fn has_chain(answer: &Option<Result<Answer, IoFault>>, device: u32, index: u64) 
         return false;
     };
     let chains = answer.chains.as_slice();
-    chains.len() == 1
-        && chains[0].device == device
-        && chains[0].line == 0
-        && chains[0].chain.index == index
-}
-
-/// Whether hash block k of so many, the top one first, is on the way to a data block: the trees here have one hash
-/// block, or one over two of 16 digests.
-fn is_on_way(hash_blocks: u64, k: u64, block: u64) -> bool {
-    hash_blocks == 1 || k == 0 || (k == 1) == (block < 16)
-}
-
-/// Whether exactly those blocks are answered whose way is whole, where the bit at that place of the data and then of
-/// the tree is changed.
-fn answers_whole_ways(alloc: Global, row: &Row, made: &Made, broken: u64) -> Result<bool, Fail> {
-    let data_size = row.blocks * u64::from(row.data_block);
-    let begin = row.start * u64::from(row.hash_block);
-    let hash_blocks = (made.hash.len() as u64).saturating_sub(begin)
-        / u64::from(row.hash_block.max(1));
-    let data = with_changed_bit(alloc, made.data.as_slice(), broken)?;
-    let beyond = broken.saturating_sub(data_size).saturating_add(begin);
-    let hash = if broken < data_size {
-        Vec::from_slice(alloc, made.hash.as_slice())?
-    } else {
-        with_changed_bit(alloc, made.hash.as_slice(), beyond)?
+    let Some(found) = chains.first() else {
+        return false;
     };
-    let sectors = u64::from(row.data_block / 512);
-    let mut text = String::new(alloc);
-    write!(
-        text,
-        "v,,,ro,0 {} verity 1 A B {}",
-        row.blocks * sectors,
-        made.arguments
-    )?;
-    let mut stack = stack_of(
-        alloc,
-        MemoryDev::new(data, false),
-        MemoryDev::new(hash, false),
-        text.as_bytes(),
-    )?;
-    for block in 0..row.blocks {
-        let first = block * sectors;
-        let answer = read(&mut stack, b"v", first, 1);
-        let whole = if broken < data_size {
-            broken / u64::from(row.data_block.max(1)) != block
-        } else {
-            let k = (broken - data_size) / u64::from(row.hash_block.max(1));
-            k >= hash_blocks || !is_on_way(hash_blocks, k, block)
-        };
-        let right = if whole {
-            is_filled(&answer, &[(first as u8).wrapping_add(1)]) && has_chain(&answer, 0, block)
-        } else {
-            is_fault(&answer, IoFault::Mismatch)
-        };
-        if !right {
-            return Ok(false);
-        }
-    }
-    Ok(true)
-}
-
-#[test]
-fn answers_exactly_the_blocks_whose_way_is_whole(rt: HostRuntime) -> Result<(), Fail> {
-    let alloc = rt.alloc();
-    let small = Row {
-        data_block: 512,
-        hash_block: 512,
-        blocks: 1,
-        start: 0,
-    };
-    let rows = [
-        small,
-        Row {
-            blocks: 2,
-            start: 3,
-            ..small
-        },
-        Row {
-            blocks: 16,
-            ..small
-        },
-        Row {
-            blocks: 17,
-            start: 2,
-            ..small
-        },
-        Row {
-            data_block: 4096,
-            blocks: 17,
-            start: 1,
-            ..small
-        },
-        Row {
-            hash_block: 4096,
-            blocks: 17,
-            start: 2,
-            ..small
-        },
-        Row {
-            data_block: 4096,
-            hash_block: 4096,
-            blocks: 2,
-            ..small
-        },
-    ];
-    for row in &rows {
-        let made = formatted(alloc, row)?;
-        let data_size = row.blocks * u64::from(row.data_block);
-        let begin = row.start * u64::from(row.hash_block);
-        let end = data_size + (made.hash.len() as u64).saturating_sub(begin);
-        // A bit of each data block, and one of each hash block that holds a digest; and none at all.
-        let mut broken = 7;
-        while broken < data_size {
-            assert!(rt; answers_whole_ways(alloc, row, &made, broken)?);
-            broken += u64::from(row.data_block.max(1));
-        }
-        broken = data_size + 7;
-        while broken < end {
-            assert!(rt; answers_whole_ways(alloc, row, &made, broken)?);
-            broken += u64::from(row.hash_block.max(1));
-        }
-        assert!(rt; answers_whole_ways(alloc, row, &made, end)?);
-    }
-    Ok(())
+    chains.len() == 1 && found.device == device && found.line == 0 && found.chain.index == index
 }
 
 #[test]

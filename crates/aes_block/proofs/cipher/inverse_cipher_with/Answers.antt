@@ -6,7 +6,7 @@ use Rattle.aes_block.proofs.KeyScheduleLemmas.{IsBytes-round_key}
 use Rattle.aes_block.specs.Columns.{state_of_columns}
 use Rattle.aes_block.specs.KeyExpansion.{round_key}
 use Rattle.aes_block.specs.Cipher.{inverse_rounds, inverse_cipher_with}
-use Rattle.aes_block.proofs.CipherLemmas.{inverse_rounds_more}
+use Rattle.aes_block.proofs.lemmas.CipherLemmas.{inverse_rounds_more}
 use Rattle.aes_block.proofs.RoundLemmas.{IsBlock-inv_sub_bytes, IsBlock-inv_shift_rows, inv_mix_columns-keyed}
 use Rattle.aes_block.proofs.StateColumnLemmas.{IsBlock-state_of_columns}
 use Rattle.aes_block.proofs.cipher.inverse_cipher_with.Goals as goal

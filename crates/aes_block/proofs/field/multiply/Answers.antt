@@ -2,7 +2,7 @@ use Rattle.std.proofs.Common.{◌≡◌, ◌%◌, sym, ◌∙◌, arith}
 use Rattle.std.proofs.lemmas.Nat.{and_mask}
 use Rattle.std.specs.Int.Bits.{xor_zero_l}
 use Rattle.aes_block.specs.Field.{product, product_low}
-use Rattle.aes_block.proofs.FieldLemmas.{product_low_set, product_low_clear, product_low_none}
+use Rattle.aes_block.proofs.lemmas.FieldLemmas.{product_low_set, product_low_clear, product_low_none}
 use Rattle.aes_block.proofs.field.multiply.Goals as goal
 use Rattle.aes_block.proofs.field.multiply.Goals.{then-rest-eq1, else-rest-eq1}
 

@@ -1,6 +1,6 @@
 use Rattle.std.proofs.Common.{rules}
 use Rattle.aes_block.specs.Rounds.{inv_mix_columns}
-use Rattle.aes_block.proofs.StateLemmas.{same_state}
+use Rattle.aes_block.proofs.lemmas.StateLemmas.{same_state}
 use Rattle.aes_block.proofs.state.inv_mix_columns.Goals as goal
 
 pub returns : goal.returns

@@ -32,7 +32,7 @@ returns-clause-value c =
     let m = length c.args.blocks.now / 16 in
     masked_blocks (cipher c.args.key.now) (tweaks c.args.first) c.args.blocks.now c.fill_masks-next.new.masks c.add_masks.new.blocks m
     (length-cipher c.args.key.now) (length-tweaks c.args.first) (omega (arith, c.requires.0)) (masks_are d) c.add_masks.ensures
-    c.encrypt_blocks.new.bytes c.add_masks-2.new.blocks c.encrypt_blocks.ensures.value c.add_masks-2.ensures
+    c.encrypt_blocks.new.blocks c.add_masks-2.new.blocks c.encrypt_blocks.ensures.value c.add_masks-2.ensures
 
 pub returns-clause-inverse : goal.returns-clause-inverse
 unfolding tweaks

@@ -1,0 +1,130 @@
+-- The circuit is the map of SubBytes: computed for all 256 bytes at once, on the numbers whose bit v is a bit of v.
+use Rattle.std.proofs.Common.{◌≡◌, ℕ, ◌+◌, ◌-◌, ◌*◌, ◌/◌, ◌%◌, ◌^◌, ◌<◌, true, List, [], ◌∷◌, nat_eq, slice_index, bit_xor, refl, sym, ap, ◌∙◌, arith}
+use Rattle.std.specs.Int.{bit_at}
+use Rattle.aes_block.specs.Field.{xtimes, parities, product_low, product, inverse, affine, inv_affine, sub_byte, inv_sub_byte}
+use Rattle.aes_block.specs.Rounds.{sub_bytes, inv_sub_bytes}
+use Rattle.aes_block.specs.State.{byte_at}
+use Rattle.aes_block.proofs.lemmas.ByteLemmas.{all_below, same_below}
+use Rattle.aes_lanes.specs.Planes.{ArePlanes, plane, lane, byte_of, block_of}
+use Rattle.aes_lanes.specs.Circuit.{Carries, CarryEach, sums, combined, products, substituted}
+use Rattle.aes_lanes.specs.Circuit.{inverse as inverse_bits}
+use Rattle.aes_lanes.proofs.LaneLemmas.{below_eight}
+use Rattle.aes_lanes.proofs.PlaneLemmas.{parities-same, byte_of_lt, bit_at-byte_of, lane_lt, byte_at-block_of, block_of-is}
+
+-- the number below 2^256 whose bit v is bit k of v
+abbrev pub bits_of_bytes : ℕ → ℕ
+bits_of_bytes k = (2 ^ 256 - 1) / (2 ^ 2 ^ k + 1) * 2 ^ 2 ^ k
+
+-- for the eight bits of a byte
+unfoldable pub inputs : List ℕ
+inputs = bits_of_bytes 0 ∷ bits_of_bytes 1 ∷ bits_of_bytes 2 ∷ bits_of_bytes 3 ∷ bits_of_bytes 4 ∷ bits_of_bytes 5 ∷ bits_of_bytes 6 ∷ bits_of_bytes 7 ∷ []
+
+-- what the circuit makes of them
+unfoldable pub outputs : List ℕ
+outputs = substituted (products (sums inputs) (inverse_bits (combined (sums inputs))))
+
+inputs-computed : all_below 2048 (λ n. nat_eq (bit_at (slice_index inputs (n / 256)) (n % 256)) (bit_at (n % 256) (n / 256))) ≡ true
+unfolding inputs
+inputs-computed = refl
+
+-- bit v of the input k is bit k of v
+pub inputs_are : (k v : ℕ) → k < 8 → v < 256 → bit_at (slice_index inputs k) v ≡ bit_at v k
+inputs_are k v hk hv =
+    let row : (256 * k + v) / 256 ≡ k = omega arith in
+    let column : (256 * k + v) % 256 ≡ v = omega arith in
+    rw (row, column) at (same_below 2048 (λ n. bit_at (slice_index inputs (n / 256)) (n % 256)) (λ n. bit_at (n % 256) (n / 256)) inputs-computed (256 * k + v) (omega arith))
+
+-- the product by x: bit 7 goes to the bits 0, 1, 3 and 4
+unfoldable pub doubled : List ℕ
+doubled =
+    let top = slice_index inputs 7 in
+    top ∷ bit_xor (slice_index inputs 0) top ∷ slice_index inputs 1 ∷ bit_xor (slice_index inputs 2) top ∷ bit_xor (slice_index inputs 3) top ∷ slice_index inputs 4 ∷ slice_index inputs 5 ∷ slice_index inputs 6 ∷ []
+
+-- the byte of bit v of each of eight numbers
+byte_in : List ℕ → ℕ → ℕ
+byte_in ts v = parities (λ k. bit_at (slice_index ts k) v) 8
+
+-- the inverse of the affine map
+unfoldable pub unmapped : List ℕ
+unmapped =
+    let ones = 2 ^ 256 - 1 in
+    bit_xor (bit_xor (bit_xor (slice_index inputs 2) (slice_index inputs 5)) (slice_index inputs 7)) ones
+    ∷ bit_xor (bit_xor (slice_index inputs 3) (slice_index inputs 6)) (slice_index inputs 0)
+    ∷ bit_xor (bit_xor (bit_xor (slice_index inputs 4) (slice_index inputs 7)) (slice_index inputs 1)) ones
+    ∷ bit_xor (bit_xor (slice_index inputs 5) (slice_index inputs 0)) (slice_index inputs 2)
+    ∷ bit_xor (bit_xor (slice_index inputs 6) (slice_index inputs 1)) (slice_index inputs 3)
+    ∷ bit_xor (bit_xor (slice_index inputs 7) (slice_index inputs 2)) (slice_index inputs 4)
+    ∷ bit_xor (bit_xor (slice_index inputs 0) (slice_index inputs 3)) (slice_index inputs 5)
+    ∷ bit_xor (bit_xor (slice_index inputs 1) (slice_index inputs 4)) (slice_index inputs 6) ∷ []
+
+unmapped-computed : all_below 256 (λ v. nat_eq (byte_in unmapped v) (inv_affine v)) ≡ true
+unfolding byte_in unmapped inputs inv_affine
+unmapped-computed = refl
+
+doubled-computed : all_below 256 (λ v. nat_eq (byte_in doubled v) (xtimes v)) ≡ true
+unfolding byte_in doubled inputs
+doubled-computed = refl
+
+outputs-computed : all_below 256 (λ v. nat_eq (byte_in outputs v) (sub_byte v)) ≡ true
+unfolding byte_in outputs inputs sums combined inverse_bits products substituted product product_low inverse affine sub_byte
+outputs-computed = refl
+
+module _ (q : List (List ℕ)) (planes : ArePlanes q) (p b : ℕ) where
+  -- the planes carry the inputs
+  pub input_carried : (k : ℕ) → k < 8 → Carries p b (byte_of q p b) (plane q k) (slice_index inputs k)
+  input_carried k h = record {
+    len = planes k h;
+    bit = sym (inputs_are k (byte_of q p b) h (byte_of_lt q p b) ∙ bit_at-byte_of q p b k h);
+  }
+
+  pub inputs_carried : CarryEach 8 p b (byte_of q p b) q inputs
+  unfolding CarryEach
+  inputs_carried =
+      ((((((((tt, input_carried 0 (omega arith)), input_carried 1 (omega arith)), input_carried 2 (omega arith)), input_carried 3 (omega arith)), input_carried 4 (omega arith)), input_carried 5 (omega arith)), input_carried 6 (omega arith)), input_carried 7 (omega arith))
+
+-- each of eight that carry
+carried : (p b v : ℕ) (x : List (List ℕ)) (ts : List ℕ) → CarryEach 8 p b v x ts → (k : ℕ) → k < 8 → Carries p b v (plane x k) (slice_index ts k)
+unfolding CarryEach
+carried p b v x ts all = below_eight _ all.0.0.0.0.0.0.0.1 all.0.0.0.0.0.0.1 all.0.0.0.0.0.1 all.0.0.0.0.1 all.0.0.0.1 all.0.0.1 all.0.1 all.1
+
+-- planes that carry numbers hold the byte that the numbers' bits give
+byte_of-carried : (p b v : ℕ) (r : List (List ℕ)) (ts : List ℕ) → CarryEach 8 p b v r ts → byte_of r p b ≡ byte_in ts v
+unfolding byte_of byte_in
+byte_of-carried p b v r ts all = parities-same (λ k. bit_at (lane r k p) b) (λ k. bit_at (slice_index ts k) v) 8 (λ k low. (carried p b v r ts all k low).bit)
+
+pub byte_of-outputs : (p b v : ℕ) (r : List (List ℕ)) → v < 256 → CarryEach 8 p b v r outputs → byte_of r p b ≡ sub_byte v
+byte_of-outputs p b v r h all = byte_of-carried p b v r outputs all ∙ same_below 256 (byte_in outputs) sub_byte outputs-computed v h
+
+pub byte_of-doubled : (p b v : ℕ) (r : List (List ℕ)) → v < 256 → CarryEach 8 p b v r doubled → byte_of r p b ≡ xtimes v
+byte_of-doubled p b v r h all = byte_of-carried p b v r doubled all ∙ same_below 256 (byte_in doubled) xtimes doubled-computed v h
+
+pub byte_of-unmapped : (p b v : ℕ) (r : List (List ℕ)) → v < 256 → CarryEach 8 p b v r unmapped → byte_of r p b ≡ inv_affine v
+byte_of-unmapped p b v r h all = byte_of-carried p b v r unmapped all ∙ same_below 256 (byte_in unmapped) inv_affine unmapped-computed v h
+
+pub ArePlanes-carried : (p b v : ℕ) (r : List (List ℕ)) (ts : List ℕ) → CarryEach 8 p b v r ts → ArePlanes r
+ArePlanes-carried p b v r ts all k h = (carried p b v r ts all k h).len
+
+-- bytes that went through the map make blocks that went through SubBytes
+pub block_of-sub_bytes : (q r : List (List ℕ)) → ((p b : ℕ) → p < 32 → b < 8 → byte_of r p b ≡ sub_byte (byte_of q p b)) → (j : ℕ) → j < 16 → block_of r j ≡ sub_bytes (block_of q j)
+unfolding sub_bytes
+block_of-sub_bytes q r same j h =
+    block_of-is r (λ r c. sub_byte (byte_at (block_of q j) r c)) j (λ row c hr hc.
+    same (16 * (j % 2) + (4 * c + row)) (j / 2) (lane_lt j row c hr hc) (omega arith)
+    ∙ ap sub_byte (sym (byte_at-block_of q j row c hr hc)))
+
+-- ---- the inverse
+
+inv_sub_byte-computed : all_below 256 (λ v. nat_eq (inv_affine (sub_byte (inv_affine v))) (inv_sub_byte v)) ≡ true
+unfolding product product_low inverse affine inv_affine sub_byte inv_sub_byte
+inv_sub_byte-computed = refl
+
+-- the map of SubBytes between two inverses of its affine map
+pub inv_sub_byte-is : (v : ℕ) → v < 256 → inv_affine (sub_byte (inv_affine v)) ≡ inv_sub_byte v
+inv_sub_byte-is = same_below 256 (λ v. inv_affine (sub_byte (inv_affine v))) inv_sub_byte inv_sub_byte-computed
+
+pub block_of-inv_sub_bytes : (q r : List (List ℕ)) → ((p b : ℕ) → p < 32 → b < 8 → byte_of r p b ≡ inv_sub_byte (byte_of q p b)) → (j : ℕ) → j < 16 → block_of r j ≡ inv_sub_bytes (block_of q j)
+unfolding inv_sub_bytes
+block_of-inv_sub_bytes q r same j h =
+    block_of-is r (λ r c. inv_sub_byte (byte_at (block_of q j) r c)) j (λ row c hr hc.
+    same (16 * (j % 2) + (4 * c + row)) (j / 2) (lane_lt j row c hr hc) (omega arith)
+    ∙ ap inv_sub_byte (sym (byte_at-block_of q j row c hr hc)))

@@ -1,0 +1,9 @@
+mod LaneLemmas
+mod GateLemmas
+mod ExchangeLemmas
+mod PlaneLemmas
+mod CircuitLemmas
+mod MoveLemmas
+mod VectorLemmas
+mod BlocksLemmas
+mod UnmixLemmas

@@ -1,0 +1,290 @@
+//! The map of SubBytes (FIPS 197, 5.1.1) as a circuit, that of Boyar and Peralta: the inverse is taken in the subfield of
+//! 16 elements, and the affine map is part of the last sums. A gate works on 256 bytes at once.
+
+ghost use Rattle.std.specs.Prelude.{◌≡◌, ℕ, ◌<◌, List};
+ghost use Rattle.aes_lanes.specs.Planes.{ArePlanes, byte_of, block_of};
+ghost use Rattle.aes_lanes.specs.Circuit.{CarryEach, sums, combined, inverse, products, substituted};
+ghost use Rattle.aes_block.specs.Rounds.{sub_bytes, inv_sub_bytes};
+ghost use Rattle.aes_block.specs.Field.{sub_byte, inv_affine};
+
+use crate::planes::Planes;
+use std::simd::prelude::*;
+
+// The sums of the byte's bits that the rest needs.
+#[inline(always)]
+fn sums(x: &Planes) -> [u8x32; 22]
+    ensures { (p b v : ℕ) (bits : List ℕ) → p < 32 → b < 8 → v < 256 → CarryEach 8 p b v x.now bits → CarryEach 22 p b v result (sums bits) }
+{
+    let [x7, x6, x5, x4, x3, x2, x1, x0] = *x;
+    let y14 = x3 ^ x5;
+    let y13 = x0 ^ x6;
+    let y9 = x0 ^ x3;
+    let y8 = x0 ^ x5;
+    let t0 = x1 ^ x2;
+    let y1 = t0 ^ x7;
+    let y4 = y1 ^ x3;
+    let y12 = y13 ^ y14;
+    let y2 = y1 ^ x0;
+    let y5 = y1 ^ x6;
+    let y3 = y5 ^ y8;
+    let t1 = x4 ^ y12;
+    let y15 = t1 ^ x5;
+    let y20 = t1 ^ x1;
+    let y6 = y15 ^ x7;
+    let y10 = y15 ^ t0;
+    let y11 = y20 ^ y9;
+    let y7 = x7 ^ y11;
+    let y17 = y10 ^ y11;
+    let y19 = y10 ^ y8;
+    let y16 = t0 ^ y11;
+    let y21 = y13 ^ y16;
+    let y18 = x0 ^ y16;
+    [
+        x7, y1, y2, y3, y4, y5, y6, y7, y8, y9, y10, y11, y12, y13, y14, y15, y16, y17, y18, y19,
+        y20, y21,
+    ]
+}
+
+// The element of the subfield whose inverse gives the byte's: two products and sums.
+#[inline(always)]
+fn combined(sums: &[u8x32; 22]) -> [u8x32; 4]
+    ensures { (p b v : ℕ) (sums_bits : List ℕ) → p < 32 → b < 8 → v < 256 → CarryEach 22 p b v sums.now sums_bits → CarryEach 4 p b v result (combined sums_bits) }
+{
+    let [
+        x7,
+        y1,
+        y2,
+        y3,
+        y4,
+        y5,
+        y6,
+        y7,
+        y8,
+        y9,
+        y10,
+        y11,
+        y12,
+        y13,
+        y14,
+        y15,
+        y16,
+        y17,
+        y18,
+        y19,
+        y20,
+        y21,
+    ] = *sums;
+    let t2 = y12 & y15;
+    let t3 = y3 & y6;
+    let t4 = t3 ^ t2;
+    let t5 = y4 & x7;
+    let t6 = t5 ^ t2;
+    let t7 = y13 & y16;
+    let t8 = y5 & y1;
+    let t9 = t8 ^ t7;
+    let t10 = y2 & y7;
+    let t11 = t10 ^ t7;
+    let t12 = y9 & y11;
+    let t13 = y14 & y17;
+    let t14 = t13 ^ t12;
+    let t15 = y8 & y10;
+    let t16 = t15 ^ t12;
+    let t17 = t4 ^ t14;
+    let t18 = t6 ^ t16;
+    let t19 = t9 ^ t14;
+    let t20 = t11 ^ t16;
+    let t21 = t17 ^ y20;
+    let t22 = t18 ^ y19;
+    let t23 = t19 ^ y21;
+    let t24 = t20 ^ y18;
+    [t21, t22, t23, t24]
+}
+
+// The inverse in the subfield of 16 elements, and the sums of its bits.
+#[inline(always)]
+fn inverse(combined: &[u8x32; 4]) -> [u8x32; 9]
+    ensures { (p b v : ℕ) (combined_bits : List ℕ) → p < 32 → b < 8 → v < 256 → CarryEach 4 p b v combined.now combined_bits → CarryEach 9 p b v result (inverse combined_bits) }
+{
+    let [t21, t22, t23, t24] = *combined;
+    let t25 = t21 ^ t22;
+    let t26 = t21 & t23;
+    let t27 = t24 ^ t26;
+    let t28 = t25 & t27;
+    let t29 = t28 ^ t22;
+    let t30 = t23 ^ t24;
+    let t31 = t22 ^ t26;
+    let t32 = t31 & t30;
+    let t33 = t32 ^ t24;
+    let t34 = t23 ^ t33;
+    let t35 = t27 ^ t33;
+    let t36 = t24 & t35;
+    let t37 = t36 ^ t34;
+    let t38 = t27 ^ t36;
+    let t39 = t29 & t38;
+    let t40 = t25 ^ t39;
+    let t41 = t40 ^ t37;
+    let t42 = t29 ^ t33;
+    let t43 = t29 ^ t40;
+    let t44 = t33 ^ t37;
+    let t45 = t42 ^ t41;
+    [t29, t33, t37, t40, t41, t42, t43, t44, t45]
+}
+
+// The products of the inverse's bits and the byte's sums.
+#[inline(always)]
+fn products(sums: &[u8x32; 22], inverse: &[u8x32; 9]) -> [u8x32; 18]
+    ensures { (p b v : ℕ) (sums_bits inverse_bits : List ℕ) → p < 32 → b < 8 → v < 256 → CarryEach 22 p b v sums.now sums_bits → CarryEach 9 p b v inverse.now inverse_bits → CarryEach 18 p b v result (products sums_bits inverse_bits) }
+{
+    let [
+        x7,
+        y1,
+        y2,
+        y3,
+        y4,
+        y5,
+        y6,
+        y7,
+        y8,
+        y9,
+        y10,
+        y11,
+        y12,
+        y13,
+        y14,
+        y15,
+        y16,
+        y17,
+        y18,
+        y19,
+        y20,
+        y21,
+    ] = *sums;
+    let [t29, t33, t37, t40, t41, t42, t43, t44, t45] = *inverse;
+    let z0 = t44 & y15;
+    let z1 = t37 & y6;
+    let z2 = t33 & x7;
+    let z3 = t43 & y16;
+    let z4 = t40 & y1;
+    let z5 = t29 & y7;
+    let z6 = t42 & y11;
+    let z7 = t45 & y17;
+    let z8 = t41 & y10;
+    let z9 = t44 & y12;
+    let z10 = t37 & y3;
+    let z11 = t33 & y4;
+    let z12 = t43 & y13;
+    let z13 = t40 & y5;
+    let z14 = t29 & y2;
+    let z15 = t42 & y9;
+    let z16 = t45 & y14;
+    let z17 = t41 & y8;
+    [
+        z0, z1, z2, z3, z4, z5, z6, z7, z8, z9, z10, z11, z12, z13, z14, z15, z16, z17,
+    ]
+}
+
+// The bits of the sums of the products, with those of the constant 0x63.
+#[inline(always)]
+fn substituted(products: &[u8x32; 18]) -> Planes
+    ensures { (p b v : ℕ) (products_bits : List ℕ) → p < 32 → b < 8 → v < 256 → CarryEach 18 p b v products.now products_bits → CarryEach 8 p b v result (substituted products_bits) }
+{
+    let [
+        z0,
+        z1,
+        z2,
+        z3,
+        z4,
+        z5,
+        z6,
+        z7,
+        z8,
+        z9,
+        z10,
+        z11,
+        z12,
+        z13,
+        z14,
+        z15,
+        z16,
+        z17,
+    ] = *products;
+    let t46 = z15 ^ z16;
+    let t47 = z10 ^ z11;
+    let t48 = z5 ^ z13;
+    let t49 = z9 ^ z10;
+    let t50 = z2 ^ z12;
+    let t51 = z2 ^ z5;
+    let t52 = z7 ^ z8;
+    let t53 = z0 ^ z3;
+    let t54 = z6 ^ z7;
+    let t55 = z16 ^ z17;
+    let t56 = z12 ^ t48;
+    let t57 = t50 ^ t53;
+    let t58 = z4 ^ t46;
+    let t59 = z3 ^ t54;
+    let t60 = t46 ^ t57;
+    let t61 = z14 ^ t57;
+    let t62 = t52 ^ t58;
+    let t63 = t49 ^ t58;
+    let t64 = z4 ^ t59;
+    let t65 = t61 ^ t62;
+    let t66 = z1 ^ t63;
+    let s0 = t59 ^ t63;
+    let s6 = t56 ^ t62;
+    let s7 = t48 ^ t60;
+    let t67 = t64 ^ t65;
+    let s3 = t53 ^ t66;
+    let s4 = t51 ^ t66;
+    let s5 = t47 ^ t65;
+    let s1 = t64 ^ s3;
+    let s2 = t55 ^ t67;
+    let ones = u8x32::splat(0xff);
+    [s7 ^ ones, s6 ^ ones, s5, s4, s3, s2 ^ ones, s1 ^ ones, s0]
+}
+
+// SubBytes (5.1.1).
+#[inline(always)]
+pub(crate) fn sub_bytes(q: &Planes) -> Planes
+    requires { ArePlanes q.now }
+    ensures planes { ArePlanes result }
+    ensures bytes { (p b : ℕ) → p < 32 → b < 8 → byte_of result p b ≡ sub_byte (byte_of q.now p b) }
+    ensures blocks { (j : ℕ) → j < 16 → block_of result j ≡ sub_bytes (block_of q.now j) }
+{
+    let sums = sums(q);
+    let combined = combined(&sums);
+    let inverse = inverse(&combined);
+    let products = products(&sums, &inverse);
+    substituted(&products)
+}
+
+// The inverse of the affine map (5.3.2): each bit is the sum of three and a bit of 0x05.
+#[inline(always)]
+fn inv_affine(q: &Planes) -> Planes
+    requires { ArePlanes q.now }
+    ensures planes { ArePlanes result }
+    ensures bytes { (p b : ℕ) → p < 32 → b < 8 → byte_of result p b ≡ inv_affine (byte_of q.now p b) }
+{
+    let ones = u8x32::splat(0xff);
+    [
+        q[2] ^ q[5] ^ q[7] ^ ones,
+        q[3] ^ q[6] ^ q[0],
+        q[4] ^ q[7] ^ q[1] ^ ones,
+        q[5] ^ q[0] ^ q[2],
+        q[6] ^ q[1] ^ q[3],
+        q[7] ^ q[2] ^ q[4],
+        q[0] ^ q[3] ^ q[5],
+        q[1] ^ q[4] ^ q[6],
+    ]
+}
+
+// InvSubBytes (5.3.2): SubBytes between two inverses of its affine map, since an inverse is its own inverse.
+#[inline(always)]
+pub(crate) fn inv_sub_bytes(q: &Planes) -> Planes
+    requires { ArePlanes q.now }
+    ensures planes { ArePlanes result }
+    ensures blocks { (j : ℕ) → j < 16 → block_of result j ≡ inv_sub_bytes (block_of q.now j) }
+{
+    let summed = inv_affine(q);
+    let inverted = sub_bytes(&summed);
+    inv_affine(&inverted)
+}

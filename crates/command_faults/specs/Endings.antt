@@ -1,0 +1,92 @@
+-- What a command prints where it ends early, and its status.
+use Rattle.std.specs.Prelude.{◌≡◌, ◌≢◌, ℕ, List, [], ◌++◌, codes, decimal, Option}
+use Rattle.std.specs.Io.KnownBytes.{Appends}
+use Rattle.block_device.specs.declared.open_fault.OpenFault.{OpenFault}
+use Rattle.block_device.specs.declared.open_fault.OpenFault.TheVariants as opening
+use Rattle.dm_table.specs.declared.fault.ParseFault.{ParseFault}
+use Rattle.dm_table.specs.declared.fault.ParseFault.TheVariants as parse
+use Rattle.stack_loader.specs.declared.refusal.ConfigFault.{ConfigFault}
+use Rattle.stack_loader.specs.declared.refusal.ConfigFault.TheVariants as config
+use Rattle.stack_loader.specs.declared.refusal.LoadFault.{LoadFault}
+use Rattle.stack_loader.specs.declared.refusal.LoadFault.TheVariants as load
+use Rattle.stack_engine.specs.declared.fault.IoFault.{IoFault}
+use Rattle.stack_engine.specs.declared.fault.IoFault.TheVariants as io
+use Rattle.command_faults.specs.declared.fault.CommandFault.{CommandFault}
+use Rattle.command_faults.specs.declared.fault.CommandFault.TheVariants.{Usage, NoMemory, TooLong, Open, Leaves, Text, Load, Submit, Io, Format, Verify, Differs, Random, Session}
+use Rattle.stack_session.specs.declared.fault.SessionFault.TheVariants.{WriteFault}
+use Rattle.verity_format.specs.declared.verifying.VerifyFault.{VerifyFault}
+use Rattle.verity_format.specs.declared.verifying.Verdict.{Verdict}
+use Rattle.verity_format.specs.declared.verifying.Verdict.TheVariants as verdicts
+use Rattle.command_faults.specs.VerityTexts.{format_text, verify_text, verdict_text}
+use Rattle.block_device.specs.OpenFault.{open_number, open_name}
+use Rattle.stack_loader.specs.FaultKinds.{config_number, config_name}
+use Rattle.stack_session.specs.Texts.{usage_text, no_memory, fault_text, refusal_text, submit_text, io_text}
+
+-- how a command ends where a text has a fault, and where a load is refused
+abbrev pub text_ending : ParseFault → CommandFault
+text_ending (parse.Text fault) = Text fault
+text_ending parse.NoMemory = NoMemory
+
+abbrev pub load_ending : LoadFault → CommandFault
+load_ending (load.Refused refusal) = Load refusal
+load_ending load.NoMemory = NoMemory
+
+-- a file that isn't opened, with its path
+abbrev pub open_text : OpenFault → List ℕ → List ℕ
+open_text opening.NoMemory path = no_memory
+open_text fault path = codes "refused " ++ (decimal (open_number fault) ++ (codes " " ++ (open_name fault ++ (codes " " ++ (path ++ codes "\n")))))
+
+-- leaves that aren't taken
+abbrev pub config_text : ConfigFault → List ℕ
+config_text config.NoMemory = no_memory
+config_text fault = codes "refused " ++ (decimal (config_number fault) ++ (codes " " ++ (config_name fault ++ codes "\n")))
+
+-- what is printed of it; a session's own faults print nothing
+abbrev pub ending_text : CommandFault → List ℕ
+ending_text Usage = usage_text
+ending_text NoMemory = no_memory
+ending_text TooLong = codes "refused input\n"
+ending_text (Open fault path) = open_text fault path.now
+ending_text (Leaves fault) = config_text fault
+ending_text (Text fault) = fault_text fault
+ending_text (Load refusal) = refusal_text refusal
+ending_text (Submit fault) = submit_text fault
+ending_text (Io fault) = io_text fault
+ending_text (Format fault) = format_text fault
+ending_text (Verify fault) = verify_text fault
+ending_text (Differs verdict) = verdict_text verdict
+ending_text Random = codes "refused random\n"
+ending_text (Session fault) = []
+
+-- 2 for words that are no command, 3 for a fault of the stack and for images that differ, else 1
+abbrev pub ending_status : CommandFault → ℕ
+ending_status Usage = 2
+ending_status (Io io.NoMemory) = 1
+ending_status (Io fault) = 3
+ending_status (Differs verdict) = 3
+ending_status fault = 1
+
+-- its text was printed, and its status answered
+abbrev pub IsEnd : CommandFault → Option (List ℕ) → Option (List ℕ) → ℕ → Type 0
+IsEnd fault old new status = (status ≡ ending_status fault) × Appends old new (ending_text fault)
+
+-- want of memory, or a line that can't be written: these may end a command at any time
+abbrev pub MayEnd : CommandFault → Type 0
+MayEnd NoMemory = Unit {0}
+MayEnd (Session fault) = fault ≡ WriteFault
+MayEnd fault = ⊥
+
+-- a fault of reading a superblock with its cause, or want of memory, or a line that can't be written
+abbrev pub IsVerifyEnd : (VerifyFault → Type 0) → CommandFault → Type 0
+IsVerifyEnd Cause (Verify fault) = Cause fault
+IsVerifyEnd Cause fault = MayEnd fault
+
+-- the same of a comparison, or the difference that was found
+abbrev pub IsComparisonEnd : (VerifyFault → Type 0) → (Verdict → Type 0) → CommandFault → Type 0
+IsComparisonEnd Cause Finding (Differs verdict) = (verdict ≢ verdicts.Matches) × Finding verdict
+IsComparisonEnd Cause Finding fault = IsVerifyEnd Cause fault
+
+-- nothing is written ahead of what ends a command, unless it is the writing that fails
+abbrev pub IsQuiet : CommandFault → Option (List ℕ) → Option (List ℕ) → Type 0
+IsQuiet (Session fault) old new = Unit {0}
+IsQuiet fault old new = new ≡ old

@@ -1,0 +1,4 @@
+pub mod Endings
+pub mod OneFile
+pub mod Opened
+pub mod VerityTexts

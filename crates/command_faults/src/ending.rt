@@ -1,0 +1,152 @@
+// How a command ends early: what is printed, and the status.
+ghost use Rattle.std.specs.Prelude.{true, ◌≡◌, ◌⊎◌};
+ghost use Rattle.stack_session.specs.Counted.{Writes};
+ghost use Rattle.command_faults.specs.Endings.{IsEnd, config_text, ending_status, ending_text, open_text};
+ghost use Rattle.command_faults.specs.VerityTexts.{format_text, super_text, verdict_text, verify_text};
+
+use crate::fault::CommandFault;
+use block_device::OpenFault;
+use stack_engine::IoFault;
+use stack_loader::ConfigFault;
+use stack_session::{
+    Counted, WriteFault, say_io_fault, say_no_memory, say_refusal, say_submit_fault,
+    say_text_fault, say_usage,
+};
+use std::io::Write;
+use verity_format::{FormatFault, SuperFault, Verdict, VerifyFault};
+
+const REFUSED: u8 = 1;
+
+const USAGE: u8 = 2;
+
+const FAULT: u8 = 3;
+
+/// Prints why a command ends early, and answers its status: 1 where that can't be written.
+pub fn end<W: Write>(writer: &mut Counted<W>, fault: CommandFault<'_>) -> u8
+    ensures { IsEnd fault.entry (W.contents writer.old.inner) (W.contents writer.new.inner) result ⊎ ((result ≡ 1) × (writer.new.failed ≡ true)) }
+{
+    match say_fault(writer, fault) {
+        Ok(()) => status_of(fault),
+        Err(_) => REFUSED,
+    }
+}
+
+// 1 refused, 2 usage, 3 a fault of the stack or images that differ.
+fn status_of(fault: CommandFault<'_>) -> u8
+    ensures { result ≡ ending_status fault.entry }
+{
+    match fault {
+        CommandFault::Usage => USAGE,
+        CommandFault::Io(IoFault::NoMemory) => REFUSED,
+        CommandFault::Io(_) => FAULT,
+        CommandFault::Differs(_) => FAULT,
+        _ => REFUSED,
+    }
+}
+
+// One line, or none where the session itself failed.
+fn say_fault<W: Write>(writer: &mut Counted<W>, fault: CommandFault<'_>) -> Result<(), WriteFault>
+    ensures { Writes W.contents writer.old writer.new (ending_text fault.entry) result }
+{
+    match fault {
+        CommandFault::Usage => say_usage(writer),
+        CommandFault::NoMemory => say_no_memory(writer),
+        CommandFault::TooLong => writer.put(b"refused input\n"),
+        CommandFault::Open { fault, path } => say_open_fault(writer, fault, path),
+        CommandFault::Leaves(fault) => say_config_fault(writer, fault),
+        CommandFault::Text(fault) => say_text_fault(writer, fault),
+        CommandFault::Load(refusal) => say_refusal(writer, refusal),
+        CommandFault::Submit(fault) => say_submit_fault(writer, fault),
+        CommandFault::Io(fault) => say_io_fault(writer, fault),
+        CommandFault::Format(fault) => say_format_fault(writer, fault),
+        CommandFault::Verify(fault) => say_verify_fault(writer, fault),
+        CommandFault::Differs(verdict) => say_verdict(writer, verdict),
+        CommandFault::Random => writer.put(b"refused random\n"),
+        CommandFault::Session(_) => Ok(()),
+    }
+}
+
+// `refused K NAME PATH`
+fn say_open_fault<W: Write>(
+    writer: &mut Counted<W>,
+    fault: OpenFault,
+    path: &str,
+) -> Result<(), WriteFault>
+    ensures { Writes W.contents writer.old writer.new (open_text fault path.now) result }
+{
+    if fault == OpenFault::NoMemory {
+        return say_no_memory(writer);
+    }
+    let number = fault.number();
+    let name = fault.name();
+    writer.print(format_args!("refused {number} {name} {path}\n"))
+}
+
+// `refused K NAME`
+fn say_config_fault<W: Write>(writer: &mut Counted<W>, fault: ConfigFault) -> Result<(), WriteFault>
+    ensures { Writes W.contents writer.old writer.new (config_text fault) result }
+{
+    if fault == ConfigFault::NoMemory {
+        return say_no_memory(writer);
+    }
+    let number = fault.number();
+    let name = fault.name();
+    writer.print(format_args!("refused {number} {name}\n"))
+}
+
+// `refused K NAME`, and what a hash image needs.
+fn say_format_fault<W: Write>(writer: &mut Counted<W>, fault: FormatFault) -> Result<(), WriteFault>
+    ensures { Writes W.contents writer.old writer.new (format_text fault) result }
+{
+    match fault {
+        FormatFault::Shape => writer.put(b"refused 1 Shape\n"),
+        FormatFault::DataTooSmall => writer.put(b"refused 2 DataTooSmall\n"),
+        FormatFault::HashTooSmall { needed } => {
+            writer.print(format_args!("refused 3 HashTooSmall needed {needed}\n"))
+        }
+        FormatFault::HashReadOnly => writer.put(b"refused 4 HashReadOnly\n"),
+        FormatFault::Device => writer.put(b"refused 5 Device\n"),
+        FormatFault::NoMemory => say_no_memory(writer),
+    }
+}
+
+// `refused K NAME`
+fn say_verify_fault<W: Write>(writer: &mut Counted<W>, fault: VerifyFault) -> Result<(), WriteFault>
+    ensures { Writes W.contents writer.old writer.new (verify_text fault) result }
+{
+    match fault {
+        VerifyFault::Super(fault) => say_super_fault(writer, fault),
+        VerifyFault::TooSmall => writer.put(b"refused 9 TooSmall\n"),
+        VerifyFault::Device => writer.put(b"refused 10 Device\n"),
+        VerifyFault::NoMemory => say_no_memory(writer),
+    }
+}
+
+// `refused K NAME`
+fn say_super_fault<W: Write>(writer: &mut Counted<W>, fault: SuperFault) -> Result<(), WriteFault>
+    ensures { Writes W.contents writer.old writer.new (super_text fault) result }
+{
+    match fault {
+        SuperFault::Signature => writer.put(b"refused 1 Signature\n"),
+        SuperFault::Version => writer.put(b"refused 2 Version\n"),
+        SuperFault::HashType => writer.put(b"refused 3 HashType\n"),
+        SuperFault::Algorithm => writer.put(b"refused 4 Algorithm\n"),
+        SuperFault::DataBlockSize => writer.put(b"refused 5 DataBlockSize\n"),
+        SuperFault::HashBlockSize => writer.put(b"refused 6 HashBlockSize\n"),
+        SuperFault::DataBlocks => writer.put(b"refused 7 DataBlocks\n"),
+        SuperFault::SaltSize => writer.put(b"refused 8 SaltSize\n"),
+    }
+}
+
+/// `matches`, `root differs`, or `area differs at block N`
+pub fn say_verdict<W: Write>(writer: &mut Counted<W>, verdict: Verdict) -> Result<(), WriteFault>
+    ensures { Writes W.contents writer.old writer.new (verdict_text verdict) result }
+{
+    match verdict {
+        Verdict::Matches => writer.put(b"matches\n"),
+        Verdict::RootDiffers => writer.put(b"root differs\n"),
+        Verdict::AreaDiffers(block) => {
+            writer.print(format_args!("area differs at block {block}\n"))
+        }
+    }
+}

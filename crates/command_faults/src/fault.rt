@@ -1,0 +1,133 @@
+// Why a command of the program ends early.
+ghost use Rattle.std.specs.Prelude.{◌≡◌};
+ghost use Rattle.command_faults.specs.declared.fault.CommandFault.TheVariants as command_fault;
+ghost use Rattle.stack_session.specs.declared.fault.SessionFault.TheVariants as session_fault;
+ghost use Rattle.command_faults.specs.Endings.{load_ending, text_ending};
+
+use block_device::OpenFault;
+use dm_table::{ParseFault, TextFault};
+use request_queue::SubmitFault;
+use stack_engine::IoFault;
+use stack_loader::{ConfigFault, LoadFault, Refusal};
+use stack_session::{SessionFault, WriteFault};
+use std::alloc::{AllocError, AllocFailed};
+use verity_format::{FormatFault, Verdict, VerifyFault};
+
+/// Why a command ends early.
+#[derive(Clone, Copy, Debug, PartialEq, Eq)]
+pub enum CommandFault<'a> {
+    /// The words are no command.
+    Usage,
+    /// Memory ran out.
+    NoMemory,
+    /// A stack file has more than 1 MiB.
+    TooLong,
+    /// A file isn't opened, or can't be read.
+    Open { fault: OpenFault, path: &'a str },
+    /// The leaves aren't taken.
+    Leaves(ConfigFault),
+    /// The stack text has a fault.
+    Text(TextFault),
+    /// The stack isn't loaded.
+    Load(Refusal),
+    /// The sectors can't be asked for.
+    Submit(SubmitFault),
+    /// The stack answered a fault.
+    Io(IoFault),
+    /// The image isn't made.
+    Format(FormatFault),
+    /// The images aren't compared, or there is no superblock.
+    Verify(VerifyFault),
+    /// The images were compared and differ.
+    Differs(Verdict),
+    /// There are no random bytes.
+    Random,
+    /// The session failed, or a line can't be written.
+    Session(SessionFault),
+}
+
+impl From<AllocError> for CommandFault<'_> {
+    ghost from_gives = { λ _ fault. fault ≡ command_fault.NoMemory };
+
+    fn from(_error: AllocError) -> Self {
+        CommandFault::NoMemory
+    }
+}
+
+impl<T: Drop> From<AllocFailed<T>> for CommandFault<'_> {
+    ghost from_gives = { λ _ fault. fault ≡ command_fault.NoMemory };
+
+    fn from(_refused: AllocFailed<T>) -> Self {
+        CommandFault::NoMemory
+    }
+}
+
+impl From<ConfigFault> for CommandFault<'_> {
+    ghost from_gives = { λ fault given. given ≡ command_fault.Leaves fault };
+
+    fn from(fault: ConfigFault) -> Self {
+        CommandFault::Leaves(fault)
+    }
+}
+
+impl From<ParseFault> for CommandFault<'_> {
+    ghost from_gives = { λ fault given. given ≡ text_ending fault };
+
+    fn from(fault: ParseFault) -> Self {
+        match fault {
+            ParseFault::Text(fault) => CommandFault::Text(fault),
+            ParseFault::NoMemory => CommandFault::NoMemory,
+        }
+    }
+}
+
+impl From<LoadFault> for CommandFault<'_> {
+    ghost from_gives = { λ fault given. given ≡ load_ending fault };
+
+    fn from(fault: LoadFault) -> Self {
+        match fault {
+            LoadFault::Refused(refusal) => CommandFault::Load(refusal),
+            LoadFault::NoMemory => CommandFault::NoMemory,
+        }
+    }
+}
+
+impl From<IoFault> for CommandFault<'_> {
+    ghost from_gives = { λ fault given. given ≡ command_fault.Io fault };
+
+    fn from(fault: IoFault) -> Self {
+        CommandFault::Io(fault)
+    }
+}
+
+impl From<FormatFault> for CommandFault<'_> {
+    ghost from_gives = { λ fault given. given ≡ command_fault.Format fault };
+
+    fn from(fault: FormatFault) -> Self {
+        CommandFault::Format(fault)
+    }
+}
+
+impl From<VerifyFault> for CommandFault<'_> {
+    ghost from_gives = { λ fault given. given ≡ command_fault.Verify fault };
+
+    fn from(fault: VerifyFault) -> Self {
+        CommandFault::Verify(fault)
+    }
+}
+
+impl From<SessionFault> for CommandFault<'_> {
+    ghost from_gives = { λ fault given. given ≡ command_fault.Session fault };
+
+    fn from(fault: SessionFault) -> Self {
+        CommandFault::Session(fault)
+    }
+}
+
+impl From<WriteFault> for CommandFault<'_> {
+    ghost from_gives = { λ _ given. given ≡ command_fault.Session session_fault.WriteFault };
+
+    fn from(_fault: WriteFault) -> Self {
+        CommandFault::Session(SessionFault::WriteFault)
+    }
+}

@@ -1,0 +1,26 @@
+-- What `format` makes and prints, and how it ends early.
+use Rattle.std.specs.Prelude.{◌≡◌, ℕ, List, ◌++◌, Ok, Err}
+use Rattle.block_device.specs.Device.{Device}
+use Rattle.verity_format.specs.declared.formatting.FormatOptions.{FormatOptions}
+use Rattle.verity_format.specs.Formatting.{IsFormatting, given_blocks}
+use Rattle.verity_format.specs.Options.{superblock_with}
+use Rattle.command_faults.specs.declared.fault.CommandFault.{CommandFault}
+use Rattle.command_faults.specs.declared.fault.CommandFault.TheVariants.{Format}
+use Rattle.image_commands.specs.declared.format.MadeImage.{MadeImage}
+use Rattle.image_commands.specs.SuperblockTexts.{blocks_text, root_text, salt_text, uuid_text}
+
+-- an image's root digest, salt, identifier and number of data blocks
+unfoldable pub made_text : MadeImage → List ℕ
+made_text made = root_text made.root ++ (salt_text made.salt ++ (uuid_text made.uuid ++ blocks_text made.blocks))
+
+-- the hash device was formatted over the data device, and that is what was made
+pub record IsMade (options : FormatOptions) (data_dev hash_dev data_dev' hash_dev' : Device) (made : MadeImage) : Type 0 where
+  pub formatting : IsFormatting (superblock_with options data_dev.size) data_dev hash_dev data_dev' hash_dev' (Ok made.root)
+  pub salt : made.salt ≡ options.salt
+  pub uuid : made.uuid ≡ options.uuid
+  pub blocks : made.blocks ≡ given_blocks options.blocks options.data_block data_dev.size
+
+-- it was refused, or not finished
+abbrev pub IsFormatEnd : FormatOptions → Device → Device → Device → Device → CommandFault → Type 0
+IsFormatEnd options data_dev hash_dev data_dev' hash_dev' (Format fault) = IsFormatting (superblock_with options data_dev.size) data_dev hash_dev data_dev' hash_dev' (Err fault)
+IsFormatEnd options data_dev hash_dev data_dev' hash_dev' fault = ⊥

@@ -1,0 +1,166 @@
+// The command `format`: makes a hash image over a data image.
+ghost use Rattle.std.specs.Prelude.{false, true, ◌≡◌, IfErr, IfOk, OnOk};
+ghost use Rattle.block_device.specs.FileId.{file_id};
+ghost use Rattle.command_faults.specs.OneFile.{is_one_file};
+ghost use Rattle.verity_format.specs.Formatting.{given_blocks, whole_blocks};
+ghost use Rattle.stack_session.specs.Counted.{Writes};
+ghost use Rattle.command_faults.specs.Endings.{IsQuiet};
+ghost use Rattle.command_faults.specs.Opened.{IsOpened, IsUnopened};
+ghost use Rattle.image_commands.specs.Formats.{IsFormatEnd, IsMade, made_text};
+ghost use Rattle.image_commands.specs.ImageCommands.{AreGiven, IsFormatFilesEnd, PrintsMade};
+
+use crate::options::ImageOptions;
+use crate::random::draw;
+use crate::superblock_text::{say_blocks, say_root, say_salt, say_uuid};
+use block_device::{BlockDev, FileDev, OpenFault};
+use command_faults::{CommandFault, is_one_file, open_file};
+use hash_tree::Salt;
+use rand::make_rng;
+use rand::rngs::StdRng;
+use stack_session::{Counted, WriteFault};
+use std::alloc::Global;
+use std::fs::File;
+use std::io::Write;
+use std::random::RandomSource;
+use std::rt::Files;
+use verity_format::{FormatFault, FormatOptions, format_with};
+
+/// What was made: the root digest, and what else is printed of the image.
+#[derive(Clone, Copy)]
+pub struct MadeImage {
+    pub root: [u8; 32],
+    pub salt: Salt,
+    pub uuid: [u8; 16],
+    pub blocks: u64,
+}
+
+/// `format [OPTIONS] DATA HASH`: formats the hash image, and writes its root, salt, identifier and number of blocks.
+/// The hash image is synced before anything is written.
+#[tactic(auto, using(command_faults::proofs::lemmas::EndingLemmas::quiet))]
+pub fn format_files<'a, R: Files<File = File> + AllocGlobal + RandomSource, W: Write>(
+    rt: &R,
+    options: ImageOptions,
+    data_path: &'a str,
+    hash_path: &'a str,
+    writer: &mut Counted<W>,
+) -> Result<(), CommandFault<'a>>
+    ensures ok { OnOk result (PrintsMade options (W.contents writer.old.inner) (W.contents writer.new.inner)) }
+    ensures err { IfErr result (IsFormatFilesEnd data_path.now hash_path.now options) }
+    ensures quiet { IfErr result (λ fault. IsQuiet fault (W.contents writer.old.inner) (W.contents writer.new.inner)) }
+{
+    let mut data_dev = open_file(rt, data_path, false)?;
+    let mut hash_dev = open_hash(rt, hash_path, &data_dev)?;
+    let options = given_or_drawn(rt, options)?;
+    let made = make(rt.alloc(), &mut data_dev, &mut hash_dev, options)?;
+    match hash_dev.sync() {
+        Ok(()) => Ok(say_made(writer, &made)?),
+        Err(_) => Err(CommandFault::Format(FormatFault::Device)),
+    }
+}
+
+// The hash image, which may not be the data image.
+fn open_hash<'a, R: Files<File = File>>(
+    rt: &R,
+    path: &'a str,
+    data_dev: &FileDev,
+) -> Result<FileDev, CommandFault<'a>>
+    ensures opened { IfOk result (λ hash_dev. IsOpened (⟦<FileDev as BlockDev>⟧.state hash_dev) true) }
+    ensures apart { IfOk result (λ hash_dev. is_one_file (file_id data_dev.now) (file_id hash_dev) ≡ false) }
+    ensures err { IfErr result (IsUnopened path.now) }
+{
+    let hash_dev = open_file(rt, path, true)?;
+    if is_one_file(data_dev.id(), hash_dev.id()) {
+        let fault = OpenFault::SameFile;
+        return Err(CommandFault::Open { fault, path });
+    }
+    Ok(hash_dev)
+}
+
+// Formats the hash device over the data device.
+fn make<'a, D: BlockDev, H: BlockDev>(
+    alloc: Global,
+    data_dev: &mut D,
+    hash_dev: &mut H,
+    options: FormatOptions,
+) -> Result<MadeImage, CommandFault<'a>>
+    ensures ok { IfOk result (IsMade options (D.state data_dev.old) (H.state hash_dev.old) (D.state data_dev.new) (H.state hash_dev.new)) }
+    ensures err { IfErr result (IsFormatEnd options (D.state data_dev.old) (H.state hash_dev.old) (D.state data_dev.new) (H.state hash_dev.new)) }
+{
+    let blocks = given_blocks(options.blocks, options.data_block, data_dev.sectors());
+    let salt = options.salt;
+    let uuid = options.uuid;
+    match format_with(alloc, data_dev, hash_dev, options) {
+        Ok(root) => Ok(MadeImage {
+            root,
+            salt,
+            uuid,
+            blocks,
+        }),
+        Err(fault) => Err(CommandFault::Format(fault)),
+    }
+}
+
+// The number of blocks that is given, or all whole blocks of that size in so many sectors.
+fn given_blocks(blocks: Option<u64>, size: u32, sectors: u64) -> u64
+    ensures { result ≡ given_blocks blocks size sectors }
+{
+    match blocks {
+        Some(count) => count,
+        None => whole_blocks(sectors, size),
+    }
+}
+
+// How many blocks of that size there are in so many sectors.
+fn whole_blocks(sectors: u64, size: u32) -> u64
+    ensures { result ≡ whole_blocks sectors size }
+{
+    if size < 512 {
+        return 0;
+    }
+    sectors / u64::from(size / 512)
+}
+
+#[tactic(auto, unfolding(crate::specs::Formats::made_text))]
+fn say_made<W: Write>(writer: &mut Counted<W>, made: &MadeImage) -> Result<(), WriteFault>
+    ensures { Writes W.contents writer.old writer.new (made_text made.now) result }
+{
+    say_root(writer, &made.root)?;
+    say_salt(writer, made.salt.bytes())?;
+    say_uuid(writer, &made.uuid)?;
+    say_blocks(writer, made.blocks)
+}
+
+// The options with a salt and an identifier. One draw gives what is missing.
+fn given_or_drawn<'a, R: RandomSource>(
+    rt: &R,
+    options: ImageOptions,
+) -> Result<FormatOptions, CommandFault<'a>>
+    ensures ok { IfOk result (AreGiven options) }
+    ensures err { IfErr result (λ fault. fault ≡ CommandFault.Random) }
+{
+    let ImageOptions {
+        data_block,
+        hash_block,
+        blocks,
+        salt,
+        uuid,
+    } = options;
+    let (salt, uuid) = match (salt, uuid) {
+        (Some(salt), Some(uuid)) => (salt, uuid),
+        (salt, uuid) => {
+            let mut random: StdRng = match make_rng(rt) {
+                Ok(random) => random,
+                Err(_) => return Err(CommandFault::Random),
+            };
+            let (drawn_salt, drawn_uuid) = draw(&mut random);
+            (salt.unwrap_or(drawn_salt), uuid.unwrap_or(drawn_uuid))
+        }
+    };
+    Ok(FormatOptions {
+        uuid,
+        data_block,
+        hash_block,
+        blocks,
+        salt,
+    })
+}

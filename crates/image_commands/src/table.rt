@@ -1,0 +1,72 @@
+// The command `table`: the table line of a hash image.
+ghost use Rattle.std.specs.Prelude.{◌≡◌, OnOk, IfErr};
+ghost use Rattle.block_device.specs.Device.{Device};
+ghost use Rattle.verity_format.specs.Blocks.{IsOnlyRead};
+ghost use Rattle.verity_format.specs.Verifying.{IsReadCause};
+ghost use Rattle.command_faults.specs.Endings.{IsQuiet, IsVerifyEnd};
+ghost use Rattle.image_commands.specs.ImageCommands.{IsSuperblockEnd, PrintsSuperblock};
+ghost use Rattle.image_commands.specs.SuperblockTexts.{SaysSuperblock, line_text};
+
+use block_device::BlockDev;
+use command_faults::{CommandFault, open_file};
+use stack_session::Counted;
+use std::alloc::Global;
+use std::fs::File;
+use std::io::Write;
+use std::rt::Files;
+use verity_format::{read_superblock, table_line};
+
+/// What a table line names beside the image: the root digest, and the device arguments of data and hashes.
+#[derive(Clone, Copy)]
+pub struct LineWords<'a> {
+    pub root: &'a [u8; 32],
+    pub data_name: &'a str,
+    pub hash_name: &'a str,
+}
+
+/// `table HASH ROOT DATANAME HASHNAME`: the table line of the file.
+#[tactic(auto, using(command_faults::proofs::lemmas::EndingLemmas::quiet))]
+pub fn print_table_of_file<'a, R: Files<File = File> + AllocGlobal, W: Write>(
+    rt: &R,
+    hash: &'a str,
+    words: LineWords<'_>,
+    writer: &mut Counted<W>,
+) -> Result<(), CommandFault<'a>>
+    ensures ok { OnOk result (PrintsSuperblock (λ s. line_text s words.entry.data_name.now words.entry.hash_name.now words.entry.root.now) (W.contents writer.old.inner) (W.contents writer.new.inner)) }
+    ensures err { IfErr result (IsSuperblockEnd hash.now) }
+    ensures quiet { IfErr result (λ fault. IsQuiet fault (W.contents writer.old.inner) (W.contents writer.new.inner)) }
+{
+    let mut hash_dev = open_file(rt, hash, false)?;
+    print_table(rt.alloc(), &mut hash_dev, words, writer)
+}
+
+// Writes the table line by the device's superblock.
+#[tactic(auto, using(command_faults::proofs::lemmas::EndingLemmas::quiet))]
+fn print_table<'a, H: BlockDev, W: Write>(
+    alloc: Global,
+    hash_dev: &mut H,
+    words: LineWords<'_>,
+    writer: &mut Counted<W>,
+) -> Result<(), CommandFault<'a>>
+    ensures read { IsOnlyRead (H.state hash_dev.old) (H.state hash_dev.new) }
+    ensures ok { OnOk result (SaysSuperblock (H.state hash_dev.old) (λ s. line_text s words.entry.data_name.now words.entry.hash_name.now words.entry.root.now) (W.contents writer.old.inner) (W.contents writer.new.inner)) }
+    ensures err { IfErr result (IsVerifyEnd (IsReadCause (H.state hash_dev.old) (H.state hash_dev.new))) }
+    ensures quiet { IfErr result (λ fault. IsQuiet fault (W.contents writer.old.inner) (W.contents writer.new.inner)) }
+{
+    let LineWords {
+        root,
+        data_name,
+        hash_name,
+    } = words;
+    let superblock = read_superblock(hash_dev)?;
+    let mut line = table_line(
+        alloc,
+        &superblock,
+        data_name.as_bytes(),
+        hash_name.as_bytes(),
+        root,
+    )?;
+    line.push(b'\n')?;
+    writer.put(line.as_slice())?;
+    Ok(())
+}

@@ -1,0 +1,60 @@
+// The command `verify`: compares a hash image with a data image.
+ghost use Rattle.std.specs.Prelude.{◌≡◌, OnOk, IfErr, codes};
+ghost use Rattle.std.specs.Io.KnownBytes.{Appends};
+ghost use Rattle.block_device.specs.Device.{Device};
+ghost use Rattle.verity_format.specs.Blocks.{IsOnlyRead};
+ghost use Rattle.verity_format.specs.Verifying.{IsFound, IsVerifyCause};
+ghost use Rattle.command_faults.specs.Endings.{IsComparisonEnd, IsQuiet};
+ghost use Rattle.image_commands.specs.ImageCommands.{IsVerifyFilesEnd, PrintsMatches};
+
+use block_device::BlockDev;
+use command_faults::{CommandFault, open_file};
+use stack_session::Counted;
+use std::alloc::Global;
+use std::fs::File;
+use std::io::Write;
+use std::rt::Files;
+use verity_format::{Verdict, verify};
+
+/// `verify DATA HASH ROOT`: `matches`; a difference is the fault `Differs`.
+#[tactic(auto, using(command_faults::proofs::lemmas::EndingLemmas::quiet))]
+pub fn verify_files<'a, R: Files<File = File> + AllocGlobal, W: Write>(
+    rt: &R,
+    data_path: &'a str,
+    hash_path: &'a str,
+    root: &[u8; 32],
+    writer: &mut Counted<W>,
+) -> Result<(), CommandFault<'a>>
+    ensures ok { OnOk result (PrintsMatches root.now (W.contents writer.old.inner) (W.contents writer.new.inner)) }
+    ensures err { IfErr result (IsVerifyFilesEnd data_path.now hash_path.now root.now) }
+    ensures quiet { IfErr result (λ fault. IsQuiet fault (W.contents writer.old.inner) (W.contents writer.new.inner)) }
+{
+    let mut data_dev = open_file(rt, data_path, false)?;
+    let mut hash_dev = open_file(rt, hash_path, false)?;
+    compare(rt.alloc(), &mut data_dev, &mut hash_dev, root, writer)
+}
+
+// Compares the tree over the data device with the one on the hash device.
+#[tactic(auto, using(command_faults::proofs::lemmas::EndingLemmas::quiet))]
+fn compare<'a, D: BlockDev, H: BlockDev, W: Write>(
+    alloc: Global,
+    data_dev: &mut D,
+    hash_dev: &mut H,
+    root: &[u8; 32],
+    writer: &mut Counted<W>,
+) -> Result<(), CommandFault<'a>>
+    ensures read { IsOnlyRead (D.state data_dev.old) (D.state data_dev.new) × IsOnlyRead (H.state hash_dev.old) (H.state hash_dev.new) }
+    ensures ok { OnOk result (IsFound (D.state data_dev.old) (H.state hash_dev.old) (D.state data_dev.new) (H.state hash_dev.new) root.now Verdict.Matches
+        × Appends (W.contents writer.old.inner) (W.contents writer.new.inner) (codes "matches\n")) }
+    ensures err { IfErr result (IsComparisonEnd (IsVerifyCause (D.state data_dev.old) (H.state hash_dev.old) (D.state data_dev.new) (H.state hash_dev.new))
+        (IsFound (D.state data_dev.old) (H.state hash_dev.old) (D.state data_dev.new) (H.state hash_dev.new) root.now)) }
+    ensures quiet { IfErr result (λ fault. IsQuiet fault (W.contents writer.old.inner) (W.contents writer.new.inner)) }
+{
+    match verify(alloc, data_dev, hash_dev, root)? {
+        Verdict::Matches => {
+            writer.put(b"matches\n")?;
+            Ok(())
+        }
+        verdict => Err(CommandFault::Differs(verdict)),
+    }
+}

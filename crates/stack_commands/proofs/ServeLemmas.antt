@@ -1,0 +1,55 @@
+-- Sessions that end early.
+use Rattle.std.proofs.Common.{◌≡◌, List, [], ◌∷◌, refl, subst, inl, inr, Result}
+use Rattle.block_device.specs.Device.{Device}
+use Rattle.stack_loader.specs.Records.{LeafRecord}
+use Rattle.stack_engine.specs.declared.fault.IoFault.{IoFault}
+use Rattle.stack_engine.specs.Pieces.{stack_over}
+use Rattle.request_queue.specs.World.{World}
+use Rattle.stack_session.specs.declared.fault.SessionFault.{SessionFault}
+use Rattle.stack_session.specs.QueueSessions.{IsQueueSession}
+use Rattle.stack_session.specs.Session.{Streams}
+use Rattle.command_faults.specs.declared.fault.CommandFault.{CommandFault}
+use Rattle.command_faults.specs.declared.fault.CommandFault.TheVariants.{Usage, NoMemory, TooLong, Open, Leaves, Text, Load, Submit, Io, Format, Verify, Differs, Random, Session}
+use Rattle.stack_commands.specs.Bindings.{AreBound, BindingRecord}
+use Rattle.stack_commands.specs.Configuration.{leaves_alone}
+use Rattle.stack_commands.specs.Openings.{IsBindingEnd}
+use Rattle.stack_commands.specs.Requests.{new_world}
+use Rattle.stack_commands.specs.StackCommands.{IsServeEnd, Serves}
+
+no-io : (bindings : List BindingRecord) (fault : IoFault) → IsBindingEnd bindings (Io fault) → ⊥
+no-io [] fault ends = ends
+no-io (b ∷ bs) fault (inl ends) = ends
+no-io (b ∷ bs) fault (inr ends) = no-io bs fault ends
+
+no-session : (bindings : List BindingRecord) (fault : SessionFault) → IsBindingEnd bindings (Session fault) → ⊥
+no-session [] fault ends = ends
+no-session (b ∷ bs) fault (inl ends) = ends
+no-session (b ∷ bs) fault (inr ends) = no-session bs fault ends
+
+-- a binding that isn't opened, before anything is read or written
+pub IsServeEnd-unopened : (bindings : List BindingRecord) (s : Streams) (fault : CommandFault) → IsBindingEnd bindings fault → IsServeEnd bindings s s fault
+IsServeEnd-unopened bindings s Usage ends = (refl, inl ends)
+IsServeEnd-unopened bindings s NoMemory ends = (refl, inl ends)
+IsServeEnd-unopened bindings s TooLong ends = (refl, inl ends)
+IsServeEnd-unopened bindings s (Open fault path) ends = (refl, inl ends)
+IsServeEnd-unopened bindings s (Leaves fault) ends = (refl, inl ends)
+IsServeEnd-unopened bindings s (Text fault) ends = (refl, inl ends)
+IsServeEnd-unopened bindings s (Load refusal) ends = (refl, inl ends)
+IsServeEnd-unopened bindings s (Submit fault) ends = (refl, inl ends)
+IsServeEnd-unopened bindings s (Io fault) ends = absurd (no-io bindings fault ends)
+IsServeEnd-unopened bindings s (Format fault) ends = (refl, inl ends)
+IsServeEnd-unopened bindings s (Verify fault) ends = (refl, inl ends)
+IsServeEnd-unopened bindings s (Differs verdict) ends = (refl, inl ends)
+IsServeEnd-unopened bindings s Random ends = (refl, inl ends)
+IsServeEnd-unopened bindings s (Session fault) ends = absurd (no-session bindings fault ends)
+
+-- a session over a new queue
+pub Serves-new : (bindings : List BindingRecord) (leaves : List LeafRecord) (devices : List Device) (first end : World) (old new : Streams) (outcome : Result Unit SessionFault)
+    → AreBound bindings leaves devices → first ≡ new_world (stack_over (leaves_alone leaves) devices) → IsQueueSession first end old new outcome → Serves bindings old new outcome
+Serves-new bindings leaves devices first end old new outcome bound is served = record {
+  leaves = leaves;
+  devices = devices;
+  last = end;
+  bound = bound;
+  served = subst (λ w. IsQueueSession w end old new outcome) is served;
+}

@@ -1,0 +1,14 @@
+use Rattle.std.proofs.Common.{inl, inr, refl}
+use Rattle.stack_session.specs.Session.{streams}
+use Rattle.stack_commands.proofs.program.command.Goals as goal
+
+pub returns-in-Ok : goal.returns-in-Ok
+returns-in-Ok g c = inl (refl, c.in-Ok.ensures.ok)
+
+pub returns-in-Err : goal.returns-in-Err
+returns-in-Err g c = inr (record {
+  fault = c.in-Err.fault;
+  before = _;
+  fails = c.in-Err.ensures.err;
+  told = c.end.ensures;
+})

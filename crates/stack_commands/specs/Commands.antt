@@ -1,0 +1,68 @@
+-- What the program does: which command prints what where it succeeds, and how it ends early.
+use Rattle.std.specs.Prelude.{◌≡◌, ◌⊎◌, ℕ, Bool, true, List, [], codes, Option, Some, None, Ok, unwrap_or}
+use Rattle.std.specs.Option.{option_and_then}
+use Rattle.clap.specs.Simple.{subcommand_of}
+use Rattle.clap.specs.Takes.{takes}
+use Rattle.clap.specs.Walk.{Text, all_of, first_of}
+use Rattle.command_faults.specs.declared.fault.CommandFault.{CommandFault}
+use Rattle.command_faults.specs.Endings.{IsEnd, IsQuiet}
+use Rattle.image_commands.specs.declared.options.ImageOptions.{ImageOptions}
+use Rattle.image_commands.specs.ImageCommands.{IsFormatFilesEnd, IsSuperblockEnd, IsVerifyFilesEnd, PrintsMade, PrintsMatches, PrintsSuperblock}
+use Rattle.image_commands.specs.SuperblockTexts.{line_text, superblock_text}
+use Rattle.request_queue.specs.Requests.{a_read, a_write}
+use Rattle.stack_session.specs.Session.{Streams}
+use Rattle.stack_commands.specs.CommandWords.{InvocationRecord, IsUsage, dump, format, invocation_of, load, read, session, table, verify, write}
+use Rattle.stack_commands.specs.Grammar.{grammar}
+use Rattle.stack_commands.specs.StackCommands.{FailsToAsk, FailsToList, IsServeEnd, IsStackEnd, IsWriteFilesEnd, PrintsDevices, PrintsReply, PrintsWritten, Serves}
+
+-- what the words of a command line invoke, as clap cuts them into a command's name, its options and its positional words
+abbrev pub invoked : List Text → Option InvocationRecord
+invoked words =
+    option_and_then (λ cut. invocation_of cut.0 (first_of (codes "cache") cut.1) (unwrap_or (all_of (codes "words") cut.1) [])) (subcommand_of grammar words)
+
+-- clap doesn't take the words, or they invoke nothing
+abbrev pub IsNoCommand : List Text → Type 0
+IsNoCommand words = (takes grammar words ≡ true → ⊥) ⊎ (invoked words ≡ None)
+
+-- what each command prints where it succeeds
+abbrev pub Succeeds : InvocationRecord → Streams → Streams → Type 0
+Succeeds (load stack bindings) old new = PrintsDevices bindings old.output new.output
+Succeeds (read cache stack name first count bindings) old new = PrintsReply bindings (a_read name first count) old.output new.output
+Succeeds (write cache stack name first source bindings) old new = PrintsWritten bindings (a_write name first) old.output new.output
+Succeeds (session cache bindings) old new = Serves bindings old new (Ok tt)
+Succeeds (format image hash) old new = (options : ImageOptions) × PrintsMade options old.output new.output
+Succeeds (verify image hash root) old new = PrintsMatches root old.output new.output
+Succeeds (dump hash) old new = PrintsSuperblock superblock_text old.output new.output
+Succeeds (table hash root image_name hash_name) old new = PrintsSuperblock (λ s. line_text s image_name hash_name root) old.output new.output
+
+-- why each command ends early
+abbrev pub IsCauseOf : InvocationRecord → CommandFault → Type 0
+IsCauseOf (load stack bindings) fault = IsStackEnd stack bindings FailsToList fault
+IsCauseOf (read cache stack name first count bindings) fault = IsStackEnd stack bindings (FailsToAsk (a_read name first count)) fault
+IsCauseOf (write cache stack name first source bindings) fault = IsWriteFilesEnd stack source bindings (a_write name first) fault
+IsCauseOf (session cache bindings) fault = ⊥
+IsCauseOf (format image hash) fault = IsUsage fault (Unit {0}) ⊎ ((options : ImageOptions) × IsFormatFilesEnd image hash options fault)
+IsCauseOf (verify image hash root) fault = IsVerifyFilesEnd image hash root fault
+IsCauseOf (dump hash) fault = IsSuperblockEnd hash fault
+IsCauseOf (table hash root image_name hash_name) fault = IsSuperblockEnd hash fault
+
+-- and that nothing is printed before; a session has printed its replies
+abbrev pub Fails : InvocationRecord → Streams → Streams → CommandFault → Type 0
+Fails (session cache bindings) old new fault = IsServeEnd bindings old new fault
+Fails invocation old new fault = IsCauseOf invocation fault × IsQuiet fault old.output new.output
+
+-- the words are no command, or memory ran out while they were read; or their command ended early
+abbrev pub IsRunEnd : List Text → Streams → Streams → CommandFault → Type 0
+IsRunEnd words old new fault =
+    (IsUsage fault (IsNoCommand words) × (new ≡ old)) ⊎ ((invocation : InvocationRecord) × (invoked words ≡ Some invocation) × Fails invocation old new fault)
+
+-- A command ended early: its text is printed and its status answered, or that can't be written.
+pub record EndsEarly (words : List Text) (old new : Streams) (failed : Bool) (status : ℕ) : Type 0 where
+  pub fault : CommandFault
+  pub before : Streams
+  pub fails : IsRunEnd words old before fault
+  pub told : IsEnd fault before.output new.output status ⊎ ((status ≡ 1) × (failed ≡ true))
+
+-- the command of some words succeeded
+abbrev pub IsDone : List Text → Streams → Streams → Type 0
+IsDone words old new = (invocation : InvocationRecord) × (invoked words ≡ Some invocation) × Succeeds invocation old new

@@ -1,0 +1,115 @@
+-- What the commands on stacks print where they succeed, and how they end early.
+use Rattle.std.specs.Prelude.{◌≡◌, ◌⊎◌, ◌≤◌, ◌^◌, ℕ, List, length, Option, Some, Result, Ok, Err}
+use Rattle.std.specs.Io.KnownBytes.{Appends}
+use Rattle.block_device.specs.Device.{Device}
+use Rattle.stack_loader.specs.Leaves.{first_fault}
+use Rattle.stack_loader.specs.Records.{Configuration, LeafRecord}
+use Rattle.stack_engine.specs.Pieces.{stack_over}
+use Rattle.request_queue.specs.declared.reply.Reply.{Reply}
+use Rattle.request_queue.specs.Requests.{RequestRecord}
+use Rattle.request_queue.specs.World.{World}
+use Rattle.stack_session.specs.declared.fault.SessionFault.{SessionFault}
+use Rattle.stack_session.specs.Accesses.{first_of}
+use Rattle.stack_session.specs.QueueSessions.{IsQueueSession}
+use Rattle.stack_session.specs.Session.{Streams}
+use Rattle.stack_session.specs.Texts.{reply_text, written_text}
+use Rattle.command_faults.specs.declared.fault.CommandFault.{CommandFault}
+use Rattle.command_faults.specs.declared.fault.CommandFault.TheVariants.{Io, Leaves, NoMemory, Session}
+use Rattle.stack_commands.specs.Bindings.{AreBound, BindingRecord}
+use Rattle.stack_commands.specs.Configuration.{configuration_of, devices_text, leaves_alone}
+use Rattle.command_faults.specs.Endings.{MayEnd}
+use Rattle.stack_commands.specs.Openings.{IsBindingEnd, IsReadEnd, IsTextEnd}
+use Rattle.stack_commands.specs.Requests.{FailsToServe, IsServed, new_world}
+use Rattle.stack_commands.specs.Syncs.{FailsToSync}
+
+-- the configuration that a stack text of at most 1 MiB makes of the bindings' leaves
+pub record IsLoaded (bindings : List BindingRecord) (config : Configuration) (devices : List Device) : Type 0 where
+  pub leaves : List LeafRecord
+  pub text : List ℕ
+  pub bound : AreBound bindings leaves devices
+  pub short : length text ≤ 2 ^ 20
+  pub makes : configuration_of leaves text ≡ Ok config
+
+-- `load`: a line for each mapped device
+pub record PrintsDevices (bindings : List BindingRecord) (old new : Option (List ℕ)) : Type 0 where
+  pub config : Configuration
+  pub devices : List Device
+  pub loaded : IsLoaded bindings config devices
+  pub printed : Appends old new (devices_text config)
+
+-- `read`: what a request for sectors gave, the first of a new queue over the stack
+pub record PrintsReply (bindings : List BindingRecord) (request : RequestRecord) (old new : Option (List ℕ)) : Type 0 where
+  pub config : Configuration
+  pub devices : List Device
+  pub reply : Reply
+  pub after : World
+  pub loaded : IsLoaded bindings config devices
+  pub served : IsServed (new_world (stack_over config devices)) request reply after
+  pub printed : Appends old new (reply_text (first_of request) reply)
+
+-- `write`: that such a request was served with some bytes, which are those of a file
+pub record PrintsWritten (bindings : List BindingRecord) (request : List ℕ → RequestRecord) (old new : Option (List ℕ)) : Type 0 where
+  pub config : Configuration
+  pub devices : List Device
+  pub bytes : List ℕ
+  pub reply : Reply
+  pub after : World
+  pub loaded : IsLoaded bindings config devices
+  pub served : IsServed (new_world (stack_over config devices)) (request bytes) reply after
+  pub printed : Appends old new written_text
+
+-- `session`: the replies to the lines of the input, over no mapped device at first
+pub record Serves (bindings : List BindingRecord) (old new : Streams) (outcome : Result Unit SessionFault) : Type 0 where
+  pub leaves : List LeafRecord
+  pub devices : List Device
+  pub last : World
+  pub bound : AreBound bindings leaves devices
+  pub served : IsQueueSession (new_world (stack_over (leaves_alone leaves) devices)) last old new outcome
+
+-- a leaf's image isn't synced
+abbrev pub IsSyncEnd : CommandFault → Type 0
+IsSyncEnd (Io fault) = (old new : List Device) × FailsToSync old new fault
+IsSyncEnd fault = ⊥
+
+-- the leaves of the bindings aren't taken
+abbrev pub IsLeavesEnd : List BindingRecord → CommandFault → Type 0
+IsLeavesEnd bindings (Leaves fault) = (leaves : List LeafRecord) × (devices : List Device) × AreBound bindings leaves devices × (first_fault leaves ≡ Some fault)
+IsLeavesEnd bindings NoMemory = Unit {0}
+IsLeavesEnd bindings fault = ⊥
+
+-- what may fail once a text is read and the leaves are open
+abbrev pub Failing : Type 1
+Failing = List LeafRecord → List ℕ → List Device → CommandFault → Type 0
+
+-- the stack isn't loaded, memory runs out, or a line can't be written
+abbrev pub FailsToLoad : List LeafRecord → List ℕ → CommandFault → Type 0
+FailsToLoad leaves text fault = (configuration_of leaves text ≡ Err fault) ⊎ MayEnd fault
+
+-- its devices aren't printed
+abbrev pub FailsToList : Failing
+FailsToList leaves text devices fault = FailsToLoad leaves text fault
+
+-- a request of it isn't served
+abbrev pub FailsToAsk : RequestRecord → Failing
+FailsToAsk request leaves text devices fault =
+    FailsToLoad leaves text fault
+    ⊎ ((c : Configuration) × (after : World) × (configuration_of leaves text ≡ Ok c) × FailsToServe (new_world (stack_over c devices)) request fault after)
+
+-- a command on a stack file ends by the file, by a binding, or by what is done then
+abbrev pub IsStackEnd : List ℕ → List BindingRecord → Failing → CommandFault → Type 0
+IsStackEnd path bindings Fails fault =
+    IsTextEnd path fault ⊎ (IsBindingEnd bindings fault
+    ⊎ ((leaves : List LeafRecord) × (text : List ℕ) × (devices : List Device) × AreBound bindings leaves devices × Fails leaves text devices fault))
+
+-- the source isn't opened or read, an image isn't synced, or another end of a command on a stack file
+abbrev pub IsWriteFilesEnd : List ℕ → List ℕ → List BindingRecord → (List ℕ → RequestRecord) → CommandFault → Type 0
+IsWriteFilesEnd path source bindings request fault =
+    IsReadEnd source fault ⊎ (((bytes : List ℕ) × IsStackEnd path bindings (FailsToAsk (request bytes)) fault) ⊎ IsSyncEnd fault)
+
+-- A session ends early: nothing was served, as a file isn't opened or the leaves aren't taken; or by the session's
+-- own fault; or all was served, and an image isn't synced.
+abbrev pub IsServeEnd : List BindingRecord → Streams → Streams → CommandFault → Type 0
+IsServeEnd bindings old new (Session fault) = Serves bindings old new (Err fault)
+IsServeEnd bindings old new (Io fault) = Serves bindings old new (Ok tt) × IsSyncEnd (Io fault)
+IsServeEnd bindings old new fault =
+    (new ≡ old) × (IsBindingEnd bindings fault ⊎ IsLeavesEnd bindings fault)
