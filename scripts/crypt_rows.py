@@ -1,7 +1,7 @@
 #!/usr/bin/env python3
 """Writes the rows of tests/rows on `crypt` lines; the bytes beneath are OpenSSL's.
 
-crypt_rows.py FOLDER: into FOLDER/session_crypt_units and FOLDER/session_crypt_layers.
+crypt_rows.py FOLDER: into session_crypt_units, session_crypt_layers and crypt_file of FOLDER.
 """
 import hashlib
 import pathlib
