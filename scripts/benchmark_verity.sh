@@ -1,6 +1,7 @@
 #!/usr/bin/env bash
-# Measures `format` and `verify` beside veritysetup, where it is installed, and digests, trees, formatting and verifying
-# beside the kit's `sha2`. Not a part of the gate.
+# Measures `format` and `verify` beside veritysetup, where it is installed, digests, trees, formatting and verifying
+# beside the kit's `sha2`, and pieces of 128 sectors through a `crypt` and a `verity` line beside the cipher and the digests
+# alone. Not a part of the gate.
 #
 # benchmark_verity.sh [MIB [RUNS]]: an image of MIB mebibytes (512) in blocks of 4,096 bytes, RUNS times each in turn (9). A
 # ratio is the other's time divided by ours: more than 1 is faster. Other programs disturb the least processor time least, and
@@ -44,6 +45,8 @@ truncate -s 1M hash
 for build in "${builds[@]}"; do
     echo "beside the kit's sha2, 64 MiB, $build build:"
     for it in digest area 'format data hash' 'verify data hash'; do "./bench-$build" $it; done
+    echo "pieces of 128 sectors beside the cipher or the digests alone, 16 MiB, $build build:"
+    "./bench-$build" stacks
 done
 
 # The row of milliseconds of a command: processor time and wall time.

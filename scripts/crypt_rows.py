@@ -1,10 +1,12 @@
 #!/usr/bin/env python3
-"""Writes the rows of tests/rows on `crypt` lines; the bytes beneath are OpenSSL's.
+"""Writes the rows of tests/rows on `crypt` lines; the bytes beneath are OpenSSL's, and hash images veritysetup's.
 
-crypt_rows.py FOLDER: into session_crypt_units, session_crypt_layers and crypt_file of FOLDER.
+crypt_rows.py FOLDER: into session_crypt_units, session_crypt_layers, crypt_file and verity_over_crypt of FOLDER.
 """
 import hashlib
 import pathlib
+import re
+import subprocess
 import sys
 
 import openssl_xts
@@ -118,9 +120,68 @@ def many(folder):
     )
 
 
+def verified(folder):
+    """A verity line over a crypt line over stripes; the hash image is that of the decrypted data."""
+    count, size, number, salt = 20, 1024, 2**64 - 6, bytes(range(32))
+    blocks = [bytes([k + 1]) * size for k in range(count)]
+    encrypted = openssl_xts.sectors(LONG, number, b"".join(blocks))
+    chunks = [encrypted[2048 * k : 2048 * (k + 1)] for k in range(len(encrypted) // 2048)]
+    files = folder / "files"
+    files.mkdir(exist_ok=True)
+    clear = files / "clear"
+    clear.write_bytes(b"".join(blocks))
+    (files / "left").write_bytes(b"".join(chunks[0::2]))
+    (files / "right").write_bytes(b"".join(chunks[1::2]))
+    (files / "hash").unlink(missing_ok=True)
+    words = ["--salt", salt.hex(), "--uuid", "6c0b2c0e-5a0d-4b5c-9a44-1d1f6a3b2c7e", "--data-block-size", str(size)]
+    command = ["/usr/sbin/veritysetup", "format", *words, "--hash-block-size", "512", clear, files / "hash"]
+    said = subprocess.run(command, check=True, capture_output=True, text=True).stdout
+    root = re.search(r"Root hash:\s*([0-9a-f]{64})", said)[1]
+    clear.unlink()
+    (folder / "before").write_text(
+        "# One bit of the encrypted data in the second stripe is changed: in sector 13 of the data, so in block 6.\n"
+        "cp right changed\n"
+        f"printf '\\{(chunks[3][512] ^ 1):03o}' | dd of=changed bs=1 seek=$((2048 + 512)) conv=notrunc status=none\n"
+        "# And one of the hash block beneath the root: of the digests of blocks 16 to 19.\n"
+        "cp hash changed.hash\n"
+        f"printf '\\{((files / 'hash').read_bytes()[512 * 3 + 40] ^ 1):03o}' | dd of=changed.hash bs=1 seek=$((512 * 3 + 40)) conv=notrunc status=none\n"
+        f"crypt='crypt aes-xts-plain64 {LONG.hex()}'\n"
+        "echo \"s,,,ro,0 40 striped 2 4 A 0 B 0;c,,,ro,0 40 $crypt NUMBER /dev/mapper/s 0;\n"
+        f"v,,,ro,0 40 verity 1 /dev/mapper/c H {size} 512 {count} 1 sha256 {root} {salt.hex()}\" > text\n"
+        f"sed 's/NUMBER/{number}/' text > stack\n"
+        f"sed 's/NUMBER/{number + 1}/' text > other\n"
+    )
+    whole = lambda first, last: "".join(f"{k} all {k // 2 + 1:02x}\n" for k in range(first, last))
+    read = lambda stack, first, n, right="right", hash="hash": (
+        f"$ dmstack read --cache 0 {stack} v {first} {n} A=ro:left B=ro:{right} H=ro:{hash}\n"
+    )
+    lost = "fault 2 Mismatch\nstatus 3\n"
+    return "\n".join(
+        [
+            "# A verity line over a crypt line over stripes; the hash image is veritysetup's of the decrypted data.\n"
+            + read("stack", 0, 40) + whole(0, 40)
+            + "$ dmstack load stack A=ro:left B=ro:right H=ro:hash\n"
+            + "s sectors 40 depth 1 read 1 write 1 ro\nc sectors 40 depth 2 read 1 write 1 ro\nv sectors 40 depth 3 read 4 write 0 ro\n",
+            "# A bit of the encrypted bytes is changed: its block is not served, and those beside it are.\n"
+            + read("stack", 8, 4, "changed") + whole(8, 12)
+            + read("stack", 12, 1, "changed") + lost + read("stack", 13, 1, "changed") + lost + read("stack", 0, 40, "changed") + lost
+            + read("stack", 14, 26, "changed") + whole(14, 40),
+            "# The blocks whose digests stand in a changed hash block are not served.\n"
+            + read("stack", 0, 32, "right", "changed.hash") + whole(0, 32)
+            + "".join(read("stack", k, 1, "right", "changed.hash") + lost for k in (32, 35, 36, 39)),
+            "# Under other unit numbers no block is the one that was formatted, though the line beneath answers bytes.\n"
+            + "".join(read("other", k, 1) + lost for k in (0, 5, 39))
+            + "$ dmstack read --cache 0 other c 0 1 A=ro:left B=ro:right H=ro:hash | cut -c 1-34\n"
+            + f"0 {openssl_xts.unit(LONG, number + 1, encrypted[:512], False).hex()[:32]}\n",
+        ]
+    )
+
+
 top = pathlib.Path(sys.argv[1])
 for name, text in (("session_crypt_units", units), ("session_crypt_layers", layers)):
     (top / name).mkdir(exist_ok=True)
     (top / name / "steps").write_text(text())
 (top / "crypt_file").mkdir(exist_ok=True)
 (top / "crypt_file" / "steps").write_text(many(top / "crypt_file"))
+(top / "verity_over_crypt").mkdir(exist_ok=True)
+(top / "verity_over_crypt" / "steps").write_text(verified(top / "verity_over_crypt"))

@@ -109,6 +109,17 @@ expect 0 $'loaded 1\nwritten\n0 all ab' session D=zero:5 E=rw:image
 unset LD_PRELOAD
 input=/dev/null
 
+# A copy to an image that refuses a write in its middle, or can't be synced.
+printf 'a,,,ro,0 4 linear D 0\n' > readable_stack
+chmod 644 readable_stack
+ulimit -S -f 1
+expect 1 'refused 2 Device' copy readable_stack a image D=ramp:4
+ulimit -S -f "$limit"
+export LD_PRELOAD=$room/sync.so
+expect 1 'refused 2 Device' copy readable_stack a image D=ramp:4
+unset LD_PRELOAD
+expect 0 'read 4 lost 0' copy readable_stack a image D=ramp:4
+
 # A full file system, where this one may mount a small one.
 mkdir full
 if mount -t tmpfs -o size=8k,mode=777 tmpfs full 2> mount_errors; then

@@ -30,6 +30,3 @@ mod s_box;
 mod state;
 
 pub use aes_key::AesKey;
-
-#[cfg(test)]
-mod tests;

@@ -9,6 +9,3 @@ mod planes;
 mod rounds;
 
 pub use blocks::{decrypt_blocks, encrypt_blocks};
-
-#[cfg(test)]
-mod tests;

@@ -2,10 +2,12 @@
 #![tactic(auto)]
 
 mod compared;
+mod stacks;
 mod verity;
 mod xts;
 
 use crate::compared::compare;
+use crate::stacks::{CryptReads, CryptWrites, VerityReads};
 use crate::verity::{Area, Digests, Format, Images, Verify};
 use std::env;
 
@@ -27,6 +29,11 @@ fn main(rt: HostRuntime) -> anyhow::Result<()> {
             &mut Verify::new(alloc, Images::open(&rt, data, hash)?)?,
         ),
         [_, "xts"] => xts::measure(&rt),
-        _ => Ok(println!(rt; "digest, area, format DATA HASH, verify DATA HASH, or xts")?),
+        [_, "stacks"] => {
+            compare(&rt, "reads of crypt", &mut CryptReads::new(alloc)?)?;
+            compare(&rt, "writes of crypt", &mut CryptWrites::new(alloc)?)?;
+            compare(&rt, "reads of verity", &mut VerityReads::new(alloc)?)
+        }
+        _ => Ok(println!(rt; "digest, area, format DATA HASH, verify DATA HASH, xts, or stacks")?),
     }
 }

@@ -9,8 +9,6 @@ mod file_id;
 mod memory;
 mod open_fault;
 mod script;
-#[cfg(test)]
-mod tests;
 
 pub use any::AnyDev;
 pub use device::{BlockDev, DeviceFault};

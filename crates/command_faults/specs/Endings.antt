@@ -9,10 +9,9 @@ use Rattle.stack_loader.specs.declared.refusal.ConfigFault.{ConfigFault}
 use Rattle.stack_loader.specs.declared.refusal.ConfigFault.TheVariants as config
 use Rattle.stack_loader.specs.declared.refusal.LoadFault.{LoadFault}
 use Rattle.stack_loader.specs.declared.refusal.LoadFault.TheVariants as load
-use Rattle.stack_engine.specs.declared.fault.IoFault.{IoFault}
 use Rattle.stack_engine.specs.declared.fault.IoFault.TheVariants as io
 use Rattle.command_faults.specs.declared.fault.CommandFault.{CommandFault}
-use Rattle.command_faults.specs.declared.fault.CommandFault.TheVariants.{Usage, NoMemory, TooLong, Open, Leaves, Text, Load, Submit, Io, Format, Verify, Differs, Random, Session}
+use Rattle.command_faults.specs.declared.fault.CommandFault.TheVariants.{Usage, NoMemory, TooLong, Open, Leaves, Text, Load, Submit, Io, Format, Verify, Differs, Random, Lost, OutputTooSmall, OutputFailed, Session}
 use Rattle.stack_session.specs.declared.fault.SessionFault.TheVariants.{WriteFault}
 use Rattle.verity_format.specs.declared.verifying.VerifyFault.{VerifyFault}
 use Rattle.verity_format.specs.declared.verifying.Verdict.{Verdict}
@@ -41,6 +40,14 @@ abbrev pub config_text : ConfigFault → List ℕ
 config_text config.NoMemory = no_memory
 config_text fault = codes "refused " ++ (decimal (config_number fault) ++ (codes " " ++ (config_name fault ++ codes "\n")))
 
+-- how many sectors of a device were had, and how many are lost
+abbrev pub counts_text : ℕ → ℕ → List ℕ
+counts_text read lost = codes "read " ++ (decimal read ++ (codes " lost " ++ (decimal lost ++ codes "\n")))
+
+-- an image to which a device isn't copied, with the sectors that it needs
+abbrev pub too_small_text : ℕ → List ℕ
+too_small_text needed = codes "refused 1 TooSmall needed " ++ (decimal needed ++ codes "\n")
+
 -- what is printed of it; a session's own faults print nothing
 abbrev pub ending_text : CommandFault → List ℕ
 ending_text Usage = usage_text
@@ -56,14 +63,18 @@ ending_text (Format fault) = format_text fault
 ending_text (Verify fault) = verify_text fault
 ending_text (Differs verdict) = verdict_text verdict
 ending_text Random = codes "refused random\n"
+ending_text (Lost read lost) = counts_text read lost
+ending_text (OutputTooSmall needed) = too_small_text needed
+ending_text OutputFailed = codes "refused 2 Device\n"
 ending_text (Session fault) = []
 
--- 2 for words that are no command, 3 for a fault of the stack and for images that differ, else 1
+-- 2 for words that are no command, 3 for a fault of the stack, images that differ and lost sectors, else 1
 abbrev pub ending_status : CommandFault → ℕ
 ending_status Usage = 2
 ending_status (Io io.NoMemory) = 1
 ending_status (Io fault) = 3
 ending_status (Differs verdict) = 3
+ending_status (Lost read lost) = 3
 ending_status fault = 1
 
 -- its text was printed, and its status answered

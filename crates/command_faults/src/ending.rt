@@ -1,7 +1,7 @@
 // How a command ends early: what is printed, and the status.
 ghost use Rattle.std.specs.Prelude.{true, ◌≡◌, ◌⊎◌};
 ghost use Rattle.stack_session.specs.Counted.{Writes};
-ghost use Rattle.command_faults.specs.Endings.{IsEnd, config_text, ending_status, ending_text, open_text};
+ghost use Rattle.command_faults.specs.Endings.{IsEnd, config_text, counts_text, ending_status, ending_text, open_text, too_small_text};
 ghost use Rattle.command_faults.specs.VerityTexts.{format_text, super_text, verdict_text, verify_text};
 
 use crate::fault::CommandFault;
@@ -40,6 +40,7 @@ fn status_of(fault: CommandFault<'_>) -> u8
         CommandFault::Io(IoFault::NoMemory) => REFUSED,
         CommandFault::Io(_) => FAULT,
         CommandFault::Differs(_) => FAULT,
+        CommandFault::Lost { .. } => FAULT,
         _ => REFUSED,
     }
 }
@@ -62,6 +63,9 @@ fn say_fault<W: Write>(writer: &mut Counted<W>, fault: CommandFault<'_>) -> Resu
         CommandFault::Verify(fault) => say_verify_fault(writer, fault),
         CommandFault::Differs(verdict) => say_verdict(writer, verdict),
         CommandFault::Random => writer.put(b"refused random\n"),
+        CommandFault::Lost { read, lost } => say_counts(writer, read, lost),
+        CommandFault::OutputTooSmall { needed } => say_too_small(writer, needed),
+        CommandFault::OutputFailed => writer.put(b"refused 2 Device\n"),
         CommandFault::Session(_) => Ok(()),
     }
 }
@@ -136,6 +140,20 @@ fn say_super_fault<W: Write>(writer: &mut Counted<W>, fault: SuperFault) -> Resu
         SuperFault::DataBlocks => writer.put(b"refused 7 DataBlocks\n"),
         SuperFault::SaltSize => writer.put(b"refused 8 SaltSize\n"),
     }
+}
+
+// `refused 1 TooSmall needed N`
+fn say_too_small<W: Write>(writer: &mut Counted<W>, needed: u64) -> Result<(), WriteFault>
+    ensures { Writes W.contents writer.old writer.new (too_small_text needed) result }
+{
+    writer.print(format_args!("refused 1 TooSmall needed {needed}\n"))
+}
+
+/// `read N lost M`
+pub fn say_counts<W: Write>(writer: &mut Counted<W>, read: u64, lost: u64) -> Result<(), WriteFault>
+    ensures { Writes W.contents writer.old writer.new (counts_text read lost) result }
+{
+    writer.print(format_args!("read {read} lost {lost}\n"))
 }
 
 /// `matches`, `root differs`, or `area differs at block N`

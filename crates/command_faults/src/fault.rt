@@ -42,6 +42,12 @@ pub enum CommandFault<'a> {
     Differs(Verdict),
     /// There are no random bytes.
     Random,
+    /// So many sectors of a device were had, and so many are lost.
+    Lost { read: u64, lost: u64 },
+    /// The image to which a device is copied has fewer sectors than the device.
+    OutputTooSmall { needed: u64 },
+    /// The image to which a device is copied failed.
+    OutputFailed,
     /// The session failed, or a line can't be written.
     Session(SessionFault),
 }

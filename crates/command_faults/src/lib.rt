@@ -6,7 +6,7 @@ mod fault;
 mod one_file;
 mod opening;
 
-pub use ending::end;
+pub use ending::{end, say_counts};
 pub use fault::CommandFault;
 pub use one_file::is_one_file;
 pub use opening::open_file;

@@ -5,7 +5,7 @@ use Rattle.std.proofs.lemmas.Bool.{cond-true, and_from, le-leb}
 use Rattle.std.proofs.lemmas.Fmt.{decimal_is_IsNumeral}
 use Rattle.std.proofs.lemmas.List.Elements.{All-head, All-tail}
 use Rattle.std.proofs.lemmas.List.Folds.{list_all-append}
-use Rattle.std.proofs.lemmas.List.Splits.{slice_split_at}
+use Rattle.std.proofs.lemmas.List.Splits.{slice_split_at, slice_split_none}
 use Rattle.dm_table.specs.declared.table.Base.{Base}
 use Rattle.dm_table.specs.declared.table.Line.{Line}
 use Rattle.dm_table.specs.declared.table.Target.{Target}
@@ -145,3 +145,23 @@ table-shown lines h =
     table-lines (table_text true lines) (text-table lines h.each)
     ∙ ap (λ r. r >>= some_lines) (table_lines-printed 1 lines h.each)
     ∙ some_lines-some lines (λ none. omega arith)
+
+-- a text of one line
+split-line : (line : Line) → IsLineOfGrammar line → slice_split (λ b. eqb b 10) (line_text true line) ≡ line_text true line ∷ []
+unfolding line_text
+split-line line h = slice_split_none (λ b. eqb b 10) (line_text true line) (one_line-joined (decimal line.start) (decimal line.length ∷ target_words true line.target) (printed-line line h))
+
+text-line : (line : Line) → IsLineOfGrammar line → list_all (λ b. is_white b || is_graphic b) (line_text true line) ≡ true
+unfolding line_text
+text-line line h = text-joined (decimal line.start) (decimal line.length ∷ target_words true line.target) (printed-line line h)
+
+-- a line that was printed with its key gives the line back
+pub line-shown : (line : Line) → IsLineOfGrammar line → table_of (line_text true line) ≡ Ok (line ∷ [])
+unfolding lines_of
+line-shown line h =
+    table-lines (line_text true line) (text-line line h)
+    ∙ ap (λ r. r >>= some_lines) (
+    ap (table_lines 1) (split-line line h)
+    ∙ table_lines-full 1 (line_text true line) [] (line-kept line h)
+    ∙ ap (λ r. at_place 0 1 r >>= (λ line. table_lines 2 [] >>= (λ lines. Ok (line ∷ lines)))) (ap line_of (words-line line h) ∙ line-printed line h)
+    )

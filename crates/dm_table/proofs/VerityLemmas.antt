@@ -14,12 +14,13 @@ use Rattle.dm_table.specs.Words.{Word}
 use Rattle.dm_table.specs.Names.{is_device}
 use Rattle.dm_table.specs.Numbers.{number, number_if}
 use Rattle.dm_table.specs.Arguments.{device_at, number_at, bytes_at}
-use Rattle.dm_table.specs.Options.{options_at}
-use Rattle.dm_table.specs.Verity.{version_at, block_size_at, algorithm_at, digest_at, salt_at, salt_word, verity_at, verity_words}
+use Rattle.dm_table.specs.Options.{is_one_of, options_at, options_words, AreOptionsOfGrammar}
+use Rattle.dm_table.specs.Verity.{version_at, block_size_at, algorithm_at, digest_at, salt_at, salt_word, ignore_zero_blocks, verity_options, verity_at, verity_words}
 use Rattle.dm_table.specs.Grammar.{IsVerityOfGrammar}
 use Rattle.dm_table.proofs.StepLemmas.{bind_ok, ok_same, ok_or_ok, chosen, number_if-some, number_at-fits}
 use Rattle.dm_table.proofs.PrintedLemmas.{IsPrinted, ArePrinted, printed-decimal, printed-device, number-decimal, number_at-decimal}
 use Rattle.dm_table.proofs.BytesLemmas.{bytes_at-grammar, bytes_at-printed, printed-bytes}
+use Rattle.dm_table.proofs.OptionLemmas.{options-printed, printed-options}
 
 and-false : (a : Bool) → (a && false) ≡ false
 and-false true = refl
@@ -91,10 +92,10 @@ verity-grammar (version ∷ dev ∷ hash_dev ∷ data_size ∷ hash_size ∷ cou
     let known = bind_ok (algorithm_at algorithm) _ verity start.2 in
     let root = bind_ok (digest_at digest) _ verity known.2 in
     let salt = bind_ok (salt_at digits) _ verity root.2 in
-    let none = bind_ok (options_at [] params) _ verity salt.2 in
+    let options = bind_ok (options_at (verity_options true) params) _ verity salt.2 in
     let root_bytes = bytes_at-grammar 32 kinds.Digest digest root.0 root.1 in
     let salt_bytes = salt_at-grammar digits salt.0 salt.1 in
-    subst IsVerityOfGrammar (ok_same _ verity none.2) (record {
+    subst IsVerityOfGrammar (ok_same _ verity options.2) (record {
       devices = record { below = device_at-grammar dev below.0 below.1; hash = device_at-grammar hash_dev hash.0 hash.1 };
       places = record {
         data_block = block_size_at-grammar data_size data_block.0 data_block.1;
@@ -158,9 +159,18 @@ salt_at-printed (byte ∷ more) fits each =
     salt_at-digits word other (omega (arith, twice)) (omega (arith, twice, fits))
     ∙ bytes_at-printed (length word / 2) kinds.Salt (byte ∷ more) (omega (arith, twice)) each
 
+-- the option, or none
+options-grammar : (ignores : Bool) → AreOptionsOfGrammar (verity_options true) (verity_options ignores)
+options-grammar true = record { each = refl; count = omega arith }
+options-grammar false = record { each = refl; count = omega arith }
+
+ignores-printed : (ignores : Bool) → is_one_of ignore_zero_blocks (verity_options ignores) ≡ ignores
+ignores-printed true = refl
+ignores-printed false = refl
+
 -- printed arguments read back
 pub verity-printed : (verity : Verity) → IsVerityOfGrammar verity → verity_at (verity_words verity) ≡ Ok verity
-unfolding verity_at verity_words options_at
+unfolding verity_at verity_words
 verity-printed verity h =
     let below = device_at-printed verity.data h.devices.below in
     let hash = device_at-printed verity.hash h.devices.hash in
@@ -170,11 +180,15 @@ verity-printed verity h =
     let start = number_at-decimal verity.start h.places.start in
     let root = bytes_at-printed 32 kinds.Digest verity.root h.root_size h.root_bytes in
     let salt = salt_at-printed verity.salt h.salt_size h.salt_bytes in
-    rw (version_at-printed, below, hash, data_block, hash_block, blocks, start, root, salt) refl
+    let options = options-printed (verity_options true) (verity_options verity.ignore_zero_blocks) (options-grammar verity.ignore_zero_blocks) in
+    rw (version_at-printed, below, hash, data_block, hash_block, blocks, start, root, salt, options, ignores-printed verity.ignore_zero_blocks) refl
 
 printed-salt : (salt : List ℕ) → IsBytes salt → IsPrinted (salt_word salt)
 printed-salt [] each = (omega arith, refl)
 printed-salt (byte ∷ more) each = printed-bytes (byte ∷ more) (omega arith) each
+
+printed-option : (ignores : Bool) → ArePrinted (options_words (verity_options ignores))
+printed-option ignores = printed-options (verity_options true) (verity_options ignores) ((omega arith, refl), tt) (options-grammar ignores)
 
 -- each word may stand in a text
 pub printed-verity : (verity : Verity) → IsVerityOfGrammar verity → ArePrinted (codes "verity" ∷ verity_words verity)
@@ -198,7 +212,7 @@ printed-verity verity h =
                     printed-decimal verity.start h.places.start,
                     (
                       (omega arith, refl),
-                      (printed-bytes verity.root (omega (arith, size)) h.root_bytes, (printed-salt verity.salt h.salt_bytes, tt)),
+                      (printed-bytes verity.root (omega (arith, size)) h.root_bytes, (printed-salt verity.salt h.salt_bytes, printed-option verity.ignore_zero_blocks)),
                     ),
                   ),
                 ),

@@ -102,14 +102,15 @@ unfolding table_of lines_of words number is_mapped_name is_device line_of target
 crypt_faults = (refl, refl, refl, refl, refl, refl, refl, refl, refl, refl, refl)
 
 -- a `verity` line
-abbrev verity_line : List ℕ → Line
-verity_line salt =
-    line 0 8 (verity_target (record { «data» = codes "D"; hash = codes "/dev/mapper/t"; data_block = 4096; hash_block = 512; blocks = 1; start = 3; root = replicate 32 171; salt = salt }))
+abbrev verity_line : List ℕ → Bool → Line
+verity_line salt ignores =
+    line 0 8 (verity_target (record { «data» = codes "D"; hash = codes "/dev/mapper/t"; data_block = 4096; hash_block = 512; blocks = 1; start = 3; root = replicate 32 171; salt = salt; ignore_zero_blocks = ignores }))
 
-verity_tables : (table_of (codes "0 8 verity 01 D /dev/mapper/t 4096 0512 1 03 sha256 abABabABabABabABabABabABabABabABabABabABabABabABabABabABabABabAB -") ≡ Ok (verity_line [] ∷ []))
-    × (table_of (codes "0 8 verity 1 D /dev/mapper/t 4096 512 1 3 sha256 abABabABabABabABabABabABabABabABabABabABabABabABabABabABabABabAB 0a0B 0") ≡ Ok (verity_line (10 ∷ 11 ∷ []) ∷ []))
+verity_tables : (table_of (codes "0 8 verity 01 D /dev/mapper/t 4096 0512 1 03 sha256 abABabABabABabABabABabABabABabABabABabABabABabABabABabABabABabAB -") ≡ Ok (verity_line [] false ∷ []))
+    × (table_of (codes "0 8 verity 1 D /dev/mapper/t 4096 512 1 3 sha256 abABabABabABabABabABabABabABabABabABabABabABabABabABabABabABabAB 0a0B 0") ≡ Ok (verity_line (10 ∷ 11 ∷ []) false ∷ []))
+    × (table_of (codes "0 8 verity 1 D /dev/mapper/t 4096 512 1 3 sha256 abABabABabABabABabABabABabABabABabABabABabABabABabABabABabABabAB - 01 ignore_zero_blocks") ≡ Ok (verity_line [] true ∷ []))
 unfolding table_of lines_of words number is_mapped_name is_device line_of target_at verity_target_at verity_at salt_at bytes_at decode_pairs options_at known_at
-verity_tables = (refl, refl)
+verity_tables = (refl, refl, refl)
 
 -- a `verity` line at each fault, with faults behind it
 verity_faults : (table_of (codes "0 8 verity 2 a,b a,b x x x x x x") ≡ first_fault kinds.ArgCount)
@@ -132,7 +133,7 @@ verity_faults = (refl, refl, refl, refl, refl, refl, refl, refl, refl, refl, ref
 -- lines printed with the key, and with zeros in place of it
 printed_keys : (table_text true (crypt_line (codes "allow_discards" ∷ []) ∷ []) ≡ codes "0 8 crypt aes-xts-plain64 0a0a0a0a0a0a0a0a0a0a0a0a0a0a0a0ab1b1b1b1b1b1b1b1b1b1b1b1b1b1b1b1 7 D 16 1 allow_discards\n")
     × (table_text false (crypt_line [] ∷ []) ≡ codes "0 8 crypt aes-xts-plain64 0000000000000000000000000000000000000000000000000000000000000000 7 D 16\n")
-    × (table_text false (verity_line [] ∷ []) ≡ codes "0 8 verity 1 D /dev/mapper/t 4096 512 1 3 sha256 abababababababababababababababababababababababababababababababab -\n")
-    × (table_text false (verity_line (10 ∷ 11 ∷ []) ∷ []) ≡ codes "0 8 verity 1 D /dev/mapper/t 4096 512 1 3 sha256 abababababababababababababababababababababababababababababababab 0a0b\n")
+    × (table_text false (verity_line [] false ∷ []) ≡ codes "0 8 verity 1 D /dev/mapper/t 4096 512 1 3 sha256 abababababababababababababababababababababababababababababababab -\n")
+    × (table_text false (verity_line (10 ∷ 11 ∷ []) true ∷ []) ≡ codes "0 8 verity 1 D /dev/mapper/t 4096 512 1 3 sha256 abababababababababababababababababababababababababababababababab 0a0b 1 ignore_zero_blocks\n")
 unfolding digits line_text target_words crypt_words verity_words encode_with
 printed_keys = (refl, refl, refl, refl)

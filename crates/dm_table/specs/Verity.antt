@@ -1,5 +1,5 @@
 -- The arguments of a `verity` line, as the kernel's dm-verity page lists them.
-use Rattle.std.specs.Prelude.{ℕ, ◌/◌, ◌&&◌, ◌==◌, nat_le, if◌then◌else◌, List, [], ◌∷◌, length, codes, decimal, Ok, Err, ok_or}
+use Rattle.std.specs.Prelude.{ℕ, ◌/◌, Bool, true, false, ◌&&◌, ◌==◌, nat_le, if◌then◌else◌, List, [], ◌∷◌, length, codes, decimal, Ok, Err, ok_or}
 use Rattle.std.specs.Str.{bytes_eq}
 use Rattle.hex.specs.Hex.{encode_lower}
 use Rattle.hash_tree.specs.Shape.{is_block_size}
@@ -9,7 +9,7 @@ use Rattle.dm_table.specs.Words.{Word}
 use Rattle.dm_table.specs.Numbers.{number, number_if}
 use Rattle.dm_table.specs.Reading.{Read, ◌>>=◌}
 use Rattle.dm_table.specs.Arguments.{device_at, number_at, bytes_at}
-use Rattle.dm_table.specs.Options.{options_at}
+use Rattle.dm_table.specs.Options.{is_one_of, options_at, options_words}
 
 -- hash format 1
 abbrev pub version_at : Word → Read ℕ
@@ -33,6 +33,15 @@ salt_at word =
     else if nat_le 2 (length word) && nat_le (length word) 512 then bytes_at (length word / 2) kinds.Salt word
     else Err kinds.Salt
 
+-- zeros in place of each data block that has the digest of a block of zeros
+abbrev pub ignore_zero_blocks : Word
+ignore_zero_blocks = codes "ignore_zero_blocks"
+
+-- the options of a line that has this one, or none
+abbrev pub verity_options : Bool → List Word
+verity_options true = ignore_zero_blocks ∷ []
+verity_options false = []
+
 -- `<version> <dev> <hash_dev> <data_block_size> <hash_block_size> <num_data_blocks> <hash_start_block> <algorithm> <digest> <salt> [<#opt_params> <opt_params>]`
 unfoldable pub verity_at : List Word → Read Verity
 verity_at (version ∷ dev ∷ hash_dev ∷ data_size ∷ hash_size ∷ count ∷ begin ∷ algorithm ∷ digest ∷ digits ∷ params) = do
@@ -46,8 +55,8 @@ verity_at (version ∷ dev ∷ hash_dev ∷ data_size ∷ hash_size ∷ count �
   known ← algorithm_at algorithm
   root ← digest_at digest
   salt ← salt_at digits
-  none ← options_at [] params
-  Ok (record { «data» = below; hash = hash; data_block = data_block; hash_block = hash_block; blocks = blocks; start = start; root = root; salt = salt })
+  options ← options_at (verity_options true) params
+  Ok (record { «data» = below; hash = hash; data_block = data_block; hash_block = hash_block; blocks = blocks; start = start; root = root; salt = salt; ignore_zero_blocks = is_one_of ignore_zero_blocks options })
 verity_at words = Err kinds.ArgCount
 
 -- a salt's digits, or `-` where it is empty
@@ -59,4 +68,4 @@ salt_word (byte ∷ more) = encode_lower (byte ∷ more)
 unfoldable pub verity_words : Verity → List Word
 verity_words verity =
     codes "1" ∷ verity.data ∷ verity.hash ∷ decimal verity.data_block ∷ decimal verity.hash_block ∷ decimal verity.blocks ∷ decimal verity.start
-    ∷ codes "sha256" ∷ encode_lower verity.root ∷ salt_word verity.salt ∷ []
+    ∷ codes "sha256" ∷ encode_lower verity.root ∷ salt_word verity.salt ∷ options_words (verity_options verity.ignore_zero_blocks)

@@ -15,15 +15,11 @@ mod print;
 mod print_crypt;
 mod print_options;
 mod print_verity;
-#[cfg(test)]
-mod rows;
 mod stack;
 mod stack_text;
 mod table;
 mod table_text;
 mod target;
-#[cfg(test)]
-mod tests;
 mod verity;
 mod verity_arguments;
 

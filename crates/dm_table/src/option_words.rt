@@ -56,7 +56,8 @@ fn is_known(known: &[&str], word: &[u8]) -> bool
     known.iter().any(|one| one.as_bytes() == word)
 }
 
-fn is_kept(options: &Options, word: &[u8]) -> bool
+/// Whether the word is one of the options.
+pub(crate) fn is_kept(options: &Options, word: &[u8]) -> bool
     ensures { result ≡ is_one_of word.now options.now }
 {
     options.as_slice().iter().any(|one| one.as_slice() == word)

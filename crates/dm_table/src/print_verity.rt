@@ -1,6 +1,7 @@
 //! The arguments of a `verity` line, printed.
 ghost use Rattle.std.specs.Prelude.{◌≡◌, ◌≤◌, ◌∷◌, ◌++◌, OnOk, codes, flat_map, length};
-ghost use Rattle.dm_table.specs.Verity.{salt_word, verity_words};
+ghost use Rattle.dm_table.specs.Options.{options_words};
+ghost use Rattle.dm_table.specs.Verity.{salt_word, verity_options, verity_words};
 ghost use Rattle.dm_table.specs.Print.{spaced_word};
 
 use crate::digits::push_digits;
@@ -25,6 +26,7 @@ pub(crate) fn print_verity(text: &mut Vec<u8>, verity: &Verity) -> Result<(), Al
     push_spaced(text, b"sha256")?;
     push_digits(text, &verity.root)?;
     print_salt(text, verity.salt.bytes())?;
+    print_options(text, verity.ignore_zero_blocks)?;
     Ok(())
 }
 
@@ -37,4 +39,17 @@ fn print_salt(text: &mut Vec<u8>, salt: &[u8]) -> Result<(), AllocError>
     } else {
         push_digits(text, salt)
     }
+}
+
+// The option and its count, where the line has it.
+fn print_options(text: &mut Vec<u8>, ignore_zero_blocks: bool) -> Result<(), AllocError>
+    ensures { OnOk result
+        (text.new.items ≡ text.old.items
+        ++ flat_map spaced_word (options_words (verity_options ignore_zero_blocks))) }
+{
+    if !ignore_zero_blocks {
+        return Ok(());
+    }
+    push_spaced_number(text, 1)?;
+    push_spaced(text, b"ignore_zero_blocks")
 }

@@ -23,6 +23,8 @@ pub struct Verity {
     /// The digest of the root block.
     pub root: [u8; 32],
     pub salt: Salt,
+    /// `ignore_zero_blocks`: a data block that has the digest of a block of zeros is zeros, and isn't read.
+    pub ignore_zero_blocks: bool,
 }
 
 impl Verity {
@@ -40,6 +42,7 @@ impl Verity {
             start: self.start,
             root: self.root,
             salt: self.salt,
+            ignore_zero_blocks: self.ignore_zero_blocks,
         })
     }
 }

@@ -11,7 +11,7 @@ use crate::digits::decode_digits;
 use crate::fault::{LineFault, TextKind};
 use crate::name::is_device;
 use crate::numbers::{number, read_number};
-use crate::option_words::read_options;
+use crate::option_words::{is_kept, read_options};
 use crate::table::Name;
 use crate::verity::Verity;
 use hash_tree::Salt;
@@ -50,7 +50,8 @@ pub(crate) fn read_verity(alloc: Global, mut arguments: Words<'_>) -> Result<Ver
     check_algorithm(words.algorithm)?;
     let root = read_root(words.root)?;
     let salt = read_salt(words.salt)?;
-    read_options(alloc, arguments, &[])?;
+    let options = read_options(alloc, arguments, &["ignore_zero_blocks"])?;
+    let ignore_zero_blocks = is_kept(&options, b"ignore_zero_blocks");
     let data = Name::new(alloc, words.device)?;
     let hash = Name::new(alloc, words.hash_device)?;
     Ok(Verity {
@@ -62,6 +63,7 @@ pub(crate) fn read_verity(alloc: Global, mut arguments: Words<'_>) -> Result<Ver
         start,
         root,
         salt,
+        ignore_zero_blocks,
     })
 }
 

@@ -4,11 +4,17 @@
 use command_faults::{CommandFault, end};
 use stack_commands::command;
 use stack_session::Counted;
+use std::fs::File;
 use std::io::{BufWriter, ErrorKind};
 use std::process::ExitCode;
 use std::{env, io};
 
 fn main(rt: HostRuntime) -> ExitCode {
+    // In place of a standard stream that is closed stands a folder, which can be neither read nor written: else the first
+    // image that is opened would stand there, and replies be written into it.
+    let _input = File::open(&rt, "/");
+    let _output = File::open(&rt, "/");
+    let _errors = File::open(&rt, "/");
     let Ok(buffered) = BufWriter::new(rt.alloc(), io::writer(&rt)) else {
         let _ = print!(rt; "no memory\n");
         return ExitCode::from(1);

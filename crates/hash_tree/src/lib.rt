@@ -9,10 +9,6 @@ pub mod laws;
 mod packing;
 mod salt;
 mod shape;
-#[cfg(test)]
-mod tests;
-#[cfg(test)]
-mod vectors;
 
 pub use block_digests::{digest, digest_in, digests};
 pub use building::{LevelBuilder, Placed};

@@ -4,5 +4,6 @@ pub mod AdmissionLemmas
 pub mod PartLemmas
 pub mod PremiseLemmas
 pub mod BudgetLemmas
+pub mod ChainLemmas
 pub mod ServedLemmas
 pub mod WholeRunLemmas

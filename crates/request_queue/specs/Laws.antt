@@ -1,11 +1,13 @@
 -- What runs give the requests that are in flight in them.
-use Rattle.std.specs.Prelude.{◌≡◌, ℕ, ◌*◌, ◌<◌, ◌≤◌, Bool, true, false, List, [], ◌∷◌, length, Option, Some, None, Result, Ok, Err, if◌then◌else◌}
+use Rattle.std.specs.Prelude.{◌≡◌, ℕ, ◌*◌, ◌<◌, ◌≤◌, Bool, true, false, List, [], ◌∷◌, length, All, Option, Some, None, Result, Ok, Err, if◌then◌else◌}
+use Rattle.stack_loader.specs.Records.{Configuration}
 use Rattle.stack_engine.specs.declared.fault.IoFault.{IoFault}
 use Rattle.stack_engine.specs.Leaves.{AllSteady}
 use Rattle.stack_engine.specs.Stacks.{StackRecord, AnswerRecord}
 use Rattle.request_queue.specs.declared.reply.Progress.TheVariants.{More, Done}
 use Rattle.request_queue.specs.declared.reply.Reply.{Reply}
 use Rattle.request_queue.specs.declared.range.SectorRange.{SectorRange}
+use Rattle.request_queue.specs.Chains.{chains_of, IsVerified}
 use Rattle.request_queue.specs.Flights.{FlightRecord, first_flight, next_flight, reply_to, work_cost, first_work}
 use Rattle.request_queue.specs.Parts.{PartRelation, AnyPart, SteadyPart, EachPart, Asks}
 use Rattle.request_queue.specs.Ranges.{piece_len}
@@ -61,12 +63,18 @@ pub data IsServed (part : PartRelation) : FlightRecord → List Passage → Opti
 
 -- ---- what a run gives a request
 
+-- a step over that configuration
+abbrev pub IsOver : Configuration → Passage → Type 0
+IsOver c p = p.before.config ≡ c
+
 -- A request that was begun from world w, as world v, and the turns after it. Whatever the leaves answer and whatever
 -- is served in between, its own steps serve it; over steady leaves each piece is what the stack means at its step.
--- It takes no more steps than it has sectors, and these move no more than its budget.
+-- All its steps are over the configuration in which it was begun. It takes no more steps than it has sectors, and
+-- these move no more than its budget.
 pub record RequestLaw (w : World) (r : RequestRecord) (t : ℕ) (range : SectorRange) (v : World) (turns : List Turn) : Type 0 where
   pub any : IsServed AnyPart (first_flight t range r) (passages t v turns) (answer_to t turns)
   pub steady : AllSteady w.stack.leaves → IsServed SteadyPart (first_flight t range r) (passages t v turns) (answer_to t turns)
+  pub config : All (IsOver w.stack.config) (passages t v turns)
   pub steps : length (passages t v turns) ≤ range.count
   pub moved : total (moved_for t) v turns ≤ range.count * work_cost w.stack.config range.device.0 (first_work r)
 
@@ -88,8 +96,10 @@ pub record TurnLaw (w : World) (x : Turn) : Type 0 where
   pub others : (t : ℕ) → t ≤ w.given → is_step t x.event ≡ false → flight_of x.after t ≡ flight_of w t
   pub refused : is_refusal x.event ≡ true → x.after ≡ w
 
--- What holds of every run from a world on.
+-- What holds of every run from a world on. Each chain that an answer hands out is good for its verity line, whatever
+-- the leaves answered, and where it is unlike the data formatted for that line it shows a collision.
 pub record QueueLaw (w : World) : Type 0 where
   pub requests : (before : List Turn) → Run EachPart w before → (r : RequestRecord) (t : ℕ) (v : World) → (b : Begins (last w before) r t v)
       → (turns : List Turn) → Run EachPart v turns → RequestLaw (last w before) r t b.range v turns
   pub turns : (before : List Turn) → Run EachPart w before → (x : Turn) → Step EachPart (last w before) x.event x.after → TurnLaw (last w before) x
+  pub chains : (before : List Turn) → Run EachPart w before → (x : Turn) → Step EachPart (last w before) x.event x.after → All (IsVerified (last w before).stack.config) (chains_of x.event)

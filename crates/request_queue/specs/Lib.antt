@@ -7,5 +7,6 @@ pub mod World
 pub mod Serving
 pub mod Runs
 pub mod Replies
+pub mod Chains
 pub mod Laws
 pub mod WholeRuns

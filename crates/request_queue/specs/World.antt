@@ -6,7 +6,7 @@ use Rattle.stack_loader.specs.declared.refusal.LoadFault.TheVariants as load_fau
 use Rattle.stack_loader.specs.declared.refusal.RemoveFault.{RemoveFault}
 use Rattle.stack_loader.specs.Removal.{removal_fault, after_removal}
 use Rattle.stack_loader.specs.Records.{Configuration}
-use Rattle.stack_loader.specs.Rules.{first_refusal, IsRefusal, after_load}
+use Rattle.stack_loader.specs.Rules.{first_refusal, IsLoaded, IsRefusal, after_load}
 use Rattle.stack_engine.specs.declared.fault.IoFault.{IoFault}
 use Rattle.stack_engine.specs.Stacks.{StackRecord, AnswerRecord}
 use Rattle.request_queue.specs.declared.fault.Held.{Held}
@@ -116,11 +116,12 @@ Steps part w ticket (Err none) w' = (position (has_ticket ticket) w.in_flight �
 
 -- ---- loads and removals
 
--- the devices of a text are put in
+-- the devices of a text are put in, and no rule refuses the configuration that stands then
 pub record LoadDone (w : World) (text : List Entry) (w' : World) : Type 0 where
   pub idle : w.in_flight ≡ []
   pub passes : first_refusal w.stack.config text ≡ None
   pub leaves : w' ≡ world (record { config = after_load w.stack.config text; leaves = w.stack.leaves }) w.given w.in_flight
+  pub loaded : IsLoaded w'.stack.config
 
 abbrev pub LoadFails : World → List Entry → LoadFault → Type 0
 LoadFails w text (load_fault.Refused refusal) = IsRefusal w.stack.config text refusal
@@ -131,11 +132,12 @@ Loads w text (Ok done) w' = LoadDone w text w'
 Loads w text (Err Busy) w' = (w.in_flight ≢ []) × (w' ≡ w)
 Loads w text (Err (Fault fault)) w' = (w.in_flight ≡ []) × LoadFails w text fault × (w' ≡ w)
 
--- the device of that name is removed
+-- the device of that name is removed, and no rule refuses the configuration that stands then
 pub record RemovalDone (w : World) (name : List ℕ) (w' : World) : Type 0 where
   pub idle : w.in_flight ≡ []
   pub passes : removal_fault w.stack.config name ≡ None
   pub leaves : w' ≡ world (record { config = after_removal w.stack.config name; leaves = w.stack.leaves }) w.given w.in_flight
+  pub loaded : IsLoaded w'.stack.config
 
 abbrev pub Removes : World → List ℕ → Result Unit (Held RemoveFault) → World → Type 0
 Removes w name (Ok done) w' = RemovalDone w name w'

@@ -8,8 +8,6 @@ mod queue;
 mod range;
 mod reply;
 mod request;
-#[cfg(test)]
-mod tests;
 mod work;
 
 pub use fault::{Held, NoSuchTicket, RunFault, SubmitFault};

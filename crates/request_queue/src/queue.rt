@@ -20,6 +20,7 @@ use crate::request::Request;
 use crate::work::Work;
 use block_device::BlockDev;
 use dm_table::StackText;
+use stack_engine::laws::{answered_chains_are_good, forged_answers_collide};
 use stack_engine::{IoFault, Stack};
 use stack_loader::{LoadFault, RemoveFault};
 use std::alloc::Global;
@@ -52,6 +53,10 @@ impl<D: BlockDev> Queue<D> {
         ensures value { result ≡ record { stack = stack; given = 0; in_flight = [] } }
         ensures law { QueueLaw result }
     {
+        // The laws of pieces, and what holds of every stack, are learned from calls.
+        answered_chains_are_good();
+        forged_answers_collide();
+        let _loaded = stack.config();
         Queue {
             alloc,
             stack,
@@ -190,7 +195,10 @@ impl<D: BlockDev> Queue<D> {
         if !self.flights.is_empty() {
             return Err(Held::Busy);
         }
-        match self.stack.load(text) {
+        let outcome = self.stack.load(text);
+        // As in `new`.
+        let _loaded = self.stack.config();
+        match outcome {
             Ok(()) => Ok(()),
             Err(fault) => Err(Held::Fault(fault)),
         }
@@ -204,7 +212,10 @@ impl<D: BlockDev> Queue<D> {
         if busy {
             return Err(Held::Busy);
         }
-        match self.stack.remove(name) {
+        let outcome = self.stack.remove(name);
+        // As in `new`.
+        let _loaded = self.stack.config();
+        match outcome {
             Ok(()) => Ok(()),
             Err(fault) => Err(Held::Fault(fault)),
         }

@@ -3,14 +3,10 @@
 
 mod big_endian;
 mod digests;
-#[cfg(test)]
-mod expected;
 mod functions;
 mod hashing;
 mod message;
 mod rounds;
-#[cfg(test)]
-mod tests;
 mod vectors;
 
 pub use hashing::digest_eight;

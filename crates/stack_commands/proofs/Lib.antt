@@ -5,5 +5,6 @@ pub mod ConfigurationLemmas
 pub mod FileUseLemmas
 pub mod GrammarLemmas
 pub mod OpeningLemmas
+pub mod RecoveryLemmas
 pub mod ServeLemmas
 pub mod SyncLemmas

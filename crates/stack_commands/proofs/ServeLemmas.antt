@@ -9,7 +9,7 @@ use Rattle.stack_session.specs.declared.fault.SessionFault.{SessionFault}
 use Rattle.stack_session.specs.QueueSessions.{IsQueueSession}
 use Rattle.stack_session.specs.Session.{Streams}
 use Rattle.command_faults.specs.declared.fault.CommandFault.{CommandFault}
-use Rattle.command_faults.specs.declared.fault.CommandFault.TheVariants.{Usage, NoMemory, TooLong, Open, Leaves, Text, Load, Submit, Io, Format, Verify, Differs, Random, Session}
+use Rattle.command_faults.specs.declared.fault.CommandFault.TheVariants.{Usage, NoMemory, TooLong, Open, Leaves, Text, Load, Submit, Io, Format, Verify, Differs, Random, Lost, OutputTooSmall, OutputFailed, Session}
 use Rattle.stack_commands.specs.Bindings.{AreBound, BindingRecord}
 use Rattle.stack_commands.specs.Configuration.{leaves_alone}
 use Rattle.stack_commands.specs.Openings.{IsBindingEnd}
@@ -41,6 +41,9 @@ IsServeEnd-unopened bindings s (Format fault) ends = (refl, inl ends)
 IsServeEnd-unopened bindings s (Verify fault) ends = (refl, inl ends)
 IsServeEnd-unopened bindings s (Differs verdict) ends = (refl, inl ends)
 IsServeEnd-unopened bindings s Random ends = (refl, inl ends)
+IsServeEnd-unopened bindings s (Lost read lost) ends = (refl, inl ends)
+IsServeEnd-unopened bindings s (OutputTooSmall needed) ends = (refl, inl ends)
+IsServeEnd-unopened bindings s OutputFailed ends = (refl, inl ends)
 IsServeEnd-unopened bindings s (Session fault) ends = absurd (no-session bindings fault ends)
 
 -- a session over a new queue

@@ -10,7 +10,7 @@ use Rattle.dm_table.specs.Numbers.{number, number_if}
 use Rattle.command_faults.specs.declared.fault.CommandFault.{CommandFault}
 use Rattle.command_faults.specs.declared.fault.CommandFault.TheVariants.{Usage, NoMemory}
 use Rattle.stack_commands.specs.declared.command_words.Invocation.{Invocation}
-use Rattle.stack_commands.specs.declared.command_words.Invocation.TheVariants.{Load, Read, Write, Session, Format, Verify, Dump, Table}
+use Rattle.stack_commands.specs.declared.command_words.Invocation.TheVariants.{Load, Read, Write, Session, Scan, Copy, Format, Verify, Dump, Table}
 use Rattle.stack_commands.specs.declared.command_words.Sectors.{Sectors}
 use Rattle.stack_commands.specs.declared.command_words.Transfer.{Transfer}
 use Rattle.request_queue.specs.Requests.{RequestRecord, a_read, a_write}
@@ -25,6 +25,10 @@ pub data InvocationRecord : Type 0 where
   write : ℕ → List ℕ → List ℕ → ℕ → List ℕ → List BindingRecord → InvocationRecord
   -- how many blocks are cached, and bindings
   session : ℕ → List BindingRecord → InvocationRecord
+  -- a stack file, a device's name, and bindings
+  scan : List ℕ → List ℕ → List BindingRecord → InvocationRecord
+  -- a stack file, a device's name, an image, and bindings
+  copy : List ℕ → List ℕ → List ℕ → List BindingRecord → InvocationRecord
   -- a data image, and a hash image
   format : List ℕ → List ℕ → InvocationRecord
   -- a data image, a hash image, and a root digest
@@ -81,6 +85,16 @@ write_of cache words = None
 abbrev pub session_of : ℕ → List (List ℕ) → Option InvocationRecord
 session_of cache words = option_map (session cache) (bindings_of words)
 
+-- `STACK NAME BINDING...`
+abbrev pub scan_of : List (List ℕ) → Option InvocationRecord
+scan_of (stack ∷ name ∷ words) = option_map (scan stack name) (bindings_of words)
+scan_of words = None
+
+-- `STACK NAME OUT BINDING...`
+abbrev pub copy_of : List (List ℕ) → Option InvocationRecord
+copy_of (stack ∷ name ∷ out ∷ words) = option_map (copy stack name out) (bindings_of words)
+copy_of words = None
+
 -- 64 hexadecimal digits as 32 bytes
 unfoldable pub root_of : List ℕ → Option (List ℕ)
 root_of word = result_ok (decode_sized word 32)
@@ -117,6 +131,8 @@ invocation_at name cache words =
     else if bytes_eq name (codes "read") then read_of cache words
     else if bytes_eq name (codes "write") then write_of cache words
     else if bytes_eq name (codes "session") then session_of cache words
+    else if bytes_eq name (codes "scan") then scan_of words
+    else if bytes_eq name (codes "copy") then copy_of words
     else if bytes_eq name (codes "format") then format_of words
     else if bytes_eq name (codes "verify") then verify_of words
     else if bytes_eq name (codes "dump") then dump_of words
@@ -135,6 +151,8 @@ invocation_record (Load stack bindings) = load stack.now (map binding_record bin
 invocation_record (Read cache stack sectors bindings) = read cache stack.now sectors.name.now sectors.first sectors.count (map binding_record bindings.items)
 invocation_record (Write cache stack transfer bindings) = write cache stack.now transfer.name.now transfer.first transfer.source.now (map binding_record bindings.items)
 invocation_record (Session cache bindings) = session cache (map binding_record bindings.items)
+invocation_record (Scan stack name bindings) = scan stack.now name.now (map binding_record bindings.items)
+invocation_record (Copy stack name out bindings) = copy stack.now name.now out.now (map binding_record bindings.items)
 invocation_record (Format image hash) = format image.now hash.now
 invocation_record (Verify image hash root) = verify image.now hash.now root
 invocation_record (Dump hash) = dump hash.now

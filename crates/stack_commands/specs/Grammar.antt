@@ -53,6 +53,10 @@ with_stacks a =
     with_subcommand (with_subcommand (with_subcommand (with_subcommand a (positional (codes "load")).top) (cached (codes "read")).top) (cached (codes "write")).top)
     (cached (codes "session")).top
 
+-- the commands that go over a device
+abbrev pub with_recovery : App → App
+with_recovery a = with_subcommand (with_subcommand a (positional (codes "scan")).top) (positional (codes "copy")).top
+
 -- all commands
 unfoldable pub grammar : App
-grammar = with_stacks (with_images program)
+grammar = with_recovery (with_stacks (with_images program))

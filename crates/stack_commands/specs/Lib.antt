@@ -5,6 +5,8 @@ pub mod Configuration
 pub mod FileUses
 pub mod Grammar
 pub mod Openings
+pub mod Recoveries
+pub mod Recovering
 pub mod Requests
 pub mod StackCommands
 pub mod Syncs

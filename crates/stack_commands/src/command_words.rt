@@ -2,7 +2,7 @@
 ghost use Rattle.std.specs.Prelude.{◌≡◌, map, drop, Some, None, IfOk, IfErr, option_map};
 ghost use Rattle.std.specs.List.{list_any};
 ghost use Rattle.stack_commands.specs.Bindings.{binding_record};
-ghost use Rattle.stack_commands.specs.CommandWords.{IsUsage, bindings_of, cache_of, dump_of, format_of, invocation_at, invocation_of, invocation_record, is_option, load_of, read_of, root_of, session_of, table_of, verify_of, write_of};
+ghost use Rattle.stack_commands.specs.CommandWords.{IsUsage, bindings_of, cache_of, copy_of, dump_of, format_of, invocation_at, invocation_of, invocation_record, is_option, load_of, read_of, root_of, scan_of, session_of, table_of, verify_of, write_of};
 
 use crate::bindings::{Binding, binding_of};
 use command_faults::CommandFault;
@@ -54,6 +54,19 @@ pub enum Invocation<'a> {
     /// `session [--cache N] BINDING...`
     Session {
         cache: u32,
+        bindings: Vec<Binding<'a>>,
+    },
+    /// `scan STACK NAME BINDING...`
+    Scan {
+        stack: &'a str,
+        name: &'a str,
+        bindings: Vec<Binding<'a>>,
+    },
+    /// `copy STACK NAME OUT BINDING...`
+    Copy {
+        stack: &'a str,
+        name: &'a str,
+        out: &'a str,
         bindings: Vec<Binding<'a>>,
     },
     /// `format [OPTIONS] DATA HASH`
@@ -117,6 +130,10 @@ fn invocation_at<'a>(
         write_of(alloc, cache, words)
     } else if name == b"session".as_slice() {
         session_of(alloc, cache, words)
+    } else if name == b"scan".as_slice() {
+        scan_of(alloc, words)
+    } else if name == b"copy".as_slice() {
+        copy_of(alloc, words)
     } else if name == b"format".as_slice() {
         format_of(words)
     } else if name == b"verify".as_slice() {
@@ -211,6 +228,43 @@ fn session_of<'a>(
 {
     match bindings_of(alloc, words) {
         Ok(bindings) => Ok(Invocation::Session { cache, bindings }),
+        Err(fault) => Err(fault),
+    }
+}
+
+// `STACK NAME BINDING...`
+fn scan_of<'a>(alloc: Global, words: &[&'a str]) -> Result<Invocation<'a>, CommandFault<'a>>
+    ensures ok { IfOk result (λ got. scan_of (map (λ word. word.now) words.now) ≡ Some (invocation_record got)) }
+    ensures err { IfErr result (λ fault. IsUsage fault (scan_of (map (λ word. word.now) words.now) ≡ None)) }
+{
+    let [stack, name, rest @ ..] = words else {
+        return Err(CommandFault::Usage);
+    };
+    match bindings_of(alloc, rest) {
+        Ok(bindings) => Ok(Invocation::Scan {
+            stack,
+            name,
+            bindings,
+        }),
+        Err(fault) => Err(fault),
+    }
+}
+
+// `STACK NAME OUT BINDING...`
+fn copy_of<'a>(alloc: Global, words: &[&'a str]) -> Result<Invocation<'a>, CommandFault<'a>>
+    ensures ok { IfOk result (λ got. copy_of (map (λ word. word.now) words.now) ≡ Some (invocation_record got)) }
+    ensures err { IfErr result (λ fault. IsUsage fault (copy_of (map (λ word. word.now) words.now) ≡ None)) }
+{
+    let [stack, name, out, rest @ ..] = words else {
+        return Err(CommandFault::Usage);
+    };
+    match bindings_of(alloc, rest) {
+        Ok(bindings) => Ok(Invocation::Copy {
+            stack,
+            name,
+            out,
+            bindings,
+        }),
         Err(fault) => Err(fault),
     }
 }

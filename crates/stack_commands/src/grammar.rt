@@ -5,7 +5,7 @@ ghost use Rattle.clap.specs.Takes.{takes};
 ghost use Rattle.clap.specs.Walk.{rule_of};
 ghost use Rattle.clap.specs.declared.builder.command.Command.TheViews.{out-Command as fields_of};
 ghost use Rattle.stack_commands.specs.CommandWords.{IsUsage};
-ghost use Rattle.stack_commands.specs.Grammar.{cached, formatting, grammar, option, positional, program, with_images, with_stacks};
+ghost use Rattle.stack_commands.specs.Grammar.{cached, formatting, grammar, option, positional, program, with_images, with_recovery, with_stacks};
 
 use clap::error::ErrorKind;
 use clap::{Arg, ArgAction, ArgMatches, Command};
@@ -36,7 +36,8 @@ fn grammar<'a>(alloc: Global) -> Result<Command<'a>, AllocError>
     ensures { IfOk result (λ c. app_of c ≡ grammar) }
 {
     let images = with_images(alloc, program(alloc))?;
-    with_stacks(alloc, images)
+    let stacks = with_stacks(alloc, images)?;
+    with_recovery(alloc, stacks)
 }
 
 // A command is wanted, and there is no help.
@@ -71,6 +72,15 @@ fn with_stacks<'a>(alloc: Global, command: Command<'a>) -> Result<Command<'a>, A
         .subcommand(cached(alloc, "read")?)?
         .subcommand(cached(alloc, "write")?)?
         .subcommand(cached(alloc, "session")?)
+}
+
+// Adds the commands that go over a device.
+fn with_recovery<'a>(alloc: Global, command: Command<'a>) -> Result<Command<'a>, AllocError>
+    ensures { IfOk result (λ c. app_of c ≡ with_recovery (app_of command.entry)) }
+{
+    command
+        .subcommand(positional(alloc, "scan")?)?
+        .subcommand(positional(alloc, "copy")?)
 }
 
 // A command of positional words.

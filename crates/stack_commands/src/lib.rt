@@ -4,6 +4,8 @@
 mod bindings;
 mod command_words;
 mod configuration;
+mod copy;
+mod device;
 mod file_use;
 mod grammar;
 mod image_options;
@@ -12,6 +14,7 @@ mod opening;
 mod program;
 mod read;
 mod request;
+mod scan;
 mod serve;
 mod source;
 mod sync;

@@ -5,10 +5,12 @@ ghost use Rattle.stack_commands.specs.CommandWords.{invocation_record};
 ghost use Rattle.stack_commands.specs.Commands.{EndsEarly, Fails, IsDone, IsRunEnd, Succeeds};
 
 use crate::command_words::{Invocation, invocation_of};
+use crate::copy::copy_files;
 use crate::grammar::matches_of;
 use crate::image_options::options_of;
 use crate::load::load_files;
 use crate::read::read_files;
+use crate::scan::scan_files;
 use crate::serve::serve_files;
 use crate::write::write_files;
 use clap::ArgMatches;
@@ -95,6 +97,17 @@ fn invoke<'a, R: Files<File = File> + AllocGlobal + RandomSource, S: Read, W: Wr
         Invocation::Session { cache, bindings } => {
             serve_files(rt, cache, bindings.as_slice(), reader, writer)
         }
+        Invocation::Scan {
+            stack,
+            name,
+            bindings,
+        } => scan_files(rt, stack, name, bindings.as_slice(), writer),
+        Invocation::Copy {
+            stack,
+            name,
+            out,
+            bindings,
+        } => copy_files(rt, stack, name, out, bindings.as_slice(), writer),
         Invocation::Format { data, hash } => {
             let options = options_of(rt.alloc(), found)?;
             format_files(rt, options, data, hash, writer)

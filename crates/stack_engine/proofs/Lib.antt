@@ -6,6 +6,9 @@ pub mod WriteLeafLemmas
 pub mod WritableLemmas
 pub mod StripeLemmas
 pub mod VerityLineLemmas
+pub mod StandingLemmas
+pub mod ForgetLemmas
+pub mod CachedLemmas
 pub mod BlockPartLemmas
 pub mod SourceLemmas
 pub mod EncryptLemmas
@@ -15,3 +18,4 @@ pub mod WriteSourceLemmas
 pub mod CryptWriteLemmas
 pub mod HeldLemmas
 pub mod ExampleLemmas
+pub mod TableLineLemmas

@@ -1,5 +1,5 @@
 -- Laws of what a stack means and of what is answered.
-use Rattle.std.specs.Prelude.{◌≡◌, ◌≢◌, ℕ, ◌-◌, ◌*◌, List, [], ◌∷◌, ◌++◌, flat_map, map, All, Contains, Some, Ok}
+use Rattle.std.specs.Prelude.{◌≡◌, ◌≢◌, ℕ, ◌-◌, ◌*◌, ◌/◌, IsTrue, if◌then◌else◌, List, [], ◌∷◌, ◌++◌, flat_map, map, All, Contains, Some, Ok}
 use Rattle.std.specs.List.{slice_index_or, concat}
 use Rattle.sha2.specs.Sha256.{sha256}
 use Rattle.hash_tree.specs.declared.difference.Place.{Place}
@@ -20,12 +20,12 @@ use Rattle.stack_loader.specs.Lines.{line_at}
 use Rattle.stack_loader.specs.Names.{mapped, lowers}
 use Rattle.stack_loader.specs.Records.{Configuration}
 use Rattle.stack_loader.specs.Rules.{IsLoaded}
-use Rattle.stack_loader.specs.Trees.{tree_of, data_sectors}
-use Rattle.stack_engine.specs.Blocks.{hash_sectors}
+use Rattle.stack_loader.specs.Trees.{tree_of, data_sectors, block_sectors, zero_block}
+use Rattle.stack_engine.specs.Blocks.{hash_sectors, is_ignored}
 use Rattle.stack_engine.specs.Found.{FoundRecord}
 use Rattle.stack_engine.specs.May.{MayBe}
 use Rattle.stack_engine.specs.Meaning.{sector, said_by_name}
-use Rattle.stack_engine.specs.Outcomes.{Images, Outcome, span, part}
+use Rattle.stack_engine.specs.Outcomes.{Images, Outcome, span, part, zero_sector}
 use Rattle.stack_engine.specs.Walks.{HasVerity}
 
 -- ---- a verity line over formatted devices
@@ -54,12 +54,19 @@ pub record LiesInVerity (c : Configuration) (d s l : ℕ) (line : Line) (v : Ver
   pub found : line_at c d s ≡ Some (l, line)
   pub has : line.target ≡ verity_target v
 
--- a sector of a verity line over formatted devices is the data's
+-- Sector w of a line over the blocks: the data's, or zeros where the line ignores blocks of zeros and the data block
+-- has the digest of one.
+abbrev pub formatted_sector : Verity → List (List ℕ) → ℕ → List ℕ
+formatted_sector v blocks w =
+    if is_ignored v (digest v.salt (slice_index_or blocks (w / block_sectors v) [])) then zero_sector
+    else part (concat blocks) w
+
+-- that is what each sector of a verity line over formatted devices means
 abbrev pub FormattedDataIsRead : Type 0
 FormattedDataIsRead = (c : Configuration) → IsLoaded c → (images : Images) → AreWhole images
     → (d s l : ℕ) (line : Line) (v : Verity) → LiesInVerity c d s l line v
     → (blocks : List (List ℕ)) → AreFormatted c images v blocks
-    → sector c images (mapped d) s ≡ Ok (part (concat blocks) (s - line.start))
+    → sector c images (mapped d) s ≡ Ok (formatted_sector v blocks (s - line.start))
 
 -- ---- the leaves beneath a device
 
@@ -98,3 +105,11 @@ ForgedAnswersCollide = (c : Configuration) → IsLoaded c → (lower : Lower) (f
     → x.chain.content ≢ slice_index_or blocks x.chain.index []
     → (place : Place) × (IsTopmostDifference (formed (tree_of v) v.salt blocks x.chain.index) x.chain place
     × IsSha256Collision (v.salt ++ chain_block (formed (tree_of v) v.salt blocks x.chain.index) place) (v.salt ++ chain_block x.chain place))
+
+-- ---- blocks that are ignored
+
+-- A block that a line takes for one of zeros, and that isn't: it and the block of zeros are two different inputs of
+-- one digest.
+abbrev pub IgnoredBlocksCollide : Type 0
+IgnoredBlocksCollide = (v : Verity) (block : List ℕ) → IsTrue (is_ignored v (digest v.salt block)) → block ≢ zero_block v
+    → IsSha256Collision (v.salt ++ block) (v.salt ++ zero_block v)

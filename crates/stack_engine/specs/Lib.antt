@@ -12,6 +12,7 @@ pub mod Places
 pub mod Reading
 pub mod Sources
 pub mod Walks
+pub mod Standing
 pub mod Caches
 pub mod Puts
 pub mod Changes
@@ -21,3 +22,4 @@ pub mod Pieces
 pub mod WritePieces
 pub mod IoFaults
 pub mod Laws
+pub mod TableLines

@@ -5,7 +5,7 @@ use Rattle.stack_loader.specs.Records.{Configuration}
 use Rattle.stack_loader.specs.Rules.{IsLoaded}
 use Rattle.stack_engine.specs.Found.{FoundRecord}
 use Rattle.stack_engine.specs.Leaves.{ServeLeaves}
-use Rattle.stack_engine.specs.Caches.{CacheRecord, IsCacheOf}
+use Rattle.stack_engine.specs.Caches.{StackCache, IsCacheOf}
 
 -- a configuration, and the devices of its leaves in order
 pub record StackRecord : Type 0 where
@@ -18,7 +18,7 @@ pub record IsSound (c : Configuration) (leaves : List Device) : Type 0 where
   pub serve : ServeLeaves c.leaves leaves
 
 -- what holds of its configuration, its leaves and its cache
-pub record IsStack (c : Configuration) (leaves : List Device) (cache : CacheRecord) : Type 0 where
+pub record IsStack (c : Configuration) (leaves : List Device) (cache : StackCache) : Type 0 where
   pub sound : IsSound c leaves
   pub cached : IsCacheOf c leaves cache
 

@@ -14,7 +14,7 @@ use Rattle.stack_engine.specs.declared.fault.IoFault.{IoFault}
 use Rattle.stack_engine.specs.declared.tree.Tree.{Tree}
 use Rattle.stack_engine.specs.Sectors.{SomeOf}
 use Rattle.stack_engine.specs.Outcomes.{Outcome, Fault, mismatch, Images}
-use Rattle.stack_engine.specs.Blocks.{hash_sectors, checked_span, block_below, block_at, BlockMeets}
+use Rattle.stack_engine.specs.Blocks.{hash_sectors, checked_span, data_block_at, block_below, block_at, BlockMeets}
 use Rattle.stack_engine.specs.Leaves.{images_of, AllSteady, AreRead}
 use Rattle.stack_engine.specs.Meaning.{said_by_name}
 use Rattle.stack_engine.specs.Places.{Place, Expected}
@@ -76,6 +76,16 @@ block_in c v i = record { verity = v; on_data = place_named c v.data; on_hash = 
 -- what it means over the leaves' images, where l levels are left and that digest is expected
 abbrev pub means_below : DataBlock → Images → ℕ → List ℕ → Outcome
 means_below b images l expected = block_below b.verity (λ s. (b.on_data.said s).means images) (λ s. (b.on_hash.said s).means images) b.index l expected
+
+-- of itself, where that digest is expected of it
+abbrev pub data_expected : {A : Type 0} → (A → List ℕ) → DataBlock → List ℕ → Expected A
+data_expected bytes_of b expected = record {
+  is = λ x. IsBlock (block_sectors b.verity) b.verity.salt expected (bytes_of x);
+  faults = SpanMeets b.on_data (block_sectors b.verity * b.index) (block_sectors b.verity);
+  bytes_of = bytes_of;
+  means = λ images. data_block_at b.verity (λ s. (b.on_data.said s).means images) b.index expected;
+  cost = block_sectors b.verity * b.on_data.cost;
+}
 
 -- of its chain
 abbrev pub chain_expected : DataBlock → Expected ChainRecord

@@ -27,6 +27,15 @@ pub(crate) fn zero_sectors(alloc: Global, sectors: u32) -> Result<Vec<u8>, Alloc
     Ok(bytes)
 }
 
+/// A block of zeros of that size.
+pub(crate) fn zero_block(alloc: Global, size: u32) -> Result<Vec<u8>, AllocError>
+    requires { size ≤ 4096 }
+    ensures { IfOk result (λ block. block.items ≡ replicate size 0) }
+{
+    let zeros = [0u8; 4096];
+    Vec::from_slice(alloc, &zeros[..size as usize])
+}
+
 /// The bytes of a write once more where a line on its way encrypts some of them; else none.
 pub(crate) fn bytes_to_encrypt(
     alloc: Global,

@@ -1,26 +1,158 @@
-// The place of a stack's cache.
-ghost use Rattle.std.specs.Prelude.{◌≡◌};
+// The hash blocks that a stack keeps.
+ghost use Rattle.std.specs.Prelude.{◌≡◌, ◌<◌, ◌==◌, ◌||◌, ◌&&◌, [], ℕ, length, option_map, IfOk, OnOk, OnErr};
+ghost use Rattle.stack_loader.specs.Names.{lines_of};
+ghost use Rattle.stack_loader.specs.Records.{Configuration};
+ghost use Rattle.stack_loader.specs.Rules.{IsLoaded, most_leaves};
+ghost use Rattle.verified_cache.specs.Cache.{CachedBlock, block_under, cache_after_find, cache_after_keep};
+ghost use Rattle.stack_engine.specs.Standing.{contains, stands_on, line_stands_on, key_stands_on, cache_without, cache_without_leaf, IsInside, KnowsLeaves, AreLeafSets, CoversBlocks};
+ghost use Rattle.stack_engine.specs.Caches.{IsFresh};
 
+use crate::leaf_set::LeafSet;
+use crate::leaf_sets::{is_verity, leaf_sets, lower_leaves};
+use stack_loader::{Config, DevId, Lower};
+use std::alloc::{AllocError, Global};
 use std::marker::Model;
+use verified_cache::{BlockCache, Key};
 
-/// How many hash blocks a stack may keep. None is kept yet.
+/// Hash blocks of verity lines, each of which was checked before it was kept.
 #[derive(Drop)]
 pub(crate) struct Cache {
-    capacity: u32,
+    blocks: BlockCache,
+    // The leaves on which each mapped device stands.
+    beneath: [LeafSet; 64],
+    // Those on which the hash devices of the kept blocks' lines stand, and maybe others.
+    covered: LeafSet,
 }
 
 impl Model for Cache {
-    ghost use Rattle.stack_engine.specs.Caches.{CacheRecord};
+    ghost use Rattle.stack_engine.specs.Caches.{StackCache};
 
-    ghost Value = { CacheRecord };
+    ghost Value = { StackCache };
 
-    ghost view = { λ c. record { capacity = c.capacity } };
+    ghost view = { λ c. record { blocks = c.blocks; beneath = c.beneath; covered = c.covered } };
 }
 
 impl Cache {
-    pub(crate) fn new(capacity: u32) -> Cache
-        ensures { result.capacity ≡ capacity }
+    /// An empty cache of at most `capacity` blocks.
+    pub(crate) fn new(alloc: Global, config: &Config, capacity: u32) -> Result<Cache, AllocError>
+        requires { IsLoaded config.now }
+        ensures { IfOk result (IsFresh config.now capacity) }
     {
-        Cache { capacity }
+        let blocks = BlockCache::new(alloc, capacity)?;
+        Ok(Cache {
+            blocks,
+            beneath: leaf_sets(config),
+            covered: LeafSet::empty(),
+        })
+    }
+
+    /// Drops all blocks, and finds out anew which leaves stand beneath which device.
+    pub(crate) fn start_over(&mut self, config: &Config)
+        requires { IsLoaded config.now }
+        ensures { IsFresh config.now self.old.blocks.capacity self.new }
+    {
+        self.blocks.forget_all();
+        self.beneath = leaf_sets(config);
+        self.covered = LeafSet::empty();
+    }
+
+    /// A copy of the block kept under that key and that digest, if there is one.
+    pub(crate) fn copy_of(
+        &mut self,
+        alloc: Global,
+        key: Key,
+        digest: &[u8; 32],
+    ) -> Result<Option<Vec<u8>>, AllocError>
+        ensures leaves { self.new ≡ record self.old { blocks = cache_after_find key digest.now self.old.blocks } }
+        ensures answer { IfOk result (λ copy. option_map (λ block. block.items) copy ≡ option_map (λ b. b.bytes) (block_under key digest.now self.old.blocks)) }
+    {
+        match self.blocks.find(key, digest) {
+            None => Ok(None),
+            Some(block) => {
+                let copy = Vec::from_slice(alloc, block)?;
+                Ok(Some(copy))
+            }
+        }
+    }
+
+    /// Notes that a block of a line with that hash device may be kept.
+    pub(crate) fn cover(&mut self, hash: Lower)
+        requires { IsInside hash }
+        ensures rest { self.new ≡ record self.old { covered = self.new.covered } }
+        ensures covered { (c : Configuration) → IsLoaded c → KnowsLeaves c self.old.beneath hash → (i : ℕ) → contains self.new.covered i ≡ (contains self.old.covered i || stands_on c i hash) }
+    {
+        self.covered = self.covered.union(lower_leaves(&self.beneath, hash));
+    }
+
+    /// Keeps a copy of the block.
+    pub(crate) fn keep_copy(
+        &mut self,
+        alloc: Global,
+        key: Key,
+        digest: [u8; 32],
+        block: &[u8],
+    ) -> Result<(), AllocError>
+        ensures ok { OnOk result (self.new ≡ record self.old { blocks = cache_after_keep (record { key = key; digest = digest; bytes = block.now }) self.old.blocks }) }
+        ensures err { OnErr result (self.new ≡ self.old) }
+    {
+        // What holds of every cache is learned from a call.
+        let _count = self.blocks.len();
+        if self.blocks.capacity() == 0 {
+            return Ok(());
+        }
+        let copy = Vec::from_slice(alloc, block)?;
+        self.blocks.keep(key, digest, copy)
+    }
+
+    /// Whether the hash device of a line is the leaf, or stands on it.
+    fn is_hashed_on(&self, config: &Config, d: DevId, line: u32, leaf: u32) -> bool
+        requires loaded { IsLoaded config.now }
+        requires device { d.0 < length config.now.devices }
+        requires line { line < length (lines_of config.now d.0) }
+        requires leaf { leaf < most_leaves }
+        requires sets { AreLeafSets config.now self.now.beneath }
+        ensures { result ≡ line_stands_on config.now leaf d.0 line }
+    {
+        let lines = config.table(d).lines();
+        if !is_verity(&lines[line as usize].target) {
+            return false;
+        }
+        let hash = config.lower(d, line, 1);
+        lower_leaves(&self.beneath, hash).contains(leaf)
+    }
+
+    /// Drops the blocks of the lines of one device whose hash device is the leaf, or stands on it.
+    fn forget_of_device(&mut self, config: &Config, d: DevId, leaf: u32)
+        requires loaded { IsLoaded config.now }
+        requires device { d.0 < length config.now.devices }
+        requires leaf { leaf < most_leaves }
+        requires sets { AreLeafSets config.now self.old.beneath }
+        ensures { self.new ≡ record self.old { blocks = cache_without (λ key. key.device == d.0 && key_stands_on config.now leaf key) self.old.blocks } }
+    {
+        let count = config.table(d).lines().len();
+        for line in 0..count {
+            if self.is_hashed_on(config, d, line as u32, leaf) {
+                self.blocks.forget_line(d.0, line as u32);
+            }
+        }
+    }
+
+    /// The same of each device. Where no block was kept for such a line since the last time, that is known at once.
+    pub(crate) fn forget_leaf(&mut self, config: &Config, leaf: u32)
+        requires loaded { IsLoaded config.now }
+        requires leaf { leaf < most_leaves }
+        requires sets { AreLeafSets config.now self.old.beneath }
+        requires covers { CoversBlocks config.now self.old.covered self.old.blocks.blocks }
+        ensures blocks { self.new.blocks ≡ cache_without_leaf config.now leaf self.old.blocks }
+        ensures sets { self.new.beneath ≡ self.old.beneath }
+        ensures covers { CoversBlocks config.now self.new.covered self.new.blocks.blocks }
+    {
+        if !self.covered.contains(leaf) {
+            return;
+        }
+        for place in 0..config.count() {
+            self.forget_of_device(config, DevId(place as u32), leaf);
+        }
+        self.covered = self.covered.without(leaf);
     }
 }

@@ -1,15 +1,23 @@
 //! Laws of the definitions: each function's contract is the law, and its call gives it.
-ghost use Rattle.stack_engine.specs.Laws.{FormattedDataIsRead, SpansStandOnLeaves, AnsweredChainsAreGood, ForgedAnswersCollide};
+ghost use Rattle.stack_engine.specs.Laws.{FormattedDataIsRead, IgnoredBlocksCollide, SpansStandOnLeaves, AnsweredChainsAreGood, ForgedAnswersCollide};
+ghost use Rattle.stack_engine.specs.TableLines.{TableLinesReadBack};
 
 use hash_tree::laws::{forged_blocks_collide, formed_chains_are_good};
 
 /// Where the data device begins with some blocks, the hash device has their tree and the line its root, a sector
-/// of the verity line is the data's sector.
+/// of the verity line is the data's sector; or zeros, where the line has `ignore_zero_blocks` and the data block the
+/// digest of a block of zeros.
 pub fn formatted_data_is_read()
     ensures { FormattedDataIsRead }
 {
     formed_chains_are_good();
 }
+
+/// A data block that isn't zeros and has the digest of a block of zeros: the salt before each of the two are two
+/// different inputs of one SHA-256 digest.
+pub fn ignored_blocks_collide()
+    ensures { IgnoredBlocksCollide }
+{}
 
 /// A span of a device depends on the images of the leaves beneath it alone.
 pub fn spans_stand_on_leaves()
@@ -28,3 +36,8 @@ pub fn forged_answers_collide()
 {
     forged_blocks_collide();
 }
+
+/// The text that `verity_format::table_line` gives reads back as one `verity` line with those arguments.
+pub fn table_lines_read_back()
+    ensures { TableLinesReadBack }
+{}

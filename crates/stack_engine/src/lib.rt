@@ -9,13 +9,13 @@ mod encrypts;
 mod fault;
 mod found;
 pub mod laws;
+mod leaf_set;
+mod leaf_sets;
 mod read;
 mod reader;
 mod serve;
 mod source;
 mod stack;
-#[cfg(test)]
-mod tests;
 mod tree;
 mod units;
 mod write;

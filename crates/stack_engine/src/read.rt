@@ -8,21 +8,25 @@ ghost use Rattle.stack_engine.specs.Kept.{AllKept};
 ghost use Rattle.stack_engine.specs.Places.{place_of, run_expected};
 ghost use Rattle.stack_engine.specs.Reading.{Gets, Reads, buffer_answer};
 ghost use Rattle.stack_engine.specs.Sources.{LieInBlock, SourceHolds, ReadsSource};
-ghost use Rattle.stack_engine.specs.Walks.{IsTreeOf, block_in, checked_expected, GetsChain};
-ghost use Rattle.stack_engine.specs.Caches.{IsCacheOf, KeepsCache};
+ghost use Rattle.stack_engine.specs.Walks.{IsTreeOf, block_in, checked_expected, data_expected, GetsChain};
+ghost use Rattle.stack_engine.specs.Caches.{IsCacheOf, KeepsCache, IsPlaceOf};
 
-use crate::buffer::{fill_zeros, zero_sectors};
+use crate::buffer::{fill_zeros, zero_block, zero_sectors};
 use crate::fault::IoFault;
 use crate::found::Found;
 use crate::reader::Reader;
 use crate::serve::run_at;
 use crate::source::{BlockPart, Source};
-use crate::tree::{Extent, Tree, copy_part, data_extent, find, hash_extent, tree_at, verity_at};
+use crate::tree::{
+    Extent, Tree, copy_part, data_extent, find, hash_extent, hash_key, is_ignored, tree_at,
+    verity_at,
+};
 use crate::units::decrypt;
 use block_device::BlockDev;
 use dm_table::Verity;
 use hash_tree::{Chain, Salt, digest, digest_in};
 use stack_loader::{Config, DevId, Lower};
+use verified_cache::Key;
 
 /// The sectors of a leaf, by one call of its device.
 fn read_leaf<D: BlockDev>(
@@ -198,7 +202,8 @@ fn walk<D: BlockDev>(
     while level > 0 {
         level -= 1;
         let extent = hash_extent(config, verity, tree, level, index);
-        match read_checked(config, reader, extent, &verity.salt, &expected) {
+        let key = hash_key(tree, level, index);
+        match hash_block(config, reader, key, extent, &verity.salt, &expected) {
             Err(first) => return Err(first),
             Ok(block) => {
                 expected = digest_in(block.as_slice(), tree.shape.slot_on_path(level, index));
@@ -209,14 +214,79 @@ fn walk<D: BlockDev>(
             }
         }
     }
-    let extent = data_extent(config, verity, tree, index);
-    match read_checked(config, reader, extent, &verity.salt, &expected) {
+    match read_data(config, reader, verity, tree, index, &expected) {
         Err(fault) => Err(fault),
         Ok(content) => Ok(Chain {
             index,
             content,
             path,
         }),
+    }
+}
+
+/// The data block of which that digest is expected. One that the line ignores is zeros, and isn't asked for.
+#[cycle(read)]
+fn read_data<D: BlockDev>(
+    config: &Config,
+    reader: &mut Reader<D>,
+    verity: &Verity,
+    tree: &Tree,
+    index: u64,
+    expected: &[u8; 32],
+) -> Result<Vec<u8>, IoFault>
+    requires loaded { IsLoaded config.now }
+    requires serve { ServeLeaves config.now.leaves (map D.state reader.old.devices.items) }
+    requires tree { IsTreeOf config.now verity.now tree.now }
+    requires index { index < verity.now.blocks }
+    requires cache { IsCacheOf config.now (map D.state reader.old.devices.items) reader.old.cache }
+    ensures reads { Gets (data_expected (λ block. block.items) (block_in config.now verity.now index) expected.now)
+        (map D.state reader.old.devices.items) (map D.state reader.new.devices.items) result }
+    ensures cached { KeepsCache config.now (map D.state reader.new.devices.items) reader.old.cache reader.new.cache }
+{
+    if is_ignored(config, verity, tree, expected) {
+        return match zero_block(reader.alloc, verity.data_block) {
+            Ok(block) => Ok(block),
+            Err(_) => Err(IoFault::NoMemory),
+        };
+    }
+    let extent = data_extent(config, verity, tree, index);
+    read_checked(config, reader, extent, &verity.salt, expected)
+}
+
+/// A hash block: the one that is kept under its key and that digest, or it is read, checked, and then kept.
+#[cycle(read)]
+fn hash_block<D: BlockDev>(
+    config: &Config,
+    reader: &mut Reader<D>,
+    key: Key,
+    extent: Extent,
+    salt: &Salt,
+    expected: &[u8; 32],
+) -> Result<Vec<u8>, IoFault>
+    requires loaded { IsLoaded config.now }
+    requires serve { ServeLeaves config.now.leaves (map D.state reader.old.devices.items) }
+    requires some { 0 < extent.sectors }
+    requires inside { extent.first + extent.sectors ≤ size config.now extent.lower }
+    requires key { IsPlaceOf config.now salt.now key extent }
+    requires cache { IsCacheOf config.now (map D.state reader.old.devices.items) reader.old.cache }
+    ensures reads { Gets (checked_expected (λ block. block.items) (place_of config.now extent.lower) extent.first extent.sectors salt.now expected.now)
+        (map D.state reader.old.devices.items) (map D.state reader.new.devices.items) result }
+    ensures cached { KeepsCache config.now (map D.state reader.new.devices.items) reader.old.cache reader.new.cache }
+{
+    match reader.cache.copy_of(reader.alloc, key, expected) {
+        Err(_) => Err(IoFault::NoMemory),
+        Ok(Some(block)) => Ok(block),
+        Ok(None) => match read_checked(config, reader, extent, salt, expected) {
+            Err(fault) => Err(fault),
+            Ok(block) => {
+                reader.cache.cover(extent.lower);
+                // Where memory is short the block isn't kept, and the answer is the same.
+                let _kept = reader
+                    .cache
+                    .keep_copy(reader.alloc, key, *expected, block.as_slice());
+                Ok(block)
+            }
+        },
     }
 }
 

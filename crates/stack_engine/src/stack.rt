@@ -1,5 +1,5 @@
 // A stack: a configuration, and the devices of its leaves.
-ghost use Rattle.std.specs.Prelude.{◌≡◌, ◌<◌, ◌≤◌, ◌+◌, ◌*◌, ◌/◌, ◌^◌, length, map, IsTrue, IsOk, IfOk, IfErr, OnOk, OnErr, None, Some, Err};
+ghost use Rattle.std.specs.Prelude.{◌≡◌, ◌<◌, ◌≤◌, ◌+◌, ◌*◌, ◌/◌, ◌^◌, length, map, IsTrue, IfOk, IfErr, OnOk, OnErr, None, Some, Err};
 ghost use Rattle.block_device.specs.Device.{capped};
 ghost use Rattle.stack_loader.specs.Names.{mapped, size, may_write};
 ghost use Rattle.stack_loader.specs.Rules.{after_load, IsRefusal, first_refusal};
@@ -46,7 +46,7 @@ impl<D: BlockDev> Model for Stack<D> {
 
 impl<D: BlockDev> Stack<D> {
     /// A stack of that configuration, whose leaves the devices are, in order. Its cache keeps at most `capacity`
-    /// hash blocks. It fails only where memory does, and hands both back; today it never does.
+    /// hash blocks. It fails only where memory does, and hands both back.
     pub fn new(
         alloc: Global,
         config: Config,
@@ -56,17 +56,20 @@ impl<D: BlockDev> Stack<D> {
         requires { ServeLeaves config.leaves (map D.state devices.items) }
         ensures ok { IfOk result (λ s. s ≡ record { config = config; leaves = map D.state devices.items }) }
         ensures err { IfErr result (λ p. (p.0 ≡ config) × (p.1 ≡ devices)) }
-        ensures sure { IsOk result }
     {
         // What holds of every loaded configuration is learned from a call.
         let _loaded = config.count();
-        let cache = Cache::new(capacity);
-        let reader = Reader {
-            alloc,
-            devices,
-            cache,
-        };
-        Ok(Stack { config, reader })
+        match Cache::new(alloc, &config, capacity) {
+            Err(_) => Err((config, devices)),
+            Ok(cache) => {
+                let reader = Reader {
+                    alloc,
+                    devices,
+                    cache,
+                };
+                Ok(Stack { config, reader })
+            }
+        }
     }
 
     /// The configuration and the devices of its leaves, in order.
@@ -141,6 +144,9 @@ impl<D: BlockDev> Stack<D> {
         let outcome = self.config.load(text);
         // As in `new`.
         let _loaded = self.config.count();
+        if outcome.is_ok() {
+            self.reader.cache.start_over(&self.config);
+        }
         outcome
     }
 
@@ -154,6 +160,9 @@ impl<D: BlockDev> Stack<D> {
         let outcome = self.config.remove(name);
         // As in `new`.
         let _loaded = self.config.count();
+        if outcome.is_ok() {
+            self.reader.cache.start_over(&self.config);
+        }
         outcome
     }
 

@@ -1,10 +1,10 @@
 // What a read of a verity line's blocks uses.
 ghost use Rattle.std.specs.Prelude.{◌≡◌, ◌<◌, ◌≤◌, ◌+◌, ◌*◌, ℕ, length, take, drop, get_or, IfSome, IfNone};
-ghost use Rattle.hash_tree.specs.Shape.{levels};
+ghost use Rattle.hash_tree.specs.Shape.{ancestor, levels};
 ghost use Rattle.stack_loader.specs.Names.{size};
 ghost use Rattle.stack_loader.specs.Rules.{IsLoaded};
 ghost use Rattle.stack_loader.specs.Trees.{tree_of, block_sectors};
-ghost use Rattle.stack_engine.specs.Blocks.{hash_sectors, hash_start};
+ghost use Rattle.stack_engine.specs.Blocks.{hash_sectors, hash_start, is_ignored};
 ghost use Rattle.stack_engine.specs.Found.{FoundRecord, entry_of};
 ghost use Rattle.stack_engine.specs.Walks.{HasVerity, IsOnVerity, IsTreeOf};
 
@@ -12,6 +12,7 @@ use crate::found::Found;
 use dm_table::{Target, Verity};
 use hash_tree::Shape;
 use stack_loader::{Config, DevId, Lower};
+use verified_cache::Key;
 
 /// Where the blocks of a verity line lie: the devices of its data blocks and of its hash blocks, and the shape.
 #[derive(Clone, Copy)]
@@ -101,6 +102,19 @@ pub(crate) fn hash_extent(
     }
 }
 
+/// The key of that hash block.
+pub(crate) fn hash_key(tree: &Tree, level: u32, index: u64) -> Key
+    requires { index < tree.now.shape.blocks }
+    ensures { result ≡ record { device = tree.now.device.0; line = tree.now.line; level = level; block = ancestor tree.now.shape (level + 1) index } }
+{
+    Key {
+        device: tree.device.0,
+        line: tree.line,
+        level,
+        block: tree.shape.block_on_path(level, index),
+    }
+}
+
 /// Where a data block stands.
 pub(crate) fn data_extent(config: &Config, verity: &Verity, tree: &Tree, index: u64) -> Extent
     requires loaded { IsLoaded config.now }
@@ -115,6 +129,17 @@ pub(crate) fn data_extent(config: &Config, verity: &Verity, tree: &Tree, index: 
         lower: tree.data,
         first: u64::from(sectors) * index,
         sectors,
+    }
+}
+
+/// Whether the line ignores a data block of that digest, which is then one of zeros.
+pub(crate) fn is_ignored(config: &Config, verity: &Verity, tree: &Tree, expected: &[u8; 32]) -> bool
+    requires { IsTreeOf config.now verity.now tree.now }
+    ensures { result ≡ is_ignored verity.now expected.now }
+{
+    match config.zero_digest(tree.device, tree.line) {
+        Some(zeros) => zeros == *expected,
+        None => false,
     }
 }
 

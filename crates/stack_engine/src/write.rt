@@ -39,7 +39,7 @@ fn write_sectors<D: BlockDev>(
     }
 }
 
-/// The sectors of a leaf. No block is kept in the cache yet, so none goes stale by it.
+/// The sectors of a leaf, before which the lines whose hash device stands on it lose their blocks in the cache.
 fn write_leaf<D: BlockDev>(
     config: &Config,
     reader: &mut Reader<D>,
@@ -57,6 +57,7 @@ fn write_leaf<D: BlockDev>(
         (map D.state reader.old.devices.items) (map D.state reader.new.devices.items) result }
     ensures cached { KeepsCache config.now (map D.state reader.new.devices.items) reader.old.cache reader.new.cache }
 {
+    reader.cache.forget_leaf(config, leaf);
     write_sectors(config, reader.devices.as_mut_slice(), leaf, first, bytes)
 }
 

@@ -11,8 +11,8 @@ use Rattle.stack_loader.specs.declared.keys.LineKey.{LineKey}
 use Rattle.stack_loader.specs.declared.lower.Lower.{Lower}
 use Rattle.stack_loader.specs.Records.{Configuration, DeviceRecord}
 use Rattle.stack_loader.specs.Names.{mapped, named, names, lines_of}
-use Rattle.stack_loader.specs.Lines.{names_at, lower_at, key_of, key_at}
-use Rattle.stack_loader.specs.Kept.{each_mapped, meanings, AreLowers, AreKeys, keys_from}
+use Rattle.stack_loader.specs.Lines.{names_at, lower_at, key_of, key_at, zero_digest_of, zero_digest_at}
+use Rattle.stack_loader.specs.Kept.{each_mapped, meanings, AreLowers, AreKeys, keys_from, AreZeroDigests, zero_digests_of}
 use Rattle.stack_loader.proofs.ListLemmas.{same_row, same_at}
 
 pub length-each_mapped : (f : Lower → ℕ) (n : ℕ) (v : List ℕ) → v ≡ each_mapped f n → length v ≡ n
@@ -106,4 +106,25 @@ key-kept c keys d l are = ap (λ keys. option_map (λ (k : LineKey). k.key) (fin
         ≡ option_and_then (λ (line : Line). key_of line.target) (slice_get (option_map_or (λ (x : DeviceRecord). x.table) (slice_get xs d) []) l)
     go [] d = refl
     go (x ∷ xs) zero = first x.table
+    go (x ∷ xs) (suc d) = go xs d
+
+-- ---- digests of zeros
+
+pub length-zero_digests : (devices : List DeviceRecord) (digests : List (List (Option (List ℕ)))) → AreZeroDigests devices digests → length digests ≡ length devices
+length-zero_digests devices digests are = ap length are ∙ length-map devices (λ (x : DeviceRecord). zero_digests_of x.table)
+
+-- the digest that is kept for a line is its line's
+pub zero_digest-kept : (c : Configuration) (digests : List (List (Option (List ℕ)))) (d l : ℕ) → AreZeroDigests c.devices digests
+    → option_and_then (λ (o : Option (List ℕ)). o) (slice_get (get_or digests d []) l) ≡ zero_digest_at c d l
+zero_digest-kept c digests d l are = ap (λ (rows : List (List (Option (List ℕ)))). option_and_then (λ (o : Option (List ℕ)). o) (slice_get (get_or rows d []) l)) are ∙ go c.devices d
+  where
+    line : (lines : List Line) (l : ℕ) → option_and_then (λ (o : Option (List ℕ)). o) (slice_get (zero_digests_of lines) l) ≡ option_and_then (λ (line : Line). zero_digest_of line.target) (slice_get lines l)
+    line [] l = refl
+    line (x ∷ xs) zero = refl
+    line (x ∷ xs) (suc l) = line xs l
+
+    go : (xs : List DeviceRecord) (d : ℕ) → option_and_then (λ (o : Option (List ℕ)). o) (slice_get (get_or (map (λ (x : DeviceRecord). zero_digests_of x.table) xs) d []) l)
+        ≡ option_and_then (λ (line : Line). zero_digest_of line.target) (slice_get (option_map_or (λ (x : DeviceRecord). x.table) (slice_get xs d) []) l)
+    go [] d = refl
+    go (x ∷ xs) zero = line x.table l
     go (x ∷ xs) (suc d) = go xs d

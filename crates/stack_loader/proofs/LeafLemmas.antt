@@ -72,9 +72,9 @@ empty-distinct : IsDistinct bytes_eq []
 unfolding IsDistinct
 empty-distinct = tt
 
-pub kept-empty : (leaves : List LeafRecord) (facts : Facts) → first_fault leaves ≡ None → facts.depths.items ≡ [] → facts.read_costs.items ≡ [] → facts.write_costs.items ≡ [] → facts.lowers.items ≡ [] → facts.keys.items ≡ []
+pub kept-empty : (leaves : List LeafRecord) (facts : Facts) → first_fault leaves ≡ None → facts.depths.items ≡ [] → facts.read_costs.items ≡ [] → facts.write_costs.items ≡ [] → facts.lowers.items ≡ [] → facts.keys.items ≡ [] → facts.zero_digests.items ≡ []
     → IsKept (record { leaves = leaves; devices = [] }) facts
-kept-empty leaves facts h no_depth no_read no_write no_name no_key = record {
+kept-empty leaves facts h no_depth no_read no_write no_name no_key no_digest = record {
   loaded = record {
     leaves = leaves-sound leaves h;
     distinct = empty-distinct;
@@ -83,5 +83,5 @@ kept-empty leaves facts h no_depth no_read no_write no_name no_key = record {
     valid = empty-valid leaves;
     acyclic = acyclic (record { leaves = leaves; devices = [] }) (empty-valid leaves);
   };
-  facts = record { depths = no_depth; reads = no_read; writes = no_write; lowers = rw no_name refl; keys = no_key };
+  facts = record { depths = no_depth; reads = no_read; writes = no_write; lowers = rw no_name refl; keys = no_key; zero_digests = no_digest };
 }

@@ -20,7 +20,7 @@ use Rattle.stack_loader.specs.Names.{mapped, named, names, device_named}
 use Rattle.stack_loader.specs.Descend.{depth, read_cost, write_cost, line_read_cost, line_write_cost}
 use Rattle.stack_loader.specs.Cycles.{is_mapped, names_device}
 use Rattle.stack_loader.specs.Facts.{AreFacts, IsKept, AreWithout}
-use Rattle.stack_loader.specs.Kept.{AreLowers, meanings, each_mapped, keys_from}
+use Rattle.stack_loader.specs.Kept.{AreLowers, meanings, each_mapped, keys_from, zero_digests_of}
 use Rattle.stack_loader.specs.Removal.{is_in_use, removal_fault, after_removal, lower_after}
 use Rattle.stack_loader.specs.Rules.{IsLoaded}
 use Rattle.stack_loader.proofs.KeptLemmas.{length-each_mapped, length-lowers, lines_of-read}
@@ -184,6 +184,7 @@ facts-after c d unused old new are without-it = record {
       (λ e other. cost-after c d unused line_write_cost line_write_cost-local (mapped e) other);
   lowers = rw without-it.lowers (lowers-kept c d unused old.lowers.items are.lowers);
   keys = without-it.keys ∙ ap (λ keys. remove keys d) are.keys ∙ sym (map-remove (λ (x : DeviceRecord). keys_from 0 x.table) c.devices d unused.inside);
+  zero_digests = without-it.zero_digests ∙ ap (λ digests. remove digests d) are.zero_digests ∙ sym (map-remove (λ (x : DeviceRecord). zero_digests_of x.table) c.devices d unused.inside);
 }
   where
     count : length (remove c.devices d) + 1 ≡ length c.devices

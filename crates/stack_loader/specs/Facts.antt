@@ -5,7 +5,7 @@ use Rattle.stack_loader.specs.declared.facts.Facts.{Facts}
 use Rattle.stack_loader.specs.Rules.{IsLoaded}
 use Rattle.stack_loader.specs.Records.{Configuration}
 use Rattle.stack_loader.specs.Descend.{depth, read_cost, write_cost}
-use Rattle.stack_loader.specs.Kept.{AreLowers, AreKeys, each_mapped}
+use Rattle.stack_loader.specs.Kept.{AreLowers, AreKeys, AreZeroDigests, each_mapped}
 use Rattle.stack_loader.specs.Removal.{lower_after}
 
 pub record AreFacts (c : Configuration) (facts : Facts) : Type 0 where
@@ -14,6 +14,7 @@ pub record AreFacts (c : Configuration) (facts : Facts) : Type 0 where
   pub writes : facts.write_costs.items ≡ each_mapped (write_cost c) (length c.devices)
   pub lowers : AreLowers c facts.lowers.items
   pub keys : AreKeys c.devices facts.keys.items
+  pub zero_digests : AreZeroDigests c.devices facts.zero_digests.items
 
 -- what a configuration keeps, as loads have made it
 pub record IsKept (c : Configuration) (kept : Facts) : Type 0 where
@@ -27,6 +28,7 @@ pub record HaveDevice (facts : Facts) (d : ℕ) : Type 0 where
   pub writes : d < vec_len facts.write_costs
   pub lowers : d < vec_len facts.lowers
   pub keys : d < vec_len facts.keys
+  pub zero_digests : d < vec_len facts.zero_digests
 
 -- the facts of the other devices once device d is removed
 pub record AreWithout (d : ℕ) (old new : Facts) : Type 0 where
@@ -35,3 +37,4 @@ pub record AreWithout (d : ℕ) (old new : Facts) : Type 0 where
   pub writes : new.write_costs.items ≡ remove old.write_costs.items d
   pub lowers : new.lowers.items ≡ map (map (map (lower_after d))) (remove old.lowers.items d)
   pub keys : new.keys.items ≡ remove old.keys.items d
+  pub zero_digests : new.zero_digests.items ≡ remove old.zero_digests.items d

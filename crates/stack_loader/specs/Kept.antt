@@ -7,7 +7,7 @@ use Rattle.stack_loader.specs.declared.keys.LineKey.{LineKey}
 use Rattle.stack_loader.specs.declared.lower.Lower.{Lower}
 use Rattle.stack_loader.specs.Records.{Configuration, DeviceRecord}
 use Rattle.stack_loader.specs.Names.{mapped, named, names}
-use Rattle.stack_loader.specs.Lines.{key_of}
+use Rattle.stack_loader.specs.Lines.{key_of, zero_digest_of}
 
 -- what f gives for each of n mapped devices
 abbrev pub each_mapped : (Lower → ℕ) → ℕ → List ℕ
@@ -32,3 +32,11 @@ keys_from l lines = filter_map (λ p. line_key p.0 p.1) (enumerate_from l lines)
 -- those of each device
 abbrev pub AreKeys : List DeviceRecord → List (List LineKey) → Type 0
 AreKeys devices keys = keys ≡ map (λ d. keys_from 0 d.table) devices
+
+-- for each line the digest of a data block of zeros, if it ignores such blocks
+abbrev pub zero_digests_of : List Line → List (Option (List ℕ))
+zero_digests_of lines = map (λ line. zero_digest_of line.target) lines
+
+-- those of each device
+abbrev pub AreZeroDigests : List DeviceRecord → List (List (Option (List ℕ))) → Type 0
+AreZeroDigests devices digests = digests ≡ map (λ d. zero_digests_of d.table) devices

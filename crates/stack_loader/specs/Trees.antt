@@ -1,5 +1,5 @@
 -- The data blocks of a verity line, and the hash tree over them.
-use Rattle.std.specs.Prelude.{ℕ, ◌*◌, ◌/◌, Option, Some, None}
+use Rattle.std.specs.Prelude.{ℕ, ◌*◌, ◌/◌, List, replicate, Option, Some, None}
 use Rattle.hash_tree.specs.Shape.{ShapeRecord, shape_of, sectors_of, levels, area_end}
 use Rattle.dm_table.specs.declared.table.Target.{Target}
 use Rattle.dm_table.specs.declared.table.Target.TheVariants.{Linear, Striped, Zero, Error, Crypt, Verity as verity_target}
@@ -22,6 +22,10 @@ block_sectors verity = verity.data_block / 512
 
 abbrev pub path_sectors : Verity → ℕ
 path_sectors verity = levels (tree_of verity) * (verity.hash_block / 512)
+
+-- a data block of zeros
+abbrev pub zero_block : Verity → List ℕ
+zero_block verity = replicate verity.data_block 0
 
 -- the arguments of a verity line
 abbrev pub verity_of : Target → Option Verity

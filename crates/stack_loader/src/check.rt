@@ -21,6 +21,7 @@ use crate::planned::Planned;
 use crate::refusal::{LoadFault, LoadKind, Refusal};
 use crate::resolve::lowers_of;
 use crate::rules::lines_refusal;
+use crate::zero_digests::device_digests;
 use dm_table::Entry;
 use std::alloc::Global;
 
@@ -105,12 +106,14 @@ pub(crate) fn check(
     }
     let write_costs = costs(alloc, Direction::Write, devices, rows, levels)?;
     let keys = device_keys(alloc, devices)?;
+    let zero_digests = device_digests(alloc, devices)?;
     Ok(Facts {
         depths,
         read_costs,
         write_costs,
         lowers,
         keys,
+        zero_digests,
     })
 }
 

@@ -2,7 +2,7 @@
 ghost use Rattle.std.specs.Prelude.{◌≡◌, ◌<◌, length, slice_get, None, Some, [], IfOk, IfErr, OnOk, OnErr, Err, option_map, IsTrue, is_some};
 ghost use Rattle.stack_loader.specs.Names.{device_named, name_of, lines_of, mapped, size, may_write};
 ghost use Rattle.stack_loader.specs.Descend.{depth, read_cost, write_cost};
-ghost use Rattle.stack_loader.specs.Lines.{IsIn, names_at, lower_at, key_at};
+ghost use Rattle.stack_loader.specs.Lines.{IsIn, names_at, lower_at, key_at, zero_digest_at};
 ghost use Rattle.stack_loader.specs.Leaves.{first_fault};
 ghost use Rattle.stack_loader.specs.declared.refusal.Refusal.{Refusal};
 ghost use Rattle.stack_loader.specs.Rules.{IsLoaded, IsRefusal, after_load, first_refusal};
@@ -61,6 +61,7 @@ impl Config {
                     write_costs: Vec::new(alloc),
                     lowers: Vec::new(alloc),
                     keys: Vec::new(alloc),
+                    zero_digests: Vec::new(alloc),
                 },
             }),
         }
@@ -202,5 +203,14 @@ impl Config {
         ensures { key_at self.now d.0 line ≡ Some result.now }
     {
         self.facts.keys[d.0 as usize].at(line)
+    }
+
+    /// The digest of a data block of zeros under a line's salt, made at loading, where it is a `verity` line that
+    /// ignores such blocks. Lines of a device count from 0.
+    pub fn zero_digest(&self, d: DevId, line: u32) -> Option<[u8; 32]>
+        requires { d.0 < length self.now.devices }
+        ensures { result ≡ zero_digest_at self.now d.0 line }
+    {
+        self.facts.zero_digests[d.0 as usize].at(line)
     }
 }

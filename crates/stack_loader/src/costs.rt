@@ -11,6 +11,7 @@ ghost use Rattle.stack_loader.specs.Passing.{Mean, RowsMean};
 ghost use Rattle.stack_loader.specs.Costs.{line_cost, cost, cost_in, capped, dearest, AreRows, AreMeasured, AreCosts};
 
 use crate::check::{MOST_COST, MOST_DEPTH};
+use crate::depths::repeated;
 use crate::lower::Lower;
 use crate::lowers::{DeviceLowers, LineLowers};
 use crate::planned::Planned;
@@ -143,7 +144,8 @@ fn settle(
 fn zeros(alloc: Global, devices: &[Planned<'_>]) -> Result<Vec<u64>, AllocError>
     ensures { IfOk result (λ v. v.items ≡ map (λ device. 0) devices.now) }
 {
-    devices.iter().map(|_device| 0).collect(alloc)
+    let zeros = repeated(alloc, devices.len(), 0)?;
+    Ok(zeros)
 }
 
 /// The costs of all devices, whose depths are at most 8; one above the limit as the least that is.

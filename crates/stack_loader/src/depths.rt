@@ -1,5 +1,5 @@
 // Depths of all devices.
-ghost use Rattle.std.specs.Prelude.{◌≡◌, ◌<◌, ◌≤◌, ◌+◌, ℕ, length, map, slice_index, IfOk};
+ghost use Rattle.std.specs.Prelude.{◌≡◌, ◌<◌, ◌≤◌, ◌+◌, ℕ, length, map, replicate, slice_index, IfOk};
 ghost use Rattle.stack_loader.specs.Descend.{most_devices};
 ghost use Rattle.stack_loader.specs.Depths.{greatest_in, round, rounds};
 
@@ -34,11 +34,19 @@ fn round(alloc: Global, sets: &[DeviceSet], values: &[u64]) -> Result<Vec<u64>, 
     Ok(next)
 }
 
+/// So many numbers of one value.
+pub(crate) fn repeated(alloc: Global, count: usize, value: u64) -> Result<Vec<u64>, AllocError>
+    ensures { IfOk result (λ v. v.items ≡ replicate count value) }
+{
+    vec![in alloc; value; count]
+}
+
 /// What the rounds begin with.
 fn ones(alloc: Global, sets: &[DeviceSet]) -> Result<Vec<u64>, AllocError>
     ensures { IfOk result (λ v. v.items ≡ map (λ set. 1) sets.now) }
 {
-    sets.iter().map(|_set| 1).collect(alloc)
+    let ones = repeated(alloc, sets.len(), 1)?;
+    Ok(ones)
 }
 
 /// The depths after 64 rounds, or fewer where a round changes nothing.

@@ -1,8 +1,10 @@
 // What is computed once of a configuration.
 use crate::keys::DeviceKeys;
 use crate::lowers::DeviceLowers;
+use crate::zero_digests::ZeroDigests;
 
-/// Of each device, by its place: its depth and costs, what its lines name, and the keys of its crypt lines.
+/// Of each device, by its place: its depth and costs, what its lines name, the keys of its crypt lines and the digests
+/// of zeros of its verity lines.
 #[derive(Drop)]
 pub(crate) struct Facts {
     pub(crate) depths: Vec<u64>,
@@ -10,6 +12,7 @@ pub(crate) struct Facts {
     pub(crate) write_costs: Vec<u64>,
     pub(crate) lowers: Vec<DeviceLowers>,
     pub(crate) keys: Vec<DeviceKeys>,
+    pub(crate) zero_digests: Vec<ZeroDigests>,
 }
 
 impl Facts {
@@ -25,6 +28,7 @@ impl Facts {
         drop(self.write_costs.remove(place));
         drop(self.lowers.remove(place));
         drop(self.keys.remove(place));
+        drop(self.zero_digests.remove(place));
         for device in self.lowers.as_mut_slice() {
             device.remove(place);
         }

@@ -24,11 +24,9 @@ mod resolve;
 mod rules;
 mod sectors;
 mod tree;
+mod zero_digests;
 
 pub use config::Config;
 pub use leaf::Leaf;
 pub use lower::{DevId, Lower};
 pub use refusal::{ConfigFault, LoadFault, LoadKind, Refusal, RemoveFault};
-
-#[cfg(test)]
-mod tests;

@@ -8,8 +8,6 @@ mod fault;
 mod lines;
 mod reply;
 mod server;
-#[cfg(test)]
-mod tests;
 mod verb;
 
 pub use counted::Counted;

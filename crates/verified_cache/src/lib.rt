@@ -4,8 +4,6 @@
 mod cache;
 mod key;
 pub mod laws;
-#[cfg(test)]
-mod tests;
 
 pub use cache::BlockCache;
 pub use key::Key;

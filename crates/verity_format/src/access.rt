@@ -39,8 +39,8 @@ impl From<AllocError> for TreeFault {
     }
 }
 
-/// How many sectors the data blocks take.
-pub(crate) fn data_sectors(shape: &Shape) -> u64
+/// How many sectors of a data device its blocks take.
+pub fn data_sectors(shape: &Shape) -> u64
     ensures value { result ≡ data_sectors shape.now }
     ensures small { result ≤ 2 ^ 54 }
 {
@@ -48,7 +48,7 @@ pub(crate) fn data_sectors(shape: &Shape) -> u64
 }
 
 /// How many sectors of a hash device there are up to the tree's end.
-pub(crate) fn tree_sectors(shape: &Shape) -> u64
+pub fn tree_sectors(shape: &Shape) -> u64
     ensures value { result ≡ tree_sectors shape.now }
     ensures small { result ≤ 2 ^ 54 }
 {

@@ -9,11 +9,10 @@ mod formatting;
 mod growth;
 mod superblock;
 mod table;
-#[cfg(test)]
-mod tests;
 mod verifying;
 mod writing;
 
+pub use access::{data_sectors, tree_sectors};
 pub use chains::{ChainFault, read_chain};
 pub use decoding::{SuperFault, decode};
 pub use formatting::{FormatFault, FormatOptions, format, format_with};

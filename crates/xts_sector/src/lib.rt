@@ -8,6 +8,3 @@ mod tweak;
 mod xts_key;
 
 pub use xts_key::XtsKey;
-
-#[cfg(test)]
-mod tests;

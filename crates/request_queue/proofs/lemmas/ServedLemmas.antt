@@ -1,6 +1,9 @@
 -- A request's own steps in a run, whatever is served in between.
-use Rattle.std.proofs.Common.{◌≡◌, ℕ, true, false, Bool, List, [], ◌∷◌, length, refl, ap, sym, ◌∙◌, subst, arith, Some, None, Ok, Err}
+use Rattle.std.proofs.Common.{◌≡◌, ℕ, true, false, Bool, List, [], ◌∷◌, length, refl, ap, sym, ◌∙◌, subst, arith, inl, inr, ◌⊎◌, All, Some, None, Ok, Err}
 use Rattle.std.specs.Prelude.{remove}
+use Rattle.std.proofs.lemmas.List.Elements.{All-cons, All-nil}
+use Rattle.stack_loader.specs.Records.{Configuration}
+use Rattle.stack_engine.specs.Laws.{AnsweredChainsAreGood, ForgedAnswersCollide}
 use Rattle.stack_engine.specs.Leaves.{AllSteady}
 use Rattle.stack_engine.specs.Stacks.{StackRecord}
 use Rattle.request_queue.specs.declared.fault.Held.TheVariants.{Busy, Fault}
@@ -11,9 +14,10 @@ use Rattle.request_queue.specs.Flights.{FlightRecord, first_flight, next_flight}
 use Rattle.request_queue.specs.Parts.{PartRelation, AnyPart, SteadyPart, EachPart, Asks}
 use Rattle.request_queue.specs.World.{World, world, Event, submit, step, load, remove_device, run, Step, Serves, Begins, next_count}
 use Rattle.request_queue.specs.Runs.{Turn, Run, last, total, is_step, flight_of, served_for}
-use Rattle.request_queue.specs.Laws.{passage, passages, end_of, answer_to, IsServed, waits, goes_on, finishes, fails, RequestLaw, is_refusal, TurnLaw, QueueLaw}
+use Rattle.request_queue.specs.Laws.{passage, passages, end_of, answer_to, IsServed, waits, goes_on, finishes, fails, IsOver, RequestLaw, is_refusal, TurnLaw, QueueLaw}
 use Rattle.request_queue.proofs.lemmas.TicketLemmas.{test-same, at-ticket, find-at, find-changed, find-removed}
 use Rattle.request_queue.proofs.lemmas.PremiseLemmas.{step-any, run-any, run-steady}
+use Rattle.request_queue.proofs.lemmas.ChainLemmas.{IsHonest, honest-run, honest-turn}
 use Rattle.request_queue.proofs.lemmas.BudgetLemmas.{InOrder, Knows, Turned, own_turn, other_turn, turned, knows-turn, newly, whole-budget, whole-steps, untouched}
 
 -- a request that is over has no steps more
@@ -120,6 +124,28 @@ is-served part down t v (x ∷ more) f knows there r = by turn (λ g at. is-serv
 
 -- ---- the laws
 
+-- While a request is in flight, the configuration stays.
+one-configuration : (t : ℕ) (v : World) (turns : List Turn) → Knows t v → Run AnyPart v turns → All (IsOver v.stack.config) (passages t v turns)
+one-configuration t v [] knows r = All-nil _
+one-configuration t v (x ∷ more) knows r = by turn (one-configuration t x.after more later r.1)
+  where
+    turn : Turned v t x.event x.after
+    turn = turned v x.after t x.event knows.0 knows.1 r.0
+
+    later : Knows t x.after
+    later = knows-turn t v x.event x.after knows.1 turn
+
+    as-before : x.after.stack.config ≡ v.stack.config → All (IsOver x.after.stack.config) (passages t x.after more) → All (IsOver v.stack.config) (passages t x.after more)
+    as-before same all = subst (λ (c : Configuration). All (IsOver c) (passages t x.after more)) same all
+
+    kept : (flight_of v t ≡ None) ⊎ (x.after.stack.config ≡ v.stack.config) → flight_of x.after t ≡ flight_of v t → All (IsOver x.after.stack.config) (passages t x.after more) → All (IsOver v.stack.config) (passages t x.after more)
+    kept (inl none) still all = subst (All (IsOver v.stack.config)) (sym (no-steps t x.after more later (still ∙ none) r.1).0) (All-nil _)
+    kept (inr same) still all = as-before same all
+
+    by : Turned v t x.event x.after → All (IsOver x.after.stack.config) (passages t x.after more) → All (IsOver v.stack.config) (passages t v (x ∷ more))
+    by (own_turn is s) all = rw is (All-cons (IsOver v.stack.config) (passage v x) (passages t x.after more) refl (as-before s.config all))
+    by (other_turn is k) all = rw is (kept k.config k.same all)
+
 -- its steps, counted
 passages-count : (t : ℕ) (v : World) (turns : List Turn) → length (passages t v turns) ≡ total (served_for t) v turns
 passages-count t v [] = refl
@@ -143,6 +169,7 @@ request-law w r t v turns order b each =
       any = is-served AnyPart (λ w' e v' s. s) t v turns (first_flight t b.range r) knows new.flight low;
       steady = λ steady.
           is-served SteadyPart steady-any t v turns (first_flight t b.range r) knows new.flight (run-steady v turns (subst (λ (s : StackRecord). AllSteady s.leaves) (sym new.stack) steady) each).0;
+      config = subst (λ (s : StackRecord). All (IsOver s.config) (passages t v turns)) new.stack (one-configuration t v turns knows low);
       steps = omega (arith, few, passages-count t v turns);
       moved = whole-budget w r t v turns order b low;
     }
@@ -174,9 +201,11 @@ turn-law w x order s = record {
   refused = λ is. refusal-same EachPart w x.event x.after is s;
 }
 
--- every run from a world whose tickets are in order
-pub queue-law : (w : World) → InOrder w → QueueLaw w
-queue-law w order = record {
+-- every run from a world whose tickets are in order, and which holds verified chains
+pub queue-law : AnsweredChainsAreGood → ForgedAnswersCollide → (w : World) → InOrder w → IsHonest w → QueueLaw w
+queue-law good forged w order honest = record {
   requests = λ before done r t v b turns each. request-law (last w before) r t v turns (order-kept w before order done) b each;
   turns = λ before done x s. turn-law (last w before) x (order-kept w before order done) s;
+  chains = λ before done x s.
+      (honest-turn good forged (last w before) x.event x.after (honest-run good forged w before honest (run-any w before done)) (step-any (last w before) x.event x.after s)).chains;
 }

@@ -1,5 +1,5 @@
 -- The chains of an answer.
-use Rattle.std.proofs.Common.{◌≡◌, ◌≢◌, ℕ, ◌+◌, ◌/◌, List, [], ◌∷◌, ◌++◌, get_or, Contains, Option, Some, None, refl, sym, ap, ◌∙◌, subst, arith, inl, inr}
+use Rattle.std.proofs.Common.{◌≡◌, ◌≢◌, ℕ, ◌+◌, ◌/◌, List, [], ◌∷◌, ◌++◌, get_or, Contains, Option, Some, None, refl, sym, ap, ◌∙◌, subst, arith, inl, inr, true}
 use Rattle.std.proofs.lemmas.List.{append_cancel_left, get_or_default}
 use Rattle.std.proofs.lemmas.Bool.{cases_lt}
 use Rattle.hash_tree.specs.declared.difference.Place.{Place}
@@ -14,8 +14,9 @@ use Rattle.dm_table.specs.declared.verity.Verity.{Verity}
 use Rattle.stack_loader.specs.declared.lower.Lower.{Lower}
 use Rattle.stack_loader.specs.Records.{Configuration}
 use Rattle.stack_loader.specs.Rules.{IsLoaded}
-use Rattle.stack_loader.specs.Trees.{tree_of}
+use Rattle.stack_loader.specs.Trees.{tree_of, zero_block}
 use Rattle.stack_engine.specs.Beneath.{beneath, said_or}
+use Rattle.stack_engine.specs.Blocks.{is_ignored}
 use Rattle.stack_engine.specs.Found.{FoundRecord, Entry, entry_of, AreDistinct}
 use Rattle.stack_engine.specs.Laws.{digests_of, IsSha256Collision}
 use Rattle.stack_engine.specs.May.{MayBe}
@@ -24,6 +25,7 @@ use Rattle.stack_engine.specs.Outcomes.{part}
 use Rattle.stack_engine.specs.Walks.{HasVerity}
 use Rattle.stack_engine.proofs.VerityLineLemmas.{line-facts}
 use Rattle.stack_engine.proofs.lemmas.EachLineLemmas.{IsHandedUpIn, said_at-each_in}
+use Rattle.stack_engine.proofs.lemmas.WalkLemmas.{ignored-digest}
 
 -- ---- what stands for an entry on a sector's way
 
@@ -93,6 +95,11 @@ one-line c d l v w a b = Rattle.stack_engine.proofs.VerityLineLemmas.same-verity
 sha-collision : (salt a b : List ℕ) → IsCollision salt a b → IsSha256Collision (salt ++ a) (salt ++ b)
 unfolding digest
 sha-collision salt a b same = record { differ = λ e. same.differ (append_cancel_left salt a b e); same = same.same }
+
+-- a block that is taken for one of zeros
+pub ignored-collide : (v : Verity) (block : List ℕ) → is_ignored v (digest v.salt block) ≡ true → block ≢ zero_block v → IsSha256Collision (v.salt ++ block) (v.salt ++ zero_block v)
+unfolding digest
+ignored-collide v block ignored differs = record { differ = λ e. differs (append_cancel_left v.salt block (zero_block v) e); same = sym (ignored-digest v (digest v.salt block) ignored) }
 
 pub forged-collide : ForgedBlocksCollide → (c : Configuration) → IsLoaded c → (lower : Lower) (first n : ℕ) (bytes : List ℕ) (chains : List FoundRecord) → MayBe c lower first n bytes chains
     → (x : FoundRecord) → Contains chains x → (v : Verity) → HasVerity c x.device x.line v

@@ -1,8 +1,9 @@
 -- A verity line over formatted devices.
-use Rattle.std.proofs.Common.{◌≡◌, ℕ, zero, suc, ◌+◌, ◌-◌, ◌*◌, ◌/◌, ◌%◌, ◌<◌, ◌≤◌, List, [], ◌∷◌, ◌++◌, length, get_or, All, map, take, drop, Ok, refl, sym, ap, ◌∙◌, subst, arith}
+use Rattle.std.proofs.Common.{◌≡◌, ℕ, zero, suc, ◌+◌, ◌-◌, ◌*◌, ◌/◌, ◌%◌, ◌<◌, ◌≤◌, cond, List, [], ◌∷◌, ◌++◌, length, get_or, All, map, take, drop, replicate, Ok, refl, sym, ap, ◌∙◌, subst, arith, inl, inr}
 use Rattle.std.specs.Prelude.{slice_get}
 use Rattle.std.specs.List.{concat}
-use Rattle.std.proofs.lemmas.List.{length-append, length-drop, length-map, take-append-le, drop-append-le, drop-drop, take_all}
+use Rattle.std.proofs.lemmas.Bool.{cases_Bool, cond-true, cond-false}
+use Rattle.std.proofs.lemmas.List.{length-append, length-drop, length-map, take-append-le, drop-append-le, drop-drop, take_all, take-replicate, drop-replicate}
 use Rattle.std.proofs.Math.Seq.{drop-append-add}
 use Rattle.std.proofs.Math.Nat.{mul_comm, mul_assoc, div-add-mod}
 use Rattle.std.proofs.lemmas.List.Elements.{All-head, All-tail, All-get_or, All-map}
@@ -21,16 +22,16 @@ use Rattle.dm_table.specs.declared.table.Target.{Target}
 use Rattle.dm_table.specs.declared.table.Target.TheVariants.{Verity as verity_target}
 use Rattle.stack_loader.specs.Names.{mapped}
 use Rattle.stack_loader.specs.Lines.{IsLine}
-use Rattle.stack_loader.specs.Trees.{tree_of, data_sectors, block_sectors}
+use Rattle.stack_loader.specs.Trees.{tree_of, data_sectors, block_sectors, zero_block}
 use Rattle.stack_loader.proofs.lemmas.VerityLineLemmas.{verity-line}
-use Rattle.stack_engine.specs.Laws.{named_sector, FormattedDataIsRead}
+use Rattle.stack_engine.specs.Laws.{named_sector, formatted_sector, FormattedDataIsRead}
 use Rattle.stack_engine.specs.Meaning.{Said, line_said, said_by_name, sector}
 use Rattle.stack_engine.proofs.VerityLineLemmas.{whole-sectors}
 use Rattle.stack_engine.proofs.lemmas.EachLineLemmas.{line_at-is, line_at-end}
 use Rattle.stack_engine.proofs.lemmas.LineLemmas.{line-start}
 use Rattle.stack_engine.proofs.lemmas.SectorLemmas.{said_at-line}
-use Rattle.stack_engine.specs.Blocks.{hash_sectors, hash_start, next_digest, checked, block_below, block_at}
-use Rattle.stack_engine.specs.Outcomes.{Outcome, span, then_outcome, part}
+use Rattle.stack_engine.specs.Blocks.{hash_sectors, hash_start, next_digest, checked, is_ignored, data_block_at, block_below, block_at}
+use Rattle.stack_engine.specs.Outcomes.{Outcome, span, then_outcome, part, zero_sector}
 use Rattle.stack_engine.proofs.lemmas.SizeLemmas.{AreSized, span-part, named-size}
 use Rattle.stack_engine.proofs.lemmas.WalkLemmas.{checked-same}
 
@@ -75,6 +76,42 @@ part-concat n blocks w sized some low =
     ∙ ap (λ (l : List ℕ). take 512 (drop (512 * (w % n)) l)) (drop-concat (512 * n) blocks (w / n) sized low)
     ∙ ap (take 512) (drop-append-le (512 * (w % n)) block rest (omega (arith, len, inside)))
     ∙ take-append-le 512 (drop (512 * (w % n)) block) rest (omega (arith, len, inside, length-drop (512 * (w % n)) block)))
+
+-- ---- blocks that are ignored
+
+-- a data block as a line reads it
+abbrev shown_block : Verity → List ℕ → List ℕ
+shown_block v block = cond (is_ignored v (digest v.salt block)) (zero_block v) block
+
+data-shown : (v : Verity) (on_data : ℕ → Outcome) (i : ℕ) (expected block : List ℕ) → span on_data (block_sectors v * i) (block_sectors v) ≡ Ok block → digest v.salt block ≡ expected
+    → data_block_at v on_data i expected ≡ Ok (shown_block v block)
+data-shown v on_data i expected block read good = elim (cases_Bool (is_ignored v expected)) [
+  | inl zeros ↦ cond-true _ _ _ zeros ∙ ap Ok (sym (cond-true (is_ignored v (digest v.salt block)) (zero_block v) block (ap (is_ignored v) good ∙ zeros)))
+  | inr other ↦
+      cond-false _ _ _ other ∙ ap (λ (x : Outcome). then_outcome x (checked v.salt expected)) read ∙ checked-same v.salt expected block good
+      ∙ ap Ok (sym (cond-false (is_ignored v (digest v.salt block)) (zero_block v) block (ap (is_ignored v) good ∙ other)))
+]
+
+part-zeros : (size k : ℕ) → 512 * k + 512 ≤ size → part (replicate size 0) k ≡ zero_sector
+unfolding zero_sector
+part-zeros size k h = ap (take 512) (drop-replicate (512 * k) size 0) ∙ take-replicate 512 (size - 512 * k) 0 (omega (arith, h))
+
+-- sector w of blocks that a line shows
+shown-part : (v : Verity) (blocks : List (List ℕ)) (w : ℕ) → 512 * block_sectors v ≡ v.data_block → All (λ b. length b ≡ 512 * block_sectors v) blocks → 0 < block_sectors v → w / block_sectors v < length blocks
+    → part (shown_block v (get_or blocks (w / block_sectors v) [])) (w % block_sectors v) ≡ formatted_sector v blocks w
+shown-part v blocks w whole sized some low =
+    let block : List ℕ = get_or blocks (w / block_sectors v) [] in
+    let inside : w % block_sectors v < block_sectors v = mod_below w (block_sectors v) some in
+    elim (cases_Bool (is_ignored v (digest v.salt block))) [
+      | inl zeros ↦
+          ap (λ (b : List ℕ). part b (w % block_sectors v)) (cond-true _ (zero_block v) block zeros)
+          ∙ part-zeros v.data_block (w % block_sectors v) (omega (arith, inside, whole))
+          ∙ sym (cond-true _ zero_sector (part (concat blocks) w) zeros)
+      | inr other ↦
+          ap (λ (b : List ℕ). part b (w % block_sectors v)) (cond-false _ (zero_block v) block other)
+          ∙ part-concat (block_sectors v) blocks w sized some low
+          ∙ sym (cond-false _ zero_sector (part (concat blocks) w) other)
+    ]
 
 -- ---- the walk over formatted devices
 
@@ -149,9 +186,8 @@ module _ (v : Verity) (on_data on_hash : ℕ → Outcome) (data_sized : AreSized
 
   walk-formatted : (i : ℕ) → i < v.blocks → (l : ℕ) → l ≤ levels (tree_of v) → (expected : List ℕ)
       → HangsFrom (tree_of v) v.salt i expected (path_to (tree_of v) v.salt (map (digest v.salt) blocks) l i) (get_or blocks i [])
-      → block_below v on_data on_hash i l expected ≡ Ok (get_or blocks i [])
-  walk-formatted i inside zero low expected hangs =
-      ap (λ (x : Outcome). then_outcome x (checked v.salt expected)) (reads-data i inside) ∙ checked-same v.salt expected (get_or blocks i []) hangs.1
+      → block_below v on_data on_hash i l expected ≡ Ok (shown_block v (get_or blocks i []))
+  walk-formatted i inside zero low expected hangs = data-shown v on_data i expected (get_or blocks i []) (reads-data i inside) hangs.1
   walk-formatted i inside (suc l) low expected hangs =
       let ds : List (List ℕ) = map (digest v.salt) blocks in
       let block : List ℕ = get_or (level v.hash_block v.salt ds l) (ancestor (tree_of v) (l + 1) i) [] in
@@ -161,8 +197,8 @@ module _ (v : Verity) (on_data on_hash : ℕ → Outcome) (data_sized : AreSized
       ∙ walk-formatted i inside l (omega (arith, low)) (next_digest v l i block)
       (subst (λ (e : List ℕ). HangsFrom (tree_of v) v.salt i e (path_to (tree_of v) v.salt ds l i) (get_or blocks i [])) at hangs.2)
 
-  -- each data block is the data's
-  pub block-formatted : FormedChainsAreGood → v.root ≡ root v.hash_block v.salt (map (digest v.salt) blocks) → (i : ℕ) → i < v.blocks → block_at v on_data on_hash i ≡ Ok (get_or blocks i [])
+  -- each data block is the data's, or zeros
+  pub block-formatted : FormedChainsAreGood → v.root ≡ root v.hash_block v.salt (map (digest v.salt) blocks) → (i : ℕ) → i < v.blocks → block_at v on_data on_hash i ≡ Ok (shown_block v (get_or blocks i []))
   unfolding formed
   block-formatted law is i inside =
       let good = law (tree_of v) shape v.salt blocks even i inside in
@@ -191,4 +227,4 @@ formatted-read law c loaded images whole d s l line v lies blocks formatted =
     ∙ ap (λ (t : Target). (line_said (said_by_name c) d l t (s - line.start + 0)).means images) lies.has
     ∙ ap (λ (k : ℕ). (line_said (said_by_name c) d l (verity_target v) k).means images) within
     ∙ ap (λ (x : Outcome). then_outcome x (λ b. Ok (part b (w % block_sectors v)))) block
-    ∙ ap Ok (part-concat (block_sectors v) blocks w even data_whole.some (omega (arith, low, formatted.sized.count)))
+    ∙ ap Ok (shown-part v blocks w data_whole.whole even data_whole.some (omega (arith, low, formatted.sized.count)))

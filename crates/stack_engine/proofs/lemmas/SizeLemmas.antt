@@ -3,7 +3,7 @@ use Rattle.std.proofs.Common.{◌≡◌, ℕ, zero, suc, ◌+◌, ◌-◌, ◌*�
 use Rattle.std.proofs.lemmas.List.{get_or_past, length-append, length-drop, length-take-le, length-replicate, take_all, take-append-le}
 use Rattle.std.proofs.Math.Seq.{drop-append-add}
 use Rattle.std.proofs.lemmas.List.Elements.{All-get_or}
-use Rattle.std.proofs.lemmas.Bool.{cases_lt}
+use Rattle.std.proofs.lemmas.Bool.{cases_lt, cases_Bool, cond-true, cond-false}
 use Rattle.std.proofs.lemmas.Nat.{mod_below}
 use Rattle.block_device.specs.Device.{IsSector}
 use Rattle.dm_table.specs.declared.verity.Verity.{Verity}
@@ -12,13 +12,13 @@ use Rattle.dm_table.specs.declared.table.Target.TheVariants.{Linear, Striped, Ze
 use Rattle.stack_loader.specs.declared.lower.Lower.{Lower}
 use Rattle.stack_loader.specs.Records.{Configuration}
 use Rattle.stack_loader.specs.Rules.{IsLoaded}
-use Rattle.stack_loader.specs.Trees.{tree_of, block_sectors}
+use Rattle.stack_loader.specs.Trees.{tree_of, block_sectors, zero_block}
 use Rattle.stack_loader.proofs.lemmas.VerityLineLemmas.{verity-line}
 use Rattle.hash_tree.specs.Shape.{levels}
 use Rattle.xts_sector.proofs.lemmas.UnitLemmas as units
 use Rattle.stack_engine.specs.Units.{unit_number, decrypted_unit}
 use Rattle.stack_engine.specs.Beneath.{beneath, said_or}
-use Rattle.stack_engine.specs.Blocks.{hash_sectors, hash_start, next_digest, checked, checked_span, block_below, block_at}
+use Rattle.stack_engine.specs.Blocks.{hash_sectors, hash_start, next_digest, checked, checked_span, is_ignored, data_block_at, block_below, block_at}
 use Rattle.stack_engine.specs.Laws.{AreWhole}
 use Rattle.stack_engine.specs.Meaning.{Said, none_said, leaf_said, line_said, said_at, said_by_name}
 use Rattle.stack_engine.specs.Outcomes.{Images, Outcome, mismatch, changed_outcome, joint_outcome, span, then_outcome, part, zero_sector}
@@ -74,13 +74,22 @@ checked-is salt expected block bytes e = go (Rattle.std.specs.Str.bytes_eq (Ratt
     go Rattle.std.proofs.Common.true h = cc
     go Rattle.std.proofs.Common.false h = cc
 
-block-length : (v : Verity) (on_data on_hash : ℕ → Outcome) → AreSized on_data → (i l : ℕ) (expected bytes : List ℕ) → block_below v on_data on_hash i l expected ≡ Ok bytes → length bytes ≡ 512 * block_sectors v
-block-length v on_data on_hash sized i zero expected bytes e =
-    let read = then-parts (span on_data (block_sectors v * i) (block_sectors v)) (checked v.salt expected) bytes e in
-    ap length (sym (checked-is v.salt expected read.0 bytes read.2)) ∙ span-length on_data sized (block_sectors v * i) (block_sectors v) read.0 read.1
-block-length v on_data on_hash sized i (suc l) expected bytes e =
+data-length : (v : Verity) (on_data : ℕ → Outcome) → 512 * block_sectors v ≡ v.data_block → AreSized on_data → (i : ℕ) (expected bytes : List ℕ) → data_block_at v on_data i expected ≡ Ok bytes → length bytes ≡ 512 * block_sectors v
+data-length v on_data whole sized i expected bytes e = elim (cases_Bool (is_ignored v expected)) [
+  | inl zeros ↦
+      let both : Ok (zero_block v) ≡ Ok bytes = sym (cond-true _ _ _ zeros) ∙ e in
+      let same : zero_block v ≡ bytes = cc in
+      ap length (sym same) ∙ length-replicate {A = ℕ} v.data_block 0 ∙ sym whole
+  | inr other ↦
+      let read = then-parts (span on_data (block_sectors v * i) (block_sectors v)) (checked v.salt expected) bytes (sym (cond-false _ _ _ other) ∙ e) in
+      ap length (sym (checked-is v.salt expected read.0 bytes read.2)) ∙ span-length on_data sized (block_sectors v * i) (block_sectors v) read.0 read.1
+]
+
+block-length : (v : Verity) (on_data on_hash : ℕ → Outcome) → 512 * block_sectors v ≡ v.data_block → AreSized on_data → (i l : ℕ) (expected bytes : List ℕ) → block_below v on_data on_hash i l expected ≡ Ok bytes → length bytes ≡ 512 * block_sectors v
+block-length v on_data on_hash whole sized i zero expected bytes e = data-length v on_data whole sized i expected bytes e
+block-length v on_data on_hash whole sized i (suc l) expected bytes e =
     let read = then-parts (checked_span on_hash (hash_start v l i) (hash_sectors v) v.salt expected) (λ block. block_below v on_data on_hash i l (next_digest v l i block)) bytes e in
-    block-length v on_data on_hash sized i l (next_digest v l i read.0) bytes read.2
+    block-length v on_data on_hash whole sized i l (next_digest v l i read.0) bytes read.2
 
 -- ---- sectors
 
@@ -133,7 +142,7 @@ line-size c images loaded at all d l line is s = go line.target refl
         let some = whole-sectors v.data_block (verity-line c d l line v loaded is e).2.shape.data_size in
         let i : ℕ = s / block_sectors v in
         let read = then-parts (block_at v (λ t. (at v.data t).means images) (λ t. (at v.hash t).means images) i) (λ block. Ok (part block (s % block_sectors v))) b h in
-        let size = block-length v (λ t. (at v.data t).means images) (λ t. (at v.hash t).means images) (λ t. all v.data t) i (levels (tree_of v)) v.root read.0 read.1 in
+        let size = block-length v (λ t. (at v.data t).means images) (λ t. (at v.hash t).means images) some.whole (λ t. all v.data t) i (levels (tree_of v)) v.root read.0 read.1 in
         let low : s % block_sectors v < block_sectors v = mod_below s (block_sectors v) some.some in
         let same : part read.0 (s % block_sectors v) ≡ b = cc in
         subst IsSector same (length-take-le 512 (drop (512 * (s % block_sectors v)) read.0) (omega (arith, size, low, length-drop (512 * (s % block_sectors v)) read.0)))

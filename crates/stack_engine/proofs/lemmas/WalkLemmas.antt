@@ -1,23 +1,25 @@
 -- The walk to a data block of a verity line.
-use Rattle.std.proofs.Common.{◌≡◌, ℕ, suc, ◌+◌, ◌*◌, ◌<◌, ◌≤◌, Bool, false, cond, List, [], ◌∷◌, ◌++◌, length, Ok, Err, refl, sym, ap, ◌∙◌, subst, arith, inl, inr}
+use Rattle.std.proofs.Common.{◌≡◌, ℕ, suc, ◌+◌, ◌*◌, ◌<◌, ◌≤◌, Bool, true, false, cond, List, [], ◌∷◌, ◌++◌, length, Result, Ok, Err, refl, sym, ap, ◌∙◌, subst, arith, inl, inr}
 use Rattle.std.specs.Str.{bytes_eq}
+use Rattle.std.proofs.lemmas.Bool.{and_parts, cond-true, cond-false}
 use Rattle.std.proofs.lemmas.Slice.Eq.{bytes_eq-Decides}
-use Rattle.std.proofs.lemmas.List.{append_assoc, append-nil, length-append}
+use Rattle.std.proofs.lemmas.List.{append_assoc, append-nil, length-append, length-replicate}
 use Rattle.std.proofs.Math.Nat.{mul-le-mul_right, mul_assoc}
 use Rattle.hash_tree.specs.Chain.{HangsFrom}
 use Rattle.hash_tree.specs.Digests.{digest}
 use Rattle.hash_tree.specs.Shape.{levels}
 use Rattle.block_device.specs.Device.{Device}
-use Rattle.stack_loader.specs.Trees.{tree_of, block_sectors}
+use Rattle.dm_table.specs.declared.verity.Verity.{Verity}
+use Rattle.stack_loader.specs.Trees.{tree_of, block_sectors, zero_block}
 use Rattle.stack_engine.specs.declared.fault.IoFault.{IoFault}
 use Rattle.stack_engine.specs.declared.fault.IoFault.TheVariants as io
 use Rattle.stack_engine.specs.Outcomes.{mismatch, Outcome, Images, then_outcome}
 use Rattle.stack_engine.specs.Found.{FoundRecord}
-use Rattle.stack_engine.specs.Blocks.{hash_sectors, hash_start, next_digest, checked, checked_span}
+use Rattle.stack_engine.specs.Blocks.{hash_sectors, hash_start, next_digest, checked, checked_span, is_ignored, data_block_at}
 use Rattle.stack_engine.specs.Leaves.{images_of, AllSteady, AreRead}
 use Rattle.stack_engine.specs.Places.{Place, Expected, run_expected}
-use Rattle.stack_engine.specs.Reading.{Gets}
-use Rattle.stack_engine.specs.Walks.{checked_expected, DataBlock, means_below, chain_expected, GetsChain, IsWalked}
+use Rattle.stack_engine.specs.Reading.{Answers, Gets}
+use Rattle.stack_engine.specs.Walks.{checked_expected, DataBlock, means_below, data_expected, chain_expected, GetsChain, IsWalked}
 use Rattle.stack_engine.proofs.lemmas.LeafListLemmas.{AreRead-none, AreRead-then, AreRead-more, AllSteady-kept, images-kept}
 use Rattle.stack_engine.proofs.lemmas.RunLemmas.{fault_passes}
 
@@ -54,6 +56,36 @@ module _ {A : Type 0} (bytes_of : A → List ℕ) (place : Place) (first n : ℕ
 pub checked_full : {A : Type 0} (bytes_of : A → List ℕ) (place : Place) (first n : ℕ) (salt expected : List ℕ) (leaves : List Device) → Gets (checked_expected bytes_of place first n salt expected) leaves leaves (Err io.NoMemory)
 checked_full bytes_of place first n salt expected leaves = record { moved = AreRead-none _ leaves; may = tt; exact = λ steady. tt }
 
+-- ---- the data block
+
+-- the digest of a block of zeros
+pub ignored-digest : (v : Verity) (expected : List ℕ) → is_ignored v expected ≡ true → digest v.salt (zero_block v) ≡ expected
+ignored-digest v expected e = (bytes_eq-Decides (digest v.salt (zero_block v)) expected).0 (and_parts v.ignore_zero_blocks _ e).1
+
+module _ {A : Type 0} (bytes_of : A → List ℕ) (b : DataBlock) (expected : List ℕ) where
+  -- one that is ignored
+  pub data_zeros : (leaves : List Device) (x : A) → 512 * block_sectors b.verity ≡ b.verity.data_block → is_ignored b.verity expected ≡ true → bytes_of x ≡ zero_block b.verity
+      → Gets (data_expected bytes_of b expected) leaves leaves (Ok x)
+  data_zeros leaves x whole zeros is = record {
+    moved = AreRead-none _ leaves;
+    may = (ap length is ∙ length-replicate {A = ℕ} b.verity.data_block 0 ∙ sym whole, ap (digest b.verity.salt) is ∙ ignored-digest b.verity expected zeros);
+    exact = λ steady. cond-true _ _ _ zeros ∙ ap Ok (sym is);
+  }
+
+  -- and no memory for it
+  pub data_full : (leaves : List Device) → Gets (data_expected bytes_of b expected) leaves leaves (Err io.NoMemory)
+  data_full leaves = record { moved = AreRead-none _ leaves; may = tt; exact = λ steady. tt }
+
+  -- one that is read
+  pub data_read : {old new : List Device} (result : Result A IoFault) → is_ignored b.verity expected ≡ false
+      → Gets (checked_expected bytes_of b.on_data (block_sectors b.verity * b.index) (block_sectors b.verity) b.verity.salt expected) old new result
+      → Gets (data_expected bytes_of b expected) old new result
+  data_read {old = old} result other q = record {
+    moved = q.moved;
+    may = q.may;
+    exact = λ steady. subst (λ (o : Outcome). Answers bytes_of o result) (sym (cond-false _ _ _ other)) (q.exact steady);
+  }
+
 -- ---- the walk
 
 -- before the first step
@@ -72,12 +104,9 @@ levels_cost v hb cost m n h =
     let most : (m + n) * (hb * cost) ≤ v * (hb * cost) = mul-le-mul_right (hb * cost) h in
     omega (arith, same, most)
 
--- what is expected of the next block: the hash block of level l, or the data block
+-- what is expected of the hash block of level l
 abbrev hash_expected : {A : Type 0} → (A → List ℕ) → DataBlock → ℕ → List ℕ → Expected A
 hash_expected bytes_of b l expected = checked_expected bytes_of b.on_hash (hash_start b.verity l b.index) (hash_sectors b.verity) b.verity.salt expected
-
-abbrev data_expected : {A : Type 0} → (A → List ℕ) → DataBlock → List ℕ → Expected A
-data_expected bytes_of b expected = checked_expected bytes_of b.on_data (block_sectors b.verity * b.index) (block_sectors b.verity) b.verity.salt expected
 
 -- the meaning goes on with what the next hash block means
 means-step : {A : Type 0} (bytes_of : A → List ℕ) (b : DataBlock) (l : ℕ) {expected : List ℕ} {path : List (List ℕ)} {old mid : List Device} → IsWalked b (suc l) expected path old mid → AllSteady old
@@ -95,7 +124,7 @@ means-end : {A : Type 0} (bytes_of : A → List ℕ) (b : DataBlock) {expected :
 means-end bytes_of b {expected = expected} {old = old} {mid = mid} p steady x is =
     let images : images_of mid ≡ images_of old = images-kept p.moved steady in
     p.exact steady
-    ∙ ap (λ (m : Images). checked_span (λ s. (b.on_data.said s).means m) (block_sectors b.verity * b.index) (block_sectors b.verity) b.verity.salt expected) (sym images)
+    ∙ ap (λ (m : Images). data_block_at b.verity (λ s. (b.on_data.said s).means m) b.index expected) (sym images)
     ∙ is
 
 path_cost : (b : DataBlock) {expected : List ℕ} {path : List (List ℕ)} {old mid : List Device} → IsWalked b 0 expected path old mid
@@ -132,7 +161,7 @@ module _ {A : Type 0} (bytes_of : A → List ℕ) (b : DataBlock) (l : ℕ) {exp
 
 module _ {A : Type 0} (bytes_of : A → List ℕ) (b : DataBlock) {expected : List ℕ} {path : List (List ℕ)} {old mid new : List Device} (whole : 512 * block_sectors b.verity ≡ b.verity.data_block) (p : IsWalked b 0 expected path old mid) where
   -- the data block at last
-  pub walk_ends : (x : A) → b.index < b.verity.blocks → Gets (checked_expected bytes_of b.on_data (block_sectors b.verity * b.index) (block_sectors b.verity) b.verity.salt expected) mid new (Ok x)
+  pub walk_ends : (x : A) → b.index < b.verity.blocks → Gets (data_expected bytes_of b expected) mid new (Ok x)
       → GetsChain b old new (Ok (record { index = b.index; content = bytes_of x; path = path }))
   walk_ends x h q =
       let size : length (bytes_of x) ≡ b.verity.data_block = q.may.0 ∙ whole in
@@ -142,7 +171,7 @@ module _ {A : Type 0} (bytes_of : A → List ℕ) (b : DataBlock) {expected : Li
         exact = λ steady. means-end bytes_of b p steady (Ok (bytes_of x)) (q.exact (AllSteady-kept old mid p.moved.moved.fixed steady));
       }
 
-  pub walk_fails : (fault : IoFault) → Gets (checked_expected bytes_of b.on_data (block_sectors b.verity * b.index) (block_sectors b.verity) b.verity.salt expected) mid new (Err fault)
+  pub walk_fails : (fault : IoFault) → Gets (data_expected bytes_of b expected) mid new (Err fault)
       → GetsChain b old new (Err fault)
   walk_fails fault q =
       fault_passes {wanted = data_expected bytes_of b expected} {wanted' = chain_expected b} fault q p.moved (path_cost b p)

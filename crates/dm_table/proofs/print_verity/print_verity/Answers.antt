@@ -1,16 +1,17 @@
-use Rattle.std.proofs.Common.{List, ◌∷◌, [], codes, decimal, refl, ap}
+use Rattle.std.proofs.Common.{List, ◌∷◌, codes, decimal, refl, ap}
 use Rattle.hex.specs.Hex.{encode_lower}
 use Rattle.dm_table.specs.Words.{Word}
-use Rattle.dm_table.specs.Verity.{salt_word, verity_words}
-use Rattle.dm_table.proofs.PrintLemmas.{then_word, then_none}
+use Rattle.dm_table.specs.Options.{options_words}
+use Rattle.dm_table.specs.Verity.{salt_word, verity_options, verity_words}
+use Rattle.dm_table.proofs.PrintLemmas.{then_word}
 use Rattle.dm_table.proofs.print_verity.print_verity.Goals as goal
 
 pub returns : goal.returns
 unfolding verity_words
 returns c =
     let v = c.args.verity.now in
-    let last = c.print_salt.new.text.items in
-    let w11 : List Word = [] in
+    let last = c.print_options.new.text.items in
+    let w11 : List Word = options_words (verity_options v.ignore_zero_blocks) in
     let w10 = (salt_word v.salt) ∷ w11 in
     let w9 = (encode_lower v.root) ∷ w10 in
     let w8 = (codes "sha256") ∷ w9 in
@@ -31,5 +32,5 @@ returns c =
     then_word c.push_spaced_number-3.new.text.items c.push_spaced_number-4.new.text.items last (decimal v.start) (decimal v.start) w8 refl c.in_ok-push_spaced_number-4.ensures (
     then_word c.push_spaced_number-4.new.text.items c.push_spaced-5.new.text.items last (codes "sha256") (codes "sha256") w9 refl c.in_ok-push_spaced-5.ensures (
     then_word c.push_spaced-5.new.text.items c.push_digits.new.text.items last (encode_lower v.root) (encode_lower v.root) w10 refl c.in_ok-push_digits.ensures (
-    then_word c.push_digits.new.text.items c.print_salt.new.text.items last (salt_word v.salt) (salt_word c.bytes.result.now) w11 (ap salt_word c.bytes.ensures.value) c.in_ok-print_salt.ensures (
-    then_none last)))))))))))
+    then_word c.push_digits.new.text.items c.print_salt.new.text.items last (salt_word v.salt) (salt_word c.bytes.result.now) w11 (ap salt_word c.bytes.ensures.value) c.in_ok-print_salt.ensures
+    c.in_ok-print_options.ensures))))))))))

@@ -1,9 +1,10 @@
-use Rattle.std.proofs.Common.{◌≡◌, ◌<◌, ◌≤◌, ◌+◌, ◌/◌, ◌*◌, ◌-◌, ◌%◌, suc, length, take, drop, map, replicate, get_or, ℕ, List, [], ◌∷◌, ◌++◌, Vec, Global, Some, Result, Ok, Err, sym, ap, ◌∙◌, subst, arith}
+use Rattle.std.proofs.Common.{◌≡◌, ◌<◌, ◌≤◌, ◌+◌, ◌/◌, ◌*◌, ◌-◌, ◌%◌, suc, length, take, drop, map, replicate, get_or, ℕ, List, [], ◌∷◌, ◌++◌, Vec, Global, Option, Some, Result, Ok, Err, refl, sym, ap, ◌∙◌, subst, arith}
 use Rattle.std.proofs.lemmas.List.{length-take, length-drop, length-append, map-append}
 use Rattle.std.proofs.Math.Seq.{get_or-append_seam}
 use Rattle.std.proofs.lemmas.Slice.Eq.{bytes_eq-Decides}
 use Rattle.std.proofs.lemmas.Slice.{take-put_mid}
 use Rattle.std.proofs.lemmas.List.{with_items_is}
+use Rattle.std.specs.Prelude.{option_map}
 use Rattle.std.specs.Vec.{with_items}
 use borrow.Rule.Slice.PartMut.{put_mid}
 use Rattle.hash_tree.specs.Digests.{digest, digest_in}
@@ -21,8 +22,12 @@ use Rattle.stack_engine.specs.declared.source.Source.{Source}
 use Rattle.stack_engine.specs.declared.source.Source.TheVariants.{Encrypted, Block}
 use Rattle.stack_engine.specs.Found.{FoundRecord, entry_of}
 use Rattle.stack_engine.specs.declared.tree.Extent.{Extent}
-use Rattle.stack_engine.specs.Blocks.{hash_sectors, hash_start, next_digest}
-use Rattle.stack_engine.specs.Walks.{checked_expected, place_named, block_in, GetsChain, IsWalked}
+use Rattle.dm_table.specs.declared.verity.Verity.{Verity}
+use Rattle.verified_cache.specs.declared.key.Key.{Key}
+use Rattle.stack_engine.specs.declared.tree.Tree.{Tree}
+use Rattle.stack_engine.specs.Caches.{IsCacheOf, IsPlaceOf}
+use Rattle.stack_engine.specs.Blocks.{hash_sectors, hash_place, hash_start, next_digest}
+use Rattle.stack_engine.specs.Walks.{checked_expected, place_named, block_in, GetsChain, IsTreeOf, IsWalked}
 use Rattle.stack_engine.specs.declared.fault.IoFault.{IoFault}
 use Rattle.stack_engine.specs.Places.{Place, place_of, run_expected, Read}
 use Rattle.stack_engine.specs.Reading.{Gets, Reads, buffer_answer}
@@ -31,9 +36,11 @@ use Rattle.stack_engine.proofs.lemmas.LeafListLemmas.{leaves_kept}
 use Rattle.stack_engine.proofs.LoadedLemmas.{size-small}
 use Rattle.stack_engine.proofs.SourceLemmas.{served-depth, served-holds, below_of, leaf_of, empty_read, zeros_of, fails_of, device_ok, device_err, same_reads}
 use Rattle.stack_engine.proofs.VerityLineLemmas.{data-whole, hash-whole, part-within, part-index, place-named, hash-depth, data-depth}
+use Rattle.stack_engine.proofs.CachedLemmas.{cached-read, cached-hit, keeps-noted, noted_key, keeps-kept, keeps-found}
+use Rattle.stack_engine.proofs.StandingLemmas.{named-inside, knows-all}
 use Rattle.stack_engine.proofs.BlockPartLemmas.{kept_length, contains_at, part-room, part_found, part_walked, part_err, part_full}
 use Rattle.stack_engine.proofs.lemmas.BlockLemmas.{length-content}
-use Rattle.stack_engine.proofs.lemmas.WalkLemmas.{checked_ok, walk_down, walk_stops, walk_ends, walk_fails, walk_full}
+use Rattle.stack_engine.proofs.lemmas.WalkLemmas.{checked_ok, data_zeros, data_full, data_read, walk_down, walk_stops, walk_ends, walk_fails, walk_full}
 use Rattle.stack_engine.proofs.read.+read.Goals.{read_block-in-Err-push, read_block-in-Ok-push}
 use Rattle.stack_engine.proofs.LeafLemmas.{all-whole}
 use Rattle.stack_engine.proofs.CryptReadLemmas.{crypt_of, crypt_fault}
@@ -71,7 +78,7 @@ read_device-read_run-requires g t c κs within =
                 omega (arith, len),
                 (
                   subst (SourceHolds config source) number (served-holds config c.args.d.0 (c.args.first + at / 512) count source served),
-                  (c.loop-at.invariant.so_far.kept, tt),
+                  (c.loop-at.invariant.so_far.kept, c.loop-at.invariant.cached.sound),
                 ),
               ),
             ),
@@ -100,7 +107,7 @@ read_device-loop-at-preserved g t c =
       within = omega (arith, length-take end (put_mid at (end - at) out c.read_run.new.out), ap length front, length-append (take at out) c.read_run.new.out, length-take at out, c.read_run.auto.out, len, c.loop-at.invariant.within);
       so_far = same_reads config (mapped c.args.d.0) c.args.first _ (omega (arith, c.loop-at.invariant.whole)) (sym front)
           (device_ok config c.args.d.0 c.args.first (at / 512) count source c.requires.loaded c.run_at-run.ensures.some c.run_at-run.ensures.served c.loop-at.invariant.so_far more);
-      cached = record { capacity = c.in-Ok.ensures.cached.capacity ∙ c.loop-at.invariant.cached.capacity; sound = tt };
+      cached = record { capacity = c.in-Ok.ensures.cached.capacity ∙ c.loop-at.invariant.cached.capacity; sound = c.in-Ok.ensures.cached.sound };
     }
 
 pub read_device-returns-in-Err-clause-reads : goal.read_device-returns-in-Err-clause-reads
@@ -131,6 +138,20 @@ read_lower-returns-in-Leaf-clause-reads g t c =
     subst (λ ds. Reads config c.args.lower c.args.first n (record { old = map state devices.items; new = map state ds; before = found; after = found }) answer) (sym stands)
     (subst (λ (x : Lower). Reads config x c.args.first n (record { old = map state devices.items; new = map state c.read_leaf.new.devices; before = found; after = found }) answer) (sym c.in-Leaf.is)
     (leaf_of config c.in-Leaf.leaf c.args.first n found c.requires.kept one))
+
+pub read_lower-returns-in-Leaf-clause-cached : goal.read_lower-returns-in-Leaf-clause-cached
+read_lower-returns-in-Leaf-clause-cached g t c =
+    let config = c.args.config.now in
+    let state = g.D.BlockDev.state in
+    let n : ℕ = length c.args.out.now / 512 in
+    let found = c.args.found.now.items in
+    let devices = c.args.reader.now.devices in
+    let cache = c.args.reader.now.cache in
+    let answer : Result (List ℕ) IoFault = buffer_answer c.read_leaf.result c.read_leaf.new.out in
+    let stands : (with_items devices c.read_leaf.new.devices).items ≡ c.read_leaf.new.devices =
+    with_items_is devices c.read_leaf.new.devices (c.read_leaf.auto.devices ∙ ap (λ l. length l) c.as_mut_slice.ensures.value ∙ sym devices.ok.0) in
+    let one = subst (λ ds. Gets (run_expected (place_of config (Leaf c.in-Leaf.leaf)) found c.args.first n) (map state ds) (map state c.read_leaf.new.devices) answer) c.as_mut_slice.ensures.value (c.read_leaf.ensures found) in
+    record { capacity = refl; sound = subst (λ ds. IsCacheOf config (map state ds) cache) (sym stands) (cached-read config cache one.moved c.requires.cache) }
 
 pub read_lower-returns-in-Device-clause-reads : goal.read_lower-returns-in-Device-clause-reads
 read_lower-returns-in-Device-clause-reads g t c =
@@ -230,7 +251,7 @@ read_block-walk-requires g t c κs within =
     let sectors : c.from-sectors.result ≡ block_sectors v = c.from-sectors.ensures in
     let index : p.first / c.from-sectors.result < v.blocks =
     subst (λ (k : ℕ). p.first / k < v.blocks) (sym sectors) (part-index config p.device.0 p.line p.first n v c.requires.loaded c.verity_at-verity.ensures c.requires.inside (omega (arith, c.requires.some, c.requires.whole))) in
-    (omega (arith, depths), (within, (c.requires.loaded, (c.requires.serve, (c.tree_at-tree.ensures.tree, (index, tt))))))
+    (omega (arith, depths), (within, (c.requires.loaded, (c.requires.serve, (c.tree_at-tree.ensures.tree, (index, c.requires.cache))))))
 
 pub read_block-copy_part-requires-in-Ok-push-clause-inside : goal.read_block-copy_part-requires-in-Ok-push-clause-inside
 read_block-copy_part-requires-in-Ok-push-clause-inside g t c =
@@ -350,13 +371,28 @@ checked_as {old = old} {new = new} c name lower first n salt expected result e i
     subst (λ (x : Place). Gets (checked_expected bytes x first n salt expected) old new result) (sym (place-named c name lower is))
     (subst (λ (x : Extent). Gets (checked_expected bytes (place_of c x.lower) x.first x.sectors salt expected) old new result) at q)
 
-pub walk-read_checked-requires : goal.walk-read_checked-requires
-walk-read_checked-requires g t c κs within =
+pub walk-hash_key-key-requires : goal.walk-hash_key-key-requires
+walk-hash_key-key-requires g t c = subst (λ (k : ℕ). c.args.index < k) (sym (ap (λ (s : ShapeRecord). s.blocks) c.requires.tree.shape_is)) c.requires.index
+
+-- the key of a hash block names its place
+place_key : (c : Configuration) (v : Verity) (tree : Tree) (level index : ℕ) (key : Key) (e : Extent) → IsTreeOf c v tree
+    → key ≡ record { device = tree.device.0; line = tree.line; level = level; block = ancestor tree.shape (level + 1) index }
+    → e ≡ record { lower = tree.hash; first = hash_start v level index; sectors = hash_sectors v } → IsPlaceOf c v.salt key e
+place_key c v tree level index key e is named_so at =
+    let own : Key = record { device = tree.device.0; line = tree.line; level = level; block = ancestor tree.shape (level + 1) index } in
+    let there : Extent = record { lower = tree.hash; first = hash_start v level index; sectors = hash_sectors v } in
+    subst (λ (k : Key). IsPlaceOf c v.salt k e) (sym named_so)
+    (subst (IsPlaceOf c v.salt own) (sym at)
+    (record { verity = v; line = is.is; salt_is = refl; hash = is.on_hash; first = ap (λ (s : ShapeRecord). hash_place v level (ancestor s (level + 1) index)) (sym is.shape_is); sectors = refl }))
+
+pub walk-hash_block-requires : goal.walk-hash_block-requires
+walk-hash_block-requires g t c κs within =
     let config = c.args.config.now in
     let extent = c.hash_extent-extent in
     let deep = hash-depth config c.args.verity.now c.args.tree.now c.requires.loaded c.requires.tree in
     let same : depth config extent.result.lower ≡ depth config c.args.tree.now.hash = ap (λ (e : Extent). depth config e.lower) extent.ensures.value in
-    (omega (arith, deep, same), (within, (c.requires.loaded, (leaves_kept config.leaves _ _ c.loop-level.invariant.walked.moved.moved.fixed c.requires.serve, (extent.ensures.some, (extent.ensures.inside, tt))))))
+    let key = place_key config c.args.verity.now c.args.tree.now _ c.args.index c.hash_key-key.result extent.result c.requires.tree c.hash_key-key.ensures extent.ensures.value in
+    (omega (arith, deep, same), (within, (c.requires.loaded, (leaves_kept config.leaves _ _ c.loop-level.invariant.walked.moved.moved.fixed c.requires.serve, (extent.ensures.some, (extent.ensures.inside, (key, c.loop-level.invariant.cached.sound)))))))
 
 pub walk-returns-in-Err-clause-reads : goal.walk-returns-in-Err-clause-reads
 walk-returns-in-Err-clause-reads g t c =
@@ -425,7 +461,7 @@ walk-loop-level-preserved g t c =
     let block = c.in-Ok.block in
     let down = walk_down bytes b level size.whole walked block
     (checked_as config v.hash tree.hash (hash_start v level c.args.index) (hash_sectors v) v.salt c.loop-level.expected (Ok block) c.hash_extent-extent.result is.on_hash c.hash_extent-extent.ensures.value c.in-Ok.ensures.reads) in
-    let new = map state c.read_checked.new.reader.devices.items in
+    let new = map state c.hash_block.new.reader.devices.items in
     let expected : c.digest_in-expected.result ≡ next_digest v level c.args.index block.items =
     c.digest_in-expected.ensures ∙ ap (λ (b : List ℕ). digest_in b c.slot_on_path.result) c.as_slice.ensures.value
     ∙ ap (digest_in block.items) (c.slot_on_path.ensures.value ∙ ap (λ (t : ShapeRecord). slot t (ancestor t level c.args.index)) is.shape_is) in
@@ -433,47 +469,105 @@ walk-loop-level-preserved g t c =
     record {
       walked = subst (λ (p : List (List ℕ)). IsWalked b level c.digest_in-expected.result p old new) (sym longer)
           (subst (λ (e : List ℕ). IsWalked b level e (path ++ (block.items ∷ [])) old new) (sym expected) down);
-      cached = record { capacity = c.in-Ok.ensures.cached.capacity ∙ c.loop-level.invariant.cached.capacity; sound = tt };
+      cached = record { capacity = c.in-Ok.ensures.cached.capacity ∙ c.loop-level.invariant.cached.capacity; sound = c.in-Ok.ensures.cached.sound };
     }
 
-pub walk-read_checked-requires-2 : goal.walk-read_checked-requires-2
-walk-read_checked-requires-2 g t c κs within =
+pub walk-read_data-requires : goal.walk-read_data-requires
+walk-read_data-requires g t c κs within =
+    (omega arith, (within, (c.requires.loaded, (leaves_kept c.args.config.now.leaves _ _ c.loop-level.invariant.walked.moved.moved.fixed c.requires.serve, (c.requires.tree, (c.requires.index, c.loop-level.invariant.cached.sound))))))
+
+pub walk-returns-in-Err-read_data-clause-reads : goal.walk-returns-in-Err-read_data-clause-reads
+walk-returns-in-Err-read_data-clause-reads g t c =
+    let v = c.args.verity.now in
+    let config = c.args.config.now in
+    let tree = c.args.tree.now in
+    let is = c.requires.tree in
+    let state = g.D.BlockDev.state in
+    let b = block_in config v c.args.index in
+    let none : c.loop-level.level ≡ 0 = omega (arith, c.loop-level-test.false) in
+    let path = map bytes c.loop-level.path.items in
+    let old = map state c.args.reader.now.devices.items in
+    let mid = map state c.loop-level.reader.devices.items in
+    let walked : IsWalked b 0 c.loop-level.expected path old mid = subst (λ (k : ℕ). IsWalked b k c.loop-level.expected path old mid) none c.loop-level.invariant.walked in
+    let size = data-whole config tree.device.0 tree.line 0 0 v c.requires.loaded is.is in
+    walk_fails bytes b size.whole walked c.in-Err-read_data.fault c.in-Err-read_data.ensures.reads
+
+pub walk-returns-in-Ok-read_data-clause-reads : goal.walk-returns-in-Ok-read_data-clause-reads
+walk-returns-in-Ok-read_data-clause-reads g t c =
+    let v = c.args.verity.now in
+    let config = c.args.config.now in
+    let tree = c.args.tree.now in
+    let is = c.requires.tree in
+    let state = g.D.BlockDev.state in
+    let b = block_in config v c.args.index in
+    let none : c.loop-level.level ≡ 0 = omega (arith, c.loop-level-test.false) in
+    let path = map bytes c.loop-level.path.items in
+    let old = map state c.args.reader.now.devices.items in
+    let mid = map state c.loop-level.reader.devices.items in
+    let walked : IsWalked b 0 c.loop-level.expected path old mid = subst (λ (k : ℕ). IsWalked b k c.loop-level.expected path old mid) none c.loop-level.invariant.walked in
+    let size = data-whole config tree.device.0 tree.line 0 0 v c.requires.loaded is.is in
+    walk_ends bytes b size.whole walked c.in-Ok-read_data.content c.requires.index c.in-Ok-read_data.ensures.reads
+
+-- ---- the data block
+
+pub read_data-zero_block-requires : goal.read_data-zero_block-requires
+read_data-zero_block-requires g t c =
+    let tree = c.args.tree.now in
+    let size = data-whole c.args.config.now tree.device.0 tree.line 0 0 c.args.verity.now c.requires.loaded c.requires.tree.is in
+    omega (arith, size.whole, size.most)
+
+pub read_data-returns-in-Ok-clause-reads : goal.read_data-returns-in-Ok-clause-reads
+read_data-returns-in-Ok-clause-reads g t c =
+    let v = c.args.verity.now in
+    let config = c.args.config.now in
+    let tree = c.args.tree.now in
+    let size = data-whole config tree.device.0 tree.line 0 0 v c.requires.loaded c.requires.tree.is in
+    data_zeros bytes (block_in config v c.args.index) c.args.expected.now (map g.D.BlockDev.state c.args.reader.now.devices.items) c.in-Ok.block size.whole (sym c.is_ignored.ensures ∙ c.if-is_ignored.true) c.in-Ok.ensures
+
+pub read_data-read_checked-requires : goal.read_data-read_checked-requires
+read_data-read_checked-requires g t c κs within =
     let config = c.args.config.now in
     let extent = c.data_extent-extent in
     let deep = data-depth config c.args.verity.now c.args.tree.now c.requires.loaded c.requires.tree in
     let same : depth config extent.result.lower ≡ depth config c.args.tree.now.data = ap (λ (e : Extent). depth config e.lower) extent.ensures.value in
-    (omega (arith, deep, same), (within, (c.requires.loaded, (leaves_kept config.leaves _ _ c.loop-level.invariant.walked.moved.moved.fixed c.requires.serve, (extent.ensures.some, (extent.ensures.inside, tt))))))
+    (omega (arith, deep, same), (within, (c.requires.loaded, (c.requires.serve, (extent.ensures.some, (extent.ensures.inside, c.requires.cache))))))
 
-pub walk-returns-in-Err-read_checked-clause-reads : goal.walk-returns-in-Err-read_checked-clause-reads
-walk-returns-in-Err-read_checked-clause-reads g t c =
+pub read_data-returns-clause-reads : goal.read_data-returns-clause-reads
+read_data-returns-clause-reads g t c =
     let v = c.args.verity.now in
     let config = c.args.config.now in
     let tree = c.args.tree.now in
     let is = c.requires.tree in
-    let state = g.D.BlockDev.state in
-    let b = block_in config v c.args.index in
-    let none : c.loop-level.level ≡ 0 = omega (arith, c.loop-level-test.false) in
-    let path = map bytes c.loop-level.path.items in
-    let old = map state c.args.reader.now.devices.items in
-    let mid = map state c.loop-level.reader.devices.items in
-    let walked : IsWalked b 0 c.loop-level.expected path old mid = subst (λ (k : ℕ). IsWalked b k c.loop-level.expected path old mid) none c.loop-level.invariant.walked in
-    let size = data-whole config tree.device.0 tree.line 0 0 v c.requires.loaded is.is in
-    walk_fails bytes b size.whole walked c.in-Err-read_checked.fault
-    (checked_as config v.data tree.data (block_sectors v * c.args.index) (block_sectors v) v.salt c.loop-level.expected (Err c.in-Err-read_checked.fault) c.data_extent-extent.result is.on_data c.data_extent-extent.ensures.value c.in-Err-read_checked.ensures.reads)
+    data_read bytes (block_in config v c.args.index) c.args.expected.now c.read_checked.result (sym c.is_ignored.ensures ∙ c.if-is_ignored.false)
+    (checked_as config v.data tree.data (block_sectors v * c.args.index) (block_sectors v) v.salt c.args.expected.now c.read_checked.result c.data_extent-extent.result is.on_data c.data_extent-extent.ensures.value c.read_checked.ensures.reads)
 
-pub walk-returns-in-Ok-read_checked-clause-reads : goal.walk-returns-in-Ok-read_checked-clause-reads
-walk-returns-in-Ok-read_checked-clause-reads g t c =
-    let v = c.args.verity.now in
+-- ---- hash blocks
+
+pub hash_block-returns-in-Err-clause-cached : goal.hash_block-returns-in-Err-clause-cached
+hash_block-returns-in-Err-clause-cached g t c =
+    keeps-found c.args.config.now (map g.D.BlockDev.state c.args.reader.now.devices.items) c.args.key c.args.expected.now c.args.reader.now.cache _ c.copy_of.ensures.leaves c.requires.cache
+
+pub hash_block-returns-in-Ok-Some-clause-reads : goal.hash_block-returns-in-Ok-Some-clause-reads
+hash_block-returns-in-Ok-Some-clause-reads g t c =
+    cached-hit c.args.config.now c.requires.key bytes c.in-Ok-Some.block c.args.expected.now (map g.D.BlockDev.state c.args.reader.now.devices.items) c.args.reader.now.cache c.requires.cache
+    (sym (ap (λ (o : Option (Vec ℕ Global)). option_map bytes o) c.in-Ok-Some.field-0-is) ∙ c.in-Ok-Some.ensures.answer)
+
+pub hash_block-returns-in-Ok-Some-clause-cached : goal.hash_block-returns-in-Ok-Some-clause-cached
+hash_block-returns-in-Ok-Some-clause-cached g t c =
+    keeps-found c.args.config.now (map g.D.BlockDev.state c.args.reader.now.devices.items) c.args.key c.args.expected.now c.args.reader.now.cache _ c.copy_of.ensures.leaves c.requires.cache
+
+pub hash_block-cover-requires : goal.hash_block-cover-requires
+hash_block-cover-requires g t c = named-inside c.args.config.now c.requires.loaded c.requires.key.verity.hash c.args.extent.lower c.requires.key.hash
+
+pub hash_block-returns-in-Ok-clause-cached : goal.hash_block-returns-in-Ok-clause-cached
+hash_block-returns-in-Ok-clause-cached g t c =
     let config = c.args.config.now in
-    let tree = c.args.tree.now in
-    let is = c.requires.tree in
-    let state = g.D.BlockDev.state in
-    let b = block_in config v c.args.index in
-    let none : c.loop-level.level ≡ 0 = omega (arith, c.loop-level-test.false) in
-    let path = map bytes c.loop-level.path.items in
-    let old = map state c.args.reader.now.devices.items in
-    let mid = map state c.loop-level.reader.devices.items in
-    let walked : IsWalked b 0 c.loop-level.expected path old mid = subst (λ (k : ℕ). IsWalked b k c.loop-level.expected path old mid) none c.loop-level.invariant.walked in
-    let size = data-whole config tree.device.0 tree.line 0 0 v c.requires.loaded is.is in
-    walk_ends bytes b size.whole walked c.in-Ok-read_checked.content c.requires.index
-    (checked_as config v.data tree.data (block_sectors v * c.args.index) (block_sectors v) v.salt c.loop-level.expected (Ok c.in-Ok-read_checked.content) c.data_extent-extent.result is.on_data c.data_extent-extent.ensures.value c.in-Ok-read_checked.ensures.reads)
+    let at = c.requires.key in
+    let found = keeps-found config (map g.D.BlockDev.state c.args.reader.now.devices.items) c.args.key c.args.expected.now c.args.reader.now.cache _ c.copy_of.ensures.leaves c.requires.cache in
+    let read = c.in-Ok.ensures.cached in
+    let mid = c.read_checked.new.reader.cache in
+    let noted = c.cover.new.self in
+    let is = c.cover.ensures.covered config c.requires.loaded (knows-all config c.requires.loaded mid.beneath read.sound.sets at.verity.hash c.args.extent.lower at.hash) in
+    let kept = keeps-noted config at (map g.D.BlockDev.state c.read_checked.new.reader.devices.items) c.args.reader.now.cache mid noted c.cover.ensures.rest is (record { capacity = read.capacity ∙ found.capacity; sound = read.sound }) in
+    keeps-kept config at bytes c.in-Ok.block c.args.expected.now c.args.reader.now.cache noted _ c.in-Ok.ensures.reads (noted_key config at mid noted is) kept
+    c.keep_copy-kept.result c.as_slice.result.now c.as_slice.ensures.value c.keep_copy-kept.ensures.ok c.keep_copy-kept.ensures.err

@@ -8,7 +8,7 @@ use Rattle.stack_engine.specs.Caches.{KeepsCache}
 use Rattle.stack_engine.proofs.read.+read.Given as goal
 
 -- 8 times the depth and a rank, of which 0 to 4 are left for the steps of a target: a data block takes 4, the walk to it 3,
--- and a block that is checked 8 times its own depth and 8
+-- its last step 2, a hash block 8 times its own depth and 9, and a block that is checked 8 times its own depth and 8
 
 abbrev pub decreases-read_lower : goal.decreases-read_lower
 decreases-read_lower g l = 8 * depth l.config.now l.lower + 7
@@ -37,6 +37,12 @@ decreases-read_block g l = 8 * depth l.config.now (mapped l.part.device.0) + 4
 
 abbrev pub decreases-walk : goal.decreases-walk
 decreases-walk g l = 8 * depth l.config.now (mapped l.tree.now.device.0) + 3
+
+abbrev pub decreases-read_data : goal.decreases-read_data
+decreases-read_data g l = 8 * depth l.config.now (mapped l.tree.now.device.0) + 2
+
+abbrev pub decreases-hash_block : goal.decreases-hash_block
+decreases-hash_block g l = 8 * depth l.config.now l.extent.lower + 9
 
 abbrev pub decreases-read_checked : goal.decreases-read_checked
 decreases-read_checked g l = 8 * depth l.config.now l.extent.lower + 8

@@ -59,7 +59,7 @@ write_device-loop-at-init g t c =
       within = omega arith;
       rest = refl;
       so_far = subst (λ (l : List (List ℕ)). Writes to c.args.first l leaves leaves (Ok tt)) (sym sectors_in-none) (write_none to c.args.first leaves (put-none c.args.config.now (mapped c.args.d.0) c.args.first));
-      cached = record { capacity = refl; sound = tt };
+      cached = record { capacity = refl; sound = c.requires.cache };
     }
 
 pub write_device-overflow_add-first : goal.write_device-overflow_add-first
@@ -97,7 +97,7 @@ write_device-write_run-requires g t c κs within =
                 (
                   subst (λ (l : List ℕ). SourceHolds config source (length l / 512)) (sym same)
                       (subst (SourceHolds config source) (sym (run_sectors bytes at count fits)) (served-holds config c.args.d.0 (c.args.first + at / 512) count source served)),
-                  tt,
+                  c.loop-at.invariant.cached.sound,
                 ),
               ),
             ),
@@ -132,7 +132,7 @@ write_device-loop-at-preserved g t c =
       within = fits;
       rest = cut-rest cut c.write_run.new.buffer c.write_run.auto.buffer;
       so_far = subst (λ (b : List ℕ). Writes (destination_of config (mapped c.args.d.0)) c.args.first (sectors_in b) (map state c.args.reader.now.devices.items) (map state c.write_run.new.reader.devices.items) (Ok tt)) (with_run bytes at count fits) all;
-      cached = record { capacity = c.in-Ok.ensures.cached.capacity ∙ c.loop-at.invariant.cached.capacity; sound = tt };
+      cached = record { capacity = c.in-Ok.ensures.cached.capacity ∙ c.loop-at.invariant.cached.capacity; sound = c.in-Ok.ensures.cached.sound };
     }
 
 pub write_device-returns-in-Err-clause-writes : goal.write_device-returns-in-Err-clause-writes

@@ -172,5 +172,6 @@ returns c =
         writes = c.in_ok-write_costs.ensures c'.leaves (rw (c.as_slice-rows.ensures.value, c.as_slice-levels.ensures.value) measured) ∙ each-exact (write_cost c') (λ x. omega (arith, write_cost-one c' x)) (length c.args.devices.now);
         lowers = are;
         keys = c.in_ok-keys.ensures;
+        zero_digests = c.in_ok-zero_digests.ensures;
       },
     )

@@ -49,7 +49,7 @@ piece g c =
     (each-piece config c.args.d.0 c.args.first c.args.n c.match-read_device.result got)
 
 pub invariant_of-self : goal.invariant_of-self
-invariant_of-self g c = record { sound = piece-sound c.self.inside.config c.self.invariant.sound (reads g c).got.moved; cached = tt }
+invariant_of-self g c = record { sound = piece-sound c.self.inside.config c.self.invariant.sound (reads g c).got.moved; cached = c.read_device.ensures.cached.sound }
 
 pub returns-clause-any : goal.returns-clause-any
 returns-clause-any g c = (piece g c).any

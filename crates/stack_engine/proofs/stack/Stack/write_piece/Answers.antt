@@ -37,7 +37,7 @@ whole g c =
     subst (λ (w : StackRecord). EachWrite w c.args.d.0 c.args.first c.args.bytes.now c.write_device.result (stack_over c.self.inside.config (map g.D.BlockDev.state c.write_device.new.reader.devices.items))) c.self.view_is (piece g c)
 
 pub invariant_of-self : goal.invariant_of-self
-invariant_of-self g c = record { sound = write-sound c.self.inside.config c.self.invariant.sound (piece g c); cached = tt }
+invariant_of-self g c = record { sound = write-sound c.self.inside.config c.self.invariant.sound (piece g c); cached = c.write_device.ensures.cached.sound }
 
 pub returns-clause-any : goal.returns-clause-any
 returns-clause-any g c = (whole g c).any

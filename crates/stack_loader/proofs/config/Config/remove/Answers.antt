@@ -5,7 +5,7 @@ use Rattle.stack_loader.specs.Records.{Configuration, DeviceRecord}
 use Rattle.stack_loader.specs.Names.{device_named}
 use Rattle.stack_loader.specs.Descend.{depth, read_cost, write_cost}
 use Rattle.stack_loader.specs.Removal.{is_in_use, removal_fault, after_removal}
-use Rattle.stack_loader.proofs.KeptLemmas.{length-each_mapped, length-lowers, length-keys}
+use Rattle.stack_loader.proofs.KeptLemmas.{length-each_mapped, length-lowers, length-keys, length-zero_digests}
 use Rattle.stack_loader.proofs.RemovalFactLemmas.{in_use-rows, unused-of, fault-none, fault-some, after_removal-without, kept-after}
 use Rattle.stack_loader.proofs.config.Config.remove.Goals as goal
 
@@ -36,6 +36,7 @@ remove-requires-in-Some c =
       writes = omega (arith, low, length-each_mapped (write_cost now) (length now.devices) c.self.inside.facts.write_costs.items c.self.invariant.facts.writes, c.self.inside.facts.write_costs.ok.0);
       lowers = omega (arith, low, length-lowers now c.self.inside.facts.lowers.items c.self.invariant.facts.lowers, c.self.inside.facts.lowers.ok.0);
       keys = omega (arith, low, length-keys now.devices c.self.inside.facts.keys.items c.self.invariant.facts.keys, c.self.inside.facts.keys.ok.0);
+      zero_digests = omega (arith, low, length-zero_digests now.devices c.self.inside.facts.zero_digests.items c.self.invariant.facts.zero_digests, c.self.inside.facts.zero_digests.ok.0);
     }
 
 pub invariant_of-self : goal.invariant_of-self

@@ -1,0 +1,82 @@
+// The mapped device that a command goes over.
+ghost use Rattle.std.specs.Prelude.{◌≡◌, ◌≤◌, ◌<◌, ◌^◌, length, map, IsTrue, IfOk, IfErr, OnOk};
+ghost use Rattle.stack_loader.specs.Names.{mapped, size};
+ghost use Rattle.stack_engine.specs.Leaves.{ServeLeaves};
+ghost use Rattle.stack_recovery.specs.Recoveries.{Recovers, sides};
+ghost use Rattle.stack_commands.specs.Recoveries.{FailsToFind, HasDevice};
+ghost use Rattle.stack_commands.specs.Recovering.{IsCountsEnd, IsRecoverEnd, TellsCounts};
+
+use crate::configuration::configuration_of;
+use crate::opening::OpenLeaves;
+use block_device::{AnyDev, BlockDev};
+use command_faults::{CommandFault, say_counts};
+use request_queue::SubmitFault;
+use stack_engine::Stack;
+use stack_loader::DevId;
+use stack_recovery::{Counts, RecoveryFault, recover};
+use stack_session::{Counted, SessionFault};
+use std::alloc::Global;
+use std::io::Write;
+
+/// The stack that a text makes of the leaves, and its device of that name.
+pub fn load_device<'a>(
+    alloc: Global,
+    over: OpenLeaves,
+    text: &[u8],
+    name: &str,
+) -> Result<(Stack<AnyDev>, DevId), CommandFault<'a>>
+    requires text { length text.now ≤ 2 ^ 20 }
+    requires served { ServeLeaves over.leaves.items (map ⟦<AnyDev as BlockDev>⟧.state over.devices.items) }
+    ensures ok { IfOk result (λ found. HasDevice over.leaves.items text.now name.now (map ⟦<AnyDev as BlockDev>⟧.state over.devices.items) found.0 found.1.0) }
+    ensures there { IfOk result (λ found. found.1.0 < length found.0.config.devices) }
+    ensures err { IfErr result (FailsToFind name.now over.leaves.items text.now (map ⟦<AnyDev as BlockDev>⟧.state over.devices.items)) }
+{
+    let OpenLeaves { leaves, devices } = over;
+    let config = match configuration_of(alloc, leaves, text) {
+        Ok(config) => config,
+        Err(fault) => return Err(fault),
+    };
+    let Some(device) = config.device(name.as_bytes()) else {
+        return Err(CommandFault::Submit(SubmitFault::NoSuchDevice));
+    };
+    let Ok(stack) = Stack::new(alloc, config, devices, 0) else {
+        return Err(CommandFault::NoMemory);
+    };
+    Ok((stack, device))
+}
+
+/// Goes over the device, and copies what is had to another one.
+pub fn recover_device<'a, O: BlockDev, W: Write>(
+    stack: &mut Stack<AnyDev>,
+    device: DevId,
+    out: &mut O,
+    writer: &mut Counted<W>,
+) -> Result<Counts, CommandFault<'a>>
+    requires device { device.0 < length stack.old.config.devices }
+    requires room { size stack.old.config (mapped device.0) ≤ (O.state out.old).size }
+    requires allowed { IsTrue (O.state out.old).may_write }
+    ensures ok { IfOk result (λ counts. Recovers device.0 (sides stack.old (O.state out.old) (W.contents writer.old.inner)) counts (sides stack.new (O.state out.new) (W.contents writer.new.inner))) }
+    ensures err { IfErr result (IsRecoverEnd device.0 (sides stack.old (O.state out.old) (W.contents writer.old.inner)) (sides stack.new (O.state out.new) (W.contents writer.new.inner))) }
+{
+    match recover(stack, device, out, writer) {
+        Ok(counts) => Ok(counts),
+        Err(RecoveryFault::NoMemory) => Err(CommandFault::NoMemory),
+        Err(RecoveryFault::Output) => Err(CommandFault::OutputFailed),
+        Err(RecoveryFault::Write) => Err(CommandFault::Session(SessionFault::WriteFault)),
+    }
+}
+
+/// Prints the counts where no sector is lost; else they are a fault.
+pub fn tell_counts<'a, W: Write>(
+    counts: Counts,
+    writer: &mut Counted<W>,
+) -> Result<(), CommandFault<'a>>
+    ensures ok { OnOk result (TellsCounts counts (W.contents writer.old.inner) (W.contents writer.new.inner)) }
+    ensures err { IfErr result (IsCountsEnd counts (W.contents writer.old.inner) (W.contents writer.new.inner)) }
+{
+    let Counts { read, lost } = counts;
+    if lost > 0 {
+        return Err(CommandFault::Lost { read, lost });
+    }
+    Ok(say_counts(writer, read, lost)?)
+}

@@ -1,0 +1,99 @@
+// The digests of data blocks of zeros, made once at loading for the verity lines that ignore such blocks.
+ghost use Rattle.std.specs.Prelude.{◌≡◌, ◌≤◌, map, slice_get, option_and_then, All, IfOk};
+ghost use Rattle.dm_table.specs.Grammar.{IsTargetOfGrammar, IsLineOfGrammar};
+ghost use Rattle.hash_tree.specs.Digests.{digest};
+ghost use Rattle.stack_loader.specs.Kept.{zero_digests_of, AreZeroDigests};
+ghost use Rattle.stack_loader.specs.Lines.{zero_digest_of};
+ghost use Rattle.stack_loader.specs.Trees.{zero_block};
+
+use crate::planned::Planned;
+use dm_table::{Line, Target, Verity};
+use hash_tree::digest;
+use std::alloc::{AllocError, Global};
+use std::marker::Model;
+
+/// For each line of a device, in order: the digest, if it is such a line.
+#[derive(Drop)]
+pub(crate) struct ZeroDigests {
+    lines: Vec<Option<[u8; 32]>>,
+}
+
+impl Model for ZeroDigests {
+    ghost use Rattle.std.specs.Prelude.{List, Option, ℕ};
+
+    ghost Value = { List (Option (List ℕ)) };
+
+    ghost view = { λ z. z.lines.items };
+}
+
+impl ZeroDigests {
+    fn new(lines: Vec<Option<[u8; 32]>>) -> ZeroDigests
+        ensures { result ≡ lines.items }
+    {
+        ZeroDigests { lines }
+    }
+
+    /// That of a line, if there is such a line.
+    pub(crate) fn at(&self, line: u32) -> Option<[u8; 32]>
+        ensures { result ≡ option_and_then (λ digest. digest) (slice_get self.now line) }
+    {
+        match self.lines.get(line as usize) {
+            Some(digest) => *digest,
+            None => None,
+        }
+    }
+}
+
+fn digest_of_zeros(verity: &Verity) -> [u8; 32]
+    requires { verity.now.data_block ≤ 4096 }
+    ensures { result ≡ digest verity.now.salt (zero_block verity.now) }
+{
+    let zeros = [0u8; 4096];
+    digest(&verity.salt, &zeros[..verity.data_block as usize])
+}
+
+fn zero_digest_of(target: &Target) -> Option<[u8; 32]>
+    requires { IsTargetOfGrammar target.now }
+    ensures { result ≡ zero_digest_of target.now }
+{
+    match target {
+        Target::Verity(verity) => {
+            if verity.ignore_zero_blocks {
+                Some(digest_of_zeros(verity))
+            } else {
+                None
+            }
+        }
+        Target::Linear(_)
+        | Target::Striped { .. }
+        | Target::Zero
+        | Target::Error
+        | Target::Crypt(_) => None,
+    }
+}
+
+/// Those of a device's lines.
+fn line_digests(alloc: Global, lines: &[Line]) -> Result<ZeroDigests, AllocError>
+    requires { All IsLineOfGrammar lines.now }
+    ensures { IfOk result (λ digests. digests ≡ zero_digests_of lines.now) }
+{
+    let mut digests = Vec::with_capacity(alloc, lines.len())?;
+    for line in lines {
+        digests.push(zero_digest_of(&line.target))?;
+    }
+    Ok(ZeroDigests::new(digests))
+}
+
+/// The same for each device.
+pub(crate) fn device_digests(
+    alloc: Global,
+    devices: &[Planned<'_>],
+) -> Result<Vec<ZeroDigests>, AllocError>
+    ensures { IfOk result (λ digests. AreZeroDigests devices.now digests.items) }
+{
+    let mut digests = Vec::with_capacity(alloc, devices.len())?;
+    for device in devices {
+        digests.push(line_digests(alloc, device.table().lines())?)?;
+    }
+    Ok(digests)
+}

@@ -1,0 +1,9 @@
+mod AlikeLemmas
+mod CopyLemmas
+mod LongestLemmas
+mod LostRunLemmas
+mod MeantLemmas
+mod SurveyLemmas
+mod UnderwayLemmas
+mod VerityLossLemmas
+mod WritingLemmas

@@ -1,0 +1,27 @@
+-- Lines that are written one after another.
+use Rattle.std.proofs.Common.{◌≡◌, ℕ, List, [], ◌++◌, Option, Some, None, Result, Ok, Err, sym, ap, ◌∙◌, subst}
+use Rattle.std.specs.Prelude.{IfErr, IsErrAnd}
+use Rattle.std.specs.Io.KnownBytes.{Appends}
+use Rattle.std.proofs.lemmas.List.{append-nil, append_assoc}
+use Rattle.std.proofs.lemmas.List.Concat.{flat_map-append}
+use Rattle.stack_recovery.specs.declared.fault.RecoveryFault.{RecoveryFault}
+use Rattle.stack_recovery.specs.declared.lost_run.LostRun.{LostRun}
+use Rattle.stack_recovery.specs.Texts.{run_text, runs_text}
+
+pub writes_nothing : (known : Option (List ℕ)) → Appends known known []
+writes_nothing None = tt
+writes_nothing (Some xs) = sym (append-nil xs)
+
+pub writes-then : (a b c : Option (List ℕ)) (xs ys : List ℕ) → Appends a b xs → Appends b c ys → Appends a c (xs ++ ys)
+writes-then None b c xs ys p q = tt
+writes-then (Some a) None c xs ys p q = absurd p
+writes-then (Some a) (Some b) None xs ys p q = absurd q
+writes-then (Some a) (Some b) (Some c) xs ys p q = q ∙ ap (λ (l : List ℕ). l ++ ys) p ∙ append_assoc a xs ys
+
+pub runs-then : (a b c : Option (List ℕ)) (runs more : List LostRun) → Appends a b (runs_text runs) → Appends b c (runs_text more) → Appends a c (runs_text (runs ++ more))
+runs-then a b c runs more p q = rw (flat_map-append run_text runs more) (writes-then a b c (runs_text runs) (runs_text more) p q)
+
+-- what holds of a fault holds of the result that hands it on
+pub err-from : {T : Type 0} (r : Result T RecoveryFault) (P : RecoveryFault → Type 0) (fault : RecoveryFault) → IsErrAnd r (λ e. e ≡ fault) → P fault → IfErr r P
+err-from (Ok done) P fault is holds = tt
+err-from (Err e) P fault is holds = subst P (sym is) holds

@@ -1,0 +1,36 @@
+use Rattle.std.proofs.Common.{◌≡◌, ◌*◌, ◌/◌, ◌-◌, ◌≤◌, ℕ, List, get_or, Some, arith, refl, sym, subst, ◌∙◌}
+use Rattle.std.specs.Prelude.{slice_get}
+use Rattle.std.proofs.lemmas.Bool.{leb-true, leb-false}
+use Rattle.std.proofs.lemmas.Nat.{div-add-mod'}
+use Rattle.std.proofs.lemmas.Option.{slice_get_read, slice_get_within}
+use Rattle.dm_table.specs.declared.table.Line.{Line}
+use Rattle.stack_loader.specs.Names.{lines_of}
+use Rattle.stack_recovery.specs.Pieces.{AreLostTogether}
+use Rattle.stack_recovery.proofs.AlikeLemmas.{alike-at, fewer-together}
+use Rattle.stack_recovery.proofs.piece.piece_at.Goals as goal
+
+pub returns : goal.returns
+returns c =
+    let here = c.line_at-number.ensures in
+    let line : Line = c.index-lines-number.result in
+    let lines : List Line = lines_of c.args.config.now c.args.d.0 in
+    let number : ℕ = c.line_at-number.result.0 in
+    let read : line ≡ get_or lines number line = subst (λ (l : List Line). line ≡ get_or l number line) (c.lines-lines.ensures.value ∙ c.table.ensures) c.index-lines-number.is in
+    let found : slice_get lines number ≡ Some line = slice_get_read lines _ number line refl (slice_get_within lines number here.line here.at) read in
+    let both : Some line ≡ Some here.line = sym found ∙ here.at in
+    let same : line ≡ here.line = cc in
+    let rest : ℕ = c.unit_of-rest.result.rest in
+    let count = c.min-count.ensures in
+    let room = c.min-room.ensures in
+    let left = c.min.ensures in
+    let behind : c.saturating_sub.result / c.unit_of-rest.result.whole * c.unit_of-rest.result.whole ≤ c.saturating_sub.result = omega (arith, div-add-mod' c.saturating_sub.result c.unit_of-rest.result.whole) in
+    let together = subst (λ (x : Line). AreLostTogether x.target (c.args.first - x.start) rest) same c.unit_of-rest.ensures.together in
+    record {
+      some = omega (arith, count, room, left, here.some, c.requires.inside, c.sectors.ensures, c.unit_of-rest.ensures.rest);
+      few = omega (arith, count, room);
+      inside = omega (arith, count, room, left, c.sectors.ensures, c.requires.inside);
+      alike = λ is.
+          alike-at c.args.config.now c.count-loaded.ensures.loaded c.args.d.0 c.args.first c.min-count.result number here.line here.is here.start (omega (arith, here.ends, count, room, left))
+          (fewer-together here.line.target (c.args.first - here.line.start) c.min-count.result rest (omega (arith, leb-true _ _ is)) together);
+      apart = λ is. let over = leb-false _ _ is in (omega (arith, over, c.unit_of-rest.ensures.rest), omega (arith, over, count, behind, c.saturating_sub.ensures, c.from-wanted.ensures));
+    }

@@ -1,0 +1,61 @@
+-- Laws of what is found where a device is gone over.
+use Rattle.std.specs.Prelude.{◌≡◌, ◌≢◌, ◌↔◌, ℕ, zero, suc, ◌+◌, ◌-◌, ◌/◌, ◌<◌, ◌≤◌, IsTrue, List, [], ◌∷◌, length, get_or, All, Contains, Some, None, Ok, Err}
+use Rattle.block_device.specs.Device.{Device}
+use Rattle.dm_table.specs.declared.table.Line.{Line}
+use Rattle.dm_table.specs.declared.verity.Verity.{Verity}
+use Rattle.stack_loader.specs.Names.{mapped}
+use Rattle.stack_loader.specs.Records.{Configuration}
+use Rattle.stack_loader.specs.Rules.{IsLoaded}
+use Rattle.stack_loader.specs.Trees.{block_sectors}
+use Rattle.stack_engine.specs.declared.fault.IoFault.TheVariants.{ErrorTarget, Mismatch}
+use Rattle.stack_engine.specs.Kept.{block_of}
+use Rattle.stack_engine.specs.Laws.{LiesInVerity}
+use Rattle.stack_engine.specs.Leaves.{AllSteady, images_of}
+use Rattle.stack_engine.specs.Meaning.{sector}
+use Rattle.stack_engine.specs.Outcomes.{Fault, Images, Outcome, error_target, mismatch}
+use Rattle.stack_engine.specs.Stacks.{StackRecord}
+use Rattle.stack_recovery.specs.declared.lost_run.LostRun.{LostRun}
+use Rattle.stack_recovery.specs.LostRuns.{lost_runs}
+use Rattle.stack_recovery.specs.Surveys.{IsSurvey, PieceRead, State, all_states}
+
+-- ---- over leaves that are steady and never fail
+
+pub record AreSure (leaves : List Device) : Type 0 where
+  pub steady : AllSteady leaves
+  pub never_fail : All (λ l. IsTrue l.never_fails) leaves
+
+-- what becomes of a sector that means this
+abbrev pub meant_state : Outcome → State
+meant_state (Ok bytes) = None
+meant_state (Err error_target) = Some ErrorTarget
+meant_state (Err mismatch) = Some Mismatch
+
+-- of n sectors from the first on, where at says what each means
+abbrev pub meant_states : (ℕ → Outcome) → ℕ → ℕ → List State
+meant_states at first zero = []
+meant_states at first (suc n) = meant_state (at first) ∷ meant_states at (suc first) n
+
+-- a sector is lost where it means a fault, by that fault
+abbrev pub StatesAreMeant : Type 0
+StatesAreMeant = (d first : ℕ) (w : StackRecord) (reads : List PieceRead) (w' : StackRecord) → IsSurvey d first w reads w' → AreSure w.leaves
+    → all_states reads ≡ meant_states (sector w.config (images_of w.leaves) (mapped d)) first (length (all_states reads))
+
+-- ---- runs
+
+-- sectors that are lost by the run's fault, while those directly before and behind it aren't
+pub record IsLongestRun (states : List State) (r : LostRun) : Type 0 where
+  pub some : 1 ≤ r.count
+  pub lost : (j : ℕ) → j < r.count → get_or states (r.first + j) None ≡ Some r.fault
+  pub before : (s : ℕ) → suc s ≡ r.first → get_or states s None ≢ Some r.fault
+  pub behind : get_or states (r.first + r.count) None ≢ Some r.fault
+
+-- each run is one of the longest
+abbrev pub RunsAreLongest : Type 0
+RunsAreLongest = (states : List State) → All (IsLongestRun states) (lost_runs 0 states)
+
+-- ---- verity lines
+
+-- a sector of a verity line means a fault where its data block does
+abbrev pub LostBlocksAreLost : Type 0
+LostBlocksAreLost = (c : Configuration) → IsLoaded c → (images : Images) (d s l : ℕ) (line : Line) (v : Verity) → LiesInVerity c d s l line v → (fault : Fault)
+    → (sector c images (mapped d) s ≡ Err fault) ↔ (block_of c images v ((s - line.start) / block_sectors v) ≡ Err fault)

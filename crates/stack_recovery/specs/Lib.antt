@@ -1,0 +1,9 @@
+pub mod Alike
+pub mod Copies
+pub mod Laws
+pub mod LostRuns
+pub mod Pieces
+pub mod Recoveries
+pub mod Surveys
+pub mod Tallies
+pub mod Texts

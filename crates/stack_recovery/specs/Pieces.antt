@@ -1,0 +1,30 @@
+-- The next piece of a device that is gone over.
+use Rattle.std.specs.Prelude.{◌≡◌, ℕ, ◌+◌, ◌%◌, ◌≤◌, false, IsTrue}
+use Rattle.dm_table.specs.declared.table.Target.{Target}
+use Rattle.dm_table.specs.declared.table.Target.TheVariants.{Linear, Striped, Zero, Error, Crypt, Verity}
+use Rattle.stack_loader.specs.Names.{mapped, size}
+use Rattle.stack_loader.specs.Records.{Configuration}
+use Rattle.stack_loader.specs.Trees.{block_sectors}
+use Rattle.stack_recovery.specs.declared.piece.Piece.{Piece}
+use Rattle.stack_recovery.specs.Alike.{AreAlike}
+
+-- n sectors of a line from its sector w on are lost together: one, those of an `error` line, or of one data block
+abbrev pub AreLostTogether : Target → ℕ → ℕ → Type 0
+AreLostTogether (Linear base) w n = n ≤ 1
+AreLostTogether (Striped chunk bases) w n = n ≤ 1
+AreLostTogether Zero w n = n ≤ 1
+AreLostTogether Error w n = Unit {0}
+AreLostTogether (Crypt crypt) w n = n ≤ 1
+AreLostTogether (Verity v) w n = w % block_sectors v + n ≤ block_sectors v
+
+-- A piece of device d from sector first on, of sectors that are lost together, or of at most so many.
+pub record IsPiece (c : Configuration) (d first most : ℕ) (piece : Piece) : Type 0 where
+  pub some : 1 ≤ piece.count
+  pub few : piece.count ≤ 128
+  pub inside : first + piece.count ≤ size c (mapped d)
+  pub alike : IsTrue piece.alike → AreAlike c d first piece.count
+  pub apart : piece.alike ≡ false → (2 ≤ piece.count) × (piece.count ≤ most)
+
+-- how many sectors a piece may have
+abbrev pub IsPace : ℕ → Type 0
+IsPace most = (1 ≤ most) × (most ≤ 128)

@@ -1,0 +1,76 @@
+// A device that keeps nothing.
+ghost use Rattle.std.specs.Prelude.{◌≡◌, ◌≤◌, ◌^◌, false, true, refl};
+ghost use Rattle.block_device.specs.Device.{zeros_image};
+ghost use Rattle.block_device.specs.Whole.{whole_zeros};
+
+use block_device::{BlockDev, DeviceFault};
+
+/// A device of so many sectors that takes every write, and keeps nothing of it. It never fails, and a read leaves the
+/// buffer as it is.
+#[derive(Drop)]
+pub struct Discard {
+    sectors: u64,
+    reads: u64,
+    writes: u64,
+    ghost small: { sectors ≤ 2 ^ 54 },
+}
+
+impl Discard {
+    /// A device of that many sectors.
+    pub fn new(sectors: u64) -> Discard
+        requires { sectors ≤ 2 ^ 54 }
+        ensures size { (⟦<Discard as BlockDev>⟧.state result).size ≡ sectors }
+        ensures may_write { (⟦<Discard as BlockDev>⟧.state result).may_write ≡ true }
+    {
+        Discard {
+            sectors,
+            reads: 0,
+            writes: 0,
+        }
+    }
+}
+
+impl BlockDev for Discard {
+    ghost state = { λ f. record {
+      size = f.sectors;
+      may_write = true;
+      steady = false;
+      never_fails = true;
+      image = zeros_image f.sectors;
+      reads = f.reads;
+      writes = f.writes;
+      failures = 0;
+    } };
+
+    ghost whole = { λ f. whole_zeros (⟦<Discard as BlockDev>⟧.state f) refl };
+
+    fn sectors(&self) -> u64 {
+        self.sectors
+    }
+
+    fn writable(&self) -> bool {
+        true
+    }
+
+    fn read(&mut self, _first: u64, out: &mut [u8]) -> Result<(), DeviceFault> {
+        self.reads = self.reads.saturating_add(out.len() as u64 / 512);
+        Ok(())
+    }
+
+    fn write(&mut self, _first: u64, bytes: &[u8]) -> Result<(), DeviceFault> {
+        self.writes = self.writes.saturating_add(bytes.len() as u64 / 512);
+        Ok(())
+    }
+
+    fn reads(&self) -> u64 {
+        self.reads
+    }
+
+    fn writes(&self) -> u64 {
+        self.writes
+    }
+
+    fn failures(&self) -> u64 {
+        0
+    }
+}

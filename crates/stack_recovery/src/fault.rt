@@ -1,0 +1,37 @@
+// Why a device isn't gone over to its end.
+ghost use Rattle.std.specs.Prelude.{◌≡◌};
+ghost use Rattle.stack_recovery.specs.declared.fault.RecoveryFault.TheVariants as recovery_fault;
+
+use block_device::DeviceFault;
+use stack_session::WriteFault;
+use thiserror::Error;
+
+/// Why a device isn't gone over to its end.
+#[derive(Clone, Copy, Debug, PartialEq, Eq, Error)]
+pub enum RecoveryFault {
+    /// Memory ran out.
+    #[error("NoMemory")]
+    NoMemory,
+    /// The device failed to which the sectors are copied.
+    #[error("Output")]
+    Output,
+    /// A line can't be written.
+    #[error("Write")]
+    Write,
+}
+
+impl From<DeviceFault> for RecoveryFault {
+    ghost from_gives = { λ _ given. given ≡ recovery_fault.Output };
+
+    fn from(_fault: DeviceFault) -> Self {
+        RecoveryFault::Output
+    }
+}
+
+impl From<WriteFault> for RecoveryFault {
+    ghost from_gives = { λ _ given. given ≡ recovery_fault.Write };
+
+    fn from(_fault: WriteFault) -> Self {
+        RecoveryFault::Write
+    }
+}

@@ -1,0 +1,16 @@
+//! Goes over all sectors of a mapped device, and says which of them can be had.
+#![tactic(auto)]
+
+mod discard;
+mod fault;
+pub mod laws;
+mod lost_run;
+mod pace;
+mod piece;
+mod recovery;
+mod tally;
+
+pub use discard::Discard;
+pub use fault::RecoveryFault;
+pub use lost_run::LostRun;
+pub use recovery::{Counts, recover};

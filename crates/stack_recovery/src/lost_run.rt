@@ -1,0 +1,56 @@
+// A run of sectors that are lost by one fault.
+ghost use Rattle.std.specs.Prelude.{◌≡◌};
+ghost use Rattle.stack_session.specs.Counted.{Writes};
+ghost use Rattle.stack_recovery.specs.LostRuns.{is_same};
+ghost use Rattle.stack_recovery.specs.Texts.{loss_text, run_text};
+
+use stack_engine::IoFault;
+use stack_session::{Counted, WriteFault};
+use std::io::Write;
+
+/// So many sectors from one on, counted from 0, and the fault in which a read of them ends.
+#[derive(Clone, Copy, Debug, PartialEq, Eq)]
+pub struct LostRun {
+    pub first: u64,
+    pub count: u64,
+    pub fault: IoFault,
+}
+
+/// Whether both are one fault, of a device also of one leaf.
+pub(crate) fn is_same(a: IoFault, b: IoFault) -> bool
+    ensures { result ≡ is_same a b }
+{
+    match (a, b) {
+        (IoFault::ErrorTarget, IoFault::ErrorTarget)
+        | (IoFault::Mismatch, IoFault::Mismatch)
+        | (IoFault::NoMemory, IoFault::NoMemory) => true,
+        (IoFault::Device(leaf), IoFault::Device(other)) => leaf == other,
+        _ => false,
+    }
+}
+
+/// `lost FIRST COUNT FAULT`
+#[tactic(auto, unfolding(crate::specs::Texts::run_text))]
+pub(crate) fn say_run<W: Write>(writer: &mut Counted<W>, run: LostRun) -> Result<(), WriteFault>
+    ensures { Writes W.contents writer.old writer.new (run_text run) result }
+{
+    let LostRun {
+        first,
+        count,
+        fault,
+    } = run;
+    writer.print(format_args!("lost {first} {count} "))?;
+    say_loss(writer, fault)
+}
+
+// The fault's number and name, and of a device the leaf's number.
+fn say_loss<W: Write>(writer: &mut Counted<W>, fault: IoFault) -> Result<(), WriteFault>
+    ensures { Writes W.contents writer.old writer.new (loss_text fault) result }
+{
+    match fault {
+        IoFault::ErrorTarget => writer.put(b"1 ErrorTarget\n"),
+        IoFault::Mismatch => writer.put(b"2 Mismatch\n"),
+        IoFault::Device(leaf) => writer.print(format_args!("3 Device {leaf}\n")),
+        IoFault::NoMemory => writer.put(b"0 NoMemory\n"),
+    }
+}

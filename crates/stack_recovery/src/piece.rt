@@ -1,0 +1,73 @@
+// The next piece of a device that is gone over.
+ghost use Rattle.std.specs.Prelude.{◌≡◌, ◌+◌, ◌≤◌, ◌<◌, length};
+ghost use Rattle.dm_table.specs.Grammar.{IsTargetOfGrammar};
+ghost use Rattle.stack_loader.specs.Names.{mapped, size};
+ghost use Rattle.stack_recovery.specs.Pieces.{AreLostTogether, IsPace, IsPiece};
+
+use dm_table::Target;
+use stack_loader::{Config, DevId};
+
+const MOST_PIECE: u64 = 128;
+
+/// So many sectors, and whether they are lost together where they are lost.
+#[derive(Clone, Copy)]
+pub(crate) struct Piece {
+    pub(crate) count: u32,
+    pub(crate) alike: bool,
+}
+
+/// How many sectors are lost together from one on, and in a part behind them.
+#[derive(Clone, Copy)]
+struct Unit {
+    rest: u64,
+    whole: u64,
+}
+
+// Of a line's sectors from its sector `within` on.
+fn unit_of(target: &Target, within: u64) -> Unit
+    requires { IsTargetOfGrammar target.now }
+    ensures rest { 1 ≤ result.rest }
+    ensures whole { 1 ≤ result.whole }
+    ensures together { AreLostTogether target.now within result.rest }
+{
+    match target {
+        Target::Error => Unit {
+            rest: MOST_PIECE,
+            whole: 1,
+        },
+        Target::Verity(verity) => {
+            let whole = u64::from(verity.data_block / 512);
+            Unit {
+                rest: whole - within % whole,
+                whole,
+            }
+        }
+        Target::Linear(_) | Target::Striped { .. } | Target::Zero | Target::Crypt(_) => {
+            Unit { rest: 1, whole: 1 }
+        }
+    }
+}
+
+/// The piece from sector `first` on, of at most so many sectors where they aren't lost together. It stays in one line,
+/// and ends where such a part ends.
+pub(crate) fn piece_at(config: &Config, d: DevId, first: u64, most: u32) -> Piece
+    requires device { d.0 < length config.now.devices }
+    requires inside { first < size config.now (mapped d.0) }
+    requires most { IsPace most }
+    ensures { IsPiece config.now d.0 first most result }
+{
+    // What holds of every loaded configuration is learned from a call.
+    let _loaded = config.count();
+    let (number, left) = config.line_at(d, first);
+    let lines = config.table(d).lines();
+    let line = &lines[number as usize];
+    let Unit { rest, whole } = unit_of(&line.target, first - line.start);
+    let wanted = u64::from(most);
+    let behind = wanted.saturating_sub(rest) / whole * whole;
+    let room = left.min(config.sectors(d) - first).min(MOST_PIECE);
+    let count = (rest + behind).min(room);
+    Piece {
+        count: count as u32,
+        alike: count <= rest,
+    }
+}

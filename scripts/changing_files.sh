@@ -1,0 +1,202 @@
+#!/usr/bin/env bash
+# What sessions and commands answer while others change their files: images that are cut short, overwritten, removed or put
+# in another's place, file systems that are full, and standard streams that are full or closed. Each answer is a named fault
+# or status, nothing waits for ever, and no other file is changed.
+set -eu
+top=$(dirname "$(dirname "$(readlink -f "$0")")")
+"$top/scripts/built.sh" dmstack
+program=$top/crates/dmstack/out/dmstack
+room=$(mktemp -d)
+trap 'rm -rf "$room"' EXIT
+cd "$room"
+passed=0 failed=0
+
+# check WHAT COMMAND..: the command says that WHAT holds.
+check() {
+    local what=$1
+    shift
+    if "$@" > /dev/null 2>&1; then passed=$((passed + 1)); else failed=$((failed + 1)) && echo "not so: $what"; fi
+}
+
+# filled BYTE COUNT: so many sectors of that byte, in octal
+filled() { head -c $(($2 * 512)) /dev/zero | tr '\0' "\\$1"; }
+
+# begin WORD..: a session, to which `ask` speaks
+begin() {
+    coproc SESSION { exec timeout 60 "$program" session "$@" 2> errors; }
+}
+
+# ask LINE REPLY..: a line, and the lines that answer it
+ask() {
+    local line=$1 reply
+    shift
+    printf '%s\n' "$line" >&"${SESSION[1]}"
+    for wanted in "$@"; do
+        read -r -t 30 reply <&"${SESSION[0]}" || reply='no answer'
+        check "$line: $wanted, where it says $reply" test "$reply" = "$wanted"
+    done
+}
+
+# end STATUS REPLY..: the end of the input, the lines behind it, and the status
+end() {
+    local wanted=$1 reply status=0 process=$SESSION_PID
+    shift
+    exec {SESSION[1]}>&-
+    for line in "$@"; do
+        read -r -t 30 reply <&"${SESSION[0]}" || reply='no answer'
+        check "at the end: $line, where it says $reply" test "$reply" = "$line"
+    done
+    wait "$process" || status=$?
+    check "status $wanted, where it is $status" test "$status" = "$wanted"
+    check 'standard error stays empty' test ! -s errors
+}
+
+# An image is cut short: sectors that are gone are the device's fault, the others and the other device are served, and a
+# request in flight ends alone. What is written behind the end makes the file longer again.
+filled 1 256 > a
+filled 2 8 > b
+cp b kept
+begin A=rw:a B=rw:b
+ask 'load a,,,rw,0 256 linear A 0;b,,,rw,0 8 linear B 0' 'loaded 2'
+ask 'read a 255 1' '255 all 01'
+ask 'submit read a 0 256' 'ticket 2'
+ask 'submit read a 0 3' 'ticket 3'
+ask 'step 2' more
+truncate -s 2048 a
+ask 'step 2' 'fault 3 Device 1'
+ask 'step 2' 'refused 1 NoSuchTicket'
+ask 'step 3' '0 all 01' '1 all 01' '2 all 01'
+ask 'read a 3 2' 'fault 3 Device 1'
+ask 'read a 3 1' '3 all 01'
+ask 'read b 7 1' '7 all 02'
+ask 'write a 5 1 cc' written
+ask 'read a 3 3' '3 all 01' '4 all 00' '5 all cc'
+ask 'load c,,,ro,0 256 linear A 0' 'loaded 1'
+end 0
+check 'the other image is as it was' cmp b kept
+check 'the image has the sectors up to the one that was written' test "$(wc -c < a)" = 3072
+
+# An image is overwritten: what is read is what stands there now, and a verified block isn't served. Its removal, and another
+# file under its name, aren't seen: the file that was opened is served.
+python3 - << 'END'
+from hashlib import sha256
+data = [bytes([k + 1]) * 512 for k in range(2)]
+open("data", "wb").write(b"".join(data))
+top = b"".join(sha256(it).digest() for it in data).ljust(512, b"\0")
+open("hash", "wb").write(bytes(512) + top)
+open("root", "w").write(sha256(top).hexdigest())
+END
+root=$(cat root)
+for cache in 0 4; do
+    filled 1 1 > data
+    filled 2 1 >> data
+    begin --cache=$cache D=rw:data H=ro:hash
+    ask "load v,,,ro,0 2 verity 1 D H 512 512 2 1 sha256 $root -;d,,,rw,0 2 linear D 0" 'loaded 2'
+    ask 'read v 0 2' '0 all 01' '1 all 02'
+    filled 3 1 | dd of=data bs=512 seek=1 conv=notrunc status=none
+    ask 'read v 0 1' '0 all 01'
+    ask 'read v 0 2' 'fault 2 Mismatch'
+    ask 'read d 1 1' '1 all 03'
+    ask 'write d 1 1 02' written
+    ask 'read v 0 2' '0 all 01' '1 all 02'
+    mv data moved
+    filled 4 2 > data
+    cp data kept
+    ask 'read v 0 2' '0 all 01' '1 all 02'
+    ask 'write d 0 1 05' written
+    ask 'read v 0 1' 'fault 2 Mismatch'
+    rm moved
+    ask 'read d 0 2' '0 all 05' '1 all 02'
+    end 0
+    check "the file under the image's name is as it was" cmp data kept
+done
+
+# A hash image that is cut short: no block is served whose way isn't there, whatever was kept, and none that is unlike.
+cp hash cut
+begin --cache=0 D=ro:b H=ro:cut
+ask "load v,,,ro,0 2 verity 1 D H 512 512 2 1 sha256 $root -" 'loaded 1'
+truncate -s 512 cut
+ask 'read v 0 1' 'fault 3 Device 2'
+cp hash cut
+ask 'read v 0 1' 'fault 2 Mismatch'
+end 0
+
+# ran STATUS OUTPUT COMMAND..: the command ends in time with that status, and writes that
+ran() {
+    local wanted=$1 output=$2 status=0
+    shift 2
+    timeout 60 "$@" > out 2> errors < lines || status=$?
+    check "$*: status $wanted, $output, where it is $status, $(head -c 200 out errors)" test "$status $(cat out errors)" = "$wanted $output"
+}
+
+# Standard streams that are closed: an image doesn't come to stand in their place. A stream that is full, or that nobody reads.
+filled 1 8 > a
+cp a kept
+printf 'load a,,,rw,0 8 linear A 0\nread a 0 1\nmoved\n' > lines
+printf 'a,,,rw,0 8 linear A 0' > stack
+filled 1 4 > source
+truncate -s 8192 made
+sizes='--data-block=512 --hash-block=512 --salt=- --uuid=00000000-0000-0000-0000-000000000001'
+for closed in '>&-' '<&- >&-' '<&- >&- 2>&-' '> /dev/full' '> /dev/full 2>&-'; do
+    for words in 'session A=rw:a' 'load stack A=rw:a' 'read stack a 0 8 A=rw:a' 'write stack a 0 source A=rw:a'; do
+        ran 1 '' bash -c "\"\$0\" $words $closed" "$program"
+        check "$words $closed: the image is as it was" cmp a kept
+    done
+    ran 1 '' bash -c "\"\$0\" format $sizes a made $closed" "$program"
+    check "format $closed: the data image is as it was" cmp a kept
+done
+cp made formatted
+for words in "verify a made $root" 'dump made' "table made $root D H"; do
+    ran 1 '' bash -c "\"\$0\" $words <&- >&-" "$program"
+    check "$words: the images are as they were" cmp made formatted
+    check "$words: the images are as they were" cmp a kept
+done
+ran 1 '' bash -c '"$0" session A=rw:a <&-' "$program"
+check 'a session without input: the image is as it was' cmp a kept
+ran 0 $'loaded 1\n0 all 01\nmoved 1 0' bash -c '"$0" session A=rw:a 2>&-' "$program"
+printf 'moved\n' | dd of=a conv=notrunc status=none
+cp a kept
+ran 1 '' bash -c '"$0" session A=ro:a <&-' "$program"
+check "a session without input: the image isn't taken for it" cmp a kept
+# Nobody reads: the session ends at the first reply that can't be written, and reads no further.
+yes moved | timeout 60 bash -c '{ "$0" session A=rw:a; echo $? > status; } | head -n 1' "$program" > out 2> errors || true
+check 'nobody reads: one reply' test "$(cat out)" = 'moved 0 0'
+check 'nobody reads: the status' test "$(cat status)" = 1
+
+# A file system that is full in the midst of a session, where a small one can be mounted: the fault is of the right device,
+# what was written stands, the other image is served, and once there is room again the write is made.
+mkdir full
+if mount -t tmpfs -o size=32k,mode=777 tmpfs full 2> mount_errors; then
+    trap 'umount full; rm -rf "$room"' EXIT
+    truncate -s 65536 full/image
+    filled 0 8 > full/filling
+    filled 2 8 > b
+    begin B=rw:b F=rw:full/image
+    ask 'load f,,,rw,0 128 linear F 0;b,,,rw,0 8 linear B 0;both,,,rw,0 16 striped 2 1 B 0 F 120' 'loaded 3'
+    ask 'write f 0 8 ab' written
+    ask 'write f 8 120 cd' 'fault 3 Device 2'
+    ask 'read f 0 8' '0 all ab' '1 all ab' '2 all ab' '3 all ab' '4 all ab' '5 all ab' '6 all ab' '7 all ab'
+    ask 'read f 127 1' '127 all 00'
+    ask 'write both 0 2 ee' 'fault 3 Device 2'
+    ask 'read b 0 2' '0 all ee' '1 all 02'
+    ask 'write b 0 8 02' written
+    ask 'submit write f 120 8 cd' 'ticket 8'
+    rm full/filling
+    ask 'step 8' written
+    ask 'read f 119 2' '119 all 00' '120 all cd'
+    end 0
+    check 'what was written stands' cmp -n 4096 full/image <(filled 253 0; head -c 4096 /dev/zero | tr '\0' '\253')
+    # A tree that has no room: no superblock is left before it.
+    rm full/image
+    truncate -s 1048576 full/image data
+    ran 1 'refused 5 Device' "$program" format $sizes data full/image
+    check 'no superblock stands before a tree that was not written' cmp -n 512 full/image /dev/zero
+    # An output file without room.
+    rm full/image
+    filled 0 128 > full/filling 2> /dev/null || true
+    ran 1 '' bash -c '"$0" session A=rw:a > full/out' "$program"
+else
+    echo 'changing files: no small file system could be mounted: the full one is left out'
+fi
+echo "changing files: $passed passed, $failed failed"
+[ $failed = 0 ]

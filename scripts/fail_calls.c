@@ -1,0 +1,100 @@
+// Fails call number FAIL (from 1) of the kind FAIL_KIND of the program that it is loaded into: `device` counts positioned reads
+// and writes and syncs, `input` reads of standard input, `output` writes of standard output, `text` other reads, and each fails
+// with EIO. `short` and `interrupted` count all of these but the syncs; such a call moves one byte, or is interrupted. The file
+// FAIL_MET then says which call it was and of which file.
+#define _GNU_SOURCE
+#include <dlfcn.h>
+#include <errno.h>
+#include <fcntl.h>
+#include <stdio.h>
+#include <stdlib.h>
+#include <string.h>
+#include <sys/types.h>
+#include <unistd.h>
+
+static ssize_t (*real_write)(int, const void *, size_t);
+
+static void tell(const char *call, int fd) {
+    const char *met = getenv("FAIL_MET");
+    char name[64], path[4096], line[4200];
+    snprintf(name, sizeof name, "/proc/self/fd/%d", fd);
+    ssize_t length = readlink(name, path, sizeof path);
+    int size = snprintf(line, sizeof line, "%s %.*s\n", call, (int)(length < 0 ? 0 : length), path);
+    int file = met ? open(met, O_WRONLY | O_CREAT | O_TRUNC, 0644) : -1;
+    if (file < 0 || real_write(file, line, size) != size)
+        abort();
+    close(file);
+}
+
+// Whether this is the call, counted where it is of the kind that is wanted.
+static int is_the_call(const char *kind, const char *call, int fd) {
+    static long seen;
+    const char *wanted = getenv("FAIL_KIND"), *number = getenv("FAIL");
+    if (!real_write)
+        real_write = dlsym(RTLD_NEXT, "write");
+    if (!wanted || !number || strcmp(kind, wanted) || ++seen != atol(number))
+        return 0;
+    tell(call, fd);
+    return 1;
+}
+
+// Whether a call fails, with its error; one that moves less than it may changes its count.
+static int fails(const char *kind, const char *call, int fd, size_t *count) {
+    if (is_the_call(kind, call, fd)) {
+        errno = EIO;
+        return 1;
+    }
+    if (is_the_call("interrupted", call, fd)) {
+        errno = EINTR;
+        return 1;
+    }
+    if (*count > 1 && is_the_call("short", call, fd))
+        *count = 1;
+    return 0;
+}
+
+static int sync_fails(int fd) {
+    if (!is_the_call("device", "sync", fd))
+        return 0;
+    errno = EIO;
+    return 1;
+}
+
+#define REAL(result, name, ...)                         \
+    static result (*real)(__VA_ARGS__);                 \
+    if (!real)                                          \
+        real = dlsym(RTLD_NEXT, name)
+
+ssize_t pread64(int fd, void *bytes, size_t n, off64_t at) {
+    REAL(ssize_t, "pread64", int, void *, size_t, off64_t);
+    return fails("device", "read", fd, &n) ? -1 : real(fd, bytes, n, at);
+}
+
+ssize_t pread(int fd, void *bytes, size_t n, off_t at) { return pread64(fd, bytes, n, at); }
+
+ssize_t pwrite64(int fd, const void *bytes, size_t n, off64_t at) {
+    REAL(ssize_t, "pwrite64", int, const void *, size_t, off64_t);
+    return fails("device", "write", fd, &n) ? -1 : real(fd, bytes, n, at);
+}
+
+ssize_t pwrite(int fd, const void *bytes, size_t n, off_t at) { return pwrite64(fd, bytes, n, at); }
+
+int fsync(int fd) {
+    REAL(int, "fsync", int);
+    return sync_fails(fd) ? -1 : real(fd);
+}
+
+int fdatasync(int fd) {
+    REAL(int, "fdatasync", int);
+    return sync_fails(fd) ? -1 : real(fd);
+}
+
+ssize_t read(int fd, void *bytes, size_t n) {
+    REAL(ssize_t, "read", int, void *, size_t);
+    return fails(fd == 0 ? "input" : "text", "read", fd, &n) ? -1 : real(fd, bytes, n);
+}
+
+ssize_t write(int fd, const void *bytes, size_t n) {
+    REAL(ssize_t, "write", int, const void *, size_t);
+    return fails("output", "write", fd, &n) ? -1 : real(fd, bytes, n);
+}

@@ -1,0 +1,99 @@
+#!/usr/bin/env python3
+"""Checks the manual page against the command line that clap is told of, and the page's own form.
+
+manual.py [PAGE [GRAMMAR]]: the commands of the page are the headings of its section COMMANDS. Their names and options,
+and the options that its section OPTIONS explains, must be those of the grammar's source. Where man or mandoc is
+installed, it must read the page without a warning.
+"""
+
+import re
+import shutil
+import subprocess
+import sys
+from pathlib import Path
+
+TOP = Path(__file__).resolve().parent.parent
+
+
+def body_of(source, name):
+    """The body of a function of the source, up to the next one."""
+    found = re.search(rf"^fn {name}\b.*?^\{{\n(.*?)^\}}", source, re.M | re.S)
+    if not found:
+        sys.exit(f"manual: no function {name} in the grammar")
+    return found.group(1)
+
+
+def options_in(source, name, seen=()):
+    """The options that a function of the grammar adds, itself and by the functions that it calls."""
+    body = body_of(source, name)
+    options = set(re.findall(r'option\(alloc, "([^"]+)"\)', body))
+    for other in re.findall(r"\b(positional|cached|formatting)\(alloc", body):
+        if other != name and other not in seen:
+            options |= options_in(source, other, (*seen, name))
+    return options
+
+
+def grammar_of(source):
+    """The commands of the grammar, each with its options."""
+    commands = {}
+    for kind, name in re.findall(r'\.subcommand\((\w+)\(alloc(?:, "([^"]+)")?\)', source):
+        options = options_in(source, kind)
+        if not name:
+            name = re.search(r'positional\(alloc, "([^"]+)"\)', body_of(source, kind)).group(1)
+        commands[name] = options
+    return commands
+
+
+def section_of(page, title):
+    found = re.search(rf"^\.SH {title}\n(.*?)(?=^\.SH |\Z)", page, re.M | re.S)
+    if not found:
+        sys.exit(f"manual: no section {title}")
+    return found.group(1)
+
+
+def commands_of(page):
+    """The commands of the page, each with the options in its heading."""
+    commands = {}
+    for heading in re.findall(r'^\.SS "(.*)"$', section_of(page, "COMMANDS"), re.M):
+        heading = heading.replace("\\-", "-")
+        name = heading.split()[0]
+        if name in commands:
+            sys.exit(f"manual: {name} stands there twice")
+        commands[name] = set(re.findall(r"\[--([a-z-]+) [A-Z]+\]", heading))
+    return commands
+
+
+def warnings_of(page):
+    """What man and mandoc say against the page."""
+    told = []
+    if shutil.which("man"):
+        run = subprocess.run(["man", "--warnings", "-E", "UTF-8", "-l", "-Tutf8", "-Z", page], capture_output=True, text=True)
+        told += run.stderr.splitlines()
+    if shutil.which("mandoc"):
+        run = subprocess.run(["mandoc", "-T", "lint", "-W", "warning", page], capture_output=True, text=True)
+        told += run.stdout.splitlines()
+    return told
+
+
+def main():
+    page = Path(sys.argv[1]) if len(sys.argv) > 1 else TOP / "man/dmstack.1"
+    grammar = Path(sys.argv[2]) if len(sys.argv) > 2 else TOP / "crates/stack_commands/src/grammar.rt"
+    text = page.read_text()
+    wanted, told = grammar_of(grammar.read_text()), commands_of(text)
+    wrong = []
+    for name in sorted(wanted.keys() | told.keys()):
+        if wanted.get(name) != told.get(name):
+            wrong.append(f"{name}: the grammar has {wanted.get(name)}, the page {told.get(name)}")
+    explained = set(re.findall(r"^\.BI (?:\\-){2}(\S+) ", section_of(text, "OPTIONS"), re.M))
+    explained = {name.replace("\\-", "-") for name in explained}
+    if explained != set().union(*wanted.values()):
+        wrong.append(f"OPTIONS explains {sorted(explained)}")
+    wrong += warnings_of(str(page))
+    for line in wrong:
+        print(f"manual: {line}")
+    print(f"manual: {len(told)} commands, {len(wrong)} wrong")
+    sys.exit(bool(wrong))
+
+
+if __name__ == "__main__":
+    main()
