@@ -2,7 +2,7 @@
 """Compares the examples of crates/NAME/README.md with the crate's tests.
 
 The lines of each block ```rust stand, apart from indentation and empty lines, one after another in a file of
-crates/NAME/src/, so that what a README shows was proved and run.
+crates/NAME/src/ or of a crate of tests, crates/*_tests/src/, so that what a README shows was proved and run.
 """
 import glob
 import os
@@ -30,10 +30,11 @@ def stands_in(example, lines):
 
 def main():
     passed, failed = 0, 0
+    tests = [file for crate in sorted(glob.glob(f"{TOP}/crates/*_tests")) for file in sources(crate)]
     for readme in sorted(glob.glob(f"{TOP}/crates/*/README.md")):
         with open(readme, encoding="utf-8") as it:
             text = it.read()
-        files = sources(os.path.dirname(readme))
+        files = sources(os.path.dirname(readme)) + tests
         for block in re.finditer(r"^ *```rust\n(.*?)^ *```$", text, re.M | re.S):
             example = lines_of(block[1])
             if example and any(stands_in(example, it) for it in files):
@@ -41,7 +42,7 @@ def main():
                 continue
             failed += 1
             row = text.count("\n", 0, block.start()) + 1
-            print(f"{os.path.relpath(readme, TOP)}:{row}: this example stands in no file of src/")
+            print(f"{os.path.relpath(readme, TOP)}:{row}: this example stands in no file of src/, here or in a crate of tests")
     print(f"examples: {passed} passed, {failed} failed")
     return 1 if failed else 0
 
