@@ -11,7 +11,8 @@ use Rattle.stack_loader.specs.declared.refusal.LoadFault.{LoadFault}
 use Rattle.stack_loader.specs.declared.refusal.LoadFault.TheVariants as load
 use Rattle.stack_engine.specs.declared.fault.IoFault.TheVariants as io
 use Rattle.command_faults.specs.declared.fault.CommandFault.{CommandFault}
-use Rattle.command_faults.specs.declared.fault.CommandFault.TheVariants.{Usage, NoMemory, TooLong, Open, Leaves, Text, Load, Submit, Io, Format, Verify, Differs, Random, Lost, OutputTooSmall, OutputFailed, Session}
+use Rattle.command_faults.specs.declared.fault.CommandFault.TheVariants.{Usage, NoMemory, TooLong, Open, Leaves, Text, Load, Submit, Io, Format, Verify, Differs, Random, Lost, OutputTooSmall, OutputFailed, Session, Service}
+use Rattle.nbd_server.specs.declared.fault.ServiceFault.TheVariants as service
 use Rattle.stack_session.specs.declared.fault.SessionFault.TheVariants.{WriteFault}
 use Rattle.verity_format.specs.declared.verifying.VerifyFault.{VerifyFault}
 use Rattle.verity_format.specs.declared.verifying.Verdict.{Verdict}
@@ -48,7 +49,7 @@ counts_text read lost = codes "read " ++ (decimal read ++ (codes " lost " ++ (de
 abbrev pub too_small_text : ℕ → List ℕ
 too_small_text needed = codes "refused 1 TooSmall needed " ++ (decimal needed ++ codes "\n")
 
--- what is printed of it; a session's own faults print nothing
+-- what is printed of it; the own faults of a session and of the service of a client print nothing
 abbrev pub ending_text : CommandFault → List ℕ
 ending_text Usage = usage_text
 ending_text NoMemory = no_memory
@@ -67,14 +68,20 @@ ending_text (Lost read lost) = counts_text read lost
 ending_text (OutputTooSmall needed) = too_small_text needed
 ending_text OutputFailed = codes "refused 2 Device\n"
 ending_text (Session fault) = []
+ending_text (Service fault) = []
 
--- 2 for words that are no command, 3 for a fault of the stack, images that differ and lost sectors, else 1
+-- 2 for words that are no command, 3 for a fault of the stack, images that differ and lost sectors,
+-- 4 for a client that breaks the protocol or is lost, else 1
 abbrev pub ending_status : CommandFault → ℕ
 ending_status Usage = 2
 ending_status (Io io.NoMemory) = 1
 ending_status (Io fault) = 3
 ending_status (Differs verdict) = 3
 ending_status (Lost read lost) = 3
+ending_status (Service service.Lost) = 4
+ending_status (Service service.Magic) = 4
+ending_status (Service service.Flags) = 4
+ending_status (Service service.NoSuchExport) = 4
 ending_status fault = 1
 
 -- its text was printed, and its status answered

@@ -6,6 +6,7 @@ ghost use Rattle.command_faults.specs.VerityTexts.{format_text, super_text, verd
 
 use crate::fault::CommandFault;
 use block_device::OpenFault;
+use nbd_server::ServiceFault;
 use stack_engine::IoFault;
 use stack_loader::ConfigFault;
 use stack_session::{
@@ -21,6 +22,8 @@ const USAGE: u8 = 2;
 
 const FAULT: u8 = 3;
 
+const BROKEN_CLIENT: u8 = 4;
+
 /// Prints why a command ends early, and answers its status: 1 where that can't be written.
 pub fn end<W: Write>(writer: &mut Counted<W>, fault: CommandFault<'_>) -> u8
     ensures { IsEnd fault.entry (W.contents writer.old.inner) (W.contents writer.new.inner) result ⊎ ((result ≡ 1) × (writer.new.failed ≡ true)) }
@@ -31,7 +34,7 @@ pub fn end<W: Write>(writer: &mut Counted<W>, fault: CommandFault<'_>) -> u8
     }
 }
 
-// 1 refused, 2 usage, 3 a fault of the stack or images that differ.
+// 1 refused, 2 usage, 3 a fault of the stack or images that differ, 4 a client that breaks the protocol.
 fn status_of(fault: CommandFault<'_>) -> u8
     ensures { result ≡ ending_status fault.entry }
 {
@@ -41,11 +44,17 @@ fn status_of(fault: CommandFault<'_>) -> u8
         CommandFault::Io(_) => FAULT,
         CommandFault::Differs(_) => FAULT,
         CommandFault::Lost { .. } => FAULT,
+        CommandFault::Service(
+            ServiceFault::Lost
+            | ServiceFault::Magic
+            | ServiceFault::Flags
+            | ServiceFault::NoSuchExport,
+        ) => BROKEN_CLIENT,
         _ => REFUSED,
     }
 }
 
-// One line, or none where the session itself failed.
+// One line, or none where the session or the service of a client itself failed.
 fn say_fault<W: Write>(writer: &mut Counted<W>, fault: CommandFault<'_>) -> Result<(), WriteFault>
     ensures { Writes W.contents writer.old writer.new (ending_text fault.entry) result }
 {
@@ -66,7 +75,7 @@ fn say_fault<W: Write>(writer: &mut Counted<W>, fault: CommandFault<'_>) -> Resu
         CommandFault::Lost { read, lost } => say_counts(writer, read, lost),
         CommandFault::OutputTooSmall { needed } => say_too_small(writer, needed),
         CommandFault::OutputFailed => writer.put(b"refused 2 Device\n"),
-        CommandFault::Session(_) => Ok(()),
+        CommandFault::Session(_) | CommandFault::Service(_) => Ok(()),
     }
 }
 

@@ -6,6 +6,7 @@ ghost use Rattle.command_faults.specs.Endings.{load_ending, text_ending};
 
 use block_device::OpenFault;
 use dm_table::{ParseFault, TextFault};
+use nbd_server::ServiceFault;
 use request_queue::SubmitFault;
 use stack_engine::IoFault;
 use stack_loader::{ConfigFault, LoadFault, Refusal};
@@ -50,6 +51,8 @@ pub enum CommandFault<'a> {
     OutputFailed,
     /// The session failed, or a line can't be written.
     Session(SessionFault),
+    /// The service of a client ended early.
+    Service(ServiceFault),
 }
 
 impl From<AllocError> for CommandFault<'_> {
@@ -127,6 +130,14 @@ impl From<SessionFault> for CommandFault<'_> {
 
     fn from(fault: SessionFault) -> Self {
         CommandFault::Session(fault)
+    }
+}
+
+impl From<ServiceFault> for CommandFault<'_> {
+    ghost from_gives = { λ fault given. given ≡ command_fault.Service fault };
+
+    fn from(fault: ServiceFault) -> Self {
+        CommandFault::Service(fault)
     }
 }
 

@@ -124,4 +124,7 @@ printed-crypt crypt h = (
     some (inr long) = omega (arith, long)
 
     known : ArePrinted crypt_options
-    known = ((omega arith, refl), ((omega arith, refl), ((omega arith, refl), ((omega arith, refl), ((omega arith, refl), tt)))))
+    known = (
+      (omega arith, refl),
+      ((omega arith, refl), ((omega arith, refl), ((omega arith, refl), ((omega arith, refl), ((omega arith, refl), ((omega arith, refl), ((omega arith, refl), ((omega arith, refl), ((omega arith, refl), tt))))))))),
+    )

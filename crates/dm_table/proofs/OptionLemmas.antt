@@ -9,7 +9,7 @@ use Rattle.dm_table.specs.declared.fault.TextKind.TheVariants as kinds
 use Rattle.dm_table.specs.Words.{Word}
 use Rattle.dm_table.specs.Reading.{◌>>=◌}
 use Rattle.dm_table.specs.Arguments.{number_at}
-use Rattle.dm_table.specs.Options.{is_one_of, are_options, known_at, counted_at, options_at, options_words, AreOptionsOfGrammar}
+use Rattle.dm_table.specs.Options.{is_one_of, option_name, has_name_of, are_options, known_at, counted_at, options_at, options_words, AreOptionsOfGrammar}
 use Rattle.dm_table.proofs.StepLemmas.{bind_ok, ok_same, chosen, number_at-fits}
 use Rattle.dm_table.proofs.PrintedLemmas.{IsPrinted, ArePrinted, printed-decimal, number_at-decimal}
 
@@ -25,60 +25,58 @@ or-true : (a : Bool) → (a || true) ≡ true
 or-true true = refl
 or-true false = refl
 
-bytes_eq-same : (word : Word) → bytes_eq word word ≡ true
-bytes_eq-same word = (bytes_eq-Decides word word).1 refl
-
 bytes_eq-flip : (a b : Word) → bytes_eq a b ≡ false → bytes_eq b a ≡ false
 bytes_eq-flip a b e = elim (cases_Bool (bytes_eq b a)) [
   | inl same ↦ let clash : false ≡ true = sym e ∙ (bytes_eq-Decides a b).1 (sym ((bytes_eq-Decides b a).0 same)) in cc
   | inr other ↦ other
 ]
 
--- a word stands in a list that has it in the middle
-one_of-middle : (word : Word) (before rest : List Word) → is_one_of word (before ++ word ∷ rest) ≡ true
-one_of-middle word [] rest = ap (λ b. b || list_any (λ one. bytes_eq one word) rest) (bytes_eq-same word)
-one_of-middle word (b ∷ before) rest = ap (λ t. bytes_eq b word || t) (one_of-middle word before rest) ∙ or-true (bytes_eq b word)
+-- a name stands in a list that has it in the middle
+named-middle : (word same : Word) (before rest : List Word) → option_name word ≡ option_name same → has_name_of same (before ++ word ∷ rest) ≡ true
+named-middle word same [] rest is = ap (λ b. b || has_name_of same rest) ((bytes_eq-Decides (option_name word) (option_name same)).1 is)
+named-middle word same (b ∷ before) rest is = ap (λ t. bytes_eq (option_name b) (option_name same) || t) (named-middle word same before rest is) ∙ or-true (bytes_eq (option_name b) (option_name same))
 
--- the first word that is unknown, or that stands a second time
-repeated : (known : List Word) (word : Word) (before rest : List Word) → is_one_of word before ≡ true → are_options known (before ++ word ∷ rest) ≡ false
+-- the first word that is unknown, or whose name stands a second time
+repeated : (known : List Word) (word : Word) (before rest : List Word) → has_name_of word before ≡ true → are_options known (before ++ word ∷ rest) ≡ false
 repeated known word [] rest e = cc
-repeated known word (b ∷ before) rest e = elim (cases_Bool (bytes_eq b word)) [
+repeated known word (b ∷ before) rest e = elim (cases_Bool (bytes_eq (option_name b) (option_name word))) [
   | inl same ↦
-      let is : word ≡ b = sym ((bytes_eq-Decides b word).0 same) in
-      let twice : is_one_of b (before ++ word ∷ rest) ≡ true = subst (λ w. is_one_of w (before ++ word ∷ rest) ≡ true) is (one_of-middle word before rest) in
+      let is : option_name word ≡ option_name b = sym ((bytes_eq-Decides (option_name b) (option_name word)).0 same) in
+      let twice : has_name_of b (before ++ word ∷ rest) ≡ true = named-middle word b before rest is in
       ap (λ t. (is_one_of b known && not t) && are_options known (before ++ word ∷ rest)) twice
       ∙ ap (λ t. t && are_options known (before ++ word ∷ rest)) (and-false (is_one_of b known))
   | inr other ↦
-      let later = sym (ap (λ t. t || is_one_of word before) other) ∙ e in
-      ap (λ t. (is_one_of b known && not (is_one_of b (before ++ word ∷ rest))) && t) (repeated known word before rest later)
+      let later = sym (ap (λ t. t || has_name_of word before) other) ∙ e in
+      ap (λ t. (is_one_of b known && not (has_name_of b (before ++ word ∷ rest))) && t) (repeated known word before rest later)
       ∙ and-false _
 ]
 
 unknown : (known : List Word) (word : Word) (before rest : List Word) → is_one_of word known ≡ false → are_options known (before ++ word ∷ rest) ≡ false
-unknown known word [] rest e = ap (λ t. (t && not (is_one_of word rest)) && are_options known rest) e
+unknown known word [] rest e = ap (λ t. (t && not (has_name_of word rest)) && are_options known rest) e
 unknown known word (b ∷ before) rest e =
-    ap (λ t. (is_one_of b known && not (is_one_of b (before ++ word ∷ rest))) && t) (unknown known word before rest e) ∙ and-false _
+    ap (λ t. (is_one_of b known && not (has_name_of b (before ++ word ∷ rest))) && t) (unknown known word before rest e) ∙ and-false _
 
-pub options-fault : (known : List Word) (word : Word) (before rest : List Word) → (is_one_of word known && not (is_one_of word before)) ≡ false → known_at known (before ++ word ∷ rest) ≡ Err kinds.Option
+pub options-fault : (known : List Word) (word : Word) (before rest : List Word) → (is_one_of word known && not (has_name_of word before)) ≡ false → known_at known (before ++ word ∷ rest) ≡ Err kinds.Option
 unfolding known_at
 options-fault known word before rest e = cond-false _ _ _ (elim (cases_Bool (is_one_of word known)) [
   | inr none ↦ unknown known word before rest none
-  | inl some ↦ elim (cases_Bool (is_one_of word before)) [
+  | inl some ↦ elim (cases_Bool (has_name_of word before)) [
     | inl twice ↦ repeated known word before rest twice
-    | inr once ↦ let clash : true ≡ false = sym (ap (λ t. t && not (is_one_of word before)) some ∙ ap not once) ∙ e in cc
+    | inr once ↦ let clash : true ≡ false = sym (ap (λ t. t && not (has_name_of word before)) some ∙ ap not once) ∙ e in cc
   ]
 ])
 
 -- one option more
-pub options-push : (known : List Word) (before : List Word) (word : Word) → are_options known before ≡ true → (is_one_of word known && not (is_one_of word before)) ≡ true → are_options known (before ++ word ∷ []) ≡ true
+pub options-push : (known : List Word) (before : List Word) (word : Word) → are_options known before ≡ true → (is_one_of word known && not (has_name_of word before)) ≡ true → are_options known (before ++ word ∷ []) ≡ true
 options-push known [] word all e = and_from _ _ (and_from _ _ (and_parts (is_one_of word known) _ e).0 refl) refl
 options-push known (b ∷ before) word all e =
-    let first = and_parts (is_one_of b known && not (is_one_of b before)) _ all in
+    let first = and_parts (is_one_of b known && not (has_name_of b before)) _ all in
     let parts = and_parts (is_one_of b known) _ first.0 in
     let new = and_parts (is_one_of word known) _ e in
-    let apart = neither (bytes_eq b word) (is_one_of word before) new.1 in
-    let once : is_one_of b (before ++ word ∷ []) ≡ false =
-    list_any-append (λ one. bytes_eq one b) before (word ∷ []) ∙ ap (λ t. t || (bytes_eq word b || false)) (none parts.1) ∙ ap (λ t. t || false) (bytes_eq-flip b word apart.0) in
+    let apart = neither (bytes_eq (option_name b) (option_name word)) (has_name_of word before) new.1 in
+    let once : has_name_of b (before ++ word ∷ []) ≡ false =
+    list_any-append (λ one. bytes_eq (option_name one) (option_name b)) before (word ∷ []) ∙ ap (λ t. t || (bytes_eq (option_name word) (option_name b) || false)) (none parts.1)
+    ∙ ap (λ t. t || false) (bytes_eq-flip (option_name b) (option_name word) apart.0) in
     and_from _ _ (and_from _ _ parts.0 (ap not once)) (options-push known before word first.1 (and_from _ _ new.0 (ap not apart.1)))
   where
     none : {t : Bool} → not t ≡ true → t ≡ false
@@ -132,7 +130,7 @@ one_of-printed (k ∷ known) word h e = elim (cases_Bool (bytes_eq k word)) [
 known-printed : (known words : List Word) → ArePrinted known → are_options known words ≡ true → ArePrinted words
 known-printed known [] h e = tt
 known-printed known (word ∷ more) h e =
-    let parts = and_parts (is_one_of word known && not (is_one_of word more)) _ e in
+    let parts = and_parts (is_one_of word known && not (has_name_of word more)) _ e in
     (one_of-printed known word h (and_parts (is_one_of word known) _ parts.0).0, known-printed known more h parts.1)
 
 pub printed-options : (known options : List Word) → ArePrinted known → AreOptionsOfGrammar known options → ArePrinted (options_words options)

@@ -1,6 +1,7 @@
 -- Worked texts: what they say, or their first fault.
 use Rattle.std.proofs.Common.{◌≡◌, ℕ, Bool, List, [], ◌∷◌, ◌++◌, replicate, refl, codes, true, false, Ok, Err, Result}
 use Rattle.hex.specs.Hex.{decode_pairs, encode_with}
+use Rattle.dm_table.specs.declared.crypt.Crypt.{Crypt}
 use Rattle.dm_table.specs.declared.table.Base.{Base}
 use Rattle.dm_table.specs.declared.table.Line.{Line}
 use Rattle.dm_table.specs.declared.table.Target.{Target}
@@ -13,8 +14,8 @@ use Rattle.dm_table.specs.Words.{words, trimmed_text, lines_of, entries_of, fiel
 use Rattle.dm_table.specs.Numbers.{number}
 use Rattle.dm_table.specs.Names.{is_mapped_name, is_device}
 use Rattle.dm_table.specs.Arguments.{base_at, bytes_at}
-use Rattle.dm_table.specs.Options.{options_at, known_at}
-use Rattle.dm_table.specs.Crypt.{key_at, crypt_at, crypt_words}
+use Rattle.dm_table.specs.Options.{option_name, options_at, known_at}
+use Rattle.dm_table.specs.Crypt.{sector_size, iv_large_sectors, key_at, crypt_at, crypt_words}
 use Rattle.dm_table.specs.Verity.{salt_at, verity_at, verity_words}
 use Rattle.dm_table.specs.Lines.{linear_at, striped_at, bare_at, crypt_target_at, verity_target_at, target_at, line_of}
 use Rattle.dm_table.specs.TableText.{table_of}
@@ -83,8 +84,18 @@ first_fault kind = Err (record { entry = 0; line = 1; kind = kind })
 
 crypt_tables : (table_of (crypt_front ++ codes "0a0A0a0A0a0A0a0A0a0A0a0A0a0A0a0Ab1B1b1B1b1B1b1B1b1B1b1B1b1B1b1B1 07 D 016") ≡ Ok (crypt_line [] ∷ []))
     × (table_of (crypt_front ++ codes "0a0A0a0A0a0A0a0A0a0A0a0A0a0A0a0Ab1B1b1B1b1B1b1B1b1B1b1B1b1B1b1B1 7 D 16 02 no_read_workqueue allow_discards") ≡ Ok (crypt_line (codes "no_read_workqueue" ∷ codes "allow_discards" ∷ []) ∷ []))
-unfolding table_of lines_of words number is_mapped_name is_device line_of target_at crypt_target_at crypt_at key_at bytes_at decode_pairs base_at options_at known_at
+unfolding table_of lines_of words number is_mapped_name is_device line_of target_at crypt_target_at crypt_at key_at bytes_at decode_pairs base_at options_at known_at option_name
 crypt_tables = (refl, refl)
+
+-- the size of a unit, and how units are numbered
+abbrev crypt_with : List (List ℕ) → Crypt
+crypt_with options = record { key = []; iv_offset = 0; base = base [] 0; options = options }
+
+unit_options : (sector_size (crypt_with []) ≡ 512) × (sector_size (crypt_with (codes "sector_size:512" ∷ [])) ≡ 512) × (sector_size (crypt_with (codes "allow_discards" ∷ codes "sector_size:1024" ∷ [])) ≡ 1024)
+    × (sector_size (crypt_with (codes "sector_size:2048" ∷ [])) ≡ 2048) × (sector_size (crypt_with (codes "sector_size:4096" ∷ codes "iv_large_sectors" ∷ [])) ≡ 4096)
+    × (iv_large_sectors (crypt_with (codes "sector_size:4096" ∷ codes "iv_large_sectors" ∷ [])) ≡ true) × (iv_large_sectors (crypt_with (codes "sector_size:4096" ∷ [])) ≡ false)
+unfolding sector_size iv_large_sectors
+unit_options = (refl, refl, refl, refl, refl, refl, refl)
 
 -- a `crypt` line at each fault, with faults behind it
 crypt_faults : (table_of (codes "0 8 crypt aes-cbc-plain64 x y D") ≡ first_fault kinds.ArgCount)
@@ -98,8 +109,10 @@ crypt_faults : (table_of (codes "0 8 crypt aes-cbc-plain64 x y D") ≡ first_fau
     × (table_of (crypt_front ++ codes "0a0A0a0A0a0A0a0A0a0A0a0A0a0A0a0Ab1B1b1B1b1B1b1B1b1B1b1B1b1B1b1B1 7 D 16 2 no") ≡ first_fault kinds.ArgCount)
     × (table_of (crypt_front ++ codes "0a0A0a0A0a0A0a0A0a0A0a0A0a0A0a0Ab1B1b1B1b1B1b1B1b1B1b1B1b1B1b1B1 7 D 16 1 no") ≡ first_fault kinds.Option)
     × (table_of (crypt_front ++ codes "0a0A0a0A0a0A0a0A0a0A0a0A0a0A0a0Ab1B1b1B1b1B1b1B1b1B1b1B1b1B1b1B1 7 D 16 2 allow_discards allow_discards") ≡ first_fault kinds.Option)
-unfolding table_of lines_of words number is_mapped_name is_device line_of target_at crypt_target_at crypt_at key_at bytes_at decode_pairs base_at options_at known_at
-crypt_faults = (refl, refl, refl, refl, refl, refl, refl, refl, refl, refl, refl)
+    × (table_of (crypt_front ++ codes "0a0A0a0A0a0A0a0A0a0A0a0A0a0A0a0Ab1B1b1B1b1B1b1B1b1B1b1B1b1B1b1B1 7 D 16 2 sector_size:512 sector_size:4096") ≡ first_fault kinds.Option)
+    × (table_of (crypt_front ++ codes "0a0A0a0A0a0A0a0A0a0A0a0A0a0A0a0Ab1B1b1B1b1B1b1B1b1B1b1B1b1B1b1B1 7 D 16 1 sector_size:8192") ≡ first_fault kinds.Option)
+unfolding table_of lines_of words number is_mapped_name is_device line_of target_at crypt_target_at crypt_at key_at bytes_at decode_pairs base_at options_at known_at option_name
+crypt_faults = (refl, refl, refl, refl, refl, refl, refl, refl, refl, refl, refl, refl, refl)
 
 -- a `verity` line
 abbrev verity_line : List ℕ → Bool → Line

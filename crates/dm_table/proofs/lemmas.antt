@@ -1,3 +1,4 @@
 -- What callers may cite.
 pub mod KeyLemmas
 pub mod ReadBackLemmas
+pub mod SectorSizeLemmas

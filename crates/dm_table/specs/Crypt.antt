@@ -7,12 +7,25 @@ use Rattle.dm_table.specs.declared.fault.TextKind.TheVariants as kinds
 use Rattle.dm_table.specs.Words.{Word}
 use Rattle.dm_table.specs.Reading.{Read, ◌>>=◌}
 use Rattle.dm_table.specs.Arguments.{number_at, base_at, bytes_at}
-use Rattle.dm_table.specs.Options.{options_at, options_words}
+use Rattle.dm_table.specs.Options.{is_one_of, options_at, options_words}
 
--- options on queues and discards
+-- options on queues and discards, the size of a unit, and how units are numbered
 abbrev pub crypt_options : List Word
 crypt_options =
-    codes "allow_discards" ∷ codes "same_cpu_crypt" ∷ codes "submit_from_crypt_cpus" ∷ codes "no_read_workqueue" ∷ codes "no_write_workqueue" ∷ []
+    codes "allow_discards" ∷ codes "same_cpu_crypt" ∷ codes "submit_from_crypt_cpus" ∷ codes "no_read_workqueue" ∷ codes "no_write_workqueue"
+    ∷ codes "sector_size:512" ∷ codes "sector_size:1024" ∷ codes "sector_size:2048" ∷ codes "sector_size:4096" ∷ codes "iv_large_sectors" ∷ []
+
+-- the bytes that are encrypted as one unit: 512 where no option says more
+unfoldable pub sector_size : Crypt → ℕ
+sector_size crypt =
+    if is_one_of (codes "sector_size:4096") crypt.options then 4096
+    else if is_one_of (codes "sector_size:2048") crypt.options then 2048
+    else if is_one_of (codes "sector_size:1024") crypt.options then 1024
+    else 512
+
+-- units are numbered by their own size, and not by sectors of 512 bytes
+unfoldable pub iv_large_sectors : Crypt → Bool
+iv_large_sectors crypt = is_one_of (codes "iv_large_sectors") crypt.options
 
 -- AES in XTS mode, with a unit's number in 64 bits as its initialization vector
 abbrev pub cipher : Word

@@ -1,6 +1,6 @@
 -- Optional arguments at the end of a target's arguments.
-use Rattle.std.specs.Prelude.{ℕ, ◌^◌, ◌<◌, Bool, true, not, ◌&&◌, ◌==◌, if◌then◌else◌, IsTrue, List, [], ◌∷◌, length, decimal, Ok, Err}
-use Rattle.std.specs.List.{list_any}
+use Rattle.std.specs.Prelude.{ℕ, ◌^◌, ◌<◌, Bool, true, not, ◌&&◌, ◌==◌, if◌then◌else◌, IsTrue, List, [], ◌∷◌, length, take, decimal, Ok, Err}
+use Rattle.std.specs.List.{list_any, position_or_len}
 use Rattle.std.specs.Str.{bytes_eq}
 use Rattle.dm_table.specs.declared.fault.TextKind.TheVariants as kinds
 use Rattle.dm_table.specs.Words.{Word}
@@ -11,10 +11,18 @@ use Rattle.dm_table.specs.Arguments.{number_at}
 abbrev pub is_one_of : Word → List Word → Bool
 is_one_of word words = list_any (λ one. bytes_eq one word) words
 
--- each word is a known option, and stands once
+-- the name of an option: what stands before its value, which follows a colon
+unfoldable pub option_name : Word → Word
+option_name word = take (position_or_len (λ b. b == 58) word) word
+
+-- one of those options has the name of that one
+abbrev pub has_name_of : Word → List Word → Bool
+has_name_of word words = list_any (λ one. bytes_eq (option_name one) (option_name word)) words
+
+-- each word is a known option, and each name stands once
 abbrev pub are_options : List Word → List Word → Bool
 are_options known [] = true
-are_options known (word ∷ more) = (is_one_of word known && not (is_one_of word more)) && are_options known more
+are_options known (word ∷ more) = (is_one_of word known && not (has_name_of word more)) && are_options known more
 
 -- options in the order read
 unfoldable pub known_at : List Word → List Word → Read (List Word)

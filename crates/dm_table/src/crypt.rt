@@ -1,6 +1,8 @@
 //! The arguments of a `crypt` line.
 ghost use Rattle.std.specs.Prelude.{◌≡◌, ◌≤◌, length, take, IfOk};
+ghost use Rattle.dm_table.specs.Crypt.{iv_large_sectors, sector_size};
 
+use crate::option_words::is_kept;
 use crate::options::Options;
 use crate::table::Base;
 use std::alloc::{AllocError, Global};
@@ -54,14 +56,37 @@ impl Key {
 #[derive(Drop)]
 pub struct Crypt {
     pub key: Key,
-    /// Added to a unit's number within the line.
+    /// Added to a sector's number within the line.
     pub iv_offset: u64,
     pub base: Base,
-    /// None of them has an effect on what is read or written.
+    /// As they are printed. Of these `sector_size` and `iv_large_sectors` say how the sectors are encrypted;
+    /// the others have no effect.
     pub options: Options,
 }
 
 impl Crypt {
+    /// The bytes that are encrypted as one unit: 512, 1024, 2048 or 4096.
+    pub fn sector_size(&self) -> u32
+        ensures { result ≡ sector_size self.now }
+    {
+        if is_kept(&self.options, b"sector_size:4096") {
+            4096
+        } else if is_kept(&self.options, b"sector_size:2048") {
+            2048
+        } else if is_kept(&self.options, b"sector_size:1024") {
+            1024
+        } else {
+            512
+        }
+    }
+
+    /// Whether units are numbered by their own size, and not by sectors of 512 bytes.
+    pub fn iv_large_sectors(&self) -> bool
+        ensures { result ≡ iv_large_sectors self.now }
+    {
+        is_kept(&self.options, b"iv_large_sectors")
+    }
+
     pub(crate) fn try_clone(&self, alloc: Global) -> Result<Crypt, AllocError>
         ensures { IfOk result (λ crypt. crypt ≡ self.now) }
     {

@@ -41,6 +41,11 @@ pub(crate) fn read_crypt(alloc: Global, mut arguments: Words<'_>) -> Result<Cryp
             "submit_from_crypt_cpus",
             "no_read_workqueue",
             "no_write_workqueue",
+            "sector_size:512",
+            "sector_size:1024",
+            "sector_size:2048",
+            "sector_size:4096",
+            "iv_large_sectors",
         ],
     )?;
     Ok(Crypt {

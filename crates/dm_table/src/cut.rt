@@ -67,7 +67,7 @@ pub fn word_len(text: &[u8]) -> usize
 }
 
 /// How many bytes stand before the first separator.
-fn piece_len(text: &[u8], separator: u8) -> usize
+pub(crate) fn piece_len(text: &[u8], separator: u8) -> usize
     ensures value { result ≡ position_or_len (λ b. b == separator) text.now }
     ensures bound { result ≤ length text.now }
 {

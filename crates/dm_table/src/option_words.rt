@@ -3,9 +3,9 @@ ghost use Rattle.std.specs.Prelude.{◌≡◌, ◌&&◌, map, not};
 ghost use Rattle.std.specs.List.{list_any};
 ghost use Rattle.std.specs.Str.{bytes_eq};
 ghost use Rattle.dm_table.specs.Reading.{IsReading};
-ghost use Rattle.dm_table.specs.Options.{is_one_of, known_at, options_at};
+ghost use Rattle.dm_table.specs.Options.{is_one_of, has_name_of, known_at, option_name, options_at};
 
-use crate::cut::Words;
+use crate::cut::{Words, piece_len};
 use crate::fault::{LineFault, TextKind};
 use crate::numbers::read_number;
 use crate::options::Options;
@@ -43,11 +43,11 @@ fn read_known(alloc: Global, mut words: Words<'_>, known: &[&str]) -> Result<Opt
     Ok(options)
 }
 
-// Known, and not among the options so far.
+// Known, and of another name than the options so far.
 fn is_new(known: &[&str], options: &Options, word: &[u8]) -> bool
-    ensures { result ≡ (is_one_of word.now (map (λ word. word.now) known.now) && not (is_one_of word.now options.now)) }
+    ensures { result ≡ (is_one_of word.now (map (λ word. word.now) known.now) && not (has_name_of word.now options.now)) }
 {
-    is_known(known, word) && !is_kept(options, word)
+    is_known(known, word) && !is_named(options, word)
 }
 
 fn is_known(known: &[&str], word: &[u8]) -> bool
@@ -61,4 +61,20 @@ pub(crate) fn is_kept(options: &Options, word: &[u8]) -> bool
     ensures { result ≡ is_one_of word.now options.now }
 {
     options.as_slice().iter().any(|one| one.as_slice() == word)
+}
+
+fn is_named(options: &Options, word: &[u8]) -> bool
+    ensures { result ≡ has_name_of word.now options.now }
+{
+    let name = option_name(word);
+    options
+        .as_slice()
+        .iter()
+        .any(|one| option_name(one.as_slice()) == name)
+}
+
+fn option_name(word: &[u8]) -> &[u8]
+    ensures { result.now ≡ option_name word.now }
+{
+    &word[..piece_len(word, b':')]
 }

@@ -5,7 +5,7 @@ use crate::table::Name;
 use std::alloc::{AllocError, Global};
 use std::marker::Model;
 
-/// Options as they were written, each once.
+/// Options as they were written, each name once.
 #[derive(Drop)]
 pub struct Options {
     words: Vec<Name>,

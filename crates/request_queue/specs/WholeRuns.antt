@@ -9,7 +9,7 @@ use Rattle.stack_engine.specs.Meaning.{sector}
 use Rattle.stack_engine.specs.May.{MayRead, MayFault}
 use Rattle.stack_engine.specs.Leaves.{images_of, AllSteady, AreRead}
 use Rattle.stack_engine.specs.Reading.{Ends, Answers}
-use Rattle.stack_engine.specs.WritePieces.{EachWrite}
+use Rattle.stack_engine.specs.WritePieces.{WritesInPieces}
 use Rattle.stack_engine.specs.Stacks.{StackRecord, AnswerRecord}
 use Rattle.request_queue.specs.declared.fault.SubmitFault.{SubmitFault}
 use Rattle.request_queue.specs.declared.range.SectorRange.{SectorRange}
@@ -26,11 +26,11 @@ pub record ReadsWhole (v : StackRecord) (range : SectorRange) (answer : Result A
   pub may : Ends (λ got. MayRead v.config (mapped range.device.0) range.first range.count got.bytes got.chains) (MayFault v.config (mapped range.device.0) range.first range.count) v.leaves v'.leaves answer
   pub exact : AllSteady v.leaves → Answers (λ got. got.bytes) (span (sector v.config (images_of v.leaves) (mapped range.device.0)) range.first range.count) answer
 
--- A write as a whole: all bytes, or a fault as one write of all of them has it; where memory ran out, the sectors
--- before that piece are written and no others.
+-- A write as a whole: all bytes in pieces, or up to the piece that ended it by its fault; where memory ran out, the
+-- sectors before that piece are written and no others.
 abbrev pub WritesWhole : StackRecord → SectorRange → List ℕ → Result Unit IoFault → StackRecord → Type 0
-WritesWhole v range bytes (Err io.NoMemory) v' = (k : ℕ) × (k < range.count) × EachWrite v range.device.0 range.first (take (512 * k) bytes) (Ok tt) v'
-WritesWhole v range bytes result v' = EachWrite v range.device.0 range.first bytes result v'
+WritesWhole v range bytes (Err io.NoMemory) v' = (k : ℕ) × (k < range.count) × WritesInPieces v range.device.0 range.first (take (512 * k) bytes) (Ok tt) v'
+WritesWhole v range bytes result v' = WritesInPieces v range.device.0 range.first bytes result v'
 
 -- a request as a whole
 abbrev pub Whole : RequestRecord → StackRecord → SectorRange → Result Reply IoFault → StackRecord → Type 0

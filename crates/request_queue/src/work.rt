@@ -21,10 +21,10 @@ pub(crate) enum Work {
     Write(Vec<u8>),
 }
 
-fn append_chains(chains: &mut Vec<Found>, more: Vec<Found>) -> Result<(), AllocError>
+fn append_chains(chains: &mut Vec<Found>, mut more: Vec<Found>) -> Result<(), AllocError>
     ensures { OnOk result (chains.new.items ≡ chains.old.items ++ more.items) }
 {
-    chains.extend(more)
+    chains.append(&mut more)
 }
 
 /// Puts the bytes and chains of a piece behind those before.

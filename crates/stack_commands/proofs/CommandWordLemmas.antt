@@ -6,7 +6,7 @@ use Rattle.std.specs.Result.{result_ok, MatchResult}
 use Rattle.hex.specs.Hex.{decode_sized}
 use Rattle.hex.specs.declared.error.FromHexError.{FromHexError}
 use Rattle.command_faults.specs.declared.fault.CommandFault.{CommandFault}
-use Rattle.command_faults.specs.declared.fault.CommandFault.TheVariants.{Usage, NoMemory, TooLong, Open, Leaves, Text, Load, Submit, Io, Format, Verify, Differs, Random, Lost, OutputTooSmall, OutputFailed, Session}
+use Rattle.command_faults.specs.declared.fault.CommandFault.TheVariants.{Usage, NoMemory, TooLong, Open, Leaves, Text, Load, Submit, Io, Format, Verify, Differs, Random, Lost, OutputTooSmall, OutputFailed, Session, Service}
 use Rattle.stack_commands.specs.declared.bindings.Binding.{Binding}
 use Rattle.stack_commands.specs.Bindings.{BindingRecord, binding_of, binding_record}
 use Rattle.stack_commands.specs.CommandWords.{IsUsage, bindings_of, cache_of, cons, invocation_at, invocation_of, is_option, root_of}
@@ -90,6 +90,7 @@ usage-map (Lost read lost) f h = h
 usage-map (OutputTooSmall needed) f h = h
 usage-map OutputFailed f h = h
 usage-map (Session fault) f h = h
+usage-map (Service fault) f h = h
 
 -- what a decoder into 32 bytes answers
 abbrev pub Decodes : List ℕ → List ℕ → Result Unit FromHexError → Type 0

@@ -7,7 +7,7 @@ use Rattle.stack_loader.specs.Records.{LeafRecord}
 use Rattle.stack_engine.specs.Pieces.{stack_over}
 use Rattle.stack_engine.specs.Stacks.{StackRecord}
 use Rattle.command_faults.specs.declared.fault.CommandFault.{CommandFault}
-use Rattle.command_faults.specs.declared.fault.CommandFault.TheVariants.{Usage, NoMemory, TooLong, Open, Leaves, Text, Load, Submit, Io, Format, Verify, Differs, Random, Lost, OutputTooSmall, OutputFailed, Session}
+use Rattle.command_faults.specs.declared.fault.CommandFault.TheVariants.{Usage, NoMemory, TooLong, Open, Leaves, Text, Load, Submit, Io, Format, Verify, Differs, Random, Lost, OutputTooSmall, OutputFailed, Session, Service}
 use Rattle.command_faults.specs.Endings.{counts_text}
 use Rattle.stack_recovery.specs.declared.recovery.Counts.{Counts}
 use Rattle.stack_recovery.specs.LostRuns.{lost_in, lost_runs}
@@ -103,6 +103,7 @@ module _ (bindings : List BindingRecord) (name : List ℕ) (stack : StackRecord)
     scan-ends sure Random e = e
     scan-ends sure (Lost read lost) e = absurd e
     scan-ends sure (OutputTooSmall needed) e = e
+    scan-ends sure (Service fault) e = absurd e
 
 -- the counts behind the runs
 told : (read lost : ℕ) (counts : Counts) → counts ≡ record { read = read; lost = lost } → (counts.read ≡ read) × (counts.lost ≡ lost)
@@ -147,6 +148,7 @@ module _ (bindings : List BindingRecord) (name : List ℕ) (old mid new : Option
   counts-end (Differs verdict) e = e
   counts-end Random e = e
   counts-end (OutputTooSmall needed) e = e
+  counts-end (Service fault) e = absurd e
 
 -- an end of going over a device to which is copied
 pub copy-ends : (words : DeviceWords) (path : List ℕ) (stack : StackRecord) (d : ℕ) → IsHad words.bindings words.name stack d → (out : Device) (printed : Option (List ℕ)) (new : Sides) (fault : CommandFault)
@@ -155,6 +157,7 @@ copy-ends words path stack d had out printed new NoMemory e = inr (inr (inr (som
 copy-ends words path stack d had out printed new OutputFailed e = inr (inl (some-printed words.bindings words.name stack d had out printed new e.0))
 copy-ends words path stack d had out printed new (Session fault) e = inr (inr (inr e))
 copy-ends words path stack d had out printed new Usage e = absurd e
+copy-ends words path stack d had out printed new (Service fault) e = absurd e
 copy-ends words path stack d had out printed new TooLong e = absurd e
 copy-ends words path stack d had out printed new (Open fault other) e = absurd e
 copy-ends words path stack d had out printed new (Leaves fault) e = absurd e

@@ -1,7 +1,10 @@
 -- Sessions that end early.
-use Rattle.std.proofs.Common.{◌≡◌, List, [], ◌∷◌, refl, subst, inl, inr, Result}
+use Rattle.std.proofs.Common.{◌≡◌, ◌≤◌, ◌^◌, ℕ, List, [], ◌∷◌, length, refl, subst, inl, inr, Result, Ok}
 use Rattle.block_device.specs.Device.{Device}
-use Rattle.stack_loader.specs.Records.{LeafRecord}
+use Rattle.nbd_server.specs.declared.fault.ServiceFault.{ServiceFault}
+use Rattle.nbd_server.specs.Exports.{ExportRecord, IsExport}
+use Rattle.nbd_server.specs.Service.{IsService}
+use Rattle.stack_loader.specs.Records.{Configuration, LeafRecord}
 use Rattle.stack_engine.specs.declared.fault.IoFault.{IoFault}
 use Rattle.stack_engine.specs.Pieces.{stack_over}
 use Rattle.request_queue.specs.World.{World}
@@ -9,12 +12,12 @@ use Rattle.stack_session.specs.declared.fault.SessionFault.{SessionFault}
 use Rattle.stack_session.specs.QueueSessions.{IsQueueSession}
 use Rattle.stack_session.specs.Session.{Streams}
 use Rattle.command_faults.specs.declared.fault.CommandFault.{CommandFault}
-use Rattle.command_faults.specs.declared.fault.CommandFault.TheVariants.{Usage, NoMemory, TooLong, Open, Leaves, Text, Load, Submit, Io, Format, Verify, Differs, Random, Lost, OutputTooSmall, OutputFailed, Session}
+use Rattle.command_faults.specs.declared.fault.CommandFault.TheVariants.{Usage, NoMemory, TooLong, Open, Leaves, Text, Load, Submit, Io, Format, Verify, Differs, Random, Lost, OutputTooSmall, OutputFailed, Session, Service}
 use Rattle.stack_commands.specs.Bindings.{AreBound, BindingRecord}
-use Rattle.stack_commands.specs.Configuration.{leaves_alone}
+use Rattle.stack_commands.specs.Configuration.{configuration_of, leaves_alone}
 use Rattle.stack_commands.specs.Openings.{IsBindingEnd}
 use Rattle.stack_commands.specs.Requests.{new_world}
-use Rattle.stack_commands.specs.StackCommands.{IsServeEnd, Serves}
+use Rattle.stack_commands.specs.StackCommands.{IsServeEnd, Serves, ServesClient}
 
 no-io : (bindings : List BindingRecord) (fault : IoFault) → IsBindingEnd bindings (Io fault) → ⊥
 no-io [] fault ends = ends
@@ -45,6 +48,7 @@ IsServeEnd-unopened bindings s (Lost read lost) ends = (refl, inl ends)
 IsServeEnd-unopened bindings s (OutputTooSmall needed) ends = (refl, inl ends)
 IsServeEnd-unopened bindings s OutputFailed ends = (refl, inl ends)
 IsServeEnd-unopened bindings s (Session fault) ends = absurd (no-session bindings fault ends)
+IsServeEnd-unopened bindings s (Service fault) ends = (refl, inl ends)
 
 -- a session over a new queue
 pub Serves-new : (bindings : List BindingRecord) (leaves : List LeafRecord) (devices : List Device) (first end : World) (old new : Streams) (outcome : Result Unit SessionFault)
@@ -55,4 +59,19 @@ Serves-new bindings leaves devices first end old new outcome bound is served = r
   last = end;
   bound = bound;
   served = subst (λ w. IsQueueSession w end old new outcome) is served;
+}
+
+-- a client's service over a new queue
+pub ServesClient-new : (bindings : List BindingRecord) (leaves : List LeafRecord) (text : List ℕ) (devices : List Device) (config : Configuration) (e : ExportRecord) (first last : World) (old new : Streams) (outcome : Result Unit ServiceFault)
+    → AreBound bindings leaves devices → length text ≤ 2 ^ 20 → configuration_of leaves text ≡ Ok config → first ≡ new_world (stack_over config devices) → IsExport config e → IsService e first last old new outcome
+    → ServesClient bindings e.name old new outcome
+ServesClient-new bindings leaves text devices config e first last old new outcome bound short makes is export served = record {
+  config = config;
+  devices = devices;
+  export = e;
+  last = last;
+  loaded = record { leaves = leaves; text = text; bound = bound; short = short; makes = makes };
+  is_export = export;
+  named = refl;
+  served = subst (λ w. IsService e w last old new outcome) is served;
 }

@@ -10,7 +10,7 @@ use Rattle.dm_table.specs.Numbers.{number, number_if}
 use Rattle.command_faults.specs.declared.fault.CommandFault.{CommandFault}
 use Rattle.command_faults.specs.declared.fault.CommandFault.TheVariants.{Usage, NoMemory}
 use Rattle.stack_commands.specs.declared.command_words.Invocation.{Invocation}
-use Rattle.stack_commands.specs.declared.command_words.Invocation.TheVariants.{Load, Read, Write, Session, Scan, Copy, Format, Verify, Dump, Table}
+use Rattle.stack_commands.specs.declared.command_words.Invocation.TheVariants.{Load, Read, Write, Session, Nbd, Scan, Copy, Format, Verify, Dump, Table}
 use Rattle.stack_commands.specs.declared.command_words.Sectors.{Sectors}
 use Rattle.stack_commands.specs.declared.command_words.Transfer.{Transfer}
 use Rattle.request_queue.specs.Requests.{RequestRecord, a_read, a_write}
@@ -25,6 +25,8 @@ pub data InvocationRecord : Type 0 where
   write : ℕ → List ℕ → List ℕ → ℕ → List ℕ → List BindingRecord → InvocationRecord
   -- how many blocks are cached, and bindings
   session : ℕ → List BindingRecord → InvocationRecord
+  -- how many blocks are cached, a stack file, a device's name, and bindings
+  nbd : ℕ → List ℕ → List ℕ → List BindingRecord → InvocationRecord
   -- a stack file, a device's name, and bindings
   scan : List ℕ → List ℕ → List BindingRecord → InvocationRecord
   -- a stack file, a device's name, an image, and bindings
@@ -86,6 +88,11 @@ abbrev pub session_of : ℕ → List (List ℕ) → Option InvocationRecord
 session_of cache words = option_map (session cache) (bindings_of words)
 
 -- `STACK NAME BINDING...`
+abbrev pub nbd_of : ℕ → List (List ℕ) → Option InvocationRecord
+nbd_of cache (stack ∷ name ∷ words) = option_map (nbd cache stack name) (bindings_of words)
+nbd_of cache words = None
+
+-- `STACK NAME BINDING...`
 abbrev pub scan_of : List (List ℕ) → Option InvocationRecord
 scan_of (stack ∷ name ∷ words) = option_map (scan stack name) (bindings_of words)
 scan_of words = None
@@ -131,6 +138,7 @@ invocation_at name cache words =
     else if bytes_eq name (codes "read") then read_of cache words
     else if bytes_eq name (codes "write") then write_of cache words
     else if bytes_eq name (codes "session") then session_of cache words
+    else if bytes_eq name (codes "nbd") then nbd_of cache words
     else if bytes_eq name (codes "scan") then scan_of words
     else if bytes_eq name (codes "copy") then copy_of words
     else if bytes_eq name (codes "format") then format_of words
@@ -151,6 +159,7 @@ invocation_record (Load stack bindings) = load stack.now (map binding_record bin
 invocation_record (Read cache stack sectors bindings) = read cache stack.now sectors.name.now sectors.first sectors.count (map binding_record bindings.items)
 invocation_record (Write cache stack transfer bindings) = write cache stack.now transfer.name.now transfer.first transfer.source.now (map binding_record bindings.items)
 invocation_record (Session cache bindings) = session cache (map binding_record bindings.items)
+invocation_record (Nbd device bindings) = nbd device.cache device.stack.now device.name.now (map binding_record bindings.items)
 invocation_record (Scan stack name bindings) = scan stack.now name.now (map binding_record bindings.items)
 invocation_record (Copy stack name out bindings) = copy stack.now name.now out.now (map binding_record bindings.items)
 invocation_record (Format image hash) = format image.now hash.now

@@ -11,10 +11,10 @@ use Rattle.image_commands.specs.ImageCommands.{IsFormatFilesEnd, IsSuperblockEnd
 use Rattle.image_commands.specs.SuperblockTexts.{line_text, superblock_text}
 use Rattle.request_queue.specs.Requests.{a_read, a_write}
 use Rattle.stack_session.specs.Session.{Streams}
-use Rattle.stack_commands.specs.CommandWords.{InvocationRecord, IsUsage, copy, dump, format, invocation_of, load, read, scan, session, table, verify, write}
+use Rattle.stack_commands.specs.CommandWords.{InvocationRecord, IsUsage, copy, dump, format, invocation_of, load, nbd, read, scan, session, table, verify, write}
 use Rattle.stack_commands.specs.Grammar.{grammar}
 use Rattle.stack_commands.specs.Recoveries.{IsCopyEnd, IsScanEnd, PrintsStates, device_words}
-use Rattle.stack_commands.specs.StackCommands.{FailsToAsk, FailsToList, IsServeEnd, IsStackEnd, IsWriteFilesEnd, PrintsDevices, PrintsReply, PrintsWritten, Serves}
+use Rattle.stack_commands.specs.StackCommands.{FailsToAsk, FailsToList, IsClientEnd, IsServeEnd, IsStackEnd, IsWriteFilesEnd, PrintsDevices, PrintsReply, PrintsWritten, Serves, ServesClient}
 
 -- what the words of a command line invoke, as clap cuts them into a command's name, its options and its positional words
 abbrev pub invoked : List Text → Option InvocationRecord
@@ -31,6 +31,7 @@ Succeeds (load stack bindings) old new = PrintsDevices bindings old.output new.o
 Succeeds (read cache stack name first count bindings) old new = PrintsReply bindings (a_read name first count) old.output new.output
 Succeeds (write cache stack name first source bindings) old new = PrintsWritten bindings (a_write name first) old.output new.output
 Succeeds (session cache bindings) old new = Serves bindings old new (Ok tt)
+Succeeds (nbd cache stack name bindings) old new = ServesClient bindings name old new (Ok tt)
 Succeeds (scan stack name bindings) old new = PrintsStates bindings name old.output new.output
 Succeeds (copy stack name out bindings) old new = PrintsStates bindings name old.output new.output
 Succeeds (format image hash) old new = (options : ImageOptions) × PrintsMade options old.output new.output
@@ -44,6 +45,7 @@ IsCauseOf (load stack bindings) fault = IsStackEnd stack bindings FailsToList fa
 IsCauseOf (read cache stack name first count bindings) fault = IsStackEnd stack bindings (FailsToAsk (a_read name first count)) fault
 IsCauseOf (write cache stack name first source bindings) fault = IsWriteFilesEnd stack source bindings (a_write name first) fault
 IsCauseOf (session cache bindings) fault = ⊥
+IsCauseOf (nbd cache stack name bindings) fault = ⊥
 IsCauseOf (scan stack name bindings) fault = ⊥
 IsCauseOf (copy stack name out bindings) fault = ⊥
 IsCauseOf (format image hash) fault = IsUsage fault (Unit {0}) ⊎ ((options : ImageOptions) × IsFormatFilesEnd image hash options fault)
@@ -51,9 +53,11 @@ IsCauseOf (verify image hash root) fault = IsVerifyFilesEnd image hash root faul
 IsCauseOf (dump hash) fault = IsSuperblockEnd hash fault
 IsCauseOf (table hash root image_name hash_name) fault = IsSuperblockEnd hash fault
 
--- and that nothing is printed before; a session has printed its replies, and what goes over a device some lost runs
+-- and that nothing is printed before; a session and the service of a client have printed their replies, and what goes over
+-- a device some lost runs
 abbrev pub Fails : InvocationRecord → Streams → Streams → CommandFault → Type 0
 Fails (session cache bindings) old new fault = IsServeEnd bindings old new fault
+Fails (nbd cache stack name bindings) old new fault = IsClientEnd stack bindings name old new fault
 Fails (scan stack name bindings) old new fault = IsScanEnd (device_words stack name bindings) old.output new.output fault
 Fails (copy stack name out bindings) old new fault = IsCopyEnd (device_words stack name bindings) out old.output new.output fault
 Fails invocation old new fault = IsCauseOf invocation fault × IsQuiet fault old.output new.output

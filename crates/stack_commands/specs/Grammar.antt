@@ -50,8 +50,8 @@ with_images a =
 -- the commands on stacks
 abbrev pub with_stacks : App → App
 with_stacks a =
-    with_subcommand (with_subcommand (with_subcommand (with_subcommand a (positional (codes "load")).top) (cached (codes "read")).top) (cached (codes "write")).top)
-    (cached (codes "session")).top
+    with_subcommand (with_subcommand (with_subcommand (with_subcommand (with_subcommand a (positional (codes "load")).top) (cached (codes "read")).top) (cached (codes "write")).top)
+    (cached (codes "session")).top) (cached (codes "nbd")).top
 
 -- the commands that go over a device
 abbrev pub with_recovery : App → App

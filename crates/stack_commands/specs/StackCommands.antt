@@ -5,6 +5,10 @@ use Rattle.block_device.specs.Device.{Device}
 use Rattle.stack_loader.specs.Leaves.{first_fault}
 use Rattle.stack_loader.specs.Records.{Configuration, LeafRecord}
 use Rattle.stack_engine.specs.Pieces.{stack_over}
+use Rattle.nbd_server.specs.declared.fault.ServiceFault.{ServiceFault}
+use Rattle.nbd_server.specs.Exports.{ExportRecord, IsExport}
+use Rattle.nbd_server.specs.Service.{IsService}
+use Rattle.request_queue.specs.declared.fault.SubmitFault.TheVariants.{NoSuchDevice}
 use Rattle.request_queue.specs.declared.reply.Reply.{Reply}
 use Rattle.request_queue.specs.Requests.{RequestRecord}
 use Rattle.request_queue.specs.World.{World}
@@ -14,7 +18,7 @@ use Rattle.stack_session.specs.QueueSessions.{IsQueueSession}
 use Rattle.stack_session.specs.Session.{Streams}
 use Rattle.stack_session.specs.Texts.{reply_text, written_text}
 use Rattle.command_faults.specs.declared.fault.CommandFault.{CommandFault}
-use Rattle.command_faults.specs.declared.fault.CommandFault.TheVariants.{Io, Leaves, NoMemory, Session}
+use Rattle.command_faults.specs.declared.fault.CommandFault.TheVariants.{Io, Leaves, NoMemory, Service, Session, Submit}
 use Rattle.stack_commands.specs.Bindings.{AreBound, BindingRecord}
 use Rattle.stack_commands.specs.Configuration.{configuration_of, devices_text, leaves_alone}
 use Rattle.command_faults.specs.Endings.{MayEnd}
@@ -66,6 +70,17 @@ pub record Serves (bindings : List BindingRecord) (old new : Streams) (outcome :
   pub bound : AreBound bindings leaves devices
   pub served : IsQueueSession (new_world (stack_over (leaves_alone leaves) devices)) last old new outcome
 
+-- `nbd`: the service of a client, over the device of that name in the stack
+pub record ServesClient (bindings : List BindingRecord) (name : List ℕ) (old new : Streams) (outcome : Result Unit ServiceFault) : Type 0 where
+  pub config : Configuration
+  pub devices : List Device
+  pub export : ExportRecord
+  pub last : World
+  pub loaded : IsLoaded bindings config devices
+  pub is_export : IsExport config export
+  pub named : export.name ≡ name
+  pub served : IsService export (new_world (stack_over config devices)) last old new outcome
+
 -- a leaf's image isn't synced
 abbrev pub IsSyncEnd : CommandFault → Type 0
 IsSyncEnd (Io fault) = (old new : List Device) × FailsToSync old new fault
@@ -113,3 +128,15 @@ IsServeEnd bindings old new (Session fault) = Serves bindings old new (Err fault
 IsServeEnd bindings old new (Io fault) = Serves bindings old new (Ok tt) × IsSyncEnd (Io fault)
 IsServeEnd bindings old new fault =
     (new ≡ old) × (IsBindingEnd bindings fault ⊎ IsLeavesEnd bindings fault)
+
+-- the stack isn't loaded, or has no such device
+abbrev pub FailsToExport : Failing
+FailsToExport leaves text devices fault = FailsToLoad leaves text fault ⊎ (fault ≡ Submit NoSuchDevice)
+
+-- The service of a client ends early: nothing was served; or by the service's own fault; or all was served, and an
+-- image isn't synced.
+abbrev pub IsClientEnd : List ℕ → List BindingRecord → List ℕ → Streams → Streams → CommandFault → Type 0
+IsClientEnd path bindings name old new fault =
+    ((new ≡ old) × IsStackEnd path bindings FailsToExport fault)
+    ⊎ (((x : ServiceFault) × (fault ≡ Service x) × ServesClient bindings name old new (Err x))
+    ⊎ (ServesClient bindings name old new (Ok tt) × IsSyncEnd fault))

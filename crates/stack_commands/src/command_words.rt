@@ -2,7 +2,7 @@
 ghost use Rattle.std.specs.Prelude.{◌≡◌, map, drop, Some, None, IfOk, IfErr, option_map};
 ghost use Rattle.std.specs.List.{list_any};
 ghost use Rattle.stack_commands.specs.Bindings.{binding_record};
-ghost use Rattle.stack_commands.specs.CommandWords.{IsUsage, bindings_of, cache_of, copy_of, dump_of, format_of, invocation_at, invocation_of, invocation_record, is_option, load_of, read_of, root_of, scan_of, session_of, table_of, verify_of, write_of};
+ghost use Rattle.stack_commands.specs.CommandWords.{IsUsage, bindings_of, cache_of, copy_of, dump_of, format_of, invocation_at, invocation_of, invocation_record, is_option, load_of, nbd_of, read_of, root_of, scan_of, session_of, table_of, verify_of, write_of};
 
 use crate::bindings::{Binding, binding_of};
 use command_faults::CommandFault;
@@ -27,6 +27,14 @@ pub struct Transfer<'a> {
     pub name: &'a str,
     pub first: u64,
     pub source: &'a str,
+}
+
+/// A mapped device of a stack file, and how many blocks are cached.
+#[derive(Clone, Copy, Debug, PartialEq, Eq)]
+pub struct ServedDevice<'a> {
+    pub cache: u32,
+    pub stack: &'a str,
+    pub name: &'a str,
 }
 
 /// A command with its positional words, and how many blocks are cached.
@@ -54,6 +62,11 @@ pub enum Invocation<'a> {
     /// `session [--cache N] BINDING...`
     Session {
         cache: u32,
+        bindings: Vec<Binding<'a>>,
+    },
+    /// `nbd [--cache N] STACK NAME BINDING...`
+    Nbd {
+        device: ServedDevice<'a>,
         bindings: Vec<Binding<'a>>,
     },
     /// `scan STACK NAME BINDING...`
@@ -130,6 +143,8 @@ fn invocation_at<'a>(
         write_of(alloc, cache, words)
     } else if name == b"session".as_slice() {
         session_of(alloc, cache, words)
+    } else if name == b"nbd".as_slice() {
+        nbd_of(alloc, cache, words)
     } else if name == b"scan".as_slice() {
         scan_of(alloc, words)
     } else if name == b"copy".as_slice() {
@@ -228,6 +243,27 @@ fn session_of<'a>(
 {
     match bindings_of(alloc, words) {
         Ok(bindings) => Ok(Invocation::Session { cache, bindings }),
+        Err(fault) => Err(fault),
+    }
+}
+
+// `STACK NAME BINDING...`
+fn nbd_of<'a>(
+    alloc: Global,
+    cache: u32,
+    words: &[&'a str],
+) -> Result<Invocation<'a>, CommandFault<'a>>
+    ensures ok { IfOk result (λ got. nbd_of cache (map (λ word. word.now) words.now) ≡ Some (invocation_record got)) }
+    ensures err { IfErr result (λ fault. IsUsage fault (nbd_of cache (map (λ word. word.now) words.now) ≡ None)) }
+{
+    let [stack, name, rest @ ..] = words else {
+        return Err(CommandFault::Usage);
+    };
+    match bindings_of(alloc, rest) {
+        Ok(bindings) => Ok(Invocation::Nbd {
+            device: ServedDevice { cache, stack, name },
+            bindings,
+        }),
         Err(fault) => Err(fault),
     }
 }

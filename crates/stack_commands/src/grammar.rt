@@ -71,7 +71,8 @@ fn with_stacks<'a>(alloc: Global, command: Command<'a>) -> Result<Command<'a>, A
         .subcommand(positional(alloc, "load")?)?
         .subcommand(cached(alloc, "read")?)?
         .subcommand(cached(alloc, "write")?)?
-        .subcommand(cached(alloc, "session")?)
+        .subcommand(cached(alloc, "session")?)?
+        .subcommand(cached(alloc, "nbd")?)
 }
 
 // Adds the commands that go over a device.

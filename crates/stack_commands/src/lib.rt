@@ -10,6 +10,7 @@ mod file_use;
 mod grammar;
 mod image_options;
 mod load;
+mod nbd;
 mod opening;
 mod program;
 mod read;

@@ -9,6 +9,7 @@ use crate::copy::copy_files;
 use crate::grammar::matches_of;
 use crate::image_options::options_of;
 use crate::load::load_files;
+use crate::nbd::serve_client;
 use crate::read::read_files;
 use crate::scan::scan_files;
 use crate::serve::serve_files;
@@ -25,7 +26,7 @@ use std::rt::Files;
 const DONE: u8 = 0;
 
 /// Runs the words behind the program's name, and answers the status: 0 done, 1 refused, 2 usage, 3 a fault of
-/// the stack or images that differ.
+/// the stack or images that differ, 4 a client that breaks the NBD protocol.
 pub fn command<R: Files<File = File> + AllocGlobal + RandomSource, S: Read, W: Write>(
     rt: &R,
     words: &[String],
@@ -108,6 +109,9 @@ fn invoke<'a, R: Files<File = File> + AllocGlobal + RandomSource, S: Read, W: Wr
             out,
             bindings,
         } => copy_files(rt, stack, name, out, bindings.as_slice(), writer),
+        Invocation::Nbd { device, bindings } => {
+            serve_client(rt, device, bindings.as_slice(), reader, writer)
+        }
         Invocation::Format { data, hash } => {
             let options = options_of(rt.alloc(), found)?;
             format_files(rt, options, data, hash, writer)

@@ -1,5 +1,5 @@
 -- Sectors of one data block of a verity line of a configuration, read from its chain.
-use Rattle.std.proofs.Common.{◌≡◌, ℕ, ◌+◌, ◌*◌, ◌/◌, ◌%◌, ◌<◌, ◌≤◌, List, [], ◌∷◌, ◌++◌, length, get_or, Contains, take, drop, Option, Some, Ok, Err, refl, sym, ap, ◌∙◌, subst, arith}
+use Rattle.std.proofs.Common.{◌≡◌, ℕ, ◌+◌, ◌*◌, ◌/◌, ◌%◌, ◌<◌, ◌≤◌, List, [], ◌∷◌, ◌++◌, length, get_or, Contains, take, drop, Option, Some, Result, Ok, Err, inl, refl, sym, ap, ◌∙◌, subst, arith}
 use Rattle.std.specs.Prelude.{slice_get}
 use Rattle.std.proofs.lemmas.List.Elements.{Contains-push}
 use Rattle.std.proofs.lemmas.List.{get_or_default}
@@ -20,12 +20,13 @@ use Rattle.stack_engine.specs.declared.fault.IoFault.{IoFault}
 use Rattle.stack_engine.specs.declared.fault.IoFault.TheVariants as io
 use Rattle.stack_engine.specs.declared.source.BlockPart.{BlockPart}
 use Rattle.stack_engine.specs.declared.source.Source.TheVariants.{Block}
-use Rattle.stack_engine.specs.Outcomes.{Images}
+use Rattle.stack_engine.specs.Outcomes.{Images, mismatch}
 use Rattle.stack_engine.specs.Found.{FoundRecord, Entry, entry_of}
-use Rattle.stack_engine.specs.Meaning.{line_said, said_by_name}
+use Rattle.stack_engine.specs.Meaning.{Said, line_said, said_by_name}
+use Rattle.stack_engine.specs.Reading.{MeetVerity, IsPlain}
 use Rattle.stack_engine.specs.Kept.{block_of, LineKeeps, IsOfVerity, IsKept, AllKept}
 use Rattle.stack_engine.specs.Leaves.{images_of, AllSteady}
-use Rattle.stack_engine.specs.Sources.{said_of_line, source_place, ReadsSource}
+use Rattle.stack_engine.specs.Sources.{LieInBlock, said_of_line, source_said, source_place, ReadsSource}
 use Rattle.stack_engine.specs.Walks.{HasVerity, block_in, chain_expected, GetsChain}
 use Rattle.stack_engine.proofs.lemmas.LeafListLemmas.{AreRead-none, AreRead-more, AllSteady-kept, images-kept}
 use Rattle.stack_engine.proofs.lemmas.FoundLemmas.{Grown-none, kept-later}
@@ -129,3 +130,12 @@ module _ (c : Configuration) (v : Verity) (p : BlockPart) (n : ℕ) (loaded : Is
     grown = Grown-none _ 0 n found;
     kept = kept-later c found q.moved kept;
   }
+
+-- a verity line is on the way
+pub block_plain : (c : Configuration) (p : BlockPart) (n : ℕ) {old new : List Device} {result : Result Unit IoFault} → 0 < n → LieInBlock c p.device.0 p.line p.first n → IsPlain (source_said c (Block p)) 0 n old new result
+block_plain c p n some lies =
+    let same : source_said c (Block p) (0 + 0) ≡ line_said (said_by_name c) p.device.0 p.line (verity_target lies.verity) (p.first + (0 + 0)) =
+    ap (λ (o : Option Line). said_of_line c p.device.0 p.line o (p.first + (0 + 0))) lies.has.is
+    ∙ ap (λ (t : Target). line_said (said_by_name c) p.device.0 p.line t (p.first + (0 + 0))) lies.has.has in
+    let meets : MeetVerity (source_said c (Block p)) 0 n = (0, some, subst (λ (x : Said). x.meets mismatch) (sym same) (inl refl)) in
+    record { memory = λ is. meets; leaf = λ none. absurd (none meets) }

@@ -12,6 +12,8 @@ use Rattle.stack_loader.specs.Records.{Configuration}
 use Rattle.stack_loader.specs.Names.{mapped, named, lines_of}
 use Rattle.stack_loader.specs.Descend.{descend, greatest, known, by_name, line_read_cost, line_write_cost, cost_rule, read_cost, write_cost}
 use Rattle.stack_loader.specs.Lines.{IsLine}
+use Rattle.stack_loader.specs.Units.{unit_sectors}
+use Rattle.stack_loader.proofs.lemmas.UnitLemmas.{times-some, unit_sectors-some, unit_write-some}
 use Rattle.stack_loader.proofs.lemmas.CostRuleLemmas.{IsLineLocal, line_read_cost-local, line_write_cost-local, cost-rule}
 use Rattle.stack_loader.specs.Rules.{IsValid}
 use Rattle.stack_loader.proofs.lemmas.ValidLemmas.{depth-low}
@@ -45,16 +47,18 @@ beneath_cost f (Linear base) s p e = of_beneath (λ name. f name ≤ line_read_c
 beneath_cost f (Striped chunk bases) s p e = of_beneath (λ name. f name ≤ line_read_cost f (Striped chunk bases)) (Striped chunk bases) s p (each_name f bases _ (omega arith)) e
 beneath_cost f Zero s p e = cc
 beneath_cost f Error s p e = cc
-beneath_cost f (crypt_target crypt) s p e = of_beneath (λ name. f name ≤ line_read_cost f (crypt_target crypt)) (crypt_target crypt) s p (omega arith, tt) e
+beneath_cost f (crypt_target crypt) s p e = of_beneath (λ name. f name ≤ line_read_cost f (crypt_target crypt)) (crypt_target crypt) s p (times-some (unit_sectors crypt) (f crypt.base.device) (unit_sectors-some crypt), tt) e
 beneath_cost f (verity_target verity) s p e = cc
 
-beneath_write_cost : CoversBeneath line_write_cost
-beneath_write_cost f (Linear base) s p e = of_beneath (λ name. f name ≤ line_write_cost f (Linear base)) (Linear base) s p (omega arith, tt) e
-beneath_write_cost f (Striped chunk bases) s p e = of_beneath (λ name. f name ≤ line_write_cost f (Striped chunk bases)) (Striped chunk bases) s p (each_name f bases _ (omega arith)) e
-beneath_write_cost f Zero s p e = cc
-beneath_write_cost f Error s p e = cc
-beneath_write_cost f (crypt_target crypt) s p e = of_beneath (λ name. f name ≤ line_write_cost f (crypt_target crypt)) (crypt_target crypt) s p (omega arith, tt) e
-beneath_write_cost f (verity_target verity) s p e = cc
+beneath_write_cost : (read : List ℕ → ℕ) → CoversBeneath (line_write_cost read)
+beneath_write_cost read f (Linear base) s p e = of_beneath (λ name. f name ≤ line_write_cost read f (Linear base)) (Linear base) s p (omega arith, tt) e
+beneath_write_cost read f (Striped chunk bases) s p e = of_beneath (λ name. f name ≤ line_write_cost read f (Striped chunk bases)) (Striped chunk bases) s p (each_name f bases _ (omega arith)) e
+beneath_write_cost read f Zero s p e = cc
+beneath_write_cost read f Error s p e = cc
+beneath_write_cost read f (crypt_target crypt) s p e =
+    of_beneath (λ name. f name ≤ line_write_cost read f (crypt_target crypt)) (crypt_target crypt) s p
+    (unit_write-some (unit_sectors crypt) (read crypt.base.device) (f crypt.base.device) (unit_sectors-some crypt), tt) e
+beneath_write_cost read f (verity_target verity) s p e = cc
 
 module _ (c : Configuration) (d l : ℕ) (line : Line) (s : ℕ) (p : List ℕ × ℕ) (lower : Lower) (valid : IsValid c) (at : IsLine c d l line) (under : beneath line.target s ≡ Some p) (is : named c p.0 ≡ Some lower) where
   falls : (line_cost : (List ℕ → ℕ) → Target → ℕ) → IsLineLocal line_cost → CoversBeneath line_cost → descend 0 (cost_rule c line_cost) lower ≤ descend 0 (cost_rule c line_cost) (mapped d)
@@ -73,4 +77,4 @@ module _ (c : Configuration) (d l : ℕ) (line : Line) (s : ℕ) (p : List ℕ �
   cost-falls = falls line_read_cost line_read_cost-local beneath_cost
 
   pub write_cost-falls : write_cost c lower ≤ write_cost c (mapped d)
-  write_cost-falls = falls line_write_cost line_write_cost-local beneath_write_cost
+  write_cost-falls = let read : List ℕ → ℕ = by_name c 0 (read_cost c) in falls (line_write_cost read) (line_write_cost-local read) (beneath_write_cost read)

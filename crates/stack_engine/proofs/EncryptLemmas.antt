@@ -1,20 +1,21 @@
 -- Which sectors a write encrypts.
 use Rattle.std.proofs.Common.{◌≡◌, ℕ, ◌+◌, ◌-◌, ◌<◌, ◌≤◌, Option, sym, ap, ◌∙◌, subst, arith, inl, inr}
 use Rattle.std.proofs.lemmas.Bool.{cases_lt}
-use Rattle.stack_loader.specs.declared.lower.DevId.{DevId}
 use Rattle.stack_loader.specs.declared.lower.Lower.{Lower}
 use Rattle.stack_loader.specs.declared.lower.Lower.TheVariants.{Leaf}
 use Rattle.stack_loader.specs.Records.{Configuration}
 use Rattle.stack_loader.specs.Names.{mapped}
 use Rattle.stack_loader.specs.Rules.{IsLoaded}
 use Rattle.stack_engine.specs.declared.source.Source.{Source}
-use Rattle.stack_engine.specs.declared.source.Source.TheVariants.{Below, Encrypted, Block}
+use Rattle.stack_engine.specs.declared.source.Source.TheVariants.{Below, Units, UnitPart, Block}
 use Rattle.stack_engine.specs.declared.source.BlockPart.{BlockPart}
 use Rattle.dm_table.specs.declared.table.Line.{Line}
 use Rattle.dm_table.specs.declared.table.Target.{Target}
-use Rattle.dm_table.specs.declared.table.Target.TheVariants.{Verity as verity_target}
+use Rattle.dm_table.specs.declared.crypt.Crypt.{Crypt}
+use Rattle.dm_table.specs.declared.table.Target.TheVariants.{Crypt as crypt_target, Verity as verity_target}
 use Rattle.stack_engine.specs.Meaning.{Said, line_said, said_at, said_by_name}
-use Rattle.stack_engine.specs.Sources.{LieInBlock, IsServed, said_of_line, part_said, source_said}
+use Rattle.stack_engine.specs.Sources.{HasTarget, AreUnits, LieInUnit, LieInBlock, IsServed, said_of_line, part_said, source_said}
+use Rattle.stack_engine.specs.Sectors.{SomeOf}
 use Rattle.stack_engine.specs.Writing.{SomeEncrypt}
 use Rattle.stack_engine.proofs.lemmas.SectorLemmas.{said_at-leaf}
 use Rattle.stack_engine.proofs.SourceLemmas.{served-said}
@@ -38,8 +39,18 @@ pub some-below : (c : Configuration) (lower : Lower) (first n : ℕ) → SomeEnc
 some-below c lower first n some = let at : 0 + some.0 ≡ some.0 = omega arith in (some.0, some.1, subst (λ (j : ℕ). (said_at c lower (first + j)).encrypts) at some.2)
 
 -- units all are
-pub units-some : (c : Configuration) (d : DevId) (l unit : ℕ) (lower : Lower) (first n : ℕ) → 0 < n → SomeEncrypt (source_said c (Encrypted d l unit lower first)) 0 n
-units-some c d l unit lower first n some = (0, some, tt)
+pub line-encrypts : (c : Configuration) (b : BlockPart) (m n : ℕ) (crypt : Crypt) → HasTarget c b.device.0 b.line (crypt_target crypt) m → 0 < n → SomeOf (λ j. (part_said c b j).encrypts) 0 n
+line-encrypts c b m n crypt has some =
+    let same : part_said c b (0 + 0) ≡ line_said (said_by_name c) b.device.0 b.line (crypt_target crypt) (b.first + (0 + 0)) =
+    ap (λ (o : Option Line). said_of_line c b.device.0 b.line o (b.first + (0 + 0))) has.is
+    ∙ ap (λ (t : Target). line_said (said_by_name c) b.device.0 b.line t (b.first + (0 + 0))) has.has in
+    (0, some, subst (λ (x : Said). x.encrypts) (sym same) tt)
+
+pub units-some : (c : Configuration) (b : BlockPart) (n : ℕ) → AreUnits c b.device.0 b.line b.first n → 0 < n → SomeEncrypt (source_said c (Units b)) 0 n
+units-some c b n units some = line-encrypts c b (b.first + n) n units.crypt units.has some
+
+pub unit_part-some : (c : Configuration) (b : BlockPart) (n : ℕ) → LieInUnit c b.device.0 b.line b.first n → 0 < n → SomeEncrypt (source_said c (UnitPart b)) 0 n
+unit_part-some c b n unit some = line-encrypts c b (b.first + n) n unit.crypt unit.has some
 
 module _ (c : Configuration) (d first at n : ℕ) (source : Source) (loaded : IsLoaded c) (served : IsServed c d (first + at) n source) where
   same_said : (j : ℕ) → j < n → source_said c source (0 + j) ≡ said_at c (mapped d) (first + (at + j))

@@ -1,11 +1,12 @@
 -- Worked values of the definitions.
 use Rattle.std.proofs.Common.{◌≡◌, ℕ, List, [], ◌∷◌, ◌++◌, ◌-◌, ◌^◌, replicate, refl, codes, true, Ok, Err}
 use Rattle.block_device.specs.Device.{filled, ramp_image, zeros_image}
+use Rattle.dm_table.specs.Crypt.{sector_size, iv_large_sectors}
+use Rattle.dm_table.specs.declared.crypt.Crypt.{Crypt}
 use Rattle.dm_table.specs.declared.table.Base.{Base}
 use Rattle.dm_table.specs.declared.table.Line.{Line}
 use Rattle.dm_table.specs.declared.table.Target.{Target}
-use Rattle.dm_table.specs.declared.table.Target.TheVariants.{Linear, Striped, Zero, Error, Crypt as crypt_target}
-use Rattle.xts_sector.specs.Xts.{encrypted, decrypted}
+use Rattle.dm_table.specs.declared.table.Target.TheVariants.{Linear, Striped, Zero, Error}
 use Rattle.stack_loader.specs.Records.{Configuration, DeviceRecord, LeafRecord}
 use Rattle.stack_loader.specs.Names.{mapped}
 use Rattle.stack_loader.specs.Descend.{descend, read_cost}
@@ -13,6 +14,7 @@ use Rattle.stack_engine.specs.Outcomes.{Outcome, span, error_target, mismatch, z
 use Rattle.stack_engine.specs.Meaning.{said_at, sector}
 use Rattle.stack_engine.specs.Puts.{done, stopped, put_on}
 use Rattle.stack_engine.specs.Found.{FoundRecord}
+use Rattle.stack_engine.specs.Units.{unit_number}
 
 abbrev leaf_of : List ℕ → ℕ → LeafRecord
 leaf_of name sectors = record { name = name; sectors = sectors; writable = true }
@@ -144,35 +146,28 @@ puts_overlapping : (put_on overlapping (mapped 0) 1 (x ∷ y ∷ []) (empty 4 �
 unfolding descend
 puts_overlapping = (refl, refl)
 
--- ---- units: their numbers count within the line, and wrap
+-- ---- units: their numbers count sectors within the line, or units with the flag, and wrap
 
 abbrev key : List ℕ
 key = replicate 32 7
 
-abbrev crypt : ℕ → List ℕ → ℕ → Target
-crypt iv_offset name offset = crypt_target (record { key = key; iv_offset = iv_offset; base = base name offset; options = [] })
+abbrev units_of : ℕ → List (List ℕ) → Crypt
+units_of iv_offset options = record { key = key; iv_offset = iv_offset; base = base (codes "D") 0; options = options }
 
-abbrev last : ℕ
-last = 2 ^ 64 - 1
+abbrev eight : List (List ℕ)
+eight = codes "sector_size:4096" ∷ []
 
-abbrev units : Configuration
-units = record {
-  leaves = leaf_of (codes "D") 8 ∷ [];
-  devices = dev (codes "a") (line 0 2 Zero ∷ line 2 4 (crypt last (codes "D") 3) ∷ [])
-      ∷ dev (codes "b") (line 0 6 (crypt 5 (codes "/dev/mapper/a") 0) ∷ []) ∷ [];
-}
+abbrev counted : List (List ℕ)
+counted = codes "sector_size:4096" ∷ codes "iv_large_sectors" ∷ []
 
-reads_units : (sector units (ramp_image 8 ∷ []) (mapped 0) 2 ≡ Ok (decrypted key last (filled 3))) × (sector units (ramp_image 8 ∷ []) (mapped 0) 3 ≡ Ok (decrypted key 0 (filled 4)))
-    × (sector units (ramp_image 8 ∷ []) (mapped 1) 3 ≡ Ok (decrypted key 8 (decrypted key 0 (filled 4))))
-unfolding descend
-reads_units = (refl, refl, refl)
+numbers_from_0 : (unit_number (units_of 0 eight) 0 ≡ 0) × (unit_number (units_of 0 eight) 1 ≡ 8) × (unit_number (units_of 0 counted) 0 ≡ 0) × (unit_number (units_of 0 counted) 1 ≡ 1)
+unfolding sector_size iv_large_sectors
+numbers_from_0 = (refl, refl, refl, refl)
 
--- each line encrypts what it hands down
-puts_units : (put_on units (mapped 0) 1 (x ∷ y ∷ z ∷ []) (empty 8 ∷ []) ≡ done ((empty 3 ++ (encrypted key last y ∷ encrypted key 0 z ∷ empty 3)) ∷ []))
-    × (put_on units (mapped 1) 2 (x ∷ []) (empty 8 ∷ []) ≡ done ((empty 3 ++ (encrypted key last (encrypted key 7 x) ∷ empty 4)) ∷ []))
-unfolding descend
-puts_units = (refl, refl)
+numbers_from_8 : (unit_number (units_of 8 eight) 0 ≡ 8) × (unit_number (units_of 8 eight) 1 ≡ 16) × (unit_number (units_of 8 counted) 0 ≡ 1) × (unit_number (units_of 8 counted) 1 ≡ 2)
+unfolding sector_size iv_large_sectors
+numbers_from_8 = (refl, refl, refl, refl)
 
-reaches_units : ((said_at units (mapped 0) 3).reaches ≡ (0, 4) ∷ []) × ((said_at units (mapped 0) 1).encrypts ≡ ⊥) × ((said_at units (mapped 0) 2).encrypts ≡ Unit {0})
-unfolding descend
-reaches_units = (refl, refl, refl)
+numbers_from_the_last : (unit_number (units_of (2 ^ 64 - 8) eight) 1 ≡ 0) × (unit_number (units_of (2 ^ 64 - 8) counted) 0 ≡ 2 ^ 61 - 1) × (unit_number (units_of (2 ^ 64 - 8) counted) 1 ≡ 0) × (unit_number (units_of (2 ^ 64 - 1) []) 1 ≡ 0)
+unfolding sector_size iv_large_sectors
+numbers_from_the_last = (refl, refl, refl, refl)

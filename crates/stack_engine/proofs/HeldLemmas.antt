@@ -8,14 +8,11 @@ use borrow.Rule.Slice.PartMut.{put_mid}
 use Rattle.stack_loader.specs.Records.{Configuration}
 use Rattle.stack_loader.specs.Names.{mapped}
 use Rattle.stack_loader.specs.Rules.{IsLoaded}
-use Rattle.stack_loader.specs.declared.lower.DevId.{DevId}
-use Rattle.stack_loader.specs.declared.lower.Lower.{Lower}
 use Rattle.stack_engine.specs.declared.source.Source.{Source}
-use Rattle.stack_engine.specs.declared.source.Source.TheVariants.{Encrypted}
 use Rattle.stack_engine.specs.Meaning.{Said, said_at}
 use Rattle.stack_engine.specs.Sources.{IsServed, source_said}
-use Rattle.stack_engine.specs.Writing.{AreSectors, AreHeld}
-use Rattle.stack_engine.proofs.EncryptLemmas.{run-some, units-some}
+use Rattle.stack_engine.specs.Writing.{AreSectors, SomeEncrypt, AreHeld}
+use Rattle.stack_engine.proofs.EncryptLemmas.{run-some}
 
 -- ---- parts of lists
 
@@ -74,12 +71,13 @@ pub one-none : (said : ℕ → Said) (first : ℕ) (plain buffer : List ℕ) →
 one-none said first plain buffer held = elim held.one [ inl none ↦ inl none | inr other ↦ inr other.0 ]
 
 -- the caller's are none where a line encrypts
-pub none-plain : (c : Configuration) (d : DevId) (l unit : ℕ) (lower : Lower) (first : ℕ) (plain buffer : List ℕ) → AreHeld (source_said c (Encrypted d l unit lower first)) 0 plain buffer → plain ≡ []
-none-plain c d l unit lower first plain buffer held = elim held.one [
+pub none-plain : (said : ℕ → Said) (plain buffer : List ℕ) → AreHeld said 0 plain buffer → ((n : ℕ) → n ≡ length (plain ++ buffer) / 512 → 0 < n → SomeEncrypt said 0 n) → plain ≡ []
+none-plain said plain buffer held some = elim held.one [
   | inl none ↦ none
   | inr other ↦
       let long = ap (λ (b : List ℕ). length (plain ++ b)) other.0 in
-      absurd (other.1 (units-some c d l unit lower first (length plain / 512) (omega (arith, held.sectors.some, held.sectors.whole, long, length-append plain []))))
+      let same : length plain / 512 ≡ length (plain ++ buffer) / 512 = omega (arith, long, length-append plain []) in
+      absurd (other.1 (some (length plain / 512) same (omega (arith, held.sectors.some, held.sectors.whole, long, length-append plain []))))
 ]
 
 -- the bytes of one run of a device

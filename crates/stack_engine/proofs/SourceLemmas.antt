@@ -5,7 +5,6 @@ use Rattle.std.proofs.lemmas.List.{take-replicate, drop-replicate, length-replic
 use Rattle.block_device.specs.Device.{Device}
 use Rattle.dm_table.specs.declared.table.Line.{Line}
 use Rattle.dm_table.specs.declared.table.Target.{Target}
-use Rattle.dm_table.specs.declared.table.Target.TheVariants.{Crypt as crypt_target}
 use Rattle.stack_loader.specs.declared.lower.Lower.{Lower}
 use Rattle.stack_loader.specs.declared.lower.Lower.TheVariants.{Leaf}
 use Rattle.stack_loader.specs.Records.{Configuration}
@@ -17,19 +16,19 @@ use Rattle.stack_engine.specs.declared.fault.IoFault.{IoFault}
 use Rattle.stack_engine.specs.declared.fault.IoFault.TheVariants as io
 use Rattle.stack_engine.specs.declared.source.BlockPart.{BlockPart}
 use Rattle.stack_engine.specs.declared.source.Source.{Source}
-use Rattle.stack_engine.specs.declared.source.Source.TheVariants.{Below, Encrypted, Zeros, Fails, Block}
-use Rattle.stack_engine.specs.Units.{unit_number, decrypted_unit}
-use Rattle.xts_sector.specs.Xts.{decrypted}
-use Rattle.stack_engine.proofs.lemmas.UnitLemmas.{unit-later}
+use Rattle.stack_engine.specs.declared.source.Source.TheVariants.{Below, Units, UnitPart, Zeros, Fails, Block}
+use Rattle.stack_loader.specs.Units.{unit_sectors}
+use Rattle.stack_loader.proofs.lemmas.UnitLemmas.{unit_sectors-some}
+use Rattle.stack_engine.proofs.UnitLineLemmas.{unit-line, cost-beneath}
+use Rattle.std.proofs.Math.Nat.{mul-le-mul_right}
 use Rattle.stack_engine.specs.Outcomes.{error_target, zero_sector, part}
 use Rattle.stack_engine.specs.Found.{FoundRecord}
 use Rattle.stack_engine.specs.Kept.{AllKept}
-use Rattle.stack_engine.specs.Beneath.{beneath, said_or}
-use Rattle.stack_engine.specs.Meaning.{Said, none_said, crypt_said, line_said, said_at, said_by_name}
+use Rattle.stack_engine.specs.Meaning.{Said, none_said, line_said, said_at, said_by_name}
 use Rattle.stack_engine.specs.Leaves.{images_of}
 use Rattle.stack_engine.specs.Places.{place_of, run_expected, Read}
-use Rattle.stack_engine.specs.Sources.{line_key, LieInBlock, BeginsAt, ComeFrom, IsServed, said_of_line, part_said, source_said, source_cost, source_place, source_depth, SourceHolds, ReadsSource}
-use Rattle.stack_engine.specs.Reading.{Gets, Reads}
+use Rattle.stack_engine.specs.Sources.{LieInBlock, AreUnits, LieInUnit, BeginsAt, ComeFrom, IsServed, said_of_line, part_said, source_said, source_cost, source_place, source_depth, SourceHolds, ReadsSource}
+use Rattle.stack_engine.specs.Reading.{Gets, Reads, IsPlain}
 use Rattle.stack_engine.proofs.lemmas.SectorLemmas.{said_at-line, line_said-beneath}
 use Rattle.stack_engine.proofs.CostLemmas.{cost-falls}
 use Rattle.stack_engine.proofs.LoadedLemmas.{depth-falls}
@@ -37,6 +36,7 @@ use Rattle.stack_engine.proofs.lemmas.LeafListLemmas.{AreRead-none}
 use Rattle.stack_engine.proofs.lemmas.FoundLemmas.{said_at-mono, Grown-none, kept-later}
 use Rattle.stack_engine.proofs.lemmas.SpanLemmas.{span_zeros, span_fails}
 use Rattle.stack_engine.proofs.lemmas.RunLemmas.{run_ok, run_err, Passes, pass}
+use Rattle.stack_engine.proofs.lemmas.PlainLemmas.{plain-as, plain-then}
 
 -- ---- what is said of the sectors where those of a device come from
 
@@ -54,17 +54,8 @@ module _ (c : Configuration) (d l : ℕ) (line : Line) (is : IsLine c d l line) 
       let on = come.1 in
       line_said-beneath (said_by_name c) d l line.target (w + j) (on.name, first + j) come.0 (on.under j below)
       ∙ ap (λ (o : Option Lower). known {A = ℕ → Said} (λ t. none_said) (said_at c) o (first + j)) on.is
-  come-said (Encrypted e k unit lower first) come =
-      let unit_is = come.0 in
-      let on = come.1 in
-      let crypt = unit_is.crypt in
-      let there : beneath (crypt_target crypt) (w + j) ≡ Some (on.name, first + j) = ap (λ (t : Target). beneath t (w + j)) (sym unit_is.is) ∙ on.under j below in
-      let number : unit_number crypt.iv_offset (w + j) ≡ unit_number unit j = unit-later crypt.iv_offset w j ∙ ap (λ (i : ℕ). unit_number i j) (sym unit_is.number) in
-      ap (λ (t : Target). line_said (said_by_name c) d l t (w + j)) unit_is.is
-      ∙ ap (λ (o : Option (List ℕ × ℕ)). crypt_said (decrypted_unit crypt.key crypt.iv_offset (w + j)) (said_or none_said (said_by_name c) o)) there
-      ∙ ap (λ (o : Option Lower). crypt_said (decrypted_unit crypt.key crypt.iv_offset (w + j)) (known {A = ℕ → Said} (λ t. none_said) (said_at c) o (first + j))) on.is
-      ∙ ap (λ (key : List ℕ). crypt_said (decrypted_unit key crypt.iv_offset (w + j)) (said_at c lower (first + j))) (sym unit_is.key)
-      ∙ ap (λ (i : ℕ). crypt_said (decrypted (line_key c e.0 k) i) (said_at c lower (first + j))) number
+  come-said (Units b) come = sym (part-said c d l w j line b is come.0)
+  come-said (UnitPart b) come = sym (part-said c d l w j line b is come.0)
   come-said Zeros come = ap (λ (t : Target). line_said (said_by_name c) d l t (w + j)) come
   come-said Fails come = ap (λ (t : Target). line_said (said_by_name c) d l t (w + j)) come
   come-said (Block b) come = sym (part-said c d l w j line b is come.0)
@@ -73,13 +64,31 @@ pub served-said : (c : Configuration) (d s n j : ℕ) (source : Source) → IsLo
 served-said c d s n j source loaded below r =
     sym (said_at-line c loaded.valid d s j r.number r.line r.found r.start (omega (arith, below, r.fits)) ∙ come-said c d r.number r.line r.is (s - r.line.start) n j below source r.come)
 
+-- the units of a part that begins at a sector
+pub units-at : (c : Configuration) (d l w n : ℕ) (b : BlockPart) → BeginsAt d l w b → AreUnits c d l w n → AreUnits c b.device.0 b.line b.first n
+units-at c d l w n b begins units =
+    subst (λ (k : ℕ). AreUnits c k b.line b.first n) (sym begins.0)
+    (subst (λ (k : ℕ). AreUnits c d k b.first n) (sym begins.1)
+    (subst (λ (k : ℕ). AreUnits c d l k n) (sym begins.2) units))
+
+pub unit-at : (c : Configuration) (d l w n : ℕ) (b : BlockPart) → BeginsAt d l w b → LieInUnit c d l w n → LieInUnit c b.device.0 b.line b.first n
+unit-at c d l w n b begins unit =
+    subst (λ (k : ℕ). LieInUnit c k b.line b.first n) (sym begins.0)
+    (subst (λ (k : ℕ). LieInUnit c d k b.first n) (sym begins.1)
+    (subst (λ (k : ℕ). LieInUnit c d l k n) (sym begins.2) unit))
+
 pub served-cost : (c : Configuration) (d s n : ℕ) (source : Source) → IsLoaded c → 0 < n → IsServed c d s n source → source_cost c source ≤ read_cost c (mapped d)
 served-cost c d s n (Below lower first) loaded some r =
     let on = r.come.1 in
     cost-falls c d r.number r.line (s - r.line.start + 0) (on.name, first + 0) lower loaded.valid r.is (on.under 0 some) on.is
-served-cost c d s n (Encrypted e k unit lower first) loaded some r =
-    let on = r.come.1 in
-    cost-falls c d r.number r.line (s - r.line.start + 0) (on.name, first + 0) lower loaded.valid r.is (on.under 0 some) on.is
+served-cost c d s n (Units b) loaded some r =
+    let units = units-at c d r.number (s - r.line.start) n b r.come.0 r.come.1 in
+    let lower = unit-line c b.device.0 b.line _ units.crypt loaded units.has in
+    let same = cost-beneath c b.device.0 b.line _ units.crypt loaded units.has (read_cost c) lower.0 lower.1.crypt_line.named in
+    let whole : read_cost c (mapped b.device.0) ≡ read_cost c (mapped d) = ap (λ (k : ℕ). read_cost c (mapped k)) r.come.0.0 in
+    let once : 1 * read_cost c lower.0 ≤ unit_sectors units.crypt * read_cost c lower.0 = mul-le-mul_right (read_cost c lower.0) (unit_sectors-some units.crypt) in
+    omega (arith, same, whole, once, lower.1.read)
+served-cost c d s n (UnitPart b) loaded some r = let same : read_cost c (mapped b.device.0) ≡ read_cost c (mapped d) = ap (λ (k : ℕ). read_cost c (mapped k)) r.come.0.0 in omega (arith, same)
 served-cost c d s n Zeros loaded some r = omega arith
 served-cost c d s n Fails loaded some r = omega arith
 served-cost c d s n (Block b) loaded some r = let same : read_cost c (mapped b.device.0) ≡ read_cost c (mapped d) = ap (λ (k : ℕ). read_cost c (mapped k)) r.come.0.0 in omega (arith, same)
@@ -89,16 +98,16 @@ pub served-depth : (c : Configuration) (d s n : ℕ) (source : Source) → IsLoa
 served-depth c d s n (Below lower first) loaded some r =
     let on = r.come.1 in
     let falls = depth-falls c d r.number r.line (s - r.line.start + 0) (on.name, first + 0) lower loaded.valid r.is (on.under 0 some) on.is in omega (arith, falls)
-served-depth c d s n (Encrypted e k unit lower first) loaded some r =
-    let on = r.come.1 in
-    let falls = depth-falls c d r.number r.line (s - r.line.start + 0) (on.name, first + 0) lower loaded.valid r.is (on.under 0 some) on.is in omega (arith, falls)
+served-depth c d s n (Units b) loaded some r = let same : depth c (mapped b.device.0) ≡ depth c (mapped d) = ap (λ (k : ℕ). depth c (mapped k)) r.come.0.0 in omega (arith, same)
+served-depth c d s n (UnitPart b) loaded some r = let same : depth c (mapped b.device.0) ≡ depth c (mapped d) = ap (λ (k : ℕ). depth c (mapped k)) r.come.0.0 in omega (arith, same)
 served-depth c d s n Zeros loaded some r = omega arith
 served-depth c d s n Fails loaded some r = omega arith
 served-depth c d s n (Block b) loaded some r = let same : depth c (mapped b.device.0) ≡ depth c (mapped d) = ap (λ (k : ℕ). depth c (mapped k)) r.come.0.0 in omega (arith, same)
 
 pub served-holds : (c : Configuration) (d s n : ℕ) (source : Source) → IsServed c d s n source → SourceHolds c source n
 served-holds c d s n (Below lower first) r = r.come.1.inside
-served-holds c d s n (Encrypted e k unit lower first) r = (r.come.1.inside, r.come.0.has)
+served-holds c d s n (Units b) r = units-at c d r.number (s - r.line.start) n b r.come.0 r.come.1
+served-holds c d s n (UnitPart b) r = unit-at c d r.number (s - r.line.start) n b r.come.0 r.come.1
 served-holds c d s n Zeros r = tt
 served-holds c d s n Fails r = tt
 served-holds c d s n (Block b) r =
@@ -167,6 +176,16 @@ module _ (c : Configuration) (d first a m : ℕ) (source : Source) {old mid new 
   device_err n fault h q =
       run_err (place_of c (mapped d)) c (said_at-mono c (mapped d)) first a m p n fault h
       (pass (served-passes c d (first + a) m source loaded some r) (record { old = mid; new = new; before = v; after = w }) (Err fault) q)
+
+-- the reads of some sectors of a device, and of the run behind them
+pub device_plain : (c : Configuration) (d first a m n : ℕ) (source : Source) {old mid new : List Device} {result : Result Unit IoFault} → IsLoaded c → a + m ≤ n → IsServed c d (first + a) m source
+    → IsPlain (said_at c (mapped d)) first a old mid (Ok tt) → IsPlain (source_said c source) 0 m mid new result → IsPlain (said_at c (mapped d)) first n old new result
+device_plain c d first a m n source loaded h r p q =
+    plain-then (said_at c (mapped d)) first a m n h p
+    (plain-as (source_said c source) (said_at c (mapped d)) 0 (first + a) m (λ j low. let e : 0 + j ≡ j = omega arith in ap (source_said c source) e ∙ served-said c d (first + a) m j source loaded low r) q)
+
+pub below_plain : (c : Configuration) (lower : Lower) (first n : ℕ) {old new : List Device} {result : Result Unit IoFault} → IsPlain (said_at c lower) first n old new result → IsPlain (source_said c (Below lower first)) 0 n old new result
+below_plain c lower first n p = plain-as (said_at c lower) (source_said c (Below lower first)) first 0 n (λ j h. let e : j ≡ 0 + j = omega arith in ap (λ (k : ℕ). said_at c lower (first + k)) e) p
 
 -- a leaf's sectors were read, and no chain found
 pub leaf_of : (c : Configuration) (i first n : ℕ) {old new : List Device} (found : List FoundRecord) {answer : Result (List ℕ) IoFault} → AllKept c old found

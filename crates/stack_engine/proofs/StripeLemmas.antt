@@ -1,12 +1,12 @@
 -- Sectors of one line that lie one after another on a lower device.
-use Rattle.std.proofs.Common.{◌≡◌, ℕ, zero, suc, ◌+◌, ◌*◌, ◌/◌, ◌%◌, ◌^◌, ◌<◌, ◌≤◌, true, false, nat_lt, List, [], ◌∷◌, length, Option, Some, None, refl, sym, ap, ◌∙◌, subst, arith}
+use Rattle.std.proofs.Common.{◌≡◌, ℕ, zero, suc, ◌+◌, ◌*◌, ◌/◌, ◌%◌, ◌^◌, ◌-◌, ◌<◌, ◌≤◌, ◌⊎◌, min, true, false, nat_lt, List, [], ◌∷◌, length, Option, Some, None, refl, sym, ap, ◌∙◌, subst, arith, inl, inr}
 use Rattle.std.specs.Prelude.{slice_get, option_map, option_and_then}
 use Rattle.std.specs.List.{list_any}
 use Rattle.std.specs.Option.{option_map_or}
-use Rattle.std.proofs.lemmas.Bool.{ltb-false, eqb-true, not-false, or_parts}
+use Rattle.std.proofs.lemmas.Bool.{cases_lt, lt-ltb, le-ltb, ltb-false, eqb-true, not-false, or_parts}
 use Rattle.std.proofs.lemmas.Option.{slice_get-map}
 use Rattle.std.proofs.lemmas.Nat.{div-add-mod', div_below, row_fits, div-mul-add, mod-mul-add, mod_below}
-use Rattle.std.proofs.Math.Nat.{div-div-eq-div-mul, mul-div_cancel, mul_comm, mul_assoc}
+use Rattle.std.proofs.Math.Nat.{add-mul, div-div-eq-div-mul, mul-div_cancel, mul_comm, mul_assoc}
 use Rattle.dm_table.specs.declared.table.Base.{Base}
 use Rattle.dm_table.specs.declared.table.Line.{Line}
 use Rattle.dm_table.specs.declared.table.Target.{Target}
@@ -96,6 +96,41 @@ pub chunk-more : (chunk w j : ℕ) → w % chunk + j < chunk → ((w + j) / chun
 chunk-more chunk w j low =
     let split : w + j ≡ w / chunk * chunk + (w % chunk + j) = omega (arith, div-add-mod' w chunk) in
     (ap (λ (x : ℕ). x / chunk) split ∙ div-mul-add (w / chunk) chunk (w % chunk + j) low, ap (λ (x : ℕ). x % chunk) split ∙ mod-mul-add (w / chunk) chunk (w % chunk + j) low)
+
+-- ---- parts of so many sectors: chunks, units and data blocks
+
+pub part-more : (k w j : ℕ) → w % k + suc j < k → nat_lt ((w + j) % k + 1) k ≡ true
+part-more k w j low =
+    let next = chunk-more k w j (omega (arith, low)) in
+    ap (λ (r : ℕ). nat_lt (r + 1) k) next.1 ∙ lt-ltb (w % k + j + 1) k (omega (arith, low))
+
+-- the last sector of a part doesn't go down together with the next one
+pub part-ends : (k e : ℕ) → 0 < k → 0 < e → e % k ≡ 0 → nat_lt ((e - 1) % k + 1) k ≡ false
+part-ends k e some_k some_e whole =
+    let q : ℕ = e / k in
+    let all : q * k ≡ e = omega (arith, div-add-mod' e k, whole) in
+    let some : 0 < q = positive q all in
+    let one : q ≡ q - 1 + 1 = omega (arith, some) in
+    let last : e - 1 ≡ (q - 1) * k + (k - 1) = omega (arith, all, some_k, some_e, ap (λ (x : ℕ). x * k) one, add-mul (q - 1) 1 k) in
+    ap (λ (x : ℕ). nat_lt (x % k + 1) k) last
+    ∙ ap (λ (x : ℕ). nat_lt (x + 1) k) (mod-mul-add (q - 1) k (k - 1) (omega (arith, some_k)))
+    ∙ le-ltb (k - 1 + 1) k (omega (arith, some_k))
+  where
+    positive : (q : ℕ) → q * k ≡ e → 0 < q
+    positive zero all = let none : 0 * k ≡ 0 = omega arith in absurd (omega (arith, some_e, all, none))
+    positive (suc q) all = omega arith
+
+-- a run that ends by its part or by what is asked for
+pub part-longest : (k w count n : ℕ) → 0 < k → 0 < count → n ≡ min count (k - w % k) → (n ≡ count) ⊎ (nat_lt ((w + n - 1) % k + 1) k ≡ false)
+part-longest k w count n some_k some is = elim (cases_lt (k - w % k) count) [
+  | inl less ↦
+      let low : w % k < k = mod_below w k some_k in
+      let all : n ≡ k - w % k = omega (arith, is, less) in
+      let end : w + n ≡ (w / k + 1) * k + 0 = omega (arith, all, low, div-add-mod' w k, add-mul (w / k) 1 k) in
+      let whole : (w + n) % k ≡ 0 = ap (λ (x : ℕ). x % k) end ∙ mod-mul-add (w / k + 1) k 0 some_k in
+      inr (part-ends k (w + n) some_k (omega (arith, all, low)) whole)
+  | inr more ↦ inl (omega (arith, is, more))
+]
 
 -- the sector beneath, where its chunk and its place in the chunk are known
 on_chunk : ℕ → List Base → ℕ → ℕ → Option (List ℕ × ℕ)

@@ -1,12 +1,14 @@
 -- What a write of one leaf does to all of them.
-use Rattle.std.proofs.Common.{◌≡◌, ℕ, ◌+◌, ◌-◌, ◌*◌, ◌<◌, ◌≤◌, Bool, true, false, IsTrue, List, length, get_or, set, take, drop, map, Contains, Ok, Err, refl, sym, ap, ◌∙◌, subst, arith, inl, inr}
+use Rattle.std.proofs.Common.{◌≡◌, ℕ, ◌+◌, ◌-◌, ◌*◌, ◌<◌, ◌≤◌, Bool, true, false, IsTrue, List, length, get_or, set, take, drop, map, Contains, Result, Ok, Err, refl, sym, ap, ◌∙◌, subst, arith, inl, inr}
 use Rattle.std.proofs.lemmas.List.{map-set, get_or-map, get_or-set_same, get_or-set_other, length-map, get_or-take, get_or-drop, get_or_default}
 use Rattle.std.proofs.lemmas.Bool.{cases_eq, cases_lt}
 use Rattle.block_device.specs.Device.{Device, IsWhole, IsWritten, HasFailed, spliced}
 use Rattle.stack_loader.specs.declared.lower.Lower.TheVariants.{Leaf}
 use Rattle.stack_loader.specs.Records.{Configuration}
 use Rattle.stack_loader.specs.Descend.{descend, write_cost}
+use Rattle.stack_engine.specs.declared.fault.IoFault.{IoFault}
 use Rattle.stack_engine.specs.declared.fault.IoFault.TheVariants as io
+use Rattle.stack_engine.specs.Reading.{IsPlain}
 use Rattle.stack_engine.specs.Outcomes.{zero_sector, Images}
 use Rattle.stack_engine.specs.Meaning.{Said, said_at}
 use Rattle.stack_engine.specs.Puts.{done, leaf_put, put_on}
@@ -55,6 +57,9 @@ module _ (leaves : List Device) (i first n : ℕ) (old new : Device) (h : i < le
 
   AreWritten-set : (ok : Bool) → IsWhole old → IsWhole new → old.failures ≤ new.failures → IsWritten old first n ok new → AreWritten these leaves n (set leaves i new)
   AreWritten-set ok was is grows r = record {
+    read = 0;
+    written = n;
+    within = omega arith;
     moved = record {
       fixed = same_map fixed_part leaves i old new h at (let a = r.same.size in let b = r.same.may_write in let s = r.same.steady in cc);
       reads = counts_one leaves i old new h at (λ l. l.reads) 0 (omega (arith, r.reads)) (λ _. r.reads);
@@ -87,6 +92,17 @@ put-leaf c i s sectors images = refl
 -- it reaches each of them
 leaf-reaches : (c : Configuration) (i first n j : ℕ) → j < n → reached (λ s. (said_at c (Leaf i) s).reaches) first n (i, first + j)
 leaf-reaches c i first n j h = (j, h, subst (λ (x : Said). Contains x.reaches (i, first + j)) (sym (said_at-leaf c i (first + j))) (0, omega arith, refl))
+
+-- a read of a leaf keeps the others
+pub leaf-plain : {X : Type 0} (state : X → Device) (devices : List X) (i : ℕ) (c : Configuration) (first n : ℕ) → 0 < n → (new : X) (result : Result Unit IoFault) → (result ≡ Err io.NoMemory → ⊥)
+    → IsPlain (said_at c (Leaf i)) first n (map state devices) (map state (set devices i new)) result
+leaf-plain state devices i c first n some new result grown = record {
+  memory = λ is. absurd (grown is);
+  leaf = λ none k d out. elim (cases_eq k i) [
+    | inl here ↦ absurd (out (first + 0) (subst (λ (q : ℕ). reached (λ s. (said_at c (Leaf i) s).reaches) first n (q, first + 0)) (sym here) (leaf-reaches c i first n 0 some)))
+    | inr other ↦ ap (λ (l : List Device). get_or l k d) (map-set state devices i new) ∙ get_or-set_other (map state devices) i k (state new) d other
+  ];
+}
 
 module _ {X : Type 0} (state : X → Device) (whole : (y : X) → IsWhole (state y)) (devices : List X) (i : ℕ) (x : X) (there : i < length devices) (c : Configuration) (first : ℕ) (sectors : List (List ℕ)) (some : 0 < length sectors) (new : X) where
   leaf-moved : (ok : Bool) → (state (get_or devices i x)).failures ≤ (state new).failures → IsWritten (state (get_or devices i x)) first (length sectors) ok (state new)

@@ -9,6 +9,7 @@ pub mod LeafListLemmas
 pub mod LeavesBeneathLemmas
 pub mod LineLemmas
 pub mod PieceLemmas
+pub mod PlainLemmas
 pub mod PutLemmas
 pub mod RunLemmas
 pub mod SectorLemmas

@@ -3,7 +3,7 @@ use Rattle.std.specs.Prelude.{ℕ, ◌+◌, ◌*◌, ◌/◌, ◌%◌, List, len
 use Rattle.dm_table.specs.declared.table.Target.{Target}
 use Rattle.dm_table.specs.declared.table.Target.TheVariants.{Linear, Striped, Zero, Error, Crypt as crypt_target, Verity as verity_target}
 
--- The device and the sector there on which sector s of a line lies alone. Of a striped line, chunk k is on device
+-- The device and the sector there at which sector s of a line lies. Of a striped line, chunk k is on device
 -- k % n of its n devices, as their chunk k / n from the offset on.
 abbrev pub beneath : Target → ℕ → Option (List ℕ × ℕ)
 beneath (Linear base) s = Some (base.device, base.offset + s)

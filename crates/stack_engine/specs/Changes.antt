@@ -1,5 +1,5 @@
 -- What writes do to the leaves.
-use Rattle.std.specs.Prelude.{◌≡◌, ℕ, IsTrue, List, [], length, All, Contains}
+use Rattle.std.specs.Prelude.{◌≡◌, ℕ, ◌+◌, ◌≤◌, IsTrue, List, [], length, All, Contains}
 use Rattle.std.specs.List.{slice_index_or}
 use Rattle.block_device.specs.Device.{Device, IsWhole}
 use Rattle.stack_engine.specs.Sectors.{SomeOf}
@@ -21,9 +21,12 @@ pub record KeepsOthers (these : LeafSectors) (old new : List Device) : Type 0 wh
   pub sector : (i t : ℕ) (d : Device) → IsTrue (slice_index_or old i d).steady → (these (i, t) → ⊥) → slice_index_or (slice_index_or new i d).image t zero_sector ≡ slice_index_or (slice_index_or old i d).image t zero_sector
   pub leaf : (i : ℕ) (d : Device) → ((t : ℕ) → these (i, t) → ⊥) → slice_index_or new i d ≡ slice_index_or old i d
 
--- some writes, of at most so many sectors, each of these
+-- some writes, each of these sectors, and the reads that they need: at most so many sectors together
 pub record AreWritten (these : LeafSectors) (old : List Device) (most : ℕ) (new : List Device) : Type 0 where
-  pub moved : Moves 0 most old new
+  pub read : ℕ
+  pub written : ℕ
+  pub within : read + written ≤ most
+  pub moved : Moves read written old new
   pub others : KeepsOthers these old new
 
 -- images that differ in these leaf sectors alone

@@ -1,12 +1,14 @@
-pub mod Sectors
 pub mod Outcomes
+pub mod Sectors
 pub mod Units
 pub mod Beneath
 pub mod Found
 pub mod Blocks
 pub mod Meaning
+pub mod Puts
 pub mod May
 pub mod Leaves
+pub mod Changes
 pub mod Kept
 pub mod Places
 pub mod Reading
@@ -14,8 +16,6 @@ pub mod Sources
 pub mod Walks
 pub mod Standing
 pub mod Caches
-pub mod Puts
-pub mod Changes
 pub mod Writing
 pub mod Stacks
 pub mod Pieces

@@ -1,16 +1,11 @@
 -- What a read of sectors may answer over devices that answer anything.
-use Rattle.std.specs.Prelude.{◌≡◌, ℕ, ◌+◌, ◌*◌, ◌<◌, List, length}
+use Rattle.std.specs.Prelude.{ℕ, List}
 use Rattle.stack_loader.specs.declared.lower.Lower.{Lower}
 use Rattle.stack_loader.specs.Records.{Configuration}
-use Rattle.stack_engine.specs.Sectors.{SomeOf}
-use Rattle.stack_engine.specs.Outcomes.{Fault, part}
+use Rattle.stack_engine.specs.Sectors.{SomeOf, IsRun}
+use Rattle.stack_engine.specs.Outcomes.{Fault}
 use Rattle.stack_engine.specs.Found.{FoundRecord, AreDistinct, AreUsed}
 use Rattle.stack_engine.specs.Meaning.{said_at}
-
--- n sectors from the first on, each of which is so
-pub record IsRun (Is : ℕ → List ℕ → Type 0) (first n : ℕ) (bytes : List ℕ) : Type 0 where
-  pub len : length bytes ≡ 512 * n
-  pub sectors : (j : ℕ) → j < n → Is (first + j) (part bytes j)
 
 -- n sectors from the first on may end by the fault
 abbrev pub MayFault : Configuration → Lower → ℕ → ℕ → Fault → Type 0

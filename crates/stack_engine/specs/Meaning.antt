@@ -2,6 +2,7 @@
 use Rattle.std.specs.Prelude.{◌≡◌, ℕ, ◌/◌, ◌%◌, List, [], ◌∷◌, Contains, Ok, Err}
 use Rattle.std.specs.List.{slice_index_or}
 use Rattle.dm_table.specs.declared.table.Target.TheVariants.{Linear, Striped, Zero, Error, Crypt as crypt_target, Verity as verity_target}
+use Rattle.dm_table.specs.declared.crypt.Crypt.{Crypt}
 use Rattle.dm_table.specs.declared.verity.Verity.{Verity}
 use Rattle.hash_tree.specs.Chain.{IsGood}
 use Rattle.block_device.specs.Device.{IsSector}
@@ -9,9 +10,10 @@ use Rattle.stack_loader.specs.declared.lower.Lower.{Lower}
 use Rattle.stack_loader.specs.Records.{Configuration}
 use Rattle.stack_loader.specs.Descend.{by_name}
 use Rattle.stack_loader.specs.Trees.{tree_of, block_sectors}
-use Rattle.stack_engine.specs.Sectors.{OnLine, by_sector}
-use Rattle.stack_engine.specs.Outcomes.{Fault, error_target, Images, LeafSector, Outcome, changed_outcome, zero_sector, then_outcome, part}
-use Rattle.stack_engine.specs.Units.{decrypted_unit}
+use Rattle.stack_loader.specs.Units.{unit_sectors}
+use Rattle.stack_engine.specs.Sectors.{OnLine, by_sector, SomeOf, IsRun, gathered}
+use Rattle.stack_engine.specs.Outcomes.{Fault, error_target, Images, LeafSector, Outcome, changed_outcome, zero_sector, span, then_outcome, part}
+use Rattle.stack_engine.specs.Units.{unit_part, unit_first}
 use Rattle.stack_engine.specs.Beneath.{beneath, said_or}
 use Rattle.stack_engine.specs.Found.{FoundRecord, Entry, entry_of}
 use Rattle.stack_engine.specs.Blocks.{block_at, BlockMeets}
@@ -50,16 +52,19 @@ error_said = record { means = λ images. Err error_target; may = λ chains bytes
 abbrev pub none_said : Said
 none_said = record { means = λ images. Err error_target; may = λ chains bytes. ⊥; meets = λ fault. ⊥; entries = []; reaches = []; encrypts = ⊥ }
 
--- a sector whose bytes are a function of those of the sector beneath, which are encrypted
-abbrev pub crypt_said : (List ℕ → List ℕ) → Said → Said
-crypt_said f lower = record {
-  means = λ images. changed_outcome f (lower.means images);
-  may = λ chains bytes. (below : List ℕ) × lower.may chains below × (bytes ≡ f below);
-  meets = lower.meets;
-  entries = lower.entries;
-  reaches = lower.reaches;
-  encrypts = Unit {0};
-}
+-- Sector s of a `crypt` line: that of its unit decrypted, all of whose sectors are on its way.
+abbrev pub crypt_said : (ℕ → Said) → Crypt → ℕ → Said
+crypt_said lower crypt s =
+    let first = unit_first crypt s in
+    let n = unit_sectors crypt in
+    record {
+      means = λ images. changed_outcome (unit_part crypt s) (span (λ t. (lower t).means images) first n);
+      may = λ chains bytes. (below : List ℕ) × IsRun (λ t. (lower t).may chains) first n below × (bytes ≡ unit_part crypt s below);
+      meets = λ fault. SomeOf (λ t. (lower t).meets fault) first n;
+      entries = gathered (λ t. (lower t).entries) first n;
+      reaches = gathered (λ t. (lower t).reaches) first n;
+      encrypts = Unit {0};
+    }
 
 -- a chain that was found at that entry, and is good for that verity line
 pub record IsShown (chains : List FoundRecord) (entry : Entry) (v : Verity) (x : FoundRecord) : Type 0 where
@@ -91,7 +96,7 @@ line_said at d l (Linear base) s = said_or none_said at (beneath (Linear base) s
 line_said at d l (Striped chunk bases) s = said_or none_said at (beneath (Striped chunk bases) s)
 line_said at d l Zero s = zero_said
 line_said at d l Error s = error_said
-line_said at d l (crypt_target crypt) s = crypt_said (decrypted_unit crypt.key crypt.iv_offset s) (said_or none_said at (beneath (crypt_target crypt) s))
+line_said at d l (crypt_target crypt) s = crypt_said (at crypt.base.device) crypt s
 line_said at d l (verity_target v) s = verity_said (at v.data) (at v.hash) d l v s
 
 -- sector s of a leaf or device

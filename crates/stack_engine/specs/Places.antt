@@ -4,11 +4,10 @@ use Rattle.block_device.specs.Device.{Device}
 use Rattle.stack_loader.specs.declared.lower.Lower.{Lower}
 use Rattle.stack_loader.specs.Records.{Configuration}
 use Rattle.stack_loader.specs.Descend.{read_cost}
-use Rattle.stack_engine.specs.Sectors.{SomeOf}
+use Rattle.stack_engine.specs.Sectors.{SomeOf, IsRun}
 use Rattle.stack_engine.specs.Outcomes.{Fault, Outcome, Images, span}
 use Rattle.stack_engine.specs.Found.{FoundRecord}
 use Rattle.stack_engine.specs.Meaning.{Said, said_at}
-use Rattle.stack_engine.specs.May.{IsRun}
 
 -- what is said of each sector of a place, and the leaf sectors that are read for one at most
 pub record Place : Type 1 where

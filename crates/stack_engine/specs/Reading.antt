@@ -1,5 +1,6 @@
 -- Contracts of reads.
 use Rattle.std.specs.Prelude.{◌≡◌, ℕ, ◌-◌, ◌≤◌, List, Result, Ok, Err}
+use Rattle.std.specs.List.{slice_index_or}
 use Rattle.block_device.specs.Device.{Device}
 use Rattle.stack_loader.specs.declared.lower.Lower.{Lower}
 use Rattle.stack_loader.specs.Records.{Configuration}
@@ -7,6 +8,9 @@ use Rattle.stack_engine.specs.declared.fault.IoFault.{IoFault}
 use Rattle.stack_engine.specs.declared.fault.IoFault.TheVariants as io
 use Rattle.stack_engine.specs.Outcomes.{Fault, error_target, mismatch, Outcome}
 use Rattle.stack_engine.specs.Leaves.{images_of, AllSteady, AreRead, LeafFailed}
+use Rattle.stack_engine.specs.Sectors.{SomeOf}
+use Rattle.stack_engine.specs.Changes.{reached}
+use Rattle.stack_engine.specs.Meaning.{Said}
 use Rattle.stack_engine.specs.Found.{Grown}
 use Rattle.stack_engine.specs.Kept.{AllKept}
 use Rattle.stack_engine.specs.Places.{Place, place_of, Expected, run_expected, Read}
@@ -38,6 +42,16 @@ pub record Gets {A : Type 0} (wanted : Expected A) (old new : List Device) (resu
 abbrev pub buffer_answer : Result Unit IoFault → List ℕ → Result (List ℕ) IoFault
 buffer_answer (Ok x) bytes = Ok bytes
 buffer_answer (Err fault) bytes = Err fault
+
+-- the way of one of n sectors from the first on meets a verity line
+abbrev pub MeetVerity : (ℕ → Said) → ℕ → ℕ → Type 0
+MeetVerity said first n = SomeOf (λ s. (said s).meets mismatch) first n
+
+-- A read of n sectors, from the first on, takes memory where a verity line is on their way alone. Where none is, it
+-- keeps each leaf on which none of them lies as it was.
+pub record IsPlain (said : ℕ → Said) (first n : ℕ) (old new : List Device) (result : Result Unit IoFault) : Type 0 where
+  pub memory : result ≡ Err io.NoMemory → MeetVerity said first n
+  pub leaf : (MeetVerity said first n → ⊥) → (i : ℕ) (d : Device) → ((t : ℕ) → reached (λ s. (said s).reaches) first n (i, t) → ⊥) → slice_index_or new i d ≡ slice_index_or old i d
 
 -- A read of n sectors of a place, from the first on. Each may be its bytes with the chains that are there after it.
 pub record Finds (place : Place) (c : Configuration) (first n : ℕ) (did : Read) (answer : Result (List ℕ) IoFault) : Type 0 where

@@ -1,5 +1,5 @@
 -- What is said of a sector by what is said of the sectors beneath it.
-use Rattle.std.specs.Prelude.{ℕ, ◌+◌, ◌-◌, ◌<◌, List, Option, Some, None}
+use Rattle.std.specs.Prelude.{◌≡◌, ℕ, zero, suc, ◌+◌, ◌-◌, ◌*◌, ◌<◌, List, [], ◌++◌, length, Option, Some, None}
 use Rattle.dm_table.specs.declared.table.Line.{Line}
 use Rattle.dm_table.specs.declared.table.Target.{Target}
 use Rattle.stack_loader.specs.declared.lower.Lower.{Lower}
@@ -7,6 +7,7 @@ use Rattle.stack_loader.specs.declared.lower.Lower.TheVariants.{Leaf as leaf, De
 use Rattle.stack_loader.specs.Records.{Configuration}
 use Rattle.stack_loader.specs.Descend.{descend, by_name}
 use Rattle.stack_loader.specs.Lines.{line_at}
+use Rattle.stack_engine.specs.Outcomes.{part}
 
 -- what is said of sector s of a line, the l-th of device d, where at says it of the sectors of the
 -- devices that the line names
@@ -29,3 +30,13 @@ by_sector c none on_leaf on_line = descend (λ s. none) (sector_rule c none on_l
 -- some of the n sectors from the first on
 abbrev pub SomeOf : (ℕ → Type 0) → ℕ → ℕ → Type 0
 SomeOf P first n = (j : ℕ) × (j < n) × P (first + j)
+
+-- n sectors from the first on, each of which is so
+pub record IsRun (Is : ℕ → List ℕ → Type 0) (first n : ℕ) (bytes : List ℕ) : Type 0 where
+  pub len : length bytes ≡ 512 * n
+  pub sectors : (j : ℕ) → j < n → Is (first + j) (part bytes j)
+
+-- what n sectors from the first on have, one after another
+abbrev pub gathered : {X : Type 0} → (ℕ → List X) → ℕ → ℕ → List X
+gathered f first zero = []
+gathered f first (suc n) = f first ++ gathered f (suc first) n

@@ -1,5 +1,5 @@
 -- Pieces of a write: at most 128 sectors, which one call puts.
-use Rattle.std.specs.Prelude.{◌≡◌, ◌≤◌, ℕ, ◌*◌, ◌/◌, List, length, Result}
+use Rattle.std.specs.Prelude.{◌≡◌, ◌≤◌, ℕ, ◌+◌, ◌*◌, ◌/◌, List, [], ◌++◌, length, Result, Ok, Err}
 use Rattle.stack_loader.specs.Names.{mapped}
 use Rattle.stack_loader.specs.Records.{Configuration}
 use Rattle.stack_loader.specs.Descend.{write_cost}
@@ -43,3 +43,17 @@ pub record SteadyWrite (w : StackRecord) (d first : ℕ) (bytes : List ℕ) (res
 pub record EachWrite (w : StackRecord) (d first : ℕ) (bytes : List ℕ) (result : Result Unit IoFault) (w' : StackRecord) : Type 0 where
   pub any : AnyWrite w d first bytes result w'
   pub steady : AllSteady w.leaves → SteadyWrite w d first bytes result w'
+
+-- ---- several pieces
+
+-- Pieces of a write one after another, each from where the one before it ended, up to the last one or the first that
+-- ends by a fault; the bytes behind that one aren't written.
+pub data InTurn (d first : ℕ) (w : StackRecord) : List ℕ → Result Unit IoFault → StackRecord → Type 0 where
+  nothing : InTurn d first w [] (Ok tt) w
+  next : {x y : List ℕ} {w' w'' : StackRecord} → InTurn d first w x (Ok tt) w' → EachWrite w' d (first + length x / 512) y (Ok tt) w'' → InTurn d first w (x ++ y) (Ok tt) w''
+  ends : {x y : List ℕ} {w' w'' : StackRecord} {fault : IoFault} (z : List ℕ) → InTurn d first w x (Ok tt) w' → EachWrite w' d (first + length x / 512) y (Err fault) w'' → InTurn d first w (x ++ (y ++ z)) (Err fault) w''
+
+-- a write in pieces: what holds of it as a whole, and its pieces
+pub record WritesInPieces (w : StackRecord) (d first : ℕ) (bytes : List ℕ) (result : Result Unit IoFault) (w' : StackRecord) : Type 0 where
+  pub any : AnyWrite w d first bytes result w'
+  pub pieces : InTurn d first w bytes result w'

@@ -1,22 +1,23 @@
 -- Contracts of writes.
-use Rattle.std.specs.Prelude.{◌≡◌, ℕ, ◌+◌, ◌-◌, ◌*◌, ◌/◌, ◌%◌, ◌<◌, ◌≤◌, ◌⊎◌, IsTrue, List, [], ◌++◌, length, drop, Result, Ok, Err}
+use Rattle.std.specs.Prelude.{◌≡◌, ℕ, ◌+◌, ◌-◌, ◌*◌, ◌/◌, ◌%◌, ◌<◌, ◌≤◌, ◌⊎◌, IsTrue, List, [], ◌++◌, length, drop, slice_get, Option, Some, None, Result, Ok, Err}
 use Rattle.block_device.specs.Device.{Device, sectors_of}
+use Rattle.dm_table.specs.declared.table.Line.{Line}
 use Rattle.stack_loader.specs.declared.lower.Lower.{Lower}
 use Rattle.stack_loader.specs.Records.{Configuration}
-use Rattle.stack_loader.specs.Names.{may_write}
-use Rattle.stack_loader.specs.Descend.{write_cost}
+use Rattle.stack_loader.specs.Names.{mapped, lines_of, may_write}
+use Rattle.stack_loader.specs.Descend.{by_name, write_cost}
 use Rattle.stack_engine.specs.declared.fault.IoFault.{IoFault}
 use Rattle.stack_engine.specs.declared.fault.IoFault.TheVariants as io
+use Rattle.stack_engine.specs.declared.source.BlockPart.{BlockPart}
 use Rattle.stack_engine.specs.declared.source.Source.{Source}
-use Rattle.stack_engine.specs.declared.source.Source.TheVariants.{Below, Encrypted, Zeros, Fails, Block}
-use Rattle.stack_engine.specs.Units.{encrypted_unit, changed_from}
+use Rattle.stack_engine.specs.declared.source.Source.TheVariants.{Below, Units, UnitPart, Zeros, Fails, Block}
 use Rattle.stack_engine.specs.Sectors.{SomeOf}
 use Rattle.stack_engine.specs.Outcomes.{Fault, error_target, mismatch, Images}
 use Rattle.stack_engine.specs.Meaning.{Said, said_at}
-use Rattle.stack_engine.specs.Puts.{Put, done, stopped, Putting, put_on}
+use Rattle.stack_engine.specs.Puts.{Put, done, stopped, Putting, none_put, runs_from, put_runs, together, line_put, put_on}
 use Rattle.stack_engine.specs.Leaves.{images_of, AllSteady, LeafFailed}
 use Rattle.stack_engine.specs.Changes.{reached, AreWritten}
-use Rattle.stack_engine.specs.Sources.{line_key, source_said}
+use Rattle.stack_engine.specs.Sources.{source_said, cost_beneath}
 
 -- the bytes of whole sectors, at least one
 pub record AreSectors (bytes : List ℕ) : Type 0 where
@@ -79,10 +80,23 @@ pub record Writes (to : Destination) (first : ℕ) (sectors : List (List ℕ)) (
 
 -- ---- what the engine writes as one run
 
+-- what a put does by the names of a configuration
+abbrev pub put_by_name : Configuration → List ℕ → ℕ → Putting
+put_by_name c = by_name c (λ t. none_put) (put_on c)
+
+-- what a put of sectors from s of line l of device d on does, where the line was looked for
+abbrev pub put_on_line : Configuration → ℕ → ℕ → Option Line → ℕ → Putting
+put_on_line c d l None s sectors images = done images
+put_on_line c d l (Some line) s sectors images = put_runs (line_put c (put_by_name c) d l line.target) (runs_from (together line.target) s sectors) images
+
+abbrev pub part_put : Configuration → BlockPart → ℕ → Putting
+part_put c b j sectors images = put_on_line c b.device.0 b.line (slice_get (lines_of c b.device.0) b.line) (b.first + j) sectors images
+
 -- what a put of sectors from its j-th on does
 abbrev pub source_put : Configuration → Source → ℕ → Putting
 source_put c (Below lower first) j sectors images = put_on c lower (first + j) sectors images
-source_put c (Encrypted d l unit lower first) j sectors images = put_on c lower (first + j) (changed_from (encrypted_unit (line_key c d.0 l) unit) j sectors) images
+source_put c (Units b) j sectors images = part_put c b j sectors images
+source_put c (UnitPart b) j sectors images = part_put c b j sectors images
 source_put c Zeros j sectors images = done images
 source_put c Fails j sectors images = stopped error_target images
 source_put c (Block b) j sectors images = done images
@@ -90,7 +104,8 @@ source_put c (Block b) j sectors images = done images
 -- the leaf sectors that are written for one of its sectors at most
 abbrev pub source_write_cost : Configuration → Source → ℕ
 source_write_cost c (Below lower first) = write_cost c lower
-source_write_cost c (Encrypted d l unit lower first) = write_cost c lower
+source_write_cost c (Units b) = cost_beneath c (write_cost c) b
+source_write_cost c (UnitPart b) = write_cost c (mapped b.device.0)
 source_write_cost c Zeros = 0
 source_write_cost c Fails = 0
 source_write_cost c (Block b) = 0
@@ -98,7 +113,8 @@ source_write_cost c (Block b) = 0
 -- what it lies on may be written; a verity line's block never is
 abbrev pub SourceMayWrite : Configuration → Source → Type 0
 SourceMayWrite c (Below lower first) = IsTrue (may_write c lower)
-SourceMayWrite c (Encrypted d l unit lower first) = IsTrue (may_write c lower)
+SourceMayWrite c (Units b) = IsTrue (may_write c (mapped b.device.0))
+SourceMayWrite c (UnitPart b) = IsTrue (may_write c (mapped b.device.0))
 SourceMayWrite c Zeros = Unit {0}
 SourceMayWrite c Fails = Unit {0}
 SourceMayWrite c (Block b) = ⊥

@@ -33,7 +33,8 @@ fn run_encrypts(config: &Config, source: Source, count: u64) -> bool
 {
     match source {
         Source::Below { lower, first } => lower_encrypts(config, lower, first, count),
-        Source::Encrypted { .. } => true,
+        Source::Units(_) => true,
+        Source::UnitPart(_) => true,
         Source::Zeros | Source::Fails => false,
         Source::Block(_) => false,
     }

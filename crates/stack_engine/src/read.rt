@@ -6,8 +6,9 @@ ghost use Rattle.stack_engine.specs.Leaves.{ServeLeaves};
 ghost use Rattle.stack_engine.specs.Found.{FoundRecord};
 ghost use Rattle.stack_engine.specs.Kept.{AllKept};
 ghost use Rattle.stack_engine.specs.Places.{place_of, run_expected};
-ghost use Rattle.stack_engine.specs.Reading.{Gets, Reads, buffer_answer};
-ghost use Rattle.stack_engine.specs.Sources.{LieInBlock, SourceHolds, ReadsSource};
+ghost use Rattle.stack_engine.specs.Meaning.{said_at};
+ghost use Rattle.stack_engine.specs.Reading.{Gets, Reads, IsPlain, buffer_answer};
+ghost use Rattle.stack_engine.specs.Sources.{AreUnits, LieInBlock, LieInUnit, SourceHolds, ReadsSource, source_said};
 ghost use Rattle.stack_engine.specs.Walks.{IsTreeOf, block_in, checked_expected, data_expected, GetsChain};
 ghost use Rattle.stack_engine.specs.Caches.{IsCacheOf, KeepsCache, IsPlaceOf};
 
@@ -21,7 +22,7 @@ use crate::tree::{
     Extent, Tree, copy_part, data_extent, find, hash_extent, hash_key, is_ignored, tree_at,
     verity_at,
 };
-use crate::units::decrypt;
+use crate::units::{MOST, crypt_at, decrypt, take_sectors, unit_at, whole_unit};
 use block_device::BlockDev;
 use dm_table::Verity;
 use hash_tree::{Chain, Salt, digest, digest_in};
@@ -42,8 +43,9 @@ fn read_leaf<D: BlockDev>(
     requires some { 0 < length out.old }
     requires whole { length out.old % 512 ≡ 0 }
     requires inside { first + length out.old / 512 ≤ size config.now (Lower.Leaf leaf) }
-    ensures { (chains : List FoundRecord) → Gets (run_expected (place_of config.now (Lower.Leaf leaf)) chains first (length out.old / 512))
+    ensures got { (chains : List FoundRecord) → Gets (run_expected (place_of config.now (Lower.Leaf leaf)) chains first (length out.old / 512))
         (map D.state devices.old) (map D.state devices.new) (buffer_answer result out.new) }
+    ensures plain { IsPlain (said_at config.now (Lower.Leaf leaf)) first (length out.old / 512) (map D.state devices.old) (map D.state devices.new) result }
 {
     match devices[leaf as usize].read(first, out) {
         Ok(()) => Ok(()),
@@ -72,6 +74,7 @@ fn read_lower<D: BlockDev>(
         (record { old = map D.state reader.old.devices.items; new = map D.state reader.new.devices.items; before = found.old.items; after = found.new.items })
         (buffer_answer result out.new) }
     ensures cached { KeepsCache config.now (map D.state reader.new.devices.items) reader.old.cache reader.new.cache }
+    ensures plain { IsPlain (said_at config.now lower) first (length out.old / 512) (map D.state reader.old.devices.items) (map D.state reader.new.devices.items) result }
 {
     match lower {
         Lower::Leaf(leaf) => read_leaf(config, reader.devices.as_mut_slice(), leaf, first, out),
@@ -99,28 +102,86 @@ fn read_run<D: BlockDev>(
         (record { old = map D.state reader.old.devices.items; new = map D.state reader.new.devices.items; before = found.old.items; after = found.new.items })
         (buffer_answer result out.new) }
     ensures cached { KeepsCache config.now (map D.state reader.new.devices.items) reader.old.cache reader.new.cache }
+    ensures plain { IsPlain (source_said config.now source) 0 (length out.old / 512) (map D.state reader.old.devices.items) (map D.state reader.new.devices.items) result }
 {
     match source {
         Source::Below { lower, first } => read_lower(config, reader, lower, first, out, found),
-        Source::Encrypted {
-            d,
-            line,
-            unit,
-            lower,
-            first,
-        } => match read_lower(config, reader, lower, first, out, found) {
-            Ok(()) => {
-                decrypt(config, d, line, unit, out);
-                Ok(())
-            }
-            Err(fault) => Err(fault),
-        },
+        Source::Units(part) => read_units(config, reader, part, out, found),
+        Source::UnitPart(part) => read_unit_part(config, reader, part, out, found),
         Source::Zeros => {
             fill_zeros(out);
             Ok(())
         }
         Source::Fails => Err(IoFault::ErrorTarget),
         Source::Block(part) => read_block(config, reader, part, out, found),
+    }
+}
+
+/// Whole units of a crypt line, which are decrypted in place.
+#[cycle(read)]
+pub(crate) fn read_units<D: BlockDev>(
+    config: &Config,
+    reader: &mut Reader<D>,
+    part: BlockPart,
+    out: &mut [u8],
+    found: &mut Vec<Found>,
+) -> Result<(), IoFault>
+    requires loaded { IsLoaded config.now }
+    requires serve { ServeLeaves config.now.leaves (map D.state reader.old.devices.items) }
+    requires some { 0 < length out.old }
+    requires whole { length out.old % 512 ≡ 0 }
+    requires inside { AreUnits config.now part.device.0 part.line part.first (length out.old / 512) }
+    requires kept { AllKept config.now (map D.state reader.old.devices.items) found.old.items }
+    requires cache { IsCacheOf config.now (map D.state reader.old.devices.items) reader.old.cache }
+    ensures reads { ReadsSource config.now (Source.Units part) (length out.old / 512)
+        (record { old = map D.state reader.old.devices.items; new = map D.state reader.new.devices.items; before = found.old.items; after = found.new.items })
+        (buffer_answer result out.new) }
+    ensures cached { KeepsCache config.now (map D.state reader.new.devices.items) reader.old.cache reader.new.cache }
+    ensures plain { IsPlain (source_said config.now (Source.Units part)) 0 (length out.old / 512) (map D.state reader.old.devices.items) (map D.state reader.new.devices.items) result }
+{
+    let crypt = crypt_at(config, part.device, part.line);
+    let unit = unit_at(config, part, crypt);
+    match read_lower(config, reader, unit.lower, unit.first, out, found) {
+        Ok(()) => {
+            decrypt(config, part, crypt, unit.index, out);
+            Ok(())
+        }
+        Err(fault) => Err(fault),
+    }
+}
+
+/// Sectors of one unit of a crypt line, which is read whole.
+#[cycle(read)]
+fn read_unit_part<D: BlockDev>(
+    config: &Config,
+    reader: &mut Reader<D>,
+    part: BlockPart,
+    out: &mut [u8],
+    found: &mut Vec<Found>,
+) -> Result<(), IoFault>
+    requires loaded { IsLoaded config.now }
+    requires serve { ServeLeaves config.now.leaves (map D.state reader.old.devices.items) }
+    requires some { 0 < length out.old }
+    requires whole { length out.old % 512 ≡ 0 }
+    requires inside { LieInUnit config.now part.device.0 part.line part.first (length out.old / 512) }
+    requires kept { AllKept config.now (map D.state reader.old.devices.items) found.old.items }
+    requires cache { IsCacheOf config.now (map D.state reader.old.devices.items) reader.old.cache }
+    ensures reads { ReadsSource config.now (Source.UnitPart part) (length out.old / 512)
+        (record { old = map D.state reader.old.devices.items; new = map D.state reader.new.devices.items; before = found.old.items; after = found.new.items })
+        (buffer_answer result out.new) }
+    ensures cached { KeepsCache config.now (map D.state reader.new.devices.items) reader.old.cache reader.new.cache }
+    ensures plain { IsPlain (source_said config.now (Source.UnitPart part)) 0 (length out.old / 512) (map D.state reader.old.devices.items) (map D.state reader.new.devices.items) result }
+{
+    let whole = whole_unit(config, part);
+    let mut room = [0u8; MOST];
+    let all = room.as_mut_slice();
+    let unit = &mut all[..whole.sectors as usize * 512];
+    match read_units(config, reader, whole.from, unit, found) {
+        Ok(()) => {
+            take_sectors(unit, whole.within, out);
+            Ok(())
+        }
+        Err(fault) => Err(fault),
     }
 }
 
@@ -144,6 +205,7 @@ fn read_block<D: BlockDev>(
         (record { old = map D.state reader.old.devices.items; new = map D.state reader.new.devices.items; before = found.old.items; after = found.new.items })
         (buffer_answer result out.new) }
     ensures cached { KeepsCache config.now (map D.state reader.new.devices.items) reader.old.cache reader.new.cache }
+    ensures plain { IsPlain (source_said config.now (Source.Block part)) 0 (length out.old / 512) (map D.state reader.old.devices.items) (map D.state reader.new.devices.items) result }
 {
     let verity = verity_at(config, part.device, part.line);
     let sectors = u64::from(verity.data_block / 512);
@@ -352,6 +414,7 @@ pub(crate) fn read_device<D: BlockDev>(
         (record { old = map D.state reader.old.devices.items; new = map D.state reader.new.devices.items; before = found.old.items; after = found.new.items })
         (buffer_answer result out.new) }
     ensures cached { KeepsCache config.now (map D.state reader.new.devices.items) reader.old.cache reader.new.cache }
+    ensures plain { IsPlain (said_at config.now (mapped d.0)) first (length out.old / 512) (map D.state reader.old.devices.items) (map D.state reader.new.devices.items) result }
 {
     let mut at = 0;
     while at < out.len() {

@@ -1,13 +1,15 @@
 // The run of sectors at a place of a device.
-ghost use Rattle.std.specs.Prelude.{◌≡◌, ◌<◌, ◌≤◌, ◌+◌};
-ghost use Rattle.dm_table.specs.Grammar.{IsBaseOfGrammar, IsStripedOfGrammar, IsVerityOfGrammar};
+ghost use Rattle.std.specs.Prelude.{◌≡◌, ◌<◌, ◌≤◌, ◌+◌, ◌%◌};
+ghost use Rattle.dm_table.specs.Grammar.{IsBaseOfGrammar, IsStripedOfGrammar, IsTargetOfGrammar, IsVerityOfGrammar};
 ghost use Rattle.stack_loader.specs.Names.{mapped, size};
 ghost use Rattle.stack_loader.specs.Rules.{IsLoaded};
-ghost use Rattle.stack_engine.specs.Sources.{ComeFrom, HasTarget, IsServed};
+ghost use Rattle.stack_loader.specs.Units.{unit_sectors};
+ghost use Rattle.stack_engine.specs.Puts.{together, in_one_run};
+ghost use Rattle.stack_engine.specs.Sources.{ComeFrom, HasTarget, EndsRun, IsServed};
 
 use crate::source::{BlockPart, Run, Source};
-use dm_table::{Base, Crypt, Target, Verity};
-use stack_loader::{Config, DevId};
+use dm_table::{Base, Crypt, Line, Target, Verity};
+use stack_loader::{Config, DevId, unit_sectors};
 
 fn linear_run(config: &Config, d: DevId, line: u32, base: &Base, within: u64, count: u64) -> Run
     requires loaded { IsLoaded config.now }
@@ -23,25 +25,74 @@ fn linear_run(config: &Config, d: DevId, line: u32, base: &Base, within: u64, co
     }
 }
 
-fn crypt_run(config: &Config, d: DevId, line: u32, crypt: &Crypt, within: u64, count: u64) -> Run
-    requires loaded { IsLoaded config.now }
+/// The whole units from that sector on.
+fn units_run(config: &Config, d: DevId, line: u32, crypt: &Crypt, within: u64, count: u64) -> Run
     requires line { HasTarget config.now d.0 line (Target.Crypt crypt.now) (within + count) }
-    ensures come { ComeFrom config.now (d.0, line) (Target.Crypt crypt.now) within count result.source }
-    ensures count { result.count ≡ count }
+    requires aligned { within % unit_sectors crypt.now ≡ 0 }
+    requires enough { unit_sectors crypt.now ≤ count }
+    ensures come { ComeFrom config.now (d.0, line) (Target.Crypt crypt.now) within result.count result.source }
+    ensures some { 0 < result.count }
+    ensures most { result.count ≤ count }
+    ensures longest { EndsRun (together (Target.Crypt crypt.now)) within count result.count }
 {
-    let lower = config.lower(d, line, 0);
-    let unit = crypt.iv_offset.wrapping_add(within);
-    let first = crypt.base.offset + within;
+    let _config = config;
+    let few = unit_sectors(crypt);
+    let sectors = u64::from(few);
+    let count = count - count % sectors;
+    let from = BlockPart {
+        device: d,
+        line,
+        first: within,
+    };
     Run {
-        source: Source::Encrypted {
-            d,
-            line,
-            unit,
-            lower,
-            first,
-        },
+        source: Source::Units(from),
         count,
     }
+}
+
+/// The sectors that lie in one unit and aren't all of it.
+fn unit_run(config: &Config, d: DevId, line: u32, crypt: &Crypt, within: u64, count: u64) -> Run
+    requires line { HasTarget config.now d.0 line (Target.Crypt crypt.now) (within + count) }
+    requires some { 0 < count }
+    requires part { within % unit_sectors crypt.now ≡ 0 → count < unit_sectors crypt.now }
+    ensures come { ComeFrom config.now (d.0, line) (Target.Crypt crypt.now) within result.count result.source }
+    ensures some { 0 < result.count }
+    ensures most { result.count ≤ count }
+    ensures longest { EndsRun (together (Target.Crypt crypt.now)) within count result.count }
+{
+    let _config = config;
+    let few = unit_sectors(crypt);
+    let sectors = u64::from(few);
+    let count = count.min(sectors - within % sectors);
+    let from = BlockPart {
+        device: d,
+        line,
+        first: within,
+    };
+    Run {
+        source: Source::UnitPart(from),
+        count,
+    }
+}
+
+/// Whole units, or sectors of one unit.
+fn crypt_run(config: &Config, d: DevId, line: u32, crypt: &Crypt, within: u64, count: u64) -> Run
+    requires line { HasTarget config.now d.0 line (Target.Crypt crypt.now) (within + count) }
+    requires some { 0 < count }
+    ensures come { ComeFrom config.now (d.0, line) (Target.Crypt crypt.now) within result.count result.source }
+    ensures some { 0 < result.count }
+    ensures most { result.count ≤ count }
+    ensures longest { EndsRun (together (Target.Crypt crypt.now)) within count result.count }
+{
+    let few = unit_sectors(crypt);
+    let sectors = u64::from(few);
+    if within % sectors != 0 {
+        return unit_run(config, d, line, crypt, within, count);
+    }
+    if count < sectors {
+        return unit_run(config, d, line, crypt, within, count);
+    }
+    units_run(config, d, line, crypt, within, count)
 }
 
 /// The sectors that lie in one chunk.
@@ -61,6 +112,7 @@ fn striped_run(
     ensures come { ComeFrom config.now (d.0, line) (Target.Striped chunk bases.now) within result.count result.source }
     ensures some { 0 < result.count }
     ensures most { result.count ≤ count }
+    ensures longest { EndsRun (together (Target.Striped chunk bases.now)) within count result.count }
 {
     let number = within / chunk;
     let part = within % chunk;
@@ -85,6 +137,7 @@ fn verity_run(config: &Config, d: DevId, line: u32, verity: &Verity, within: u64
     ensures come { ComeFrom config.now (d.0, line) (Target.Verity verity.now) within result.count result.source }
     ensures some { 0 < result.count }
     ensures most { result.count ≤ count }
+    ensures longest { EndsRun (together (Target.Verity verity.now)) within count result.count }
 {
     let sectors = u64::from(verity.data_block / 512);
     let count = count.min(sectors - within % sectors);
@@ -99,20 +152,17 @@ fn verity_run(config: &Config, d: DevId, line: u32, verity: &Verity, within: u64
     }
 }
 
-/// The longest run from that sector on, of at most so many sectors.
-pub(crate) fn run_at(config: &Config, d: DevId, sector: u64, most: u64) -> Run
+/// The longest run of so many sectors of a line at most.
+fn line_run(config: &Config, d: DevId, number: u32, line: &Line, within: u64, count: u64) -> Run
     requires loaded { IsLoaded config.now }
-    requires some { 0 < most }
-    requires inside { sector + most ≤ size config.now (mapped d.0) }
-    ensures served { IsServed config.now d.0 sector result.count result.source }
+    requires grammar { IsTargetOfGrammar line.now.target }
+    requires line { HasTarget config.now d.0 number line.now.target (within + count) }
+    requires some { 0 < count }
+    ensures come { ComeFrom config.now (d.0, number) line.now.target within result.count result.source }
     ensures some { 0 < result.count }
-    ensures most { result.count ≤ most }
+    ensures most { result.count ≤ count }
+    ensures longest { EndsRun (together line.now.target) within count result.count }
 {
-    let (number, left) = config.line_at(d, sector);
-    let lines = config.table(d).lines();
-    let line = &lines[number as usize];
-    let within = sector - line.start;
-    let count = left.min(most);
     match &line.target {
         Target::Linear(base) => linear_run(config, d, number, base, within, count),
         Target::Striped { chunk, bases } => {
@@ -129,4 +179,23 @@ pub(crate) fn run_at(config: &Config, d: DevId, sector: u64, most: u64) -> Run
         },
         Target::Verity(verity) => verity_run(config, d, number, verity, within, count),
     }
+}
+
+/// The longest run from that sector on, of at most so many sectors.
+pub(crate) fn run_at(config: &Config, d: DevId, sector: u64, most: u64) -> Run
+    requires loaded { IsLoaded config.now }
+    requires some { 0 < most }
+    requires inside { sector + most ≤ size config.now (mapped d.0) }
+    ensures served { IsServed config.now d.0 sector result.count result.source }
+    ensures some { 0 < result.count }
+    ensures most { result.count ≤ most }
+    ensures longest { EndsRun (in_one_run config.now d.0) sector most result.count }
+{
+    let place = config.line_at(d, sector);
+    let number = place.0;
+    let lines = config.table(d).lines();
+    let line = &lines[number as usize];
+    let within = sector - line.start;
+    let count = most.min(place.1);
+    line_run(config, d, number, line, within, count)
 }

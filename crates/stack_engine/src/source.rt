@@ -5,18 +5,11 @@ use stack_loader::{DevId, Lower};
 #[derive(Clone, Copy)]
 pub(crate) enum Source {
     /// The sectors of a leaf or device, from that one on.
-    Below {
-        lower: Lower,
-        first: u64,
-    },
-    /// The same, encrypted there under the key of line `line` of device `d`: units, numbered from `unit` on.
-    Encrypted {
-        d: DevId,
-        line: u32,
-        unit: u64,
-        lower: Lower,
-        first: u64,
-    },
+    Below { lower: Lower, first: u64 },
+    /// Whole units of a `crypt` line.
+    Units(BlockPart),
+    /// Sectors of one unit of a `crypt` line.
+    UnitPart(BlockPart),
     /// Zeros; what is written is dropped.
     Zeros,
     /// No sectors: an `error` line, where writes fail too.
@@ -25,8 +18,8 @@ pub(crate) enum Source {
     Block(BlockPart),
 }
 
-/// The sectors of a line from that one on, in the data block that has it. Lines of a device and sectors of a
-/// line count from 0.
+/// The sectors of a line from that one on, in the data block or the units that have them. Lines of a device and
+/// sectors of a line count from 0.
 #[derive(Clone, Copy)]
 pub(crate) struct BlockPart {
     pub(crate) device: DevId,

@@ -1,27 +1,188 @@
-// Sectors of `crypt` lines as units of XTS, each of one sector.
-ghost use Rattle.std.specs.Prelude.{◌≡◌, ◌%◌, length};
-ghost use Rattle.xts_sector.specs.Units.{encrypted_units, decrypted_units};
-ghost use Rattle.stack_engine.specs.Sources.{HasKey, line_key};
+// The units of `crypt` lines.
+ghost use Rattle.std.specs.Prelude.{◌≡◌, ◌<◌, ◌≤◌, ◌+◌, ◌*◌, ◌%◌, ◌^◌, ◌++◌, length, take, drop};
+ghost use Rattle.stack_loader.specs.Rules.{IsLoaded};
+ghost use Rattle.dm_table.specs.Crypt.{sector_size};
+ghost use Rattle.stack_loader.specs.Units.{unit_sectors};
+ghost use Rattle.stack_engine.specs.Units.{unit_number, encrypted_units, decrypted_units};
+ghost use Rattle.stack_engine.specs.Sources.{HasTarget, HasCrypt, IsOnCrypt, IsUnitAt, IsWholeOf};
 
-use stack_loader::{Config, DevId};
+use crate::source::BlockPart;
+use dm_table::{Crypt, Target};
+use stack_loader::{Config, DevId, Lower, unit_sectors};
+use xts_sector::XtsKey;
 
-/// The bytes of a unit.
-const UNIT: usize = 512;
+/// The most bytes of a unit.
+pub(crate) const MOST: usize = 4096;
 
-/// Decrypts units in place under the key of that line, numbered from `first` on.
-pub(crate) fn decrypt(config: &Config, d: DevId, line: u32, first: u64, units: &mut [u8])
-    requires key { HasKey config.now d.0 line }
-    requires whole { length units.old % 512 ≡ 0 }
-    ensures { units.new ≡ decrypted_units (line_key config.now d.0 line) first 512 units.old }
-{
-    config.key(d, line).decrypt_units(first, UNIT, units);
+/// Where units lie: on a lower device from its sector `first` on. The first of them is unit `index` of its line.
+#[derive(Clone, Copy)]
+pub(crate) struct UnitAt {
+    pub(crate) lower: Lower,
+    pub(crate) first: u64,
+    pub(crate) index: u64,
 }
 
-/// Encrypts units in place under the key of that line, numbered from `first` on.
-pub(crate) fn encrypt(config: &Config, d: DevId, line: u32, first: u64, units: &mut [u8])
-    requires key { HasKey config.now d.0 line }
-    requires whole { length units.old % 512 ≡ 0 }
-    ensures { units.new ≡ encrypted_units (line_key config.now d.0 line) first 512 units.old }
+/// A whole unit of so many sectors, from the begin of the part on, and a sector in it.
+#[derive(Clone, Copy)]
+pub(crate) struct WholeUnit {
+    pub(crate) from: BlockPart,
+    pub(crate) sectors: u32,
+    pub(crate) within: u32,
+}
+
+/// The arguments of a crypt line.
+pub(crate) fn crypt_at(config: &Config, d: DevId, line: u32) -> &Crypt
+    requires loaded { IsLoaded config.now }
+    requires line { IsOnCrypt config.now d.0 line }
+    ensures { HasCrypt config.now d.0 line result.now }
 {
-    config.key(d, line).encrypt_units(first, UNIT, units);
+    let lines = config.table(d).lines();
+    match &lines[line as usize].target {
+        Target::Crypt(crypt) => crypt,
+        Target::Linear(_)
+        | Target::Striped { .. }
+        | Target::Zero
+        | Target::Error
+        | Target::Verity(_) => { unreachable!() }
+    }
+}
+
+/// Where the unit lies that has the first sector of a part.
+pub(crate) fn unit_at(config: &Config, part: BlockPart, crypt: &Crypt) -> UnitAt
+    requires loaded { IsLoaded config.now }
+    requires line { HasTarget config.now part.device.0 part.line (Target.Crypt crypt.now) (part.first + 1) }
+    ensures { IsUnitAt config.now crypt.now part.first result }
+{
+    let lower = config.lower(part.device, part.line, 0);
+    let few = unit_sectors(crypt);
+    let sectors = u64::from(few);
+    let index = part.first / sectors;
+    let first = crypt.base.offset + index * sectors;
+    UnitAt {
+        lower,
+        first,
+        index,
+    }
+}
+
+/// The unit that has the first sector of a part.
+pub(crate) fn whole_unit(config: &Config, part: BlockPart) -> WholeUnit
+    requires loaded { IsLoaded config.now }
+    requires line { IsOnCrypt config.now part.device.0 part.line }
+    ensures whole { IsWholeOf config.now part result }
+    ensures some { 1 ≤ result.sectors }
+    ensures few { result.sectors ≤ 8 }
+    ensures within { result.within < result.sectors }
+{
+    let crypt = crypt_at(config, part.device, part.line);
+    let sectors = unit_sectors(crypt);
+    let wide = u64::from(sectors);
+    let within = part.first % wide;
+    let from = BlockPart {
+        device: part.device,
+        line: part.line,
+        first: part.first - within,
+    };
+    WholeUnit {
+        from,
+        sectors,
+        within: within as u32,
+    }
+}
+
+/// The number of the first sector of unit `k`, modulo 2^64.
+fn sector_number(crypt: &Crypt, k: u64) -> u64
+    ensures { result ≡ (k * unit_sectors crypt.now + crypt.now.iv_offset) % 2 ^ 64 }
+{
+    let few = unit_sectors(crypt);
+    let sectors = u64::from(few);
+    k.wrapping_mul(sectors).wrapping_add(crypt.iv_offset)
+}
+
+/// The number of unit `k`, as the cipher takes it.
+fn unit_number(crypt: &Crypt, k: u64) -> u64
+    ensures { result ≡ unit_number crypt.now k }
+{
+    let sector = sector_number(crypt, k);
+    let few = unit_sectors(crypt);
+    let sectors = u64::from(few);
+    if crypt.iv_large_sectors() {
+        sector / sectors
+    } else {
+        sector
+    }
+}
+
+/// Decrypts units of that many bytes in place, from unit `k` on.
+fn decrypt_each(key: &XtsKey, crypt: &Crypt, k: u64, size: usize, units: &mut [u8])
+    requires size { (size ≡ sector_size crypt.now) × (0 < size) × (size % 16 ≡ 0) }
+    requires key { key.now ≡ crypt.now.key }
+    requires whole { length units.old % size ≡ 0 }
+    requires fits { k + length units.old < 2 ^ 64 }
+    ensures { units.new ≡ decrypted_units crypt.now k units.old }
+{
+    for i in 0..units.len() / size {
+        let number = unit_number(crypt, k + i as u64);
+        key.decrypt(number, &mut units[size * i..size * i + size]);
+    }
+}
+
+/// Encrypts units of that many bytes in place, from unit `k` on.
+fn encrypt_each(key: &XtsKey, crypt: &Crypt, k: u64, size: usize, units: &mut [u8])
+    requires size { (size ≡ sector_size crypt.now) × (0 < size) × (size % 16 ≡ 0) }
+    requires key { key.now ≡ crypt.now.key }
+    requires whole { length units.old % size ≡ 0 }
+    requires fits { k + length units.old < 2 ^ 64 }
+    ensures { units.new ≡ encrypted_units crypt.now k units.old }
+{
+    for i in 0..units.len() / size {
+        let number = unit_number(crypt, k + i as u64);
+        key.encrypt(number, &mut units[size * i..size * i + size]);
+    }
+}
+
+/// Decrypts units of that line in place, from unit `k` on.
+pub(crate) fn decrypt(config: &Config, part: BlockPart, crypt: &Crypt, k: u64, units: &mut [u8])
+    requires loaded { IsLoaded config.now }
+    requires line { HasCrypt config.now part.device.0 part.line crypt.now }
+    requires whole { length units.old % sector_size crypt.now ≡ 0 }
+    requires fits { k + length units.old < 2 ^ 64 }
+    ensures { units.new ≡ decrypted_units crypt.now k units.old }
+{
+    let key = config.key(part.device, part.line);
+    let sectors = unit_sectors(crypt);
+    let size = sectors as usize * 512;
+    decrypt_each(key, crypt, k, size, units);
+}
+
+/// Encrypts units of that line in place, from unit `k` on.
+pub(crate) fn encrypt(config: &Config, part: BlockPart, crypt: &Crypt, k: u64, units: &mut [u8])
+    requires loaded { IsLoaded config.now }
+    requires line { HasCrypt config.now part.device.0 part.line crypt.now }
+    requires whole { length units.old % sector_size crypt.now ≡ 0 }
+    requires fits { k + length units.old < 2 ^ 64 }
+    ensures { units.new ≡ encrypted_units crypt.now k units.old }
+{
+    let key = config.key(part.device, part.line);
+    let sectors = unit_sectors(crypt);
+    let size = sectors as usize * 512;
+    encrypt_each(key, crypt, k, size, units);
+}
+
+/// The sectors of a unit from that one on.
+pub(crate) fn take_sectors(unit: &[u8], within: u32, out: &mut [u8])
+    requires { 512 * within + length out.old ≤ length unit.now }
+    ensures { out.new ≡ take (length out.old) (drop (512 * within) unit.now) }
+{
+    let from = within as usize * 512;
+    out.copy_from_slice(&unit[from..from + out.len()]);
+}
+
+/// Sectors in the place of those of a unit, from that one on.
+pub(crate) fn put_sectors(unit: &mut [u8], within: u32, bytes: &[u8])
+    requires { 512 * within + length bytes.now ≤ length unit.old }
+    ensures { unit.new ≡ take (512 * within) unit.old ++ bytes.now ++ drop (512 * within + length bytes.now) unit.old }
+{
+    let from = within as usize * 512;
+    unit[from..from + bytes.len()].copy_from_slice(bytes);
 }

@@ -4,17 +4,18 @@ ghost use Rattle.stack_loader.specs.Names.{mapped, size, may_write};
 ghost use Rattle.stack_loader.specs.Rules.{IsLoaded};
 ghost use Rattle.stack_engine.specs.Leaves.{ServeLeaves};
 ghost use Rattle.stack_engine.specs.Meaning.{said_at};
-ghost use Rattle.stack_engine.specs.Sources.{SourceHolds, source_said};
+ghost use Rattle.stack_engine.specs.Sources.{AreUnits, LieInUnit, SourceHolds, source_said};
 ghost use Rattle.stack_engine.specs.Writing.{AreSectors, AreHeld, sectors_in, destination_of, Writes, SourceMayWrite, source_destination};
 ghost use Rattle.stack_engine.specs.Caches.{IsCacheOf, KeepsCache};
 
 use crate::fault::IoFault;
+use crate::read::read_units;
 use crate::reader::Reader;
 use crate::serve::run_at;
-use crate::source::Source;
-use crate::units::encrypt;
+use crate::source::{BlockPart, Source};
+use crate::units::{MOST, crypt_at, encrypt, put_sectors, unit_at, whole_unit};
 use block_device::BlockDev;
-use stack_loader::{Config, DevId, Lower};
+use stack_loader::{Config, DevId, Lower, unit_sectors};
 
 /// The sectors of a leaf, by one call of its device.
 fn write_sectors<D: BlockDev>(
@@ -127,20 +128,86 @@ fn write_run<D: BlockDev>(
 {
     match source {
         Source::Below { lower, first } => write_lower(config, reader, lower, first, plain, buffer),
-        Source::Encrypted {
-            d,
-            line,
-            unit,
-            lower,
-            first,
-        } => {
-            encrypt(config, d, line, unit, buffer);
-            write_lower(config, reader, lower, first, plain, buffer)
-        }
+        Source::Units(part) => write_units(config, reader, part, buffer),
+        Source::UnitPart(part) => write_unit_part(config, reader, part, buffer),
         Source::Zeros => Ok(()),
         Source::Fails => Err(IoFault::ErrorTarget),
         Source::Block(_) => unreachable!(),
     }
+}
+
+/// Whole units of a crypt line, which are encrypted in place. Each is written by itself, but for those on a leaf, where
+/// that makes no difference.
+#[cycle(write)]
+fn write_units<D: BlockDev>(
+    config: &Config,
+    reader: &mut Reader<D>,
+    part: BlockPart,
+    units: &mut [u8],
+) -> Result<(), IoFault>
+    requires loaded { IsLoaded config.now }
+    requires serve { ServeLeaves config.now.leaves (map D.state reader.old.devices.items) }
+    requires allowed { IsTrue (may_write config.now (mapped part.device.0)) }
+    requires sectors { AreSectors units.old }
+    requires inside { AreUnits config.now part.device.0 part.line part.first (length units.old / 512) }
+    requires cache { IsCacheOf config.now (map D.state reader.old.devices.items) reader.old.cache }
+    ensures writes { Writes (source_destination config.now (Source.Units part)) 0 (sectors_in units.old)
+        (map D.state reader.old.devices.items) (map D.state reader.new.devices.items) result }
+    ensures cached { KeepsCache config.now (map D.state reader.new.devices.items) reader.old.cache reader.new.cache }
+{
+    let crypt = crypt_at(config, part.device, part.line);
+    let unit = unit_at(config, part, crypt);
+    let sectors = unit_sectors(crypt);
+    let size = sectors as usize * 512;
+    encrypt(config, part, crypt, unit.index, units);
+    match unit.lower {
+        Lower::Leaf(leaf) => write_leaf(config, reader, leaf, unit.first, units),
+        Lower::Device(d) => {
+            let none: &[u8] = &[];
+            let len = units.len();
+            let mut at = 0;
+            while at < len {
+                let first = unit.first + at as u64 / 512;
+                let end = len.min(at + size);
+                match write_device(config, reader, d, first, none, &mut units[at..end]) {
+                    Ok(()) => at = end,
+                    Err(fault) => return Err(fault),
+                }
+            }
+            Ok(())
+        }
+    }
+}
+
+/// Sectors of one unit of a crypt line, which is read, changed and written whole.
+#[cycle(write)]
+fn write_unit_part<D: BlockDev>(
+    config: &Config,
+    reader: &mut Reader<D>,
+    part: BlockPart,
+    bytes: &[u8],
+) -> Result<(), IoFault>
+    requires loaded { IsLoaded config.now }
+    requires serve { ServeLeaves config.now.leaves (map D.state reader.old.devices.items) }
+    requires allowed { IsTrue (may_write config.now (mapped part.device.0)) }
+    requires sectors { AreSectors bytes.now }
+    requires inside { LieInUnit config.now part.device.0 part.line part.first (length bytes.now / 512) }
+    requires cache { IsCacheOf config.now (map D.state reader.old.devices.items) reader.old.cache }
+    ensures writes { Writes (source_destination config.now (Source.UnitPart part)) 0 (sectors_in bytes.now)
+        (map D.state reader.old.devices.items) (map D.state reader.new.devices.items) result }
+    ensures cached { KeepsCache config.now (map D.state reader.new.devices.items) reader.old.cache reader.new.cache }
+{
+    let whole = whole_unit(config, part);
+    let mut room = [0u8; MOST];
+    let all = room.as_mut_slice();
+    let unit = &mut all[..whole.sectors as usize * 512];
+    let mut found = Vec::new(reader.alloc);
+    match read_units(config, reader, whole.from, unit, &mut found) {
+        Ok(()) => {}
+        Err(fault) => return Err(fault),
+    }
+    put_sectors(unit, whole.within, bytes);
+    write_units(config, reader, whole.from, unit)
 }
 
 /// The sectors of a mapped device, run by run.

@@ -60,7 +60,7 @@ abbrev pub IsInside : Configuration → Lower → Type 0
 IsInside c (leaf i) = Unit {0}
 IsInside c (device d) = d.0 < length c.devices
 
-named-inside : (c : Configuration) (name : List ℕ) (y : Lower) → named c name ≡ Some y → IsInside c y
+pub named-inside : (c : Configuration) (name : List ℕ) (y : Lower) → named c name ≡ Some y → IsInside c y
 named-inside c name y is = go (position (λ l. bytes_eq l.name name) c.leaves) (position (λ d. bytes_eq (path_of d.name) name) c.devices) refl is
   where
     go : (a b : Option ℕ) → position (λ d. bytes_eq (path_of d.name) name) c.devices ≡ b → option_or (option_map leaf a) (option_map mapped b) ≡ Some y → IsInside c y

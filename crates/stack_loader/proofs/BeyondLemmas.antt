@@ -1,5 +1,5 @@
 -- The rules on what a line names.
-use Rattle.std.proofs.Common.{◌≡◌, ◌+◌, ◌≤◌, ◌<◌, ℕ, List, [], ◌∷◌, refl, sym, ap, ◌∙◌, Bool, true, false, not, ◌||◌, ◌&&◌, ◌==◌, Some, length, take, get_or, map, nat_lt, arith}
+use Rattle.std.proofs.Common.{◌≡◌, ◌+◌, ◌≤◌, ◌<◌, ℕ, List, [], ◌∷◌, refl, sym, ap, ◌∙◌, Bool, true, false, not, ◌||◌, ◌&&◌, ◌==◌, Some, Option, None, length, take, get_or, map, nat_lt, arith}
 use Rattle.std.specs.List.{list_any}
 use Rattle.std.specs.Option.{option_map_or}
 use Rattle.std.proofs.lemmas.List.{get_or_default, get_or-map, length-map, take_all}
@@ -7,12 +7,13 @@ use Rattle.std.proofs.lemmas.List.Folds.{list_any_at, list_any_more}
 use Rattle.std.proofs.lemmas.Bool.Decides.{nat_tests}
 use Rattle.dm_table.specs.declared.table.Base.{Base}
 use Rattle.dm_table.specs.declared.table.Line.{Line}
-use Rattle.stack_loader.specs.declared.refusal.LoadKind.TheVariants.{NeedsReadOnly, LowerReadOnly}
+use Rattle.stack_loader.specs.declared.refusal.Refusal.{Refusal}
+use Rattle.stack_loader.specs.declared.refusal.LoadKind.TheVariants.{BeyondDevice, LineBeyondTree, TreeBeyondDevice, NeedsReadOnly, LowerReadOnly, StripesDontDivide, UnitDoesntDivide, IvOffset}
 use Rattle.stack_loader.specs.declared.lower.Lower.{Lower}
 use Rattle.stack_loader.specs.Records.{Configuration}
 use Rattle.stack_loader.specs.Names.{named, names, size, may_write}
 use Rattle.stack_loader.specs.Passing.{Mean}
-use Rattle.stack_loader.specs.Rules.{first, refuse, line_rules, most_sectors, is_undivided, is_beyond, is_uncovered, is_tree_beyond, needs_read_only, ends_past, ends_beyond}
+use Rattle.stack_loader.specs.Rules.{first, refuse, line_rules, most_sectors, is_undivided, cuts_unit, is_off_unit, is_beyond, is_uncovered, is_tree_beyond, needs_read_only, names_read_only, ends_past, ends_beyond}
 use Rattle.stack_loader.proofs.MeaningLemmas.{device_of, mean-at, length-mean}
 
 -- the facts of one base
@@ -73,6 +74,23 @@ read_only-lowers c (l ∷ ls) (n ∷ ns) means =
     let more : map (λ (lower : Lower). Some lower) ls ≡ map (named c) ns = cc in
     rw (← here) (ap (λ b. not (may_write c l) || b) (read_only-lowers c ls ns more))
 
+-- ---- the rules on stripes and units
+
+-- what none of them refuses
+pub parts-none : (d l : ℕ) (divided cut off : Bool) → None ≡ first (refuse StripesDontDivide d l divided ∷ refuse UnitDoesntDivide d l cut ∷ refuse IvOffset d l off ∷ []) → (divided ≡ false) × ((cut ≡ false) × (off ≡ false))
+parts-none d l true cut off h = let refused : Refusal = record { kind = StripesDontDivide; device = d; line = l } in let clash : None ≡ Some refused = h in cc
+parts-none d l false true off h = let refused : Refusal = record { kind = UnitDoesntDivide; device = d; line = l } in let clash : None ≡ Some refused = h in cc
+parts-none d l false false true h = let refused : Refusal = record { kind = IvOffset; device = d; line = l } in let clash : None ≡ Some refused = h in cc
+parts-none d l false false false h = (refl, (refl, refl))
+
+-- what one of them refuses, whatever rules follow
+parts-some : (d l : ℕ) (divided cut off : Bool) (more : List (Option Refusal)) (r : Refusal) → Some r ≡ first (refuse StripesDontDivide d l divided ∷ refuse UnitDoesntDivide d l cut ∷ refuse IvOffset d l off ∷ [])
+    → Some r ≡ first (refuse StripesDontDivide d l divided ∷ refuse UnitDoesntDivide d l cut ∷ refuse IvOffset d l off ∷ more)
+parts-some d l true cut off more r h = h
+parts-some d l false true off more r h = h
+parts-some d l false false true more r h = h
+parts-some d l false false false more r h = let clash : Some r ≡ None = h in cc
+
 -- ---- the last rules on a line
 
 at-zero : (n : ℕ) → (n ≡ 0 → ⊥) → (n == 0) ≡ false
@@ -87,6 +105,8 @@ pub record IsPassedLine (c : Configuration) (before : ℕ) (line : Line) : Type 
   pub start : line.start ≡ before
   pub low : line.start + line.length ≤ most_sectors
   pub divides : is_undivided line.length line.target ≡ false
+  pub units : cuts_unit line.length line.target ≡ false
+  pub offset : is_off_unit line.target ≡ false
   pub inside : is_beyond c line.length line.target ≡ false
   pub covered : is_uncovered line.length line.target ≡ false
   pub tree : is_tree_beyond c line.target ≡ false
@@ -95,5 +115,15 @@ pub line-last : (c : Configuration) (writable : Bool) (d l before : ℕ) (line :
     → first (line_rules c writable d l before line)
     ≡ first (refuse NeedsReadOnly d l (writable && needs_read_only line.target) ∷ refuse LowerReadOnly d l (writable && list_any (λ lower. not (may_write c lower)) lowers) ∷ [])
 line-last c writable d l before line lowers p means =
-    rw (at-zero line.length p.some, at-same line.start before p.start, lt-false most_sectors (line.start + line.length) p.low, p.divides, p.inside, p.covered, p.tree)
+    rw (at-zero line.length p.some, at-same line.start before p.start, lt-false most_sectors (line.start + line.length) p.low, p.divides, p.units, p.offset, p.inside, p.covered, p.tree)
     (ap (λ b. first (refuse NeedsReadOnly d l (writable && needs_read_only line.target) ∷ refuse LowerReadOnly d l (writable && b) ∷ [])) (read_only-lowers c lowers (names line.target) means))
+
+-- a line that none of the first three rules refuses, and one of those on stripes and units does
+pub line-parts : (c : Configuration) (writable : Bool) (d l before : ℕ) (line : Line) (r : Refusal) → (line.length ≡ 0 → ⊥) → line.start ≡ before → line.start + line.length ≤ most_sectors
+    → Some r ≡ first (refuse StripesDontDivide d l (is_undivided line.length line.target) ∷ refuse UnitDoesntDivide d l (cuts_unit line.length line.target) ∷ refuse IvOffset d l (is_off_unit line.target) ∷ [])
+    → Some r ≡ first (line_rules c writable d l before line)
+line-parts c writable d l before line r some start low h =
+    rw (at-zero line.length some, at-same line.start before start, lt-false most_sectors (line.start + line.length) low)
+    (parts-some d l (is_undivided line.length line.target) (cuts_unit line.length line.target) (is_off_unit line.target)
+    (refuse BeyondDevice d l (is_beyond c line.length line.target) ∷ refuse LineBeyondTree d l (is_uncovered line.length line.target) ∷ refuse TreeBeyondDevice d l (is_tree_beyond c line.target)
+    ∷ refuse NeedsReadOnly d l (writable && needs_read_only line.target) ∷ refuse LowerReadOnly d l (writable && names_read_only c line.target) ∷ []) r h)

@@ -17,7 +17,7 @@ use Rattle.stack_loader.specs.declared.lower.Lower.{Lower}
 use Rattle.stack_loader.specs.declared.refusal.RemoveFault.TheVariants.{NoSuchDevice, InUse}
 use Rattle.stack_loader.specs.Records.{Configuration, DeviceRecord}
 use Rattle.stack_loader.specs.Names.{mapped, named, names, device_named}
-use Rattle.stack_loader.specs.Descend.{depth, read_cost, write_cost, line_read_cost, line_write_cost}
+use Rattle.stack_loader.specs.Descend.{depth, read_cost, write_cost}
 use Rattle.stack_loader.specs.Cycles.{is_mapped, names_device}
 use Rattle.stack_loader.specs.Facts.{AreFacts, IsKept, AreWithout}
 use Rattle.stack_loader.specs.Kept.{AreLowers, meanings, each_mapped, keys_from, zero_digests_of}
@@ -27,10 +27,9 @@ use Rattle.stack_loader.proofs.KeptLemmas.{length-each_mapped, length-lowers, li
 use Rattle.stack_loader.proofs.BeneathLemmas.{names_device-rows}
 use Rattle.stack_loader.proofs.RemoveLemmas.{map-remove, all-remove, filter-remove, place_before, place_before-same, place_before-later, place_before-earlier}
 use Rattle.stack_loader.proofs.RemovalRuleLemmas.{valid-after}
-use Rattle.stack_loader.proofs.lemmas.CostRuleLemmas.{line_read_cost-local, line_write_cost-local}
 use Rattle.stack_loader.proofs.lemmas.CycleLemmas.{acyclic, names_device-inside}
 use Rattle.stack_loader.proofs.lemmas.RangeLemmas.{list_any-map}
-use Rattle.stack_loader.proofs.lemmas.RemovalLemmas.{without, IsUnused, Avoids, unused-lines, named-after, depth-after, cost-after}
+use Rattle.stack_loader.proofs.lemmas.RemovalLemmas.{without, IsUnused, Avoids, unused-lines, named-after, depth-after, read_cost-after, write_cost-after}
 
 -- ---- a device that is in use
 
@@ -179,9 +178,9 @@ pub facts-after : (c : Configuration) (d : ℕ) → IsUnused c d → (old new : 
 facts-after c d unused old new are without-it = record {
   depths = values-after (depth c) (depth (without c d)) old.depths.items new.depths.items (length c.devices) (length (remove c.devices d)) d are.depths unused.inside count without-it.depths (λ e other. depth-after c d unused (mapped e) other);
   reads = values-after (read_cost c) (read_cost (without c d)) old.read_costs.items new.read_costs.items (length c.devices) (length (remove c.devices d)) d are.reads unused.inside count without-it.reads
-      (λ e other. cost-after c d unused line_read_cost line_read_cost-local (mapped e) other);
+      (λ e other. read_cost-after c d unused (mapped e) other);
   writes = values-after (write_cost c) (write_cost (without c d)) old.write_costs.items new.write_costs.items (length c.devices) (length (remove c.devices d)) d are.writes unused.inside count without-it.writes
-      (λ e other. cost-after c d unused line_write_cost line_write_cost-local (mapped e) other);
+      (λ e other. write_cost-after c d unused (mapped e) other);
   lowers = rw without-it.lowers (lowers-kept c d unused old.lowers.items are.lowers);
   keys = without-it.keys ∙ ap (λ keys. remove keys d) are.keys ∙ sym (map-remove (λ (x : DeviceRecord). keys_from 0 x.table) c.devices d unused.inside);
   zero_digests = without-it.zero_digests ∙ ap (λ digests. remove digests d) are.zero_digests ∙ sym (map-remove (λ (x : DeviceRecord). zero_digests_of x.table) c.devices d unused.inside);

@@ -18,16 +18,15 @@ use Rattle.stack_loader.specs.declared.refusal.Refusal.{Refusal}
 use Rattle.stack_loader.specs.Records.{Configuration, DeviceRecord}
 use Rattle.stack_loader.specs.Names.{mapped, named, names, lowers, sectors_of, size, may_write}
 use Rattle.stack_loader.specs.Trees.{tree_sectors}
-use Rattle.stack_loader.specs.Descend.{depth, read_cost, line_read_cost, most_devices}
+use Rattle.stack_loader.specs.Descend.{depth, read_cost, most_devices}
 use Rattle.stack_loader.specs.Cycles.{is_mapped, names_device, Leads, by_line, by_chain, IsOnCycle, is_on_cycle}
 use Rattle.stack_loader.specs.Removal.{place_after, lower_after}
 use Rattle.stack_loader.specs.Rules.{IsValid, first, refuse, each_device, ends_past, is_beyond, is_tree_beyond, ranges, names_read_only, line_faults, line_rules, table_rules, unknown_in, unknown_names, cycles, is_too_many, most_lines, depth_rules, cost_rules, device_rules, most_depth, most_cost}
 use Rattle.stack_loader.proofs.KeptLemmas.{lines_of-read}
 use Rattle.stack_loader.proofs.RemoveLemmas.{slice_get-remove, list_any-remove, place_before, place_before-same}
-use Rattle.stack_loader.proofs.lemmas.CostRuleLemmas.{line_read_cost-local}
 use Rattle.stack_loader.proofs.lemmas.CycleLemmas.{is_on_cycle-decides}
 use Rattle.stack_loader.proofs.lemmas.RangeLemmas.{ranges-names}
-use Rattle.stack_loader.proofs.lemmas.RemovalLemmas.{without, IsUnused, IsOther, Avoids, others-beneath, unused-lines, size-after, may_write-after, named-after, lowers-after, depth-after, cost-after}
+use Rattle.stack_loader.proofs.lemmas.RemovalLemmas.{without, IsUnused, IsOther, Avoids, others-beneath, unused-lines, size-after, may_write-after, named-after, lowers-after, depth-after, read_cost-after}
 use Rattle.stack_loader.proofs.lemmas.UnrollLemmas.{all-map}
 use Rattle.stack_loader.proofs.lemmas.ValidLemmas.{depth-low}
 use Rattle.stack_loader.proofs.lemmas.ValidLineLemmas.{apart, at_place, faults-none, none-faults, rules-of, or-false}
@@ -219,7 +218,7 @@ cost_rules-after c d unused h =
         let same = place_before-same d k in
         let first : (k + 1) - 1 ≡ place_after d (place_before d k) = omega (arith, same.1) in
         let second : place_before d k ≡ (e + 1) - 1 = omega (arith, is) in
-        ap (λ k. read_cost (without c d) (mapped k)) first ∙ sym (cost-after c d unused line_read_cost line_read_cost-local (mapped (place_before d k)) same.0) ∙ ap (λ e. read_cost c (mapped e)) second
+        ap (λ k. read_cost (without c d) (mapped k)) first ∙ sym (read_cost-after c d unused (mapped (place_before d k)) same.0) ∙ ap (λ e. read_cost c (mapped e)) second
 
 few-after : (c : Configuration) (d : ℕ) → IsUnused c d → is_too_many c.devices ≡ false → is_too_many (remove c.devices d) ≡ false
 few-after c d unused few =

@@ -3,6 +3,7 @@ use Rattle.std.proofs.Common.{◌≡◌, ◌+◌, ◌-◌, ℕ, List, [], ◌∷
 use Rattle.std.specs.Prelude.{flat_map}
 use Rattle.std.specs.List.{enumerate_from, range_with_len}
 use Rattle.std.proofs.lemmas.List.FromFn.{length-map-range_with_len}
+use Rattle.stack_loader.specs.declared.costs.Direction.TheVariants.{Read}
 use Rattle.stack_loader.specs.declared.lower.Lower.{Lower}
 use Rattle.stack_loader.specs.declared.refusal.LoadFault.{LoadFault}
 use Rattle.stack_loader.specs.declared.refusal.LoadFault.TheVariants.{Refused, NoMemory}
@@ -89,8 +90,8 @@ above-from kind most f k (x ∷ xs) =
 pub depths-above : (c : Configuration) (values : List ℕ) → values ≡ each_mapped (depth c) (length c.devices) → above TooDeep most_depth values ≡ depth_rules c
 depths-above c values is = ap (above TooDeep most_depth) is ∙ above-from TooDeep most_depth (depth c) 0 c.devices
 
-pub costs-above : (c : Configuration) (values : List ℕ) → values ≡ each_mapped (λ x. capped (read_cost c x)) (length c.devices) → above CostTooLarge most_cost values ≡ cost_rules c
-costs-above c values is = ap (above CostTooLarge most_cost) is ∙ above-from CostTooLarge most_cost (λ x. capped (read_cost c x)) 0 c.devices ∙ above-capped (read_cost c) (enumerate_from 1 c.devices)
+pub costs-above : (c : Configuration) (values : List ℕ) → values ≡ each_mapped (λ x. capped Read (read_cost c x)) (length c.devices) → above CostTooLarge most_cost values ≡ cost_rules c
+costs-above c values is = ap (above CostTooLarge most_cost) is ∙ above-from CostTooLarge most_cost (λ x. capped Read (read_cost c x)) 0 c.devices ∙ above-capped (read_cost c) (enumerate_from 1 c.devices)
 
 pub length-values : (f : Lower → ℕ) (n : ℕ) (values : List ℕ) → values ≡ each_mapped f n → length values ≡ n
 length-values f n values is = ap length is ∙ length-map-range_with_len (λ d. f (mapped d)) 0 n

@@ -5,6 +5,7 @@ use Rattle.dm_table.specs.declared.stack.Entry.{Entry}
 use Rattle.dm_table.specs.declared.table.Target.{Target}
 use Rattle.dm_table.specs.declared.table.Target.TheVariants.{Crypt, Verity}
 use Rattle.hash_tree.specs.Shape.{levels, level_blocks, area_blocks, area_end}
+use Rattle.dm_table.specs.Crypt.{sector_size}
 use Rattle.stack_loader.specs.declared.refusal.LoadKind.{LoadKind}
 use Rattle.stack_loader.specs.declared.refusal.LoadKind.TheVariants.{BeyondDevice, LineBeyondTree, TreeBeyondDevice, NeedsReadOnly, LowerReadOnly, CostTooLarge}
 use Rattle.stack_loader.specs.declared.refusal.Refusal.{Refusal}
@@ -66,7 +67,7 @@ crypt offset = record { key = replicate 32 7; iv_offset = 3; base = record { dev
 
 -- a crypt line is like a linear one
 crypts : (first_refusal (over 8 0 true) (one true 6 (Crypt (crypt 2))) ≡ None) × (first_refusal (over 8 0 true) (one true 6 (Crypt (crypt 3))) ≡ refused BeyondDevice) × (first_refusal (over 8 0 false) (one true 6 (Crypt (crypt 2))) ≡ refused LowerReadOnly)
-unfolding first_refusal is_on_cycle leads_below descend
+unfolding first_refusal is_on_cycle leads_below descend sector_size
 crypts = (refl, refl, refl)
 
 -- the device v of such a line
@@ -78,7 +79,7 @@ keys = (refl, refl, refl)
 
 -- a data block and a hash block of each of two levels
 costs : (read_cost (with 1032 (tree d h 129 1)) (mapped 0) ≡ 24) × (write_cost (with 1032 (tree d h 129 1)) (mapped 0) ≡ 0) × (read_cost (with 6 (Crypt (crypt 2))) (mapped 0) ≡ 1) × (write_cost (with 6 (Crypt (crypt 2))) (mapped 0) ≡ 1)
-unfolding descend levels
+unfolding descend levels sector_size
 costs = (refl, refl, refl, refl)
 
 -- trees over trees, on one device each

@@ -7,6 +7,7 @@ use Rattle.stack_loader.specs.declared.lower.Lower.TheVariants.{Leaf as leaf, De
 use Rattle.stack_loader.specs.Records.{Configuration}
 use Rattle.stack_loader.specs.Names.{named, lowers, lines_of}
 use Rattle.stack_loader.specs.Trees.{block_sectors, path_sectors}
+use Rattle.stack_loader.specs.Units.{unit_sectors, unit_write_cost}
 
 -- the most mapped devices that a configuration may have
 abbrev pub most_devices : ℕ
@@ -47,17 +48,17 @@ line_read_cost cost (Linear base) = cost base.device
 line_read_cost cost (Striped chunk bases) = greatest (map (λ base. cost base.device) bases)
 line_read_cost cost Zero = 0
 line_read_cost cost Error = 0
-line_read_cost cost (Crypt crypt) = cost crypt.base.device
+line_read_cost cost (Crypt crypt) = unit_sectors crypt * cost crypt.base.device
 line_read_cost cost (Verity verity) = block_sectors verity * cost verity.data + path_sectors verity * cost verity.hash
 
--- leaf sectors written for a sector of it, at most
-abbrev pub line_write_cost : (List ℕ → ℕ) → Target → ℕ
-line_write_cost cost (Linear base) = cost base.device
-line_write_cost cost (Striped chunk bases) = greatest (map (λ base. cost base.device) bases)
-line_write_cost cost Zero = 0
-line_write_cost cost Error = 0
-line_write_cost cost (Crypt crypt) = cost crypt.base.device
-line_write_cost cost (Verity verity) = 0
+-- leaf sectors read and written for a sector of it that is written, at most, where read is what reading costs
+abbrev pub line_write_cost : (List ℕ → ℕ) → (List ℕ → ℕ) → Target → ℕ
+line_write_cost read cost (Linear base) = cost base.device
+line_write_cost read cost (Striped chunk bases) = greatest (map (λ base. cost base.device) bases)
+line_write_cost read cost Zero = 0
+line_write_cost read cost Error = 0
+line_write_cost read cost (Crypt crypt) = unit_write_cost (unit_sectors crypt) (read crypt.base.device) (cost crypt.base.device)
+line_write_cost read cost (Verity verity) = 0
 
 -- a leaf's sector is one, and a device costs what its dearest line does
 abbrev pub cost_rule : Configuration → ((List ℕ → ℕ) → Target → ℕ) → (Lower → ℕ) → Lower → ℕ
@@ -68,4 +69,4 @@ abbrev pub read_cost : Configuration → Lower → ℕ
 read_cost c = descend 0 (cost_rule c line_read_cost)
 
 abbrev pub write_cost : Configuration → Lower → ℕ
-write_cost c = descend 0 (cost_rule c line_write_cost)
+write_cost c = descend 0 (cost_rule c (line_write_cost (by_name c 0 (read_cost c))))

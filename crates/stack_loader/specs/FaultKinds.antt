@@ -37,6 +37,8 @@ load_number kinds.NeedsReadOnly = 12
 load_number kinds.LowerReadOnly = 13
 load_number kinds.TooDeep = 14
 load_number kinds.CostTooLarge = 15
+load_number kinds.UnitDoesntDivide = 16
+load_number kinds.IvOffset = 17
 
 abbrev pub load_name : LoadKind → List ℕ
 load_name kinds.DuplicateName = codes "DuplicateName"
@@ -54,6 +56,8 @@ load_name kinds.NeedsReadOnly = codes "NeedsReadOnly"
 load_name kinds.LowerReadOnly = codes "LowerReadOnly"
 load_name kinds.TooDeep = codes "TooDeep"
 load_name kinds.CostTooLarge = codes "CostTooLarge"
+load_name kinds.UnitDoesntDivide = codes "UnitDoesntDivide"
+load_name kinds.IvOffset = codes "IvOffset"
 
 abbrev pub removal_number : RemoveFault → ℕ
 removal_number removals.NoSuchDevice = 1

@@ -1,6 +1,7 @@
 pub mod Records
 pub mod Names
 pub mod Trees
+pub mod Units
 pub mod Descend
 pub mod Cycles
 pub mod Lines

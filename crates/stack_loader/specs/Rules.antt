@@ -11,11 +11,12 @@ use Rattle.dm_table.specs.declared.table.Target.TheVariants.{Linear, Striped, Ze
 use Rattle.dm_table.specs.Grammar.{IsTableOfGrammar}
 use Rattle.dm_table.specs.Names.{is_mapped_name, is_name_of, is_leaf_byte, mapper}
 use Rattle.stack_loader.specs.declared.refusal.LoadKind.{LoadKind}
-use Rattle.stack_loader.specs.declared.refusal.LoadKind.TheVariants.{DuplicateName, TooMany, NoSuchDevice, StandsOnItself, ZeroLength, Gap, TooLarge, StripesDontDivide, BeyondDevice, LineBeyondTree, TreeBeyondDevice, NeedsReadOnly, LowerReadOnly, TooDeep, CostTooLarge}
+use Rattle.stack_loader.specs.declared.refusal.LoadKind.TheVariants.{DuplicateName, TooMany, NoSuchDevice, StandsOnItself, ZeroLength, Gap, TooLarge, StripesDontDivide, BeyondDevice, LineBeyondTree, TreeBeyondDevice, NeedsReadOnly, LowerReadOnly, TooDeep, CostTooLarge, UnitDoesntDivide, IvOffset}
 use Rattle.stack_loader.specs.declared.refusal.Refusal.{Refusal}
 use Rattle.stack_loader.specs.Records.{Configuration, DeviceRecord, LeafRecord}
 use Rattle.stack_loader.specs.Names.{mapped, named, names, sectors_of, size, may_write, device_named}
 use Rattle.stack_loader.specs.Trees.{data_sectors, tree_sectors}
+use Rattle.stack_loader.specs.Units.{unit_sectors}
 use Rattle.stack_loader.specs.Descend.{depth, read_cost, most_devices}
 use Rattle.stack_loader.specs.Cycles.{is_on_cycle, IsOnCycle, IsFirstOnCycle}
 
@@ -91,6 +92,24 @@ is_undivided len Error = false
 is_undivided len (Crypt crypt) = false
 is_undivided len (Verity verity) = false
 
+-- the length is no multiple of the unit
+abbrev pub cuts_unit : ℕ → Target → Bool
+cuts_unit len (Linear base) = false
+cuts_unit len (Striped chunk bases) = false
+cuts_unit len Zero = false
+cuts_unit len Error = false
+cuts_unit len (Crypt crypt) = not (len % unit_sectors crypt == 0)
+cuts_unit len (Verity verity) = false
+
+-- the number of the first unit is no multiple of the unit's sectors, however units are numbered
+abbrev pub is_off_unit : Target → Bool
+is_off_unit (Linear base) = false
+is_off_unit (Striped chunk bases) = false
+is_off_unit Zero = false
+is_off_unit Error = false
+is_off_unit (Crypt crypt) = not (crypt.iv_offset % unit_sectors crypt == 0)
+is_off_unit (Verity verity) = false
+
 -- the line has more sectors than its data blocks
 abbrev pub is_uncovered : ℕ → Target → Bool
 is_uncovered len (Linear base) = false
@@ -129,6 +148,8 @@ line_faults c writable before line =
     ∷ (Gap, not (line.start == before))
     ∷ (TooLarge, nat_lt most_sectors (line.start + line.length))
     ∷ (StripesDontDivide, is_undivided line.length line.target)
+    ∷ (UnitDoesntDivide, cuts_unit line.length line.target)
+    ∷ (IvOffset, is_off_unit line.target)
     ∷ (BeyondDevice, is_beyond c line.length line.target)
     ∷ (LineBeyondTree, is_uncovered line.length line.target)
     ∷ (TreeBeyondDevice, is_tree_beyond c line.target)

@@ -104,7 +104,8 @@ pub(crate) fn check(
         Some(refusal) => return Err(LoadFault::Refused(refusal)),
         None => {}
     }
-    let write_costs = costs(alloc, Direction::Write, devices, rows, levels)?;
+    let reads = Direction::Write(read_costs.as_slice());
+    let write_costs = costs(alloc, reads, devices, rows, levels)?;
     let keys = device_keys(alloc, devices)?;
     let zero_digests = device_digests(alloc, devices)?;
     Ok(Facts {

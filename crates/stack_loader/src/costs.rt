@@ -8,7 +8,7 @@ ghost use Rattle.stack_loader.specs.Names.{names};
 ghost use Rattle.stack_loader.specs.Descend.{greatest, by_name, line_read_cost, line_write_cost};
 ghost use Rattle.stack_loader.specs.Kept.{each_mapped};
 ghost use Rattle.stack_loader.specs.Passing.{Mean, RowsMean};
-ghost use Rattle.stack_loader.specs.Costs.{line_cost, cost, cost_in, capped, dearest, AreRows, AreMeasured, AreCosts};
+ghost use Rattle.stack_loader.specs.Costs.{line_cost, ceiling, cost, cost_in, capped, dearest, AreRows, AreMeasured, AreCosts};
 
 use crate::check::{MOST_COST, MOST_DEPTH};
 use crate::depths::repeated;
@@ -16,15 +16,20 @@ use crate::lower::Lower;
 use crate::lowers::{DeviceLowers, LineLowers};
 use crate::planned::Planned;
 use crate::tree::{block_sectors, path_sectors, verity_of};
-use dm_table::{Line, Target, Verity};
+use crate::units::{crypt_of, unit_sectors};
+use dm_table::{Crypt, Line, Target, Verity};
 use std::alloc::{AllocError, Global};
 
-/// Whether a cost is of a sector that is read or of one that is written.
-#[derive(Clone, Copy, Debug, PartialEq, Eq)]
-pub(crate) enum Direction {
+/// Whether a cost is of a sector that is read or of one that is written, where reading one of each device
+/// costs so much.
+#[derive(Clone, Copy)]
+pub(crate) enum Direction<'a> {
     Read,
-    Write,
+    Write(&'a [u64]),
 }
+
+/// More than a write of one sector can move.
+const MOST_WRITE_COST: u64 = 1 << 60;
 
 fn cost_in(costs: &[u64], lower: Lower) -> u64
     ensures { result ≡ cost_in costs.now lower }
@@ -74,35 +79,55 @@ fn line_read_cost(costs: &[u64], target: &Target, lowers: &[Lower]) -> u128
     ensures { (c : Configuration) → Mean c lowers.now (names target.now) → result ≡ line_read_cost (by_name c 0 (cost_in costs.now)) target.now }
 {
     match verity_of(target) {
-        Some(verity) => verity_cost(costs, verity, lowers),
+        Some(verity) => return verity_cost(costs, verity, lowers),
+        None => {}
+    }
+    match crypt_of(target) {
+        Some(crypt) => u128::from(unit_sectors(crypt)) * cost_at(costs, lowers, 0),
         None => u128::from(greatest_cost(costs, lowers)),
     }
 }
 
-fn line_write_cost(costs: &[u64], target: &Target, lowers: &[Lower]) -> u128
-    ensures { (c : Configuration) → Mean c lowers.now (names target.now) → result ≡ line_write_cost (by_name c 0 (cost_in costs.now)) target.now }
+/// What writing a sector of a crypt line costs: that of the lower one, or reading its unit and putting it whole.
+fn unit_write_cost(reads: &[u64], costs: &[u64], crypt: &Crypt, lowers: &[Lower]) -> u128
+    ensures { (c : Configuration) → Mean c lowers.now (names (target.Crypt crypt.now)) → result ≡ line_write_cost (by_name c 0 (cost_in reads.now)) (by_name c 0 (cost_in costs.now)) (target.Crypt crypt.now) }
+{
+    let sectors = unit_sectors(crypt);
+    let write = cost_at(costs, lowers, 0);
+    if sectors == 1 {
+        return write;
+    }
+    u128::from(sectors) * (cost_at(reads, lowers, 0) + write)
+}
+
+fn line_write_cost(reads: &[u64], costs: &[u64], target: &Target, lowers: &[Lower]) -> u128
+    ensures { (c : Configuration) → Mean c lowers.now (names target.now) → result ≡ line_write_cost (by_name c 0 (cost_in reads.now)) (by_name c 0 (cost_in costs.now)) target.now }
 {
     match verity_of(target) {
-        Some(_) => 0,
+        Some(_) => return 0,
+        None => {}
+    }
+    match crypt_of(target) {
+        Some(crypt) => unit_write_cost(reads, costs, crypt, lowers),
         None => u128::from(greatest_cost(costs, lowers)),
     }
 }
 
-fn line_cost(direction: Direction, costs: &[u64], target: &Target, lowers: &[Lower]) -> u128
+fn line_cost(direction: Direction<'_>, costs: &[u64], target: &Target, lowers: &[Lower]) -> u128
     requires { IsTargetOfGrammar target.now }
-    ensures { (c : Configuration) → Mean c lowers.now (names target.now) → result ≡ line_cost direction (by_name c 0 (cost_in costs.now)) target.now }
+    ensures { (c : Configuration) → Mean c lowers.now (names target.now) → result ≡ line_cost c direction.entry (by_name c 0 (cost_in costs.now)) target.now }
 {
     match direction {
         Direction::Read => line_read_cost(costs, target, lowers),
-        Direction::Write => line_write_cost(costs, target, lowers),
+        Direction::Write(reads) => line_write_cost(reads, costs, target, lowers),
     }
 }
 
 /// The cost of a device's dearest line, where the devices that it names have the costs.
-fn dearest(direction: Direction, costs: &[u64], lines: &[Line], rows: &[LineLowers]) -> u128
+fn dearest(direction: Direction<'_>, costs: &[u64], lines: &[Line], rows: &[LineLowers]) -> u128
     requires rows { length lines.now ≤ length rows.now }
     requires grammar { All IsLineOfGrammar lines.now }
-    ensures { (c : Configuration) → RowsMean c rows.now lines.now → result ≡ dearest c direction (cost_in costs.now) lines.now }
+    ensures { (c : Configuration) → RowsMean c rows.now lines.now → result ≡ dearest c direction.entry (cost_in costs.now) lines.now }
 {
     let mut greatest = 0;
     for (i, line) in lines.iter().enumerate() {
@@ -111,16 +136,26 @@ fn dearest(direction: Direction, costs: &[u64], lines: &[Line], rows: &[LineLowe
     greatest
 }
 
-// A cost above the limit is kept as the least that is: so no number wraps, and the rule sees it.
-fn capped(cost: u128) -> u64
-    ensures { result ≡ capped cost }
+// A read cost above the limit is kept as the least that is: so no number wraps, and the rule sees it. No write
+// cost is above its ceiling where the rules on depths and read costs hold.
+fn ceiling(direction: Direction<'_>) -> u64
+    ensures { result ≡ ceiling direction.entry }
 {
-    cost.min(u128::from(MOST_COST) + 1) as u64
+    match direction {
+        Direction::Read => MOST_COST + 1,
+        Direction::Write(_) => MOST_WRITE_COST,
+    }
+}
+
+fn capped(direction: Direction<'_>, cost: u128) -> u64
+    ensures { result ≡ capped direction.entry cost }
+{
+    cost.min(u128::from(ceiling(direction))) as u64
 }
 
 /// Sets the costs of the devices of a depth, where those of less depth have theirs.
 fn settle(
-    direction: Direction,
+    direction: Direction<'_>,
     devices: &[Planned<'_>],
     lowers: &[DeviceLowers],
     depths: &[u64],
@@ -130,13 +165,13 @@ fn settle(
     requires rows { AreRows lowers.now devices.now }
     requires depths { length depths.now ≡ length devices.now }
     requires costs { length costs.old ≡ length devices.now }
-    ensures { (leaves : List LeafRecord) → let c = configuration leaves devices.now in AreMeasured c lowers.now depths.now → AreCosts c direction depth costs.old → AreCosts c direction (depth + 1) costs.new }
+    ensures { (leaves : List LeafRecord) → let c = configuration leaves devices.now in AreMeasured c lowers.now depths.now → AreCosts c direction.entry depth costs.old → AreCosts c direction.entry (depth + 1) costs.new }
 {
     for (d, device) in devices.iter().enumerate() {
         let here = depths[d];
         if here == depth {
             let cost = dearest(direction, costs, device.table().lines(), lowers[d].lines());
-            costs[d] = capped(cost);
+            costs[d] = capped(direction, cost);
         }
     }
 }
@@ -148,17 +183,17 @@ fn zeros(alloc: Global, devices: &[Planned<'_>]) -> Result<Vec<u64>, AllocError>
     Ok(zeros)
 }
 
-/// The costs of all devices, whose depths are at most 8; one above the limit as the least that is.
+/// The costs of all devices, whose depths are at most 8; one above the ceiling as that.
 pub(crate) fn costs(
     alloc: Global,
-    direction: Direction,
+    direction: Direction<'_>,
     devices: &[Planned<'_>],
     lowers: &[DeviceLowers],
     depths: &[u64],
 ) -> Result<Vec<u64>, AllocError>
     requires rows { AreRows lowers.now devices.now }
     requires depths { length depths.now ≡ length devices.now }
-    ensures { (leaves : List LeafRecord) → let c = configuration leaves devices.now in AreMeasured c lowers.now depths.now → IfOk result (λ costs. costs.items ≡ each_mapped (λ x. capped (cost c direction x)) (length c.devices)) }
+    ensures { (leaves : List LeafRecord) → let c = configuration leaves devices.now in AreMeasured c lowers.now depths.now → IfOk result (λ costs. costs.items ≡ each_mapped (λ x. capped direction.entry (cost c direction.entry x)) (length c.devices)) }
 {
     let mut costs = zeros(alloc, devices)?;
     for depth in 1..MOST_DEPTH + 1 {

@@ -24,9 +24,11 @@ mod resolve;
 mod rules;
 mod sectors;
 mod tree;
+mod units;
 mod zero_digests;
 
 pub use config::Config;
 pub use leaf::Leaf;
 pub use lower::{DevId, Lower};
 pub use refusal::{ConfigFault, LoadFault, LoadKind, Refusal, RemoveFault};
+pub use units::unit_sectors;

@@ -46,7 +46,7 @@ impl ConfigFault {
     }
 }
 
-/// The rule by which a load is refused, in the order of the rules.
+/// The rule by which a load is refused, in the order of the rules but for the last two.
 #[derive(Clone, Copy, Debug, PartialEq, Eq, Error)]
 #[error("{}", self.name())]
 pub enum LoadKind {
@@ -80,13 +80,17 @@ pub enum LoadKind {
     TooDeep = 14,
     /// Reading a sector could move more than 2^32 leaf sectors.
     CostTooLarge = 15,
+    /// The length of a crypt line is no multiple of its unit. Checked after 8.
+    UnitDoesntDivide = 16,
+    /// The `iv_offset` of a crypt line is no multiple of its unit's sectors. Checked after 16.
+    IvOffset = 17,
 }
 
 impl LoadKind {
     ghost use Rattle.std.specs.Prelude.{◌≡◌};
     ghost use Rattle.stack_loader.specs.FaultKinds.{load_number, load_name};
 
-    /// The number that is printed, 1 to 15.
+    /// The number that is printed, 1 to 17.
     pub fn number(self) -> u8
         ensures { result ≡ load_number self }
     {
@@ -113,6 +117,8 @@ impl LoadKind {
             LoadKind::LowerReadOnly => "LowerReadOnly",
             LoadKind::TooDeep => "TooDeep",
             LoadKind::CostTooLarge => "CostTooLarge",
+            LoadKind::UnitDoesntDivide => "UnitDoesntDivide",
+            LoadKind::IvOffset => "IvOffset",
         }
     }
 }

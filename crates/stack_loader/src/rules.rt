@@ -8,7 +8,7 @@ ghost use Rattle.stack_loader.specs.Descend.{most_devices};
 ghost use Rattle.stack_loader.specs.Kept.{AreLowers};
 ghost use Rattle.stack_loader.specs.Passing.{Mean, RowsMean, refusal_at};
 ghost use Rattle.stack_loader.specs.declared.refusal.LoadKind.TheVariants as kinds;
-ghost use Rattle.stack_loader.specs.Rules.{first, refuse, line_rules, ends_beyond, is_beyond, is_undivided, is_uncovered, is_tree_beyond, needs_read_only, each_device, table_rules, most_lines};
+ghost use Rattle.stack_loader.specs.Rules.{first, refuse, line_rules, cuts_unit, ends_beyond, is_beyond, is_off_unit, is_undivided, is_uncovered, is_tree_beyond, needs_read_only, each_device, table_rules, most_lines};
 
 use crate::leaf::Leaf;
 use crate::leaves::MOST_SECTORS;
@@ -17,6 +17,7 @@ use crate::lowers::{DeviceLowers, LineLowers};
 use crate::planned::Planned;
 use crate::refusal::{LoadKind, Refusal};
 use crate::tree::{data_sectors, tree_sectors};
+use crate::units::unit_sectors;
 use dm_table::{Base, Line, Target};
 use std::slice;
 
@@ -63,6 +64,51 @@ fn is_undivided(line: &Line) -> bool
         Target::Linear(_) | Target::Zero | Target::Error | Target::Crypt(_) | Target::Verity(_) =>
             false,
     }
+}
+
+/// Whether a crypt line's length is no multiple of its unit.
+fn cuts_unit(line: &Line) -> bool
+    ensures { result ≡ cuts_unit line.now.length line.now.target }
+{
+    match &line.target {
+        Target::Crypt(crypt) => line.length % u64::from(unit_sectors(crypt)) != 0,
+        Target::Linear(_)
+        | Target::Striped { .. }
+        | Target::Zero
+        | Target::Error
+        | Target::Verity(_) => false,
+    }
+}
+
+/// Whether the `iv_offset` of a crypt line is no multiple of its unit's sectors.
+fn is_off_unit(target: &Target) -> bool
+    ensures { result ≡ is_off_unit target.now }
+{
+    match target {
+        Target::Crypt(crypt) => crypt.iv_offset % u64::from(unit_sectors(crypt)) != 0,
+        Target::Linear(_)
+        | Target::Striped { .. }
+        | Target::Zero
+        | Target::Error
+        | Target::Verity(_) => false,
+    }
+}
+
+/// The first rule by which a line isn't whole stripes or units.
+fn part_fault(line: &Line) -> Option<LoadKind>
+    requires { IsTargetOfGrammar line.now.target }
+    ensures { (d l : ℕ) → option_map (refusal_at d l) result ≡ first (refuse kinds.StripesDontDivide d l (is_undivided line.now.length line.now.target) ∷ refuse kinds.UnitDoesntDivide d l (cuts_unit line.now.length line.now.target) ∷ refuse kinds.IvOffset d l (is_off_unit line.now.target) ∷ []) }
+{
+    if is_undivided(line) {
+        return Some(LoadKind::StripesDontDivide);
+    }
+    if cuts_unit(line) {
+        return Some(LoadKind::UnitDoesntDivide);
+    }
+    if is_off_unit(&line.target) {
+        return Some(LoadKind::IvOffset);
+    }
+    None
 }
 
 /// Whether so many sectors from one of the bases end past its device.
@@ -206,8 +252,9 @@ fn line_fault(
     if u128::from(line.start) + u128::from(line.length) > u128::from(MOST_SECTORS) {
         return Some(LoadKind::TooLarge);
     }
-    if is_undivided(line) {
-        return Some(LoadKind::StripesDontDivide);
+    match part_fault(line) {
+        Some(kind) => return Some(kind),
+        None => {}
     }
     if is_beyond(leaves, devices, lowers, line) {
         return Some(LoadKind::BeyondDevice);

@@ -1,7 +1,7 @@
 -- Commands that end early.
 use Rattle.std.proofs.Common.{List, ℕ, Option, refl}
 use Rattle.command_faults.specs.declared.fault.CommandFault.{CommandFault}
-use Rattle.command_faults.specs.declared.fault.CommandFault.TheVariants.{Usage, NoMemory, TooLong, Open, Leaves, Text, Load, Submit, Io, Format, Verify, Differs, Random, Lost, OutputTooSmall, OutputFailed, Session}
+use Rattle.command_faults.specs.declared.fault.CommandFault.TheVariants.{Usage, NoMemory, TooLong, Open, Leaves, Text, Load, Submit, Io, Format, Verify, Differs, Random, Lost, OutputTooSmall, OutputFailed, Session, Service}
 use Rattle.command_faults.specs.Endings.{IsQuiet}
 
 pub quiet : (fault : CommandFault) (bytes : Option (List ℕ)) → IsQuiet fault bytes bytes
@@ -22,3 +22,4 @@ quiet (Lost read lost) bytes = refl
 quiet (OutputTooSmall needed) bytes = refl
 quiet OutputFailed bytes = refl
 quiet (Session fault) bytes = tt
+quiet (Service fault) bytes = refl

@@ -32,7 +32,7 @@ any-keeps v d first (read_part n) answer v' p = record {
 any-keeps v d first (write_part bytes) answer v' p = record {
   config = p.config;
   fixed = p.moved.moved.fixed;
-  moved = omega (arith, p.moved.moved.reads.sum, p.moved.moved.writes.sum);
+  moved = omega (arith, p.moved.moved.reads.sum, p.moved.moved.writes.sum, p.moved.within);
 }
 
 pub each-any : (v : StackRecord) (d first : ℕ) (part : Part) (answer : Result AnswerRecord IoFault) (v' : StackRecord) → EachPart v d first part answer v' → AnyPart v d first part answer v'

@@ -7,7 +7,7 @@ use Rattle.stack_loader.specs.Rules.{IsLoaded}
 use Rattle.stack_engine.specs.declared.fault.IoFault.{IoFault}
 use Rattle.stack_engine.specs.declared.fault.IoFault.TheVariants as io
 use Rattle.stack_engine.specs.Pieces.{EachPiece, stack_over}
-use Rattle.stack_engine.specs.WritePieces.{EachWrite}
+use Rattle.stack_engine.specs.WritePieces.{EachWrite, WritesInPieces}
 use Rattle.stack_engine.specs.Reading.{Gets}
 use Rattle.stack_engine.specs.Stacks.{StackRecord, AnswerRecord}
 use Rattle.stack_engine.proofs.lemmas.PieceLemmas.{piece_expected, pieces_expected, no-pieces, more-pieces, fault-pieces, piece-got}
@@ -148,7 +148,7 @@ pub record WriteSoFar (base : StackRecord) (range : SectorRange) (bytes : List �
   pub at : f.rest.first ≡ range.first + done
   pub left : done + f.rest.count ≡ range.count
   pub work : f.work ≡ writes bytes
-  pub put : EachWrite base range.device.0 range.first (take (512 * done) bytes) (Ok tt) w.stack
+  pub put : WritesInPieces base range.device.0 range.first (take (512 * done) bytes) (Ok tt) w.stack
 
 -- the next sectors of some bytes
 abbrev next_bytes : List ℕ → ℕ → ℕ → List ℕ
@@ -197,24 +197,24 @@ module _ (base : StackRecord) (loaded : IsLoaded base.config) (range : SectorRan
     next-at : range.first + u.done ≡ range.first + length (take (512 * u.done) bytes) / 512
     next-at = omega (arith, front-length u.done (omega (arith, inside)))
 
-    put-more : EachWrite w.stack range.device.0 (range.first + u.done) (next_bytes bytes u.done n) (Ok tt) w'.stack → EachWrite base range.device.0 range.first (take (512 * (u.done + n)) bytes) (Ok tt) w'.stack
+    put-more : EachWrite w.stack range.device.0 (range.first + u.done) (next_bytes bytes u.done n) (Ok tt) w'.stack → WritesInPieces base range.device.0 range.first (take (512 * (u.done + n)) bytes) (Ok tt) w'.stack
     put-more p =
-        subst (λ l. EachWrite base range.device.0 range.first l (Ok tt) w'.stack) (next_bytes-seam bytes u.done n)
-        (write-then range.device.0 range.first (take (512 * u.done) bytes) (next_bytes bytes u.done n) loaded front-whole u.put
+        subst (λ l. WritesInPieces base range.device.0 range.first l (Ok tt) w'.stack) (next_bytes-seam bytes u.done n)
+        (write-then range.device.0 range.first (take (512 * u.done) bytes) (next_bytes bytes u.done n) front-whole u.put
         (subst (λ k. EachWrite w.stack range.device.0 k (next_bytes bytes u.done n) (Ok tt) w'.stack) next-at p))
 
-    put-ends : (fault : IoFault) → (fault ≡ io.NoMemory → ⊥) → EachWrite w.stack range.device.0 (range.first + u.done) (next_bytes bytes u.done n) (Err fault) w'.stack → EachWrite base range.device.0 range.first bytes (Err fault) w'.stack
+    put-ends : (fault : IoFault) → (fault ≡ io.NoMemory → ⊥) → EachWrite w.stack range.device.0 (range.first + u.done) (next_bytes bytes u.done n) (Err fault) w'.stack → WritesInPieces base range.device.0 range.first bytes (Err fault) w'.stack
     put-ends fault kind p =
-        subst (λ l. EachWrite base range.device.0 range.first l (Err fault) w'.stack) (next_bytes-rest bytes u.done n)
-        (write-ends range.device.0 range.first (take (512 * u.done) bytes) (next_bytes bytes u.done n) loaded front-whole u.put
-        (drop (512 * n) (drop (512 * u.done) bytes)) fault (omega (arith, next-length u.done n inside)) kind
+        subst (λ l. WritesInPieces base range.device.0 range.first l (Err fault) w'.stack) (next_bytes-rest bytes u.done n)
+        (write-ends range.device.0 range.first (take (512 * u.done) bytes) (next_bytes bytes u.done n) front-whole u.put
+        (drop (512 * n) (drop (512 * u.done) bytes)) fault kind
         (subst (λ k. EachWrite w.stack range.device.0 k (next_bytes bytes u.done n) (Err fault) w'.stack) next-at p))
 
     -- where memory ran out nothing more was written
-    put-nothing : EachWrite w.stack range.device.0 (range.first + u.done) (next_bytes bytes u.done n) (Err io.NoMemory) w'.stack → EachWrite base range.device.0 range.first (take (512 * u.done) bytes) (Ok tt) w'.stack
+    put-nothing : EachWrite w.stack range.device.0 (range.first + u.done) (next_bytes bytes u.done n) (Err io.NoMemory) w'.stack → WritesInPieces base range.device.0 range.first (take (512 * u.done) bytes) (Ok tt) w'.stack
     put-nothing p =
         let same : w.stack ≡ w'.stack = ap (λ c. stack_over c w.stack.leaves) (sym p.any.config) ∙ ap (λ l. stack_over w'.stack.config l) (sym p.any.ends) in
-        subst (λ x. EachWrite base range.device.0 range.first (take (512 * u.done) bytes) (Ok tt) x) same u.put
+        subst (λ x. WritesInPieces base range.device.0 range.first (take (512 * u.done) bytes) (Ok tt) x) same u.put
 
     put-fails : (fault : IoFault) → u.done < range.count → EachWrite w.stack range.device.0 (range.first + u.done) (next_bytes bytes u.done n) (Err fault) w'.stack → WritesWhole base range bytes (Err fault) w'.stack
     put-fails io.ErrorTarget some p = put-ends io.ErrorTarget (λ e. cc) p
@@ -255,7 +255,7 @@ module _ (base : StackRecord) (loaded : IsLoaded base.config) (range : SectorRan
       let put = put-more w w' u n (omega (arith, last))
       (written-part base range bytes t w w' u s.f (Ok s.answers.got) s.answers.stack same (sym (ap (λ (y : World). y.stack) s.answers.leaves)) s.answers.asks) in
       let all : take (512 * (u.done + n)) bytes ≡ bytes = ap (λ k. take k bytes) (ap (λ k. 512 * k) last ∙ sym len) ∙ take-length bytes in
-      subst (λ x. Whole (a_write name first bytes) base range (Ok x) w'.stack) (sym is) (subst (λ l. EachWrite base range.device.0 range.first l (Ok tt) w'.stack) all put)
+      subst (λ x. Whole (a_write name first bytes) base range (Ok x) w'.stack) (sym is) (subst (λ l. WritesInPieces base range.device.0 range.first l (Ok tt) w'.stack) all put)
   write-over name first (Err fault) w w' u s =
       let same = same-flight EachPart t w w' u.f u.order u.there (Done (Err fault)) s in
       let n = next_count w s.f in
@@ -283,7 +283,7 @@ write-begun w name first bytes t v order b =
       at = omega arith;
       left = omega arith;
       work = refl;
-      put = subst (λ (x : StackRecord). EachWrite w.stack b.range.device.0 b.range.first [] (Ok tt) x) (sym new.stack) (write-none w.stack b.range.device.0 b.range.first);
+      put = subst (λ (x : StackRecord). WritesInPieces w.stack b.range.device.0 b.range.first [] (Ok tt) x) (sym new.stack) (write-none w.stack b.range.device.0 b.range.first);
     }
 
 -- ---- both

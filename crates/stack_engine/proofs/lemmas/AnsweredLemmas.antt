@@ -15,6 +15,8 @@ use Rattle.stack_loader.specs.declared.lower.Lower.{Lower}
 use Rattle.stack_loader.specs.Records.{Configuration}
 use Rattle.stack_loader.specs.Rules.{IsLoaded}
 use Rattle.stack_loader.specs.Trees.{tree_of, zero_block}
+use Rattle.stack_loader.specs.Units.{unit_sectors}
+use Rattle.stack_engine.specs.Units.{unit_first}
 use Rattle.stack_engine.specs.Beneath.{beneath, said_or}
 use Rattle.stack_engine.specs.Blocks.{is_ignored}
 use Rattle.stack_engine.specs.Found.{FoundRecord, Entry, entry_of, AreDistinct}
@@ -25,6 +27,7 @@ use Rattle.stack_engine.specs.Outcomes.{part}
 use Rattle.stack_engine.specs.Walks.{HasVerity}
 use Rattle.stack_engine.proofs.VerityLineLemmas.{line-facts}
 use Rattle.stack_engine.proofs.lemmas.EachLineLemmas.{IsHandedUpIn, said_at-each_in}
+use Rattle.stack_engine.proofs.lemmas.FoundLemmas.{of-gathered}
 use Rattle.stack_engine.proofs.lemmas.WalkLemmas.{ignored-digest}
 
 -- ---- what stands for an entry on a sector's way
@@ -49,7 +52,9 @@ line-shows c at all d l line is s = go line.target refl
     go (Striped chunk bases) has = or-shows c at all (beneath (Striped chunk bases) s)
     go Zero has = λ chains bytes e may there. absurd (omega (arith, there.1))
     go Error has = λ chains bytes e may there. absurd may
-    go (crypt_target crypt) has = λ chains bytes e may there. or-shows c at all (beneath (crypt_target crypt) s) chains may.0 e may.1 there
+    go (crypt_target crypt) has = λ chains bytes e may there.
+        let some = of-gathered (λ t. (at crypt.base.device t).entries) (unit_first crypt s) (unit_sectors crypt) e there in
+        all crypt.base.device (unit_first crypt s + some.0) chains (part may.0 some.0) e (may.1.sectors some.0 some.1) some.2
     go (verity_target v) has = λ chains bytes e may there.
         let here : Entry = (d, l, s / (v.data_block / 512)) in
         let first : there.0 ≡ 0 = omega (arith, there.1) in

@@ -41,18 +41,27 @@ KeepsOthers-then {old = old} {mid = mid} e a b = record {
 }
 
 pub AreWritten-none : (these : LeafSectors) (most : ℕ) (leaves : List Device) → AreWritten these leaves most leaves
-AreWritten-none these most leaves = record { moved = Moves-none 0 most leaves; others = KeepsOthers-none these leaves }
+AreWritten-none these most leaves = record { read = 0; written = 0; within = omega arith; moved = Moves-none 0 0 leaves; others = KeepsOthers-none these leaves }
 
 pub AreWritten-then : {these : LeafSectors} {m n : ℕ} {old mid new : List Device} → AreWritten these old m mid → AreWritten these mid n new → AreWritten these old (m + n) new
-AreWritten-then a b = record { moved = Moves-then a.moved b.moved; others = KeepsOthers-then a.moved.fixed a.others b.others }
+AreWritten-then a b = record { read = a.read + b.read; written = a.written + b.written; within = omega (arith, a.within, b.within); moved = Moves-then a.moved b.moved; others = KeepsOthers-then a.moved.fixed a.others b.others }
 
 pub AreWritten-more : {these more : LeafSectors} {m n : ℕ} {old new : List Device} → Among these more → m ≤ n → AreWritten these old m new → AreWritten more old n new
-AreWritten-more among h a =
-    let moved = a.moved in
-    record {
-      moved = record { fixed = moved.fixed; reads = moved.reads; writes = Counts-more h moved.writes; failures = moved.failures; never_fails = moved.never_fails };
-      others = KeepsOthers-more among a.others;
-    }
+AreWritten-more among h a = record { read = a.read; written = a.written; within = omega (arith, h, a.within); moved = a.moved; others = KeepsOthers-more among a.others }
+
+-- the reads that a write needs
+pub AreWritten-read : (these : LeafSectors) {n : ℕ} {old new : List Device} → AreRead old n new → ((i : ℕ) (d : Device) → ((t : ℕ) → these (i, t) → ⊥) → get_or new i d ≡ get_or old i d) → AreWritten these old n new
+AreWritten-read these {n = n} a leaf = record {
+  read = n;
+  written = 0;
+  within = omega arith;
+  moved = a.moved;
+  others = record {
+    size = λ i d h. ap (λ (l : List (List ℕ)). length l) (a.images.image i d h);
+    sector = λ i t d h out. ap (λ (l : List (List ℕ)). get_or l t zero_sector) (a.images.image i d h);
+    leaf = leaf;
+  };
+}
 
 -- ---- images
 

@@ -1,19 +1,21 @@
 -- What was found in one read after another.
-use Rattle.std.proofs.Common.{◌≡◌, ℕ, ◌+◌, ◌≤◌, List, [], ◌++◌, get_or, Contains, Option, Some, None, sym, ap, ◌∙◌, subst, arith, append_assoc, append-nil}
-use Rattle.std.proofs.lemmas.List.Elements.{Contains-append_left, All-append, All-nil}
+use Rattle.std.proofs.Common.{◌≡◌, ℕ, zero, suc, ◌+◌, ◌-◌, ◌<◌, ◌≤◌, List, [], ◌++◌, length, get_or, Contains, Option, Some, None, sym, ap, ◌∙◌, subst, arith, append_assoc, append-nil, inl, inr}
+use Rattle.std.proofs.lemmas.Bool.{cases_lt}
+use Rattle.std.proofs.lemmas.List.{length-append, get_or_append_left, get_or-append-add}
+use Rattle.std.proofs.lemmas.List.Elements.{Contains-append_left, Contains-append_right, All-append, All-nil}
 use Rattle.block_device.specs.Device.{Device}
 use Rattle.dm_table.specs.declared.table.Target.{Target}
 use Rattle.dm_table.specs.declared.table.Target.TheVariants.{Linear, Striped, Zero, Error, Crypt as crypt_target, Verity as verity_target}
 use Rattle.stack_loader.specs.declared.lower.Lower.{Lower}
 use Rattle.stack_loader.specs.Records.{Configuration}
-use Rattle.stack_engine.specs.Sectors.{SomeOf}
+use Rattle.stack_engine.specs.Sectors.{SomeOf, gathered}
 use Rattle.stack_engine.specs.Beneath.{beneath, said_or}
 use Rattle.stack_engine.specs.Meaning.{Said, none_said, said_at}
 use Rattle.stack_engine.specs.Leaves.{AllSteady, AreRead}
 use Rattle.stack_engine.proofs.lemmas.LeafListLemmas.{AllSteady-kept, images-kept}
 use Rattle.stack_engine.proofs.lemmas.SectorLemmas.{IsHandedUp, said_at-each}
 use Rattle.stack_engine.specs.Found.{FoundRecord, Entry, entry_of, AreUsed, Grown}
-use Rattle.stack_engine.specs.Outcomes.{Images}
+use Rattle.stack_engine.specs.Outcomes.{Images, part}
 use Rattle.stack_engine.specs.Kept.{block_of, LineKeeps, AllKept}
 
 pub Grown-none : (entries : ℕ → List Entry) (first n : ℕ) (found : List FoundRecord) → Grown entries first n found found
@@ -21,6 +23,34 @@ Grown-none entries first n found = record { added = []; is = sym (append-nil fou
 
 pub SomeOf-more : (P : ℕ → Type 0) (first a m n : ℕ) → a + m ≤ n → SomeOf P (first + a) m → SomeOf P first n
 SomeOf-more P first a m n h some = let at : first + a + some.0 ≡ first + (a + some.0) = omega arith in (a + some.0, omega (arith, h, some.1), subst P at some.2)
+
+-- what is gathered from some sectors is what one of them has
+pub in-gathered : {X : Type 0} (f : ℕ → List X) (first n j : ℕ) (x : X) → j < n → Contains (f (first + j)) x → Contains (gathered f first n) x
+in-gathered f first zero j x h there = absurd (omega (arith, h))
+in-gathered f first (suc n) zero x h there =
+    let at : first + 0 ≡ first = omega arith in
+    Contains-append_left (f first) (gathered f (suc first) n) x (subst (λ (s : ℕ). Contains (f s) x) at there)
+in-gathered f first (suc n) (suc j) x h there =
+    let at : first + suc j ≡ suc first + j = omega arith in
+    Contains-append_right (f first) (gathered f (suc first) n) x (in-gathered f (suc first) n j x (omega (arith, h)) (subst (λ (s : ℕ). Contains (f s) x) at there))
+
+pub of-gathered : {X : Type 0} (f : ℕ → List X) (first n : ℕ) (x : X) → Contains (gathered f first n) x → SomeOf (λ s. Contains (f s) x) first n
+of-gathered f first zero x there = absurd (omega (arith, there.1))
+of-gathered f first (suc n) x there = elim (cases_lt there.0 (length (f first))) [
+  | inl low ↦
+      let at : first ≡ first + 0 = omega arith in
+      (0, omega arith, subst (λ (s : ℕ). Contains (f s) x) at (there.0, low, sym (get_or_append_left (f first) (gathered f (suc first) n) x there.0 low) ∙ there.2))
+  | inr high ↦
+      let k : ℕ = there.0 - length (f first) in
+      let back : length (f first) + k ≡ there.0 = omega (arith, high) in
+      let rest = of-gathered f (suc first) n x (
+        k,
+        omega (arith, there.1, back, length-append (f first) (gathered f (suc first) n)),
+        sym (get_or-append-add (f first) (gathered f (suc first) n) k x) ∙ ap (λ (i : ℕ). get_or (f first ++ gathered f (suc first) n) i x) back ∙ there.2,
+      ) in
+      let at : suc first + rest.0 ≡ first + suc rest.0 = omega arith in
+      (suc rest.0, omega (arith, rest.1), subst (λ (s : ℕ). Contains (f s) x) at rest.2)
+]
 
 -- on the way of some of more sectors
 used-more : (entries : ℕ → List Entry) (first a m n : ℕ) (found : List FoundRecord) → a + m ≤ n → AreUsed entries (first + a) m found → AreUsed entries first n found
@@ -82,7 +112,7 @@ line_said-mono at all d l (Linear base) s = said_or-mono at all (beneath (Linear
 line_said-mono at all d l (Striped chunk bases) s = said_or-mono at all (beneath (Striped chunk bases) s)
 line_said-mono at all d l Zero s = λ u v more b h. h
 line_said-mono at all d l Error s = λ u v more b h. h
-line_said-mono at all d l (crypt_target crypt) s = λ u v more b h. (h.0, said_or-mono at all (beneath (crypt_target crypt) s) u v more h.0 h.1, h.2)
+line_said-mono at all d l (crypt_target crypt) s = λ u v more b h. (h.0, record { len = h.1.len; sectors = λ j low. all crypt.base.device _ u v more (part h.0 j) (h.1.sectors j low) }, h.2)
 line_said-mono at all d l (verity_target line) s = λ u v more b h.
     (h.0, record { given = more h.0 h.1.given; at = h.1.at; good = h.1.good }, h.2)
 

@@ -16,7 +16,8 @@ use Rattle.stack_loader.specs.Descend.{descend, after_steps, most_devices, by_na
 use Rattle.stack_loader.specs.Lines.{line_at}
 use Rattle.stack_loader.proofs.lemmas.CostRuleLemmas.{in-append}
 use Rattle.stack_engine.specs.Beneath.{said_or}
-use Rattle.stack_engine.specs.Units.{decrypted_unit}
+use Rattle.stack_loader.specs.Units.{unit_sectors}
+use Rattle.stack_engine.specs.Units.{unit_part, unit_first}
 use Rattle.stack_engine.specs.Blocks.{block_at}
 use Rattle.stack_engine.specs.Laws.{leaves_rule, leaves_beneath}
 use Rattle.stack_engine.specs.Meaning.{Said, leaf_said, none_said, line_said, sector}
@@ -42,7 +43,9 @@ module _ (images other : Images) where
   line-alike at d l (Striped chunk bases) s all = stripe-alike at bases (s / chunk % length bases) (λ base. base.offset + s / chunk / length bases * chunk + s % chunk) all
   line-alike at d l Zero s all = refl
   line-alike at d l Error s all = refl
-  line-alike at d l (crypt_target crypt) s all = ap (changed_outcome (decrypted_unit crypt.key crypt.iv_offset s)) (all.0 (crypt.base.offset + s))
+  line-alike at d l (crypt_target crypt) s all =
+      let f : Images → ℕ → Outcome = λ i t. (at crypt.base.device t).means i in
+      ap (changed_outcome (unit_part crypt s)) (span_same (f images) (f other) (unit_first crypt s) (unit_first crypt s) (unit_sectors crypt) (λ j h. all.0 (unit_first crypt s + j)))
   line-alike at d l (verity_target v) s all =
       let i : ℕ = s / (v.data_block / 512) in
       let on_data : (λ t. (at v.data t).means images) ≡ (λ t. (at v.data t).means other) = fun_ext all.0 in

@@ -1,9 +1,8 @@
--- Puts: a run is put as its sectors are, one after another.
-use Rattle.std.proofs.Common.{◌≡◌, ℕ, zero, suc, ◌+◌, ◌-◌, ◌*◌, ◌/◌, ◌%◌, ◌<◌, ◌≤◌, Bool, true, false, nat_lt, List, [], ◌∷◌, ◌++◌, length, get_or, set, take, drop, Option, Some, None, refl, sym, ap, ◌∙◌, arith, inl, inr}
-use Rattle.std.specs.Prelude.{slice_get, option_map}
+-- Puts: of runs that are cut, of the sectors of one line, and of a leaf's sectors, one after another.
+use Rattle.std.proofs.Common.{◌≡◌, ℕ, zero, suc, ◌+◌, ◌-◌, ◌*◌, ◌/◌, ◌%◌, ◌<◌, ◌≤◌, ◌⊎◌, Bool, true, false, nat_lt, ◌&&◌, List, [], ◌∷◌, ◌++◌, length, get_or, set, take, drop, Option, Some, None, refl, sym, ap, ◌∙◌, subst, arith, inl, inr}
 use Rattle.std.specs.Option.{option_map_or}
 use Rattle.std.proofs.Math.Path.{fun_ext}
-use Rattle.std.proofs.lemmas.Bool.{cases_lt, ltb-true}
+use Rattle.std.proofs.lemmas.Bool.{cases_lt, lt-ltb}
 use Rattle.std.proofs.lemmas.List.{set-set, set_past, set-get_or, length-set, drop_all, get_or-set_same, take-append-drop, drop-drop, append-nil}
 use Rattle.block_device.specs.Device.{spliced}
 use Rattle.dm_table.specs.declared.table.Base.{Base}
@@ -16,16 +15,16 @@ use Rattle.stack_loader.specs.Records.{Configuration}
 use Rattle.stack_loader.specs.Names.{mapped, named, lines_of}
 use Rattle.stack_loader.specs.Descend.{descend, after_steps, most_devices, depth, by_name, known}
 use Rattle.stack_loader.specs.Lines.{line_at}
-use Rattle.stack_loader.proofs.lemmas.UnrollLemmas.{IsLocal, descend-rule, falls-at}
+use Rattle.stack_loader.proofs.lemmas.UnrollLemmas.{all_and, IsLocal, descend-rule, falls-at}
 use Rattle.stack_loader.specs.Rules.{IsValid, most_depth}
 use Rattle.stack_loader.proofs.lemmas.ValidLemmas.{depth-low}
 use Rattle.stack_engine.specs.Sectors.{on_found, sector_rule}
 use Rattle.stack_engine.specs.Outcomes.{Images}
-use Rattle.stack_engine.specs.Units.{encrypted_unit, changed_from}
 use Rattle.stack_engine.specs.Beneath.{beneath, said_or, HandsOn}
-use Rattle.stack_engine.specs.Puts.{Put, done, stopped, then_put, Putting, none_put, Run, run_before, runs_from, put_runs, in_one_line, in_one_chunk, leaf_put, line_put, put_rule, put_on}
-use Rattle.stack_engine.proofs.StripeLemmas.{chunk-more}
-use Rattle.stack_engine.proofs.lemmas.LineLemmas.{end_of, found-more, line-start}
+use Rattle.stack_engine.specs.Puts.{Put, done, stopped, then_put, Putting, none_put, Run, run_before, runs_from, put_runs, together, in_one_run, leaf_put, unit_put, line_put, put_rule, put_on}
+use Rattle.stack_engine.specs.Writing.{put_by_name}
+use Rattle.stack_engine.specs.Meaning.{said_by_name}
+use Rattle.stack_engine.proofs.lemmas.LineLemmas.{found-more}
 use Rattle.stack_engine.proofs.lemmas.SectorLemmas.{AsksOfNames, said_or-same, sector_rule-local}
 
 -- ---- one put after another
@@ -38,7 +37,7 @@ then_done : (p : Put) → then_put p (λ images. done images) ≡ p
 then_done (done images) = refl
 then_done (stopped fault images) = refl
 
-then_same : (p : Put) (f g : Images → Put) → ((images : Images) → f images ≡ g images) → then_put p f ≡ then_put p g
+pub then_same : (p : Put) (f g : Images → Put) → ((images : Images) → f images ≡ g images) → then_put p f ≡ then_put p g
 then_same (done images) f g same = same images
 then_same (stopped fault images) f g same = refl
 
@@ -75,56 +74,136 @@ put_each-append at s (x ∷ xs) ys images =
     then_same (at s (x ∷ []) images) _ _ (λ i. put_each-append at (suc s) xs ys i ∙ ap (λ (k : ℕ). then_put (put_each at (suc s) xs i) (put_each at k ys)) e)
     ∙ sym (then_assoc (at s (x ∷ []) images) (put_each at (suc s) xs) (put_each at (s + length (x ∷ xs)) ys))
 
--- the same sectors put at other places by puts that agree there
-pub put_each-same : (f g : ℕ → Putting) (s t : ℕ) (xs : List (List ℕ)) (images : Images)
-    → ((j : ℕ) (bytes : List ℕ) (i : Images) → j < length xs → f (s + j) (bytes ∷ []) i ≡ g (t + j) (bytes ∷ []) i) → put_each f s xs images ≡ put_each g t xs images
-put_each-same f g s t [] images same = refl
-put_each-same f g s t (x ∷ xs) images same =
-    let s0 : s + 0 ≡ s = omega arith in
-    let t0 : t + 0 ≡ t = omega arith in
-    let first : f s (x ∷ []) images ≡ g t (x ∷ []) images = ap (λ (k : ℕ). f k (x ∷ []) images) (sym s0) ∙ same 0 x images (omega arith) ∙ ap (λ (k : ℕ). g k (x ∷ []) images) t0 in
-    ap (λ (p : Put). then_put p (put_each f (suc s) xs)) first
-    ∙ then_same (g t (x ∷ []) images) _ _ (λ i. put_each-same f g (suc s) (suc t) xs i (λ j bytes k h.
-    let a : suc s + j ≡ s + suc j = omega arith in
-    let b : t + suc j ≡ suc t + j = omega arith in
-    ap (λ (n : ℕ). f n (bytes ∷ []) k) a ∙ same (suc j) bytes k (omega (arith, h)) ∙ ap (λ (n : ℕ). g n (bytes ∷ []) k) b))
-
 -- ---- runs
+
+abbrev pub Apart : (ℕ → Bool) → ℕ → List (List ℕ) → List (List ℕ) → Type 0
+Apart tog s xs ys = (xs ≡ []) ⊎ ((ys ≡ []) ⊎ (tog (s + length xs - 1) ≡ false))
 
 one_run : (s : ℕ) (bytes : List ℕ) (b : Bool) → run_before s bytes b [] ≡ (s, bytes ∷ []) ∷ []
 one_run s bytes true = refl
 one_run s bytes false = refl
 
-pub put_runs-one : (at : ℕ → Putting) (together : ℕ → Bool) (s : ℕ) (bytes : List ℕ) (images : Images) → put_runs at (runs_from together s (bytes ∷ [])) images ≡ at s (bytes ∷ []) images
-put_runs-one at together s bytes images = ap (λ (runs : List Run). put_runs at runs images) (one_run s bytes (together s)) ∙ then_done (at s (bytes ∷ []) images)
+-- a sector before some runs, and others behind these
+before-append : (s : ℕ) (bytes : List ℕ) (b : Bool) (run : Run) (runs more : List Run) → run_before s bytes b (run ∷ (runs ++ more)) ≡ run_before s bytes b (run ∷ runs) ++ more
+before-append s bytes true run runs more = refl
+before-append s bytes false run runs more = refl
 
--- the first of some runs begins at their first sector
-head_before : (s : ℕ) (bytes : List ℕ) (b : Bool) (runs : List Run) (run : Run) (more : List Run) → run_before s bytes b runs ≡ run ∷ more → run.0 ≡ s
-head_before s bytes true [] run more e = let same : (s, bytes ∷ []) ≡ run = cc in ap (λ (r : Run). r.0) (sym same)
-head_before s bytes true (next ∷ rest) run more e = let same : (s, bytes ∷ next.1) ≡ run = cc in ap (λ (r : Run). r.0) (sym same)
-head_before s bytes false runs run more e = let same : (s, bytes ∷ []) ≡ run = cc in ap (λ (r : Run). r.0) (sym same)
+before-some : (s : ℕ) (bytes : List ℕ) (b : Bool) (runs : List Run) → (run : Run) × (rest : List Run) × (run_before s bytes b runs ≡ run ∷ rest)
+before-some s bytes true [] = ((s, bytes ∷ []), [], refl)
+before-some s bytes true (run ∷ more) = ((s, bytes ∷ run.1), more, refl)
+before-some s bytes false runs = ((s, bytes ∷ []), runs, refl)
 
-head_from : (together : ℕ → Bool) (s : ℕ) (sectors : List (List ℕ)) (run : Run) (more : List Run) → runs_from together s sectors ≡ run ∷ more → run.0 ≡ s
-head_from together s [] run more e = cc
-head_from together s (bytes ∷ rest) run more e = head_before s bytes (together s) (runs_from together (suc s) rest) run more e
+-- runs of sectors that are cut in two
+runs-cut : (tog : ℕ → Bool) (s : ℕ) (x : List ℕ) (xs ys : List (List ℕ)) → tog (s + length xs) ≡ false → runs_from tog s (x ∷ (xs ++ ys)) ≡ runs_from tog s (x ∷ xs) ++ runs_from tog (suc s + length xs) ys
+runs-cut tog s x [] ys cut =
+    let at : s + 0 ≡ s = omega arith in
+    let next : suc s ≡ suc s + 0 = omega arith in
+    let here : tog s ≡ false = ap tog (sym at) ∙ cut in
+    ap (λ (b : Bool). run_before s x b (runs_from tog (suc s) ys)) here
+    ∙ ap (λ (k : ℕ). (s, x ∷ []) ∷ runs_from tog k ys) next
+    ∙ ap (λ (runs : List Run). runs ++ runs_from tog (suc s + 0) ys) (sym (one_run s x (tog s)))
+runs-cut tog s x (y ∷ xs) ys cut =
+    let at : s + suc (length xs) ≡ suc s + length xs = omega arith in
+    let next : suc (suc s) + length xs ≡ suc s + suc (length xs) = omega arith in
+    let rest = runs-cut tog (suc s) y xs ys (ap tog (sym at) ∙ cut) in
+    let some = before-some (suc s) y (tog (suc s)) (runs_from tog (suc (suc s)) xs) in
+    ap (run_before s x (tog s)) rest
+    ∙ ap (λ (runs : List Run). run_before s x (tog s) (runs ++ runs_from tog (suc (suc s) + length xs) ys)) some.2
+    ∙ before-append s x (tog s) some.0 some.1 (runs_from tog (suc (suc s) + length xs) ys)
+    ∙ ap (λ (runs : List Run). run_before s x (tog s) runs ++ runs_from tog (suc (suc s) + length xs) ys) (sym some.2)
+    ∙ ap (λ (k : ℕ). runs_from tog s (x ∷ y ∷ xs) ++ runs_from tog k ys) next
 
-module _ (at : ℕ → Putting) (together : ℕ → Bool) (adds : (s : ℕ) → together s ≡ true → AddsAt at s) where
-  joined : (s : ℕ) (bytes : List ℕ) (images : Images) (b : Bool) (runs : List Run) → (b ≡ true → AddsAt at s) → ((run : Run) (more : List Run) → runs ≡ run ∷ more → run.0 ≡ suc s)
-      → put_runs at (run_before s bytes b runs) images ≡ then_put (at s (bytes ∷ []) images) (put_runs at runs)
-  joined s bytes images false runs add head = refl
-  joined s bytes images true [] add head = refl
-  joined s bytes images true (run ∷ more) add head =
-      let next : run.0 ≡ suc s = head run more refl in
-      ap (λ (p : Put). then_put p (put_runs at more)) (add refl bytes run.1 images)
-      ∙ then_assoc (at s (bytes ∷ []) images) (at (suc s) run.1) (put_runs at more)
-      ∙ ap (λ (k : ℕ). then_put (at s (bytes ∷ []) images) (λ i. then_put (at k run.1 i) (put_runs at more))) (sym next)
+put_runs-append : (at : ℕ → Putting) (xs ys : List Run) (images : Images) → put_runs at (xs ++ ys) images ≡ then_put (put_runs at xs images) (put_runs at ys)
+put_runs-append at [] ys images = refl
+put_runs-append at (x ∷ xs) ys images =
+    then_same (at x.0 x.1 images) _ _ (λ i. put_runs-append at xs ys i) ∙ sym (then_assoc (at x.0 x.1 images) (put_runs at xs) (put_runs at ys))
 
-  -- runs are put as their sectors are, where sectors that belong together may be put apart
-  pub put_runs-each : (s : ℕ) (sectors : List (List ℕ)) (images : Images) → put_runs at (runs_from together s sectors) images ≡ put_each at s sectors images
-  put_runs-each s [] images = refl
-  put_runs-each s (bytes ∷ more) images =
-      joined s bytes images (together s) (runs_from together (suc s) more) (adds s) (head_from together (suc s) more)
-      ∙ then_same (at s (bytes ∷ []) images) _ _ (λ i. put_runs-each (suc s) more i)
+-- sectors cut where two don't go down together are put in two parts
+pub put-apart : (at : ℕ → Putting) (tog : ℕ → Bool) (s : ℕ) (xs ys : List (List ℕ)) (images : Images) → Apart tog s xs ys
+    → put_runs at (runs_from tog s (xs ++ ys)) images ≡ then_put (put_runs at (runs_from tog s xs) images) (put_runs at (runs_from tog (s + length xs) ys))
+put-apart at tog s [] ys images apart = let e : s ≡ s + 0 = omega arith in ap (λ (k : ℕ). put_runs at (runs_from tog k ys) images) e
+put-apart at tog s (x ∷ xs) ys images apart = elim apart [
+  | inl none ↦ cc
+  | inr other ↦ elim other [
+    | inl none ↦
+        ap (λ (l : List (List ℕ)). put_runs at (runs_from tog s (x ∷ (xs ++ l))) images) none
+        ∙ ap (λ (l : List (List ℕ)). put_runs at (runs_from tog s (x ∷ l)) images) (append-nil xs)
+        ∙ sym (then_done (put_runs at (runs_from tog s (x ∷ xs)) images))
+        ∙ ap (λ (l : List (List ℕ)). then_put (put_runs at (runs_from tog s (x ∷ xs)) images) (put_runs at (runs_from tog (s + suc (length xs)) l))) (sym none)
+    | inr cut ↦
+        let last : s + suc (length xs) - 1 ≡ s + length xs = omega arith in
+        let next : suc s + length xs ≡ s + suc (length xs) = omega arith in
+        ap (λ (runs : List Run). put_runs at runs images) (runs-cut tog s x xs ys (ap tog (sym last) ∙ cut))
+        ∙ put_runs-append at (runs_from tog s (x ∷ xs)) (runs_from tog (suc s + length xs) ys) images
+        ∙ ap (λ (k : ℕ). then_put (put_runs at (runs_from tog s (x ∷ xs)) images) (put_runs at (runs_from tog k ys))) next
+  ]
+]
+
+-- sectors all of which go down together are one run
+runs-one : (tog : ℕ → Bool) (s : ℕ) (x : List ℕ) (xs : List (List ℕ)) → ((j : ℕ) → suc j < length (x ∷ xs) → tog (s + j) ≡ true) → runs_from tog s (x ∷ xs) ≡ (s, x ∷ xs) ∷ []
+runs-one tog s x [] all = one_run s x (tog s)
+runs-one tog s x (y ∷ xs) all =
+    let at : s + 0 ≡ s = omega arith in
+    let rest = runs-one tog (suc s) y xs (λ j h. let e : suc s + j ≡ s + suc j = omega arith in ap tog e ∙ all (suc j) (omega (arith, h))) in
+    ap (run_before s x (tog s)) rest ∙ ap (λ (b : Bool). run_before s x b ((suc s, y ∷ xs) ∷ [])) (ap tog (sym at) ∙ all 0 (omega arith))
+
+pub put-together : (at : ℕ → Putting) (tog : ℕ → Bool) (s : ℕ) (sectors : List (List ℕ)) (images : Images) → 0 < length sectors → ((j : ℕ) → suc j < length sectors → tog (s + j) ≡ true)
+    → put_runs at (runs_from tog s sectors) images ≡ at s sectors images
+put-together at tog s [] images some all = absurd (omega (arith, some))
+put-together at tog s (x ∷ xs) images some all = ap (λ (runs : List Run). put_runs at runs images) (runs-one tog s x xs all) ∙ then_done (at s (x ∷ xs) images)
+
+-- the same runs, of sectors from s on and of sectors from t on
+abbrev AreShifted : ℕ → ℕ → ℕ → List Run → List Run → Type 0
+AreShifted s t n [] [] = Unit {0}
+AreShifted s t n [] (r ∷ more) = ⊥
+AreShifted s t n (r ∷ more) [] = ⊥
+AreShifted s t n (x ∷ xs) (y ∷ ys) = ((j : ℕ) × (j < n) × (x ≡ (s + j, y.1)) × (y.0 ≡ t + j)) × AreShifted s t n xs ys
+
+before-shifted : (s t n k : ℕ) (x : List ℕ) (b b' : Bool) (xs ys : List Run) → k < n → ((r : Run) (rest : List Run) → xs ≡ r ∷ rest → b ≡ b') → AreShifted s t n xs ys
+    → AreShifted s t n (run_before (s + k) x b xs) (run_before (t + k) x b' ys)
+before-shifted s t n k x true true [] [] low same all = ((k, low, refl, refl), tt)
+before-shifted s t n k x true false [] [] low same all = ((k, low, refl, refl), tt)
+before-shifted s t n k x false true [] [] low same all = ((k, low, refl, refl), tt)
+before-shifted s t n k x false false [] [] low same all = ((k, low, refl, refl), tt)
+before-shifted s t n k x b b' [] (y ∷ ys) low same all = absurd all
+before-shifted s t n k x b b' (z ∷ xs) [] low same all = absurd all
+before-shifted s t n k x true true (z ∷ xs) (y ∷ ys) low same all = ((k, low, ap (λ (r : Run). (s + k, x ∷ r.1)) all.0.2, refl), all.1)
+before-shifted s t n k x true false (z ∷ xs) (y ∷ ys) low same all = let clash : true ≡ false = same z xs refl in cc
+before-shifted s t n k x false true (z ∷ xs) (y ∷ ys) low same all = let clash : false ≡ true = same z xs refl in cc
+before-shifted s t n k x false false (z ∷ xs) (y ∷ ys) low same all = ((k, low, refl, refl), all)
+
+runs-shifted : (tog tog' : ℕ → Bool) (s t n k : ℕ) (sectors : List (List ℕ)) → k + length sectors ≤ n → ((j : ℕ) → suc j < n → tog (s + j) ≡ tog' (t + j)) → AreShifted s t n (runs_from tog (s + k) sectors) (runs_from tog' (t + k) sectors)
+runs-shifted tog tog' s t n k [] h same = tt
+runs-shifted tog tog' s t n k (x ∷ xs) h same =
+    let a : s + suc k ≡ suc (s + k) = omega arith in
+    let b : t + suc k ≡ suc (t + k) = omega arith in
+    let rest = runs-shifted tog tog' s t n (suc k) xs (omega (arith, h)) same in
+    before-shifted s t n k x (tog (s + k)) (tog' (t + k)) (runs_from tog (suc (s + k)) xs) (runs_from tog' (suc (t + k)) xs) (omega (arith, h))
+    (λ r more e. same k (behind xs r more e (omega (arith, h))))
+    (subst (λ (q : ℕ). AreShifted s t n (runs_from tog (suc (s + k)) xs) (runs_from tog' q xs)) b (subst (λ (q : ℕ). AreShifted s t n (runs_from tog q xs) (runs_from tog' (t + suc k) xs)) a rest))
+  where
+    behind : (list : List (List ℕ)) (r : Run) (more : List Run) → runs_from tog (suc (s + k)) list ≡ r ∷ more → suc k + length list ≤ n → suc k < n
+    behind [] r more e fits = cc
+    behind (y ∷ list) r more e fits = omega (arith, fits)
+
+put-shifted : (f g : ℕ → Putting) (s t n : ℕ) (xs ys : List Run) (images : Images) → AreShifted s t n xs ys → ((j : ℕ) (run : List (List ℕ)) (i : Images) → j < n → f (s + j) run i ≡ g (t + j) run i) → put_runs f xs images ≡ put_runs g ys images
+put-shifted f g s t n [] [] images all same = refl
+put-shifted f g s t n [] (y ∷ ys) images all same = absurd all
+put-shifted f g s t n (x ∷ xs) [] images all same = absurd all
+put-shifted f g s t n (x ∷ xs) (y ∷ ys) images all same =
+    let one : f x.0 x.1 images ≡ g y.0 y.1 images =
+    ap (λ (r : Run). f r.0 r.1 images) all.0.2 ∙ same all.0.0 y.1 images all.0.1 ∙ ap (λ (q : ℕ). g q y.1 images) (sym all.0.3) in
+    ap (λ (p : Put). then_put p (put_runs f xs)) one ∙ then_same (g y.0 y.1 images) _ _ (λ i. put-shifted f g s t n xs ys i all.1 same)
+
+-- sectors that go down together alike are put alike at two places
+pub put-alike : (f g : ℕ → Putting) (tog tog' : ℕ → Bool) (s t : ℕ) (sectors : List (List ℕ)) (images : Images) → ((j : ℕ) (run : List (List ℕ)) (i : Images) → j < length sectors → f (s + j) run i ≡ g (t + j) run i)
+    → ((j : ℕ) → suc j < length sectors → tog (s + j) ≡ tog' (t + j)) → put_runs f (runs_from tog s sectors) images ≡ put_runs g (runs_from tog' t sectors) images
+put-alike f g tog tog' s t sectors images same togs =
+    let a : s + 0 ≡ s = omega arith in
+    let b : t + 0 ≡ t = omega arith in
+    let all = runs-shifted tog tog' s t (length sectors) 0 sectors (omega arith) togs in
+    put-shifted f g s t (length sectors) (runs_from tog s sectors) (runs_from tog' t sectors) images
+    (subst (λ (q : ℕ). AreShifted s t (length sectors) (runs_from tog s sectors) (runs_from tog' q sectors)) b (subst (λ (q : ℕ). AreShifted s t (length sectors) (runs_from tog q sectors) (runs_from tog' (t + 0) sectors)) a all)) same
 
 -- ---- leaves
 
@@ -177,156 +256,76 @@ leaf-none i s images =
     ∙ ap (λ (l : List (List ℕ)). done (set images i l)) (take-append-drop s image)
     ∙ ap done (set-get_or images i [])
 
--- ---- lines
-
-module _ (at : List ℕ → ℕ → Putting) (adds : (name : List ℕ) → Adds (at name)) where
-  -- sectors of one chunk lie one after another
-  stripe-adds : (chunk : ℕ) (bases : List Base) (s : ℕ) → in_one_chunk chunk s ≡ true → AddsAt (λ t. said_or none_put at (beneath (Striped chunk bases) t)) s
-  stripe-adds chunk bases s one bytes more images =
-      let next = chunk-more chunk s 1 (ltb-true (s % chunk + 1) chunk one) in
-      let k : ℕ = s / chunk in
-      let succ : s + 1 ≡ suc s = omega arith in
-      let there : (suc s / chunk ≡ k) × (suc s % chunk ≡ s % chunk + 1) = (ap (λ (t : ℕ). t / chunk) (sym succ) ∙ next.0, ap (λ (t : ℕ). t % chunk) (sym succ) ∙ next.1) in
-      on (slice_get bases (k % length bases))
-      ∙ ap (λ (t : ℕ). then_put (said_or none_put at (on_chunk k (s % chunk)) (bytes ∷ []) images) (said_or none_put at (on_chunk k t) more)) (sym there.1)
-      ∙ ap (λ (t : ℕ). then_put (said_or none_put at (on_chunk k (s % chunk)) (bytes ∷ []) images) (said_or none_put at (on_chunk t (suc s % chunk)) more)) (sym there.0)
-    where
-      on_chunk : ℕ → ℕ → Option (List ℕ × ℕ)
-      on_chunk k r = option_map (λ (b : Base). (b.device, b.offset + k / length bases * chunk + r)) (slice_get bases (k % length bases))
-
-      on : (o : Option Base)
-          → said_or none_put at (option_map (λ (b : Base). (b.device, b.offset + s / chunk / length bases * chunk + s % chunk)) o) (bytes ∷ more) images
-          ≡ then_put (said_or none_put at (option_map (λ (b : Base). (b.device, b.offset + s / chunk / length bases * chunk + s % chunk)) o) (bytes ∷ []) images)
-          (said_or none_put at (option_map (λ (b : Base). (b.device, b.offset + s / chunk / length bases * chunk + (s % chunk + 1))) o) more)
-      on None = refl
-      on (Some b) =
-          let t : ℕ = b.offset + s / chunk / length bases * chunk + s % chunk in
-          let e : suc t ≡ b.offset + s / chunk / length bases * chunk + (s % chunk + 1) = omega arith in
-          adds b.device t bytes more images ∙ ap (λ (n : ℕ). then_put (at b.device t (bytes ∷ []) images) (at b.device n more)) e
-
-  line-adds : (d l : ℕ) (target : Target) → Adds (line_put at d l target)
-  line-adds d l (Linear base) s bytes more images =
-      let e : suc (base.offset + s) ≡ base.offset + suc s = omega arith in
-      adds base.device (base.offset + s) bytes more images ∙ ap (λ (n : ℕ). then_put (at base.device (base.offset + s) (bytes ∷ []) images) (at base.device n more)) e
-  line-adds d l (Striped chunk bases) s bytes more images =
-      let f : ℕ → Putting = λ t. said_or none_put at (beneath (Striped chunk bases) t) in
-      let each = put_runs-each f (in_one_chunk chunk) (λ t. stripe-adds chunk bases t) in
-      each s (bytes ∷ more) images
-      ∙ ap (λ (p : Put). then_put p (put_each f (suc s) more)) (sym (put_runs-one f (in_one_chunk chunk) s bytes images))
-      ∙ then_same (put_runs f (runs_from (in_one_chunk chunk) s (bytes ∷ [])) images) _ _ (λ i. sym (each (suc s) more i))
-  line-adds d l Zero s bytes more images = refl
-  line-adds d l Error s bytes more images = refl
-  line-adds d l (crypt_target crypt) s bytes more images =
-      let f : ℕ → List ℕ → List ℕ = encrypted_unit crypt.key crypt.iv_offset in
-      let t : ℕ = crypt.base.offset + s in
-      let e : suc t ≡ crypt.base.offset + suc s = omega arith in
-      adds crypt.base.device t (f s bytes) (changed_from f (suc s) more) images
-      ∙ ap (λ (n : ℕ). then_put (at crypt.base.device t (f s bytes ∷ []) images) (at crypt.base.device n (changed_from f (suc s) more))) e
-  line-adds d l (verity_target verity) s bytes more images = refl
-
--- ---- devices
-
-module _ (c : Configuration) (valid : IsValid c) (below : Lower → ℕ → Putting) (adds : (y : Lower) → Adds (below y)) where
-  known-adds : (o : Option Lower) → Adds (known {A = ℕ → Putting} (λ t. none_put) below o)
-  known-adds None s bytes more images = refl
-  known-adds (Some y) s bytes more images = adds y s bytes more images
-
-  device-adds : (d s : ℕ) → in_one_line c d s ≡ true → AddsAt (sector_rule c none_put leaf_put line_put below (mapped d)) s
-  device-adds d s one bytes more images = go (line_at c d s) refl one
-    where
-      go : (o : Option (ℕ × Line)) → line_at c d s ≡ o → option_map_or (λ p. nat_lt (suc s) (p.1.start + p.1.length)) o false ≡ true
-          → sector_rule c none_put leaf_put line_put below (mapped d) s (bytes ∷ more) images
-          ≡ then_put (sector_rule c none_put leaf_put line_put below (mapped d) s (bytes ∷ []) images) (sector_rule c none_put leaf_put line_put below (mapped d) (suc s) more)
-      go None e h = cc
-      go (Some p) e h =
-          let on : ℕ → ℕ → Target → ℕ → Putting = line_put (by_name c (λ t. none_put) below) in
-          let inside : suc s < end_of p.1 = ltb-true (suc s) (end_of p.1) h in
-          let next : line_at c d (suc s) ≡ Some p = found-more 0 (lines_of c d) s (suc s) p e (omega arith) inside in
-          let start = line-start c d s p valid e in
-          let same : suc (s - p.1.start) ≡ suc s - p.1.start = omega (arith, start) in
-          ap (λ (q : Option (ℕ × Line)). on_found none_put on d s q (bytes ∷ more) images) e
-          ∙ line-adds (by_name c (λ t. none_put) below) (λ name. known-adds (named c name)) d p.0 p.1.target (s - p.1.start) bytes more images
-          ∙ ap (λ (k : ℕ). then_put (on d p.0 p.1.target (s - p.1.start) (bytes ∷ []) images) (on d p.0 p.1.target k more)) same
-          ∙ ap (λ (q : Option (ℕ × Line)). then_put (on_found none_put on d s q (bytes ∷ []) images) (on d p.0 p.1.target (suc s - p.1.start) more)) (sym e)
-          ∙ ap (λ (q : Option (ℕ × Line)). then_put (on_found none_put on d s (line_at c d s) (bytes ∷ []) images) (on_found none_put on d (suc s) q more)) (sym next)
-
-  rule-adds : (x : Lower) → Adds (put_rule c below x)
-  rule-adds (leaf i) s bytes more images = leaf-adds i s bytes more images
-  rule-adds (device d) s bytes more images =
-      let f : ℕ → Putting = sector_rule c none_put leaf_put line_put below (device d) in
-      let each = put_runs-each f (in_one_line c d.0) (device-adds d.0) in
-      each s (bytes ∷ more) images
-      ∙ ap (λ (p : Put). then_put p (put_each f (suc s) more)) (sym (put_runs-one f (in_one_line c d.0) s bytes images))
-      ∙ then_same (put_runs f (runs_from (in_one_line c d.0) s (bytes ∷ [])) images) _ _ (λ i. sym (each (suc s) more i))
-
-module _ (c : Configuration) (valid : IsValid c) where
-  steps-add : (n : ℕ) (x : Lower) → Adds (after_steps (λ s. none_put) (put_rule c) n x)
-  steps-add zero x s bytes more images = refl
-  steps-add (suc n) x s bytes more images = rule-adds c valid (after_steps (λ s. none_put) (put_rule c) n) (steps-add n) x s bytes more images
-
-  pub put-adds : (x : Lower) → Adds (put_on c x)
-  unfolding descend
-  put-adds x s bytes more images = steps-add (suc most_devices) x s bytes more images
+-- sectors of a leaf put in two parts
+pub leaf-append : (i s : ℕ) (xs ys : List (List ℕ)) (images : Images) → leaf_put i s (xs ++ ys) images ≡ then_put (leaf_put i s xs images) (leaf_put i (s + length xs) ys)
+leaf-append i s xs ys images =
+    let all = put-all (leaf_put i) (leaf-adds i) (leaf-none i) in
+    all s (xs ++ ys) images ∙ put_each-append (leaf_put i) s xs ys images
+    ∙ ap (λ (p : Put). then_put p (put_each (leaf_put i) (s + length xs) ys)) (sym (all s xs images))
+    ∙ then_same (leaf_put i s xs images) _ _ (λ j. sym (all (s + length xs) ys j))
 
 pub put-none : (c : Configuration) (x : Lower) → PutsNone (put_on c x)
 unfolding descend
 put-none c (leaf i) s images = leaf-none i s images
 put-none c (device d) s images = refl
 
--- sectors put in two parts
-pub put-append : (c : Configuration) → IsValid c → (x : Lower) (s : ℕ) (xs ys : List (List ℕ)) (images : Images) → put_on c x s (xs ++ ys) images ≡ then_put (put_on c x s xs images) (put_on c x (s + length xs) ys)
-put-append c valid x s xs ys images =
-    let all = put-all (put_on c x) (put-adds c valid x) (put-none c x) in
-    all s (xs ++ ys) images ∙ put_each-append (put_on c x) s xs ys images
-    ∙ ap (λ (p : Put). then_put p (put_each (put_on c x) (s + length xs) ys)) (sym (all s xs images))
-    ∙ then_same (put_on c x s xs images) _ _ (λ i. sym (all (s + length xs) ys i))
-
 -- ---- the sectors of one line
 
-line_put-asks : AsksOfNames line_put
-line_put-asks at at' d l (Linear base) s all = said_or-same none_put at at' (Linear base) s all
-line_put-asks at at' d l (Striped chunk bases) s all =
-    ap (λ (f : ℕ → Putting). λ (sectors : List (List ℕ)) (images : Images). put_runs f (runs_from (in_one_chunk chunk) s sectors) images)
-    (fun_ext (λ t. said_or-same none_put at at' (Striped chunk bases) t all))
-line_put-asks at at' d l Zero s all = refl
-line_put-asks at at' d l Error s all = refl
-line_put-asks at at' d l (crypt_target crypt) s all =
-    ap (λ (put : Putting). λ (sectors : List (List ℕ)) (images : Images). put (changed_from (encrypted_unit crypt.key crypt.iv_offset) s sectors) images) (said_or-same none_put at at' (crypt_target crypt) s all)
-line_put-asks at at' d l (verity_target verity) s all = refl
+line_put-asks : (c : Configuration) → AsksOfNames (line_put c)
+line_put-asks c at at' d l (Linear base) s all = said_or-same none_put at at' (Linear base) s all
+line_put-asks c at at' d l (Striped chunk bases) s all = said_or-same none_put at at' (Striped chunk bases) s all
+line_put-asks c at at' d l Zero s all = refl
+line_put-asks c at at' d l Error s all = refl
+line_put-asks c at at' d l (crypt_target crypt) s (all_and same more) =
+    ap (λ (f : ℕ → Putting). unit_put (λ images t. (said_by_name c crypt.base.device t).means images) f crypt s) same
+line_put-asks c at at' d l (verity_target verity) s all = refl
 
 put_rule-local : (c : Configuration) → IsLocal c (put_rule c)
 put_rule-local c f g (leaf i) all = refl
 put_rule-local c f g (device d) all =
-    ap (λ (h : ℕ → Putting). λ (s : ℕ) (sectors : List (List ℕ)) (images : Images). put_runs h (runs_from (in_one_line c d.0) s sectors) images)
-    (sector_rule-local c none_put leaf_put line_put line_put-asks f g (device d) all)
+    ap (λ (h : ℕ → Putting). λ (s : ℕ) (sectors : List (List ℕ)) (images : Images). put_runs h (runs_from (in_one_run c d.0) s sectors) images)
+    (sector_rule-local c none_put leaf_put (line_put c) (line_put-asks c) f g (device d) all)
 
 put-rule : (c : Configuration) → IsValid c → (x : Lower) → put_on c x ≡ put_rule c (put_on c) x
 put-rule c valid x =
     let low : (y : Lower) → depth c y < most_devices = λ y. let l : depth c y ≤ most_depth = depth-low c valid y in omega (arith, l) in
     descend-rule c (λ s. none_put) (put_rule c) (put_rule-local c) (depth c) (falls-at c low) x (let l : depth c x ≤ most_depth = depth-low c valid x in omega (arith, l))
 
--- what a put does by the names of a configuration
-abbrev pub put_by_name : Configuration → List ℕ → ℕ → Putting
-put_by_name c = by_name c (λ t. none_put) (put_on c)
+-- the sectors of a device, cut where two of them don't go down together, are put in two parts
+pub device-apart : (c : Configuration) → IsValid c → (d s : ℕ) (xs ys : List (List ℕ)) (images : Images) → Apart (in_one_run c d) s xs ys
+    → put_on c (mapped d) s (xs ++ ys) images ≡ then_put (put_on c (mapped d) s xs images) (put_on c (mapped d) (s + length xs) ys)
+device-apart c valid d s xs ys images apart =
+    let f : ℕ → Putting = sector_rule c none_put leaf_put (line_put c) (put_on c) (mapped d) in
+    let rule = put-rule c valid (mapped d) in
+    ap (λ (h : ℕ → Putting). h s (xs ++ ys) images) rule
+    ∙ put-apart f (in_one_run c d) s xs ys images apart
+    ∙ ap (λ (h : ℕ → Putting). then_put (h s xs images) (h (s + length xs) ys)) (sym rule)
 
-pub put_on-line : (c : Configuration) (valid : IsValid c) (d s j l : ℕ) (line : Line) → line_at c d s ≡ Some (l, line) → line.start ≤ s → s + j < line.start + line.length → (bytes : List ℕ) (images : Images)
-    → put_on c (mapped d) (s + j) (bytes ∷ []) images ≡ line_put (put_by_name c) d l line.target (s - line.start + j) (bytes ∷ []) images
-put_on-line c valid d s j l line found start inside bytes images =
-    let f : ℕ → Putting = sector_rule c none_put leaf_put line_put (put_on c) (mapped d) in
-    let within : s + j - line.start ≡ s - line.start + j = omega (arith, start) in
-    ap (λ (h : ℕ → Putting). h (s + j) (bytes ∷ []) images) (put-rule c valid (mapped d))
-    ∙ put_runs-one f (in_one_line c d) (s + j) bytes images
-    ∙ ap (λ (q : Option (ℕ × Line)). on_found none_put (line_put (put_by_name c)) d (s + j) q (bytes ∷ []) images) (found-more 0 (lines_of c d) s (s + j) (l, line) found (omega arith) inside)
-    ∙ ap (λ (k : ℕ). line_put (put_by_name c) d l line.target k (bytes ∷ []) images) within
+-- the sectors of one line
+pub put_on-line : (c : Configuration) (valid : IsValid c) (d s l : ℕ) (line : Line) (sectors : List (List ℕ)) (images : Images) → line_at c d s ≡ Some (l, line) → line.start ≤ s → s + length sectors ≤ line.start + line.length
+    → put_on c (mapped d) s sectors images ≡ put_runs (line_put c (put_by_name c) d l line.target) (runs_from (together line.target) (s - line.start) sectors) images
+put_on-line c valid d s l line sectors images found start fits =
+    let f : ℕ → Putting = sector_rule c none_put leaf_put (line_put c) (put_on c) (mapped d) in
+    let g : ℕ → Putting = line_put c (put_by_name c) d l line.target in
+    let at : (j : ℕ) → j < length sectors → line_at c d (s + j) ≡ Some (l, line) = λ j h. found-more 0 (lines_of c d) s (s + j) (l, line) found (omega arith) (omega (arith, h, fits)) in
+    let within : (j : ℕ) → s + j - line.start ≡ s - line.start + j = λ j. omega (arith, start) in
+    ap (λ (h : ℕ → Putting). h s sectors images) (put-rule c valid (mapped d))
+    ∙ put-alike f g (in_one_run c d) (together line.target) s (s - line.start) sectors images
+    (λ j run i h.
+    ap (λ (q : Option (ℕ × Line)). on_found none_put (line_put c (put_by_name c)) d (s + j) q run i) (at j h)
+    ∙ ap (λ (k : ℕ). g k run i) (within j))
+    (λ j h.
+    let inside : nat_lt (suc (s + j)) (line.start + line.length) ≡ true = lt-ltb (suc (s + j)) (line.start + line.length) (omega (arith, h, fits)) in
+    ap (λ (q : Option (ℕ × Line)). option_map_or (λ p. nat_lt (suc (s + j)) (p.1.start + p.1.length) && together p.1.target (s + j - p.1.start)) q false) (at j (omega (arith, h)))
+    ∙ ap (λ (b : Bool). b && together line.target (s + j - line.start)) inside
+    ∙ ap (together line.target) (within j))
 
--- a line that hands on the sector beneath
-pub line_put-beneath : (at : List ℕ → ℕ → Putting) (d l : ℕ) (target : Target) (s : ℕ) (p : List ℕ × ℕ) (bytes : List ℕ) (images : Images) → HandsOn target → beneath target s ≡ Some p
-    → line_put at d l target s (bytes ∷ []) images ≡ at p.0 p.1 (bytes ∷ []) images
-line_put-beneath at d l (Linear base) s p bytes images hands e = ap (λ (o : Option (List ℕ × ℕ)). said_or none_put at o (bytes ∷ []) images) e
-line_put-beneath at d l (Striped chunk bases) s p bytes images hands e =
-    put_runs-one (λ t. said_or none_put at (beneath (Striped chunk bases) t)) (in_one_chunk chunk) s bytes images
-    ∙ ap (λ (o : Option (List ℕ × ℕ)). said_or none_put at o (bytes ∷ []) images) e
-line_put-beneath at d l Zero s p bytes images hands e = absurd hands
-line_put-beneath at d l Error s p bytes images hands e = absurd hands
-line_put-beneath at d l (crypt_target crypt) s p bytes images hands e = absurd hands
-line_put-beneath at d l (verity_target verity) s p bytes images hands e = absurd hands
+-- a line that hands on the sectors beneath
+pub line_put-beneath : (c : Configuration) (at : List ℕ → ℕ → Putting) (d l : ℕ) (target : Target) (s : ℕ) (p : List ℕ × ℕ) (sectors : List (List ℕ)) (images : Images) → HandsOn target → beneath target s ≡ Some p
+    → line_put c at d l target s sectors images ≡ at p.0 p.1 sectors images
+line_put-beneath c at d l (Linear base) s p sectors images hands e = ap (λ (o : Option (List ℕ × ℕ)). said_or none_put at o sectors images) e
+line_put-beneath c at d l (Striped chunk bases) s p sectors images hands e = ap (λ (o : Option (List ℕ × ℕ)). said_or none_put at o sectors images) e
+line_put-beneath c at d l Zero s p sectors images hands e = absurd hands
+line_put-beneath c at d l Error s p sectors images hands e = absurd hands
+line_put-beneath c at d l (crypt_target crypt) s p sectors images hands e = absurd hands
+line_put-beneath c at d l (verity_target verity) s p sectors images hands e = absurd hands

@@ -9,7 +9,7 @@ use Rattle.stack_loader.specs.Records.{Configuration}
 use Rattle.stack_engine.specs.declared.fault.IoFault.{IoFault}
 use Rattle.stack_engine.specs.declared.fault.IoFault.TheVariants as io
 use Rattle.stack_engine.specs.Outcomes.{Fault, error_target, mismatch, Outcome, Images, joint_outcome, span, part}
-use Rattle.stack_engine.specs.May.{IsRun}
+use Rattle.stack_engine.specs.Sectors.{IsRun}
 use Rattle.stack_engine.specs.Leaves.{images_of, AllSteady, AreRead}
 use Rattle.stack_engine.specs.Found.{FoundRecord, entry_of}
 use Rattle.stack_engine.specs.Meaning.{Said}

@@ -18,7 +18,6 @@ use Rattle.stack_loader.specs.Rules.{IsValid, most_depth}
 use Rattle.stack_loader.proofs.lemmas.ValidLemmas.{depth-low}
 use Rattle.stack_engine.specs.Sectors.{OnLine, on_found, sector_rule, by_sector}
 use Rattle.stack_engine.specs.Beneath.{beneath, said_or, HandsOn}
-use Rattle.stack_engine.specs.Units.{decrypted_unit}
 use Rattle.stack_engine.specs.Meaning.{Said, leaf_said, none_said, crypt_said, verity_said, line_said, said_at, said_by_name}
 use Rattle.stack_engine.proofs.lemmas.LineLemmas.{found-more}
 
@@ -103,12 +102,12 @@ said_or-same none at at' Error s all = refl
 said_or-same none at at' (crypt_target crypt) s (all_and same more) = ap (λ h. h (crypt.base.offset + s)) same
 said_or-same none at at' (verity_target verity) s all = refl
 
-line_said-asks : AsksOfNames line_said
+pub line_said-asks : AsksOfNames line_said
 line_said-asks at at' d l (Linear base) s all = said_or-same none_said at at' (Linear base) s all
 line_said-asks at at' d l (Striped chunk bases) s all = said_or-same none_said at at' (Striped chunk bases) s all
 line_said-asks at at' d l Zero s all = refl
 line_said-asks at at' d l Error s all = refl
-line_said-asks at at' d l (crypt_target crypt) s all = ap (crypt_said (decrypted_unit crypt.key crypt.iv_offset s)) (said_or-same none_said at at' (crypt_target crypt) s all)
+line_said-asks at at' d l (crypt_target crypt) s (all_and same more) = ap (λ (f : ℕ → Said). crypt_said f crypt s) same
 line_said-asks at at' d l (verity_target v) s (all_and on_data (all_and on_hash more)) =
     ap (λ (f : ℕ → Said). verity_said f (at v.hash) d l v s) on_data ∙ ap (λ (f : ℕ → Said). verity_said (at' v.data) f d l v s) on_hash
 

@@ -6,6 +6,7 @@ use Rattle.std.proofs.lemmas.List.Elements.{All-get_or}
 use Rattle.std.proofs.lemmas.Bool.{cases_lt, cases_Bool, cond-true, cond-false}
 use Rattle.std.proofs.lemmas.Nat.{mod_below}
 use Rattle.block_device.specs.Device.{IsSector}
+use Rattle.dm_table.specs.declared.crypt.Crypt.{Crypt}
 use Rattle.dm_table.specs.declared.verity.Verity.{Verity}
 use Rattle.dm_table.specs.declared.table.Target.{Target}
 use Rattle.dm_table.specs.declared.table.Target.TheVariants.{Linear, Striped, Zero, Error, Crypt as crypt_target, Verity as verity_target}
@@ -16,12 +17,14 @@ use Rattle.stack_loader.specs.Trees.{tree_of, block_sectors, zero_block}
 use Rattle.stack_loader.proofs.lemmas.VerityLineLemmas.{verity-line}
 use Rattle.hash_tree.specs.Shape.{levels}
 use Rattle.xts_sector.proofs.lemmas.UnitLemmas as units
-use Rattle.stack_engine.specs.Units.{unit_number, decrypted_unit}
+use Rattle.stack_loader.specs.Units.{unit_sectors}
+use Rattle.stack_engine.specs.Units.{unit_number, decrypted_unit, unit_part, unit_first}
 use Rattle.stack_engine.specs.Beneath.{beneath, said_or}
 use Rattle.stack_engine.specs.Blocks.{hash_sectors, hash_start, next_digest, checked, checked_span, is_ignored, data_block_at, block_below, block_at}
 use Rattle.stack_engine.specs.Laws.{AreWhole}
-use Rattle.stack_engine.specs.Meaning.{Said, none_said, leaf_said, line_said, said_at, said_by_name}
+use Rattle.stack_engine.specs.Meaning.{Said, none_said, leaf_said, crypt_said, line_said, said_at, said_by_name}
 use Rattle.stack_engine.specs.Outcomes.{Images, Outcome, mismatch, changed_outcome, joint_outcome, span, then_outcome, part, zero_sector}
+use Rattle.stack_loader.proofs.lemmas.UnitLemmas.{unit_sectors-some}
 use Rattle.stack_engine.proofs.VerityLineLemmas.{whole-sectors}
 use Rattle.stack_engine.proofs.lemmas.EachLineLemmas.{IsHandedUpIn, said_at-each_in, said_by_name-each_in}
 use Rattle.stack_engine.proofs.lemmas.SpanLemmas.{span-add}
@@ -120,12 +123,24 @@ or-size : (images : Images) (at : List ℕ → ℕ → Said) → ((name : List �
 or-size images at all None b e = cc
 or-size images at all (Some p) b e = all p.0 p.1 b e
 
-of-changed : (f : List ℕ → List ℕ) → ((bytes : List ℕ) → IsSector bytes → IsSector (f bytes)) → (o : Outcome) → ((bytes : List ℕ) → o ≡ Ok bytes → IsSector bytes) → (bytes : List ℕ) → changed_outcome f o ≡ Ok bytes → IsSector bytes
-of-changed f keeps (Ok b) all bytes e = let same : f b ≡ bytes = cc in subst IsSector same (keeps b (all b refl))
-of-changed f keeps (Err x) all bytes e = cc
+changed-parts : (f : List ℕ → List ℕ) (o : Outcome) (bytes : List ℕ) → changed_outcome f o ≡ Ok bytes → (x : List ℕ) × (o ≡ Ok x) × (bytes ≡ f x)
+changed-parts f (Ok x) bytes e = let same : f x ≡ bytes = cc in (x, refl, sym same)
+changed-parts f (Err x) bytes e = cc
 
-decrypted-size : (key : List ℕ) (first s : ℕ) (bytes : List ℕ) → IsSector bytes → IsSector (decrypted_unit key first s bytes)
-decrypted-size key first s bytes len = units.length-decrypted key (unit_number first s) bytes (omega (arith, len)) ∙ len
+-- a sector of a unit
+pub unit_part-size : (crypt : Crypt) (s : ℕ) (bytes : List ℕ) → length bytes ≡ 512 * unit_sectors crypt → IsSector (unit_part crypt s bytes)
+unit_part-size crypt s bytes len =
+    let u : ℕ = unit_sectors crypt in
+    let out = decrypted_unit crypt (s / u) bytes in
+    let long : length out ≡ 512 * u = units.length-decrypted crypt.key (unit_number crypt (s / u)) bytes (omega (arith, len)) ∙ len in
+    let low : s % u < u = mod_below s u (omega (arith, unit_sectors-some crypt)) in
+    length-take-le 512 (drop (512 * (s % u)) out) (omega (arith, long, low, length-drop (512 * (s % u)) out))
+
+pub crypt-size : (images : Images) (lower : ℕ → Said) → ((t : ℕ) → IsSized images (lower t)) → (crypt : Crypt) (s : ℕ) → IsSized images (crypt_said lower crypt s)
+crypt-size images lower all crypt s b e =
+    let f : ℕ → Outcome = λ t. (lower t).means images in
+    let read = changed-parts (unit_part crypt s) (span f (unit_first crypt s) (unit_sectors crypt)) b e in
+    subst IsSector (sym read.2) (unit_part-size crypt s read.0 (span-length f all (unit_first crypt s) (unit_sectors crypt) read.0 read.1))
 
 line-size : (c : Configuration) (images : Images) → IsLoaded c → IsHandedUpIn c (IsSized images)
 line-size c images loaded at all d l line is s = go line.target refl
@@ -135,9 +150,7 @@ line-size c images loaded at all d l line is s = go line.target refl
     go (Striped chunk bases) e = or-size images at all (beneath (Striped chunk bases) s)
     go Zero e = λ b h. let same : zero_sector ≡ b = cc in subst IsSector same zero-size
     go Error e = λ b h. cc
-    go (crypt_target crypt) e = λ b h.
-        of-changed (decrypted_unit crypt.key crypt.iv_offset s) (decrypted-size crypt.key crypt.iv_offset s) ((said_or none_said at (beneath (crypt_target crypt) s)).means images)
-        (or-size images at all (beneath (crypt_target crypt) s)) b h
+    go (crypt_target crypt) e = crypt-size images (at crypt.base.device) (all crypt.base.device) crypt s
     go (verity_target v) e = λ b h.
         let some = whole-sectors v.data_block (verity-line c d l line v loaded is e).2.shape.data_size in
         let i : ℕ = s / block_sectors v in

@@ -1,12 +1,19 @@
--- Units of one sector: sectors that are changed one by one, as bytes and as spans.
-use Rattle.std.proofs.Common.{◌≡◌, ℕ, zero, suc, ◌+◌, ◌*◌, ◌<◌, List, [], ◌∷◌, ◌++◌, length, take, drop, Ok, Err, refl, sym, ap, ◌∙◌, arith}
-use Rattle.std.proofs.lemmas.List.{length-drop, take-append-drop, drop-drop, nil_from_length, take_at, drop_at}
-use Rattle.block_device.specs.Device.{IsSector, sectors_of}
+-- Units of `crypt` lines: their sectors as bytes and as spans.
+use Rattle.std.proofs.Common.{◌≡◌, ℕ, zero, suc, ◌+◌, ◌-◌, ◌*◌, ◌/◌, ◌%◌, ◌<◌, ◌≤◌, List, [], ◌∷◌, ◌++◌, length, take, drop, Ok, Err, refl, sym, ap, ◌∙◌, subst, arith}
+use Rattle.std.proofs.lemmas.List.{length-drop, length-take-le, take-append-drop, drop-drop, nil_from_length, take_at, drop_at}
+use Rattle.std.proofs.lemmas.Nat.{div-add-mod', div-mul-add, mod-mul-add, mod_below, div_below}
+use Rattle.std.proofs.Math.Nat.{add-mul, mul_comm, mul_assoc, mul-le-mul_right}
+use Rattle.aes_block.proofs.lemmas.PartLemmas.{part-joined, length-joined_parts}
+use Rattle.block_device.specs.Device.{IsSector}
+use Rattle.dm_table.specs.declared.crypt.Crypt.{Crypt}
+use Rattle.xts_sector.specs.Units.{unit}
+use Rattle.xts_sector.proofs.lemmas.UnitLemmas as xts
 use Rattle.stack_engine.specs.Outcomes.{Fault, Outcome, joint_outcome, span, changed_outcome, part}
-use Rattle.stack_engine.specs.Units.{unit_number, encrypted_unit, decrypted_unit, changed_from}
-use Rattle.std.proofs.Common.{◌%◌}
-use Rattle.xts_sector.specs.Units.{encrypted_units, decrypted_units}
-use Rattle.xts_sector.proofs.lemmas.UnitLemmas.{unit-encrypted_units, unit-decrypted_units, length-encrypted_units, length-decrypted_units}
+use Rattle.dm_table.specs.Crypt.{sector_size}
+use Rattle.stack_loader.specs.Units.{unit_sectors}
+use Rattle.stack_engine.specs.Units.{unit_number, encrypted_unit, decrypted_unit, encrypted_units, decrypted_units, unit_part, unit_first}
+use Rattle.stack_loader.proofs.lemmas.UnitLemmas.{unit_sectors-some, unit-bytes}
+use Rattle.stack_engine.proofs.lemmas.RunLemmas.{part_left}
 
 -- ---- parts
 
@@ -51,61 +58,119 @@ part-span f whole first (suc n) bytes is j h = go (f first) (span f (suc first) 
         ∙ ap (λ (l : List ℕ). Ok (part l j)) (sym (drop_at x y 512 (whole first x e)) ∙ ap (drop 512) all)
         ∙ ap Ok (part-drop bytes j)
 
--- a span of changed sectors has the same fault
-joint-fault : (g : List ℕ → List ℕ) (a b b' : Outcome) (x : Fault) → joint_outcome a b ≡ Err x → (b ≡ Err x → b' ≡ Err x) → joint_outcome (changed_outcome g a) b' ≡ Err x
-joint-fault g (Err y) b b' x e more = e
-joint-fault g (Ok a) (Err y) b' x e more = ap (joint_outcome (Ok (g a))) (more e)
-joint-fault g (Ok a) (Ok b) b' x e more = cc
+-- ---- places in units
 
-pub span-changed_fault : (g : ℕ → List ℕ → List ℕ) (f f' : ℕ → Outcome) (first first' n : ℕ) (x : Fault) → ((j : ℕ) → j < n → f' (first' + j) ≡ changed_outcome (g j) (f (first + j)))
-    → span f first n ≡ Err x → span f' first' n ≡ Err x
-span-changed_fault g f f' first first' zero x all e = cc
-span-changed_fault g f f' first first' (suc n) x all e =
-    let a : first + 0 ≡ first = omega arith in
-    let b : first' + 0 ≡ first' = omega arith in
-    let one : f' first' ≡ changed_outcome (g 0) (f first) = ap f' (sym b) ∙ all 0 (omega arith) ∙ ap (λ (k : ℕ). changed_outcome (g 0) (f k)) a in
-    ap (λ (y : Outcome). joint_outcome y (span f' (suc first') n)) one
-    ∙ joint-fault (g 0) (f first) (span f (suc first) n) (span f' (suc first') n) x e
-    (span-changed_fault (λ j. g (suc j)) f f' (suc first) (suc first') n x (λ j h.
-    let a : suc first + j ≡ first + suc j = omega arith in
-    let b : suc first' + j ≡ first' + suc j = omega arith in
-    ap f' b ∙ all (suc j) (omega (arith, h)) ∙ ap (λ (k : ℕ). changed_outcome (g (suc j)) (f k)) (sym a)))
+-- sector j of some units lies in the unit j / u of them
+pub unit-more : (u w j : ℕ) → 0 < u → w % u ≡ 0 → ((w + j) / u ≡ w / u + j / u) × ((w + j) % u ≡ j % u)
+unit-more u w j some aligned =
+    let split : w + j ≡ (w / u + j / u) * u + j % u = omega (arith, div-add-mod' w u, div-add-mod' j u, aligned, add-mul (w / u) (j / u) u) in
+    let low : j % u < u = mod_below j u some in
+    (ap (λ (x : ℕ). x / u) split ∙ div-mul-add (w / u + j / u) u (j % u) low, ap (λ (x : ℕ). x % u) split ∙ mod-mul-add (w / u + j / u) u (j % u) low)
 
--- ---- sectors of bytes
+-- the unit with sector j ends by the end of whole units
+pub unit-fits : (u n j : ℕ) → 0 < u → n % u ≡ 0 → j < n → j / u * u + u ≤ n
+unit-fits u n j some whole low =
+    let all : n / u * u ≡ n = omega (arith, div-add-mod' n u, whole) in
+    let below : j / u < n / u = div_below j u (n / u) some (omega (arith, all, low)) in
+    let room : (j / u + 1) * u ≤ n / u * u = mul-le-mul_right u (omega (arith, below)) in
+    omega (arith, room, all, add-mul (j / u) 1 u)
 
--- sectors each of which is changed
-pub sectors_of-changed : (f : ℕ → List ℕ → List ℕ) (s n : ℕ) (old new : List ℕ) → ((j : ℕ) → j < n → part new j ≡ f (s + j) (part old j)) → sectors_of n new ≡ changed_from f s (sectors_of n old)
-unfolding sectors_of
-sectors_of-changed f s zero old new all = refl
-sectors_of-changed f s (suc n) old new all =
-    let here : s + 0 ≡ s = omega arith in
-    let one : take 512 new ≡ f s (take 512 old) = all 0 (omega arith) ∙ ap (λ (k : ℕ). f k (take 512 old)) here in
-    let rest : sectors_of n (drop 512 new) ≡ changed_from f (suc s) (sectors_of n (drop 512 old)) = sectors_of-changed f (suc s) n (drop 512 old) (drop 512 new)
-    (λ j h. let at : s + suc j ≡ suc s + j = omega arith in part-drop new j ∙ all (suc j) (omega (arith, h)) ∙ ap (λ (k : ℕ). f k (part old (suc j))) at ∙ ap (f (suc s + j)) (sym (part-drop old j))) in
-    ap (λ (l : List ℕ). l ∷ sectors_of n (drop 512 new)) one ∙ ap (λ (l : List (List ℕ)). f s (take 512 old) ∷ l) rest
+-- ---- units as bytes
 
-pub length-changed_from : (f : ℕ → List ℕ → List ℕ) (s : ℕ) (sectors : List (List ℕ)) → length (changed_from f s sectors) ≡ length sectors
-length-changed_from f s [] = refl
-length-changed_from f s (bytes ∷ more) = ap suc (length-changed_from f (suc s) more)
+module _ (crypt : Crypt) where
+  -- where unit i of some bytes begins
+  pub unit-begin : (i : ℕ) → sector_size crypt * i ≡ 512 * (i * unit_sectors crypt)
+  unit-begin i =
+      let turned : unit_sectors crypt * 512 * i ≡ i * (unit_sectors crypt * 512) = mul_comm (unit_sectors crypt * 512) i in
+      let grouped : i * unit_sectors crypt * 512 ≡ i * (unit_sectors crypt * 512) = mul_assoc i (unit_sectors crypt) 512 in
+      ap (λ (k : ℕ). k * i) (unit-bytes crypt) ∙ turned ∙ (omega (arith, grouped))
 
--- ---- units
+  pub unit-is : (bytes : List ℕ) (i : ℕ) → unit (sector_size crypt) bytes i ≡ take (512 * unit_sectors crypt) (drop (512 * (i * unit_sectors crypt)) bytes)
+  unit-is bytes i =
+      let width : sector_size crypt ≡ 512 * unit_sectors crypt = omega (arith, unit-bytes crypt) in
+      ap (λ (k : ℕ). take (sector_size crypt) (drop k bytes)) (unit-begin i) ∙ ap (λ (k : ℕ). take k (drop (512 * (i * unit_sectors crypt)) bytes)) width
 
-module _ (key : List ℕ) (first : ℕ) (bytes : List ℕ) (n : ℕ) (len : length bytes ≡ 512 * n) where
-  whole : length bytes % 512 ≡ 0
-  whole = omega (arith, len)
+  module _ (bytes : List ℕ) (n : ℕ) (len : length bytes ≡ 512 * n) where
+    pub unit-length : (i : ℕ) → i * unit_sectors crypt + unit_sectors crypt ≤ n → length (unit (sector_size crypt) bytes i) ≡ 512 * unit_sectors crypt
+    unit-length i fits =
+        ap length (unit-is bytes i)
+        ∙ length-take-le (512 * unit_sectors crypt) (drop (512 * (i * unit_sectors crypt)) bytes) (omega (arith, fits, len, length-drop (512 * (i * unit_sectors crypt)) bytes))
 
-  pub part-decrypted : (j : ℕ) → j < n → part (decrypted_units key first 512 bytes) j ≡ decrypted_unit key first j (part bytes j)
-  part-decrypted j h = unit-decrypted_units key first 512 bytes refl whole j (omega (arith, len, h))
+    -- a sector of a unit of some bytes is one of theirs
+    pub unit-sector : (i t : ℕ) → i * unit_sectors crypt + unit_sectors crypt ≤ n → t < unit_sectors crypt → part (unit (sector_size crypt) bytes i) t ≡ part bytes (i * unit_sectors crypt + t)
+    unit-sector i t fits low =
+        let a : ℕ = i * unit_sectors crypt in
+        let rest : List ℕ = drop (512 * a) bytes in
+        let front : List ℕ = take (512 * unit_sectors crypt) rest in
+        let at : 512 * a + 512 * t ≡ 512 * (a + t) = omega arith in
+        ap (λ (l : List ℕ). part l t) (unit-is bytes i)
+        ∙ sym (part_left front (drop (512 * unit_sectors crypt) rest) (unit_sectors crypt) t (sym (ap length (unit-is bytes i)) ∙ unit-length i fits) low)
+        ∙ ap (λ (l : List ℕ). part l t) (take-append-drop (512 * unit_sectors crypt) rest)
+        ∙ ap (take 512) (drop-drop (512 * t) (512 * a) bytes)
+        ∙ ap (λ (k : ℕ). take 512 (drop k bytes)) at
 
-  pub part-encrypted : (j : ℕ) → j < n → part (encrypted_units key first 512 bytes) j ≡ encrypted_unit key first j (part bytes j)
-  part-encrypted j h = unit-encrypted_units key first 512 bytes refl whole j (omega (arith, len, h))
+    module _ (whole : n % unit_sectors crypt ≡ 0) where
+      pub units-count : length bytes / sector_size crypt ≡ n / unit_sectors crypt
+      units-count =
+          let m : ℕ = n / unit_sectors crypt in
+          let all : m * unit_sectors crypt ≡ n = omega (arith, div-add-mod' n (unit_sectors crypt), whole) in
+          let none : 0 < sector_size crypt = omega (arith, unit-bytes crypt, unit_sectors-some crypt) in
+          let split : length bytes ≡ m * sector_size crypt + 0 = omega (arith, len, all, unit-begin m, mul_comm (sector_size crypt) m) in
+          ap (λ (k : ℕ). k / sector_size crypt) split ∙ div-mul-add m (sector_size crypt) 0 none
 
-  pub length-decrypted : length (decrypted_units key first 512 bytes) ≡ 512 * n
-  length-decrypted = length-decrypted_units key first 512 bytes refl whole ∙ len
+      unit-low : (i : ℕ) → i < length bytes / sector_size crypt → i * unit_sectors crypt + unit_sectors crypt ≤ n
+      unit-low i h =
+          let all : n / unit_sectors crypt * unit_sectors crypt ≡ n = omega (arith, div-add-mod' n (unit_sectors crypt), whole) in
+          let room : (i + 1) * unit_sectors crypt ≤ n / unit_sectors crypt * unit_sectors crypt = mul-le-mul_right (unit_sectors crypt) (omega (arith, h, units-count)) in
+          omega (arith, room, all, add-mul i 1 (unit_sectors crypt))
 
-  pub length-encrypted : length (encrypted_units key first 512 bytes) ≡ 512 * n
-  length-encrypted = length-encrypted_units key first 512 bytes refl whole ∙ len
+      decrypted-length : (k i : ℕ) → i < length bytes / sector_size crypt → length (decrypted_unit crypt (k + i) (unit (sector_size crypt) bytes i)) ≡ sector_size crypt
+      decrypted-length k i h =
+          let long = unit-length i (unit-low i h) in
+          xts.length-decrypted crypt.key (unit_number crypt (k + i)) (unit (sector_size crypt) bytes i) (omega (arith, long)) ∙ long ∙ (omega (arith, unit-bytes crypt))
 
--- units counted from a later one
-pub unit-later : (first w j : ℕ) → unit_number first (w + j) ≡ unit_number (unit_number first w) j
-unit-later first w j = omega arith
+      encrypted-length : (k i : ℕ) → i < length bytes / sector_size crypt → length (encrypted_unit crypt (k + i) (unit (sector_size crypt) bytes i)) ≡ sector_size crypt
+      encrypted-length k i h =
+          let long = unit-length i (unit-low i h) in
+          xts.length-encrypted crypt.key (unit_number crypt (k + i)) (unit (sector_size crypt) bytes i) (omega (arith, long)) ∙ long ∙ (omega (arith, unit-bytes crypt))
+
+      all-bytes : sector_size crypt * (length bytes / sector_size crypt) ≡ 512 * n
+      all-bytes =
+          let all : n / unit_sectors crypt * unit_sectors crypt ≡ n = omega (arith, div-add-mod' n (unit_sectors crypt), whole) in
+          ap (λ (m : ℕ). sector_size crypt * m) units-count ∙ unit-begin (n / unit_sectors crypt) ∙ ap (λ (m : ℕ). 512 * m) all
+
+      pub length-decrypted_units : (k : ℕ) → length (decrypted_units crypt k bytes) ≡ 512 * n
+      unfolding decrypted_units
+      length-decrypted_units k = length-joined_parts (sector_size crypt) (λ i. decrypted_unit crypt (k + i) (unit (sector_size crypt) bytes i)) (length bytes / sector_size crypt) (decrypted-length k) ∙ all-bytes
+
+      pub length-encrypted_units : (k : ℕ) → length (encrypted_units crypt k bytes) ≡ 512 * n
+      unfolding encrypted_units
+      length-encrypted_units k = length-joined_parts (sector_size crypt) (λ i. encrypted_unit crypt (k + i) (unit (sector_size crypt) bytes i)) (length bytes / sector_size crypt) (encrypted-length k) ∙ all-bytes
+
+      pub unit-decrypted : (k i : ℕ) → i < length bytes / sector_size crypt → unit (sector_size crypt) (decrypted_units crypt k bytes) i ≡ decrypted_unit crypt (k + i) (unit (sector_size crypt) bytes i)
+      unfolding decrypted_units
+      unit-decrypted k i h = part-joined (sector_size crypt) (λ i. decrypted_unit crypt (k + i) (unit (sector_size crypt) bytes i)) (length bytes / sector_size crypt) i (decrypted-length k) h
+
+      pub unit-encrypted : (k i : ℕ) → i < length bytes / sector_size crypt → unit (sector_size crypt) (encrypted_units crypt k bytes) i ≡ encrypted_unit crypt (k + i) (unit (sector_size crypt) bytes i)
+      unfolding encrypted_units
+      unit-encrypted k i h = part-joined (sector_size crypt) (λ i. encrypted_unit crypt (k + i) (unit (sector_size crypt) bytes i)) (length bytes / sector_size crypt) i (encrypted-length k) h
+
+-- a sector of decrypted units, which begin at sector w of their line
+pub part-decrypted : (crypt : Crypt) (bytes : List ℕ) (n : ℕ) (len : length bytes ≡ 512 * n) (whole : n % unit_sectors crypt ≡ 0) (w j : ℕ) → w % unit_sectors crypt ≡ 0 → j < n → part (decrypted_units crypt (w / unit_sectors crypt) bytes) j ≡ unit_part crypt (w + j) (unit (sector_size crypt) bytes (j / unit_sectors crypt))
+part-decrypted crypt bytes n len whole w j aligned h =
+    let some : 0 < unit_sectors crypt = omega (arith, unit_sectors-some crypt) in
+    let i : ℕ = j / unit_sectors crypt in
+    let t : ℕ = j % unit_sectors crypt in
+    let k : ℕ = w / unit_sectors crypt in
+    let out : List ℕ = decrypted_units crypt k bytes in
+    let low : t < unit_sectors crypt = mod_below j (unit_sectors crypt) some in
+    let fits = unit-fits (unit_sectors crypt) n j some whole h in
+    let place = unit-more (unit_sectors crypt) w j some aligned in
+    let back : i * unit_sectors crypt + t ≡ j = omega (arith, div-add-mod' j (unit_sectors crypt)) in
+    let all : n / unit_sectors crypt * unit_sectors crypt ≡ n = omega (arith, div-add-mod' n (unit_sectors crypt), whole) in
+    let below : i < length bytes / sector_size crypt = subst (λ (m : ℕ). i < m) (sym (units-count crypt bytes n len whole)) (div_below j (unit_sectors crypt) (n / unit_sectors crypt) some (omega (arith, all, h))) in
+    ap (part out) (sym back)
+    ∙ sym (unit-sector crypt out n (length-decrypted_units crypt bytes n len whole k) i t fits low)
+    ∙ ap (λ (l : List ℕ). part l t) (unit-decrypted crypt bytes n len whole k i below)
+    ∙ ap (λ (m : ℕ). part (decrypted_unit crypt m (unit (sector_size crypt) bytes i)) t) (sym place.0)
+    ∙ ap (λ (m : ℕ). part (decrypted_unit crypt ((w + j) / unit_sectors crypt) (unit (sector_size crypt) bytes i)) m) (sym place.1)

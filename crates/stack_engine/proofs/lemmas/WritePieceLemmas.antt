@@ -1,5 +1,7 @@
 -- One piece of a write as callers see it, and pieces one after another.
-use Rattle.std.proofs.Common.{◌≡◌, ℕ, ◌+◌, ◌*◌, ◌/◌, ◌%◌, List, [], ◌++◌, length, Result, Ok, Err, refl, sym, ap, ◌∙◌, subst}
+use Rattle.std.proofs.Common.{◌≡◌, ℕ, ◌+◌, ◌*◌, ◌/◌, ◌%◌, ◌≤◌, List, [], ◌++◌, length, Result, Ok, Err, refl, sym, ap, ◌∙◌, subst, append-nil, arith}
+use Rattle.std.proofs.lemmas.List.{length-append}
+use Rattle.std.proofs.Math.Nat.{add-mul, mul-le-mul_right}
 use Rattle.stack_loader.specs.Records.{Configuration}
 use Rattle.stack_loader.specs.Names.{mapped}
 use Rattle.stack_loader.specs.Descend.{write_cost}
@@ -7,14 +9,16 @@ use Rattle.stack_loader.specs.Rules.{IsLoaded}
 use Rattle.stack_engine.specs.declared.fault.IoFault.{IoFault}
 use Rattle.stack_engine.specs.declared.fault.IoFault.TheVariants as io
 use Rattle.stack_engine.specs.May.{MayFault}
-use Rattle.stack_engine.specs.Changes.{AreWritten, AllWhole}
+use Rattle.stack_engine.specs.Changes.{reached, AreWritten, AllWhole}
 use Rattle.stack_engine.specs.Writing.{sectors_in, MayEnd, destination_of, Writes}
 use Rattle.stack_engine.specs.Stacks.{StackRecord, IsSound}
-use Rattle.stack_engine.specs.WritePieces.{piece_reached, AnyWrite, EachWrite}
-use Rattle.stack_engine.proofs.lemmas.LeafListLemmas.{leaves_kept}
-use Rattle.stack_engine.proofs.lemmas.ChangeLemmas.{differ-within}
-use Rattle.stack_engine.proofs.lemmas.PutLemmas.{put-none, put-append}
-use Rattle.stack_engine.proofs.lemmas.WriteRunLemmas.{length-sectors_in, sectors_in-none, sectors_in-append, write_none, write_ok, write_err}
+use Rattle.stack_engine.specs.Outcomes.{Fault, error_target, LeafSector}
+use Rattle.stack_engine.specs.Meaning.{said_at}
+use Rattle.stack_engine.specs.WritePieces.{piece_reached, AnyWrite, EachWrite, WritesInPieces, nothing, next, ends}
+use Rattle.stack_engine.proofs.lemmas.LeafListLemmas.{leaves_kept, failed_later}
+use Rattle.stack_engine.proofs.lemmas.ChangeLemmas.{differ-within, reached-first, reached-later, AreWritten-none, AreWritten-then, AreWritten-more}
+use Rattle.stack_engine.proofs.lemmas.FoundLemmas.{SomeOf-more}
+use Rattle.stack_engine.proofs.lemmas.WriteRunLemmas.{length-sectors_in}
 
 -- a write of bytes to a mapped device
 abbrev pub WritesTo : Configuration → ℕ → ℕ → List ℕ → StackRecord → StackRecord → Result Unit IoFault → Type 0
@@ -56,32 +60,65 @@ fault_of fault e = cc
 -- ---- pieces one after another
 
 -- nothing was written yet
-pub write-none : (w : StackRecord) (d first : ℕ) → EachWrite w d first [] (Ok tt) w
-write-none w d first =
-    each-write d first [] (Ok tt) refl (λ h. h)
-    (subst (λ (l : List (List ℕ)). Writes (destination_of w.config (mapped d)) first l w.leaves w.leaves (Ok tt)) (sym sectors_in-none)
-    (write_none (destination_of w.config (mapped d)) first w.leaves (put-none w.config (mapped d) first)))
+pub write-none : (w : StackRecord) (d first : ℕ) → WritesInPieces w d first [] (Ok tt) w
+write-none w d first = record {
+  any = record { config = refl; whole = λ h. h; moved = AreWritten-none _ _ w.leaves; ends = tt };
+  pieces = nothing;
+}
 
-module _ {w w' w'' : StackRecord} (d first : ℕ) (x y : List ℕ) (loaded : IsLoaded w.config) (whole : length x % 512 ≡ 0) (p : EachWrite w d first x (Ok tt) w') where
-  -- the next piece as one of the same device, behind those before it
-  next-piece : (result : Result Unit IoFault) → (result ≡ Err io.NoMemory → ⊥) → EachWrite w' d (first + length x / 512) y result w''
-      → Writes (destination_of w.config (mapped d)) (first + length (sectors_in x)) (sectors_in y) w'.leaves w''.leaves result
-  next-piece result grown q =
-      let at : first + length x / 512 ≡ first + length (sectors_in x) = ap (λ (k : ℕ). first + k) (sym (length-sectors_in x)) in
-      subst (λ (k : ℕ). Writes (destination_of w.config (mapped d)) k (sectors_in y) w'.leaves w''.leaves result) at
-      (subst (λ (c : Configuration). Writes (destination_of c (mapped d)) (first + length x / 512) (sectors_in y) w'.leaves w''.leaves result) p.any.config (write-did d (first + length x / 512) y result grown q))
+module _ (x y z : List ℕ) (even : length x % 512 ≡ 0) where
+  count : length (x ++ (y ++ z)) / 512 ≡ (length x + (length y + length z)) / 512
+  count = omega (arith, length-append x (y ++ z), length-append y z)
 
-  pub write-then : EachWrite w' d (first + length x / 512) y (Ok tt) w'' → EachWrite w d first (x ++ y) (Ok tt) w''
-  write-then q =
-      each-write d first (x ++ y) (Ok tt) (q.any.config ∙ p.any.config) (λ h. q.any.whole (p.any.whole h))
-      (subst (λ (l : List (List ℕ)). Writes (destination_of w.config (mapped d)) first l w.leaves w''.leaves (Ok tt)) (sym (sectors_in-append x y whole))
-      (write_ok (destination_of w.config (mapped d)) (put-append w.config loaded.valid (mapped d)) first (sectors_in x) (sectors_in y) (write-did d first x (Ok tt) (λ e. cc) p) (next-piece (Ok tt) (λ e. cc) q)))
+  fits : length x / 512 + length y / 512 ≤ length (x ++ (y ++ z)) / 512
+  fits = omega (arith, count, even)
+
+module _ {w w' w'' : StackRecord} (d first : ℕ) (x y z : List ℕ) (even : length x % 512 ≡ 0) (p : AnyWrite w d first x (Ok tt) w') where
+  -- the next piece, over the same configuration
+  same-config : {result : Result Unit IoFault} → AnyWrite w' d (first + length x / 512) y result w''
+      → AreWritten (piece_reached w.config d (first + length x / 512) (length y / 512)) w'.leaves (length y / 512 * write_cost w.config (mapped d)) w''.leaves
+  same-config q = subst (λ (c : Configuration). AreWritten (piece_reached c d (first + length x / 512) (length y / 512)) w'.leaves (length y / 512 * write_cost c (mapped d)) w''.leaves) p.config q.moved
+
+  both-moved : {result : Result Unit IoFault} → AnyWrite w' d (first + length x / 512) y result w''
+      → AreWritten (piece_reached w.config d first (length (x ++ (y ++ z)) / 512)) w.leaves (length (x ++ (y ++ z)) / 512 * write_cost w.config (mapped d)) w''.leaves
+  both-moved q =
+      let reaches : ℕ → List LeafSector = λ s. (said_at w.config (mapped d) s).reaches in
+      let n : ℕ = length (x ++ (y ++ z)) / 512 in
+      let k : ℕ = write_cost w.config (mapped d) in
+      let front : AreWritten (reached reaches first n) w.leaves (length x / 512 * k) w'.leaves = AreWritten-more (reached-first reaches first (length x / 512) n (omega (arith, fits x y z even))) (omega arith) p.moved in
+      let back : AreWritten (reached reaches first n) w'.leaves (length y / 512 * k) w''.leaves = AreWritten-more (reached-later reaches first (length x / 512) (length y / 512) n (fits x y z even)) (omega arith) (same-config q) in
+      let most : (length x / 512 + length y / 512) * k ≤ n * k = mul-le-mul_right k (fits x y z even) in
+      AreWritten-more (λ q all. all) (omega (arith, most, add-mul (length x / 512) (length y / 512) k)) (AreWritten-then front back)
+
+  any-then : {result : Result Unit IoFault} → (result ≡ Err io.NoMemory → ⊥) → AnyWrite w' d (first + length x / 512) y result w'' → AnyWrite w d first (x ++ (y ++ z)) result w''
+  any-then {result = result} grown q = record {
+    config = q.config ∙ p.config;
+    whole = λ h. q.whole (p.whole h);
+    moved = both-moved q;
+    ends = later result grown (subst (λ (c : Configuration). MayEnd (MayFault c (mapped d) (first + length x / 512) (length y / 512)) w'.leaves w''.leaves result) p.config q.ends);
+  }
+    where
+      more : (fault : Fault) → MayFault w.config (mapped d) (first + length x / 512) (length y / 512) fault → MayFault w.config (mapped d) first (length (x ++ (y ++ z)) / 512) fault
+      more fault h = SomeOf-more (λ s. (said_at w.config (mapped d) s).meets fault) first (length x / 512) (length y / 512) (length (x ++ (y ++ z)) / 512) (fits x y z even) h
+
+      later : (result : Result Unit IoFault) → (result ≡ Err io.NoMemory → ⊥) → MayEnd (MayFault w.config (mapped d) (first + length x / 512) (length y / 512)) w'.leaves w''.leaves result
+          → MayEnd (MayFault w.config (mapped d) first (length (x ++ (y ++ z)) / 512)) w.leaves w''.leaves result
+      later (Ok u) grown h = tt
+      later (Err io.ErrorTarget) grown h = more error_target h
+      later (Err io.Mismatch) grown h = h
+      later (Err (io.Device i)) grown h = (h.0, failed_later p.moved.moved q.moved.moved h.1)
+      later (Err io.NoMemory) grown h = absurd (grown refl)
+
+module _ {w w' w'' : StackRecord} (d first : ℕ) (x y : List ℕ) (even : length x % 512 ≡ 0) (p : WritesInPieces w d first x (Ok tt) w') where
+  pub write-then : EachWrite w' d (first + length x / 512) y (Ok tt) w'' → WritesInPieces w d first (x ++ y) (Ok tt) w''
+  write-then q = record {
+    any = subst (λ (l : List ℕ). AnyWrite w d first (x ++ l) (Ok tt) w'') (append-nil y) (any-then d first x y [] even p.any (λ e. cc) q.any);
+    pieces = next p.pieces q;
+  }
 
   -- a piece that ends the whole write by its fault, before the bytes z
-  pub write-ends : (z : List ℕ) (fault : IoFault) → length y % 512 ≡ 0 → (fault ≡ io.NoMemory → ⊥) → EachWrite w' d (first + length x / 512) y (Err fault) w'' → EachWrite w d first (x ++ (y ++ z)) (Err fault) w''
-  write-ends z fault whole_y grown q =
-      let parts : sectors_in (x ++ (y ++ z)) ≡ sectors_in x ++ (sectors_in y ++ sectors_in z) = sectors_in-append x (y ++ z) whole ∙ ap (λ (l : List (List ℕ)). sectors_in x ++ l) (sectors_in-append y z whole_y) in
-      each-write d first (x ++ (y ++ z)) (Err fault) (q.any.config ∙ p.any.config) (λ h. q.any.whole (p.any.whole h))
-      (subst (λ (l : List (List ℕ)). Writes (destination_of w.config (mapped d)) first l w.leaves w''.leaves (Err fault)) (sym parts)
-      (write_err (destination_of w.config (mapped d)) (put-append w.config loaded.valid (mapped d)) first (sectors_in x) (sectors_in y) (write-did d first x (Ok tt) (λ e. cc) p) (sectors_in z) fault
-      (next-piece (Err fault) (λ e. grown (fault_of fault e)) q)))
+  pub write-ends : (z : List ℕ) (fault : IoFault) → (fault ≡ io.NoMemory → ⊥) → EachWrite w' d (first + length x / 512) y (Err fault) w'' → WritesInPieces w d first (x ++ (y ++ z)) (Err fault) w''
+  write-ends z fault grown q = record {
+    any = any-then d first x y z even p.any (λ e. grown (fault_of fault e)) q.any;
+    pieces = ends z p.pieces q;
+  }

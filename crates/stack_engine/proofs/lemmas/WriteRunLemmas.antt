@@ -60,9 +60,9 @@ MayEnd-as May More old new (Err io.NoMemory) more h = h
 
 -- ---- one write after another
 
--- sectors are put in two parts
-abbrev pub PutsInParts : Destination → Type 0
-PutsInParts to = (s : ℕ) (xs ys : List (List ℕ)) (images : Images) → to.puts s (xs ++ ys) images ≡ then_put (to.puts s xs images) (to.puts (s + length xs) ys)
+-- sectors from s on are put in two parts
+abbrev pub PutsInParts : Destination → ℕ → List (List ℕ) → List (List ℕ) → Type 0
+PutsInParts to s xs ys = (images : Images) → to.puts s (xs ++ ys) images ≡ then_put (to.puts s xs images) (to.puts (s + length xs) ys)
 
 -- nothing was written yet
 pub write_none : (to : Destination) (first : ℕ) (leaves : List Device) → ((images : Images) → to.puts first [] images ≡ done images) → Writes to first [] leaves leaves (Ok tt)
@@ -73,7 +73,7 @@ write_none to first leaves empty = record {
   exact = λ steady. empty (images_of leaves);
 }
 
-module _ (to : Destination) (parts : PutsInParts to) (first : ℕ) (xs ys : List (List ℕ)) {old mid new : List Device} (p : Writes to first xs old mid (Ok tt)) where
+module _ (to : Destination) (first : ℕ) (xs ys : List (List ℕ)) {old mid new : List Device} (p : Writes to first xs old mid (Ok tt)) where
   -- both parts of some sectors were written
   both-written : (n : ℕ) {result : Result Unit IoFault} → length xs + length ys ≤ n → Writes to (first + length xs) ys mid new result → AreWritten (reached (λ s. (to.said s).reaches) first n) old (n * to.cost) new
   both-written n h q =
@@ -83,20 +83,20 @@ module _ (to : Destination) (parts : PutsInParts to) (first : ℕ) (xs ys : List
       AreWritten-more (λ x all. all) (omega (arith, mul-le-mul_right to.cost h)) (AreWritten-then front back)
 
   -- the next ones
-  pub write_ok : Writes to (first + length xs) ys mid new (Ok tt) → Writes to first (xs ++ ys) old new (Ok tt)
-  write_ok q = record {
+  pub write_ok : PutsInParts to first xs ys → Writes to (first + length xs) ys mid new (Ok tt) → Writes to first (xs ++ ys) old new (Ok tt)
+  write_ok parts q = record {
     moved = both-written (length (xs ++ ys)) (omega (arith, length-append xs ys)) q;
     ends = tt;
     grown = λ e. cc;
     exact = λ steady.
-        parts first xs ys (images_of old)
+        parts (images_of old)
         ∙ ap (λ (x : Put). then_put x (to.puts (first + length xs) ys)) (p.exact steady)
         ∙ q.exact (AllSteady-kept old mid p.moved.moved.fixed steady);
   }
 
   -- the next ones, which a fault ends before the last ones
-  pub write_err : (zs : List (List ℕ)) (fault : IoFault) → Writes to (first + length xs) ys mid new (Err fault) → Writes to first (xs ++ (ys ++ zs)) old new (Err fault)
-  write_err zs fault q =
+  pub write_err : (zs : List (List ℕ)) (fault : IoFault) → PutsInParts to first xs (ys ++ zs) → PutsInParts to (first + length xs) ys zs → Writes to (first + length xs) ys mid new (Err fault) → Writes to first (xs ++ (ys ++ zs)) old new (Err fault)
+  write_err zs fault parts more q =
       let fits : length xs + length ys ≤ length (xs ++ (ys ++ zs)) = omega (arith, length-append xs (ys ++ zs), length-append ys zs) in
       record {
         moved = both-written (length (xs ++ (ys ++ zs))) fits q;
@@ -105,9 +105,9 @@ module _ (to : Destination) (parts : PutsInParts to) (first : ℕ) (xs ys : List
         exact = λ steady.
             let rest : Images → Put = to.puts (first + length xs + length ys) zs in
             let same : then_put (to.puts (first + length xs) ys (images_of mid)) rest ≡ to.puts first (xs ++ (ys ++ zs)) (images_of old) = sym (
-            parts first xs (ys ++ zs) (images_of old)
+            parts (images_of old)
             ∙ ap (λ (x : Put). then_put x (to.puts (first + length xs) (ys ++ zs))) (p.exact steady)
-            ∙ parts (first + length xs) ys zs (images_of mid)) in
+            ∙ more (images_of mid)) in
             subst (λ (x : Put). IsPut x (images_of new) (Err fault)) same
             (put-ends (to.puts (first + length xs) ys (images_of mid)) rest (images_of new) fault (q.exact (AllSteady-kept old mid p.moved.moved.fixed steady)));
       }

@@ -1,5 +1,5 @@
 -- The equation of costs, of lines whose cost depends on what they name alone.
-use Rattle.std.proofs.Common.{◌≡◌, ◌≤◌, ℕ, List, [], ◌∷◌, ◌++◌, refl, ap, Option, Some, None, map, arith}
+use Rattle.std.proofs.Common.{◌≡◌, ◌≤◌, ◌*◌, ℕ, List, [], ◌∷◌, ◌++◌, refl, ap, Option, Some, None, map, arith}
 use Rattle.std.specs.Prelude.{filter_map, flat_map}
 use Rattle.std.specs.List.{AllByRecursion, cons_option}
 use Rattle.dm_table.specs.declared.table.Base.{Base}
@@ -12,6 +12,7 @@ use Rattle.stack_loader.specs.Records.{Configuration}
 use Rattle.stack_loader.specs.Names.{named, names, lowers_of, lines_of}
 use Rattle.stack_loader.specs.Descend.{depth, descend, greatest, known, by_name, cost_rule, line_read_cost, line_write_cost}
 use Rattle.stack_loader.specs.Rules.{most_depth}
+use Rattle.stack_loader.specs.Units.{unit_sectors, unit_write_cost}
 use Rattle.stack_loader.proofs.lemmas.UnrollLemmas.{AllOf, all_and, IsLocal, descend-rule, falls-at}
 
 -- a line's cost depends on the costs of what it names alone
@@ -28,16 +29,16 @@ line_read_cost-local cost other (Linear base) all = all.0
 line_read_cost-local cost other (Striped chunk bases) all = bases-same cost other bases all
 line_read_cost-local cost other Zero all = refl
 line_read_cost-local cost other Error all = refl
-line_read_cost-local cost other (Crypt crypt) all = all.0
+line_read_cost-local cost other (Crypt crypt) all = ap (λ n. unit_sectors crypt * n) all.0
 line_read_cost-local cost other (Verity verity) all = rw (all.0, all.1.0) refl
 
-pub line_write_cost-local : IsLineLocal line_write_cost
-line_write_cost-local cost other (Linear base) all = all.0
-line_write_cost-local cost other (Striped chunk bases) all = bases-same cost other bases all
-line_write_cost-local cost other Zero all = refl
-line_write_cost-local cost other Error all = refl
-line_write_cost-local cost other (Crypt crypt) all = all.0
-line_write_cost-local cost other (Verity verity) all = refl
+pub line_write_cost-local : (read : List ℕ → ℕ) → IsLineLocal (line_write_cost read)
+line_write_cost-local read cost other (Linear base) all = all.0
+line_write_cost-local read cost other (Striped chunk bases) all = bases-same cost other bases all
+line_write_cost-local read cost other Zero all = refl
+line_write_cost-local read cost other Error all = refl
+line_write_cost-local read cost other (Crypt crypt) all = ap (unit_write_cost (unit_sectors crypt) (read crypt.base.device)) all.0
+line_write_cost-local read cost other (Verity verity) all = refl
 
 -- ---- from the devices beneath to the names of each line
 

@@ -150,8 +150,10 @@ line-cost c line_cost local d l line valid is =
 pub line-read-cost : (c : Configuration) (d l : ℕ) (line : Line) → IsValid c → IsLine c d l line → line_read_cost (by_name c 0 (read_cost c)) line.target ≤ read_cost c (mapped d)
 line-read-cost c d l line valid is = line-cost c line_read_cost line_read_cost-local d l line valid is
 
-pub line-write-cost : (c : Configuration) (d l : ℕ) (line : Line) → IsValid c → IsLine c d l line → line_write_cost (by_name c 0 (write_cost c)) line.target ≤ write_cost c (mapped d)
-line-write-cost c d l line valid is = line-cost c line_write_cost line_write_cost-local d l line valid is
+pub line-write-cost : (c : Configuration) (d l : ℕ) (line : Line) → IsValid c → IsLine c d l line → line_write_cost (by_name c 0 (read_cost c)) (by_name c 0 (write_cost c)) line.target ≤ write_cost c (mapped d)
+line-write-cost c d l line valid is =
+    let read : List ℕ → ℕ = by_name c 0 (read_cost c) in
+    line-cost c (line_write_cost read) (line_write_cost-local read) d l line valid is
 
 -- what one name costs
 pub name-cost : (c : Configuration) (cost : Lower → ℕ) (name : List ℕ) (y : Lower) → named c name ≡ Some y → by_name c 0 cost name ≡ cost y

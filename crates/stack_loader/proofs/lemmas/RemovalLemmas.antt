@@ -8,15 +8,17 @@ use Rattle.std.proofs.lemmas.Bool.Decides.{nat_tests}
 use Rattle.std.proofs.lemmas.List.Elements.{filter_map-append}
 use Rattle.dm_table.specs.declared.table.Line.{Line}
 use Rattle.dm_table.specs.declared.table.Target.{Target}
+use Rattle.dm_table.specs.declared.table.Target.TheVariants.{Linear, Striped, Zero, Error, Crypt, Verity}
 use Rattle.stack_loader.specs.declared.lower.Lower.{Lower}
 use Rattle.stack_loader.specs.declared.lower.Lower.TheVariants.{Leaf as leaf, Device as device}
 use Rattle.stack_loader.specs.Records.{Configuration, DeviceRecord}
 use Rattle.stack_loader.specs.Names.{mapped, named, names, path_of, lowers, lowers_of, lines_of, sectors_of, size, may_write}
-use Rattle.stack_loader.specs.Descend.{greatest, known, by_name, depth, depth_rule, descend, cost_rule}
+use Rattle.stack_loader.specs.Descend.{greatest, known, by_name, depth, depth_rule, descend, cost_rule, line_read_cost, line_write_cost, read_cost, write_cost}
+use Rattle.stack_loader.specs.Units.{unit_sectors, unit_write_cost}
 use Rattle.stack_loader.specs.Cycles.{is_mapped, names_device}
 use Rattle.stack_loader.specs.Removal.{place_after, lower_after}
 use Rattle.stack_loader.proofs.RemoveLemmas.{slice_get-remove, position-remove}
-use Rattle.stack_loader.proofs.lemmas.CostRuleLemmas.{IsLineLocal, in-append, cons-tail}
+use Rattle.stack_loader.proofs.lemmas.CostRuleLemmas.{IsLineLocal, line_read_cost-local, line_write_cost-local, in-append, cons-tail}
 use Rattle.stack_loader.proofs.lemmas.RenumberLemmas.{AreRelated, descend-renumbered}
 use Rattle.stack_loader.proofs.lemmas.UnrollLemmas.{AllOf, all_and}
 use Rattle.stack_loader.proofs.lemmas.ValidLineLemmas.{or-false}
@@ -158,24 +160,54 @@ recursion-of : {P : Lower → Type 0} (xs : List Lower) → AllOf P xs → AllBy
 recursion-of [] all = tt
 recursion-of (x ∷ xs) (all_and here more) = (here, recursion-of xs more)
 
-dearest-after : (c : Configuration) (d : ℕ) → IsUnused c d → (line_cost : (List ℕ → ℕ) → Target → ℕ) → IsLineLocal line_cost → (f g : Lower → ℕ) (lines : List Line)
+-- what a line costs is said alike of both configurations, where it doesn't name the device
+abbrev pub Agree : Configuration → ℕ → ((List ℕ → ℕ) → Target → ℕ) → ((List ℕ → ℕ) → Target → ℕ) → Type 0
+Agree c d line_cost other_cost = (cost : List ℕ → ℕ) (target : Target) → AllByRecursion (Avoids c d) (names target) → line_cost cost target ≡ other_cost cost target
+
+dearest-after : (c : Configuration) (d : ℕ) → IsUnused c d → (line_cost other_cost : (List ℕ → ℕ) → Target → ℕ) → IsLineLocal line_cost → Agree c d line_cost other_cost → (f g : Lower → ℕ) (lines : List Line)
     → AllByRecursion (λ (line : Line). AllByRecursion (Avoids c d) (names line.target)) lines
     → AllByRecursion (λ y. f y ≡ g (lower_after d y)) (filter_map (named c) (flat_map (λ (line : Line). names line.target) lines))
-    → greatest (map (λ (line : Line). line_cost (by_name c 0 f) line.target) lines) ≡ greatest (map (λ (line : Line). line_cost (by_name (without c d) 0 g) line.target) lines)
-dearest-after c d unused line_cost local f g [] avoids all = refl
-dearest-after c d unused line_cost local f g (x ∷ xs) avoids all =
+    → greatest (map (λ (line : Line). line_cost (by_name c 0 f) line.target) lines) ≡ greatest (map (λ (line : Line). other_cost (by_name (without c d) 0 g) line.target) lines)
+dearest-after c d unused line_cost other_cost local agree f g [] avoids all = refl
+dearest-after c d unused line_cost other_cost local agree f g (x ∷ xs) avoids all =
     let both = in-append (λ y. f y ≡ g (lower_after d y)) (filter_map (named c) (names x.target)) (filter_map (named c) (flat_map (λ (line : Line). names line.target) xs))
     (rw (filter_map-append (named c) (names x.target) (flat_map (λ (line : Line). names line.target) xs)) at all) in
-    let here = local (by_name c 0 f) (by_name (without c d) 0 g) x.target (name-after c d unused f g (names x.target) avoids.0 both.0) in
-    rw (here, dearest-after c d unused line_cost local f g xs avoids.1 both.1) refl
+    let here = local (by_name c 0 f) (by_name (without c d) 0 g) x.target (name-after c d unused f g (names x.target) avoids.0 both.0) ∙ agree (by_name (without c d) 0 g) x.target avoids.0 in
+    rw (here, dearest-after c d unused line_cost other_cost local agree f g xs avoids.1 both.1) refl
 
-pub cost-after : (c : Configuration) (d : ℕ) → IsUnused c d → (line_cost : (List ℕ → ℕ) → Target → ℕ) → IsLineLocal line_cost → (x : Lower) → IsOther d x
-    → descend 0 (cost_rule c line_cost) x ≡ descend 0 (cost_rule (without c d) line_cost) (lower_after d x)
-cost-after c d unused line_cost local x other =
-    descend-renumbered (λ m n. m ≡ n) c (IsOther d) (lower_after d) (others-beneath c d unused) 0 0 refl (cost_rule c line_cost) (cost_rule (without c d) line_cost) related x other
+pub cost-after : (c : Configuration) (d : ℕ) → IsUnused c d → (line_cost other_cost : (List ℕ → ℕ) → Target → ℕ) → IsLineLocal line_cost → Agree c d line_cost other_cost → (x : Lower) → IsOther d x
+    → descend 0 (cost_rule c line_cost) x ≡ descend 0 (cost_rule (without c d) other_cost) (lower_after d x)
+cost-after c d unused line_cost other_cost local agree x other =
+    descend-renumbered (λ m n. m ≡ n) c (IsOther d) (lower_after d) (others-beneath c d unused) 0 0 refl (cost_rule c line_cost) (cost_rule (without c d) other_cost) related x other
   where
-    related : AreRelated (λ m n. m ≡ n) c (IsOther d) (lower_after d) (cost_rule c line_cost) (cost_rule (without c d) line_cost)
+    related : AreRelated (λ m n. m ≡ n) c (IsOther d) (lower_after d) (cost_rule c line_cost) (cost_rule (without c d) other_cost)
     related f g (leaf i) other all = refl
     related f g (device e) other all =
-        dearest-after c d unused line_cost local f g (lines_of c e.0) (unused-lines c d unused e.0) (recursion-of (lowers c e.0) all)
-        ∙ ap (λ lines. greatest (map (λ (line : Line). line_cost (by_name (without c d) 0 g) line.target) lines)) (sym (lines-after c d unused e.0 other))
+        dearest-after c d unused line_cost other_cost local agree f g (lines_of c e.0) (unused-lines c d unused e.0) (recursion-of (lowers c e.0) all)
+        ∙ ap (λ lines. greatest (map (λ (line : Line). other_cost (by_name (without c d) 0 g) line.target) lines)) (sym (lines-after c d unused e.0 other))
+
+pub read_cost-after : (c : Configuration) (d : ℕ) → IsUnused c d → (x : Lower) → IsOther d x → read_cost c x ≡ read_cost (without c d) (lower_after d x)
+read_cost-after c d unused x other = cost-after c d unused line_read_cost line_read_cost line_read_cost-local (λ cost target avoids. refl) x other
+
+other-of : (d : ℕ) (y : Lower) → (y ≡ mapped d → ⊥) → IsOther d y
+other-of d (leaf i) apart = tt
+other-of d (device e) apart = λ same. apart (ap mapped same)
+
+pub write_cost-after : (c : Configuration) (d : ℕ) → IsUnused c d → (x : Lower) → IsOther d x → write_cost c x ≡ write_cost (without c d) (lower_after d x)
+write_cost-after c d unused x other =
+    cost-after c d unused (line_write_cost (by_name c 0 (read_cost c))) (line_write_cost (by_name (without c d) 0 (read_cost (without c d)))) (line_write_cost-local (by_name c 0 (read_cost c))) agree x other
+  where
+    name : (n : List ℕ) → Avoids c d n → by_name c 0 (read_cost c) n ≡ by_name (without c d) 0 (read_cost (without c d)) n
+    name n avoids = go (named c n) avoids ∙ ap (known 0 (read_cost (without c d))) (sym (named-after c d unused n avoids))
+      where
+        go : (o : Option Lower) → (o ≡ Some (mapped d) → ⊥) → known 0 (read_cost c) o ≡ known 0 (read_cost (without c d)) (option_map (lower_after d) o)
+        go None apart = refl
+        go (Some y) apart = read_cost-after c d unused y (other-of d y (λ same. apart (ap (λ (y : Lower). Some y) same)))
+
+    agree : Agree c d (line_write_cost (by_name c 0 (read_cost c))) (line_write_cost (by_name (without c d) 0 (read_cost (without c d))))
+    agree cost (Linear base) avoids = refl
+    agree cost (Striped chunk bases) avoids = refl
+    agree cost Zero avoids = refl
+    agree cost Error avoids = refl
+    agree cost (Crypt crypt) avoids = ap (λ n. unit_write_cost (unit_sectors crypt) n (cost crypt.base.device)) (name crypt.base.device avoids.0)
+    agree cost (Verity verity) avoids = refl

@@ -12,7 +12,7 @@ use Rattle.stack_loader.specs.declared.refusal.Refusal.{Refusal}
 use Rattle.stack_loader.specs.Names.{sectors_of}
 use Rattle.stack_loader.specs.Lines.{Follow}
 use Rattle.stack_loader.specs.Descend.{most_devices}
-use Rattle.stack_loader.specs.Rules.{IsValid, first, each_device, device_rules, depth_rules, cost_rules, unknown_names, cycles, table_rules, line_faults, line_rules, refusals_at, refuse, is_too_many, most_lines, most_sectors, is_undivided, is_beyond, is_uncovered, is_tree_beyond, needs_read_only, names_read_only}
+use Rattle.stack_loader.specs.Rules.{IsValid, first, each_device, device_rules, depth_rules, cost_rules, unknown_names, cycles, table_rules, line_faults, line_rules, refusals_at, refuse, is_too_many, most_lines, most_sectors, is_undivided, cuts_unit, is_off_unit, is_beyond, is_uncovered, is_tree_beyond, needs_read_only, names_read_only}
 
 -- two lists in which nothing refuses
 pub parts : (xs ys : List (Option Refusal)) → first (xs ++ ys) ≡ None → (first xs ≡ None) × (first ys ≡ None)
@@ -75,7 +75,7 @@ none-faults d l (f ∷ fs) all = rw all.0 (none-faults d l fs all.1)
 at_least_one : (n : ℕ) → (n == 0) ≡ false → 0 < n
 at_least_one n h = grind (arith, nat_tests)
 
-equal : (m n : ℕ) → not (m == n) ≡ false → m ≡ n
+pub equal : (m n : ℕ) → not (m == n) ≡ false → m ≡ n
 equal m n h = grind (arith, nat_tests)
 
 -- a line that no rule refuses
@@ -84,6 +84,8 @@ pub record IsSound (c : Configuration) (writable : Bool) (before : ℕ) (line : 
   pub start : line.start ≡ before
   pub low : line.start + line.length ≤ most_sectors
   pub divides : is_undivided line.length line.target ≡ false
+  pub units : cuts_unit line.length line.target ≡ false
+  pub offset : is_off_unit line.target ≡ false
   pub inside : is_beyond c line.length line.target ≡ false
   pub covered : is_uncovered line.length line.target ≡ false
   pub tree : is_tree_beyond c line.target ≡ false
@@ -101,7 +103,7 @@ sound c valid d x device l line there =
     from : (before : ℕ) → first (line_rules c x.writable (d + 1) (l + 1) before line) ≡ None → IsSound c x.writable before line
     from before h =
         let a = faults-none (d + 1) (l + 1) (line_faults c x.writable before line) h in
-        record { some = at_least_one line.length a.0; start = equal line.start before a.1.0; low = Rattle.std.proofs.lemmas.Bool.ltb-false most_sectors (line.start + line.length) a.1.1.0; divides = a.1.1.1.0; inside = a.1.1.1.1.0; covered = a.1.1.1.1.1.0; tree = a.1.1.1.1.1.1.0; read_only = a.1.1.1.1.1.1.1.0; lowers = a.1.1.1.1.1.1.1.1.0 }
+        record { some = at_least_one line.length a.0; start = equal line.start before a.1.0; low = Rattle.std.proofs.lemmas.Bool.ltb-false most_sectors (line.start + line.length) a.1.1.0; divides = a.1.1.1.0; units = a.1.1.1.1.0; offset = a.1.1.1.1.1.0; inside = a.1.1.1.1.1.1.0; covered = a.1.1.1.1.1.1.1.0; tree = a.1.1.1.1.1.1.1.1.0; read_only = a.1.1.1.1.1.1.1.1.1.0; lowers = a.1.1.1.1.1.1.1.1.1.1.0 }
 
 -- ---- lines follow each other
 

@@ -1,7 +1,7 @@
 // Loads of crypt and verity lines.
 use super::steps::Case;
 
-pub(super) static TREES: [Case; 5] = [
+pub(super) static TREES: [Case; 6] = [
     // A line as long as its data blocks, whose tree ends with its device, and each limit passed by one.
     Case {
         leaves: &[("D", 1032, true), ("H", 32, true)],
@@ -91,6 +91,29 @@ pub(super) static TREES: [Case; 5] = [
                 "loaded",
             ),
             ("show", "c", "0 8 ro 1 1 1 / L1 at 0 4"),
+        ],
+    },
+    // Units of several sectors: their lines, and what they cost on one another, also after a removal.
+    Case {
+        leaves: &[("D", 16, true)],
+        steps: &[
+            (
+                "load",
+                "x,,,rw,0 12 crypt aes-xts-plain64 0000000000000000000000000000000000000000000000000000000000000000 3 D 0 2 sector_size:4096 iv_large_sectors",
+                "UnitDoesntDivide 1 1",
+            ),
+            (
+                "load",
+                "x,,,rw,0 16 crypt aes-xts-plain64 0000000000000000000000000000000000000000000000000000000000000000 3 D 0 1 sector_size:4096",
+                "IvOffset 1 1",
+            ),
+            (
+                "load",
+                "z,,,rw,0 8 zero;a,,,rw,0 8 crypt aes-xts-plain64 0000000000000000000000000000000000000000000000000000000000000000 8 D 0 1 sector_size:4096;b,,,rw,0 8 crypt aes-xts-plain64 0000000000000000000000000000000000000000000000000000000000000000 0 /dev/mapper/a 0 1 sector_size:1024;c,,,rw,0 8 crypt aes-xts-plain64 0000000000000000000000000000000000000000000000000000000000000000 0 /dev/mapper/b 0 2 iv_large_sectors sector_size:4096",
+                "loaded",
+            ),
+            ("remove", "z", "removed"),
+            ("show", "c", "2 8 rw 3 128 512 / D1 at 0 4"),
         ],
     },
     // A device that stands later and is too large itself: the tree over it is counted, whatever its size.

@@ -7,7 +7,7 @@ use Rattle.stack_engine.specs.Sources.{source_said, SourceHolds}
 use Rattle.stack_engine.specs.Writing.{SomeEncrypt}
 use Rattle.stack_engine.proofs.LoadedLemmas.{size-small}
 use Rattle.stack_engine.proofs.SourceLemmas.{served-depth, served-holds}
-use Rattle.stack_engine.proofs.EncryptLemmas.{leaf-encrypts, block-encrypts, below-some, some-below, run-some, none-more}
+use Rattle.stack_engine.proofs.EncryptLemmas.{leaf-encrypts, block-encrypts, units-some, unit_part-some, below-some, some-below, run-some, none-more}
 use Rattle.stack_engine.proofs.encrypts.+encrypts.Goals as goal
 
 pub device_encrypts-overflow_add-first : goal.device_encrypts-overflow_add-first
@@ -61,3 +61,17 @@ run_encrypts-returns-in-Block t c =
     let none : SomeEncrypt (source_said config c.args.source) 0 c.args.count → ⊥ =
     subst (λ (s : Source). SomeEncrypt (source_said config s) 0 c.args.count → ⊥) (sym c.in-Block.is) (block-encrypts config c.in-Block.field-0 c.args.count (subst (λ (s : Source). SourceHolds config s c.args.count) c.in-Block.is c.requires.inside)) in
     (λ yes. cc, λ some. absurd (none some))
+
+pub run_encrypts-returns-in-Units : goal.run_encrypts-returns-in-Units
+run_encrypts-returns-in-Units t c =
+    let config = c.args.config.now in
+    let b = c.in-Units.field-0 in
+    let inside = subst (λ (s : Source). SourceHolds config s c.args.count) c.in-Units.is c.requires.inside in
+    (λ yes. subst (λ (s : Source). SomeEncrypt (source_said config s) 0 c.args.count) (sym c.in-Units.is) (units-some config b c.args.count inside c.requires.some), λ some. refl)
+
+pub run_encrypts-returns-in-UnitPart : goal.run_encrypts-returns-in-UnitPart
+run_encrypts-returns-in-UnitPart t c =
+    let config = c.args.config.now in
+    let b = c.in-UnitPart.field-0 in
+    let inside = subst (λ (s : Source). SourceHolds config s c.args.count) c.in-UnitPart.is c.requires.inside in
+    (λ yes. subst (λ (s : Source). SomeEncrypt (source_said config s) 0 c.args.count) (sym c.in-UnitPart.is) (unit_part-some config b c.args.count inside c.requires.some), λ some. refl)

@@ -19,7 +19,7 @@ use Rattle.stack_loader.specs.declared.lower.Lower.TheVariants.{Leaf}
 use Rattle.stack_loader.specs.declared.lower.Lower.{Lower}
 use Rattle.stack_engine.specs.declared.fault.IoFault.TheVariants.{ErrorTarget}
 use Rattle.stack_engine.specs.declared.source.Source.{Source}
-use Rattle.stack_engine.specs.declared.source.Source.TheVariants.{Encrypted, Block}
+use Rattle.stack_engine.specs.declared.source.Source.TheVariants.{Units, UnitPart, Block}
 use Rattle.stack_engine.specs.Found.{FoundRecord, entry_of}
 use Rattle.stack_engine.specs.declared.tree.Extent.{Extent}
 use Rattle.dm_table.specs.declared.verity.Verity.{Verity}
@@ -30,20 +30,27 @@ use Rattle.stack_engine.specs.Blocks.{hash_sectors, hash_place, hash_start, next
 use Rattle.stack_engine.specs.Walks.{checked_expected, place_named, block_in, GetsChain, IsTreeOf, IsWalked}
 use Rattle.stack_engine.specs.declared.fault.IoFault.{IoFault}
 use Rattle.stack_engine.specs.Places.{Place, place_of, run_expected, Read}
-use Rattle.stack_engine.specs.Reading.{Gets, Reads, buffer_answer}
-use Rattle.stack_engine.specs.Sources.{SourceHolds, ReadsSource}
+use Rattle.stack_engine.specs.Reading.{Gets, Reads, IsPlain, buffer_answer}
+use Rattle.stack_engine.specs.Sources.{SourceHolds, ReadsSource, source_said}
 use Rattle.stack_engine.proofs.lemmas.LeafListLemmas.{leaves_kept}
 use Rattle.stack_engine.proofs.LoadedLemmas.{size-small}
-use Rattle.stack_engine.proofs.SourceLemmas.{served-depth, served-holds, below_of, leaf_of, empty_read, zeros_of, fails_of, device_ok, device_err, same_reads}
+use Rattle.stack_engine.proofs.SourceLemmas.{served-depth, served-holds, below_of, leaf_of, empty_read, zeros_of, fails_of, device_ok, device_err, device_plain, below_plain, same_reads}
 use Rattle.stack_engine.proofs.VerityLineLemmas.{data-whole, hash-whole, part-within, part-index, place-named, hash-depth, data-depth}
 use Rattle.stack_engine.proofs.CachedLemmas.{cached-read, cached-hit, keeps-noted, noted_key, keeps-kept, keeps-found}
 use Rattle.stack_engine.proofs.StandingLemmas.{named-inside, knows-all}
-use Rattle.stack_engine.proofs.BlockPartLemmas.{kept_length, contains_at, part-room, part_found, part_walked, part_err, part_full}
+use Rattle.stack_engine.proofs.BlockPartLemmas.{kept_length, contains_at, part-room, part_found, part_walked, part_err, part_full, block_plain}
+use Rattle.stack_engine.specs.declared.source.BlockPart.{BlockPart}
+use Rattle.stack_engine.specs.Sources.{AreUnits}
 use Rattle.stack_engine.proofs.lemmas.BlockLemmas.{length-content}
 use Rattle.stack_engine.proofs.lemmas.WalkLemmas.{checked_ok, data_zeros, data_full, data_read, walk_down, walk_stops, walk_ends, walk_fails, walk_full}
 use Rattle.stack_engine.proofs.read.+read.Goals.{read_block-in-Err-push, read_block-in-Ok-push}
 use Rattle.stack_engine.proofs.LeafLemmas.{all-whole}
-use Rattle.stack_engine.proofs.CryptReadLemmas.{crypt_of, crypt_fault}
+use Rattle.stack_loader.specs.Units.{unit_sectors}
+use Rattle.stack_engine.specs.Units.{decrypted_units}
+use Rattle.stack_engine.specs.Meaning.{said_at}
+use Rattle.stack_engine.proofs.lemmas.PlainLemmas.{plain-none}
+use Rattle.stack_engine.proofs.UnitLineLemmas.{unit-line-on}
+use Rattle.stack_engine.proofs.UnitSourceLemmas.{units-inside, units-small, units-bytes, lies_in, whole-units, part-read, part-failed, part-plain, units-read, units-failed, units-plain}
 use Rattle.stack_engine.proofs.read.+read.Goals as goal
 
 pub read_device-overflow_add-first : goal.read_device-overflow_add-first
@@ -108,6 +115,9 @@ read_device-loop-at-preserved g t c =
       so_far = same_reads config (mapped c.args.d.0) c.args.first _ (omega (arith, c.loop-at.invariant.whole)) (sym front)
           (device_ok config c.args.d.0 c.args.first (at / 512) count source c.requires.loaded c.run_at-run.ensures.some c.run_at-run.ensures.served c.loop-at.invariant.so_far more);
       cached = record { capacity = c.in-Ok.ensures.cached.capacity ∙ c.loop-at.invariant.cached.capacity; sound = c.in-Ok.ensures.cached.sound };
+      plain = subst (λ (n : ℕ). IsPlain (said_at config (mapped c.args.d.0)) c.args.first n (map state c.args.reader.now.devices.items) (map state c.read_run.new.reader.devices.items) (Ok tt)) (omega (arith, c.loop-at.invariant.whole))
+          (device_plain config c.args.d.0 c.args.first (at / 512) count (at / 512 + count) source c.requires.loaded (omega arith) c.run_at-run.ensures.served c.loop-at.invariant.plain
+          (subst (λ (n : ℕ). IsPlain (source_said config source) 0 n (map state c.loop-at.reader.devices.items) (map state c.read_run.new.reader.devices.items) (Ok tt)) number c.in-Ok.ensures.plain));
     }
 
 pub read_device-returns-in-Err-clause-reads : goal.read_device-returns-in-Err-clause-reads
@@ -134,7 +144,7 @@ read_lower-returns-in-Leaf-clause-reads g t c =
     let answer : Result (List ℕ) IoFault = buffer_answer c.read_leaf.result c.read_leaf.new.out in
     let stands : (with_items devices c.read_leaf.new.devices).items ≡ c.read_leaf.new.devices =
     with_items_is devices c.read_leaf.new.devices (c.read_leaf.auto.devices ∙ ap (λ l. length l) c.as_mut_slice.ensures.value ∙ sym devices.ok.0) in
-    let one = subst (λ ds. Gets (run_expected (place_of config (Leaf c.in-Leaf.leaf)) found c.args.first n) (map state ds) (map state c.read_leaf.new.devices) answer) c.as_mut_slice.ensures.value (c.read_leaf.ensures found) in
+    let one = subst (λ ds. Gets (run_expected (place_of config (Leaf c.in-Leaf.leaf)) found c.args.first n) (map state ds) (map state c.read_leaf.new.devices) answer) c.as_mut_slice.ensures.value (c.read_leaf.ensures.got found) in
     subst (λ ds. Reads config c.args.lower c.args.first n (record { old = map state devices.items; new = map state ds; before = found; after = found }) answer) (sym stands)
     (subst (λ (x : Lower). Reads config x c.args.first n (record { old = map state devices.items; new = map state c.read_leaf.new.devices; before = found; after = found }) answer) (sym c.in-Leaf.is)
     (leaf_of config c.in-Leaf.leaf c.args.first n found c.requires.kept one))
@@ -150,7 +160,7 @@ read_lower-returns-in-Leaf-clause-cached g t c =
     let answer : Result (List ℕ) IoFault = buffer_answer c.read_leaf.result c.read_leaf.new.out in
     let stands : (with_items devices c.read_leaf.new.devices).items ≡ c.read_leaf.new.devices =
     with_items_is devices c.read_leaf.new.devices (c.read_leaf.auto.devices ∙ ap (λ l. length l) c.as_mut_slice.ensures.value ∙ sym devices.ok.0) in
-    let one = subst (λ ds. Gets (run_expected (place_of config (Leaf c.in-Leaf.leaf)) found c.args.first n) (map state ds) (map state c.read_leaf.new.devices) answer) c.as_mut_slice.ensures.value (c.read_leaf.ensures found) in
+    let one = subst (λ ds. Gets (run_expected (place_of config (Leaf c.in-Leaf.leaf)) found c.args.first n) (map state ds) (map state c.read_leaf.new.devices) answer) c.as_mut_slice.ensures.value (c.read_leaf.ensures.got found) in
     record { capacity = refl; sound = subst (λ ds. IsCacheOf config (map state ds) cache) (sym stands) (cached-read config cache one.moved c.requires.cache) }
 
 pub read_lower-returns-in-Device-clause-reads : goal.read_lower-returns-in-Device-clause-reads
@@ -184,29 +194,253 @@ read_run-returns-in-Zeros-clause-reads g t c =
     subst (λ (s : Source). ReadsSource c.args.config.now s n (empty_read old c.args.found.now.items) (Ok c.fill_zeros.new.out)) (sym c.in-Zeros.is)
     (zeros_of c.args.config.now n old c.args.found.now.items c.fill_zeros.new.out c.requires.kept (c.fill_zeros.ensures ∙ ap (λ (k : ℕ). replicate k 0) whole))
 
-pub read_run-returns-in-Ok-clause-reads : goal.read_run-returns-in-Ok-clause-reads
-read_run-returns-in-Ok-clause-reads g t c =
-    let config = c.args.config.now in
+pub read_run-returns-in-Units-clause-reads : goal.read_run-returns-in-Units-clause-reads
+read_run-returns-in-Units-clause-reads g t c =
     let state = g.D.BlockDev.state in
-    let run = c.in-Encrypted in
     let n : ℕ = length c.args.out.now / 512 in
-    let call = c.read_lower-in-Encrypted in
-    let did : Read = record { old = map state c.args.reader.now.devices.items; new = map state call.new.reader.devices.items; before = c.args.found.now.items; after = call.new.found.items } in
-    let whole = all-whole state g.met.D.BlockDev.whole c.args.reader.now.devices.items in
-    subst (λ (s : Source). ReadsSource config s n did (Ok c.decrypt.new.units)) (sym run.is)
-    (subst (λ (b : List ℕ). ReadsSource config (Encrypted run.d run.line run.unit run.lower run.first) n did (Ok b)) (sym c.decrypt.ensures)
-    (crypt_of config run.d run.line run.unit run.lower run.first n did call.new.out c.requires.loaded whole c.in-Ok.ensures.reads))
+    let did : Read = record { old = map state c.args.reader.now.devices.items; new = map state c.read_units.new.reader.devices.items; before = c.args.found.now.items; after = c.read_units.new.found.items } in
+    let answer : Result (List ℕ) IoFault = buffer_answer c.read_units.result c.read_units.new.out in
+    subst (λ (s : Source). ReadsSource c.args.config.now s n did answer) (sym c.in-Units.is) c.read_units.ensures.reads
 
-pub read_run-returns-in-Err-clause-reads : goal.read_run-returns-in-Err-clause-reads
-read_run-returns-in-Err-clause-reads g t c =
+pub read_run-returns-in-UnitPart-clause-reads : goal.read_run-returns-in-UnitPart-clause-reads
+read_run-returns-in-UnitPart-clause-reads g t c =
+    let state = g.D.BlockDev.state in
+    let n : ℕ = length c.args.out.now / 512 in
+    let did : Read = record { old = map state c.args.reader.now.devices.items; new = map state c.read_unit_part.new.reader.devices.items; before = c.args.found.now.items; after = c.read_unit_part.new.found.items } in
+    let answer : Result (List ℕ) IoFault = buffer_answer c.read_unit_part.result c.read_unit_part.new.out in
+    subst (λ (s : Source). ReadsSource c.args.config.now s n did answer) (sym c.in-UnitPart.is) c.read_unit_part.ensures.reads
+
+-- ---- reads that are plain
+
+pub read_run-returns-in-Below-clause-plain : goal.read_run-returns-in-Below-clause-plain
+read_run-returns-in-Below-clause-plain g t c =
     let config = c.args.config.now in
     let state = g.D.BlockDev.state in
-    let run = c.in-Encrypted in
     let n : ℕ = length c.args.out.now / 512 in
-    let call = c.read_lower-in-Encrypted in
-    let did : Read = record { old = map state c.args.reader.now.devices.items; new = map state call.new.reader.devices.items; before = c.args.found.now.items; after = call.new.found.items } in
-    subst (λ (s : Source). ReadsSource config s n did (Err c.in-Err.fault)) (sym run.is)
-    (crypt_fault config run.d run.line run.unit run.lower run.first n did c.in-Err.fault c.in-Err.ensures.reads)
+    subst (λ (s : Source). IsPlain (source_said config s) 0 n (map state c.args.reader.now.devices.items) (map state c.read_lower.new.reader.devices.items) c.read_lower.result) (sym c.in-Below.is)
+    (below_plain config c.in-Below.lower c.in-Below.first n c.read_lower.ensures.plain)
+
+pub read_run-returns-in-Units-clause-plain : goal.read_run-returns-in-Units-clause-plain
+read_run-returns-in-Units-clause-plain g t c =
+    let state = g.D.BlockDev.state in
+    subst (λ (s : Source). IsPlain (source_said c.args.config.now s) 0 (length c.args.out.now / 512) (map state c.args.reader.now.devices.items) (map state c.read_units.new.reader.devices.items) c.read_units.result) (sym c.in-Units.is)
+    c.read_units.ensures.plain
+
+pub read_run-returns-in-UnitPart-clause-plain : goal.read_run-returns-in-UnitPart-clause-plain
+read_run-returns-in-UnitPart-clause-plain g t c =
+    let state = g.D.BlockDev.state in
+    subst (λ (s : Source). IsPlain (source_said c.args.config.now s) 0 (length c.args.out.now / 512) (map state c.args.reader.now.devices.items) (map state c.read_unit_part.new.reader.devices.items) c.read_unit_part.result) (sym c.in-UnitPart.is)
+    c.read_unit_part.ensures.plain
+
+pub read_run-returns-in-Zeros-clause-plain : goal.read_run-returns-in-Zeros-clause-plain
+read_run-returns-in-Zeros-clause-plain g t c = plain-none _ 0 (length c.args.out.now / 512) (map g.D.BlockDev.state c.args.reader.now.devices.items) _ (λ e. cc)
+
+pub read_run-returns-in-Fails-clause-plain : goal.read_run-returns-in-Fails-clause-plain
+read_run-returns-in-Fails-clause-plain g t c = plain-none _ 0 (length c.args.out.now / 512) (map g.D.BlockDev.state c.args.reader.now.devices.items) _ (λ e. cc)
+
+pub read_run-returns-in-Block-clause-plain : goal.read_run-returns-in-Block-clause-plain
+read_run-returns-in-Block-clause-plain g t c =
+    let state = g.D.BlockDev.state in
+    subst (λ (s : Source). IsPlain (source_said c.args.config.now s) 0 (length c.args.out.now / 512) (map state c.args.reader.now.devices.items) (map state c.read_block.new.reader.devices.items) c.read_block.result) (sym c.in-Block.is)
+    c.read_block.ensures.plain
+
+pub read_lower-returns-in-Leaf-clause-plain : goal.read_lower-returns-in-Leaf-clause-plain
+read_lower-returns-in-Leaf-clause-plain g t c =
+    let config = c.args.config.now in
+    let state = g.D.BlockDev.state in
+    let n : ℕ = length c.args.out.now / 512 in
+    let devices = c.args.reader.now.devices in
+    let stands : (with_items devices c.read_leaf.new.devices).items ≡ c.read_leaf.new.devices =
+    with_items_is devices c.read_leaf.new.devices (c.read_leaf.auto.devices ∙ ap (λ l. length l) c.as_mut_slice.ensures.value ∙ sym devices.ok.0) in
+    let one = subst (λ ds. IsPlain (said_at config (Leaf c.in-Leaf.leaf)) c.args.first n (map state ds) (map state c.read_leaf.new.devices) c.read_leaf.result) c.as_mut_slice.ensures.value c.read_leaf.ensures.plain in
+    subst (λ ds. IsPlain (said_at config c.args.lower) c.args.first n (map state devices.items) (map state ds) c.read_leaf.result) (sym stands)
+    (subst (λ (x : Lower). IsPlain (said_at config x) c.args.first n (map state devices.items) (map state c.read_leaf.new.devices) c.read_leaf.result) (sym c.in-Leaf.is) one)
+
+pub read_lower-returns-in-Device-clause-plain : goal.read_lower-returns-in-Device-clause-plain
+read_lower-returns-in-Device-clause-plain g t c =
+    let state = g.D.BlockDev.state in
+    subst (λ (x : Lower). IsPlain (said_at c.args.config.now x) c.args.first (length c.args.out.now / 512) (map state c.args.reader.now.devices.items) (map state c.read_device.new.reader.devices.items) c.read_device.result) (sym c.in-Device.is)
+    c.read_device.ensures.plain
+
+pub read_device-returns-in-Err-clause-plain : goal.read_device-returns-in-Err-clause-plain
+read_device-returns-in-Err-clause-plain g t c =
+    let config = c.args.config.now in
+    let state = g.D.BlockDev.state in
+    let at = c.loop-at.at in
+    let source = c.run_at-run.result.source in
+    let count = c.run_at-run.result.count in
+    let fits : at + count * 512 ≤ length c.loop-at.out = omega (arith, c.run_at-run.ensures.most, c.loop-at-test.true) in
+    let len = part_length c.loop-at.out at count fits in
+    let number : length (take (at + count * 512 - at) (drop at c.loop-at.out)) / 512 ≡ count = omega (arith, len) in
+    device_plain config c.args.d.0 c.args.first (at / 512) count (length c.args.out.now / 512) source c.requires.loaded (omega (arith, fits, c.loop-at.auto.out)) c.run_at-run.ensures.served c.loop-at.invariant.plain
+    (subst (λ (n : ℕ). IsPlain (source_said config source) 0 n (map state c.loop-at.reader.devices.items) (map state c.read_run.new.reader.devices.items) (Err c.in-Err.fault)) number c.in-Err.ensures.plain)
+
+-- ---- units of crypt lines
+
+pub read_units-read_lower-requires : goal.read_units-read_lower-requires
+read_units-read_lower-requires g t c κs within =
+    let config = c.args.config.now in
+    let p = c.args.part in
+    let n : ℕ = length c.args.out.now / 512 in
+    let crypt = c.crypt_at-crypt.result.now in
+    let unit = c.unit_at-unit in
+    let line = unit-line-on config p.device.0 p.line 0 crypt c.requires.loaded c.crypt_at-crypt.ensures unit.result.lower unit.ensures.lower in
+    let inside = units-inside config p.device.0 p.line p.first n crypt c.requires.loaded c.crypt_at-crypt.ensures c.requires.inside unit.result.lower unit.ensures.lower in (
+      omega (arith, line.crypt_line.shallower),
+      (within, (c.requires.loaded, (c.requires.serve, (c.requires.some, (c.requires.whole, (omega (arith, inside, unit.ensures.first), (c.requires.kept, c.requires.cache))))))),
+    )
+
+pub read_units-decrypt-requires-clause-fits : goal.read_units-decrypt-requires-clause-fits
+read_units-decrypt-requires-clause-fits g t c =
+    let config = c.args.config.now in
+    let p = c.args.part in
+    let n : ℕ = length c.args.out.now / 512 in
+    let crypt = c.crypt_at-crypt.result.now in
+    let small = units-small config p.device.0 p.line p.first n crypt c.requires.loaded c.crypt_at-crypt.ensures c.requires.inside in
+    omega (arith, small, c.unit_at-unit.ensures.index, c.requires.whole, c.read_lower.auto.out)
+
+pub read_units-decrypt-requires-clause-whole : goal.read_units-decrypt-requires-clause-whole
+read_units-decrypt-requires-clause-whole g t c =
+    units-bytes c.args.config.now c.args.part.device.0 c.args.part.line c.args.part.first _ c.crypt_at-crypt.result.now c.crypt_at-crypt.ensures c.requires.inside _ (omega (arith, c.read_lower.auto.out, c.requires.whole))
+
+pub read_units-returns-in-Ok-clause-reads : goal.read_units-returns-in-Ok-clause-reads
+read_units-returns-in-Ok-clause-reads g t c =
+    let config = c.args.config.now in
+    let state = g.D.BlockDev.state in
+    let p = c.args.part in
+    let n : ℕ = length c.args.out.now / 512 in
+    let crypt = c.crypt_at-crypt.result.now in
+    let unit = c.unit_at-unit in
+    let did : Read = record { old = map state c.args.reader.now.devices.items; new = map state c.read_lower.new.reader.devices.items; before = c.args.found.now.items; after = c.read_lower.new.found.items } in
+    subst (λ (b : List ℕ). ReadsSource config (Units p) n did (Ok b)) (sym (c.decrypt.ensures ∙ ap (λ (k : ℕ). decrypted_units crypt k c.read_lower.new.out) unit.ensures.index))
+    (units-read config p n crypt c.requires.loaded c.crypt_at-crypt.ensures c.requires.inside unit.result.lower unit.ensures.lower did (all-whole state g.met.D.BlockDev.whole c.args.reader.now.devices.items) c.read_lower.new.out
+    (subst (λ (k : ℕ). Reads config unit.result.lower k n did (Ok c.read_lower.new.out)) unit.ensures.first c.in-Ok.ensures.reads))
+
+pub read_units-returns-in-Err-clause-reads : goal.read_units-returns-in-Err-clause-reads
+read_units-returns-in-Err-clause-reads g t c =
+    let config = c.args.config.now in
+    let state = g.D.BlockDev.state in
+    let p = c.args.part in
+    let n : ℕ = length c.args.out.now / 512 in
+    let crypt = c.crypt_at-crypt.result.now in
+    let unit = c.unit_at-unit in
+    let did : Read = record { old = map state c.args.reader.now.devices.items; new = map state c.read_lower.new.reader.devices.items; before = c.args.found.now.items; after = c.read_lower.new.found.items } in
+    units-failed config p n crypt c.requires.loaded c.crypt_at-crypt.ensures c.requires.inside unit.result.lower unit.ensures.lower did (all-whole state g.met.D.BlockDev.whole c.args.reader.now.devices.items) c.in-Err.fault
+    (subst (λ (k : ℕ). Reads config unit.result.lower k n did (Err c.in-Err.fault)) unit.ensures.first c.in-Err.ensures.reads)
+
+pub read_units-returns-in-Ok-clause-plain : goal.read_units-returns-in-Ok-clause-plain
+read_units-returns-in-Ok-clause-plain g t c =
+    let unit = c.unit_at-unit in
+    let n : ℕ = length c.args.out.now / 512 in
+    let state = g.D.BlockDev.state in
+    units-plain c.args.config.now c.args.part n c.crypt_at-crypt.result.now c.requires.loaded c.crypt_at-crypt.ensures c.requires.inside unit.result.lower unit.ensures.lower
+    (subst (λ (k : ℕ). IsPlain (said_at c.args.config.now unit.result.lower) k n (map state c.args.reader.now.devices.items) (map state c.read_lower.new.reader.devices.items) (Ok tt)) unit.ensures.first c.in-Ok.ensures.plain)
+
+pub read_units-returns-in-Err-clause-plain : goal.read_units-returns-in-Err-clause-plain
+read_units-returns-in-Err-clause-plain g t c =
+    let unit = c.unit_at-unit in
+    let n : ℕ = length c.args.out.now / 512 in
+    let state = g.D.BlockDev.state in
+    units-plain c.args.config.now c.args.part n c.crypt_at-crypt.result.now c.requires.loaded c.crypt_at-crypt.ensures c.requires.inside unit.result.lower unit.ensures.lower
+    (subst (λ (k : ℕ). IsPlain (said_at c.args.config.now unit.result.lower) k n (map state c.args.reader.now.devices.items) (map state c.read_lower.new.reader.devices.items) (Err c.in-Err.fault)) unit.ensures.first c.in-Err.ensures.plain)
+
+-- ---- part of a unit
+
+pub read_unit_part-read_units-requires : goal.read_unit_part-read_units-requires
+read_unit_part-read_units-requires g t c κs within =
+    let config = c.args.config.now in
+    let p = c.args.part in
+    let n : ℕ = length c.args.out.now / 512 in
+    let some : 0 < n = omega (arith, c.requires.some, c.requires.whole) in
+    let whole = c.whole_unit-whole in
+    let units = whole-units config p whole.result n c.requires.loaded whole.ensures.whole c.requires.inside some in
+    let same : depth config (mapped whole.result.from.device.0) ≡ depth config (mapped p.device.0) = ap (λ (b : BlockPart). depth config (mapped b.device.0)) whole.ensures.whole.from in
+    let room : length c.as_mut_slice-all.result.now ≡ 4096 = ap (λ (l : List ℕ). length l) c.as_mut_slice-all.ensures.value in
+    let size : length (take (whole.result.sectors * 512) c.as_mut_slice-all.result.now) ≡ whole.result.sectors * 512 = omega (arith, room, whole.ensures.few, length-take (whole.result.sectors * 512) c.as_mut_slice-all.result.now) in
+    let count : length (take (whole.result.sectors * 512) c.as_mut_slice-all.result.now) / 512 ≡ whole.result.sectors = omega (arith, size) in (
+      omega (arith, same),
+      (
+        within,
+        (
+          c.requires.loaded,
+          (
+            c.requires.serve,
+            (
+              omega (arith, size, whole.ensures.some),
+              (
+                omega (arith, size),
+                (subst (λ (k : ℕ). AreUnits config whole.result.from.device.0 whole.result.from.line whole.result.from.first k) (sym count) units, (c.requires.kept, c.requires.cache)),
+              ),
+            ),
+          ),
+        ),
+      ),
+    )
+
+pub read_unit_part-take_sectors-requires : goal.read_unit_part-take_sectors-requires
+read_unit_part-take_sectors-requires g t c =
+    let p = c.args.part in
+    let n : ℕ = length c.args.out.now / 512 in
+    let whole = c.whole_unit-whole in
+    let of = whole.ensures.whole in
+    let lies = lies_in c.args.config.now p whole.result n c.requires.loaded of c.requires.inside (omega (arith, c.requires.some, c.requires.whole)) in
+    let room : length c.as_mut_slice-all.result.now ≡ 4096 = ap (λ (l : List ℕ). length l) c.as_mut_slice-all.ensures.value in
+    omega (arith, lies.0, of.within, of.sectors, c.requires.whole, room, whole.ensures.few, c.read_units.auto.out, length-take (whole.result.sectors * 512) c.as_mut_slice-all.result.now)
+
+pub read_unit_part-returns-in-Ok-clause-reads : goal.read_unit_part-returns-in-Ok-clause-reads
+read_unit_part-returns-in-Ok-clause-reads g t c =
+    let config = c.args.config.now in
+    let state = g.D.BlockDev.state in
+    let p = c.args.part in
+    let n : ℕ = length c.args.out.now / 512 in
+    let some : 0 < n = omega (arith, c.requires.some, c.requires.whole) in
+    let whole = c.whole_unit-whole in
+    let of = whole.ensures.whole in
+    let room : length c.as_mut_slice-all.result.now ≡ 4096 = ap (λ (l : List ℕ). length l) c.as_mut_slice-all.ensures.value in
+    let count : length (take (whole.result.sectors * 512) c.as_mut_slice-all.result.now) / 512 ≡ whole.result.sectors = omega (arith, room, whole.ensures.few, length-take (whole.result.sectors * 512) c.as_mut_slice-all.result.now) in
+    let did : Read = record { old = map state c.args.reader.now.devices.items; new = map state c.read_units.new.reader.devices.items; before = c.args.found.now.items; after = c.read_units.new.found.items } in
+    let one = subst (λ (k : ℕ). ReadsSource config (Units whole.result.from) k did (Ok c.read_units.new.out)) count c.in-Ok.ensures.reads in
+    let len : length c.args.out.now ≡ 512 * n = omega (arith, c.requires.whole) in
+    let is : c.take_sectors.new.out ≡ take (512 * n) (drop (512 * (p.first % unit_sectors of.crypt)) c.read_units.new.out) =
+    c.take_sectors.ensures ∙ ap (λ (k : ℕ). take k (drop (512 * whole.result.within) c.read_units.new.out)) len ∙ ap (λ (k : ℕ). take (512 * n) (drop (512 * k) c.read_units.new.out)) of.within in
+    subst (λ (b : List ℕ). ReadsSource config (UnitPart p) n did (Ok b)) (sym is)
+    (part-read config p whole.result n c.requires.loaded of c.requires.inside some did (all-whole state g.met.D.BlockDev.whole c.args.reader.now.devices.items) c.read_units.new.out one)
+
+pub read_unit_part-returns-in-Err-clause-reads : goal.read_unit_part-returns-in-Err-clause-reads
+read_unit_part-returns-in-Err-clause-reads g t c =
+    let config = c.args.config.now in
+    let state = g.D.BlockDev.state in
+    let p = c.args.part in
+    let n : ℕ = length c.args.out.now / 512 in
+    let some : 0 < n = omega (arith, c.requires.some, c.requires.whole) in
+    let whole = c.whole_unit-whole in
+    let room : length c.as_mut_slice-all.result.now ≡ 4096 = ap (λ (l : List ℕ). length l) c.as_mut_slice-all.ensures.value in
+    let count : length (take (whole.result.sectors * 512) c.as_mut_slice-all.result.now) / 512 ≡ whole.result.sectors = omega (arith, room, whole.ensures.few, length-take (whole.result.sectors * 512) c.as_mut_slice-all.result.now) in
+    let did : Read = record { old = map state c.args.reader.now.devices.items; new = map state c.read_units.new.reader.devices.items; before = c.args.found.now.items; after = c.read_units.new.found.items } in
+    part-failed config p whole.result n c.requires.loaded whole.ensures.whole c.requires.inside some did (all-whole state g.met.D.BlockDev.whole c.args.reader.now.devices.items) c.in-Err.fault
+    (subst (λ (k : ℕ). ReadsSource config (Units whole.result.from) k did (Err c.in-Err.fault)) count c.in-Err.ensures.reads)
+
+pub read_unit_part-returns-in-Ok-clause-plain : goal.read_unit_part-returns-in-Ok-clause-plain
+read_unit_part-returns-in-Ok-clause-plain g t c =
+    let config = c.args.config.now in
+    let state = g.D.BlockDev.state in
+    let n : ℕ = length c.args.out.now / 512 in
+    let whole = c.whole_unit-whole in
+    let room : length c.as_mut_slice-all.result.now ≡ 4096 = ap (λ (l : List ℕ). length l) c.as_mut_slice-all.ensures.value in
+    let count : length (take (whole.result.sectors * 512) c.as_mut_slice-all.result.now) / 512 ≡ whole.result.sectors = omega (arith, room, whole.ensures.few, length-take (whole.result.sectors * 512) c.as_mut_slice-all.result.now) in
+    part-plain config c.args.part whole.result n c.requires.loaded whole.ensures.whole c.requires.inside (omega (arith, c.requires.some, c.requires.whole))
+    (subst (λ (k : ℕ). IsPlain (source_said config (Units whole.result.from)) 0 k (map state c.args.reader.now.devices.items) (map state c.read_units.new.reader.devices.items) (Ok tt)) count c.in-Ok.ensures.plain)
+
+pub read_unit_part-returns-in-Err-clause-plain : goal.read_unit_part-returns-in-Err-clause-plain
+read_unit_part-returns-in-Err-clause-plain g t c =
+    let config = c.args.config.now in
+    let state = g.D.BlockDev.state in
+    let n : ℕ = length c.args.out.now / 512 in
+    let whole = c.whole_unit-whole in
+    let room : length c.as_mut_slice-all.result.now ≡ 4096 = ap (λ (l : List ℕ). length l) c.as_mut_slice-all.ensures.value in
+    let count : length (take (whole.result.sectors * 512) c.as_mut_slice-all.result.now) / 512 ≡ whole.result.sectors = omega (arith, room, whole.ensures.few, length-take (whole.result.sectors * 512) c.as_mut_slice-all.result.now) in
+    part-plain config c.args.part whole.result n c.requires.loaded whole.ensures.whole c.requires.inside (omega (arith, c.requires.some, c.requires.whole))
+    (subst (λ (k : ℕ). IsPlain (source_said config (Units whole.result.from)) 0 k (map state c.args.reader.now.devices.items) (map state c.read_units.new.reader.devices.items) (Err c.in-Err.fault)) count c.in-Err.ensures.plain)
 
 -- ---- data blocks of verity lines
 
@@ -342,6 +576,12 @@ read_block-returns-after-push-clause-reads g t c =
           (ap (λ (l : List FoundRecord). entry_of (get_or l k y)) c.as_slice.ensures.value ∙ same ∙ ap (λ (k : ℕ). (p.device.0, p.line, p.first / k)) (sym sectors)))
           q is))
     ]
+
+pub read_block-returns-in-Err-clause-plain : goal.read_block-returns-in-Err-clause-plain
+read_block-returns-in-Err-clause-plain g t c = block_plain c.args.config.now c.args.part (length c.args.out.now / 512) (omega (arith, c.requires.some, c.requires.whole)) c.requires.inside
+
+pub read_block-returns-after-push-clause-plain : goal.read_block-returns-after-push-clause-plain
+read_block-returns-after-push-clause-plain g t c = block_plain c.args.config.now c.args.part (length c.args.out.now / 512) (omega (arith, c.requires.some, c.requires.whole)) c.requires.inside
 
 -- ---- one block that is checked
 

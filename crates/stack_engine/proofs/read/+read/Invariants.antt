@@ -1,14 +1,16 @@
 use Rattle.std.proofs.Common.{length, take, map, ◌-◌, ◌≡◌, ◌≤◌, ◌+◌, ◌/◌, ◌*◌, ◌%◌, Ok}
 use Rattle.stack_loader.specs.Names.{mapped}
 use Rattle.stack_loader.specs.Descend.{depth}
-use Rattle.stack_engine.specs.Reading.{Reads}
+use Rattle.stack_engine.specs.Meaning.{said_at}
+use Rattle.stack_engine.specs.Reading.{Reads, IsPlain}
 use Rattle.stack_engine.specs.Sources.{source_depth}
 use Rattle.stack_engine.specs.Walks.{block_in, IsWalked}
 use Rattle.stack_engine.specs.Caches.{KeepsCache}
 use Rattle.stack_engine.proofs.read.+read.Given as goal
 
--- 8 times the depth and a rank, of which 0 to 4 are left for the steps of a target: a data block takes 4, the walk to it 3,
--- its last step 2, a hash block 8 times its own depth and 9, and a block that is checked 8 times its own depth and 8
+-- 8 times the depth and a rank, of which 0 to 4 are left for the steps of a target: part of a unit takes 4, whole units 3,
+-- a data block 4, the walk to it 3, its last step 2, a hash block 8 times its own depth and 9, and a block that is checked
+-- 8 times its own depth and 8
 
 abbrev pub decreases-read_lower : goal.decreases-read_lower
 decreases-read_lower g l = 8 * depth l.config.now l.lower + 7
@@ -27,10 +29,17 @@ invariant-read_device-loop-at g l = record {
   so_far : Reads l.config (mapped l.d.0) l.first (l.at / 512)
       (record { old = map g.D.BlockDev.state l.fn.reader.devices.items; new = map g.D.BlockDev.state l.reader.devices.items; before = l.fn.found.items; after = l.found.items }) (Ok (take l.at l.out));
   cached : KeepsCache l.config (map g.D.BlockDev.state l.reader.devices.items) l.fn.reader.cache l.reader.cache;
+  plain : IsPlain (said_at l.config (mapped l.d.0)) l.first (l.at / 512) (map g.D.BlockDev.state l.fn.reader.devices.items) (map g.D.BlockDev.state l.reader.devices.items) (Ok tt);
 }
 
 abbrev pub decreases-read_device-loop-at : goal.decreases-read_device-loop-at
 decreases-read_device-loop-at g l = length l.initial.out - l.at
+
+abbrev pub decreases-read_unit_part : goal.decreases-read_unit_part
+decreases-read_unit_part g l = 8 * depth l.config.now (mapped l.part.device.0) + 4
+
+abbrev pub decreases-read_units : goal.decreases-read_units
+decreases-read_units g l = 8 * depth l.config.now (mapped l.part.device.0) + 3
 
 abbrev pub decreases-read_block : goal.decreases-read_block
 decreases-read_block g l = 8 * depth l.config.now (mapped l.part.device.0) + 4

@@ -6,6 +6,7 @@ use Rattle.stack_loader.specs.Descend.{read_cost}
 use Rattle.stack_engine.specs.Outcomes.{zero_sector}
 use Rattle.stack_engine.specs.Meaning.{Said, said_at}
 use Rattle.stack_engine.specs.Leaves.{images_of, LeafFailed}
+use Rattle.stack_engine.proofs.WriteLeafLemmas.{leaf-plain}
 use Rattle.stack_engine.proofs.LeafLemmas.{leaf-size, leaves-few, AreRead-device, image_at, steady_at, LeafFailed-device}
 use Rattle.stack_engine.proofs.lemmas.LeafListLemmas.{AreRead-more}
 use Rattle.stack_engine.proofs.lemmas.SpanLemmas.{span_image}
@@ -29,8 +30,8 @@ leaf_cost c i n = let one : n * read_cost c (Leaf i) ≡ n * 1 = ap (λ (k : ℕ
 grows : (old new : Device) (n : ℕ) → IsRead old n false new → HasFailed old new → old.failures ≤ new.failures
 grows old new n r h = elim h [ inl more ↦ omega (arith, more) | inr full ↦ omega (arith, full, r.failures) ]
 
-pub returns-in-Ok : goal.returns-in-Ok
-returns-in-Ok g c =
+pub returns-in-Ok-clause-got : goal.returns-in-Ok-clause-got
+returns-in-Ok-clause-got g c =
     let state = g.D.BlockDev.state in
     let devices = c.args.devices.now in
     let x = c.index-devices-leaf.result in
@@ -51,8 +52,8 @@ returns-in-Ok g c =
           ∙ ap Ok (sym (c.in-Ok.ensures.bytes (steady_at state devices c.args.leaf x c.requires.there steady)));
     }
 
-pub returns-in-Err : goal.returns-in-Err
-returns-in-Err g c =
+pub returns-in-Err-clause-got : goal.returns-in-Err-clause-got
+returns-in-Err-clause-got g c =
     let state = g.D.BlockDev.state in
     let devices = c.args.devices.now in
     let x = c.index-devices-leaf.result in
@@ -65,3 +66,14 @@ returns-in-Err g c =
       may = (omega arith, subst (λ (i : ℕ). LeafFailed i (map state devices) (map state (set devices c.args.leaf c.read.new.self))) number failed);
       exact = λ steady. tt;
     }
+
+-- the other leaves stay
+pub returns-in-Ok-clause-plain : goal.returns-in-Ok-clause-plain
+returns-in-Ok-clause-plain g c =
+    let n : ℕ = length c.args.out.now / 512 in
+    leaf-plain g.D.BlockDev.state c.args.devices.now c.args.leaf c.args.config.now c.args.first n (omega (arith, c.requires.some, c.requires.whole)) c.read.new.self _ (λ e. cc)
+
+pub returns-in-Err-clause-plain : goal.returns-in-Err-clause-plain
+returns-in-Err-clause-plain g c =
+    let n : ℕ = length c.args.out.now / 512 in
+    leaf-plain g.D.BlockDev.state c.args.devices.now c.args.leaf c.args.config.now c.args.first n (omega (arith, c.requires.some, c.requires.whole)) c.read.new.self _ (λ e. cc)

@@ -1,4 +1,4 @@
-use Rattle.std.proofs.Common.{◌+◌, ◌≤◌, ◌^◌, arith}
+use Rattle.std.proofs.Common.{◌+◌, ◌≤◌, ◌^◌, refl, arith}
 use Rattle.stack_engine.proofs.StripeLemmas.{linear-small, linear-lies}
 use Rattle.stack_engine.proofs.serve.linear_run.Goals as goal
 
@@ -9,4 +9,4 @@ overflow_add-first c =
 
 pub returns-clause-come : goal.returns-clause-come
 returns-clause-come c =
-    (tt, linear-lies c.args.config.now c.args.d.0 c.args.line c.args.base.now c.args.within c.args.count c.requires.loaded c.requires.line c.lower-lower.result c.lower-lower.ensures)
+    (tt, linear-lies c.args.config.now c.args.d.0 c.args.line c.args.base.now c.args.within c.args.count c.requires.loaded c.requires.line c.lower-lower.result c.lower-lower.ensures, λ j h. refl)

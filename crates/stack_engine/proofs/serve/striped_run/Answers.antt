@@ -9,7 +9,7 @@ use Rattle.stack_loader.specs.Records.{Configuration}
 use Rattle.stack_loader.specs.Rules.{IsLoaded}
 use Rattle.stack_engine.specs.Sources.{HasTarget}
 use Rattle.stack_engine.proofs.LoadedLemmas.{device-there}
-use Rattle.stack_engine.proofs.StripeLemmas.{striped-small, striped-lies}
+use Rattle.stack_engine.proofs.StripeLemmas.{part-more, part-longest, striped-small, striped-lies}
 use Rattle.stack_engine.proofs.serve.striped_run.Goals as goal
 
 base_at : (bases : List Base) (k : ℕ) (base : Base) → 1 ≤ length bases → base ≡ get_or bases (k % length bases) base → slice_get bases (k % length bases) ≡ Some base
@@ -44,4 +44,8 @@ returns-clause-come c =
       striped-lies c.args.config.now c.args.d.0 c.args.line c.args.chunk c.args.bases.now c.args.within c.args.count c.requires.loaded c.requires.grammar c.requires.line c.index-bases-stripe.result
           (base_at c.args.bases.now (c.args.within / c.args.chunk) c.index-bases-stripe.result c.requires.grammar.some c.index-bases-stripe.is)
           c.min-count.result (omega (arith, count, part, c.requires.some)) (omega (arith, count)) (omega (arith, count, part)) c.lower-lower.result c.lower-lower.ensures,
+      λ j h. part-more c.args.chunk c.args.within j (omega (arith, h, count, part)),
     )
+
+pub returns-clause-longest : goal.returns-clause-longest
+returns-clause-longest c = part-longest c.args.chunk c.args.within c.args.count c.min-count.result (omega (arith, c.requires.grammar.chunk_some)) c.requires.some c.min-count.ensures

@@ -1,7 +1,9 @@
-use Rattle.std.proofs.Common.{length, take, drop, map, ◌-◌, ◌≡◌, ◌≤◌, ◌+◌, ◌++◌, ◌*◌, ◌%◌, Ok}
+use Rattle.std.proofs.Common.{◌⊎◌, ◌/◌, length, take, drop, map, ◌-◌, ◌≡◌, ◌≤◌, ◌+◌, ◌++◌, ◌*◌, ◌%◌, Ok}
 use Rattle.stack_loader.specs.Names.{mapped}
 use Rattle.stack_loader.specs.Descend.{depth}
-use Rattle.stack_engine.specs.Writing.{sectors_in, destination_of, Writes}
+use Rattle.stack_engine.specs.Writing.{sectors_in, destination_of, source_destination, Writes}
+use Rattle.stack_engine.specs.declared.source.Source.TheVariants.{Units}
+use Rattle.stack_engine.proofs.WriteSourceLemmas.{EndsBefore}
 use Rattle.stack_engine.specs.Sources.{source_depth}
 use Rattle.stack_engine.specs.Caches.{KeepsCache}
 use Rattle.stack_engine.proofs.write.+write.Given as goal
@@ -24,8 +26,28 @@ invariant-write_device-loop-at g l = record {
   within : l.at ≤ length (l.plain ++ l.fn.buffer);
   rest : drop l.at l.buffer ≡ drop l.at l.fn.buffer;
   so_far : Writes (destination_of l.config (mapped l.d.0)) l.first (sectors_in (take l.at (l.plain ++ l.fn.buffer))) (map g.D.BlockDev.state l.fn.reader.devices.items) (map g.D.BlockDev.state l.reader.devices.items) (Ok tt);
+  ends : EndsBefore l.config l.d.0 (l.first + l.at / 512) (take l.at (l.plain ++ l.fn.buffer)) ⊎ (l.at ≡ length (l.plain ++ l.fn.buffer));
   cached : KeepsCache l.config (map g.D.BlockDev.state l.reader.devices.items) l.fn.reader.cache l.reader.cache;
 }
 
 abbrev pub decreases-write_device-loop-at : goal.decreases-write_device-loop-at
 decreases-write_device-loop-at g l = l.initial.len - l.at
+
+abbrev pub decreases-write_unit_part : goal.decreases-write_unit_part
+decreases-write_unit_part g l = 8 * depth l.config.now (mapped l.part.device.0) + 4
+
+abbrev pub decreases-write_units : goal.decreases-write_units
+decreases-write_units g l = 8 * depth l.config.now (mapped l.part.device.0) + 3
+
+-- the units so far are written, and the others are encrypted
+abbrev pub invariant-write_units-loop-at : goal.invariant-write_units-loop-at
+invariant-write_units-loop-at g l = record {
+  even : l.at % l.size ≡ 0;
+  within : l.at ≤ length l.fn.units;
+  rest : drop l.at l.units ≡ drop l.at l.initial.units;
+  so_far : Writes (source_destination l.config (Units l.fn.part)) 0 (sectors_in (take l.at l.fn.units)) (map g.D.BlockDev.state l.fn.reader.devices.items) (map g.D.BlockDev.state l.reader.devices.items) (Ok tt);
+  cached : KeepsCache l.config (map g.D.BlockDev.state l.reader.devices.items) l.fn.reader.cache l.reader.cache;
+}
+
+abbrev pub decreases-write_units-loop-at : goal.decreases-write_units-loop-at
+decreases-write_units-loop-at g l = length l.fn.units - l.at

@@ -1,4 +1,5 @@
-use Rattle.std.proofs.Common.{sym, ap, ◌∙◌, length, arith}
+use Rattle.std.proofs.Common.{ℕ, List, refl, sym, ap, ◌∙◌, length, arith}
+use Rattle.std.specs.Borrow.{Bor}
 use Rattle.std.proofs.lemmas.Bool.{ltb-false}
 use Rattle.std.proofs.lemmas.Result.{err_from_is_err_and}
 use Rattle.stack_loader.specs.declared.refusal.LoadFault.TheVariants.{Refused}
@@ -9,13 +10,15 @@ use Rattle.stack_loader.specs.Facts.{AreFacts}
 use Rattle.stack_loader.specs.Depths.{rounds}
 use Rattle.stack_loader.specs.Kept.{AreLowers}
 use Rattle.stack_loader.specs.Passing.{above}
-use Rattle.stack_loader.specs.Rules.{first, rules, unknown_names, most_depth, most_cost}
+use Rattle.stack_loader.specs.Rules.{IsValid, first, rules, unknown_names, most_depth, most_cost}
 use Rattle.stack_loader.proofs.lemmas.ValidLemmas.{costs-low}
 use Rattle.stack_loader.proofs.lemmas.ValidLineLemmas.{or-false}
-use Rattle.stack_loader.specs.Costs.{AreMeasured, capped}
+use Rattle.stack_loader.specs.Costs.{AreMeasured, capped, cost}
 use Rattle.stack_loader.proofs.DepthLemmas.{rounds-depths}
-use Rattle.stack_loader.proofs.CappedLemmas.{each-exact, write_cost-one}
-use Rattle.stack_loader.proofs.CostLemmas.{lowers-rows}
+use Rattle.stack_loader.proofs.CappedLemmas.{each-exact}
+use Rattle.stack_loader.proofs.lemmas.WriteCostLemmas.{write_cost-low}
+use Rattle.stack_loader.proofs.CostLemmas.{lowers-rows, write_cost-given}
+use Rattle.stack_loader.specs.declared.costs.Direction.TheVariants.{Read, Write}
 use Rattle.stack_loader.proofs.PassingLemmas.{IsFirst-passed, passed-IsFirst}
 use Rattle.stack_loader.proofs.StageLemmas.{Known, unknown-first, cycles-first, lines-first, depths-first, costs-first, none-first, depths-above, costs-above, length-values}
 use Rattle.stack_loader.proofs.check.check.Goals as goal
@@ -96,7 +99,7 @@ first_above-requires-2 c =
     let measured : AreMeasured c' c.in_ok-lowers.lowers.items c.in_ok-depths.depths.items = record { lowers = are; depths = depths; low = no_deep } in
     let reads = c.in_ok-read_costs.ensures c'.leaves (rw (c.as_slice-rows.ensures.value, c.as_slice-levels.ensures.value) measured) in
     let low = ltb-false most_devices (length c.args.devices.now) (or-false _ _ few).0 in
-    rw c.as_slice.ensures.value (omega (arith, low, length-values (λ x. capped (read_cost c' x)) (length c.args.devices.now) c.in_ok-read_costs.read_costs.items reads))
+    rw c.as_slice.ensures.value (omega (arith, low, length-values (λ x. capped Read (read_cost c' x)) (length c.args.devices.now) c.in_ok-read_costs.read_costs.items reads))
 
 pub costs-requires-clause-rows : goal.costs-requires-clause-rows
 costs-requires-clause-rows c =
@@ -149,6 +152,7 @@ returns-in-Some-first_above-2 c =
     costs-first c' (Refused c.in-Some-first_above-2.refusal) known no_cycle no_line no_deep (sym dear ∙ sym c.in-Some-first_above-2.ensures)
 
 pub returns : goal.returns
+unfolding IsValid
 returns c =
     let c' : Configuration = configuration c.args.leaves.now c.args.devices.now in
     let few = sym c.is_too_many.ensures ∙ c.if-is_too_many.false in
@@ -164,12 +168,16 @@ returns c =
     let measured : AreMeasured c' c.in_ok-lowers.lowers.items c.in_ok-depths.depths.items = record { lowers = are; depths = depths; low = no_deep } in
     let reads = c.in_ok-read_costs.ensures c'.leaves (rw (c.as_slice-rows.ensures.value, c.as_slice-levels.ensures.value) measured) in
     let dear = ap first (ap (above CostTooLarge most_cost) c.as_slice.ensures.value ∙ costs-above c' c.in_ok-read_costs.read_costs.items reads) in
-    let no_cost = sym dear ∙ sym c.in-None-first_above-2.ensures in (
-      none-first c' known no_cycle no_line no_deep no_cost,
+    let no_cost = sym dear ∙ sym c.in-None-first_above-2.ensures in
+    let valid = none-first c' known no_cycle no_line no_deep no_cost in
+    let exact = reads ∙ each-exact Read (read_cost c') (read_cost c') (λ x. refl) (λ x. omega (arith, costs-low c' no_cost x)) (length c.args.devices.now) in
+    let given : Bor (List ℕ) = c.as_slice-2.result in (
+      valid,
       record {
         depths = depths;
-        reads = reads ∙ each-exact (read_cost c') (costs-low c' no_cost) (length c.args.devices.now);
-        writes = c.in_ok-write_costs.ensures c'.leaves (rw (c.as_slice-rows.ensures.value, c.as_slice-levels.ensures.value) measured) ∙ each-exact (write_cost c') (λ x. omega (arith, write_cost-one c' x)) (length c.args.devices.now);
+        reads = exact;
+        writes = c.in_ok-write_costs.ensures c'.leaves (rw (c.as_slice-rows.ensures.value, c.as_slice-levels.ensures.value) measured)
+            ∙ each-exact (Write given) (cost c' (Write given)) (write_cost c') (write_cost-given c' given (c.as_slice-2.ensures.value ∙ exact)) (write_cost-low c' valid) (length c.args.devices.now);
         lowers = are;
         keys = c.in_ok-keys.ensures;
         zero_digests = c.in_ok-zero_digests.ensures;

@@ -5,6 +5,7 @@ use Rattle.stack_engine.specs.Stacks.{StackRecord}
 use Rattle.stack_engine.specs.Pieces.{stack_over}
 use Rattle.stack_engine.specs.Writing.{sectors_in, destination_of, Writes}
 use Rattle.stack_engine.specs.WritePieces.{EachWrite}
+use Rattle.stack_engine.proofs.lemmas.ChangeLemmas.{AreWritten-none}
 use Rattle.stack_engine.proofs.lemmas.WritePieceLemmas.{each-write, write-sound}
 use Rattle.stack_engine.proofs.LeafLemmas.{all-whole}
 use Rattle.stack_engine.proofs.stack.Stack.write_piece.Given as given
@@ -44,3 +45,11 @@ returns-clause-any g c = (whole g c).any
 
 pub returns-clause-steady : goal.returns-clause-steady
 returns-clause-steady g c = (whole g c).steady
+
+-- nothing was written, for want of memory
+pub returns-in-Err-clause-steady : goal.returns-in-Err-clause-steady
+returns-in-Err-clause-steady g c = λ steady. record {
+  any = record { config = refl; whole = λ h. h; moved = AreWritten-none _ _ c.args.self.now.leaves; ends = refl };
+  exact = tt;
+  others = record { leaves = refl; sizes = λ i. refl; sector = λ i t h. refl };
+}

@@ -1,0 +1,5 @@
+pub mod FetchLemmas
+pub mod IntakeLemmas
+pub mod LedLemmas
+pub mod ServiceLemmas
+pub mod TurnLemmas

@@ -1,0 +1,154 @@
+-- A service, message by message.
+use Rattle.std.proofs.Common.{◌≡◌, ◌≢◌, ℕ, ◌/◌, List, [], ◌++◌, refl, ap, sym, ◌∙◌, subst, append_assoc, append-nil, inl, inr, Option, Some, None, Result, Ok, Err}
+use Rattle.std.specs.Prelude.{◌⊎◌}
+use Rattle.std.specs.Io.KnownBytes.{Appends, Consumes, IsAtEnd, Keeps}
+use Rattle.std.proofs.KnownBytes.{Appends-nil, Appends-trans, Appends-kept, Consumes-nil, Consumes-trans, Keeps-refl}
+use Rattle.request_queue.specs.World.{World}
+use Rattle.stack_session.specs.Session.{Streams, streams}
+use Rattle.nbd_server.specs.declared.fault.ServiceFault.{ServiceFault}
+use Rattle.nbd_server.specs.declared.fault.ServiceFault.TheVariants as fault
+use Rattle.nbd_server.specs.declared.phase.Phase.{Phase}
+use Rattle.nbd_server.specs.declared.phase.Phase.TheVariants.{Greeted, Haggling, Serving, Over}
+use Rattle.nbd_server.specs.declared.header.Command.{Command}
+use Rattle.nbd_server.specs.declared.header.Command.TheVariants.{Read, Write}
+use Rattle.nbd_server.specs.declared.request_error.RequestError.{RequestError}
+use Rattle.nbd_server.specs.Exports.{ExportRecord, IsExport}
+use Rattle.nbd_server.specs.Headers.{command_of, header_of}
+use Rattle.nbd_server.specs.Sectors.{FailsToFetch, EndsIn, StopsAfter}
+use Rattle.nbd_server.specs.Transmission.{Outcome, ServesCommand, touched}
+use Rattle.nbd_server.specs.Handshake.{greeting}
+use Rattle.nbd_server.specs.Streaming.{Spoken}
+use Rattle.nbd_server.specs.Service.{Conversation, begins, goes_on, Turns, IsHeld, IsService, IsLast, IsServed, TakesMessage}
+
+-- the messages so far, and the greeting and their replies
+abbrev pub IsTalk : ExportRecord → World → Phase → World → List ℕ → List ℕ → Type 0
+IsTalk e first phase now taken written = (replies : List ℕ) × Conversation e first phase now taken replies × (written ≡ greeting ++ replies)
+
+abbrev pub Held : ExportRecord → World → Phase → World → Streams → Streams → Type 0
+Held e first phase now old new = Spoken old new (IsTalk e first phase now)
+
+pub held-starts : (e : ExportRecord) (first : World) (input output output' : Option (List ℕ)) → Appends output output' greeting → Held e first Greeted first (streams input output) (streams input output')
+held-starts e first input output output' a = record { taken = []; written = greeting; consumed = Consumes-nil input; appended = a; holds = ([], begins, sym (append-nil greeting)) }
+
+-- what was kept back is handed on
+pub held-kept : {e : ExportRecord} {first now : World} {phase : Phase} {old : Streams} (input output output' : Option (List ℕ)) → Held e first phase now old (streams input output) → Keeps output output' → Held e first phase now old (streams input output')
+held-kept {old = old} input output output' h k = record { taken = h.taken; written = h.written; consumed = h.consumed; appended = Appends-kept old.output output output' h.written h.appended k; holds = h.holds }
+
+pub held-more : {e : ExportRecord} {first now : World} {phase : Phase} {old mid : Streams} (next : Phase) (now' : World) (new : Streams) → Held e first phase now old mid → Turns e phase now now' mid new (Ok (Some next)) → Held e first next now' old new
+held-more {old = old} {mid = mid} next now' new h t = record {
+  taken = h.taken ++ t.taken;
+  written = h.written ++ t.written;
+  consumed = Consumes-trans old.input mid.input new.input h.taken t.taken h.consumed t.consumed;
+  appended = Appends-trans old.output mid.output new.output h.written t.written h.appended t.appended;
+  holds = (
+    h.holds.0 ++ t.written,
+    goes_on t.taken t.written h.holds.1 t.holds,
+    ap (λ l. l ++ t.written) h.holds.2 ∙ append_assoc greeting h.holds.0 t.written,
+  );
+}
+
+-- the client has ended the service
+pub held-over : {e : ExportRecord} {first now : World} {old : Streams} (new : Streams) (done : Unit) → Held e first Over now old new → IsService e first now old new (Ok done)
+held-over new done h = record {
+  held = λ other. record {
+    taken = h.taken;
+    written = h.written;
+    consumed = h.consumed;
+    appended = h.appended;
+    holds = record { phase = Over; whole = h.taken; replies = h.holds.0; rest = []; talk = h.holds.1; taken_is = sym (append-nil h.taken); written_is = h.holds.2; ends = (refl, inl refl) };
+  };
+}
+
+-- it went away between two messages
+pub held-none : {e : ExportRecord} {first now : World} {phase : Phase} {old mid : Streams} (now' : World) (new : Streams) (done : Unit) → Held e first phase now old mid → Turns e phase now now' mid new (Ok None) → IsService e first now' old new (Ok done)
+held-none {e = e} {first = first} {now = now} {phase = phase} {old = old} {mid = mid} now' new done h t =
+    let none = t.0 in
+    record {
+      held = λ other. record {
+        taken = h.taken ++ none.taken;
+        written = h.written ++ none.written;
+        consumed = Consumes-trans old.input mid.input new.input h.taken none.taken h.consumed none.consumed;
+        appended = Appends-trans old.output mid.output new.output h.written none.written h.appended none.appended;
+        holds = record {
+          phase = phase;
+          whole = h.taken;
+          replies = h.holds.0;
+          rest = none.taken;
+          talk = subst (λ (x : World). Conversation e first phase x h.taken h.holds.0) (sym none.holds.2) h.holds.1;
+          taken_is = refl;
+          written_is = ap (λ l. h.written ++ l) none.holds.1 ∙ append-nil h.written ∙ h.holds.2;
+          ends = (none.holds.0, inr t.1);
+        };
+      };
+    }
+
+-- the service ends in a message
+ends-in : {e : ExportRecord} {first now : World} {phase : Phase} {old mid : Streams} (now' : World) (new : Streams) (x : ServiceFault) → Held e first phase now old mid
+    → Spoken mid new (λ taken written. (written ≡ []) × (now' ≡ now)) → IsService e first now' old new (Err x)
+ends-in {e = e} {first = first} {now = now} {phase = phase} {old = old} {mid = mid} now' new x h t = record {
+  held = λ other. record {
+    taken = h.taken ++ t.taken;
+    written = h.written ++ t.written;
+    consumed = Consumes-trans old.input mid.input new.input h.taken t.taken h.consumed t.consumed;
+    appended = Appends-trans old.output mid.output new.output h.written t.written h.appended t.appended;
+    holds = record {
+      phase = phase;
+      whole = h.taken;
+      replies = h.holds.0;
+      rest = t.taken;
+      talk = subst (λ (y : World). Conversation e first phase y h.taken h.holds.0) (sym t.holds.1) h.holds.1;
+      taken_is = refl;
+      written_is = ap (λ l. h.written ++ l) t.holds.0 ∙ append-nil h.written ∙ h.holds.2;
+      ends = tt;
+    };
+  };
+}
+
+-- nothing is said where the writer failed
+pub writer-failed : (e : ExportRecord) (first last : World) (old new : Streams) → IsService e first last old new (Err fault.WriteFault)
+writer-failed e first last old new = record { held = λ other. absurd (other refl) }
+
+pub held-ends : {e : ExportRecord} {first now : World} {phase : Phase} {old mid : Streams} (now' : World) (new : Streams) (x : ServiceFault) → Held e first phase now old mid → Turns e phase now now' mid new (Err x) → IsService e first now' old new (Err x)
+held-ends now' new fault.Lost h t = ends-in now' new fault.Lost h t
+held-ends now' new fault.Magic h t = ends-in now' new fault.Magic h t
+held-ends now' new fault.Flags h t = ends-in now' new fault.Flags h t
+held-ends now' new fault.NoSuchExport h t = ends-in now' new fault.NoSuchExport h t
+held-ends now' new fault.ReadFault h t = ends-in now' new fault.ReadFault h t
+held-ends {e = e} {first = first} {old = old} now' new fault.WriteFault h t = writer-failed e first now' old new
+held-ends now' new fault.NoMemory h t = ends-in now' new fault.NoMemory h t
+
+-- the reader was called too often
+pub held-stops : {e : ExportRecord} {first now : World} {phase : Phase} {old : Streams} (new : Streams) → Held e first phase now old new → IsService e first now old new (Err fault.ReadFault)
+held-stops {now = now} new h =
+    ends-in {mid = new} now new fault.ReadFault h (record { taken = []; written = []; consumed = Consumes-nil new.input; appended = Appends-nil new.output; holds = (refl, refl) })
+
+-- ---- the configuration stays
+
+fails-config : (w : World) (d first count : ℕ) (error : RequestError) (w' : World) → EndsIn w d first count error w' ⊎ StopsAfter w d first count error w' → w'.stack.config ≡ w.stack.config
+fails-config w d first count error w' (inl x) = x.2.config
+fails-config w d first count error w' (inr x) = x.4.read.config
+
+pub fetch-config : (w : World) (d first count : ℕ) (error : RequestError) (w' : World) → FailsToFetch w d first count error w' → w'.stack.config ≡ w.stack.config
+fetch-config w d first count error w' p = fails-config w d first count error w' p.cause
+
+same-config : (w w' : World) → w' ≡ w → w'.stack.config ≡ w.stack.config
+same-config w w' same = ap (λ (x : World). x.stack.config) same
+
+command-config : (e : ExportRecord) (w : World) (command : Result Command RequestError) (payload : List ℕ) (outcome : Outcome) (w' : World) → ServesCommand e w command payload outcome w' → w'.stack.config ≡ w.stack.config
+command-config e w (Err error) payload outcome w' p = same-config w w' p.1
+command-config e w (Ok (Read offset length)) payload (Ok content) w' p = p.1.read.config
+command-config e w (Ok (Read offset length)) payload (Err error) w' p = fetch-config w e.device (offset / 512) (touched offset length) error w' p
+command-config e w (Ok (Write offset length)) payload outcome w' p = same-config w w' p.1
+
+request-config : (e : ExportRecord) (w : World) (header payload reply : List ℕ) (next : Phase) (w' : World) → IsLast w header reply next w' ⊎ ((header_of header).kind ≢ 2) × IsServed e w header payload reply next w' → w'.stack.config ≡ w.stack.config
+request-config e w header payload reply next w' (inl x) = same-config w w' x.same
+request-config e w header payload reply next w' (inr x) = command-config e w (command_of e (header_of header)) payload x.1.outcome w' x.1.serves
+
+pub message-config : (e : ExportRecord) (phase : Phase) (w : World) (message reply : List ℕ) (next : Phase) (w' : World) → TakesMessage e phase w message reply next w' → w'.stack.config ≡ w.stack.config
+message-config e Greeted w message reply next w' p = same-config w w' p.1
+message-config e (Haggling no_zeroes) w message reply next w' p = same-config w w' p.1
+message-config e Serving w message reply next w' p = request-config e w p.header p.payload reply next w' p.answered
+message-config e Over w message reply next w' p = absurd p
+
+pub export-kept : (e : ExportRecord) (phase : Phase) (w w' : World) (old new : Streams) (next : Phase) → IsExport w.stack.config e → Turns e phase w w' old new (Ok (Some next)) → IsExport w'.stack.config e
+export-kept e phase w w' old new next x t = subst (λ c. IsExport c e) (sym (message-config e phase w t.taken t.written next w' t.holds)) x

@@ -1,0 +1,23 @@
+use Rattle.std.proofs.Common.{◌≡◌, Ok, ◌-◌, arith, length, length-append, length-drop, drop, subst}
+use Rattle.std.proofs.lemmas.List.{length-take-le}
+use Rattle.std.proofs.lemmas.Result.{err_from_is_err_and}
+use Rattle.nbd_server.specs.Streaming.{Fills}
+use Rattle.nbd_server.proofs.IntakeLemmas.{skipped-none, skipped-more, skipped-all, skipped-part}
+use Rattle.nbd_server.proofs.intake.skip.Goals as goal
+
+pub returns-in_err-fill-clause-err : goal.returns-in_err-fill-clause-err
+returns-in_err-fill-clause-err g c =
+    let p = err_from_is_err_and c.from_residual.result c.from_residual.ensures.1 in
+    rw p.1 (skipped-part (g.R.Read.remaining c.fill.new.reader.inner) c.pieces.invariant.skipped c.in_err-fill.ensures)
+
+pub pieces-preserved : goal.pieces-preserved
+pieces-preserved g c =
+    let part = c.min-part.result in
+    let mid = g.R.Read.remaining c.pieces.reader.inner in
+    let new = g.R.Read.remaining c.fill.new.reader.inner in
+    let some : length c.fill.new.buffer ≡ part = omega (arith, c.fill.auto.buffer, c.min-part.ensures, c.pieces.invariant.room, length-take-le part c.pieces.piece (omega (arith, c.min-part.ensures, c.pieces.invariant.room))) in
+    let filled = subst (λ b. Fills mid new c.fill.new.buffer (Ok b)) c.if-not-branch.false c.in_ok-fill.ensures in
+    record {
+      skipped = skipped-more new c.fill.new.buffer (c.pieces.left - part) c.pieces.invariant.skipped filled (omega (arith, some, c.min-part.ensures));
+      room = omega (arith, length-append c.fill.new.buffer (drop part c.pieces.piece), length-drop part c.pieces.piece, some, c.min-part.ensures, c.pieces.invariant.room);
+    }

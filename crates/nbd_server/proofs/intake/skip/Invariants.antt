@@ -1,0 +1,13 @@
+use Rattle.std.proofs.Common.{◌≡◌, ◌+◌, length}
+use Rattle.nbd_server.proofs.IntakeLemmas.{Skipped}
+use Rattle.nbd_server.proofs.intake.skip.Given as goal
+
+-- all but what is left was taken
+abbrev pub invariant-pieces : goal.invariant-pieces
+invariant-pieces g l = record {
+  skipped : Skipped l.count l.left (g.R.Read.remaining l.initial.reader.inner) (g.R.Read.remaining l.reader.inner);
+  room : length l.piece ≡ 4096;
+}
+
+abbrev pub decreases-pieces : goal.decreases-pieces
+decreases-pieces g l = l.left

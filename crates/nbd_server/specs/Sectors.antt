@@ -1,0 +1,39 @@
+-- Sectors of the export, read and written by runs of the queue.
+use Rattle.std.specs.Prelude.{◌≡◌, ◌⊎◌, ◌≤◌, ℕ, List, Ok, Err, Result}
+use Rattle.stack_engine.specs.declared.fault.IoFault.{IoFault}
+use Rattle.stack_engine.specs.declared.fault.IoFault.TheVariants as io
+use Rattle.stack_engine.specs.Found.{FoundRecord}
+use Rattle.request_queue.specs.Parts.{EachPart}
+use Rattle.request_queue.specs.Ranges.{range_at}
+use Rattle.request_queue.specs.WholeRuns.{ReadsWhole}
+use Rattle.request_queue.specs.World.{World}
+use Rattle.stack_session.specs.QueueSessions.{IsLed}
+use Rattle.nbd_server.specs.declared.request_error.RequestError.{RequestError}
+use Rattle.nbd_server.specs.declared.request_error.RequestError.TheVariants.{NoMemory, InputOutput}
+
+-- how a fault of the stack is told
+abbrev pub error_of : IoFault → RequestError
+error_of io.ErrorTarget = InputOutput
+error_of io.Mismatch = InputOutput
+error_of (io.Device leaf) = InputOutput
+error_of io.NoMemory = NoMemory
+
+-- The sectors of a mapped device were read, as one read of them all: such bytes as its lines allow, and over steady
+-- leaves those that the stack means.
+pub record IsFetched (w : World) (d first count : ℕ) (bytes : List ℕ) (w' : World) : Type 0 where
+  pub chains : List FoundRecord
+  pub read : ReadsWhole w.stack (range_at d first count) (Ok (record { bytes = bytes; chains = chains })) w'.stack
+  pub led : IsLed EachPart w w'
+
+-- they ended in that fault, as one read of them all
+abbrev pub EndsIn : World → ℕ → ℕ → ℕ → RequestError → World → Type 0
+EndsIn w d first count error w' = (fault : IoFault) × (error ≡ error_of fault) × ReadsWhole w.stack (range_at d first count) (Err fault) w'.stack
+
+-- memory ran out, or the queue was full, after the first of them
+abbrev pub StopsAfter : World → ℕ → ℕ → ℕ → RequestError → World → Type 0
+StopsAfter w d first count error w' = (error ≡ NoMemory) × (k : ℕ) × (k ≤ count) × (bytes : List ℕ) × IsFetched w d first k bytes w'
+
+-- they couldn't be read
+pub record FailsToFetch (w : World) (d first count : ℕ) (error : RequestError) (w' : World) : Type 0 where
+  pub cause : EndsIn w d first count error w' ⊎ StopsAfter w d first count error w'
+  pub led : IsLed EachPart w w'

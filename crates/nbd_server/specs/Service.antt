@@ -1,0 +1,120 @@
+-- The service of a client: its messages one after another, and what is replied to each.
+use Rattle.std.specs.Prelude.{◌≡◌, ◌≢◌, ◌⊎◌, ℕ, ◌==◌, ◌<◌, ◌≤◌, nat_le, Bool, true, List, [], ◌++◌, length, take, codes, Option, Some, None, Result, Ok, Err}
+use Rattle.std.specs.Io.KnownBytes.{Appends, IsAtEnd, Keeps}
+use Rattle.request_queue.specs.World.{World}
+use Rattle.stack_session.specs.Session.{Streams}
+use Rattle.nbd_server.specs.Numbers.{number32}
+use Rattle.nbd_server.specs.Exports.{ExportRecord}
+use Rattle.nbd_server.specs.Handshake.{greeting, answer_to, phase_after, names_export, most_data, refused}
+use Rattle.nbd_server.specs.declared.option_reply.Refusal.TheVariants.{TooBig}
+use Rattle.nbd_server.specs.Headers.{header_of, payload_len, request_magic}
+use Rattle.nbd_server.specs.Streaming.{Spoken}
+use Rattle.nbd_server.specs.Transmission.{Outcome, Serves, simple_reply}
+use Rattle.nbd_server.specs.declared.fault.ServiceFault.{ServiceFault}
+use Rattle.nbd_server.specs.declared.fault.ServiceFault.TheVariants.{WriteFault}
+use Rattle.nbd_server.specs.declared.phase.Phase.{Phase}
+use Rattle.nbd_server.specs.declared.phase.Phase.TheVariants.{Greeted, Haggling, Serving, Over}
+
+-- The client's flags: four bytes, of the two flags that were offered. They have no reply.
+pub record TakesFlags (message reply : List ℕ) (next : Phase) : Type 0 where
+  pub size : length message ≡ 4
+  pub offered : number32 message 0 < 4
+  pub next_is : next ≡ Haggling (nat_le 2 (number32 message 0))
+  pub silent : reply ≡ []
+
+-- an option that is answered by its number and its data
+pub record IsAnswered (e : ExportRecord) (no_zeroes : Bool) (option : ℕ) (content reply : List ℕ) (next : Phase) : Type 0 where
+  pub short : length content ≤ most_data
+  pub named : names_export e option content ≡ true
+  pub reply_is : reply ≡ answer_to e no_zeroes option content
+  pub next_is : next ≡ phase_after e no_zeroes option content
+
+-- an option for whose data there is no room: they are too long, or memory ran out
+pub record HasNoRoom (no_zeroes : Bool) (option : ℕ) (reply : List ℕ) (next : Phase) : Type 0 where
+  pub other : option ≢ 1
+  pub reply_is : reply ≡ refused TooBig option
+  pub next_is : next ≡ Haggling no_zeroes
+
+abbrev pub AnswersOption : ExportRecord → Bool → ℕ → List ℕ → List ℕ → Phase → Type 0
+AnswersOption e no_zeroes option content reply next = IsAnswered e no_zeroes option content reply next ⊎ HasNoRoom no_zeroes option reply next
+
+-- An option: its magic, its number, the length of its data, and the data.
+pub record TakesOption (e : ExportRecord) (no_zeroes : Bool) (message reply : List ℕ) (next : Phase) : Type 0 where
+  pub header : List ℕ
+  pub content : List ℕ
+  pub message_is : message ≡ header ++ content
+  pub size : length header ≡ 16
+  pub magic : take 8 header ≡ codes "IHAVEOPT"
+  pub count : length content ≡ number32 header 12
+  pub answered : AnswersOption e no_zeroes (number32 header 8) content reply next
+
+-- a request that isn't the last: it is served, and has a simple reply
+pub record IsServed (e : ExportRecord) (w : World) (header payload reply : List ℕ) (next : Phase) (w' : World) : Type 0 where
+  pub outcome : Outcome
+  pub serves : Serves e w (header_of header) payload outcome w'
+  pub reply_is : reply ≡ simple_reply (header_of header).cookie outcome
+  pub next_is : next ≡ Serving
+
+-- the request by which the client ends the service: it has no reply
+pub record IsLast (w : World) (header reply : List ℕ) (next : Phase) (w' : World) : Type 0 where
+  pub kind : (header_of header).kind ≡ 2
+  pub silent : reply ≡ []
+  pub next_is : next ≡ Over
+  pub same : w' ≡ w
+
+-- A request: 28 bytes, and those of a write.
+pub record TakesRequest (e : ExportRecord) (w : World) (message reply : List ℕ) (next : Phase) (w' : World) : Type 0 where
+  pub header : List ℕ
+  pub payload : List ℕ
+  pub message_is : message ≡ header ++ payload
+  pub size : length header ≡ 28
+  pub magic : number32 header 0 ≡ request_magic
+  pub count : length payload ≡ payload_len (header_of header)
+  pub answered : IsLast w header reply next w' ⊎ ((header_of header).kind ≢ 2) × IsServed e w header payload reply next w'
+
+-- One message of the client, by what it may say: from one world of the queue to the next.
+abbrev pub TakesMessage : ExportRecord → Phase → World → List ℕ → List ℕ → Phase → World → Type 0
+TakesMessage e Greeted w message reply next w' = TakesFlags message reply next × (w' ≡ w)
+TakesMessage e (Haggling no_zeroes) w message reply next w' = TakesOption e no_zeroes message reply next × (w' ≡ w)
+TakesMessage e Serving w message reply next w' = TakesRequest e w message reply next w'
+TakesMessage e Over w message reply next w' = ⊥
+
+-- Messages one after another, what they are in all, and all that is replied.
+pub data Conversation (e : ExportRecord) (first : World) : Phase → World → List ℕ → List ℕ → Type 0 where
+  begins : Conversation e first Greeted first [] []
+  goes_on : {phase next : Phase} {w w' : World} {taken written : List ℕ} (message reply : List ℕ) → Conversation e first phase w taken written → TakesMessage e phase w message reply next w'
+      → Conversation e first next w' (taken ++ message) (written ++ reply)
+
+-- how a reply ends: it was written and leads to a phase, or there is none
+abbrev pub Answers : (List ℕ → Phase → Type 0) → Option (List ℕ) → Option (List ℕ) → Result Phase ServiceFault → Type 0
+Answers Is old new (Ok next) = (reply : List ℕ) × Is reply next × Appends old new reply
+Answers Is old new (Err WriteFault) = Unit {0}
+Answers Is old new (Err fault) = Keeps old new
+
+-- how a message ends: it was taken, the input ended before it, or the service ends in it; then nothing happened
+abbrev pub Turns : ExportRecord → Phase → World → World → Streams → Streams → Result (Option Phase) ServiceFault → Type 0
+Turns e phase w w' old new (Ok (Some next)) = Spoken old new (λ message reply. TakesMessage e phase w message reply next w')
+Turns e phase w w' old new (Ok None) = Spoken old new (λ taken written. (taken ≡ []) × (written ≡ []) × (w' ≡ w)) × IsAtEnd new.input
+Turns e phase w w' old new (Err WriteFault) = Unit {0}
+Turns e phase w w' old new (Err fault) = Spoken old new (λ taken written. (written ≡ []) × (w' ≡ w))
+
+-- how the service ends after those messages: the client ended it or went away, or was lost in what is left
+abbrev pub EndsSo : Phase → List ℕ → Option (List ℕ) → Result Unit ServiceFault → Type 0
+EndsSo phase rest input (Ok done) = (rest ≡ []) × ((phase ≡ Over) ⊎ IsAtEnd input)
+EndsSo phase rest input (Err fault) = Unit {0}
+
+-- what was taken is whole messages and a rest, and what was written is the greeting and the replies to them
+pub record IsHeld (e : ExportRecord) (first last : World) (input : Option (List ℕ)) (result : Result Unit ServiceFault) (taken written : List ℕ) : Type 0 where
+  pub phase : Phase
+  pub whole : List ℕ
+  pub replies : List ℕ
+  pub rest : List ℕ
+  pub talk : Conversation e first phase last whole replies
+  pub taken_is : taken ≡ whole ++ rest
+  pub written_is : written ≡ greeting ++ replies
+  pub ends : EndsSo phase rest input result
+
+-- What a service read and wrote, from the first world of its queue to the last.
+pub record IsService (e : ExportRecord) (first last : World) (old new : Streams) (result : Result Unit ServiceFault) : Type 0 where
+  -- unless the writer failed
+  pub held : result ≢ Err WriteFault → Spoken old new (IsHeld e first last new.input result)

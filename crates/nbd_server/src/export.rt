@@ -1,0 +1,50 @@
+// What is served: a mapped device as a run of bytes.
+ghost use Rattle.std.specs.Prelude.{◌≡◌, IfSome};
+ghost use Rattle.nbd_server.specs.Exports.{IsExport, export_record, is_asked, transmission_flags};
+
+use stack_loader::{Config, DevId};
+
+// The most bytes of a string of the protocol.
+const MOST_NAME: usize = 4096;
+
+/// A mapped device as a run of bytes.
+#[derive(Clone, Copy, Debug, PartialEq, Eq)]
+pub struct Export<'a> {
+    pub(crate) name: &'a [u8],
+    pub(crate) device: DevId,
+    pub(crate) size: u64,
+    pub(crate) writable: bool,
+}
+
+impl<'a> Export<'a> {
+    /// The mapped device of that name, to be read alone.
+    pub fn of(config: &Config, name: &'a [u8]) -> Option<Export<'a>>
+        ensures { IfSome result (λ e. IsExport config.now (export_record e) × (e.name ≡ name.entry)) }
+    {
+        if name.len() > MOST_NAME {
+            return None;
+        }
+        let device = config.device(name)?;
+        let size = config.sectors(device).checked_mul(512)?;
+        Some(Export {
+            name,
+            device,
+            size,
+            writable: false,
+        })
+    }
+
+    /// Whether a client asks for it by that name.
+    pub(crate) fn is_asked(&self, name: &[u8]) -> bool
+        ensures { result ≡ is_asked (export_record self.now) name.now }
+    {
+        name.is_empty() || name == self.name
+    }
+
+    /// What a client is told of it.
+    pub(crate) fn flags(&self) -> u16
+        ensures { result ≡ transmission_flags (export_record self.now) }
+    {
+        if self.writable { 1 } else { 3 }
+    }
+}

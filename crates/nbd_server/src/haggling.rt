@@ -1,0 +1,117 @@
+// The handshake's messages: the client's flags, and the options that it haggles over.
+ghost use Rattle.std.specs.Prelude.{◌≡◌, ◌<◌, ◌≤◌, ◌^◌, ℕ, List, length, Option, option_map, IfOk, IfSome, OnErr};
+ghost use Rattle.std.specs.Io.KnownBytes.{Consumes};
+ghost use Rattle.stack_session.specs.Session.{streams};
+ghost use Rattle.request_queue.specs.World.{World};
+ghost use Rattle.nbd_server.specs.Exports.{ExportRecord, export_record};
+ghost use Rattle.nbd_server.specs.Service.{Answers, HasNoRoom, IsAnswered, Turns};
+ghost use Rattle.nbd_server.specs.Streaming.{TakesInto};
+ghost use Rattle.nbd_server.specs.declared.phase.Phase.TheVariants.{Greeted, Haggling};
+
+use crate::export::Export;
+use crate::fault::ServiceFault;
+use crate::intake::{fill, skip, take_bytes};
+use crate::numbers::number32;
+use crate::option::{EXPORT_NAME, names_export, phase_after, say_answer};
+use crate::option_reply::{Refusal, refuse};
+use crate::phase::Phase;
+use stack_session::Counted;
+use std::alloc::Global;
+use std::io::{Read, Write};
+
+// The most bytes of an option's data.
+const MOST_DATA: u32 = 65536;
+
+/// Takes the client's flags.
+pub(crate) fn take_flags<R: Read>(reader: &mut Counted<R>) -> Result<Option<Phase>, ServiceFault>
+    ensures { (e : ExportRecord) (w : World) (written : Option (List ℕ)) → Turns e Greeted w w (streams (R.remaining reader.old.inner) written) (streams (R.remaining reader.new.inner) written) result }
+{
+    let mut bytes = [0u8; 4];
+    if !fill(reader, &mut bytes)? {
+        return Ok(None);
+    }
+    let flags = number32(&bytes, 0);
+    if flags > 3 {
+        return Err(ServiceFault::Flags);
+    }
+    Ok(Some(Phase::Haggling {
+        no_zeroes: flags >= 2,
+    }))
+}
+
+// Takes the data of an option. `None`: there is no room for them, and they are gone.
+fn take_content<R: Read>(
+    alloc: Global,
+    reader: &mut Counted<R>,
+    count: u32,
+) -> Result<Option<Vec<u8>>, ServiceFault>
+    ensures ok { IfOk result (λ found. TakesInto (option_map (λ v. v.items) found) count (R.remaining reader.old.inner) (R.remaining reader.new.inner)) }
+    ensures short { IfOk result (λ found. IfSome found (λ v. length v.items ≤ MOST_DATA)) }
+    ensures err { OnErr result ((part : List ℕ) × Consumes (R.remaining reader.old.inner) (R.remaining reader.new.inner) part) }
+{
+    if count > MOST_DATA {
+        skip(reader, count)?;
+        return Ok(None);
+    }
+    take_bytes(alloc, reader, count)
+}
+
+// Says that there is no room for the data of an option. `NoSuchExport`: it has no reply.
+fn refuse_content<W: Write>(
+    no_zeroes: bool,
+    option: u32,
+    writer: &mut Counted<W>,
+) -> Result<Phase, ServiceFault>
+    ensures { Answers (HasNoRoom no_zeroes option) (W.contents writer.old.inner) (W.contents writer.new.inner) result }
+{
+    if option == EXPORT_NAME {
+        return Err(ServiceFault::NoSuchExport);
+    }
+    refuse(writer, option, Refusal::TooBig)?;
+    Ok(Phase::Haggling { no_zeroes })
+}
+
+// Replies to an option. `NoSuchExport`: it has no reply.
+fn answer_option<W: Write>(
+    export: &Export<'_>,
+    no_zeroes: bool,
+    option: u32,
+    content: &[u8],
+    writer: &mut Counted<W>,
+) -> Result<Phase, ServiceFault>
+    requires name { length export.now.name.now < 2 ^ 16 }
+    requires short { length content.now ≤ MOST_DATA }
+    ensures { Answers (IsAnswered (export_record export.now) no_zeroes option content.now) (W.contents writer.old.inner) (W.contents writer.new.inner) result }
+{
+    if !names_export(export, option, content) {
+        return Err(ServiceFault::NoSuchExport);
+    }
+    say_answer(writer, export, no_zeroes, option, content)?;
+    Ok(phase_after(export, no_zeroes, option, content))
+}
+
+/// Takes an option, and replies to it.
+pub(crate) fn take_option<R: Read, W: Write>(
+    alloc: Global,
+    export: &Export<'_>,
+    no_zeroes: bool,
+    reader: &mut Counted<R>,
+    writer: &mut Counted<W>,
+) -> Result<Option<Phase>, ServiceFault>
+    requires { length export.now.name.now < 2 ^ 16 }
+    ensures { (w : World) → Turns (export_record export.now) (Haggling no_zeroes) w w
+        (streams (R.remaining reader.old.inner) (W.contents writer.old.inner)) (streams (R.remaining reader.new.inner) (W.contents writer.new.inner)) result }
+{
+    let mut header = [0u8; 16];
+    if !fill(reader, &mut header)? {
+        return Ok(None);
+    }
+    if &header[..8] != b"IHAVEOPT".as_slice() {
+        return Err(ServiceFault::Magic);
+    }
+    let option = number32(&header, 8);
+    let Some(content) = take_content(alloc, reader, number32(&header, 12))? else {
+        return Ok(Some(refuse_content(no_zeroes, option, writer)?));
+    };
+    Ok(Some(answer_option(export, no_zeroes, option, content.as_slice(), writer)?))
+}

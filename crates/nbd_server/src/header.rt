@@ -1,0 +1,111 @@
+// Requests of the transmission phase.
+ghost use Rattle.std.specs.Prelude.{◌≡◌, ◌+◌, length, nat_lt};
+ghost use Rattle.nbd_server.specs.Exports.{export_record};
+ghost use Rattle.nbd_server.specs.Headers.{command_of, header_of, payload_len, read_command, write_command};
+
+use crate::export::Export;
+use crate::numbers::{number16, number32, number64};
+use crate::request_error::RequestError;
+
+/// The most bytes that are read or written at once.
+pub(crate) const MOST_LENGTH: u32 = 33554432;
+
+const READ: u16 = 0;
+
+const WRITE: u16 = 1;
+
+/// The kind of the request by which a client ends the service.
+pub(crate) const DISCONNECT: u16 = 2;
+
+/// The fields of a request.
+#[derive(Clone, Copy, Debug, PartialEq, Eq)]
+pub(crate) struct Header {
+    pub(crate) flags: u16,
+    pub(crate) kind: u16,
+    pub(crate) cookie: u64,
+    pub(crate) offset: u64,
+    pub(crate) length: u32,
+}
+
+/// What a request asks for.
+#[derive(Clone, Copy, Debug, PartialEq, Eq)]
+pub(crate) enum Command {
+    /// Bytes are read.
+    Read { offset: u64, length: u32 },
+    /// Bytes are written.
+    Write { offset: u64, length: u32 },
+}
+
+impl Header {
+    /// The fields behind the magic.
+    pub(crate) fn of(bytes: &[u8]) -> Header
+        requires { length bytes.now ≡ 28 }
+        ensures { result ≡ header_of bytes.now }
+    {
+        Header {
+            flags: number16(bytes, 4),
+            kind: number16(bytes, 6),
+            cookie: number64(bytes, 8),
+            offset: number64(bytes, 16),
+            length: number32(bytes, 24),
+        }
+    }
+
+    /// How many bytes follow it.
+    pub(crate) fn payload_len(self) -> u32
+        ensures { result ≡ payload_len self }
+    {
+        if self.kind == WRITE { self.length } else { 0 }
+    }
+
+    /// What it asks for, or its first fault.
+    #[tactic(auto, unfolding(crate::specs::Headers::command_of))]
+    pub(crate) fn command(self, export: &Export<'_>) -> Result<Command, RequestError>
+        ensures { result ≡ command_of (export_record export.now) self }
+    {
+        if self.flags != 0 {
+            return Err(RequestError::Invalid);
+        }
+        match self.kind {
+            READ => self.read_command(export),
+            WRITE => self.write_command(export),
+            _ => Err(RequestError::Invalid),
+        }
+    }
+
+    // A read of bytes that the export has.
+    fn read_command(self, export: &Export<'_>) -> Result<Command, RequestError>
+        ensures { result ≡ read_command (export_record export.now) self }
+    {
+        let Header { offset, length, .. } = self;
+        if length > MOST_LENGTH || ends_past(export.size, offset, length) {
+            return Err(RequestError::Invalid);
+        }
+        Ok(Command::Read { offset, length })
+    }
+
+    // A write of bytes that the export has.
+    fn write_command(self, export: &Export<'_>) -> Result<Command, RequestError>
+        ensures { result ≡ write_command (export_record export.now) self }
+    {
+        let Header { offset, length, .. } = self;
+        if length > MOST_LENGTH {
+            return Err(RequestError::Invalid);
+        }
+        if !export.writable {
+            return Err(RequestError::NotPermitted);
+        }
+        if ends_past(export.size, offset, length) {
+            return Err(RequestError::NoSpace);
+        }
+        Ok(Command::Write { offset, length })
+    }
+}
+
+// Whether bytes end past a size.
+fn ends_past(size: u64, offset: u64, length: u32) -> bool
+    ensures { result ≡ nat_lt size (offset + length) }
+{
+    let length = u64::from(length);
+    length > size || offset > size - length
+}

@@ -1,0 +1,86 @@
+// Takes bytes from a client.
+ghost use Rattle.std.specs.Prelude.{◌≡◌, ℕ, ◌<◌, List, length, OnOk, OnErr, IfOk, option_map};
+ghost use Rattle.std.specs.Io.KnownBytes.{Consumes};
+ghost use Rattle.nbd_server.specs.Streaming.{Fills, Takes, TakesInto};
+
+use crate::fault::ServiceFault;
+use stack_session::Counted;
+use std::alloc::{AllocError, Global};
+use std::io::{ErrorKind, Read};
+
+const PIECE: usize = 4096;
+
+/// Fills a buffer. `false`: the input ended before its first byte.
+pub(crate) fn fill<R: Read>(
+    reader: &mut Counted<R>,
+    buffer: &mut [u8],
+) -> Result<bool, ServiceFault>
+    requires { 0 < length buffer.old }
+    ensures { Fills (R.remaining reader.old.inner) (R.remaining reader.new.inner) buffer.new result }
+{
+    let mut done = 0;
+    for _turn in 0..u64::MAX {
+        match reader.read(&mut buffer[done..]) {
+            Ok(0) if done == 0 => return Ok(false),
+            Ok(0) => return Err(ServiceFault::Lost),
+            Ok(n) => {
+                done += n;
+                if done == buffer.len() {
+                    return Ok(true);
+                }
+            }
+            Err(error) => {
+                if error.kind() != ErrorKind::Interrupted {
+                    return Err(ServiceFault::ReadFault);
+                }
+            }
+        }
+    }
+    Err(ServiceFault::ReadFault)
+}
+
+/// Takes bytes that nobody wants.
+pub(crate) fn skip<R: Read>(reader: &mut Counted<R>, count: u32) -> Result<(), ServiceFault>
+    ensures ok { OnOk result (Takes count (R.remaining reader.old.inner) (R.remaining reader.new.inner)) }
+    ensures err { OnErr result ((part : List ℕ) × Consumes (R.remaining reader.old.inner) (R.remaining reader.new.inner) part) }
+{
+    let mut piece = [0u8; PIECE];
+    let mut left = count as usize;
+    'pieces: while left > 0 {
+        let part = left.min(PIECE);
+        if !fill(reader, &mut piece[..part])? {
+            return Err(ServiceFault::Lost);
+        }
+        left -= part;
+    }
+    Ok(())
+}
+
+/// Takes so many bytes. `None`: memory ran out, and they are gone.
+pub(crate) fn take_bytes<R: Read>(
+    alloc: Global,
+    reader: &mut Counted<R>,
+    count: u32,
+) -> Result<Option<Vec<u8>>, ServiceFault>
+    ensures ok { IfOk result (λ found. TakesInto (option_map (λ v. v.items) found) count (R.remaining reader.old.inner) (R.remaining reader.new.inner)) }
+    ensures err { OnErr result ((part : List ℕ) × Consumes (R.remaining reader.old.inner) (R.remaining reader.new.inner) part) }
+{
+    if count == 0 {
+        return Ok(Some(Vec::new(alloc)));
+    }
+    let Ok(mut bytes) = zeros(alloc, count) else {
+        skip(reader, count)?;
+        return Ok(None);
+    };
+    if !fill(reader, bytes.as_mut_slice())? {
+        return Err(ServiceFault::Lost);
+    }
+    Ok(Some(bytes))
+}
+
+// Room for so many bytes.
+fn zeros(alloc: Global, count: u32) -> Result<Vec<u8>, AllocError>
+    ensures { IfOk result (λ bytes. length bytes.items ≡ count) }
+{
+    vec![in alloc; 0u8; count as usize]
+}

@@ -1,0 +1,21 @@
+//! Serves a mapped device to a client of the NBD protocol.
+#![tactic(auto)]
+
+mod export;
+mod fault;
+mod fetch;
+mod haggling;
+mod header;
+mod intake;
+mod numbers;
+mod option;
+mod option_reply;
+mod phase;
+mod reply;
+mod request_error;
+mod service;
+mod transmission;
+
+pub use export::Export;
+pub use fault::ServiceFault;
+pub use service::serve;

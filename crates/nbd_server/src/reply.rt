@@ -1,0 +1,47 @@
+// Replies to requests.
+ghost use Rattle.std.specs.Prelude.{◌++◌};
+ghost use Rattle.stack_session.specs.Counted.{Writes};
+ghost use Rattle.nbd_server.specs.Numbers.{bytes32, bytes64};
+ghost use Rattle.nbd_server.specs.Transmission.{IsInside, outcome_of, simple_reply};
+
+use crate::numbers::{put32, put64};
+use crate::request_error::RequestError;
+use stack_session::{Counted, WriteFault};
+use std::io::Write;
+
+const MAGIC: u32 = 0x6744_6698;
+
+/// What a request gave: a part of these bytes.
+#[derive(Drop)]
+pub(crate) struct Data {
+    pub(crate) bytes: Vec<u8>,
+    pub(crate) start: usize,
+    pub(crate) length: usize,
+}
+
+// A reply, but for its data.
+fn say_head<W: Write>(writer: &mut Counted<W>, error: u32, cookie: u64) -> Result<(), WriteFault>
+    ensures { Writes W.contents writer.old writer.new (bytes32 0x67446698 ++ (bytes32 error ++ bytes64 cookie)) result }
+{
+    put32(writer, MAGIC)?;
+    put32(writer, error)?;
+    put64(writer, cookie)
+}
+
+/// Writes the simple reply to the request with that cookie.
+pub(crate) fn say_reply<W: Write>(
+    writer: &mut Counted<W>,
+    cookie: u64,
+    outcome: Result<Data, RequestError>,
+) -> Result<(), WriteFault>
+    requires { IsInside outcome }
+    ensures { Writes W.contents writer.old writer.new (simple_reply cookie (outcome_of outcome)) result }
+{
+    match outcome {
+        Ok(data) => {
+            say_head(writer, 0, cookie)?;
+            writer.put(&data.bytes[data.start..data.start + data.length])
+        }
+        Err(error) => say_head(writer, error.number(), cookie),
+    }
+}

@@ -1,0 +1,70 @@
+// The service of a client: its messages one after another, and what is replied to each.
+ghost use Rattle.std.specs.Prelude.{◌≢◌};
+ghost use Rattle.stack_session.specs.Session.{streams};
+ghost use Rattle.nbd_server.specs.Exports.{IsExport, export_record};
+ghost use Rattle.nbd_server.specs.Service.{IsService, Turns};
+ghost use Rattle.nbd_server.specs.declared.phase.Phase.TheVariants.{Over};
+
+use crate::export::Export;
+use crate::fault::ServiceFault;
+use crate::haggling::{take_flags, take_option};
+use crate::phase::Phase;
+use crate::transmission::take_request;
+use block_device::BlockDev;
+use request_queue::Queue;
+use stack_session::Counted;
+use std::alloc::Global;
+use std::io::{Read, Write};
+
+const GREETING: [u8; 18] = *b"NBDMAGICIHAVEOPT\0\x03";
+
+// Takes one message, and replies to it.
+fn take_message<D: BlockDev, R: Read, W: Write>(
+    alloc: Global,
+    queue: &mut Queue<D>,
+    export: &Export<'_>,
+    phase: Phase,
+    reader: &mut Counted<R>,
+    writer: &mut Counted<W>,
+) -> Result<Option<Phase>, ServiceFault>
+    requires export { IsExport queue.old.stack.config (export_record export.now) }
+    requires going { phase ≢ Over }
+    ensures { Turns (export_record export.now) phase queue.old queue.new
+        (streams (R.remaining reader.old.inner) (W.contents writer.old.inner)) (streams (R.remaining reader.new.inner) (W.contents writer.new.inner)) result }
+{
+    match phase {
+        Phase::Greeted => take_flags(reader),
+        Phase::Haggling { no_zeroes } => take_option(alloc, export, no_zeroes, reader, writer),
+        Phase::Serving => take_request(alloc, queue, export, reader, writer),
+        Phase::Over => unreachable!(),
+    }
+}
+
+/// Serves a client, until it ends the service or goes away between two messages.
+///
+/// Replies are handed on before the reader is called again.
+pub fn serve<D: BlockDev, R: Read, W: Write>(
+    alloc: Global,
+    queue: &mut Queue<D>,
+    export: &Export<'_>,
+    reader: &mut Counted<R>,
+    writer: &mut Counted<W>,
+) -> Result<(), ServiceFault>
+    requires { IsExport queue.old.stack.config (export_record export.now) }
+    ensures { IsService (export_record export.now) queue.old queue.new
+        (streams (R.remaining reader.old.inner) (W.contents writer.old.inner)) (streams (R.remaining reader.new.inner) (W.contents writer.new.inner)) result }
+{
+    writer.put(&GREETING)?;
+    let mut phase = Phase::Greeted;
+    for _turn in 0..u64::MAX {
+        writer.flush()?;
+        match phase {
+            Phase::Over => return Ok(()),
+            _ => match take_message(alloc, queue, export, phase, reader, writer)? {
+                Some(next) => phase = next,
+                None => return Ok(()),
+            },
+        }
+    }
+    Err(ServiceFault::ReadFault)
+}

@@ -1,0 +1,74 @@
+// The command `nbd`: serves a device to a client of the NBD protocol.
+ghost use Rattle.std.specs.Prelude.{◌≡◌, ◌≤◌, ◌^◌, length, map, Ok, OnOk, IfOk, IfErr};
+ghost use Rattle.stack_loader.specs.Records.{Configuration};
+ghost use Rattle.stack_engine.specs.Leaves.{ServeLeaves};
+ghost use Rattle.stack_engine.specs.Pieces.{stack_over};
+ghost use Rattle.stack_session.specs.Session.{streams};
+ghost use Rattle.stack_commands.specs.Bindings.{binding_record};
+ghost use Rattle.stack_commands.specs.Configuration.{configuration_of};
+ghost use Rattle.stack_commands.specs.Requests.{new_world};
+ghost use Rattle.stack_commands.specs.StackCommands.{FailsToLoad, IsClientEnd, ServesClient};
+
+use crate::bindings::Binding;
+use crate::command_words::ServedDevice;
+use crate::configuration::configuration_of;
+use crate::opening::{OpenLeaves, open_all, stack_text};
+use crate::sync::sync_stack;
+use block_device::{AnyDev, BlockDev};
+use command_faults::CommandFault;
+use nbd_server::{Export, serve};
+use request_queue::{Queue, SubmitFault};
+use stack_engine::Stack;
+use stack_session::Counted;
+use std::alloc::Global;
+use std::fs::File;
+use std::io::{Read, Write};
+use std::rt::Files;
+
+/// `nbd [--cache N] STACK NAME BINDING...`: a device of a stack file over the bindings, whose images are synced at
+/// the end.
+pub fn serve_client<'a, R: Files<File = File> + AllocGlobal, S: Read, W: Write>(
+    rt: &R,
+    device: ServedDevice<'a>,
+    bindings: &[Binding<'a>],
+    reader: &mut Counted<S>,
+    writer: &mut Counted<W>,
+) -> Result<(), CommandFault<'a>>
+    ensures ok { OnOk result (ServesClient (map binding_record bindings.now) device.entry.name.now (streams (S.remaining reader.old.inner) (W.contents writer.old.inner)) (streams (S.remaining reader.new.inner) (W.contents writer.new.inner)) (Ok tt)) }
+    ensures err { IfErr result (IsClientEnd device.entry.stack.now (map binding_record bindings.now) device.entry.name.now (streams (S.remaining reader.old.inner) (W.contents writer.old.inner)) (streams (S.remaining reader.new.inner) (W.contents writer.new.inner))) }
+{
+    let text = stack_text(rt, device.stack)?;
+    let over = open_all(rt, &[], bindings)?;
+    let mut queue = queue_over(rt.alloc(), over, device.cache, text.as_slice())?;
+    let Some(export) = Export::of(queue.stack().config(), device.name.as_bytes()) else {
+        return Err(CommandFault::Submit(SubmitFault::NoSuchDevice));
+    };
+    let outcome = serve(rt.alloc(), &mut queue, &export, reader, writer);
+    let synced = sync_stack(queue.into_stack());
+    outcome?;
+    Ok(synced?)
+}
+
+// A new queue over the stack that a text makes of the leaves.
+fn queue_over<'a>(
+    alloc: Global,
+    over: OpenLeaves,
+    cache: u32,
+    text: &[u8],
+) -> Result<Queue<AnyDev>, CommandFault<'a>>
+    requires text { length text.now ≤ 2 ^ 20 }
+    requires served { ServeLeaves over.leaves.items (map ⟦<AnyDev as BlockDev>⟧.state over.devices.items) }
+    ensures ok { IfOk result (λ queue. (c : Configuration) × (configuration_of over.leaves.items text.now ≡ Ok c)
+        × (queue ≡ new_world (stack_over c (map ⟦<AnyDev as BlockDev>⟧.state over.devices.items)))) }
+    ensures err { IfErr result (FailsToLoad over.leaves.items text.now) }
+{
+    let OpenLeaves { leaves, devices } = over;
+    let config = match configuration_of(alloc, leaves, text) {
+        Ok(config) => config,
+        Err(fault) => return Err(fault),
+    };
+    let Ok(stack) = Stack::new(alloc, config, devices, cache) else {
+        return Err(CommandFault::NoMemory);
+    };
+    Ok(Queue::new(alloc, stack))
+}

@@ -1,0 +1,284 @@
+-- What is written to part of a unit, which is read, changed and written whole.
+use Rattle.std.proofs.Common.{◌≡◌, ◌≢◌, ℕ, zero, suc, ◌+◌, ◌-◌, ◌*◌, ◌/◌, ◌%◌, ◌<◌, ◌≤◌, IsTrue, List, [], ◌++◌, length, take, drop, Contains, Result, Ok, Err, refl, sym, ap, ◌∙◌, subst, arith}
+use Rattle.std.specs.List.{concat}
+use Rattle.std.specs.Prelude.{slice_get}
+use Rattle.std.proofs.lemmas.List.{take_all, length-append, length-take, length-drop}
+use Rattle.std.proofs.lemmas.Nat.{div-add-mod', div-mul-add}
+use Rattle.std.proofs.Math.Nat.{mul-add, mul-le-mul_right}
+use Rattle.block_device.specs.Device.{Device, sectors_of, spliced}
+use Rattle.block_device.proofs.lemmas.SectorLemmas.{put_at, put_run, concat-sectors_of}
+use Rattle.dm_table.specs.declared.crypt.Crypt.{Crypt}
+use Rattle.stack_loader.specs.declared.lower.Lower.{Lower}
+use Rattle.stack_loader.specs.Records.{Configuration}
+use Rattle.stack_loader.specs.Names.{mapped, named, lines_of, may_write}
+use Rattle.stack_loader.specs.Descend.{read_cost, write_cost}
+use Rattle.stack_loader.specs.Rules.{IsLoaded}
+use Rattle.stack_engine.specs.declared.fault.IoFault.{IoFault}
+use Rattle.stack_engine.specs.declared.fault.IoFault.TheVariants as io
+use Rattle.stack_engine.specs.declared.source.BlockPart.{BlockPart}
+use Rattle.stack_engine.specs.declared.units.WholeUnit.{WholeUnit}
+use Rattle.stack_engine.specs.declared.source.Source.TheVariants.{Units, UnitPart}
+use Rattle.stack_engine.specs.Sectors.{SomeOf, IsRun, gathered}
+use Rattle.stack_engine.specs.Outcomes.{Fault, error_target, mismatch, Images, Outcome, LeafSector, span}
+use Rattle.stack_loader.specs.Units.{unit_sectors}
+use Rattle.stack_engine.specs.Units.{decrypted_unit, encrypted_unit, unit_first}
+use Rattle.stack_engine.specs.Found.{FoundRecord}
+use Rattle.stack_engine.specs.Meaning.{Said, crypt_said, said_at}
+use Rattle.stack_engine.specs.Puts.{Put, stopped, read_put, encrypted_sectors, changed_unit, put_on}
+use Rattle.stack_engine.specs.Leaves.{images_of, AllSteady, Moves}
+use Rattle.stack_engine.specs.Changes.{AllWhole, reached, AreWritten}
+use Rattle.stack_engine.specs.Places.{Read}
+use Rattle.stack_engine.specs.Reading.{Ends, Answers, MeetVerity, IsPlain}
+use Rattle.stack_engine.specs.Sources.{LieInUnit, IsWholeOf, cost_beneath, source_said, ReadsSource}
+use Rattle.stack_engine.specs.Writing.{sectors_in, put_on_line, MayEnd, IsPut, Writes, source_destination}
+use Rattle.stack_loader.proofs.lemmas.UnitLemmas.{unit_sectors-some}
+use Rattle.stack_engine.proofs.UnitLineLemmas.{IsUnitLine, unit-line, cost-beneath, unit-said}
+use Rattle.stack_engine.proofs.UnitPutLemmas.{sectors_in-of, whole-put, some-put}
+use Rattle.stack_engine.proofs.UnitReadLemmas.{images-whole, unit-means, whole-unit, unit-fails}
+use Rattle.stack_engine.proofs.UnitSourceLemmas.{lies_in, begin-whole, part-some}
+use Rattle.stack_engine.proofs.WritablePlainLemmas.{none-verity}
+use Rattle.stack_engine.proofs.lemmas.ChangeLemmas.{AreWritten-more, AreWritten-then, AreWritten-read}
+use Rattle.stack_engine.proofs.lemmas.LeafListLemmas.{AllSteady-kept, images-kept, failed_later}
+use Rattle.stack_engine.proofs.lemmas.SizeLemmas.{AreSized, span-length, sector-size}
+use Rattle.stack_engine.proofs.lemmas.SpanLemmas.{span_same, span_fails}
+use Rattle.stack_engine.proofs.lemmas.WriteRunLemmas.{length-sectors_in, MayEnd-as}
+
+abbrev err_of : IoFault → Result Unit IoFault
+err_of fault = Err fault
+
+length-put : (plain : List ℕ) (at : ℕ) (bytes : List ℕ) (size : ℕ) → length plain ≡ size → at + length bytes ≤ size → length (put_at plain at bytes) ≡ size
+length-put plain at bytes size long fits =
+    length-append (take at plain ++ bytes) (drop (at + length bytes) plain)
+    ∙ ap (λ (k : ℕ). k + length (drop (at + length bytes) plain)) (length-append (take at plain) bytes)
+    ∙ (omega (arith, long, fits, length-take at plain, length-drop (at + length bytes) plain))
+
+module _ (c : Configuration) (b : BlockPart) (whole : WholeUnit) (bytes : List ℕ) (n : ℕ) (loaded : IsLoaded c) (of : IsWholeOf c b whole) (lies : LieInUnit c b.device.0 b.line b.first n) (some : 0 < n) (len : length bytes ≡ 512 * n)
+    (writable : IsTrue (may_write c (mapped b.device.0))) where
+  in_unit : (b.first % unit_sectors of.crypt + n ≤ unit_sectors of.crypt) × (n < unit_sectors of.crypt)
+  in_unit = lies_in c b whole n loaded of lies some
+
+  on : (lower : Lower) × IsUnitLine c b.device.0 of.has.line of.crypt lower
+  on = unit-line c b.device.0 b.line 0 of.crypt loaded of.has
+
+  -- the unit's first sector
+  abbrev begin : ℕ
+  begin = b.first - b.first % unit_sectors of.crypt
+
+  begin-is : b.first - b.first % unit_sectors of.crypt ≡ b.first / unit_sectors of.crypt * unit_sectors of.crypt
+  begin-is = omega (arith, div-add-mod' b.first (unit_sectors of.crypt))
+
+  begin-unit : (b.first - b.first % unit_sectors of.crypt) / unit_sectors of.crypt ≡ b.first / unit_sectors of.crypt
+  begin-unit =
+      let u : ℕ = unit_sectors of.crypt in
+      let split : b.first - b.first % u ≡ b.first / u * u + 0 = omega (arith, begin-is) in
+      ap (λ (k : ℕ). k / u) split ∙ div-mul-add (b.first / u) u 0 (omega (arith, unit_sectors-some of.crypt))
+
+  begin-first : unit_first of.crypt (b.first - b.first % unit_sectors of.crypt) ≡ unit_first of.crypt b.first
+  begin-first = ap (λ (k : ℕ). of.crypt.base.offset + k * unit_sectors of.crypt) begin-unit
+
+  -- what is said of the unit's sectors
+  from-said : (j : ℕ) → source_said c (Units whole.from) j ≡ crypt_said (said_at c on.0) of.crypt (b.first - b.first % unit_sectors of.crypt + j)
+  from-said j =
+      ap (λ (x : BlockPart). source_said c (Units x) j) of.from
+      ∙ unit-said c b.device.0 b.line 0 of.crypt loaded of.has on.0 on.1.crypt_line.named (b.first - b.first % unit_sectors of.crypt + j)
+
+  none-meets : MeetVerity (source_said c (Units whole.from)) 0 whole.sectors → ⊥
+  none-meets x =
+      let h : (crypt_said (said_at c on.0) of.crypt (b.first - b.first % unit_sectors of.crypt + (0 + x.0))).meets mismatch = subst (λ (y : Said). y.meets mismatch) (from-said (0 + x.0)) x.2 in
+      none-verity c loaded on.0 (on.1.crypt_line.writable writable) (unit_first of.crypt (b.first - b.first % unit_sectors of.crypt + (0 + x.0))) (unit_sectors of.crypt) h
+
+  meet-part : (x : Fault) → SomeOf (λ j. (source_said c (Units whole.from) j).meets x) 0 whole.sectors → SomeOf (λ j. (source_said c (UnitPart b) j).meets x) 0 n
+  meet-part x = part-some c b whole n loaded of lies some (λ y. y.meets x) (λ s s' lower e h. subst (λ (k : ℕ). SomeOf (λ t. (lower t).meets x) k (unit_sectors of.crypt)) e h)
+
+  reach-part : (p : LeafSector) → reached (λ j. (source_said c (Units whole.from) j).reaches) 0 whole.sectors p → reached (λ j. (source_said c (UnitPart b) j).reaches) 0 n p
+  reach-part p = part-some c b whole n loaded of lies some (λ y. Contains y.reaches p) (λ s s' lower e h. subst (λ (k : ℕ). Contains (gathered (λ t. (lower t).reaches) k (unit_sectors of.crypt)) p) e h)
+
+  count : length (sectors_in bytes) ≡ n
+  count = omega (arith, length-sectors_in bytes, len)
+
+  -- the budget of the read and of the write
+  paid : whole.sectors * (cost_beneath c (read_cost c) whole.from) + whole.sectors * (source_destination c (Units whole.from)).cost ≤ length (sectors_in bytes) * write_cost c (mapped b.device.0)
+  paid =
+      let u : ℕ = unit_sectors of.crypt in
+      let r : ℕ = read_cost c on.0 in
+      let w : ℕ = write_cost c on.0 in
+      let named_so = on.1.crypt_line.named in
+      let reads : cost_beneath c (read_cost c) whole.from ≡ r = ap (λ (x : BlockPart). cost_beneath c (read_cost c) x) of.from ∙ cost-beneath c b.device.0 b.line 0 of.crypt loaded of.has (read_cost c) on.0 named_so in
+      let writes : (source_destination c (Units whole.from)).cost ≡ w = ap (λ (x : BlockPart). cost_beneath c (write_cost c) x) of.from ∙ cost-beneath c b.device.0 b.line 0 of.crypt loaded of.has (write_cost c) on.0 named_so in
+      let not_one : u ≢ 1 = λ e. absurd (omega (arith, e, in_unit.1, some)) in
+      let change : u * (r + w) ≤ write_cost c (mapped b.device.0) = on.1.change not_one in
+      let once : 1 * write_cost c (mapped b.device.0) ≤ length (sectors_in bytes) * write_cost c (mapped b.device.0) = mul-le-mul_right (write_cost c (mapped b.device.0)) (omega (arith, count, some)) in
+      let a : whole.sectors * cost_beneath c (read_cost c) whole.from ≡ u * r = ap (λ (k : ℕ). k * cost_beneath c (read_cost c) whole.from) of.sectors ∙ ap (λ (k : ℕ). u * k) reads in
+      let d : whole.sectors * (source_destination c (Units whole.from)).cost ≡ u * w = ap (λ (k : ℕ). k * (source_destination c (Units whole.from)).cost) of.sectors ∙ ap (λ (k : ℕ). u * k) writes in
+      omega (arith, a, d, change, once, mul-add u r w)
+
+  -- ---- what the unit means
+
+  module _ (leaves : List Device) (all : AllWhole leaves) where
+    f : ℕ → Outcome
+    f t = (said_at c on.0 t).means (images_of leaves)
+
+    sized : AreSized (λ t. (said_at c on.0 t).means (images_of leaves))
+    sized t = sector-size c (images_of leaves) loaded (images-whole leaves all) on.0 t
+
+    -- its sectors, as those of the line
+    as-line : span (λ j. (source_said c (Units whole.from) j).means (images_of leaves)) 0 whole.sectors
+        ≡ span (λ s. (crypt_said (said_at c on.0) of.crypt s).means (images_of leaves)) (b.first / unit_sectors of.crypt * unit_sectors of.crypt) (unit_sectors of.crypt)
+    as-line =
+        let u : ℕ = unit_sectors of.crypt in
+        let g : ℕ → Outcome = λ s. (crypt_said (said_at c on.0) of.crypt s).means (images_of leaves) in
+        ap (λ (k : ℕ). span (λ j. (source_said c (Units whole.from) j).means (images_of leaves)) 0 k) of.sectors
+        ∙ span_same (λ j. (source_said c (Units whole.from) j).means (images_of leaves)) g 0 (b.first - b.first % u) u
+        (λ j h. let e : 0 + j ≡ j = omega arith in ap (λ (x : Said). x.means (images_of leaves)) (from-said (0 + j)) ∙ ap (λ (k : ℕ). g (b.first - b.first % u + k)) e)
+        ∙ ap (λ (k : ℕ). span g k u) begin-is
+
+    beneath-fails : (x : Fault) → span (λ j. (source_said c (Units whole.from) j).means (images_of leaves)) 0 whole.sectors ≡ Err x → span (λ t. (said_at c on.0 t).means (images_of leaves)) (unit_first of.crypt b.first) (unit_sectors of.crypt) ≡ Err x
+    beneath-fails x is = unit-fails (images_of leaves) (said_at c on.0) sized of.crypt (b.first / unit_sectors of.crypt) x (sym as-line ∙ is)
+
+    beneath-is : (plain : List ℕ) → span (λ j. (source_said c (Units whole.from) j).means (images_of leaves)) 0 whole.sectors ≡ Ok plain
+        → (below : List ℕ) × (span (λ t. (said_at c on.0 t).means (images_of leaves)) (unit_first of.crypt b.first) (unit_sectors of.crypt) ≡ Ok below) × (plain ≡ decrypted_unit of.crypt (b.first / unit_sectors of.crypt) below)
+    beneath-is plain is = go (span (λ t. (said_at c on.0 t).means (images_of leaves)) (unit_first of.crypt b.first) (unit_sectors of.crypt)) refl
+      where
+        go : (o : Outcome) → span (λ t. (said_at c on.0 t).means (images_of leaves)) (unit_first of.crypt b.first) (unit_sectors of.crypt) ≡ o
+            → (below : List ℕ) × (span (λ t. (said_at c on.0 t).means (images_of leaves)) (unit_first of.crypt b.first) (unit_sectors of.crypt) ≡ Ok below) × (plain ≡ decrypted_unit of.crypt (b.first / unit_sectors of.crypt) below)
+        go (Ok below) e =
+            let both : Ok (decrypted_unit of.crypt (b.first / unit_sectors of.crypt) below) ≡ Ok plain = sym (whole-unit (images_of leaves) (said_at c on.0) sized of.crypt (b.first / unit_sectors of.crypt) below e) ∙ sym as-line ∙ is in
+            let same : decrypted_unit of.crypt (b.first / unit_sectors of.crypt) below ≡ plain = cc in
+            (below, e, sym same)
+        go (Err x) e = absurd (failing x e)
+          where
+            failing : (x : Fault) → span (λ t. (said_at c on.0 t).means (images_of leaves)) (unit_first of.crypt b.first) (unit_sectors of.crypt) ≡ Err x → ⊥
+            failing x e =
+                let u : ℕ = unit_sectors of.crypt in
+                let g : ℕ → Outcome = λ s. (crypt_said (said_at c on.0) of.crypt s).means (images_of leaves) in
+                let zero_on : b.first / u * u + 0 ≡ b.first / u * u = omega arith in
+                let first : g (b.first / u * u) ≡ Err x = ap g (sym zero_on) ∙ unit-means (images_of leaves) (said_at c on.0) sized of.crypt (b.first / u) 0 (Err x) e (omega (arith, unit_sectors-some of.crypt)) in
+                let clash : Err x ≡ Ok plain = sym (span_fails g (b.first / u * u) u x (omega (arith, unit_sectors-some of.crypt)) first) ∙ sym as-line ∙ is in
+                cc
+
+  -- what the put does
+  part-puts : (images : Images) → (source_destination c (UnitPart b)).puts 0 (sectors_in bytes) images
+      ≡ read_put (span (λ t. (said_at c on.0 t).means images) (unit_first of.crypt b.first) (unit_sectors of.crypt))
+      (λ below. put_on c on.0 (unit_first of.crypt b.first) (encrypted_sectors of.crypt b.first (changed_unit of.crypt b.first (sectors_in bytes) below))) images
+  part-puts images =
+      let first : b.first + 0 ≡ b.first = omega arith in
+      ap (λ (k : ℕ). put_on_line c b.device.0 b.line (slice_get (lines_of c b.device.0) b.line) k (sectors_in bytes) images) first
+      ∙ some-put c b.device.0 b.line of.crypt of.has on.0 on.1.crypt_line.named b.first bytes n images in_unit.0 in_unit.1 some len
+
+  -- ---- the read
+
+  -- it was one of the sectors that the write reaches
+  read-moved : {old new : List Device} {found after : List FoundRecord} (result : Result Unit IoFault) (answer : Result (List ℕ) IoFault)
+      → ReadsSource c (Units whole.from) whole.sectors (record { old = old; new = new; before = found; after = after }) answer → IsPlain (source_said c (Units whole.from)) 0 whole.sectors old new result
+      → AreWritten (reached (λ j. (source_said c (UnitPart b) j).reaches) 0 (length (sectors_in bytes))) old (whole.sectors * cost_beneath c (read_cost c) whole.from) new
+  read-moved result answer p q =
+      AreWritten-read (reached (λ j. (source_said c (UnitPart b) j).reaches) 0 (length (sectors_in bytes))) p.got.moved
+      (λ i d out. q.leaf none-meets i d (λ t x. out t (subst (λ (k : ℕ). reached (λ j. (source_said c (UnitPart b) j).reaches) 0 k (i, t)) (sym count) (reach-part (i, t) x))))
+
+  meets-more : (x : Fault) → SomeOf (λ j. (source_said c (Units whole.from) j).meets x) 0 whole.sectors → SomeOf (λ j. (source_said c (UnitPart b) j).meets x) 0 (length (sectors_in bytes))
+  meets-more x h = subst (λ (k : ℕ). SomeOf (λ j. (source_said c (UnitPart b) j).meets x) 0 k) (sym count) (meet-part x h)
+
+  read-ends : (old new : List Device) (after : List FoundRecord) (fault : IoFault)
+      → Ends {A = List ℕ} (IsRun (λ j. (source_said c (Units whole.from) j).may after) 0 whole.sectors) (λ x. SomeOf (λ j. (source_said c (Units whole.from) j).meets x) 0 whole.sectors) old new (Err fault)
+      → (fault ≡ io.NoMemory → ⊥) → MayEnd (λ x. SomeOf (λ j. (source_said c (UnitPart b) j).meets x) 0 (length (sectors_in bytes))) old new (Err fault)
+  read-ends old new after io.ErrorTarget may grown = meets-more error_target may
+  read-ends old new after io.Mismatch may grown = none-meets may
+  read-ends old new after (io.Device i) may grown = may
+  read-ends old new after io.NoMemory may grown = absurd (grown refl)
+
+  stops : (leaves : List Device) → AllWhole leaves → (x : Fault) → span (λ j. (source_said c (Units whole.from) j).means (images_of leaves)) 0 whole.sectors ≡ Err x
+      → (source_destination c (UnitPart b)).puts 0 (sectors_in bytes) (images_of leaves) ≡ stopped x (images_of leaves)
+  stops leaves all x is =
+      part-puts (images_of leaves)
+      ∙ ap (λ (o : Outcome). read_put o (λ below. put_on c on.0 (unit_first of.crypt b.first) (encrypted_sectors of.crypt b.first (changed_unit of.crypt b.first (sectors_in bytes) below))) (images_of leaves)) (beneath-fails leaves all x is)
+
+  read-exact : (old new : List Device) (fault : IoFault) → AllWhole old → Answers {A = List ℕ} (λ x. x) (span (λ j. (source_said c (Units whole.from) j).means (images_of old)) 0 whole.sectors) (Err fault) → images_of new ≡ images_of old
+      → IsPut ((source_destination c (UnitPart b)).puts 0 (sectors_in bytes) (images_of old)) (images_of new) (Err fault)
+  read-exact old new io.ErrorTarget all is same = stops old all error_target is ∙ ap (stopped error_target) (sym same)
+  read-exact old new io.Mismatch all is same = stops old all mismatch is ∙ ap (stopped mismatch) (sym same)
+  read-exact old new (io.Device i) all is same = tt
+  read-exact old new io.NoMemory all is same = tt
+
+  -- it ended by a fault
+  pub part-ended : {old new : List Device} {found after : List FoundRecord} (fault : IoFault) → AllWhole old
+      → ReadsSource c (Units whole.from) whole.sectors (record { old = old; new = new; before = found; after = after }) (Err fault) → IsPlain (source_said c (Units whole.from)) 0 whole.sectors old new (Err fault)
+      → Writes (source_destination c (UnitPart b)) 0 (sectors_in bytes) old new (Err fault)
+  part-ended {old = old} {new = new} {after = after} fault all p q = record {
+    moved = AreWritten-more (λ x h. h) (omega (arith, paid)) (read-moved (Err fault) (Err fault) p q);
+    ends = read-ends old new after fault p.got.may (λ is. none-meets (q.memory (ap err_of is)));
+    grown = λ is. none-meets (q.memory is);
+    exact = λ steady. read-exact old new fault all (p.got.exact steady) (images-kept p.got.moved steady);
+  }
+
+  -- ---- the write
+
+  -- the bytes of the unit with the others in their place
+  abbrev changed : List ℕ → List ℕ
+  changed plain = put_at plain (512 * (b.first % unit_sectors of.crypt)) bytes
+
+  changed-is : (plain : List ℕ) → length plain ≡ 512 * unit_sectors of.crypt
+      → put_at plain (512 * (b.first % unit_sectors of.crypt)) bytes ≡ concat (spliced (sectors_of (unit_sectors of.crypt) plain) (b.first % unit_sectors of.crypt) (sectors_in bytes))
+  changed-is plain long =
+      let u : ℕ = unit_sectors of.crypt in
+      let r : ℕ = b.first % u in
+      let put = put_run plain bytes u r n len (omega (arith, long)) in_unit.0 in
+      let size : length (put_at plain (512 * r) bytes) ≡ 512 * u = length-put plain (512 * r) bytes (512 * u) long (omega (arith, len, in_unit.0)) in
+      sym (take_all (512 * u) (put_at plain (512 * r) bytes) (omega (arith, size)))
+      ∙ sym (concat-sectors_of u (put_at plain (512 * r) bytes))
+      ∙ ap concat put
+      ∙ ap (λ (l : List (List ℕ)). concat (spliced (sectors_of u plain) r l)) (sym (sectors_in-of bytes n len))
+
+  pub part-written : {old mid new : List Device} {found after : List FoundRecord} {plain out : List ℕ} {result : Result Unit IoFault} → AllWhole old
+      → ReadsSource c (Units whole.from) whole.sectors (record { old = old; new = mid; before = found; after = after }) (Ok plain) → IsPlain (source_said c (Units whole.from)) 0 whole.sectors old mid (Ok tt)
+      → out ≡ put_at plain (512 * (b.first % unit_sectors of.crypt)) bytes
+      → Writes (source_destination c (Units whole.from)) 0 (sectors_in out) mid new result
+      → Writes (source_destination c (UnitPart b)) 0 (sectors_in bytes) old new result
+  part-written {old = old} {mid = mid} {new = new} {plain = plain} {out = out} {result = result} all p q is w =
+      let u : ℕ = unit_sectors of.crypt in
+      let long : length plain ≡ 512 * u = p.got.may.len ∙ ap (λ (k : ℕ). 512 * k) of.sectors in
+      let size : length out ≡ 512 * u = ap length is ∙ length-put plain (512 * (b.first % u)) bytes (512 * u) long (omega (arith, len, in_unit.0)) in
+      let outs : length (sectors_in out) ≡ whole.sectors = omega (arith, length-sectors_in out, size, of.sectors) in
+      let front = read-moved (Ok tt) (Ok plain) p q in
+      let back : AreWritten (reached (λ j. (source_said c (UnitPart b) j).reaches) 0 (length (sectors_in bytes))) mid (whole.sectors * (source_destination c (Units whole.from)).cost) new =
+      AreWritten-more (λ x h. subst (λ (k : ℕ). reached (λ j. (source_said c (UnitPart b) j).reaches) 0 k x) (sym count) (reach-part x (subst (λ (k : ℕ). reached (λ j. (source_said c (Units whole.from) j).reaches) 0 k x) outs h)))
+      (let same = ap (λ (k : ℕ). k * (source_destination c (Units whole.from)).cost) outs in omega (arith, same)) w.moved in
+      record {
+        moved = AreWritten-more (λ x h. h) paid (AreWritten-then front back);
+        ends = later result w.grown (MayEnd-as (λ x. SomeOf (λ j. (source_said c (Units whole.from) j).meets x) 0 (length (sectors_in out))) (λ x. SomeOf (λ j. (source_said c (UnitPart b) j).meets x) 0 (length (sectors_in bytes))) mid new result
+            (λ x h. meets-more x (subst (λ (k : ℕ). SomeOf (λ j. (source_said c (Units whole.from) j).meets x) 0 k) outs h)) w.ends) p.got.moved.moved w.moved.moved;
+        grown = w.grown;
+        exact = λ steady.
+            let under = beneath-is old all plain (p.got.exact steady) in
+            let images = images-kept p.got.moved steady in
+            let k : ℕ = b.first / u in
+            let bytes_are : out ≡ changed_unit of.crypt b.first (sectors_in bytes) under.0 =
+            is ∙ changed-is plain long ∙ ap (λ (x : List ℕ). concat (spliced (sectors_of u x) (b.first % u) (sectors_in bytes))) under.2 in
+            let whole_puts : (images' : Images) → (source_destination c (Units whole.from)).puts 0 (sectors_in out) images' ≡ put_on c on.0 (unit_first of.crypt b.first) (encrypted_sectors of.crypt b.first out) images' = λ images'. whole-unit-puts out images' size in
+            subst (λ (x : Put). IsPut x (images_of new) result)
+            (whole_puts (images_of mid)
+            ∙ ap (put_on c on.0 (unit_first of.crypt b.first) (encrypted_sectors of.crypt b.first out)) images
+            ∙ ap (λ (x : List ℕ). put_on c on.0 (unit_first of.crypt b.first) (encrypted_sectors of.crypt b.first x) (images_of old)) bytes_are
+            ∙ sym (part-puts (images_of old)
+            ∙ ap (λ (o : Outcome). read_put o (λ below. put_on c on.0 (unit_first of.crypt b.first) (encrypted_sectors of.crypt b.first (changed_unit of.crypt b.first (sectors_in bytes) below))) (images_of old)) under.1))
+            (w.exact (AllSteady-kept old mid p.got.moved.moved.fixed steady));
+      }
+    where
+      later : (result : Result Unit IoFault) → (result ≡ Err io.NoMemory → ⊥) → MayEnd (λ x. SomeOf (λ j. (source_said c (UnitPart b) j).meets x) 0 (length (sectors_in bytes))) mid new result
+          → {r w' r' w'' : ℕ} → Moves r w' old mid → Moves r' w'' mid new → MayEnd (λ x. SomeOf (λ j. (source_said c (UnitPart b) j).meets x) 0 (length (sectors_in bytes))) old new result
+      later (Ok x) grown h a d = tt
+      later (Err io.ErrorTarget) grown h a d = h
+      later (Err io.Mismatch) grown h a d = h
+      later (Err (io.Device i)) grown h a d = (h.0, failed_later a d h.1)
+      later (Err io.NoMemory) grown h a d = absurd (grown refl)
+
+      whole-unit-puts : (out : List ℕ) (images' : Images) → length out ≡ 512 * unit_sectors of.crypt
+          → (source_destination c (Units whole.from)).puts 0 (sectors_in out) images' ≡ put_on c on.0 (unit_first of.crypt b.first) (encrypted_sectors of.crypt b.first out) images'
+      whole-unit-puts out images' size =
+          let u : ℕ = unit_sectors of.crypt in
+          let w0 : ℕ = b.first - b.first % u in
+          let first : w0 + 0 ≡ w0 = omega arith in
+          ap (λ (x : BlockPart). (source_destination c (Units x)).puts 0 (sectors_in out) images') of.from
+          ∙ ap (λ (k : ℕ). put_on_line c b.device.0 b.line (slice_get (lines_of c b.device.0) b.line) k (sectors_in out) images') first
+          ∙ whole-put c b.device.0 b.line of.crypt of.has on.0 on.1.crypt_line.named w0 out images' (begin-whole c b whole n loaded of lies some) size
+          ∙ ap (λ (k : ℕ). put_on c on.0 k (sectors_of u (encrypted_unit of.crypt (w0 / u) out)) images') begin-first
+          ∙ ap (λ (k : ℕ). put_on c on.0 (unit_first of.crypt b.first) (sectors_of u (encrypted_unit of.crypt k out)) images') begin-unit

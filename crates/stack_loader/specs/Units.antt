@@ -1,0 +1,24 @@
+-- The units of a crypt line: so many sectors are encrypted as one.
+use Rattle.std.specs.Prelude.{ℕ, ◌+◌, ◌*◌, ◌/◌, ◌==◌, if◌then◌else◌, Option, Some, None}
+use Rattle.dm_table.specs.declared.crypt.Crypt.{Crypt}
+use Rattle.dm_table.specs.declared.table.Target.{Target}
+use Rattle.dm_table.specs.declared.table.Target.TheVariants.{Linear, Striped, Zero, Error, Crypt as crypt_target, Verity}
+use Rattle.dm_table.specs.Crypt.{sector_size}
+
+-- 1, 2, 4 or 8
+abbrev pub unit_sectors : Crypt → ℕ
+unit_sectors crypt = sector_size crypt / 512
+
+-- leaf sectors moved for a sector that is written, where a lower sector costs so many to read and to write:
+-- a unit of several sectors is read, changed and put whole
+abbrev pub unit_write_cost : ℕ → ℕ → ℕ → ℕ
+unit_write_cost sectors read write = if sectors == 1 then write else sectors * (read + write)
+
+-- the arguments of a crypt line
+abbrev pub crypt_of : Target → Option Crypt
+crypt_of (Linear base) = None
+crypt_of (Striped chunk bases) = None
+crypt_of Zero = None
+crypt_of Error = None
+crypt_of (crypt_target crypt) = Some crypt
+crypt_of (Verity verity) = None

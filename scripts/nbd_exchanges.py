@@ -1,0 +1,287 @@
+#!/usr/bin/env python3
+"""Exchanges of the NBD protocol, byte for byte, with the program `dmstack nbd`.
+
+nbd_exchanges.py [PROGRAM [WORD..]]: runs each exchange on the program (`dmstack`) and compares what it writes, its
+status and the images that it leaves. What is wanted is worked out here from the protocol's document: messages are put
+together field by field, and an export is a run of bytes. It prints how many agree, and the exchanges that don't.
+"""
+import os
+import struct
+import subprocess
+import sys
+
+MAGIC, OPTION_MAGIC, REPLY_MAGIC = b"NBDMAGIC", b"IHAVEOPT", 0x3E889045565A9
+REQUEST, SIMPLE_REPLY = 0x25609513, 0x67446698
+EXPORT_NAME, ABORT, LIST, STARTTLS, INFO, GO, STRUCTURED, META, EXTENDED = 1, 2, 3, 5, 6, 7, 8, 10, 11
+ACK, SERVER, REP_INFO = 1, 2, 3
+UNSUPPORTED, INVALID, UNKNOWN, TOO_BIG = (2**31 + n for n in (1, 3, 6, 9))
+READ, WRITE, DISC, FLUSH, TRIM, CACHE, ZEROES = 0, 1, 2, 3, 4, 5, 6
+EPERM, EIO, ENOMEM, EINVAL, ENOSPC = 1, 5, 12, 22, 28
+MOST = 32 << 20
+
+GREETING = MAGIC + OPTION_MAGIC + struct.pack(">H", 3)
+
+
+def flags(bits):
+    return struct.pack(">I", bits)
+
+
+def option(number, data=b""):
+    return OPTION_MAGIC + struct.pack(">II", number, len(data)) + data
+
+
+def option_reply(number, kind, data=b""):
+    return struct.pack(">QIII", REPLY_MAGIC, number, kind, len(data)) + data
+
+
+def asks(name, *facts):
+    return struct.pack(">I", len(name)) + name + struct.pack(f">H{len(facts)}H", len(facts), *facts)
+
+
+def request(kind, offset=0, length=0, cookie=0x1122334455667788, bits=0, data=b""):
+    return struct.pack(">IHHQQI", REQUEST, bits, kind, cookie, offset, length) + data
+
+
+def reply(error=0, data=b"", cookie=0x1122334455667788):
+    return struct.pack(">IIQ", SIMPLE_REPLY, error, cookie) + data
+
+
+class Export:
+    """A device of a stack, as bytes: those that can't be read are None."""
+
+    def __init__(self, name, content, writable=False, lost=()):
+        self.name, self.content, self.writable, self.lost = name, bytearray(content), writable, lost
+
+    def bits(self):
+        return FLAGS if self.writable else FLAGS | 2
+
+    def told(self, number, sizes=False):
+        out = option_reply(number, REP_INFO, struct.pack(">HQH", 0, len(self.content), self.bits()))
+        if sizes:
+            out += option_reply(number, REP_INFO, struct.pack(">HIII", 3, 512, 4096, MOST))
+        return out + option_reply(number, ACK)
+
+    def fails(self, offset, length):
+        first, last = offset // 512, (offset + length + 511) // 512
+        return any(first < high and low < last for low, high in self.lost)
+
+    def read(self, offset, length):
+        if length > MOST or offset + length > len(self.content):
+            return reply(EINVAL)
+        if self.fails(offset, length):
+            return reply(EIO)
+        return reply(data=bytes(self.content[offset : offset + length]))
+
+    def write(self, offset, data):
+        if not self.writable:
+            return reply(EPERM)
+        if offset + len(data) > len(self.content):
+            return reply(ENOSPC)
+        if self.fails(offset, len(data)):
+            return reply(EIO)
+        self.content[offset : offset + len(data)] = data
+        return reply()
+
+
+# HAS_FLAGS
+FLAGS = 1
+SECTOR = 512
+RAMP = b"".join(bytes([k % 256]) * SECTOR for k in range(8))
+ZEROS = bytes(4 * SECTOR)
+
+
+def exports():
+    """The devices of the stack text below, over `R=ramp:8`, `Z=zero:4` and `F`, a file of eight sectors."""
+    return {
+        "low": Export("low", RAMP),
+        "kept": Export("kept", RAMP),
+        "holed": Export("holed", RAMP[: 2 * SECTOR] + bytes(SECTOR) + RAMP[3 * SECTOR :], lost=[(2, 3)]),
+        "file": Export("file", bytes((7 * k + 3) % 251 for k in range(8 * SECTOR))),
+    }
+
+
+STACK = (
+    "low,,,rw,0 8 linear R 0;kept,,,ro,0 8 linear R 0;"
+    "holed,,,rw,0 2 linear R 0,2 1 error,3 5 linear R 3;file,,,rw,0 8 linear F 0"
+)
+
+
+class Runner:
+    def __init__(self, program):
+        self.program, self.passed, self.failed = program, 0, 0
+
+    def run(self, label, name, sent, wanted, status=0, after=None):
+        open("F", "wb").write(exports()["file"].content)
+        open("stack", "w").write(STACK)
+        words = [self.program, "nbd", "stack", name, "R=ramp:8", "Z=zero:4", "F=rw:F"]
+        done = subprocess.run(words, input=sent, capture_output=True, timeout=60)
+        problems = []
+        if done.stdout != wanted:
+            at = next((k for k, (a, b) in enumerate(zip(done.stdout, wanted)) if a != b), min(len(done.stdout), len(wanted)))
+            problems.append(f"output differs at {at}: {done.stdout[at:at+32].hex()} and not {wanted[at:at+32].hex()}")
+        if done.returncode != status:
+            problems.append(f"status {done.returncode} and not {status}")
+        if done.stderr:
+            problems.append(f"standard error: {done.stderr[:200]!r}")
+        if after is not None and open("F", "rb").read() != after:
+            problems.append("the image differs")
+        if problems:
+            self.failed += 1
+            print(label + ": " + "; ".join(problems))
+        else:
+            self.passed += 1
+
+
+def begun(export, bits=3):
+    """What opens the transmission by EXPORT_NAME, and what is written up to then."""
+    fields = struct.pack(">QH", len(export.content), export.bits()) + (b"" if bits & 2 else bytes(124))
+    return flags(bits) + option(EXPORT_NAME, export.name.encode()), GREETING + fields
+
+
+def handshakes(runner):
+    """Options, one after another and each wrong in turn."""
+    e = exports()["low"]
+    for bits in range(4):
+        sent, wanted = begun(e, bits)
+        runner.run(f"flags {bits}", "low", sent + request(DISC), wanted)
+    for bits in (4, 8, 1 << 16, 1 << 31, 7):
+        runner.run(f"flags {bits}", "low", flags(bits) + option(ABORT), GREETING, status=4)
+    runner.run("default export", "low", flags(3) + option(EXPORT_NAME) + request(DISC), begun(e)[1])
+    for name in (b"lo", b"low ", b"Low", b"kept", b"x" * 4096, b"low\0"):
+        runner.run(f"export {name[:8]}", "low", flags(3) + option(EXPORT_NAME, name), GREETING, status=4)
+    runner.run("abort", "low", flags(3) + option(ABORT), GREETING + option_reply(ABORT, ACK))
+    runner.run("abort with data", "low", flags(1) + option(ABORT, b"bye"), GREETING + option_reply(ABORT, ACK))
+    listed = option_reply(LIST, SERVER, struct.pack(">I", 3) + b"low") + option_reply(LIST, ACK)
+    runner.run("list", "low", flags(3) + option(LIST) + option(ABORT), GREETING + listed + option_reply(ABORT, ACK))
+    runner.run("list with data", "low", flags(3) + option(LIST, b"x") + option(LIST), GREETING + option_reply(LIST, INVALID) + listed)
+    for number in (0, 4, STARTTLS, STRUCTURED, 9, META, EXTENDED, 12, 0x7FFFFFFF, 0xFFFFFFFF):
+        for data in (b"", b"whatever"):
+            runner.run(f"option {number}", "low", flags(3) + option(number, data) + option(LIST), GREETING + option_reply(number, UNSUPPORTED) + listed)
+    for number in (INFO, GO):
+        for name in (b"low", b""):
+            for facts in ((), (0,), (3,), (0, 1, 2, 3), (768,), (1, 3), (2,) * 40):
+                sizes = 3 in facts
+                tail, end = (request(READ, 0, 4), reply(data=RAMP[:4])) if number == GO else (option(ABORT), option_reply(ABORT, ACK))
+                runner.run(f"{number} {name} {facts}", "low", flags(3) + option(number, asks(name, *facts)) + tail, GREETING + e.told(number, sizes) + end)
+        for name in (b"lo", b"loww", b"kept", b"\0" * 3):
+            runner.run(f"{number} of {name}", "low", flags(3) + option(number, asks(name)) + option(LIST), GREETING + option_reply(number, UNKNOWN) + listed)
+        whole = asks(b"low", 3)
+        bad = [whole[:k] for k in range(len(whole))] + [whole + b"\0", struct.pack(">I", 4) + whole[4:], struct.pack(">I", 2**32 - 1) + whole[4:]]
+        bad += [whole[:7] + struct.pack(">H", n) + whole[9:] for n in (0, 2, 65535)]
+        for data in bad:
+            runner.run(f"{number} with {data.hex()}", "low", flags(3) + option(number, data) + option(LIST), GREETING + option_reply(number, INVALID) + listed)
+    for length in (65536, 65537, 1 << 20):
+        kind = UNSUPPORTED if length <= 65536 else TOO_BIG
+        runner.run(f"option of {length} bytes", "low", flags(3) + option(99, bytes(length)) + option(LIST), GREETING + option_reply(99, kind) + listed)
+        runner.run(f"name of {length} bytes", "low", flags(3) + option(EXPORT_NAME, bytes(length)), GREETING, status=4)
+    for k in range(8):
+        wrong = bytearray(option(LIST))
+        wrong[k] ^= 1
+        runner.run(f"option magic at {k}", "low", flags(3) + bytes(wrong), GREETING, status=4)
+    kept = exports()["kept"]
+    runner.run("read only", "kept", flags(3) + option(GO, asks(b"kept", 3)), GREETING + kept.told(GO, True))
+
+
+def transmissions(runner):
+    """Requests: aligned and not, across both ends, each field wrong in turn."""
+    for name in ("low", "kept", "file"):
+        e = exports()[name]
+        size = len(e.content)
+        sent, wanted = begun(e)
+        places = (0, 1, 511, 512, 513, 1023, size - 513, size - 512, size - 1, size, size + 1, 1 << 40, 2**63, 2**64 - 1)
+        for offset in places:
+            for length in (0, 1, 2, 511, 512, 513, 1024, 1025, size, MOST + 1, 2**32 - 1):
+                sent += request(READ, offset, length, offset ^ length)
+                wanted += e.read(offset, length)[:8] + struct.pack(">Q", offset ^ length) + e.read(offset, length)[16:]
+        runner.run(f"reads of {name}", name, sent + request(DISC), wanted)
+        for bits in (1, 2, 4, 0x8000):
+            asked, told = begun(e)
+            asked += request(READ, 0, 512, bits=bits) + request(READ, 0, 512)
+            runner.run(f"flag {bits}", name, asked, told + reply(EINVAL) + e.read(0, 512))
+        for kind in (TRIM, CACHE, ZEROES, 7, 8, 100, 65535):
+            asked, told = begun(e)
+            runner.run(f"kind {kind}", name, asked + request(kind, 0, 512) + request(READ, 1, 2), told + reply(EINVAL) + e.read(1, 2))
+        for k in range(4):
+            asked, told = begun(e)
+            wrong = bytearray(request(READ, 0, 512))
+            wrong[k] ^= 0x80
+            runner.run(f"magic at {k}", name, asked + request(READ, 0, 1) + bytes(wrong), told + e.read(0, 1), status=4)
+        asked, told = begun(e)
+        runner.run("after the end", name, asked + request(DISC) + b"anything", told)
+        runner.run("end with fields", name, asked + request(DISC, 5, 7, 9, 3), told)
+    e = exports()["holed"]
+    sent, wanted = begun(e)
+    for offset in (0, 1023, 1024, 1500, 1535, 1536, 2000):
+        for length in (1, 2, 512, 513, 1024):
+            sent += request(READ, offset, length)
+            wanted += e.read(offset, length)
+    runner.run("reads of holed", "holed", sent, wanted)
+
+
+def writes(runner):
+    """Writes, each followed by reads of what it left."""
+    e = exports()["file"]
+    size = len(e.content)
+    sent, wanted = begun(e)
+    for step, offset in enumerate((0, 1, 511, 512, 513, 1024, size - 513, size - 512, size - 1, size, 2**64 - 1)):
+        for length in (0, 1, 2, 511, 512, 513, 1024, 1025, size, MOST + 1):
+            data = bytes((step + length + 3 * k) % 256 for k in range(min(length, 4096))) + bytes(max(0, length - 4096))
+            sent += request(WRITE, offset, length, data=data)
+            wanted += reply(EINVAL) if length > MOST else e.write(offset, data)
+            sent += request(READ, 0, size)
+            wanted += e.read(0, size)
+    runner.run("writes", "file", sent + request(FLUSH) + request(DISC), wanted + reply(EINVAL), after=bytes(e.content))
+    kept = exports()["kept"]
+    asked, told = begun(kept)
+    for length in (0, 1, 512, MOST + 1):
+        asked += request(WRITE, 3, length, data=bytes(length)) + request(READ, 0, 8)
+        told += reply(EINVAL if length > MOST else EPERM) + kept.read(0, 8)
+    runner.run("writes of an export that may only be read", "kept", asked + request(FLUSH), told + reply(EINVAL))
+    e = exports()["file"]
+    asked, told = begun(e)
+    asked += request(WRITE, 0, 5, bits=1, data=b"abcde") + request(READ, 0, 8)
+    runner.run("write with a flag", "file", asked, told + reply(EINVAL) + e.read(0, 8), after=bytes(e.content))
+
+
+def cuts(runner):
+    """The input ends at every byte: only between two messages is that a plain end."""
+    e = exports()["file"]
+    size = len(e.content)
+    fields = struct.pack(">QH", size, e.bits())
+    messages = [
+        (flags(3), b""),
+        (option(LIST), option_reply(LIST, SERVER, struct.pack(">I", 4) + b"file") + option_reply(LIST, ACK)),
+        (option(INFO, asks(b"file", 3)), e.told(INFO, True)),
+        (option(EXPORT_NAME, b"file"), fields),
+        (request(READ, 510, 4), e.read(510, 4)),
+        (request(WRITE, 509, 6, data=b"across"), e.write(509, b"across")),
+        (request(FLUSH), reply(EINVAL)),
+        (request(READ, 508, 8), e.read(508, 8)),
+    ]
+    before = exports()["file"].content
+    sent, wanted = b"", GREETING
+    for place, (message, answer) in enumerate(messages):
+        for cut in range(len(message)):
+            image = e.content if place > 5 else before
+            runner.run(f"cut at {cut} of message {place}", "file", sent + message[:cut], wanted, status=4 if cut else 0, after=bytes(image))
+        sent, wanted = sent + message, wanted + answer
+    runner.run("not cut", "file", sent, wanted, after=bytes(e.content))
+    runner.run("not cut, and ended", "file", sent + request(DISC), wanted, after=bytes(e.content))
+
+
+def refusals(runner):
+    """What isn't served at all says so as every command does."""
+    for name, text in (("none", "refused 1 NoSuchDevice\n"), ("R", "refused 1 NoSuchDevice\n"), ("", "refused 1 NoSuchDevice\n")):
+        runner.run(f"device {name}", name, flags(3), text.encode(), status=1)
+
+
+def main():
+    runner = Runner(sys.argv[1] if len(sys.argv) > 1 else "dmstack")
+    for part in (handshakes, transmissions, writes, cuts, refusals):
+        part(runner)
+    print(f"{runner.passed} exchanges agree, {runner.failed} don't")
+    return runner.failed != 0
+
+
+if __name__ == "__main__":
+    sys.exit(main())
