@@ -2,8 +2,9 @@
 # Measures XTS beside OpenSSL's aes-256-xts, whose AES instructions are masked. Not a part of the gate.
 #
 # benchmark_ciphers.sh [RUNS]: units of 512 and of 4,096 bytes, both ways, RUNS times each in turn (5). A ratio is our speed
-# divided by OpenSSL's, both by processor time, as medians: more than 1 is faster. Both our builds are measured: the kit's
-# default, and the one for AVX2 where the machine has it.
+# divided by OpenSSL's, both by processor time, as medians and at their highest: more than 1 is faster. Both our builds are
+# measured: the kit's default, and the one for AVX2 where the machine has it. Other programs on the same cores slow both
+# down, and not alike.
 set -eu
 runs=${1:-5}
 top=$(dirname "$(dirname "$(readlink -f "$0")")")
@@ -29,6 +30,8 @@ for build in "${builds[@]}"; do
 done
 cd "$room"
 sed -n 's/^model name.*: /processor: /p;T;q' /proc/cpuinfo
+echo "of its instructions: $(grep -m 1 '^flags' /proc/cpuinfo | grep -owE 'ssse3|avx2|avx512f|aes|vaes|gfni' | paste -sd ' ')"
+echo "runs: $runs, load average: $(cut -d ' ' -f 1-2 /proc/loadavg) on $(nproc) processors"
 openssl version
 
 # Megabytes a second of OpenSSL without AES instructions and carry-less products: encrypt or decrypt, and the unit's size.
@@ -51,13 +54,17 @@ for _ in $(seq "$runs"); do
     done
 done
 
-median() { sort -n "$1" | sed -n "$(((runs + 1) / 2))p"; }
+# at FILE RANK: one of the speeds, by its rank among the runs.
+at() { sort -n "$1" | sed -n "$2p"; }
+middle=$(((runs + 1) / 2))
 
 for build in "${builds[@]}"; do
     for way in encrypt decrypt; do
         for size in 512 4096; do
-            awk -v what="$build build, $way, units of $size bytes" -v ours="$(median "$build-$way-$size")" -v theirs="$(median "openssl-$way-$size")" \
-                'BEGIN { printf "%s: %.2f (%d and %d MB/s)\n", what, ours / theirs, ours, theirs }'
+            ours=$build-$way-$size theirs=openssl-$way-$size
+            awk -v what="$build build, $way, units of $size bytes" -v ours="$(at "$ours" $middle)" -v theirs="$(at "$theirs" $middle)" \
+                -v our_best="$(at "$ours" "$runs")" -v their_best="$(at "$theirs" "$runs")" \
+                'BEGIN { printf "%s: median %.2f (%d and %d MB/s), highest %.2f (%d and %d MB/s)\n", what, ours / theirs, ours, theirs, our_best / their_best, our_best, their_best }'
         done
     done
 done

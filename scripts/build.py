@@ -14,6 +14,7 @@ import sys
 import tempfile
 import threading
 import time
+from concurrent.futures import FIRST_COMPLETED, ThreadPoolExecutor, wait
 
 sys.dont_write_bytecode = True
 from kit import RT, TOP
@@ -57,10 +58,8 @@ class Build:
     def __init__(self, libraries):
         self.libraries, self.done, self.log, self.running = libraries, 0, "", {}
 
-    def library(self, crate, given, jobs):
+    def library(self, crate, jobs):
         """Builds a library whose own libraries are built, and returns whether it did."""
-        if self.log or not all(given[it.name, "proof"] for it in crate.below() if it in self.libraries):
-            return False
         start, crate.out = time.monotonic(), Log(crate.name)
         self.running[crate.name] = start
         tell(f"proving {crate.name}")
@@ -85,12 +84,38 @@ class Build:
 
     def all_libraries(self):
         threading.Thread(target=self.break_silence, daemon=True).start()
-        tasks = {}
-        for it in self.libraries:
-            waits = [(below.name, "proof") for below in it.below() if below in self.libraries]
-            call = lambda given, jobs, it=it: self.library(it, given, jobs)
-            tasks[it.name, "proof"] = waits, it.count(rb"\n"), it.planned(), call
-        return all(RT.in_lanes(tasks).values())
+        return in_chains(self.libraries, self.library)
+
+
+def in_chains(libraries, build):
+    """Builds libraries side by side, as many as there are processors and memory for, each once those below it are built, and
+    first those with the longest chain of others above. Returns whether all were built; after a failure none is begun.
+
+    The first in that order gets a job for each processor, even where others are being built: the time of the whole is that of the
+    longest chain. The others get what is idle. The kit's own order gives each its share, and plans on twice the memory."""
+    lanes, memory, behind = RT.processors(), 0.85 * RT.free(), dict.fromkeys(libraries, 0)
+    for it in reversed(libraries):
+        behind[it] += it.count(rb"\n")
+        for below in it.below():
+            if below in behind:
+                behind[below] = max(behind[below], behind[it])
+    left, running, built = sorted(libraries, key=lambda it: -behind[it]), {}, set()
+    is_well = True
+    with ThreadPoolExecutor(lanes) as pool:
+        while running or is_well and left:
+            for it in [it for it in left if is_well and all(below in built for below in it.below() if below in behind)]:
+                is_first = all(behind[it] >= behind[other] for other, _, _ in running.values())
+                idle = lanes - sum(jobs for _, _, jobs in running.values())
+                room = memory - sum(needs for _, needs, _ in running.values())
+                needs = RT.need(it)
+                if len(running) < lanes and (not running or needs <= room):
+                    jobs = max(1, min(lanes if is_first else idle, 1 + int((room / needs - 1) / 0.6)))
+                    left.remove(it)
+                    running[pool.submit(build, it, jobs)] = it, needs * (1 + 0.6 * (jobs - 1)), jobs
+            for done in wait(running, return_when=FIRST_COMPLETED).done:
+                built.add(running.pop(done)[0])
+                is_well = is_well and done.result()
+    return is_well
 
 
 def build_program(cpu):

@@ -135,10 +135,12 @@ cp a kept
 printf 'load a,,,rw,0 8 linear A 0\nread a 0 1\nmoved\n' > lines
 printf 'a,,,rw,0 8 linear A 0' > stack
 filled 1 4 > source
+filled 3 9 > out
 truncate -s 8192 made
 sizes='--data-block=512 --hash-block=512 --salt=- --uuid=00000000-0000-0000-0000-000000000001'
 for closed in '>&-' '<&- >&-' '<&- >&- 2>&-' '> /dev/full' '> /dev/full 2>&-'; do
-    for words in 'session A=rw:a' 'load stack A=rw:a' 'read stack a 0 8 A=rw:a' 'write stack a 0 source A=rw:a'; do
+    for words in 'session A=rw:a' 'load stack A=rw:a' 'read stack a 0 8 A=rw:a' 'write stack a 0 source A=rw:a' \
+        'scan stack a A=rw:a' 'copy stack a out A=rw:a' 'nbd stack a A=rw:a'; do
         ran 1 '' bash -c "\"\$0\" $words $closed" "$program"
         check "$words $closed: the image is as it was" cmp a kept
     done
@@ -191,6 +193,19 @@ if mount -t tmpfs -o size=32k,mode=777 tmpfs full 2> mount_errors; then
     truncate -s 1048576 full/image data
     ran 1 'refused 5 Device' "$program" format $sizes data full/image
     check 'no superblock stands before a tree that was not written' cmp -n 512 full/image /dev/zero
+    # A copy that has no room: the image is named, what is copied is as it was, and once there is room the same copy is whole.
+    rm full/image
+    truncate -s 65536 full/image
+    filled 5 128 > whole
+    cp whole kept
+    printf 'a,,,ro,0 128 linear A 0' > stack
+    ran 1 'refused 2 Device' "$program" copy stack a full/image A=ro:whole
+    check 'what is copied is as it was' cmp whole kept
+    mount -o remount,size=128k full
+    ran 0 'read 128 lost 0' "$program" copy stack a full/image A=ro:whole
+    check 'the copy is whole' cmp whole full/image
+    truncate -s 0 full/image
+    mount -o remount,size=32k full
     # An output file without room.
     rm full/image
     filled 0 128 > full/filling 2> /dev/null || true

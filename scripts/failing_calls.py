@@ -26,6 +26,7 @@ sys.path.insert(0, f"{TOP}/scripts/model")
 
 from command_line import Files, binding, bound, cut_words, features_without, OPTIONS  # noqa: E402
 from configuration import Refused  # noqa: E402
+from failing_recovery import Recovery, Unlike as Wrong  # noqa: E402
 from session import Session  # noqa: E402
 from stack import Fault  # noqa: E402
 
@@ -34,10 +35,7 @@ MOST = 100_000
 FEATURES = features_without([])
 REFUSED_DEVICE = {b"format": (1, b"refused 5 Device"), b"verify": (1, b"refused 10 Device"), b"dump": (1, b"refused 10 Device"),
                   b"table": (1, b"refused 10 Device"), b"read": (3, b"fault 3 Device %d"), b"write": (3, b"fault 3 Device %d")}
-
-
-class Wrong(Exception):
-    """What a run did unlike what it should."""
+RECOVERIES = (b"scan", b"copy")
 
 
 def lines_of(text):
@@ -70,7 +68,7 @@ class Case:
             path = {**os.environ, "PYTHONPATH": f"{TOP}/scripts/model", "PYTHONDONTWRITEBYTECODE": "1"}
             subprocess.run(["bash", f"{self.folder}/before"], cwd=self.start, env=path, check=True)
         # Refusals of memory that no answer shows: std asks ahead for room for the words, and asks again where it is refused.
-        self.unseen = 0
+        self.unseen, self.recovery = 0, None
         self.kinds = ["memory", "device", "short", "interrupted"]
         self.kinds += ["input", "text", "output"] * os.path.exists(f"{self.folder}/streams")
         # Where a checked block can't be kept for want of memory, the answer is that of the block as it was read.
@@ -250,7 +248,11 @@ def check_command(case, plain, kind, ran):
         if ran[:2] != plain[:2]:
             raise Wrong(f"status {status}, {output[-200:]}")
         return None
-    if kind in ("output", "text"):
+    if kind == "device" and case.recovery:
+        case.recovery.check_failure(what[1], output, status)
+    elif kind == "memory" and case.recovery:
+        case.recovery.check_early_end(output, status, b"no memory")
+    elif kind in ("output", "text"):
         if status != 1 or kind == "text" and not output.startswith(b"refused "):
             raise Wrong(f"status {status}, {output[-200:]}")
     else:
@@ -283,8 +285,10 @@ def check_case(case):
     """How many calls of each kind failed."""
     plain = case.run()
     if not case.is_session():
-        if case.words[0] != b"format" and plain[1] != 0:
+        if case.words[0] not in (b"format", *RECOVERIES) and plain[1] != 0:
             raise Wrong(f"without a failure: status {plain[1]}, {plain[0][-200:]}")
+        if case.words[0] in RECOVERIES:
+            case.recovery = Recovery(case, plain[0])
         return {kind: sweep(case, kind, lambda kind, _, ran: check_command(case, plain, kind, ran)) for kind in case.kinds}
     model = Modelled(case)
     if plain[1] != 0 or not all_allow(model.output(), lines_of(plain[0])):

@@ -36,7 +36,7 @@ def options_in(source, name, seen=()):
 def grammar_of(source):
     """The commands of the grammar, each with its options."""
     commands = {}
-    for kind, name in re.findall(r'\.subcommand\((\w+)\(alloc(?:, "([^"]+)")?\)', source):
+    for kind, name in re.findall(r'\bwith_(positional|cached|formatting)\(alloc, \w+(?:, "([^"]+)")?\)', source):
         options = options_in(source, kind)
         if not name:
             name = re.search(r'positional\(alloc, "([^"]+)"\)', body_of(source, kind)).group(1)
@@ -77,7 +77,7 @@ def warnings_of(page):
 
 def main():
     page = Path(sys.argv[1]) if len(sys.argv) > 1 else TOP / "man/dmstack.1"
-    grammar = Path(sys.argv[2]) if len(sys.argv) > 2 else TOP / "crates/stack_commands/src/grammar.rt"
+    grammar = Path(sys.argv[2]) if len(sys.argv) > 2 else TOP / "crates/command_line/src/grammar.rt"
     text = page.read_text()
     wanted, told = grammar_of(grammar.read_text()), commands_of(text)
     wrong = []

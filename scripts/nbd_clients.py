@@ -1,12 +1,14 @@
 #!/usr/bin/env python3
 """Tries `dmstack nbd` with the NBD clients that are installed.
 
-nbd_clients.py [PROGRAM]: copies devices out with nbdcopy and qemu-img and compares them, and reads a verity volume with
-one changed block. What isn't installed is named and left out (Debian: libnbd-bin, python3-libnbd,
-qemu-utils, socat).
+nbd_clients.py [PROGRAM]: copies devices out with nbdcopy and qemu-img and compares them, copies an image in through a
+`crypt` line and reads it back by another stack, writes with qemu-io across the ends of sectors, reads a verity volume
+with one changed block, and prints the speed beside nbdkit's. What isn't installed is named and left out (Debian:
+libnbd-bin, python3-libnbd, qemu-utils, socat, nbdkit).
 """
 import os
 import random
+import shlex
 import shutil
 import subprocess
 import sys
@@ -35,8 +37,12 @@ class Served:
 
     def __init__(self, words):
         self.path = os.path.join(os.getcwd(), "socket")
-        command = " ".join(words)
-        self.child = subprocess.Popen(["socat", "-b", "1048576", f"UNIX-LISTEN:{self.path},fork", f"EXEC:{command}"])
+        # The words stand in a file: socat cuts its own at each colon.
+        script = os.path.join(os.getcwd(), "serve")
+        with open(script, "w") as file:
+            file.write("#!/bin/sh\nexec " + shlex.join(words) + "\n")
+        os.chmod(script, 0o755)
+        self.child = subprocess.Popen(["socat", "-b", "1048576", f"UNIX-LISTEN:{self.path},fork", f"EXEC:{script}"])
         while not os.path.exists(self.path):
             time.sleep(0.01)
 
@@ -83,6 +89,48 @@ def whole(label, words, wanted):
             say(f"{label}: qemu-img", done.returncode == 0 and open("converted", "rb").read() == wanted, done.stderr.decode())
 
 
+def copied_in(data):
+    """An image is copied in through a `crypt` line, changed across sectors' ends, and read back by another stack."""
+    key = "".join(f"{k:02x}" for k in range(64))
+    sectors = len(data) // 512
+    open("secret", "wb").write(bytes(len(data)))
+    open("plain", "wb").write(data)
+    open("crypt", "w").write(f"c,,,rw,0 {sectors} crypt aes-xts-plain64 {key} 0 B 0")
+    wanted = bytearray(data)
+    with Served(words_for("crypt", "c", "B=rw:" + os.path.abspath("secret"))) as uri:
+        if shutil.which("nbdcopy"):
+            done = run("nbdcopy", "plain", uri)
+            say("copy in: nbdcopy", done.returncode == 0, done.stderr.decode())
+        if shutil.which("qemu-io"):
+            for offset, length, byte in ((511, 2, 0x11), (1000, 5000, 0x22), (len(data) - 700, 700, 0x33)):
+                done = run("qemu-io", "-f", "raw", "-c", f"write -P {byte} {offset} {length}", "-c", "flush", "nbd:unix:" + uri.split("=")[1])
+                say(f"qemu-io writes at {offset}", done.returncode == 0, done.stderr.decode())
+                wanted[offset : offset + length] = bytes([byte]) * length
+    say("copy in: the image is encrypted", open("secret", "rb").read() != bytes(wanted))
+    with Served(words_for("crypt", "c", "B=rw:" + os.path.abspath("secret"))) as uri:
+        done = run("nbdcopy", uri, "back")
+        say("copy in: read back by another stack", done.returncode == 0 and open("back", "rb").read() == bytes(wanted), done.stderr.decode())
+
+
+def speed():
+    """nbdcopy of 256 MiB over a linear stack beside nbdkit's of the same file, both through socat."""
+    size = 256 << 20
+    open("big", "wb").write(random.Random(3).randbytes(1 << 20) * 256)
+    open("wide", "w").write(f"w,,,ro,0 {size // 512} linear B 0")
+    times = []
+    for words in (words_for("wide", "w", "B=ro:" + os.path.abspath("big")), ["nbdkit", "-s", "-r", "file", os.path.abspath("big")]):
+        best = None
+        for _ in range(3):
+            with Served(words) as uri:
+                start = time.monotonic()
+                done = run("nbdcopy", uri, "null:")
+                took = time.monotonic() - start
+                say("speed: nbdcopy", done.returncode == 0, done.stderr.decode())
+                best = took if best is None else min(best, took)
+        times.append(best)
+    print(f"256 MiB: {times[0]:.2f} s, nbdkit {times[1]:.2f} s, ratio {times[1] / times[0]:.2f}")
+
+
 def changed_block(data):
     """A volume with one changed block: an error at its place and nowhere else."""
     try:
@@ -95,6 +143,8 @@ def changed_block(data):
     image[bad * BLOCK + 99] ^= 1
     open("changed", "wb").write(image)
     handle = nbd.NBD()
+    # Any place and length is served, though the least block size that is told is 512.
+    handle.set_strict_mode(handle.get_strict_mode() & ~nbd.STRICT_ALIGN)
     handle.connect_command(words_for("verity", "v", "D=ro:" + os.path.abspath("changed"), "H=ro:" + os.path.abspath("hash")))
     say("changed block: size", handle.get_size() == len(data))
     say("changed block: read only", handle.is_read_only())
@@ -122,6 +172,11 @@ def main():
     if shutil.which("socat"):
         whole("linear", words_for("linear", "l", verity[0]), data)
         whole("verity", words_for("verity", "v", *verity), data)
+        copied_in(data)
+        if shutil.which("nbdkit") and shutil.which("nbdcopy"):
+            speed()
+        else:
+            print("nbdkit isn't installed")
     else:
         print("socat isn't installed")
     changed_block(data)

@@ -1,7 +1,7 @@
 #!/usr/bin/env python3
 """Exchanges of the NBD protocol, byte for byte, with the program `dmstack nbd`.
 
-nbd_exchanges.py [PROGRAM [WORD..]]: runs each exchange on the program (`dmstack`) and compares what it writes, its
+nbd_exchanges.py [PROGRAM]: runs each exchange on the program (`dmstack`) and compares what it writes, its
 status and the images that it leaves. What is wanted is worked out here from the protocol's document: messages are put
 together field by field, and an export is a run of bytes. It prints how many agree, and the exchanges that don't.
 """
@@ -9,6 +9,7 @@ import os
 import struct
 import subprocess
 import sys
+import tempfile
 
 MAGIC, OPTION_MAGIC, REPLY_MAGIC = b"NBDMAGIC", b"IHAVEOPT", 0x3E889045565A9
 REQUEST, SIMPLE_REPLY = 0x25609513, 0x67446698
@@ -83,8 +84,8 @@ class Export:
         return reply()
 
 
-# HAS_FLAGS
-FLAGS = 1
+# HAS_FLAGS and SEND_FLUSH; READ_ONLY is 2
+FLAGS = 5
 SECTOR = 512
 RAMP = b"".join(bytes([k % 256]) * SECTOR for k in range(8))
 ZEROS = bytes(4 * SECTOR)
@@ -93,10 +94,10 @@ ZEROS = bytes(4 * SECTOR)
 def exports():
     """The devices of the stack text below, over `R=ramp:8`, `Z=zero:4` and `F`, a file of eight sectors."""
     return {
-        "low": Export("low", RAMP),
+        "low": Export("low", RAMP, writable=True),
         "kept": Export("kept", RAMP),
-        "holed": Export("holed", RAMP[: 2 * SECTOR] + bytes(SECTOR) + RAMP[3 * SECTOR :], lost=[(2, 3)]),
-        "file": Export("file", bytes((7 * k + 3) % 251 for k in range(8 * SECTOR))),
+        "holed": Export("holed", RAMP[: 2 * SECTOR] + bytes(SECTOR) + RAMP[3 * SECTOR :], writable=True, lost=[(2, 3)]),
+        "file": Export("file", bytes((7 * k + 3) % 251 for k in range(8 * SECTOR)), writable=True),
     }
 
 
@@ -125,11 +126,14 @@ class Runner:
             problems.append(f"standard error: {done.stderr[:200]!r}")
         if after is not None and open("F", "rb").read() != after:
             problems.append("the image differs")
-        if problems:
-            self.failed += 1
-            print(label + ": " + "; ".join(problems))
-        else:
+        self.count(label, not problems, "; ".join(problems))
+
+    def count(self, label, good, problem="differs"):
+        if good:
             self.passed += 1
+        else:
+            self.failed += 1
+            print(f"{label}: {problem}")
 
 
 def begun(export, bits=3):
@@ -224,23 +228,63 @@ def writes(runner):
     size = len(e.content)
     sent, wanted = begun(e)
     for step, offset in enumerate((0, 1, 511, 512, 513, 1024, size - 513, size - 512, size - 1, size, 2**64 - 1)):
-        for length in (0, 1, 2, 511, 512, 513, 1024, 1025, size, MOST + 1):
-            data = bytes((step + length + 3 * k) % 256 for k in range(min(length, 4096))) + bytes(max(0, length - 4096))
+        for length in (0, 1, 2, 511, 512, 513, 1024, 1025, size):
+            data = bytes((step + length + 3 * k) % 256 for k in range(length))
             sent += request(WRITE, offset, length, data=data)
-            wanted += reply(EINVAL) if length > MOST else e.write(offset, data)
+            wanted += e.write(offset, data)
             sent += request(READ, 0, size)
             wanted += e.read(0, size)
-    runner.run("writes", "file", sent + request(FLUSH) + request(DISC), wanted + reply(EINVAL), after=bytes(e.content))
+    sent += request(WRITE, 0, MOST + 1, data=bytes(MOST + 1)) + request(READ, 0, 8)
+    wanted += reply(EINVAL) + e.read(0, 8)
+    runner.run("writes", "file", sent + request(FLUSH) + request(DISC), wanted + reply(), after=bytes(e.content))
     kept = exports()["kept"]
     asked, told = begun(kept)
     for length in (0, 1, 512, MOST + 1):
         asked += request(WRITE, 3, length, data=bytes(length)) + request(READ, 0, 8)
         told += reply(EINVAL if length > MOST else EPERM) + kept.read(0, 8)
-    runner.run("writes of an export that may only be read", "kept", asked + request(FLUSH), told + reply(EINVAL))
+    runner.run("writes of an export that may only be read", "kept", asked + request(FLUSH), told + reply())
     e = exports()["file"]
     asked, told = begun(e)
     asked += request(WRITE, 0, 5, bits=1, data=b"abcde") + request(READ, 0, 8)
     runner.run("write with a flag", "file", asked, told + reply(EINVAL) + e.read(0, 8), after=bytes(e.content))
+    for offset, length in ((1, 0), (0, 1), (2**64 - 1, 2**32 - 1)):
+        asked, told = begun(e)
+        runner.run(f"flush of {length} bytes at {offset}", "file", asked + request(FLUSH, offset, length), told + reply(EINVAL))
+    e = exports()["holed"]
+    asked, told = begun(e)
+    # the sector before the fault is written; a part of a sector that can't be read keeps all from being written
+    asked += request(WRITE, 512, 1024, data=b"n" * 1024) + request(READ, 510, 514)
+    told += reply(EIO) + reply(data=RAMP[510:512] + b"n" * 512)
+    for offset, length in ((1000, 100), (1500, 700), (1024, 1), (1535, 1)):
+        asked += request(WRITE, offset, length, data=b"m" * length) + request(READ, 512, 512) + request(READ, 1536, 512)
+        told += reply(EIO) + reply(data=b"n" * 512) + reply(data=RAMP[1536:2048])
+    asked += request(WRITE, 1000, 24, data=b"k" * 24) + request(READ, 512, 512)
+    told += reply() + reply(data=b"n" * 488 + b"k" * 24)
+    runner.run("writes of holed", "holed", asked, told)
+
+
+def crypt(runner):
+    """What is written through a `crypt` line is read back by another stack."""
+    open("F", "wb").write(bytes(16 * SECTOR))
+    key = "".join(f"{k:02x}" for k in range(64))
+    for size in ("", " 1 sector_size:4096"):
+        plain = Export("c", bytes(16 * SECTOR), writable=True)
+        line = f"0 16 crypt aes-xts-plain64 {key} 0 F 0{size}"
+        open("crypt", "w").write(f"c,,,rw,{line}")
+        open("back", "w").write(f"c,,,ro,{line}")
+        sent, wanted = begun(plain)
+        for offset, length in ((0, 16 * SECTOR), (3, 1), (500, 30), (4000, 200), (4096, 4096), (8191, 1)):
+            data = bytes((7 * offset + 5 * k) % 256 for k in range(length))
+            sent += request(WRITE, offset, length, data=data) + request(READ, 0, 16 * SECTOR)
+            wanted += plain.write(offset, data) + plain.read(0, 16 * SECTOR)
+        served = subprocess.run([runner.program, "nbd", "crypt", "c", "F=rw:F"], input=sent + request(FLUSH), capture_output=True, timeout=60)
+        back = subprocess.run([runner.program, "read", "back", "c", "0", "16", "F=ro:F"], capture_output=True, timeout=60)
+        sectors = [plain.content[512 * k : 512 * k + 512] for k in range(16)]
+        shown = [f"{k} " + (f"all {it[0]:02x}" if len(set(it)) == 1 else it.hex()) for k, it in enumerate(sectors)]
+        raw = open("F", "rb").read()
+        good = served.stdout == wanted + reply() and served.returncode == 0 and [it for it in back.stdout.decode().splitlines() if it[:1].isdigit()] == shown
+        good = good and raw != bytes(plain.content)
+        runner.count(f"writes through crypt{size}", good)
 
 
 def cuts(runner):
@@ -255,7 +299,7 @@ def cuts(runner):
         (option(EXPORT_NAME, b"file"), fields),
         (request(READ, 510, 4), e.read(510, 4)),
         (request(WRITE, 509, 6, data=b"across"), e.write(509, b"across")),
-        (request(FLUSH), reply(EINVAL)),
+        (request(FLUSH), reply()),
         (request(READ, 508, 8), e.read(508, 8)),
     ]
     before = exports()["file"].content
@@ -276,9 +320,12 @@ def refusals(runner):
 
 
 def main():
-    runner = Runner(sys.argv[1] if len(sys.argv) > 1 else "dmstack")
-    for part in (handshakes, transmissions, writes, cuts, refusals):
-        part(runner)
+    given = sys.argv[1] if len(sys.argv) > 1 else "dmstack"
+    runner = Runner(os.path.abspath(given) if os.path.exists(given) else given)
+    with tempfile.TemporaryDirectory() as room:
+        os.chdir(room)
+        for part in (handshakes, transmissions, writes, crypt, cuts, refusals):
+            part(runner)
     print(f"{runner.passed} exchanges agree, {runner.failed} don't")
     return runner.failed != 0
 

@@ -3,16 +3,26 @@
 #
 # refuse_memory.sh [NAME..]: all cases, or those of these names. A case is as scripts/case.sh says, with the file
 # `allowed`: on each line a status and the lines of an output, joined by `/`. The first is what a run without a refusal
-# gives; the others are what may come where one was met.
+# gives; the others are what may come where one was met. A file `program` names another program than dmstack: `bench` makes the
+# calls that no command makes.
 set -eu
 top=$(dirname "$(dirname "$(readlink -f "$0")")")
-program=$top/crates/dmstack/out/dmstack
 "$top/scripts/built.sh" dmstack
 room=$(mktemp -d)
 trap 'rm -rf "$room"' EXIT
 . "$top/scripts/case.sh"
 cc -shared -fPIC -O2 -o "$room/refuse.so" "$top/scripts/refuse_alloc.c" -ldl
 [ $# -gt 0 ] || set -- $(cd "$top/scripts/memory" && ls)
+
+# The program of case $1, built.
+program_of() {
+    local name=dmstack
+    [ ! -e "$1/program" ] || name=$(cat "$1/program")
+    if [ "$name" != dmstack ] && [ -z "${GATE_BUILT:-}" ]; then
+        (cd "$top/crates/$name" && rt run -- none) > "$room/log" 2>&1 || { cat "$room/log" >&2; return 1; }
+    fi
+    printf '%s' "$top/crates/$name/out/$name"
+}
 
 # The status and the output of the run in which allocation $2 of case $1 is refused.
 outcome() {
@@ -23,6 +33,7 @@ outcome() {
 passed=0 failed=0
 for name in "$@"; do
     folder=$top/scripts/memory/$name
+    program=$(program_of "$folder")
     number=0 wrong=0
     while :; do
         number=$((number + 1))

@@ -3,6 +3,7 @@
 import re
 
 from configuration import Configuration, Leaf, Refused, check_leaves
+from recovery import check_size, looked_up, recovered
 from session import MOST_SECTORS, Session, Usage, check_request, costs
 from stack import SECTOR, Fault, FileImage, MemoryImage, Stack
 from tables import TextFault, digits_of, is_device_argument, number, read_stack, salt_of
@@ -17,7 +18,7 @@ TARGETS = ("linear", "striped", "zero", "error", "crypt", "verity", "zero_blocks
 OPTIONS = {
     "format": (b"data-block", b"hash-block", b"blocks", b"salt", b"uuid"),
     "verify": (), "dump": (), "table": (), "load": (),
-    "read": (b"cache",), "write": (b"cache",), "session": (b"cache",),
+    "read": (b"cache",), "write": (b"cache",), "session": (b"cache",), "scan": (), "copy": (),
 }
 UUID = re.compile(rb"[0-9a-f]{8}(-[0-9a-f]{4}){3}-[0-9a-f]{12}", re.IGNORECASE)
 
@@ -291,6 +292,26 @@ def run_write(options, words, files, _given, features):
     return Session(stack, features).run(name, first, count, data), DONE
 
 
+def run_scan(_options, words, files, _given, features):
+    (path, name), rest = at_least(words, 2)
+    bindings = [binding(word) for word in rest]
+    stack = loaded(stack_text(path, files), bindings, files, features)
+    lines, is_lost = recovered(stack, looked_up(stack.configuration, name), None)
+    return lines, FAULT if is_lost else DONE
+
+
+def run_copy(_options, words, files, _given, features):
+    (path, name, out_path), rest = at_least(words, 3)
+    bindings = [binding(word) for word in rest]
+    text = stack_text(path, files)
+    out = files.image(out_path, True)
+    stack = loaded(text, bindings, files, features)
+    device = looked_up(stack.configuration, name)
+    check_size(device, out)
+    lines, is_lost = recovered(stack, device, out)
+    return lines, FAULT if is_lost else DONE
+
+
 def run_session(options, words, files, given, features):
     read_cache(options)
     stack = bound([binding(word) for word in words], files)
@@ -300,6 +321,7 @@ def run_session(options, words, files, given, features):
 COMMANDS = {
     b"format": run_format, b"verify": run_verify, b"dump": run_dump, b"table": run_table,
     b"load": run_load, b"read": run_read, b"write": run_write, b"session": run_session,
+    b"scan": run_scan, b"copy": run_copy,
 }
 
 

@@ -210,6 +210,18 @@ LATER = [
     ("sector_size", "two sector sizes", "tables.py",
      'word in UNIT_OPTIONS and not sized',
      'word in UNIT_OPTIONS'),
+    ("scan-command", "runs of two faults joined", "recovery.py",
+     'runs[-1][2] == fault and sum(',
+     'sum('),
+    ("scan-command", "one run lost is no fault", "recovery.py",
+     'bool(runs)',
+     'len(runs) > 1'),
+    ("copy-command", "an image that is a sector short", "recovery.py",
+     'if len(out) // SECTOR < device.sectors:',
+     'if len(out) // SECTOR + 1 < device.sectors:'),
+    ("copy-command", "an image that is one of the bindings' files", "command_line.py",
+     '    out = files.image(out_path, True)\n',
+     '    out = files.image(out_path, True)\n    files.opened.pop()\n'),
 ]
 
 

@@ -5,11 +5,11 @@ The model is asked which devices stand while a session is made, so that its line
 
 from random_images import Images
 from random_parts import Case, Run
-from random_sessions import Sessions
+from random_recovery import Recoveries
 from strange_words import STRANGE_NUMBERS
 
 
-class Maker(Sessions, Images):
+class Maker(Recoveries, Images):
     """Makes one case."""
 
     def case(self):
@@ -44,7 +44,11 @@ class Maker(Sessions, Images):
                 runs.append(Run([b"read"] + self.cache() + [stack] + rest + words))
             else:
                 runs.append(self.write_run(session, stack, words))
-        return [self.spoiled_words(run) if self.chance(0.06) else run for run in runs]
+        runs = [self.spoiled_words(run) if self.chance(0.06) else run for run in runs]
+        if self.has("commands", "scan") and self.chance(0.8):
+            more = self.recovery_runs(session, stack, words)
+            runs += [self.spoiled_words(run) if self.chance(0.06) else run for run in more]
+        return runs
 
     def spoiled_stack_file(self, text, stack):
         kind = self.random.randrange(4)
@@ -60,6 +64,12 @@ class Maker(Sessions, Images):
     def write_run(self, session, stack, words):
         _, rest = self.request(session)
         name, first, count = (rest.split(b" ") + [b"0"] * 3)[:3]
+        wide = [device for device in session.stack.configuration.devices.values() if len(device.lines) > 1]
+        if wide and self.chance(0.5):
+            device = self.pick(wide)
+            name, at = device.name, max(0, self.pick(device.lines[1:]).start - self.pick([1, 2, 3, 9]))
+            most = min(device.sectors - at, self.most_sectors(session, device))
+            first, count = self.decimal(at), b"%d" % min(self.pick([2, 4, 8, 60]), most)
         size = min(int(count), 60) * 512 if count.isdigit() and len(count) < 20 else 512
         if self.chance(0.1):
             size = max(0, size + self.pick([-512, -1, 1, 511]))
@@ -68,10 +78,11 @@ class Maker(Sessions, Images):
             if isinstance(self.files.get(stack), bytes):
                 self.files[stack] += b";big,,,rw,0 %d zero" % self.pick([2048, 2049, 5000])
                 name, first = b"big", b"0"
-        content = self.content(min(size // 512 + 1, 64))
+        content = self.content(min(size // 512 + 1, 61))
         source = self.new_file((content * (size // len(content) + 1))[:size], b"source")
-        if self.chance(0.03):
-            source = self.pick([b"missing", b".", b"", stack] + list(self.files))
+        if self.chance(0.05):
+            bound = [word.rpartition(b":")[2] for word in words]
+            source = self.pick([b"missing", b".", b"", stack] + list(self.files) + bound)
         return Run([b"write"] + self.cache() + [stack, name, first, source] + words)
 
     def words_case(self):

@@ -136,12 +136,35 @@ class Sessions(Stacks):
             self.follow(session, line)
             if len(session.in_flight) > 3 and self.chance(0.4):
                 self.finish(session, lines)
+        if texts or self.chance(0.5):
+            self.change_tree(session, lines)
         if self.chance(0.02):
             self.fill_up(session, lines)
         if self.chance(0.004):
             self.flood(lines)
         end = b"" if self.chance(0.2) else b"\n"
         return [Run([b"session"] + self.cache() + words, b"\n".join(lines + [b"moved"]) + end)]
+
+    def change_tree(self, session, lines):
+        """Reads a checked sector before and after a change of what its tree stands on."""
+        devices = session.stack.configuration.devices
+        checked = [name for name in devices if name.startswith(b"v")]
+        if not checked:
+            return
+        self.finish(session, lines)
+        name = self.pick(checked)
+        read = b"read %s %d 1" % (name, self.below(devices[name].sectors - 1))
+        changes = [b"remove " + self.pick(list(devices))]
+        for device in devices.values():
+            if device.name.startswith(b"tree"):
+                octet = self.random.randrange(256)
+                changes += [b"write %s 0 %d %02x" % (device.name, min(device.sectors, 2048), octet)] * 3
+                changes += [b"write %s %d 1 %02x" % (device.name, self.below(device.sectors - 1), octet)] * 2
+            if device.name == b"roots":
+                changes += [b"load roots,,,ro,0 %d %s" % (device.sectors, self.pick([b"zero", b"error"]))] * 3
+        for line in [read, self.pick(changes), read]:
+            lines.append(line)
+            self.follow(session, line)
 
     def cache(self):
         """The option of a cache, which changes no answer."""
@@ -167,7 +190,7 @@ class Sessions(Stacks):
     def flood(self, lines):
         """A line so long that the input is about as long as it may be, or longer."""
         rest = LIMIT - sum(len(line) + 1 for line in lines) - len(b"moved\n")
-        lines.append(b"x" * (rest + self.pick([-9, -8, -7, -6, -2, -1, 0, 1, 9])))
+        lines.append(b"x" * (rest + self.pick([-9, -8, -7, -6, -2, -1, -1, 0, 0, 0, 1, 9])))
 
     def fill_up(self, session, lines):
         """More requests in flight than there may be."""

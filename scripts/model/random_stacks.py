@@ -61,7 +61,7 @@ class Stacks(Dice):
         return self.crypt(name, first, length)
 
     def striped(self, lowers):
-        count = self.pick([1, 2, 2, 2, 3, 3, 4, 5, 16])
+        count = self.pick([1, 2, 2, 2, 3, 3, 4, 5, 16, 16, 17])
         chosen = [self.pick(lowers) for _ in range(count)]
         most = min(size for _, size in chosen)
         chunk = min(most, self.pick([1, 1, 2, 3, 4, 7, 8, 16, most]))
@@ -353,4 +353,6 @@ class Stacks(Dice):
             flag, length, device, hashes, tree.data_block, tree.hash_block, blocks, start,
             root.hex().encode(), salt.hex().encode() or b"-")
         options = [b"", b"", b" 0", b" 1 ignore_zero_blocks", b" 1 ignore_zero_blocks"]
+        if self.chance(0.04):
+            line = line.rpartition(b" ")[0] + b" " + b"5a" * self.pick([255, 256, 257])
         return line + self.pick(options)

@@ -6,6 +6,8 @@ use Rattle.aes_block.specs.Blocks.{block, joined, cipher_blocks, inverse_cipher_
 use Rattle.aes_block.specs.Key.{IsKeyLength}
 use Rattle.aes_block.specs.KeyExpansion.{rounds, key_schedule}
 use Rattle.aes_block.specs.Cipher.{cipher_with, cipher, inverse_cipher_with, inverse_cipher}
+use Rattle.aes_lanes.specs.declared.keys.KeyPlanes.{KeyPlanes}
+use Rattle.aes_lanes.specs.Keys.{HoldKeys}
 use Rattle.aes_block.proofs.lemmas.BlockLemmas.{joined-same, length-joined, block-take}
 use Rattle.aes_block.proofs.lemmas.PartLemmas.{IsWrittenTo, IsWrittenTo-more, IsWrittenTo-all}
 use Rattle.aes_block.proofs.lemmas.CipherBlocksLemmas.{length-cipher, length-inverse_cipher}
@@ -17,6 +19,13 @@ length-put_mid a k xs ys fits size =
 -- at least 10 and at most 14 rounds
 pub rounds_between : (key : List ℕ) → IsKeyLength (length key) → (10 ≤ rounds key) × (rounds key ≤ 14)
 rounds_between key h = elim h [ inl e ↦ (omega (arith, e), omega (arith, e)) | inr e ↦ (omega (arith, e), omega (arith, e)) ]
+
+-- the round keys of a key, counted by its schedule
+pub HoldKeys-with : (key w : List ℕ) (keys : List KeyPlanes) (n : ℕ) → w ≡ key_schedule key → n ≡ rounds key → HoldKeys (rounds key) (key_schedule key) keys → HoldKeys n w keys
+HoldKeys-with key w keys n same count holds = rw (same, count) holds
+
+pub HoldKeys-of : (key w : List ℕ) (keys : List KeyPlanes) (n : ℕ) → w ≡ key_schedule key → n ≡ rounds key → HoldKeys n w keys → HoldKeys (rounds key) (key_schedule key) keys
+HoldKeys-of key w keys n same count holds = rw (← same, ← count) holds
 
 pub cipher-with : (key w b : List ℕ) (n : ℕ) → w ≡ key_schedule key → n ≡ rounds key → cipher_with n w b ≡ cipher key b
 unfolding cipher

@@ -8,6 +8,7 @@ use Rattle.aes_block.proofs.lemmas.ByteLemmas.{all_below, same_below}
 use Rattle.aes_lanes.specs.Planes.{ArePlanes, plane, lane, byte_of, block_of}
 use Rattle.aes_lanes.specs.Circuit.{Carries, CarryEach, sums, combined, products, substituted}
 use Rattle.aes_lanes.specs.Circuit.{inverse as inverse_bits}
+use Rattle.aes_lanes.specs.InverseCircuit.{inverse_sums, inverse_substituted}
 use Rattle.aes_lanes.proofs.LaneLemmas.{below_eight}
 use Rattle.aes_lanes.proofs.PlaneLemmas.{parities-same, byte_of_lt, bit_at-byte_of, lane_lt, byte_at-block_of, block_of-is}
 
@@ -22,6 +23,10 @@ inputs = bits_of_bytes 0 ∷ bits_of_bytes 1 ∷ bits_of_bytes 2 ∷ bits_of_byt
 -- what the circuit makes of them
 unfoldable pub outputs : List ℕ
 outputs = substituted (products (sums inputs) (inverse_bits (combined (sums inputs))))
+
+-- and what that of the inverse makes
+unfoldable pub inverse_outputs : List ℕ
+inverse_outputs = inverse_substituted (products (inverse_sums inputs) (inverse_bits (combined (inverse_sums inputs))))
 
 inputs-computed : all_below 2048 (λ n. nat_eq (bit_at (slice_index inputs (n / 256)) (n % 256)) (bit_at (n % 256) (n / 256))) ≡ true
 unfolding inputs
@@ -44,23 +49,6 @@ doubled =
 byte_in : List ℕ → ℕ → ℕ
 byte_in ts v = parities (λ k. bit_at (slice_index ts k) v) 8
 
--- the inverse of the affine map
-unfoldable pub unmapped : List ℕ
-unmapped =
-    let ones = 2 ^ 256 - 1 in
-    bit_xor (bit_xor (bit_xor (slice_index inputs 2) (slice_index inputs 5)) (slice_index inputs 7)) ones
-    ∷ bit_xor (bit_xor (slice_index inputs 3) (slice_index inputs 6)) (slice_index inputs 0)
-    ∷ bit_xor (bit_xor (bit_xor (slice_index inputs 4) (slice_index inputs 7)) (slice_index inputs 1)) ones
-    ∷ bit_xor (bit_xor (slice_index inputs 5) (slice_index inputs 0)) (slice_index inputs 2)
-    ∷ bit_xor (bit_xor (slice_index inputs 6) (slice_index inputs 1)) (slice_index inputs 3)
-    ∷ bit_xor (bit_xor (slice_index inputs 7) (slice_index inputs 2)) (slice_index inputs 4)
-    ∷ bit_xor (bit_xor (slice_index inputs 0) (slice_index inputs 3)) (slice_index inputs 5)
-    ∷ bit_xor (bit_xor (slice_index inputs 1) (slice_index inputs 4)) (slice_index inputs 6) ∷ []
-
-unmapped-computed : all_below 256 (λ v. nat_eq (byte_in unmapped v) (inv_affine v)) ≡ true
-unfolding byte_in unmapped inputs inv_affine
-unmapped-computed = refl
-
 doubled-computed : all_below 256 (λ v. nat_eq (byte_in doubled v) (xtimes v)) ≡ true
 unfolding byte_in doubled inputs
 doubled-computed = refl
@@ -68,6 +56,10 @@ doubled-computed = refl
 outputs-computed : all_below 256 (λ v. nat_eq (byte_in outputs v) (sub_byte v)) ≡ true
 unfolding byte_in outputs inputs sums combined inverse_bits products substituted product product_low inverse affine sub_byte
 outputs-computed = refl
+
+inverse_outputs-computed : all_below 256 (λ v. nat_eq (byte_in inverse_outputs v) (inv_sub_byte v)) ≡ true
+unfolding byte_in inverse_outputs inputs inverse_sums combined inverse_bits products inverse_substituted product product_low inverse inv_affine inv_sub_byte
+inverse_outputs-computed = refl
 
 module _ (q : List (List ℕ)) (planes : ArePlanes q) (p b : ℕ) where
   -- the planes carry the inputs
@@ -98,8 +90,8 @@ byte_of-outputs p b v r h all = byte_of-carried p b v r outputs all ∙ same_bel
 pub byte_of-doubled : (p b v : ℕ) (r : List (List ℕ)) → v < 256 → CarryEach 8 p b v r doubled → byte_of r p b ≡ xtimes v
 byte_of-doubled p b v r h all = byte_of-carried p b v r doubled all ∙ same_below 256 (byte_in doubled) xtimes doubled-computed v h
 
-pub byte_of-unmapped : (p b v : ℕ) (r : List (List ℕ)) → v < 256 → CarryEach 8 p b v r unmapped → byte_of r p b ≡ inv_affine v
-byte_of-unmapped p b v r h all = byte_of-carried p b v r unmapped all ∙ same_below 256 (byte_in unmapped) inv_affine unmapped-computed v h
+pub byte_of-inverse_outputs : (p b v : ℕ) (r : List (List ℕ)) → v < 256 → CarryEach 8 p b v r inverse_outputs → byte_of r p b ≡ inv_sub_byte v
+byte_of-inverse_outputs p b v r h all = byte_of-carried p b v r inverse_outputs all ∙ same_below 256 (byte_in inverse_outputs) inv_sub_byte inverse_outputs-computed v h
 
 pub ArePlanes-carried : (p b v : ℕ) (r : List (List ℕ)) (ts : List ℕ) → CarryEach 8 p b v r ts → ArePlanes r
 ArePlanes-carried p b v r ts all k h = (carried p b v r ts all k h).len
@@ -112,16 +104,7 @@ block_of-sub_bytes q r same j h =
     same (16 * (j % 2) + (4 * c + row)) (j / 2) (lane_lt j row c hr hc) (omega arith)
     ∙ ap sub_byte (sym (byte_at-block_of q j row c hr hc)))
 
--- ---- the inverse
-
-inv_sub_byte-computed : all_below 256 (λ v. nat_eq (inv_affine (sub_byte (inv_affine v))) (inv_sub_byte v)) ≡ true
-unfolding product product_low inverse affine inv_affine sub_byte inv_sub_byte
-inv_sub_byte-computed = refl
-
--- the map of SubBytes between two inverses of its affine map
-pub inv_sub_byte-is : (v : ℕ) → v < 256 → inv_affine (sub_byte (inv_affine v)) ≡ inv_sub_byte v
-inv_sub_byte-is = same_below 256 (λ v. inv_affine (sub_byte (inv_affine v))) inv_sub_byte inv_sub_byte-computed
-
+-- bytes that went through the inverse map make blocks that went through InvSubBytes
 pub block_of-inv_sub_bytes : (q r : List (List ℕ)) → ((p b : ℕ) → p < 32 → b < 8 → byte_of r p b ≡ inv_sub_byte (byte_of q p b)) → (j : ℕ) → j < 16 → block_of r j ≡ inv_sub_bytes (block_of q j)
 unfolding inv_sub_bytes
 block_of-inv_sub_bytes q r same j h =

@@ -1,3 +1,5 @@
 pub mod Planes
 pub mod Circuit
+pub mod InverseCircuit
 pub mod Keys
+pub mod LanesKey

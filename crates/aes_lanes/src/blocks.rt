@@ -2,39 +2,41 @@
 
 ghost use Rattle.std.specs.Prelude.{◌≡◌, ◌%◌, length};
 ghost use Rattle.aes_block.specs.Blocks.{cipher_blocks, inverse_cipher_blocks};
+ghost use Rattle.aes_block.specs.KeyExpansion.{rounds, key_schedule};
+ghost use Rattle.aes_lanes.specs.Keys.{HoldKeys};
 
 use crate::cipher::{decrypt_sixteen, encrypt_sixteen};
-use crate::keys::key_planes;
+use crate::keys::{KeyPlanes, MAX_KEYS};
 use aes_block::AesKey;
 
 /// Enciphers each of whole blocks in place: sixteen at once, and the rest one after the other.
-pub fn encrypt_blocks(key: &AesKey, blocks: &mut [u8])
-    requires { length blocks.old % 16 ≡ 0 }
+pub(crate) fn encrypt_blocks(key: &AesKey, keys: &[KeyPlanes; MAX_KEYS], blocks: &mut [u8])
+    requires keys { HoldKeys (rounds key.now) (key_schedule key.now) keys.now }
+    requires whole { length blocks.old % 16 ≡ 0 }
     ensures value { blocks.new ≡ cipher_blocks key.now blocks.old }
     ensures inverse { inverse_cipher_blocks key.now blocks.new ≡ blocks.old }
 {
     let schedule = key.schedule();
-    let rounds = schedule.len() / 16 - 1;
-    let keys = key_planes(schedule, rounds);
+    let last = schedule.len() / 16 - 1;
     let count = blocks.len() / 256;
     for i in 0..count {
-        encrypt_sixteen(&keys, rounds, &mut blocks[256 * i..256 * i + 256]);
+        encrypt_sixteen(keys, last, &mut blocks[256 * i..256 * i + 256]);
     }
     key.encrypt_blocks(&mut blocks[256 * count..]);
 }
 
 /// Deciphers each of whole blocks in place: sixteen at once, and the rest one after the other.
-pub fn decrypt_blocks(key: &AesKey, blocks: &mut [u8])
-    requires { length blocks.old % 16 ≡ 0 }
+pub(crate) fn decrypt_blocks(key: &AesKey, keys: &[KeyPlanes; MAX_KEYS], blocks: &mut [u8])
+    requires keys { HoldKeys (rounds key.now) (key_schedule key.now) keys.now }
+    requires whole { length blocks.old % 16 ≡ 0 }
     ensures value { blocks.new ≡ inverse_cipher_blocks key.now blocks.old }
     ensures inverse { cipher_blocks key.now blocks.new ≡ blocks.old }
 {
     let schedule = key.schedule();
-    let rounds = schedule.len() / 16 - 1;
-    let keys = key_planes(schedule, rounds);
+    let last = schedule.len() / 16 - 1;
     let count = blocks.len() / 256;
     for i in 0..count {
-        decrypt_sixteen(&keys, rounds, &mut blocks[256 * i..256 * i + 256]);
+        decrypt_sixteen(keys, last, &mut blocks[256 * i..256 * i + 256]);
     }
     key.decrypt_blocks(&mut blocks[256 * count..]);
 }

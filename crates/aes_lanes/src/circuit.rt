@@ -4,8 +4,8 @@
 ghost use Rattle.std.specs.Prelude.{◌≡◌, ℕ, ◌<◌, List};
 ghost use Rattle.aes_lanes.specs.Planes.{ArePlanes, byte_of, block_of};
 ghost use Rattle.aes_lanes.specs.Circuit.{CarryEach, sums, combined, inverse, products, substituted};
-ghost use Rattle.aes_block.specs.Rounds.{sub_bytes, inv_sub_bytes};
-ghost use Rattle.aes_block.specs.Field.{sub_byte, inv_affine};
+ghost use Rattle.aes_block.specs.Rounds.{sub_bytes};
+ghost use Rattle.aes_block.specs.Field.{sub_byte};
 
 use crate::planes::Planes;
 use std::simd::prelude::*;
@@ -47,7 +47,7 @@ fn sums(x: &Planes) -> [u8x32; 22]
 
 // The element of the subfield whose inverse gives the byte's: two products and sums.
 #[inline(always)]
-fn combined(sums: &[u8x32; 22]) -> [u8x32; 4]
+pub(crate) fn combined(sums: &[u8x32; 22]) -> [u8x32; 4]
     ensures { (p b v : ℕ) (sums_bits : List ℕ) → p < 32 → b < 8 → v < 256 → CarryEach 22 p b v sums.now sums_bits → CarryEach 4 p b v result (combined sums_bits) }
 {
     let [
@@ -102,7 +102,7 @@ fn combined(sums: &[u8x32; 22]) -> [u8x32; 4]
 
 // The inverse in the subfield of 16 elements, and the sums of its bits.
 #[inline(always)]
-fn inverse(combined: &[u8x32; 4]) -> [u8x32; 9]
+pub(crate) fn inverse(combined: &[u8x32; 4]) -> [u8x32; 9]
     ensures { (p b v : ℕ) (combined_bits : List ℕ) → p < 32 → b < 8 → v < 256 → CarryEach 4 p b v combined.now combined_bits → CarryEach 9 p b v result (inverse combined_bits) }
 {
     let [t21, t22, t23, t24] = *combined;
@@ -132,7 +132,7 @@ fn inverse(combined: &[u8x32; 4]) -> [u8x32; 9]
 
 // The products of the inverse's bits and the byte's sums.
 #[inline(always)]
-fn products(sums: &[u8x32; 22], inverse: &[u8x32; 9]) -> [u8x32; 18]
+pub(crate) fn products(sums: &[u8x32; 22], inverse: &[u8x32; 9]) -> [u8x32; 18]
     ensures { (p b v : ℕ) (sums_bits inverse_bits : List ℕ) → p < 32 → b < 8 → v < 256 → CarryEach 22 p b v sums.now sums_bits → CarryEach 9 p b v inverse.now inverse_bits → CarryEach 18 p b v result (products sums_bits inverse_bits) }
 {
     let [
@@ -255,36 +255,4 @@ pub(crate) fn sub_bytes(q: &Planes) -> Planes
     let inverse = inverse(&combined);
     let products = products(&sums, &inverse);
     substituted(&products)
-}
-
-// The inverse of the affine map (5.3.2): each bit is the sum of three and a bit of 0x05.
-#[inline(always)]
-fn inv_affine(q: &Planes) -> Planes
-    requires { ArePlanes q.now }
-    ensures planes { ArePlanes result }
-    ensures bytes { (p b : ℕ) → p < 32 → b < 8 → byte_of result p b ≡ inv_affine (byte_of q.now p b) }
-{
-    let ones = u8x32::splat(0xff);
-    [
-        q[2] ^ q[5] ^ q[7] ^ ones,
-        q[3] ^ q[6] ^ q[0],
-        q[4] ^ q[7] ^ q[1] ^ ones,
-        q[5] ^ q[0] ^ q[2],
-        q[6] ^ q[1] ^ q[3],
-        q[7] ^ q[2] ^ q[4],
-        q[0] ^ q[3] ^ q[5],
-        q[1] ^ q[4] ^ q[6],
-    ]
-}
-
-// InvSubBytes (5.3.2): SubBytes between two inverses of its affine map, since an inverse is its own inverse.
-#[inline(always)]
-pub(crate) fn inv_sub_bytes(q: &Planes) -> Planes
-    requires { ArePlanes q.now }
-    ensures planes { ArePlanes result }
-    ensures blocks { (j : ℕ) → j < 16 → block_of result j ≡ inv_sub_bytes (block_of q.now j) }
-{
-    let summed = inv_affine(q);
-    let inverted = sub_bytes(&summed);
-    inv_affine(&inverted)
 }

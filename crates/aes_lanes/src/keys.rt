@@ -1,14 +1,56 @@
 //! Round keys as planes.
 
 ghost use Rattle.std.specs.Prelude.{◌≡◌, ◌+◌, ◌*◌, ◌≤◌, length};
-ghost use Rattle.aes_block.specs.KeyExpansion.{round_key};
-ghost use Rattle.aes_lanes.specs.Keys.{AreCopies, HoldKeys};
+ghost use Rattle.aes_block.specs.KeyExpansion.{rounds, key_schedule, round_key};
+ghost use Rattle.aes_lanes.specs.Keys.{AreCopies, HoldKeys, planes_in};
 
 use crate::planes::{Planes, turn};
+use aes_block::AesKey;
 use std::simd::prelude::*;
 
 /// The most round keys of a schedule.
 pub(crate) const MAX_KEYS: usize = 15;
+
+/// The planes of sixteen copies of a round key.
+#[derive(Clone, Copy)]
+pub(crate) struct KeyPlanes {
+    p0: u8x32,
+    p1: u8x32,
+    p2: u8x32,
+    p3: u8x32,
+    p4: u8x32,
+    p5: u8x32,
+    p6: u8x32,
+    p7: u8x32,
+}
+
+impl KeyPlanes {
+    #[inline(always)]
+    fn new(planes: &Planes) -> KeyPlanes
+        ensures { planes_in result ≡ planes.now }
+    {
+        let [p0, p1, p2, p3, p4, p5, p6, p7] = *planes;
+        KeyPlanes {
+            p0,
+            p1,
+            p2,
+            p3,
+            p4,
+            p5,
+            p6,
+            p7,
+        }
+    }
+
+    #[inline(always)]
+    pub(crate) fn planes(&self) -> Planes
+        ensures { result ≡ planes_in self.now }
+    {
+        [
+            self.p0, self.p1, self.p2, self.p3, self.p4, self.p5, self.p6, self.p7,
+        ]
+    }
+}
 
 // Sixteen copies of a round key.
 fn copies(schedule: &[u8], round: usize) -> Planes
@@ -27,14 +69,23 @@ fn copies(schedule: &[u8], round: usize) -> Planes
 }
 
 /// The planes of the round keys 0 to `rounds`.
-pub(crate) fn key_planes(schedule: &[u8], rounds: usize) -> [Planes; MAX_KEYS]
+pub(crate) fn key_planes(schedule: &[u8], rounds: usize) -> [KeyPlanes; MAX_KEYS]
     requires few { rounds + 1 ≤ MAX_KEYS }
     requires long { 16 * rounds + 16 ≤ length schedule.now }
     ensures { HoldKeys rounds schedule.now result }
 {
-    let mut keys = [[u8x32::splat(0); 8]; MAX_KEYS];
+    let mut keys = [KeyPlanes::new(&[u8x32::splat(0); 8]); MAX_KEYS];
     for round in 0..rounds + 1 {
-        keys[round] = copies(schedule, round);
+        let planes = copies(schedule, round);
+        keys[round] = KeyPlanes::new(&planes);
     }
     keys
+}
+
+/// The planes of a key's round keys.
+pub(crate) fn planes_of_key(key: &AesKey) -> [KeyPlanes; MAX_KEYS]
+    ensures { HoldKeys (rounds key.now) (key_schedule key.now) result }
+{
+    let schedule = key.schedule();
+    key_planes(schedule, schedule.len() / 16 - 1)
 }

@@ -4,8 +4,10 @@
 mod blocks;
 mod cipher;
 mod circuit;
+mod inverse_circuit;
 mod keys;
+mod lanes_key;
 mod planes;
 mod rounds;
 
-pub use blocks::{decrypt_blocks, encrypt_blocks};
+pub use lanes_key::LanesKey;

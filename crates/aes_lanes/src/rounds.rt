@@ -6,7 +6,8 @@ ghost use Rattle.aes_block.specs.Field.{xtimes};
 ghost use Rattle.aes_lanes.specs.Planes.{ArePlanes, byte_of, block_of, AreMoved, AreSums, lane_shifted, lane_unshifted, lane_below};
 ghost use Rattle.aes_lanes.specs.Keys.{AreCopies};
 
-use crate::circuit::{inv_sub_bytes, sub_bytes};
+use crate::circuit::sub_bytes;
+use crate::inverse_circuit::inv_sub_bytes;
 use crate::planes::Planes;
 use std::simd::prelude::*;
 

@@ -2,6 +2,7 @@
 #![tactic(auto)]
 
 mod compared;
+mod memory;
 mod stacks;
 mod verity;
 mod xts;
@@ -28,12 +29,15 @@ fn main(rt: HostRuntime) -> anyhow::Result<()> {
             "verify",
             &mut Verify::new(alloc, Images::open(&rt, data, hash)?)?,
         ),
+        [_, "memory"] => memory::show(&rt),
         [_, "xts"] => xts::measure(&rt),
         [_, "stacks"] => {
             compare(&rt, "reads of crypt", &mut CryptReads::new(alloc)?)?;
             compare(&rt, "writes of crypt", &mut CryptWrites::new(alloc)?)?;
             compare(&rt, "reads of verity", &mut VerityReads::new(alloc)?)
         }
-        _ => Ok(println!(rt; "digest, area, format DATA HASH, verify DATA HASH, xts, or stacks")?),
+        _ => Ok(println!(rt;
+            "digest, area, format DATA HASH, verify DATA HASH, memory, xts, or stacks"
+        )?),
     }
 }

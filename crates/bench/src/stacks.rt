@@ -1,6 +1,6 @@
 // Pieces of 128 sectors through one line of a stack in memory, beside the raw cipher and the raw digests over as many bytes.
 ghost use Rattle.std.specs.Prelude.{◌≡◌, ◌<◌, ◌≤◌, ◌+◌, ◌∷◌, [], length, IfOk, IfSome};
-ghost use Rattle.stack_loader.specs.Names.{mapped, size};
+ghost use Rattle.stack_rules.specs.Names.{mapped, size};
 
 use crate::compared::Compared;
 use anyhow::{Context, Result, bail};

@@ -77,9 +77,11 @@ pub record IsWritten (old : Device) (first n : ℕ) (ok : Bool) (new : Device) :
   pub before : IsTrue old.steady → take first new.image ≡ take first old.image
   pub after : IsTrue old.steady → drop (first + n) new.image ≡ drop (first + n) old.image
 
--- a device whose writes were put on the medium, or of which that failed
-abbrev pub synced : Device → Bool → Device
-synced old ok = record old { failures = failures_after old ok }
+-- A device whose writes couldn't be put on the medium: it failed, and counted the failure. Nothing else changes, but
+-- that one which was to fail once may be sure from then on.
+pub record IsUnsynced (old new : Device) : Type 0 where
+  pub moved : new ≡ record old { failures = capped (old.failures + 1); never_fails = new.never_fails }
+  pub failed : HasFailed old new
 
 -- a sector whose bytes are all the same
 abbrev pub filled : ℕ → List ℕ

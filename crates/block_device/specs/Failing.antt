@@ -1,7 +1,7 @@
 -- A device whose call of a chosen number fails.
-use Rattle.std.specs.Prelude.{◌≡◌, ℕ, ◌+◌, ◌==◌, ◌&&◌, Bool, List, IsTrue}
+use Rattle.std.specs.Prelude.{◌≡◌, ℕ, ◌+◌, ◌==◌, ◌&&◌, Bool, false, List, IsTrue}
 use Rattle.std.specs.List.{concat}
-use Rattle.block_device.specs.Device.{Device, capped, IsRead, IsWritten, run_of, spliced, sectors_of}
+use Rattle.block_device.specs.Device.{Device, capped, IsRead, IsUnsynced, IsWritten, run_of, spliced, sectors_of}
 
 -- Over an inner device: the number of the call that fails, counted from the next one, and 0 where none does.
 -- What failed calls asked for is counted on top of what the inner device counts.
@@ -23,4 +23,10 @@ pub record IsInnerRead (old : Device) (first n : ℕ) (ok : Bool) (new : Device)
 pub record IsInnerWrite (old : Device) (first n : ℕ) (ok : Bool) (new : Device) (bytes : List ℕ) : Type 0 where
   pub moved : IsWritten old first n ok new
   pub image : IsTrue ok → IsTrue old.steady → new.image ≡ spliced old.image first (sectors_of n bytes)
+  pub sure : IsTrue old.never_fails → IsTrue ok
+
+-- a sync of the inner device
+pub record IsInnerSync (old : Device) (ok : Bool) (new : Device) : Type 0 where
+  pub done : IsTrue ok → new ≡ old
+  pub not_done : ok ≡ false → IsUnsynced old new
   pub sure : IsTrue old.never_fails → IsTrue ok

@@ -1,11 +1,11 @@
 // A device in memory or in a file.
-ghost use Rattle.std.specs.Prelude.{◌≡◌, ◌/◌, length, refl, is_ok, IsOk, IsTrue, OnErr};
+ghost use Rattle.std.specs.Prelude.{◌≡◌, ◌/◌, length, refl, IsOk, IsTrue, OnErr, OnOk};
 ghost use Rattle.block_device.specs.Any.{any_id};
-ghost use Rattle.block_device.specs.Device.{HasFailed, synced};
+ghost use Rattle.block_device.specs.Device.{IsUnsynced};
 ghost use Rattle.block_device.specs.Whole.{whole_bytes, whole_zeros};
 ghost use Rattle.block_device.specs.declared.any.AnyDev.TheVariants.{Memory, File};
 
-use crate::{BlockDev, DeviceFault, FileDev, FileId, MemoryDev};
+use crate::{BlockDev, DeviceFault, FileDev, FileId, MemoryDev, SyncDev};
 
 /// A device in memory or in a file: what it holds decides everything.
 #[derive(Drop)]
@@ -22,19 +22,6 @@ impl AnyDev {
         match self {
             AnyDev::Memory(_) => None,
             AnyDev::File(file) => file.id(),
-        }
-    }
-
-    /// Has all that was written put on the medium; memory has none.
-    pub fn sync(&mut self) -> Result<(), DeviceFault>
-        ensures moved { ⟦<AnyDev as BlockDev>⟧.state self.new ≡ synced (⟦<AnyDev as BlockDev>⟧.state self.old) (is_ok result) }
-        ensures same { any_id self.new ≡ any_id self.old }
-        ensures sure { IsTrue (⟦<AnyDev as BlockDev>⟧.state self.old).never_fails → IsOk result }
-        ensures fault { OnErr result (HasFailed (⟦<AnyDev as BlockDev>⟧.state self.old) (⟦<AnyDev as BlockDev>⟧.state self.new)) }
-    {
-        match self {
-            AnyDev::Memory(_) => Ok(()),
-            AnyDev::File(file) => file.sync(),
         }
     }
 }
@@ -90,6 +77,21 @@ impl BlockDev for AnyDev {
         match self {
             AnyDev::Memory(memory) => memory.failures(),
             AnyDev::File(file) => file.failures(),
+        }
+    }
+}
+
+impl SyncDev for AnyDev {
+    // It stays the file that it is.
+    fn sync(&mut self) -> Result<(), DeviceFault>
+        ensures ok { OnOk result (⟦<AnyDev as BlockDev>⟧.state self.new ≡ ⟦<AnyDev as BlockDev>⟧.state self.old) }
+        ensures err { OnErr result (IsUnsynced (⟦<AnyDev as BlockDev>⟧.state self.old) (⟦<AnyDev as BlockDev>⟧.state self.new)) }
+        ensures sure { IsTrue (⟦<AnyDev as BlockDev>⟧.state self.old).never_fails → IsOk result }
+        ensures same { any_id self.new ≡ any_id self.old }
+    {
+        match self {
+            AnyDev::Memory(memory) => memory.sync(),
+            AnyDev::File(file) => file.sync(),
         }
     }
 }

@@ -1,12 +1,12 @@
 // A device that fails once.
 ghost use Rattle.std.specs.Prelude.{◌≡◌, ◌≢◌, ◌/◌, ◌-◌, length, is_ok, IsTrue, IsOk, IsErr, OnOk, OnErr};
 ghost use Rattle.std.specs.List.{concat};
-ghost use Rattle.block_device.specs.Device.{IsInside, IsRead, IsWritten, HasFailed, capped, run_of, spliced, sectors_of};
-ghost use Rattle.block_device.specs.Failing.{failing, IsInnerRead, IsInnerWrite};
+ghost use Rattle.block_device.specs.Device.{IsInside, IsRead, IsUnsynced, IsWritten, HasFailed, capped, run_of, spliced, sectors_of};
+ghost use Rattle.block_device.specs.Failing.{failing, IsInnerRead, IsInnerSync, IsInnerWrite};
 
-use crate::{BlockDev, DeviceFault};
+use crate::{BlockDev, DeviceFault, SyncDev};
 
-/// One chosen call of read or write fails: it counts one failure and the sectors asked for, and the inner
+/// One chosen call of read, write or sync fails: it counts one failure and the sectors asked for, and the inner
 /// device isn't asked. Every other call is passed on, and does what the trait promises of the inner device. Over
 /// a device that isn't steady no clause says which bytes a read gives: they are the inner device's, which a test
 /// over a script shows.
@@ -113,5 +113,26 @@ impl<D: BlockDev> BlockDev for FailAt<D> {
 
     fn failures(&self) -> u64 {
         self.inner.failures().saturating_add(self.failed_calls)
+    }
+}
+
+impl<D: SyncDev> SyncDev for FailAt<D> {
+    fn sync(&mut self) -> Result<(), DeviceFault>
+        ensures ok { OnOk result (⟦<FailAt<D> as BlockDev>⟧.state self.new ≡ ⟦<FailAt<D> as BlockDev>⟧.state self.old) }
+        ensures err { OnErr result (IsUnsynced (⟦<FailAt<D> as BlockDev>⟧.state self.old) (⟦<FailAt<D> as BlockDev>⟧.state self.new)) }
+        ensures sure { IsTrue (⟦<FailAt<D> as BlockDev>⟧.state self.old).never_fails → IsOk result }
+
+        // As for reads and writes.
+        ensures fails { self.old.calls_to_failure ≡ 1 → IsErr result × (D.state self.new.inner ≡ D.state self.old.inner) }
+        ensures passes { self.old.calls_to_failure ≢ 1 → IsInnerSync (D.state self.old.inner) (is_ok result) (D.state self.new.inner) }
+        ensures calls { self.new.calls_to_failure ≡ self.old.calls_to_failure - 1 }
+    {
+        if self.calls_to_failure == 1 {
+            self.calls_to_failure = 0;
+            self.failed_calls = self.failed_calls.saturating_add(1);
+            return Err(DeviceFault);
+        }
+        self.calls_to_failure = self.calls_to_failure.saturating_sub(1);
+        self.inner.sync()
     }
 }

@@ -1,11 +1,11 @@
 // A device in a file.
-ghost use Rattle.std.specs.Prelude.{◌≡◌, ◌≤◌, ◌^◌, ◌/◌, ◌↔◌, ℕ, false, refl, is_ok, IfOk, IfErr, OnErr, IsTrue, Ok};
+ghost use Rattle.std.specs.Prelude.{◌≡◌, ◌≤◌, ◌^◌, ◌/◌, ◌↔◌, ℕ, false, refl, IfOk, IfErr, IsOk, IsTrue, OnErr, OnOk, Ok};
 ghost use Rattle.std.specs.Fs.{metadata_len, file_type, IsFile};
-ghost use Rattle.block_device.specs.Device.{Device, HasFailed, synced, zeros_image};
+ghost use Rattle.block_device.specs.Device.{Device, IsUnsynced, zeros_image};
 ghost use Rattle.block_device.specs.File.{opened, IsRefused, IsImage, IsBlockDevice};
 ghost use Rattle.block_device.specs.Whole.{whole_zeros};
 
-use crate::{BlockDev, DeviceFault, FileId, OpenFault};
+use crate::{BlockDev, DeviceFault, FileId, OpenFault, SyncDev};
 use std::fs;
 use std::fs::{File, Metadata, OpenFile, OpenOptions};
 use std::io::{Seek, SeekFrom};
@@ -71,21 +71,6 @@ impl FileDev {
         ensures { result ≡ file_id self.now }
     {
         self.id
-    }
-
-    /// Has all that was written put on the medium.
-    pub fn sync(&mut self) -> Result<(), DeviceFault>
-        ensures moved { ⟦<FileDev as BlockDev>⟧.state self.new ≡ synced (⟦<FileDev as BlockDev>⟧.state self.old) (is_ok result) }
-        ensures same { file_id self.new ≡ file_id self.old }
-        ensures fault { OnErr result (HasFailed (⟦<FileDev as BlockDev>⟧.state self.old) (⟦<FileDev as BlockDev>⟧.state self.new)) }
-    {
-        match self.file.sync_all() {
-            Ok(()) => Ok(()),
-            Err(_) => {
-                self.failures = self.failures.saturating_add(1);
-                Err(DeviceFault)
-            }
-        }
     }
 }
 
@@ -188,6 +173,26 @@ impl BlockDev for FileDev {
 
     fn failures(&self) -> u64 {
         self.failures
+    }
+}
+
+impl SyncDev for FileDev {
+    ghost use Rattle.block_device.specs.FileId.{file_id};
+
+    // It stays the file that it is.
+    fn sync(&mut self) -> Result<(), DeviceFault>
+        ensures ok { OnOk result (⟦<FileDev as BlockDev>⟧.state self.new ≡ ⟦<FileDev as BlockDev>⟧.state self.old) }
+        ensures err { OnErr result (IsUnsynced (⟦<FileDev as BlockDev>⟧.state self.old) (⟦<FileDev as BlockDev>⟧.state self.new)) }
+        ensures sure { IsTrue (⟦<FileDev as BlockDev>⟧.state self.old).never_fails → IsOk result }
+        ensures same { file_id self.new ≡ file_id self.old }
+    {
+        match self.file.sync_all() {
+            Ok(()) => Ok(()),
+            Err(_) => {
+                self.failures = self.failures.saturating_add(1);
+                Err(DeviceFault)
+            }
+        }
     }
 }
 

@@ -4,7 +4,7 @@ ghost use Rattle.std.specs.List.{concat, range_with_len};
 ghost use Rattle.block_device.specs.Device.{sectors_of, in_memory, zeros_image, ramp_image, filled};
 ghost use Rattle.block_device.specs.Whole.{whole_bytes};
 
-use crate::{BlockDev, DeviceFault};
+use crate::{BlockDev, DeviceFault, SyncDev};
 use std::alloc::{AllocError, Global};
 
 /// Bytes in memory as sectors, of which a trailing part of a sector isn't seen. It is steady and never
@@ -125,6 +125,13 @@ impl BlockDev for MemoryDev {
 
     fn failures(&self) -> u64 {
         0
+    }
+}
+
+impl SyncDev for MemoryDev {
+    // Memory is all the medium there is.
+    fn sync(&mut self) -> Result<(), DeviceFault> {
+        Ok(())
     }
 }
 

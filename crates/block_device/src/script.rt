@@ -5,7 +5,7 @@ ghost use Rattle.block_device.specs.Device.{IsInside, IsRead, HasFailed, capped,
 ghost use Rattle.block_device.specs.Script.{answer_of};
 ghost use Rattle.block_device.specs.Whole.{whole_zeros};
 
-use crate::{BlockDev, DeviceFault};
+use crate::{BlockDev, DeviceFault, SyncDev};
 use std::marker::Model;
 
 /// Its i-th read gives the i-th answer, cut or filled with zeros to the length asked for, and zeros after
@@ -111,5 +111,11 @@ impl BlockDev for ScriptDev {
 
     fn failures(&self) -> u64 {
         0
+    }
+}
+
+impl SyncDev for ScriptDev {
+    fn sync(&mut self) -> Result<(), DeviceFault> {
+        Ok(())
     }
 }

@@ -2,8 +2,7 @@
 
 ghost use Rattle.std.specs.Prelude.{◌≡◌};
 
-use aes_block::AesKey;
-use aes_lanes::{decrypt_blocks, encrypt_blocks};
+use aes_lanes::LanesKey;
 use std::test::Fail;
 
 const LEN: usize = 528;
@@ -122,20 +121,20 @@ fn blocks_at_the_edges(rt: HostRuntime) -> Result<(), Fail> {
         bytes[i] = i as u8;
     }
     for (i, vector) in VECTORS.iter().enumerate() {
-        let key = AesKey::new(&bytes[..vector.key_len.min(32)]).ok_or("a key was refused")?;
+        let key = LanesKey::new(&bytes[..vector.key_len.min(32)]).ok_or("a key was refused")?;
         let mut blocks = [0u8; LEN];
         for k in 0..LEN {
             blocks[k] = ((7 * k + 3) % 256) as u8 ^ (k / 256) as u8;
         }
         let plain = blocks;
-        encrypt_blocks(&key, &mut blocks);
+        key.encrypt_blocks(&mut blocks);
         let at = 16 * vector.block.min(32);
         assert_eq!(rt;
             &blocks[at..at + 16],
             vector.ciphertext.as_slice(),
             "vector {i}"
         );
-        decrypt_blocks(&key, &mut blocks);
+        key.decrypt_blocks(&mut blocks);
         assert_eq!(rt; blocks.as_slice(), plain.as_slice(), "vector {i} back");
     }
     Ok(())

@@ -3,12 +3,14 @@ use Rattle.std.specs.Prelude.{◌≡◌, ◌≢◌, ℕ, List, [], ◌++◌, cod
 use Rattle.std.specs.Io.KnownBytes.{Appends}
 use Rattle.block_device.specs.declared.open_fault.OpenFault.{OpenFault}
 use Rattle.block_device.specs.declared.open_fault.OpenFault.TheVariants as opening
+use Rattle.command_line.specs.declared.fault.WordsFault.{WordsFault}
+use Rattle.command_line.specs.declared.fault.WordsFault.TheVariants as words
 use Rattle.dm_table.specs.declared.fault.ParseFault.{ParseFault}
 use Rattle.dm_table.specs.declared.fault.ParseFault.TheVariants as parse
-use Rattle.stack_loader.specs.declared.refusal.ConfigFault.{ConfigFault}
-use Rattle.stack_loader.specs.declared.refusal.ConfigFault.TheVariants as config
-use Rattle.stack_loader.specs.declared.refusal.LoadFault.{LoadFault}
-use Rattle.stack_loader.specs.declared.refusal.LoadFault.TheVariants as load
+use Rattle.stack_rules.specs.declared.refusal.ConfigFault.{ConfigFault}
+use Rattle.stack_rules.specs.declared.refusal.ConfigFault.TheVariants as config
+use Rattle.stack_rules.specs.declared.refusal.LoadFault.{LoadFault}
+use Rattle.stack_rules.specs.declared.refusal.LoadFault.TheVariants as load
 use Rattle.stack_engine.specs.declared.fault.IoFault.TheVariants as io
 use Rattle.command_faults.specs.declared.fault.CommandFault.{CommandFault}
 use Rattle.command_faults.specs.declared.fault.CommandFault.TheVariants.{Usage, NoMemory, TooLong, Open, Leaves, Text, Load, Submit, Io, Format, Verify, Differs, Random, Lost, OutputTooSmall, OutputFailed, Session, Service}
@@ -19,10 +21,14 @@ use Rattle.verity_format.specs.declared.verifying.Verdict.{Verdict}
 use Rattle.verity_format.specs.declared.verifying.Verdict.TheVariants as verdicts
 use Rattle.command_faults.specs.VerityTexts.{format_text, verify_text, verdict_text}
 use Rattle.block_device.specs.OpenFault.{open_number, open_name}
-use Rattle.stack_loader.specs.FaultKinds.{config_number, config_name}
+use Rattle.stack_rules.specs.FaultKinds.{config_number, config_name}
 use Rattle.stack_session.specs.Texts.{usage_text, no_memory, fault_text, refusal_text, submit_text, io_text}
 
--- how a command ends where a text has a fault, and where a load is refused
+-- how a command ends where the words are none, where a text has a fault, and where a load is refused
+abbrev pub words_ending : WordsFault → CommandFault
+words_ending words.Usage = Usage
+words_ending words.NoMemory = NoMemory
+
 abbrev pub text_ending : ParseFault → CommandFault
 text_ending (parse.Text fault) = Text fault
 text_ending parse.NoMemory = NoMemory

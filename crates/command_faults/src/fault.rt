@@ -2,9 +2,10 @@
 ghost use Rattle.std.specs.Prelude.{◌≡◌};
 ghost use Rattle.command_faults.specs.declared.fault.CommandFault.TheVariants as command_fault;
 ghost use Rattle.stack_session.specs.declared.fault.SessionFault.TheVariants as session_fault;
-ghost use Rattle.command_faults.specs.Endings.{load_ending, text_ending};
+ghost use Rattle.command_faults.specs.Endings.{load_ending, text_ending, words_ending};
 
 use block_device::OpenFault;
+use command_line::WordsFault;
 use dm_table::{ParseFault, TextFault};
 use nbd_server::ServiceFault;
 use request_queue::SubmitFault;
@@ -68,6 +69,17 @@ impl<T: Drop> From<AllocFailed<T>> for CommandFault<'_> {
 
     fn from(_refused: AllocFailed<T>) -> Self {
         CommandFault::NoMemory
+    }
+}
+
+impl From<WordsFault> for CommandFault<'_> {
+    ghost from_gives = { λ fault given. given ≡ words_ending fault };
+
+    fn from(fault: WordsFault) -> Self {
+        match fault {
+            WordsFault::Usage => CommandFault::Usage,
+            WordsFault::NoMemory => CommandFault::NoMemory,
+        }
     }
 }
 

@@ -1,23 +1,20 @@
--- The arguments of a `crypt` line: too few, within the grammar's limits, printed and read back.
-use Rattle.std.proofs.Common.{◌≡◌, ℕ, ◌<◌, true, eqb, List, [], ◌∷◌, ◌++◌, length, take, codes, Ok, Err, refl, ap, sym, subst, ◌∙◌, inl, inr, arith}
+-- The arguments of a `crypt` line: too few, and within the grammar's limits.
+use Rattle.std.proofs.Common.{◌≡◌, ℕ, ◌<◌, eqb, List, [], ◌∷◌, ◌++◌, length, take, Ok, Err, refl, ap, sym, subst, ◌∙◌, inl, inr, arith}
 use Rattle.std.specs.Prelude.{◌⊎◌}
 use Rattle.std.proofs.lemmas.Bool.{cases_Bool, cond-true, cond-false, eq-eqb, ne_eqb}
 use Rattle.std.proofs.lemmas.List.{take_all, take-append-le}
-use Rattle.hex.specs.Hex.{IsBytes, encode_lower}
-use Rattle.hex.proofs.HexLemmas.{length-encode_with}
-use Rattle.hex.specs.Hex.{lower_digits}
+use Rattle.hex.specs.Hex.{IsBytes}
 use Rattle.dm_table.specs.declared.crypt.Crypt.{Crypt}
 use Rattle.dm_table.specs.declared.fault.TextKind.TheVariants as kinds
 use Rattle.dm_table.specs.Words.{Word}
 use Rattle.dm_table.specs.Reading.{Read}
 use Rattle.dm_table.specs.Arguments.{number_at, base_at, bytes_at}
 use Rattle.dm_table.specs.Options.{options_at}
-use Rattle.dm_table.specs.Crypt.{crypt_options, cipher_at, key_at, crypt_at, crypt_words}
+use Rattle.dm_table.specs.Crypt.{crypt_options, cipher_at, key_at, crypt_at}
 use Rattle.dm_table.specs.Grammar.{IsCryptOfGrammar}
 use Rattle.dm_table.proofs.StepLemmas.{bind_ok, ok_same, number_at-fits, base-grammar}
-use Rattle.dm_table.proofs.PrintedLemmas.{ArePrinted, printed-decimal, printed-device, number_at-decimal, base_at-printed}
-use Rattle.dm_table.proofs.BytesLemmas.{bytes_at-grammar, bytes_at-printed, printed-bytes}
-use Rattle.dm_table.proofs.OptionLemmas.{options-grammar, options-printed, printed-options}
+use Rattle.dm_table.proofs.BytesLemmas.{bytes_at-grammar}
+use Rattle.dm_table.proofs.OptionLemmas.{options-grammar}
 
 pub crypt-few : (words : List Word) → length words < 5 → crypt_at words ≡ Err kinds.ArgCount
 unfolding crypt_at
@@ -63,27 +60,6 @@ crypt-grammar (name ∷ digits ∷ iv ∷ device ∷ offset ∷ params) crypt e 
       options = options-grammar crypt_options params options.0 options.1;
     })
 
-key_at-printed : (key : List ℕ) → (length key ≡ 32) ⊎ (length key ≡ 64) → IsBytes key → key_at (encode_lower key) ≡ Ok key
-unfolding key_at
-key_at-printed key (inl short) each =
-    let twice = length-encode_with lower_digits key in
-    ap (λ n. bytes_at n kinds.Key (encode_lower key)) (cond-false _ 64 32 (ne_eqb (length (encode_lower key)) 128 (λ h. omega (arith, twice, short))))
-    ∙ bytes_at-printed 32 kinds.Key key short each
-key_at-printed key (inr long) each =
-    let twice = length-encode_with lower_digits key in
-    ap (λ n. bytes_at n kinds.Key (encode_lower key)) (cond-true _ 64 32 (eq-eqb (length (encode_lower key)) 128 (omega (arith, twice, long))))
-    ∙ bytes_at-printed 64 kinds.Key key long each
-
--- printed arguments read back
-pub crypt-printed : (crypt : Crypt) → IsCryptOfGrammar crypt → crypt_at (crypt_words true crypt) ≡ Ok crypt
-unfolding crypt_at crypt_words
-crypt-printed crypt h =
-    let key = key_at-printed crypt.key h.key_size h.key_bytes in
-    let first = number_at-decimal crypt.iv_offset h.iv_offset in
-    let base = base_at-printed crypt.base h.base in
-    let options = options-printed crypt_options crypt.options h.options in
-    rw (key, first, base, options) refl
-
 -- a key of 64 bytes, and one of 32
 pub key_at-long : (word : Word) (r : Read (List ℕ)) → length word ≡ 128 → bytes_at 64 kinds.Key word ≡ r → key_at word ≡ r
 unfolding key_at
@@ -95,36 +71,3 @@ key_at-short word r short e = ap (λ n. bytes_at n kinds.Key word) (cond-false _
 
 pub key-front : (bytes rest : List ℕ) → length bytes ≡ 32 → take 32 (bytes ++ rest) ≡ bytes
 key-front bytes rest size = take-append-le 32 bytes rest (omega (arith, size)) ∙ take_all 32 bytes (omega (arith, size))
-
--- each word may stand in a text
-pub printed-crypt : (crypt : Crypt) → IsCryptOfGrammar crypt → ArePrinted (codes "crypt" ∷ crypt_words true crypt)
-unfolding crypt_words
-printed-crypt crypt h = (
-  (omega arith, refl),
-  (
-    (omega arith, refl),
-    (
-      printed-bytes crypt.key (some h.key_size) h.key_bytes,
-      (
-        printed-decimal crypt.iv_offset h.iv_offset,
-        (
-          printed-device crypt.base.device h.base.device,
-          (
-            printed-decimal crypt.base.offset h.base.offset,
-            printed-options crypt_options crypt.options known h.options,
-          ),
-        ),
-      ),
-    ),
-  ),
-)
-  where
-    some : (length crypt.key ≡ 32) ⊎ (length crypt.key ≡ 64) → 0 < length crypt.key
-    some (inl short) = omega (arith, short)
-    some (inr long) = omega (arith, long)
-
-    known : ArePrinted crypt_options
-    known = (
-      (omega arith, refl),
-      ((omega arith, refl), ((omega arith, refl), ((omega arith, refl), ((omega arith, refl), ((omega arith, refl), ((omega arith, refl), ((omega arith, refl), ((omega arith, refl), ((omega arith, refl), tt))))))))),
-    )

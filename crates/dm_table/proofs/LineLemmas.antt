@@ -1,14 +1,15 @@
 -- Lines and targets, fault by fault.
-use Rattle.std.proofs.Common.{◌≡◌, ℕ, ◌*◌, true, false, List, ◌∷◌, length, codes, Ok, Err, ap, ◌∙◌, eqb}
+use Rattle.std.proofs.Common.{◌≡◌, ℕ, ◌*◌, false, List, ◌∷◌, length, codes, Ok, Err, ap, ◌∙◌, eqb}
 use Rattle.std.specs.Str.{bytes_eq}
-use Rattle.std.proofs.lemmas.Bool.{cond-true, cond-false, ne_eqb, eq-eqb}
-use Rattle.dm_table.specs.declared.table.Target.TheVariants.{Striped, Zero, Error}
+use Rattle.std.proofs.lemmas.Bool.{cond-false, ne_eqb}
+use Rattle.dm_table.specs.declared.table.Target.TheVariants.{Striped}
 use Rattle.dm_table.specs.declared.fault.TextKind.{TextKind}
 use Rattle.dm_table.specs.declared.fault.TextKind.TheVariants as kinds
 use Rattle.dm_table.specs.Words.{Word}
 use Rattle.dm_table.specs.Reading.{◌>>=◌}
 use Rattle.dm_table.specs.Arguments.{number_at}
-use Rattle.dm_table.specs.Lines.{linear_at, stripes_at, chunk_at, pairs_at, bases_at, striped_at, bare_at, crypt_target_at, verity_target_at, target_at, line_of}
+use Rattle.dm_table.specs.Lines.{stripes_at, chunk_at, pairs_at, bases_at, striped_at, target_at, line_of}
+use Rattle.dm_table.proofs.lemmas.ReadLineLemmas.{striped-pairs}
 
 -- a striped line at each of its faults
 pub striped-stripes : (count size : Word) (pairs : List Word) (kind : TextKind) → stripes_at count ≡ Err kind → striped_at (count ∷ size ∷ pairs) ≡ Err kind
@@ -22,21 +23,10 @@ striped-chunk count size pairs n kind e f =
     ap (λ r. r >>= (λ n. chunk_at size >>= (λ chunk. pairs_at n pairs >>= (λ bases. Ok (Striped chunk bases))))) e
     ∙ ap (λ r. r >>= (λ chunk. pairs_at n pairs >>= (λ bases. Ok (Striped chunk bases)))) f
 
-pub striped-pairs : (count size : Word) (pairs : List Word) (n chunk : ℕ) → stripes_at count ≡ Ok n → chunk_at size ≡ Ok chunk → striped_at (count ∷ size ∷ pairs) ≡ (pairs_at n pairs >>= (λ bases. Ok (Striped chunk bases)))
-unfolding striped_at
-striped-pairs count size pairs n chunk e f =
-    ap (λ r. r >>= (λ n. chunk_at size >>= (λ chunk. pairs_at n pairs >>= (λ bases. Ok (Striped chunk bases))))) e
-    ∙ ap (λ r. r >>= (λ chunk. pairs_at n pairs >>= (λ bases. Ok (Striped chunk bases)))) f
-
 pub striped-count : (count size : Word) (pairs : List Word) (n chunk : ℕ) → stripes_at count ≡ Ok n → chunk_at size ≡ Ok chunk → (length pairs ≡ 2 * n → ⊥) → striped_at (count ∷ size ∷ pairs) ≡ Err kinds.ArgCount
 striped-count count size pairs n chunk e f ne =
     striped-pairs count size pairs n chunk e f
     ∙ ap (λ r. r >>= (λ bases. Ok (Striped chunk bases))) (cond-false (eqb (length pairs) (2 * n)) (bases_at pairs) (Err kinds.ArgCount) (ne_eqb (length pairs) (2 * n) ne))
-
-pub striped-bases : (count size : Word) (pairs : List Word) (n chunk : ℕ) → stripes_at count ≡ Ok n → chunk_at size ≡ Ok chunk → length pairs ≡ 2 * n → striped_at (count ∷ size ∷ pairs) ≡ (bases_at pairs >>= (λ bases. Ok (Striped chunk bases)))
-striped-bases count size pairs n chunk e f same =
-    striped-pairs count size pairs n chunk e f
-    ∙ ap (λ r. r >>= (λ bases. Ok (Striped chunk bases))) (cond-true (eqb (length pairs) (2 * n)) (bases_at pairs) (Err kinds.ArgCount) (eq-eqb (length pairs) (2 * n) same))
 
 -- a line at each of its faults
 pub line-start : (start count type : Word) (arguments : List Word) (kind : TextKind) → number_at start ≡ Err kind → line_of (start ∷ count ∷ type ∷ arguments) ≡ Err kind
@@ -49,37 +39,6 @@ unfolding line_of
 line-length start count type arguments n kind e f =
     ap (λ r. r >>= (λ first. number_at count >>= (λ sectors. target_at type arguments >>= (λ target. Ok (record { start = first; length = sectors; target = target }))))) e
     ∙ ap (λ r. r >>= (λ sectors. target_at type arguments >>= (λ target. Ok (record { start = n; length = sectors; target = target })))) f
-
-pub line-target : (start count type : Word) (arguments : List Word) (n m : ℕ) → number_at start ≡ Ok n → number_at count ≡ Ok m → line_of (start ∷ count ∷ type ∷ arguments) ≡ (target_at type arguments >>= (λ target. Ok (record { start = n; length = m; target = target })))
-unfolding line_of
-line-target start count type arguments n m e f =
-    ap (λ r. r >>= (λ first. number_at count >>= (λ sectors. target_at type arguments >>= (λ target. Ok (record { start = first; length = sectors; target = target }))))) e
-    ∙ ap (λ r. r >>= (λ sectors. target_at type arguments >>= (λ target. Ok (record { start = n; length = sectors; target = target })))) f
-
--- the types of targets, each behind those before it
-pub target-linear : (type : Word) (arguments : List Word) → bytes_eq type (codes "linear") ≡ true → target_at type arguments ≡ linear_at arguments
-unfolding target_at
-target-linear type arguments linear = cond-true _ _ _ linear
-
-pub target-striped : (type : Word) (arguments : List Word) → bytes_eq type (codes "linear") ≡ false → bytes_eq type (codes "striped") ≡ true → target_at type arguments ≡ striped_at arguments
-unfolding target_at
-target-striped type arguments linear striped = cond-false _ _ _ linear ∙ cond-true _ _ _ striped
-
-pub target-zero : (type : Word) (arguments : List Word) → bytes_eq type (codes "linear") ≡ false → bytes_eq type (codes "striped") ≡ false → bytes_eq type (codes "zero") ≡ true → target_at type arguments ≡ bare_at Zero arguments
-unfolding target_at
-target-zero type arguments linear striped zeros = cond-false _ _ _ linear ∙ cond-false _ _ _ striped ∙ cond-true _ _ _ zeros
-
-pub target-error : (type : Word) (arguments : List Word) → bytes_eq type (codes "linear") ≡ false → bytes_eq type (codes "striped") ≡ false → bytes_eq type (codes "zero") ≡ false → bytes_eq type (codes "error") ≡ true → target_at type arguments ≡ bare_at Error arguments
-unfolding target_at
-target-error type arguments linear striped zeros errors = cond-false _ _ _ linear ∙ cond-false _ _ _ striped ∙ cond-false _ _ _ zeros ∙ cond-true _ _ _ errors
-
-pub target-crypt : (type : Word) (arguments : List Word) → bytes_eq type (codes "linear") ≡ false → bytes_eq type (codes "striped") ≡ false → bytes_eq type (codes "zero") ≡ false → bytes_eq type (codes "error") ≡ false → bytes_eq type (codes "crypt") ≡ true → target_at type arguments ≡ crypt_target_at arguments
-unfolding target_at
-target-crypt type arguments linear striped zeros errors crypt = cond-false _ _ _ linear ∙ cond-false _ _ _ striped ∙ cond-false _ _ _ zeros ∙ cond-false _ _ _ errors ∙ cond-true _ _ _ crypt
-
-pub target-verity : (type : Word) (arguments : List Word) → bytes_eq type (codes "linear") ≡ false → bytes_eq type (codes "striped") ≡ false → bytes_eq type (codes "zero") ≡ false → bytes_eq type (codes "error") ≡ false → bytes_eq type (codes "crypt") ≡ false → bytes_eq type (codes "verity") ≡ true → target_at type arguments ≡ verity_target_at arguments
-unfolding target_at
-target-verity type arguments linear striped zeros errors crypt verity = cond-false _ _ _ linear ∙ cond-false _ _ _ striped ∙ cond-false _ _ _ zeros ∙ cond-false _ _ _ errors ∙ cond-false _ _ _ crypt ∙ cond-true _ _ _ verity
 
 pub target-other : (type : Word) (arguments : List Word) → bytes_eq type (codes "linear") ≡ false → bytes_eq type (codes "striped") ≡ false → bytes_eq type (codes "zero") ≡ false → bytes_eq type (codes "error") ≡ false → bytes_eq type (codes "crypt") ≡ false → bytes_eq type (codes "verity") ≡ false → target_at type arguments ≡ Err kinds.Target
 unfolding target_at

@@ -1,18 +1,13 @@
 -- Numbers: when a word is one, and a digit more.
-use Rattle.std.proofs.Common.{◌≡◌, ℕ, ◌+◌, ◌-◌, ◌*◌, ◌^◌, ◌<◌, ◌≤◌, Bool, true, false, ◌&&◌, ltb, List, [], ◌∷◌, length, drop, get_or, Some, None, refl, ap, ◌∙◌, arith, le_refl, le_trans}
+use Rattle.std.proofs.Common.{◌≡◌, ℕ, ◌+◌, ◌-◌, ◌*◌, ◌^◌, ◌<◌, ◌≤◌, Bool, true, false, ◌&&◌, ltb, List, [], ◌∷◌, length, drop, get_or, None, refl, ap, ◌∙◌, arith, le_refl, le_trans}
 use Rattle.std.specs.List.{list_all}
 use Rattle.std.specs.Char.{is_ascii_digit, digit_value}
 use Rattle.std.specs.Str.Parse.{digits_value, digits_value_after}
-use Rattle.std.proofs.lemmas.Bool.{cond-false, lt-ltb, le-ltb}
+use Rattle.std.proofs.lemmas.Bool.{cond-false, le-ltb}
 use Rattle.std.proofs.lemmas.Bool.Decides.{nat_tests}
 use Rattle.std.proofs.lemmas.List.{at_drop_more}
 use Rattle.std.proofs.lemmas.Grind.{common_steps}
 use Rattle.dm_table.specs.Numbers.{number}
-
--- the three facts by which a word is a number
-pub number-some : (word : List ℕ) → 0 < length word → list_all is_ascii_digit word ≡ true → digits_value 10 word < 2 ^ 64 → number word ≡ Some (digits_value 10 word)
-unfolding number
-number-some word some digits fits = rw (lt-ltb 0 (length word) some, digits, lt-ltb (digits_value 10 word) (2 ^ 64) fits) refl
 
 middle_false : (a c : Bool) → (a && false) && c ≡ false
 middle_false true c = refl

@@ -1,17 +1,16 @@
 -- Options: one more that is known and new, and the first that is not.
-use Rattle.std.proofs.Common.{◌≡◌, ℕ, Bool, true, false, not, ◌&&◌, ◌||◌, eqb, List, [], ◌∷◌, ◌++◌, length, map, decimal, Ok, Err, refl, ap, sym, subst, ◌∙◌, inl, inr, arith}
+use Rattle.std.proofs.Common.{◌≡◌, ℕ, Bool, true, false, not, ◌&&◌, ◌||◌, eqb, List, [], ◌∷◌, ◌++◌, length, map, Ok, Err, refl, ap, sym, subst, ◌∙◌, inl, inr, arith}
 use Rattle.std.specs.List.{list_any}
 use Rattle.std.specs.Str.{bytes_eq}
-use Rattle.std.proofs.lemmas.Bool.{cases_Bool, cond-true, cond-false, and_parts, and_from, eq-eqb, eqb-true, ne_eqb}
+use Rattle.std.proofs.lemmas.Bool.{cases_Bool, cond-false, and_parts, and_from, eqb-true, ne_eqb}
 use Rattle.std.proofs.lemmas.List.Folds.{list_any-append}
 use Rattle.std.proofs.lemmas.Slice.Eq.{bytes_eq-Decides}
 use Rattle.dm_table.specs.declared.fault.TextKind.TheVariants as kinds
 use Rattle.dm_table.specs.Words.{Word}
 use Rattle.dm_table.specs.Reading.{◌>>=◌}
 use Rattle.dm_table.specs.Arguments.{number_at}
-use Rattle.dm_table.specs.Options.{is_one_of, option_name, has_name_of, are_options, known_at, counted_at, options_at, options_words, AreOptionsOfGrammar}
+use Rattle.dm_table.specs.Options.{is_one_of, option_name, has_name_of, are_options, known_at, counted_at, options_at, AreOptionsOfGrammar}
 use Rattle.dm_table.proofs.StepLemmas.{bind_ok, ok_same, chosen, number_at-fits}
-use Rattle.dm_table.proofs.PrintedLemmas.{IsPrinted, ArePrinted, printed-decimal, number_at-decimal}
 
 pub list_any-map : {X Y : Type 0} (p : Y → Bool) (f : X → Y) (xs : List X) → list_any p (map f xs) ≡ list_any (λ x. p (f x)) xs
 list_any-map p f [] = refl
@@ -87,18 +86,10 @@ options-push known (b ∷ before) word all e =
     neither true t h = cc
     neither false t h = (refl, none h)
 
-pub known_at-ok : (known words : List Word) → are_options known words ≡ true → known_at known words ≡ Ok words
-unfolding known_at
-known_at-ok known words all = cond-true _ _ _ all
-
 -- options that are counted
 pub options-count : (known : List Word) (count : Word) (words : List Word) (n : ℕ) → number_at count ≡ Ok n → (length words ≡ n → ⊥) → options_at known (count ∷ words) ≡ Err kinds.ArgCount
 unfolding options_at
 options-count known count words n e ne = ap (λ r. r >>= (λ n. counted_at known n words)) e ∙ cond-false _ _ _ (ne_eqb (length words) n ne)
-
-pub options-known : (known : List Word) (count : Word) (words : List Word) (n : ℕ) → number_at count ≡ Ok n → length words ≡ n → options_at known (count ∷ words) ≡ known_at known words
-unfolding options_at
-options-known known count words n e same = ap (λ r. r >>= (λ n. counted_at known n words)) e ∙ cond-true _ _ _ (eq-eqb (length words) n same)
 
 -- what was read keeps to the grammar's limits
 pub options-grammar : (known arguments options : List Word) → options_at known arguments ≡ Ok options → AreOptionsOfGrammar known options
@@ -111,37 +102,3 @@ options-grammar known (count ∷ words) options e =
     let fits = number_at-fits count n.0 n.1 in
     let same = eqb-true (length words) n.0 counted.0 in
     subst (AreOptionsOfGrammar known) (ok_same words options all.1) (record { each = all.0; count = omega (arith, fits, same) })
-
--- printed options read back
-pub options-printed : (known options : List Word) → AreOptionsOfGrammar known options → options_at known (options_words options) ≡ Ok options
-unfolding options_at
-options-printed known [] h = refl
-options-printed known (word ∷ more) h =
-    options-known known (decimal (length (word ∷ more))) (word ∷ more) (length (word ∷ more)) (number_at-decimal (length (word ∷ more)) h.count) refl
-    ∙ known_at-ok known (word ∷ more) h.each
-
-one_of-printed : (known : List Word) (word : Word) → ArePrinted known → is_one_of word known ≡ true → IsPrinted word
-one_of-printed [] word h e = cc
-one_of-printed (k ∷ known) word h e = elim (cases_Bool (bytes_eq k word)) [
-  | inl same ↦ subst IsPrinted ((bytes_eq-Decides k word).0 same) h.0
-  | inr other ↦ one_of-printed known word h.1 (sym (ap (λ t. t || is_one_of word known) other) ∙ e)
-]
-
-known-printed : (known words : List Word) → ArePrinted known → are_options known words ≡ true → ArePrinted words
-known-printed known [] h e = tt
-known-printed known (word ∷ more) h e =
-    let parts = and_parts (is_one_of word known && not (has_name_of word more)) _ e in
-    (one_of-printed known word h (and_parts (is_one_of word known) _ parts.0).0, known-printed known more h parts.1)
-
-pub printed-options : (known options : List Word) → ArePrinted known → AreOptionsOfGrammar known options → ArePrinted (options_words options)
-printed-options known [] h g = tt
-printed-options known (word ∷ more) h g = (printed-decimal (length (word ∷ more)) g.count, known-printed known (word ∷ more) h g.each)
-
--- the count stands before some options
-pub options_words-some : (options : List Word) → (length options ≡ 0 → ⊥) → options_words options ≡ decimal (length options) ∷ options
-options_words-some [] some = absurd (some refl)
-options_words-some (word ∷ more) some = refl
-
-pub options_words-none : (options : List Word) → length options ≡ 0 → options_words options ≡ []
-options_words-none [] none = refl
-options_words-none (word ∷ more) none = absurd (omega arith)

@@ -8,11 +8,10 @@ use Rattle.std.proofs.lemmas.List.Sums.{count_by-le-length}
 use Rattle.dm_table.specs.declared.table.Line.{Line}
 use Rattle.dm_table.specs.declared.fault.TextKind.{TextKind}
 use Rattle.dm_table.specs.declared.fault.TextKind.TheVariants as kinds
-use Rattle.dm_table.specs.Words.{is_white, is_text, words, trimmed_text, lines_of, entries_of, fields_of}
+use Rattle.dm_table.specs.Words.{is_white, is_text, trimmed_text, entries_of, fields_of}
 use Rattle.dm_table.specs.Names.{is_mapped_name}
 use Rattle.dm_table.specs.Reading.{Read, ◌>>=◌, at_place}
-use Rattle.dm_table.specs.Lines.{line_of}
-use Rattle.dm_table.specs.TableText.{is_skipped, table_lines, some_lines, table_of}
+use Rattle.dm_table.specs.TableText.{some_lines, table_of}
 use Rattle.dm_table.specs.StackText.{name_at, minor_at, is_minor, flags_at, entry_lines, Head, head_of, entry_of, entries_from, stack_of}
 use Rattle.dm_table.proofs.StepLemmas.{bind_ok}
 
@@ -98,14 +97,6 @@ pub table-not_text : (text : List ℕ) → is_text text ≡ false → table_of t
 unfolding table_of
 table-not_text text other = cond-true (not (is_text text)) _ _ (ap not other)
 
-pub table-lines : (text : List ℕ) → is_text text ≡ true → table_of text ≡ (table_lines 1 (lines_of text) >>= some_lines)
-unfolding table_of
-table-lines text good = cond-false (not (is_text text)) _ _ (ap not good)
-
-pub table_lines-full : (n : ℕ) (text : List ℕ) (more : List (List ℕ)) → is_skipped (words text) ≡ false
-    → table_lines n (text ∷ more) ≡ (at_place 0 n (line_of (words text)) >>= (λ line. table_lines (n + 1) more >>= (λ lines. Ok (line ∷ lines))))
-table_lines-full n text more full = cond-false (is_skipped (words text)) _ _ full
-
 -- how many pieces a text has, and how long they are
 pub length-pieces : (p : ℕ → Bool) (text : List ℕ) → length (slice_split p text) ≤ length text + 1
 length-pieces p text = omega (arith, length-slice_split p text, count_by-le-length p text)
@@ -134,7 +125,3 @@ All-pieces p (x ∷ text) = elim (cases_Bool (p x)) [
 pub some_lines-none : (lines : List Line) → length lines ≡ 0 → some_lines lines ≡ Err (record { entry = 0; line = 0; kind = kinds.Fields })
 some_lines-none [] none = refl
 some_lines-none (line ∷ more) none = absurd (omega arith)
-
-pub some_lines-some : (lines : List Line) → (length lines ≡ 0 → ⊥) → some_lines lines ≡ Ok lines
-some_lines-some [] some = absurd (some refl)
-some_lines-some (line ∷ more) some = refl

@@ -1,11 +1,11 @@
 -- Worked texts: what they say, or their first fault.
 use Rattle.std.proofs.Common.{◌≡◌, ℕ, Bool, List, [], ◌∷◌, ◌++◌, replicate, refl, codes, true, false, Ok, Err, Result}
-use Rattle.hex.specs.Hex.{decode_pairs, encode_with}
+use Rattle.hex.specs.Hex.{decode_pairs}
 use Rattle.dm_table.specs.declared.crypt.Crypt.{Crypt}
 use Rattle.dm_table.specs.declared.table.Base.{Base}
 use Rattle.dm_table.specs.declared.table.Line.{Line}
 use Rattle.dm_table.specs.declared.table.Target.{Target}
-use Rattle.dm_table.specs.declared.table.Target.TheVariants.{Linear, Striped, Zero, Error, Crypt as crypt_target, Verity as verity_target}
+use Rattle.dm_table.specs.declared.table.Target.TheVariants.{Linear, Striped, Zero, Crypt as crypt_target, Verity as verity_target}
 use Rattle.dm_table.specs.declared.stack.Entry.{Entry}
 use Rattle.dm_table.specs.declared.fault.TextFault.{TextFault}
 use Rattle.dm_table.specs.declared.fault.TextKind.{TextKind}
@@ -15,13 +15,11 @@ use Rattle.dm_table.specs.Numbers.{number}
 use Rattle.dm_table.specs.Names.{is_mapped_name, is_device}
 use Rattle.dm_table.specs.Arguments.{base_at, bytes_at}
 use Rattle.dm_table.specs.Options.{option_name, options_at, known_at}
-use Rattle.dm_table.specs.Crypt.{sector_size, iv_large_sectors, key_at, crypt_at, crypt_words}
-use Rattle.dm_table.specs.Verity.{salt_at, verity_at, verity_words}
+use Rattle.dm_table.specs.Crypt.{sector_size, iv_large_sectors, key_at, crypt_at}
+use Rattle.dm_table.specs.Verity.{salt_at, verity_at}
 use Rattle.dm_table.specs.Lines.{linear_at, striped_at, bare_at, crypt_target_at, verity_target_at, target_at, line_of}
 use Rattle.dm_table.specs.TableText.{table_of}
 use Rattle.dm_table.specs.StackText.{head_of, entry_of, stack_of}
-use Rattle.dm_table.specs.Print.{target_words, line_text, table_text}
-use Rattle.std.specs.Fmt.{digits}
 
 abbrev base : List ℕ → ℕ → Base
 base name sector = record { device = name; offset = sector }
@@ -63,12 +61,6 @@ tables : (table_of (codes "# x" ++ 10 ∷ 10 ∷ codes "0 08 linear D 02") ≡ O
     × (table_of [] ≡ Err (record { entry = 0; line = 0; kind = kinds.Fields }))
 unfolding table_of lines_of words number is_device line_of target_at linear_at striped_at bare_at base_at
 tables = (refl, refl, refl)
-
--- a printed table
-printed : table_text false (line 0 8 (Linear (base (codes "D") 2)) ∷ line 8 32 (Striped 8 (base (codes "A") 0 ∷ base (codes "/dev/mapper/b") 16 ∷ [])) ∷ line 40 1 Error ∷ line 41 1 Zero ∷ [])
-    ≡ codes "0 8 linear D 2\n8 32 striped 2 8 A 0 /dev/mapper/b 16\n40 1 error\n41 1 zero\n"
-unfolding digits line_text target_words
-printed = refl
 
 -- a `crypt` line, its key in digits of either case
 abbrev crypt_line : List (List ℕ) → Line
@@ -142,11 +134,3 @@ verity_faults : (table_of (codes "0 8 verity 2 a,b a,b x x x x x x") ≡ first_f
     × (table_of (codes "0 8 verity 1 D t 4096 512 1 3 sha256 abABabABabABabABabABabABabABabABabABabABabABabABabABabABabABabAB - 1 x") ≡ first_fault kinds.Option)
 unfolding table_of lines_of words number is_mapped_name is_device line_of target_at verity_target_at verity_at salt_at bytes_at decode_pairs options_at known_at
 verity_faults = (refl, refl, refl, refl, refl, refl, refl, refl, refl, refl, refl, refl, refl, refl)
-
--- lines printed with the key, and with zeros in place of it
-printed_keys : (table_text true (crypt_line (codes "allow_discards" ∷ []) ∷ []) ≡ codes "0 8 crypt aes-xts-plain64 0a0a0a0a0a0a0a0a0a0a0a0a0a0a0a0ab1b1b1b1b1b1b1b1b1b1b1b1b1b1b1b1 7 D 16 1 allow_discards\n")
-    × (table_text false (crypt_line [] ∷ []) ≡ codes "0 8 crypt aes-xts-plain64 0000000000000000000000000000000000000000000000000000000000000000 7 D 16\n")
-    × (table_text false (verity_line [] false ∷ []) ≡ codes "0 8 verity 1 D /dev/mapper/t 4096 512 1 3 sha256 abababababababababababababababababababababababababababababababab -\n")
-    × (table_text false (verity_line (10 ∷ 11 ∷ []) true ∷ []) ≡ codes "0 8 verity 1 D /dev/mapper/t 4096 512 1 3 sha256 abababababababababababababababababababababababababababababababab 0a0b 1 ignore_zero_blocks\n")
-unfolding digits line_text target_words crypt_words verity_words encode_with
-printed_keys = (refl, refl, refl, refl)

@@ -1,4 +1,3 @@
 -- What callers may cite.
-pub mod KeyLemmas
-pub mod ReadBackLemmas
+pub mod ReadLineLemmas
 pub mod SectorSizeLemmas

@@ -1,13 +1,12 @@
 -- The arguments of a `crypt` line, as the kernel's dm-crypt page lists them.
-use Rattle.std.specs.Prelude.{ℕ, ◌*◌, Bool, ◌==◌, if◌then◌else◌, List, [], ◌∷◌, length, replicate, codes, decimal, Ok, Err}
+use Rattle.std.specs.Prelude.{ℕ, Bool, ◌==◌, if◌then◌else◌, List, [], ◌∷◌, length, codes, Ok, Err}
 use Rattle.std.specs.Str.{bytes_eq}
-use Rattle.hex.specs.Hex.{encode_lower}
 use Rattle.dm_table.specs.declared.crypt.Crypt.{Crypt}
 use Rattle.dm_table.specs.declared.fault.TextKind.TheVariants as kinds
 use Rattle.dm_table.specs.Words.{Word}
 use Rattle.dm_table.specs.Reading.{Read, ◌>>=◌}
 use Rattle.dm_table.specs.Arguments.{number_at, base_at, bytes_at}
-use Rattle.dm_table.specs.Options.{is_one_of, options_at, options_words}
+use Rattle.dm_table.specs.Options.{is_one_of, options_at}
 
 -- options on queues and discards, the size of a unit, and how units are numbered
 abbrev pub crypt_options : List Word
@@ -48,12 +47,3 @@ crypt_at (name ∷ digits ∷ iv ∷ device ∷ offset ∷ params) = do
   options ← options_at crypt_options params
   Ok (record { key = key; iv_offset = first; base = base; options = options })
 crypt_at words = Err kinds.ArgCount
-
--- a key's digits, or so many zeros
-abbrev pub key_word : Bool → List ℕ → Word
-key_word show key = if show then encode_lower key else replicate (2 * length key) 48
-
--- the arguments as they are printed
-unfoldable pub crypt_words : Bool → Crypt → List Word
-crypt_words show crypt =
-    cipher ∷ key_word show crypt.key ∷ decimal crypt.iv_offset ∷ crypt.base.device ∷ decimal crypt.base.offset ∷ options_words crypt.options

@@ -11,5 +11,3 @@ pub mod Lines
 pub mod Grammar
 pub mod TableText
 pub mod StackText
-pub mod Print
-pub mod Keys

@@ -1,5 +1,5 @@
 -- Optional arguments at the end of a target's arguments.
-use Rattle.std.specs.Prelude.{ℕ, ◌^◌, ◌<◌, Bool, true, not, ◌&&◌, ◌==◌, if◌then◌else◌, IsTrue, List, [], ◌∷◌, length, take, decimal, Ok, Err}
+use Rattle.std.specs.Prelude.{ℕ, ◌^◌, ◌<◌, Bool, true, not, ◌&&◌, ◌==◌, if◌then◌else◌, IsTrue, List, [], ◌∷◌, length, take, Ok, Err}
 use Rattle.std.specs.List.{list_any, position_or_len}
 use Rattle.std.specs.Str.{bytes_eq}
 use Rattle.dm_table.specs.declared.fault.TextKind.TheVariants as kinds
@@ -38,11 +38,6 @@ options_at known [] = Ok []
 options_at known (count ∷ words) = do
   n ← number_at count
   counted_at known n words
-
--- options behind their count, and no count where there is none
-abbrev pub options_words : List Word → List Word
-options_words [] = []
-options_words (word ∷ more) = decimal (length (word ∷ more)) ∷ word ∷ more
 
 -- what holds of options that were read
 pub record AreOptionsOfGrammar (known options : List Word) : Type 0 where

@@ -1,7 +1,6 @@
 -- The arguments of a `verity` line, as the kernel's dm-verity page lists them.
-use Rattle.std.specs.Prelude.{ℕ, ◌/◌, Bool, true, false, ◌&&◌, ◌==◌, nat_le, if◌then◌else◌, List, [], ◌∷◌, length, codes, decimal, Ok, Err, ok_or}
+use Rattle.std.specs.Prelude.{ℕ, ◌/◌, Bool, true, false, ◌&&◌, ◌==◌, nat_le, if◌then◌else◌, List, [], ◌∷◌, length, codes, Ok, Err, ok_or}
 use Rattle.std.specs.Str.{bytes_eq}
-use Rattle.hex.specs.Hex.{encode_lower}
 use Rattle.hash_tree.specs.Shape.{is_block_size}
 use Rattle.dm_table.specs.declared.verity.Verity.{Verity}
 use Rattle.dm_table.specs.declared.fault.TextKind.TheVariants as kinds
@@ -9,7 +8,7 @@ use Rattle.dm_table.specs.Words.{Word}
 use Rattle.dm_table.specs.Numbers.{number, number_if}
 use Rattle.dm_table.specs.Reading.{Read, ◌>>=◌}
 use Rattle.dm_table.specs.Arguments.{device_at, number_at, bytes_at}
-use Rattle.dm_table.specs.Options.{is_one_of, options_at, options_words}
+use Rattle.dm_table.specs.Options.{is_one_of, options_at}
 
 -- hash format 1
 abbrev pub version_at : Word → Read ℕ
@@ -58,14 +57,3 @@ verity_at (version ∷ dev ∷ hash_dev ∷ data_size ∷ hash_size ∷ count �
   options ← options_at (verity_options true) params
   Ok (record { «data» = below; hash = hash; data_block = data_block; hash_block = hash_block; blocks = blocks; start = start; root = root; salt = salt; ignore_zero_blocks = is_one_of ignore_zero_blocks options })
 verity_at words = Err kinds.ArgCount
-
--- a salt's digits, or `-` where it is empty
-abbrev pub salt_word : List ℕ → Word
-salt_word [] = codes "-"
-salt_word (byte ∷ more) = encode_lower (byte ∷ more)
-
--- the arguments as they are printed
-unfoldable pub verity_words : Verity → List Word
-verity_words verity =
-    codes "1" ∷ verity.data ∷ verity.hash ∷ decimal verity.data_block ∷ decimal verity.hash_block ∷ decimal verity.blocks ∷ decimal verity.start
-    ∷ codes "sha256" ∷ encode_lower verity.root ∷ salt_word verity.salt ∷ options_words (verity_options verity.ignore_zero_blocks)

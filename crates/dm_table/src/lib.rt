@@ -1,4 +1,4 @@
-//! Device-mapper tables and stack texts: read from their texts, and tables printed.
+//! Device-mapper tables and stack texts, read from their texts.
 #![tactic(auto)]
 
 mod crypt;
@@ -11,10 +11,6 @@ mod name;
 mod numbers;
 mod option_words;
 mod options;
-mod print;
-mod print_crypt;
-mod print_options;
-mod print_verity;
 mod stack;
 mod stack_text;
 mod table;
@@ -29,7 +25,6 @@ pub use crate::fault::{ParseFault, TextFault, TextKind};
 pub use crate::name::is_device;
 pub use crate::numbers::number;
 pub use crate::options::Options;
-pub use crate::print::print_table;
 pub use crate::stack::{Entry, StackText};
 pub use crate::stack_text::parse_stack;
 pub use crate::table::{Base, Bases, Line, Name, Table, Target};

@@ -1,6 +1,5 @@
 //! The arguments of a `verity` line, read.
 ghost use Rattle.std.specs.Prelude.{◌≡◌, ◌/◌, ◌<◌, ◌≤◌, ◌∷◌, length, MatchResult};
-ghost use Rattle.hash_tree.specs.Shape.{is_block_size};
 ghost use Rattle.dm_table.specs.declared.fault.TextKind.TheVariants as kinds;
 ghost use Rattle.dm_table.specs.Reading.{IsReading};
 ghost use Rattle.dm_table.specs.Arguments.{bytes_at, device_at};
@@ -14,7 +13,7 @@ use crate::numbers::{number, read_number};
 use crate::option_words::{is_kept, read_options};
 use crate::table::Name;
 use crate::verity::Verity;
-use hash_tree::Salt;
+use hash_tree::{Salt, is_block_size};
 use std::alloc::Global;
 
 /// Two for each of 256 bytes.
@@ -120,15 +119,9 @@ fn read_block_size(word: &[u8]) -> Result<u32, TextKind>
     ensures { result ≡ block_size_at word.now }
 {
     match number(word) {
-        Some(size) if is_block_size(size) => Ok(size as u32),
+        Some(size) if size <= 4096 && is_block_size(size as u32) => Ok(size as u32),
         _ => Err(TextKind::BlockSize),
     }
-}
-
-fn is_block_size(size: u64) -> bool
-    ensures { result ≡ is_block_size size }
-{
-    size == 512 || size == 1024 || size == 2048 || size == 4096
 }
 
 fn check_algorithm(word: &[u8]) -> Result<(), TextKind>

@@ -43,7 +43,6 @@ impl Model for Level {
 /// A tree under construction: it takes the data blocks' digests in order, and has one block of each level.
 #[derive(Drop)]
 pub struct LevelBuilder {
-    alloc: Global,
     hash_block: usize,
     salt: Salt,
     left: u64,
@@ -79,7 +78,6 @@ impl LevelBuilder {
         let hash_block = shape.hash_block() as usize;
         let left = shape.blocks();
         Ok(LevelBuilder {
-            alloc,
             hash_block,
             salt,
             left,
@@ -109,7 +107,6 @@ impl LevelBuilder {
             return Err(AllocError);
         }
         match rise(
-            self.alloc,
             self.hash_block,
             &self.salt,
             &mut self.levels,
@@ -162,7 +159,6 @@ impl LevelBuilder {
         }
         let mut levels = self.levels;
         close_up(
-            self.alloc,
             self.hash_block,
             &self.salt,
             &mut levels,
@@ -191,7 +187,6 @@ fn begun_levels(alloc: Global, shape: &Shape) -> Result<Vec<Level>, AllocError>
 
 /// A digest comes to the lowest of these levels; a full block is put out, and its digest comes to the next level.
 fn rise(
-    alloc: Global,
     hash_block: usize,
     salt: &Salt,
     levels: &mut [Level],
@@ -213,17 +208,17 @@ fn rise(
     if level.bytes.len() < hash_block {
         return Ok(());
     }
+    let alloc = *out.allocator();
     let bytes = mem::replace(&mut level.bytes, Vec::new(alloc));
     let next = digest(salt, &bytes);
     let block = level.next;
     level.next += 1;
     out.push(Placed { block, bytes })?;
-    rise(alloc, hash_block, salt, above, root, next, out)
+    rise(hash_block, salt, above, root, next, out)
 }
 
 /// What is begun on these levels is put out, filled with zeros; gives the root.
 fn close_up(
-    alloc: Global,
     hash_block: usize,
     salt: &Salt,
     levels: &mut [Level],
@@ -238,10 +233,11 @@ fn close_up(
     let Some((level, above)) = levels.split_first_mut() else {
         return Ok(coming.unwrap_or(root));
     };
+    let alloc = *out.allocator();
     let mut bytes = mem::replace(&mut level.bytes, Vec::new(alloc));
     extend(&mut bytes, coming, hash_block)?;
     if bytes.is_empty() {
-        return close_up(alloc, hash_block, salt, above, root, None, out);
+        return close_up(hash_block, salt, above, root, None, out);
     }
     fill(&mut bytes, hash_block)?;
     let next = digest(salt, &bytes);
@@ -249,7 +245,7 @@ fn close_up(
         block: level.next,
         bytes,
     })?;
-    close_up(alloc, hash_block, salt, above, root, Some(next), out)
+    close_up(hash_block, salt, above, root, Some(next), out)
 }
 
 /// A digest behind a block's bytes; the first one takes the memory for the whole block.

@@ -16,4 +16,4 @@ pub use chain::Chain;
 pub use difference::{Place, collide};
 pub use packing::area;
 pub use salt::Salt;
-pub use shape::{Shape, ShapeFault};
+pub use shape::{Shape, ShapeFault, is_block_size};

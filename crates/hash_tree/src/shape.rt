@@ -213,7 +213,8 @@ impl Shape {
     }
 }
 
-fn is_block_size(size: u32) -> bool
+/// Whether blocks may have that many bytes: 512, 1024, 2048 or 4096.
+pub fn is_block_size(size: u32) -> bool
     ensures { result ≡ is_block_size size }
 {
     size == 512 || size == 1024 || size == 2048 || size == 4096

@@ -13,7 +13,7 @@ use Rattle.command_faults.specs.declared.fault.CommandFault.TheVariants.{Format,
 use Rattle.command_faults.specs.Endings.{IsComparisonEnd, IsVerifyEnd}
 use Rattle.command_faults.specs.Opened.{IsOpened, IsUnopened}
 use Rattle.image_commands.specs.declared.format.MadeImage.{MadeImage}
-use Rattle.image_commands.specs.declared.options.ImageOptions.{ImageOptions}
+use Rattle.command_line.specs.declared.image_options.ImageOptions.{ImageOptions}
 use Rattle.image_commands.specs.Formats.{IsFormatEnd, IsMade, made_text}
 use Rattle.image_commands.specs.SuperblockTexts.{SaysSuperblock}
 

@@ -9,11 +9,11 @@ ghost use Rattle.command_faults.specs.Opened.{IsOpened, IsUnopened};
 ghost use Rattle.image_commands.specs.Formats.{IsFormatEnd, IsMade, made_text};
 ghost use Rattle.image_commands.specs.ImageCommands.{AreGiven, IsFormatFilesEnd, PrintsMade};
 
-use crate::options::ImageOptions;
 use crate::random::draw;
 use crate::superblock_text::{say_blocks, say_root, say_salt, say_uuid};
-use block_device::{BlockDev, FileDev, OpenFault};
+use block_device::{BlockDev, FileDev, OpenFault, SyncDev};
 use command_faults::{CommandFault, is_one_file, open_file};
+use command_line::ImageOptions;
 use hash_tree::Salt;
 use rand::make_rng;
 use rand::rngs::StdRng;

@@ -3,7 +3,6 @@
 
 mod dump;
 mod format;
-mod options;
 mod random;
 mod superblock_text;
 mod table;
@@ -11,7 +10,6 @@ mod verify;
 
 pub use dump::dump_file;
 pub use format::format_files;
-pub use options::ImageOptions;
 pub use random::draw;
 pub use table::{LineWords, print_table_of_file};
 pub use verify::verify_files;

@@ -3,9 +3,9 @@ use Rattle.std.proofs.Common.{◌≡◌, ◌≤◌, ℕ, ◌+◌, List, [], ◌+
 use Rattle.std.specs.Prelude.{◌⊎◌, Bool, true, false, Option, if◌then◌else◌, nat_lt, ◌||◌, ◌==◌}
 use Rattle.std.proofs.lemmas.List.Elements.{Contains-append_left, Contains-append_right}
 use Rattle.block_device.specs.Device.{Device}
-use Rattle.stack_loader.specs.declared.lower.Lower.{Lower}
-use Rattle.stack_loader.specs.Names.{device_named, mapped, size}
-use Rattle.stack_loader.specs.Records.{Configuration}
+use Rattle.stack_rules.specs.declared.lower.Lower.{Lower}
+use Rattle.stack_rules.specs.Names.{device_named, mapped, size}
+use Rattle.stack_rules.specs.Records.{Configuration}
 use Rattle.stack_engine.specs.declared.fault.IoFault.{IoFault}
 use Rattle.stack_engine.specs.declared.fault.IoFault.TheVariants as io
 use Rattle.stack_engine.specs.Found.{FoundRecord}
@@ -16,10 +16,8 @@ use Rattle.stack_engine.specs.Stacks.{StackRecord, AnswerRecord}
 use Rattle.stack_engine.proofs.lemmas.FoundLemmas.{HasMore, used-append, said_at-mono}
 use Rattle.stack_engine.proofs.lemmas.PieceLemmas.{piece_expected, pieces_expected, joined_answers, no-pieces, fault-pieces}
 use Rattle.stack_engine.proofs.lemmas.RunLemmas.{fill_ok, fill_more}
-use Rattle.request_queue.specs.declared.fault.SubmitFault.{SubmitFault}
 use Rattle.request_queue.specs.declared.fault.SubmitFault.TheVariants.{OutOfRange, Length}
 use Rattle.request_queue.specs.declared.range.SectorRange.{SectorRange}
-use Rattle.request_queue.specs.declared.reply.Reply.{Reply}
 use Rattle.request_queue.specs.declared.reply.Reply.TheVariants.{Sectors}
 use Rattle.request_queue.specs.Parts.{EachPart}
 use Rattle.request_queue.specs.Ranges.{range_at, range_of, range_in, most_count}

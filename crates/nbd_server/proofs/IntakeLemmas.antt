@@ -1,5 +1,5 @@
 -- Bytes that are taken from a client piece by piece.
-use Rattle.std.proofs.Common.{◌≡◌, ◌≤◌, ◌<◌, ℕ, ◌+◌, List, [], ◌++◌, length, take, drop, refl, ap, sym, ◌∙◌, subst, arith, length-append, length-drop, ◌-◌, Option, Some}
+use Rattle.std.proofs.Common.{◌≡◌, ◌≤◌, ℕ, ◌+◌, List, [], ◌++◌, length, take, drop, refl, ap, sym, ◌∙◌, subst, arith, length-append, length-drop, ◌-◌, Option, Some}
 use Rattle.std.specs.Io.KnownBytes.{Consumes, Keeps}
 use Rattle.std.proofs.KnownBytes.{Consumes-nil, Consumes-trans, Consumes-kept}
 use Rattle.std.proofs.lemmas.List.{length-take-le, take-append-le}
@@ -60,3 +60,11 @@ pub into-front : (bytes rest : List ℕ) (len count : ℕ) (old new : Option (Li
 into-front bytes rest len count old new size is c =
     let front : take len (bytes ++ rest) ≡ bytes = subst (λ m. take m (bytes ++ rest) ≡ bytes) size (take-append_seam bytes rest) in
     subst (λ l. TakesInto (Some l) count old new) (sym front) (into-all bytes count old new (size ∙ is) c)
+
+-- at their place in the front of a vector
+pub into-place : (bytes rest : List ℕ) (len start count : ℕ) (old new : Option (List ℕ)) → length bytes ≡ len → start + count ≤ len → Consumes old new (take count (drop start bytes))
+    → TakesInto (Some (take count (drop start (take len (bytes ++ rest))))) count old new
+into-place bytes rest len start count old new size inside c =
+    let front : take len (bytes ++ rest) ≡ bytes = subst (λ m. take m (bytes ++ rest) ≡ bytes) size (take-append_seam bytes rest) in
+    let long : length (take count (drop start bytes)) ≡ count = length-take-le count (drop start bytes) (omega (arith, length-drop start bytes, size, inside)) in
+    subst (λ l. TakesInto (Some (take count (drop start l))) count old new) (sym front) (into-all (take count (drop start bytes)) count old new long c)

@@ -1,5 +1,7 @@
+pub mod ByteLemmas
 pub mod FetchLemmas
 pub mod IntakeLemmas
 pub mod LedLemmas
 pub mod ServiceLemmas
+pub mod StoreLemmas
 pub mod TurnLemmas

@@ -1,8 +1,8 @@
 -- A service, message by message.
-use Rattle.std.proofs.Common.{◌≡◌, ◌≢◌, ℕ, ◌/◌, List, [], ◌++◌, refl, ap, sym, ◌∙◌, subst, append_assoc, append-nil, inl, inr, Option, Some, None, Result, Ok, Err}
+use Rattle.std.proofs.Common.{◌≡◌, ◌≢◌, ℕ, ◌+◌, ◌-◌, ◌/◌, ◌%◌, List, [], ◌∷◌, ◌++◌, length, refl, ap, sym, ◌∙◌, subst, append_assoc, append-nil, inl, inr, Option, Some, None, Result, Ok, Err}
 use Rattle.std.specs.Prelude.{◌⊎◌}
-use Rattle.std.specs.Io.KnownBytes.{Appends, Consumes, IsAtEnd, Keeps}
-use Rattle.std.proofs.KnownBytes.{Appends-nil, Appends-trans, Appends-kept, Consumes-nil, Consumes-trans, Keeps-refl}
+use Rattle.std.specs.Io.KnownBytes.{Appends, Keeps}
+use Rattle.std.proofs.KnownBytes.{Appends-nil, Appends-trans, Appends-kept, Consumes-nil, Consumes-trans}
 use Rattle.request_queue.specs.World.{World}
 use Rattle.stack_session.specs.Session.{Streams, streams}
 use Rattle.nbd_server.specs.declared.fault.ServiceFault.{ServiceFault}
@@ -10,15 +10,15 @@ use Rattle.nbd_server.specs.declared.fault.ServiceFault.TheVariants as fault
 use Rattle.nbd_server.specs.declared.phase.Phase.{Phase}
 use Rattle.nbd_server.specs.declared.phase.Phase.TheVariants.{Greeted, Haggling, Serving, Over}
 use Rattle.nbd_server.specs.declared.header.Command.{Command}
-use Rattle.nbd_server.specs.declared.header.Command.TheVariants.{Read, Write}
+use Rattle.nbd_server.specs.declared.header.Command.TheVariants.{Read, Write, Flush}
 use Rattle.nbd_server.specs.declared.request_error.RequestError.{RequestError}
 use Rattle.nbd_server.specs.Exports.{ExportRecord, IsExport}
 use Rattle.nbd_server.specs.Headers.{command_of, header_of}
-use Rattle.nbd_server.specs.Sectors.{FailsToFetch, EndsIn, StopsAfter}
-use Rattle.nbd_server.specs.Transmission.{Outcome, ServesCommand, touched}
+use Rattle.nbd_server.specs.Sectors.{FailsToFetch, EndsIn, StopsAfter, EndsPut, StopsPut}
+use Rattle.nbd_server.specs.Transmission.{Outcome, FailsToReadEnds, IsFramed, ReadsBytes, ServesCommand, WritesBytes, WritesSome, room_behind, touched}
 use Rattle.nbd_server.specs.Handshake.{greeting}
 use Rattle.nbd_server.specs.Streaming.{Spoken}
-use Rattle.nbd_server.specs.Service.{Conversation, begins, goes_on, Turns, IsHeld, IsService, IsLast, IsServed, TakesMessage}
+use Rattle.nbd_server.specs.Service.{Conversation, begins, goes_on, Turns, IsService, IsLast, IsServed, TakesMessage}
 
 -- the messages so far, and the greeting and their replies
 abbrev pub IsTalk : ExportRecord → World → Phase → World → List ℕ → List ℕ → Type 0
@@ -134,11 +134,40 @@ fetch-config w d first count error w' p = fails-config w d first count error w' 
 same-config : (w w' : World) → w' ≡ w → w'.stack.config ≡ w.stack.config
 same-config w w' same = ap (λ (x : World). x.stack.config) same
 
+read-config : (e : ExportRecord) (w : World) (offset length : ℕ) (outcome : Outcome) (w' : World) → ReadsBytes e w offset length outcome w' → w'.stack.config ≡ w.stack.config
+read-config e w offset length (Ok content) w' p = p.1.read.config
+read-config e w offset length (Err error) w' p = fetch-config w e.device (offset / 512) (touched offset length) error w' p
+
+pub framed-config : (e : ExportRecord) (w : World) (offset : ℕ) (bytes sectors : List ℕ) (w' : World) → IsFramed e w offset bytes sectors w' → w'.stack.config ≡ w.stack.config
+framed-config e w offset bytes sectors w' p =
+    read-config e p.ends.mid (offset + length bytes) (room_behind offset (length bytes)) (Ok p.behind) w' p.ends.last
+    ∙ read-config e w (offset - offset % 512) (offset % 512) (Ok p.before) p.ends.mid p.ends.first
+
+ends-config : (e : ExportRecord) (w : World) (offset length : ℕ) (error : RequestError) (w' : World) → FailsToReadEnds e w offset length error w' → w'.stack.config ≡ w.stack.config
+ends-config e w offset length error w' (inl p) = read-config e w (offset - offset % 512) (offset % 512) (Err error) w' p
+ends-config e w offset length error w' (inr p) =
+    read-config e p.1 (offset + length) (room_behind offset length) (Err error) w' p.3 ∙ read-config e w (offset - offset % 512) (offset % 512) (Ok p.0) p.1 p.2
+
+unstored-config : (w : World) (d first : ℕ) (bytes : List ℕ) (error : RequestError) (w' : World) → EndsPut w d first bytes error w' ⊎ StopsPut w d first bytes error w' → w'.stack.config ≡ w.stack.config
+unstored-config w d first bytes error w' (inl p) = p.3.any.config
+unstored-config w d first bytes error w' (inr p) = p.3.put.any.config
+
+bytes-config : (e : ExportRecord) (w : World) (offset : ℕ) (bytes : List ℕ) (outcome : Outcome) (w' : World) → WritesBytes e w offset bytes outcome w' → w'.stack.config ≡ w.stack.config
+bytes-config e w offset bytes (Ok content) w' p = p.4.put.any.config ∙ framed-config e w offset bytes p.1 p.2 p.3
+bytes-config e w offset bytes (Err error) w' (inl p) = ends-config e w offset (length bytes) error w' p
+bytes-config e w offset bytes (Err error) w' (inr p) = unstored-config p.1 e.device (offset / 512) p.0 error w' p.3.cause ∙ framed-config e w offset bytes p.0 p.1 p.2
+
+write-config : (e : ExportRecord) (w : World) (offset : ℕ) (bytes : List ℕ) (outcome : Outcome) (w' : World) → WritesSome e w offset bytes outcome w' → w'.stack.config ≡ w.stack.config
+write-config e w offset [] outcome w' p = same-config w w' p.1
+write-config e w offset (byte ∷ more) outcome w' p = bytes-config e w offset (byte ∷ more) outcome w' p
+
 command-config : (e : ExportRecord) (w : World) (command : Result Command RequestError) (payload : List ℕ) (outcome : Outcome) (w' : World) → ServesCommand e w command payload outcome w' → w'.stack.config ≡ w.stack.config
 command-config e w (Err error) payload outcome w' p = same-config w w' p.1
-command-config e w (Ok (Read offset length)) payload (Ok content) w' p = p.1.read.config
-command-config e w (Ok (Read offset length)) payload (Err error) w' p = fetch-config w e.device (offset / 512) (touched offset length) error w' p
-command-config e w (Ok (Write offset length)) payload outcome w' p = same-config w w' p.1
+command-config e w (Ok (Read offset length)) payload outcome w' p = read-config e w offset length outcome w' p
+command-config e w (Ok (Write offset length)) payload outcome w' (inl p) = same-config w w' p.1
+command-config e w (Ok (Write offset length)) payload outcome w' (inr p) = write-config e w offset payload outcome w' p
+command-config e w (Ok Flush) payload (Ok content) w' p = same-config w w' p.1
+command-config e w (Ok Flush) payload (Err error) w' p = ap (λ (x : World). x.stack.config) p.2.leaves
 
 request-config : (e : ExportRecord) (w : World) (header payload reply : List ℕ) (next : Phase) (w' : World) → IsLast w header reply next w' ⊎ ((header_of header).kind ≢ 2) × IsServed e w header payload reply next w' → w'.stack.config ≡ w.stack.config
 request-config e w header payload reply next w' (inl x) = same-config w w' x.same

@@ -1,8 +1,8 @@
 -- Messages as they are taken and answered.
-use Rattle.std.proofs.Common.{◌≡◌, ◌≢◌, ◌<◌, ℕ, List, [], ◌++◌, length, refl, ap, sym, ◌∙◌, subst, append-nil, inl, inr, Option, Some, None, Result, Ok, Err}
-use Rattle.std.specs.Prelude.{nat_le, Bool, true, take, codes, ◌==◌, if◌then◌else◌}
+use Rattle.std.proofs.Common.{◌≡◌, ◌≢◌, ◌<◌, ℕ, List, [], ◌++◌, length, refl, ap, sym, ◌∙◌, subst, append-nil, inl, inr, Option, Some, None, Ok, Err}
+use Rattle.std.specs.Prelude.{nat_le, Bool, take, codes, ◌==◌, if◌then◌else◌}
 use Rattle.std.specs.Io.KnownBytes.{Appends, Consumes, IsAtEnd, Keeps}
-use Rattle.std.proofs.KnownBytes.{Appends-nil, Appends-trans, Appends-kept, Consumes-nil, Consumes-trans, Keeps-refl}
+use Rattle.std.proofs.KnownBytes.{Appends-nil, Appends-kept, Consumes-trans, Keeps-refl}
 use Rattle.request_queue.specs.World.{World}
 use Rattle.stack_session.specs.Session.{Streams, streams}
 use Rattle.nbd_server.specs.declared.fault.ServiceFault.{ServiceFault}
@@ -15,7 +15,7 @@ use Rattle.nbd_server.specs.Exports.{ExportRecord}
 use Rattle.nbd_server.specs.Headers.{header_of, payload_len, request_magic}
 use Rattle.nbd_server.specs.Streaming.{Spoken, TakesInto}
 use Rattle.nbd_server.specs.Transmission.{Outcome, Serves, simple_reply}
-use Rattle.nbd_server.specs.Service.{Answers, AnswersOption, HasNoRoom, IsAnswered, Turns, TakesRequest}
+use Rattle.nbd_server.specs.Service.{Answers, AnswersOption, HasNoRoom, IsAnswered, Turns}
 
 -- what came of a message that the service ends in
 broken : (w w' : World) (old new : Streams) → w' ≡ w → (part : List ℕ) → Consumes old.input new.input part → Keeps old.output new.output → Spoken old new (λ taken written. (written ≡ []) × (w' ≡ w))

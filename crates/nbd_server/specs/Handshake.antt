@@ -1,5 +1,5 @@
 -- The handshake: the greeting, the client's flags, and the options that it haggles over.
-use Rattle.std.specs.Prelude.{◌≡◌, ◌≤◌, ℕ, ◌+◌, ◌*◌, ◌==◌, ◌&&◌, ◌||◌, not, nat_le, nat_lt, Bool, true, false, List, [], ◌∷◌, ◌++◌, length, take, drop, replicate, codes, if◌then◌else◌}
+use Rattle.std.specs.Prelude.{ℕ, ◌+◌, ◌*◌, ◌==◌, ◌&&◌, ◌||◌, not, nat_le, Bool, false, List, [], ◌∷◌, ◌++◌, length, take, drop, replicate, codes, if◌then◌else◌}
 use Rattle.nbd_server.specs.Numbers.{number16, number32, bytes16, bytes32, bytes64}
 use Rattle.nbd_server.specs.Exports.{ExportRecord, is_asked, transmission_flags}
 use Rattle.nbd_server.specs.Headers.{most_length}

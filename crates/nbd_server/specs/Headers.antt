@@ -1,10 +1,10 @@
 -- Requests of the transmission phase: 28 bytes each.
-use Rattle.std.specs.Prelude.{◌≡◌, ℕ, ◌+◌, ◌*◌, ◌==◌, not, nat_lt, List, Result, Ok, Err, if◌then◌else◌}
+use Rattle.std.specs.Prelude.{◌≤◌, ℕ, ◌+◌, ◌==◌, ◌&&◌, not, nat_lt, List, Result, Ok, Err, if◌then◌else◌}
 use Rattle.nbd_server.specs.Numbers.{number16, number32, number64}
 use Rattle.nbd_server.specs.Exports.{ExportRecord}
 use Rattle.nbd_server.specs.declared.header.Header.{Header}
 use Rattle.nbd_server.specs.declared.header.Command.{Command}
-use Rattle.nbd_server.specs.declared.header.Command.TheVariants.{Read, Write}
+use Rattle.nbd_server.specs.declared.header.Command.TheVariants.{Read, Write, Flush}
 use Rattle.nbd_server.specs.declared.request_error.RequestError.{RequestError}
 use Rattle.nbd_server.specs.declared.request_error.RequestError.TheVariants.{NotPermitted, InputOutput, NoMemory, Invalid, NoSpace}
 
@@ -40,12 +40,23 @@ write_command e h =
     else if nat_lt e.size (h.offset + h.length) then Err NoSpace
     else Ok (Write h.offset h.length)
 
+-- the bytes that are asked for end within the export
+abbrev pub IsWithin : ExportRecord → Command → Type 0
+IsWithin e (Read offset length) = offset + length ≤ e.size
+IsWithin e (Write offset length) = offset + length ≤ e.size
+IsWithin e Flush = Unit {0}
+
+-- a FLUSH, whose place and length are nothing
+abbrev pub flush_command : Header → Result Command RequestError
+flush_command h = if (h.offset == 0) && (h.length == 0) then Ok Flush else Err Invalid
+
 -- what a request asks for, or its first fault; no flag of a request is offered
 unfoldable pub command_of : ExportRecord → Header → Result Command RequestError
 command_of e h =
     if not (h.flags == 0) then Err Invalid
     else if h.kind == 0 then read_command e h
     else if h.kind == 1 then write_command e h
+    else if h.kind == 3 then flush_command h
     else Err Invalid
 
 -- how many bytes follow it: those of a write

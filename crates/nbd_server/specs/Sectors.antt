@@ -1,8 +1,9 @@
 -- Sectors of the export, read and written by runs of the queue.
-use Rattle.std.specs.Prelude.{◌≡◌, ◌⊎◌, ◌≤◌, ℕ, List, Ok, Err, Result}
+use Rattle.std.specs.Prelude.{◌≡◌, ◌⊎◌, ◌≤◌, ℕ, ◌*◌, List, length, take, Ok, Err}
 use Rattle.stack_engine.specs.declared.fault.IoFault.{IoFault}
 use Rattle.stack_engine.specs.declared.fault.IoFault.TheVariants as io
 use Rattle.stack_engine.specs.Found.{FoundRecord}
+use Rattle.stack_engine.specs.WritePieces.{WritesInPieces}
 use Rattle.request_queue.specs.Parts.{EachPart}
 use Rattle.request_queue.specs.Ranges.{range_at}
 use Rattle.request_queue.specs.WholeRuns.{ReadsWhole}
@@ -36,4 +37,23 @@ StopsAfter w d first count error w' = (error ≡ NoMemory) × (k : ℕ) × (k �
 -- they couldn't be read
 pub record FailsToFetch (w : World) (d first count : ℕ) (error : RequestError) (w' : World) : Type 0 where
   pub cause : EndsIn w d first count error w' ⊎ StopsAfter w d first count error w'
+  pub led : IsLed EachPart w w'
+
+-- The sectors of a mapped device from the first on were put: these bytes, as one write of them all.
+pub record IsStored (w : World) (d first : ℕ) (bytes : List ℕ) (w' : World) : Type 0 where
+  pub put : WritesInPieces w.stack d first bytes (Ok tt) w'.stack
+  pub led : IsLed EachPart w w'
+
+-- the write of them all ended in that fault, and the bytes behind the piece that met it weren't put
+abbrev pub EndsPut : World → ℕ → ℕ → List ℕ → RequestError → World → Type 0
+EndsPut w d first bytes error w' =
+    (error ≡ InputOutput) × (fault : IoFault) × (error_of fault ≡ InputOutput) × WritesInPieces w.stack d first bytes (Err fault) w'.stack
+
+-- memory ran out, or the queue was full, after the first of them were put and no others
+abbrev pub StopsPut : World → ℕ → ℕ → List ℕ → RequestError → World → Type 0
+StopsPut w d first bytes error w' = (error ≡ NoMemory) × (k : ℕ) × (512 * k ≤ length bytes) × IsStored w d first (take (512 * k) bytes) w'
+
+-- not all of them were put
+pub record FailsToStore (w : World) (d first : ℕ) (bytes : List ℕ) (error : RequestError) (w' : World) : Type 0 where
+  pub cause : EndsPut w d first bytes error w' ⊎ StopsPut w d first bytes error w'
   pub led : IsLed EachPart w w'

@@ -1,16 +1,18 @@
 -- The transmission phase: what a request is answered.
-use Rattle.std.specs.Prelude.{◌≡◌, ◌⊎◌, ◌≤◌, ℕ, ◌+◌, ◌/◌, ◌%◌, List, ◌++◌, length, take, drop, Result, Ok, Err, IfOk}
-use Rattle.request_queue.specs.World.{World}
+use Rattle.std.specs.Prelude.{◌≡◌, ◌⊎◌, ◌≤◌, ℕ, ◌+◌, ◌-◌, ◌*◌, ◌/◌, ◌%◌, List, [], ◌∷◌, ◌++◌, length, take, drop, Result, Ok, Err, IfOk}
+use Rattle.stack_engine.specs.declared.fault.IoFault.{IoFault}
+use Rattle.request_queue.specs.Parts.{EachPart}
+use Rattle.request_queue.specs.World.{World, Step, sync}
 use Rattle.nbd_server.specs.Numbers.{bytes32, bytes64}
 use Rattle.nbd_server.specs.Exports.{ExportRecord}
 use Rattle.nbd_server.specs.Headers.{command_of, error_number}
-use Rattle.nbd_server.specs.Sectors.{IsFetched, FailsToFetch}
+use Rattle.nbd_server.specs.Sectors.{IsFetched, FailsToFetch, IsStored, FailsToStore}
 use Rattle.nbd_server.specs.declared.header.Header.{Header}
 use Rattle.nbd_server.specs.declared.header.Command.{Command}
-use Rattle.nbd_server.specs.declared.header.Command.TheVariants.{Read, Write}
+use Rattle.nbd_server.specs.declared.header.Command.TheVariants.{Read, Write, Flush}
 use Rattle.nbd_server.specs.declared.reply.Data.{Data}
 use Rattle.nbd_server.specs.declared.request_error.RequestError.{RequestError}
-use Rattle.nbd_server.specs.declared.request_error.RequestError.TheVariants.{NoMemory}
+use Rattle.nbd_server.specs.declared.request_error.RequestError.TheVariants.{NoMemory, InputOutput}
 
 -- the bytes that a request gives, or why it fails
 abbrev pub Outcome : Type 0
@@ -30,17 +32,66 @@ abbrev pub ReadsBytes : ExportRecord → World → ℕ → ℕ → Outcome → W
 ReadsBytes e w offset length (Ok content) w' = (bytes : List ℕ) × IsFetched w e.device (offset / 512) (touched offset length) bytes w' × (content ≡ take length (drop (offset % 512) bytes))
 ReadsBytes e w offset length (Err error) w' = FailsToFetch w e.device (offset / 512) (touched offset length) error w'
 
+-- ---- writes
+
+-- how many bytes stand behind some bytes in the last sector that they touch
+abbrev pub room_behind : ℕ → ℕ → ℕ
+room_behind offset length = 512 * touched offset length - (offset % 512 + length)
+
+-- what stands before some bytes in the first sector that they touch was read, and what stands behind them in the last
+pub record ReadsEnds (e : ExportRecord) (w : World) (offset length : ℕ) (before behind : List ℕ) (w' : World) : Type 0 where
+  pub mid : World
+  pub first : ReadsBytes e w (offset - offset % 512) (offset % 512) (Ok before) mid
+  pub last : ReadsBytes e mid (offset + length) (room_behind offset length) (Ok behind) w'
+
+-- one of the two couldn't be read
+abbrev pub FailsToReadEnds : ExportRecord → World → ℕ → ℕ → RequestError → World → Type 0
+FailsToReadEnds e w offset length error w' =
+    ReadsBytes e w (offset - offset % 512) (offset % 512) (Err error) w'
+    ⊎ ((before : List ℕ) × (mid : World) × ReadsBytes e w (offset - offset % 512) (offset % 512) (Ok before) mid
+    × ReadsBytes e mid (offset + length) (room_behind offset length) (Err error) w')
+
+-- the sectors that some bytes touch, with these bytes in them and around them what was read there
+pub record IsFramed (e : ExportRecord) (w : World) (offset : ℕ) (bytes sectors : List ℕ) (w' : World) : Type 0 where
+  pub before : List ℕ
+  pub behind : List ℕ
+  pub ends : ReadsEnds e w offset (length bytes) before behind w'
+  pub sectors_are : sectors ≡ before ++ (bytes ++ behind)
+
+-- bytes of the export were written: the sectors that they touch were put
+abbrev pub WritesBytes : ExportRecord → World → ℕ → List ℕ → Outcome → World → Type 0
+WritesBytes e w offset bytes (Ok content) w' =
+    (content ≡ []) × (sectors : List ℕ) × (mid : World) × IsFramed e w offset bytes sectors mid × IsStored mid e.device (offset / 512) sectors w'
+WritesBytes e w offset bytes (Err error) w' =
+    FailsToReadEnds e w offset (length bytes) error w'
+    ⊎ ((sectors : List ℕ) × (mid : World) × IsFramed e w offset bytes sectors mid × FailsToStore mid e.device (offset / 512) sectors error w')
+
+-- a write of no bytes does nothing
+abbrev pub WritesSome : ExportRecord → World → ℕ → List ℕ → Outcome → World → Type 0
+WritesSome e w offset [] outcome w' = (outcome ≡ Ok []) × (w' ≡ w)
+WritesSome e w offset (byte ∷ more) outcome w' = WritesBytes e w offset (byte ∷ more) outcome w'
+
+-- ---- flushes
+
+-- all that was written so far is on the leaves' media, or of a leaf that failed
+abbrev pub Flushes : World → Outcome → World → Type 0
+Flushes w (Ok content) w' = (content ≡ []) × Step EachPart w (sync (Ok tt)) w'
+Flushes w (Err error) w' = (error ≡ InputOutput) × (fault : IoFault) × Step EachPart w (sync (Err fault)) w'
+
+-- ---- requests
+
 -- this outcome, and nothing happened
 abbrev pub Refuses : World → RequestError → Outcome → World → Type 0
 Refuses w error outcome w' = (outcome ≡ Err error) × (w' ≡ w)
 
--- how a request ends that asks for this, or has that fault
+-- how a request ends that asks for this, or has that fault; memory may run out for the bytes of a write
 abbrev pub ServesCommand : ExportRecord → World → Result Command RequestError → List ℕ → Outcome → World → Type 0
 ServesCommand e w (Err error) payload outcome w' = Refuses w error outcome w'
 ServesCommand e w (Ok (Read offset length)) payload outcome w' = ReadsBytes e w offset length outcome w'
-ServesCommand e w (Ok (Write offset length)) payload outcome w' = Refuses w NoMemory outcome w'
+ServesCommand e w (Ok (Write offset length)) payload outcome w' = Refuses w NoMemory outcome w' ⊎ WritesSome e w offset payload outcome w'
+ServesCommand e w (Ok Flush) payload outcome w' = Flushes w outcome w'
 
--- how a request ends; memory may run out for it before anything is done
+-- how a request ends
 abbrev pub Serves : ExportRecord → World → Header → List ℕ → Outcome → World → Type 0
 Serves e w h payload outcome w' = ServesCommand e w (command_of e h) payload outcome w'
 
@@ -51,6 +102,11 @@ data_of d = take d.length (drop d.start d.bytes.items)
 abbrev pub outcome_of : Result Data RequestError → Outcome
 outcome_of (Ok d) = Ok (data_of d)
 outcome_of (Err error) = Err error
+
+-- a write gives no bytes
+abbrev pub written : Result Unit RequestError → Outcome
+written (Ok done) = Ok []
+written (Err error) = Err error
 
 -- the part lies within the bytes
 abbrev pub IsInside : Result Data RequestError → Type 0

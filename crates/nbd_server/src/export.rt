@@ -1,6 +1,6 @@
 // What is served: a mapped device as a run of bytes.
-ghost use Rattle.std.specs.Prelude.{◌≡◌, IfSome};
-ghost use Rattle.nbd_server.specs.Exports.{IsExport, export_record, is_asked, transmission_flags};
+ghost use Rattle.std.specs.Prelude.{◌≡◌, IfNone, IfSome};
+ghost use Rattle.nbd_server.specs.Exports.{HasNoExport, IsExport, export_record, is_asked, transmission_flags};
 
 use stack_loader::{Config, DevId};
 
@@ -17,9 +17,10 @@ pub struct Export<'a> {
 }
 
 impl<'a> Export<'a> {
-    /// The mapped device of that name, to be read alone.
+    /// The mapped device of that name.
     pub fn of(config: &Config, name: &'a [u8]) -> Option<Export<'a>>
-        ensures { IfSome result (λ e. IsExport config.now (export_record e) × (e.name ≡ name.entry)) }
+        ensures none { IfNone result (HasNoExport config.now name.now) }
+        ensures some { IfSome result (λ e. IsExport config.now (export_record e) × (e.name ≡ name.entry)) }
     {
         if name.len() > MOST_NAME {
             return None;
@@ -30,7 +31,7 @@ impl<'a> Export<'a> {
             name,
             device,
             size,
-            writable: false,
+            writable: config.writable(device),
         })
     }
 
@@ -45,6 +46,6 @@ impl<'a> Export<'a> {
     pub(crate) fn flags(&self) -> u16
         ensures { result ≡ transmission_flags (export_record self.now) }
     {
-        if self.writable { 1 } else { 3 }
+        if self.writable { 5 } else { 7 }
     }
 }

@@ -1,6 +1,6 @@
 // Reads sectors of the export.
 ghost use Rattle.std.specs.Prelude.{◌≡◌, ◌≤◌, ◌+◌, ◌*◌, ◌++◌, ◌^◌, Some, length, IfOk, IfErr, OnOk};
-ghost use Rattle.stack_loader.specs.Names.{device_named};
+ghost use Rattle.stack_rules.specs.Names.{device_named};
 ghost use Rattle.nbd_server.specs.Sectors.{FailsToFetch, IsFetched};
 ghost use Rattle.nbd_server.specs.Exports.{IsExport, export_record};
 

@@ -1,7 +1,7 @@
 // Requests of the transmission phase.
-ghost use Rattle.std.specs.Prelude.{◌≡◌, ◌+◌, length, nat_lt};
+ghost use Rattle.std.specs.Prelude.{◌≡◌, ◌+◌, IfOk, length, nat_lt};
 ghost use Rattle.nbd_server.specs.Exports.{export_record};
-ghost use Rattle.nbd_server.specs.Headers.{command_of, header_of, payload_len, read_command, write_command};
+ghost use Rattle.nbd_server.specs.Headers.{IsWithin, command_of, flush_command, header_of, payload_len, read_command, write_command};
 
 use crate::export::Export;
 use crate::numbers::{number16, number32, number64};
@@ -13,6 +13,8 @@ pub(crate) const MOST_LENGTH: u32 = 33554432;
 const READ: u16 = 0;
 
 const WRITE: u16 = 1;
+
+const FLUSH: u16 = 3;
 
 /// The kind of the request by which a client ends the service.
 pub(crate) const DISCONNECT: u16 = 2;
@@ -34,6 +36,8 @@ pub(crate) enum Command {
     Read { offset: u64, length: u32 },
     /// Bytes are written.
     Write { offset: u64, length: u32 },
+    /// All that was written is put on the media.
+    Flush,
 }
 
 impl Header {
@@ -61,7 +65,8 @@ impl Header {
     /// What it asks for, or its first fault.
     #[tactic(auto, unfolding(crate::specs::Headers::command_of))]
     pub(crate) fn command(self, export: &Export<'_>) -> Result<Command, RequestError>
-        ensures { result ≡ command_of (export_record export.now) self }
+        ensures value { result ≡ command_of (export_record export.now) self }
+        ensures within { IfOk result (IsWithin (export_record export.now)) }
     {
         if self.flags != 0 {
             return Err(RequestError::Invalid);
@@ -69,13 +74,15 @@ impl Header {
         match self.kind {
             READ => self.read_command(export),
             WRITE => self.write_command(export),
+            FLUSH => self.flush_command(),
             _ => Err(RequestError::Invalid),
         }
     }
 
     // A read of bytes that the export has.
     fn read_command(self, export: &Export<'_>) -> Result<Command, RequestError>
-        ensures { result ≡ read_command (export_record export.now) self }
+        ensures value { result ≡ read_command (export_record export.now) self }
+        ensures within { IfOk result (IsWithin (export_record export.now)) }
     {
         let Header { offset, length, .. } = self;
         if length > MOST_LENGTH || ends_past(export.size, offset, length) {
@@ -86,7 +93,8 @@ impl Header {
 
     // A write of bytes that the export has.
     fn write_command(self, export: &Export<'_>) -> Result<Command, RequestError>
-        ensures { result ≡ write_command (export_record export.now) self }
+        ensures value { result ≡ write_command (export_record export.now) self }
+        ensures within { IfOk result (IsWithin (export_record export.now)) }
     {
         let Header { offset, length, .. } = self;
         if length > MOST_LENGTH {
@@ -99,6 +107,16 @@ impl Header {
             return Err(RequestError::NoSpace);
         }
         Ok(Command::Write { offset, length })
+    }
+
+    // A FLUSH, whose place and length are nothing.
+    fn flush_command(self) -> Result<Command, RequestError>
+        ensures { result ≡ flush_command self }
+    {
+        if self.offset != 0 || self.length != 0 {
+            return Err(RequestError::Invalid);
+        }
+        Ok(Command::Flush)
     }
 }
 

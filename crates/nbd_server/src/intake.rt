@@ -1,5 +1,5 @@
 // Takes bytes from a client.
-ghost use Rattle.std.specs.Prelude.{◌≡◌, ℕ, ◌<◌, List, length, OnOk, OnErr, IfOk, option_map};
+ghost use Rattle.std.specs.Prelude.{◌≡◌, ℕ, ◌<◌, ◌≤◌, ◌+◌, ◌*◌, ◌^◌, List, drop, length, take, OnOk, OnErr, IfOk, IfSome, option_map};
 ghost use Rattle.std.specs.Io.KnownBytes.{Consumes};
 ghost use Rattle.nbd_server.specs.Streaming.{Fills, Takes, TakesInto};
 
@@ -56,6 +56,45 @@ pub(crate) fn skip<R: Read>(reader: &mut Counted<R>, count: u32) -> Result<(), S
     Ok(())
 }
 
+// Fills a part of a buffer. `false`: the input ended before its first byte.
+fn fill_part<R: Read>(
+    reader: &mut Counted<R>,
+    buffer: &mut [u8],
+    start: usize,
+    count: usize,
+) -> Result<bool, ServiceFault>
+    requires some { 0 < count }
+    requires inside { start + count ≤ length buffer.old }
+    ensures { Fills (R.remaining reader.old.inner) (R.remaining reader.new.inner) (take count (drop start buffer.new)) result }
+{
+    fill(reader, &mut buffer[start..start + count])
+}
+
+/// Takes so many bytes to their place in as many sectors. `None`: memory ran out, and they are gone.
+pub(crate) fn take_sectors<R: Read>(
+    alloc: Global,
+    reader: &mut Counted<R>,
+    sectors: usize,
+    start: usize,
+    count: u32,
+) -> Result<Option<Vec<u8>>, ServiceFault>
+    requires some { 0 < count }
+    requires few { sectors < 2 ^ 32 }
+    requires inside { start + count ≤ 512 * sectors }
+    ensures ok { IfOk result (λ found. TakesInto (option_map (λ v. take count (drop start v.items)) found) count (R.remaining reader.old.inner) (R.remaining reader.new.inner)) }
+    ensures room { IfOk result (λ found. IfSome found (λ v. length v.items ≡ 512 * sectors)) }
+    ensures err { OnErr result ((part : List ℕ) × Consumes (R.remaining reader.old.inner) (R.remaining reader.new.inner) part) }
+{
+    let Ok(mut bytes) = zeros(alloc, 512 * sectors) else {
+        skip(reader, count)?;
+        return Ok(None);
+    };
+    if !fill_part(reader, bytes.as_mut_slice(), start, count as usize)? {
+        return Err(ServiceFault::Lost);
+    }
+    Ok(Some(bytes))
+}
+
 /// Takes so many bytes. `None`: memory ran out, and they are gone.
 pub(crate) fn take_bytes<R: Read>(
     alloc: Global,
@@ -68,7 +107,7 @@ pub(crate) fn take_bytes<R: Read>(
     if count == 0 {
         return Ok(Some(Vec::new(alloc)));
     }
-    let Ok(mut bytes) = zeros(alloc, count) else {
+    let Ok(mut bytes) = zeros(alloc, count as usize) else {
         skip(reader, count)?;
         return Ok(None);
     };
@@ -79,8 +118,8 @@ pub(crate) fn take_bytes<R: Read>(
 }
 
 // Room for so many bytes.
-fn zeros(alloc: Global, count: u32) -> Result<Vec<u8>, AllocError>
+fn zeros(alloc: Global, count: usize) -> Result<Vec<u8>, AllocError>
     ensures { IfOk result (λ bytes. length bytes.items ≡ count) }
 {
-    vec![in alloc; 0u8; count as usize]
+    vec![in alloc; 0u8; count]
 }

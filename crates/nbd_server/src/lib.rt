@@ -1,6 +1,7 @@
 //! Serves a mapped device to a client of the NBD protocol.
 #![tactic(auto)]
 
+mod byte_range;
 mod export;
 mod fault;
 mod fetch;
@@ -14,6 +15,7 @@ mod phase;
 mod reply;
 mod request_error;
 mod service;
+mod store;
 mod transmission;
 
 pub use export::Export;

@@ -1,12 +1,13 @@
 // Replies to requests.
-ghost use Rattle.std.specs.Prelude.{◌++◌};
+ghost use Rattle.std.specs.Prelude.{◌≡◌, ◌≤◌, ◌+◌, [], ◌++◌, length};
 ghost use Rattle.stack_session.specs.Counted.{Writes};
 ghost use Rattle.nbd_server.specs.Numbers.{bytes32, bytes64};
-ghost use Rattle.nbd_server.specs.Transmission.{IsInside, outcome_of, simple_reply};
+ghost use Rattle.nbd_server.specs.Transmission.{IsInside, data_of, outcome_of, simple_reply};
 
 use crate::numbers::{put32, put64};
 use crate::request_error::RequestError;
 use stack_session::{Counted, WriteFault};
+use std::alloc::Global;
 use std::io::Write;
 
 const MAGIC: u32 = 0x6744_6698;
@@ -17,6 +18,28 @@ pub(crate) struct Data {
     pub(crate) bytes: Vec<u8>,
     pub(crate) start: usize,
     pub(crate) length: usize,
+}
+
+impl Data {
+    /// No bytes.
+    pub(crate) fn none(alloc: Global) -> Data
+        ensures value { data_of result ≡ [] }
+        ensures inside { result.start + result.length ≤ length result.bytes.items }
+    {
+        Data {
+            bytes: Vec::new(alloc),
+            start: 0,
+            length: 0,
+        }
+    }
+
+    /// The bytes that are meant.
+    pub(crate) fn part(&self) -> &[u8]
+        requires { self.now.start + self.now.length ≤ length self.now.bytes.items }
+        ensures { result.now ≡ data_of self.now }
+    {
+        &self.bytes[self.start..self.start + self.length]
+    }
 }
 
 // A reply, but for its data.
@@ -40,7 +63,7 @@ pub(crate) fn say_reply<W: Write>(
     match outcome {
         Ok(data) => {
             say_head(writer, 0, cookie)?;
-            writer.put(&data.bytes[data.start..data.start + data.length])
+            writer.put(data.part())
         }
         Err(error) => say_head(writer, error.number(), cookie),
     }

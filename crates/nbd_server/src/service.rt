@@ -10,7 +10,7 @@ use crate::fault::ServiceFault;
 use crate::haggling::{take_flags, take_option};
 use crate::phase::Phase;
 use crate::transmission::take_request;
-use block_device::BlockDev;
+use block_device::SyncDev;
 use request_queue::Queue;
 use stack_session::Counted;
 use std::alloc::Global;
@@ -19,7 +19,7 @@ use std::io::{Read, Write};
 const GREETING: [u8; 18] = *b"NBDMAGICIHAVEOPT\0\x03";
 
 // Takes one message, and replies to it.
-fn take_message<D: BlockDev, R: Read, W: Write>(
+fn take_message<D: SyncDev, R: Read, W: Write>(
     alloc: Global,
     queue: &mut Queue<D>,
     export: &Export<'_>,
@@ -43,7 +43,7 @@ fn take_message<D: BlockDev, R: Read, W: Write>(
 /// Serves a client, until it ends the service or goes away between two messages.
 ///
 /// Replies are handed on before the reader is called again.
-pub fn serve<D: BlockDev, R: Read, W: Write>(
+pub fn serve<D: SyncDev, R: Read, W: Write>(
     alloc: Global,
     queue: &mut Queue<D>,
     export: &Export<'_>,

@@ -1,23 +1,24 @@
 // The requests of the transmission phase.
-ghost use Rattle.std.specs.Prelude.{◌≡◌, ◌≤◌, ◌+◌, ◌^◌, ℕ, List, length, IfOk, OnErr};
+ghost use Rattle.std.specs.Prelude.{◌≡◌, ◌<◌, ◌+◌, ◌^◌, ℕ, List, length, Ok, IfOk, OnErr};
 ghost use Rattle.std.specs.Io.KnownBytes.{Consumes};
 ghost use Rattle.stack_session.specs.Session.{streams};
 ghost use Rattle.nbd_server.specs.Exports.{IsExport, export_record};
 ghost use Rattle.nbd_server.specs.Headers.{payload_len};
 ghost use Rattle.nbd_server.specs.Service.{Turns};
-ghost use Rattle.nbd_server.specs.Transmission.{IsInside, ReadsBytes, Serves, outcome_of};
+ghost use Rattle.nbd_server.specs.Transmission.{Flushes, IsInside, Serves, ServesCommand, outcome_of, written};
+ghost use Rattle.nbd_server.specs.declared.header.Command.TheVariants.{Write};
 ghost use Rattle.nbd_server.specs.declared.phase.Phase.TheVariants.{Serving};
 
+use crate::byte_range::{read_bytes, touched, write_bytes};
 use crate::export::Export;
 use crate::fault::ServiceFault;
-use crate::fetch::fetch;
 use crate::header::{Command, DISCONNECT, Header};
-use crate::intake::{fill, skip};
+use crate::intake::{fill, skip, take_sectors};
 use crate::numbers::number32;
 use crate::phase::Phase;
 use crate::reply::{Data, say_reply};
 use crate::request_error::RequestError;
-use block_device::BlockDev;
+use block_device::{BlockDev, SyncDev};
 use request_queue::Queue;
 use stack_session::Counted;
 use std::alloc::Global;
@@ -25,31 +26,45 @@ use std::io::{Read, Write};
 
 const MAGIC: u32 = 0x2560_9513;
 
-// Reads bytes of the export: a part of the sectors that they touch.
-fn read_bytes<D: BlockDev>(
+// Takes the bytes of a write, and writes them.
+fn take_write<D: BlockDev, R: Read>(
     alloc: Global,
     queue: &mut Queue<D>,
     export: &Export<'_>,
     offset: u64,
-    length: u32,
-) -> Result<Data, RequestError>
-    requires { IsExport queue.old.stack.config (export_record export.now) }
-    ensures value { ReadsBytes (export_record export.now) queue.old offset length (outcome_of result) queue.new }
+    len: u32,
+    reader: &mut Counted<R>,
+) -> Result<Result<(), RequestError>, ServiceFault>
+    requires export { IsExport queue.old.stack.config (export_record export.now) }
+    requires within { offset + len < 2 ^ 64 }
+    ensures ok { IfOk result (λ outcome. (payload : List ℕ) × (length payload ≡ len) × Consumes (R.remaining reader.old.inner) (R.remaining reader.new.inner) payload
+        × ServesCommand (export_record export.now) queue.old (Ok (Write offset len)) payload (written outcome) queue.new) }
+    ensures err { OnErr result ((part : List ℕ) × Consumes (R.remaining reader.old.inner) (R.remaining reader.new.inner) part × (queue.new ≡ queue.old)) }
+{
+    if len == 0 {
+        return Ok(Ok(()));
+    }
+    let sectors = touched(offset, len);
+    let start = (offset % 512) as usize;
+    let Some(mut bytes) = take_sectors(alloc, reader, sectors, start, len)? else {
+        return Ok(Err(RequestError::NoMemory));
+    };
+    Ok(write_bytes(alloc, queue, export, offset, len, bytes.as_mut_slice()))
+}
+
+// Has all that was written put on the media.
+fn flush<D: SyncDev>(alloc: Global, queue: &mut Queue<D>) -> Result<Data, RequestError>
+    ensures value { Flushes queue.old (outcome_of result) queue.new }
     ensures inside { IsInside result }
 {
-    let start = (offset % 512) as usize;
-    let length = length as usize;
-    let count = ((start + length + 511) / 512) as u64;
-    let bytes = fetch(alloc, queue, export, offset / 512, count)?;
-    Ok(Data {
-        bytes,
-        start,
-        length,
-    })
+    match queue.sync() {
+        Ok(()) => Ok(Data::none(alloc)),
+        Err(_) => Err(RequestError::InputOutput),
+    }
 }
 
 // Serves a request, of which the bytes of a write are still to come.
-fn serve_request<D: BlockDev, R: Read>(
+fn serve_request<D: SyncDev, R: Read>(
     alloc: Global,
     queue: &mut Queue<D>,
     export: &Export<'_>,
@@ -72,15 +87,21 @@ fn serve_request<D: BlockDev, R: Read>(
             skip(reader, header.payload_len())?;
             Ok(read_bytes(alloc, queue, export, offset, length))
         }
-        Ok(Command::Write { .. }) => {
+        Ok(Command::Flush) => {
             skip(reader, header.payload_len())?;
-            Ok(Err(RequestError::NoMemory))
+            Ok(flush(alloc, queue))
+        }
+        Ok(Command::Write { offset, length }) => {
+            match take_write(alloc, queue, export, offset, length, reader)? {
+                Ok(()) => Ok(Ok(Data::none(alloc))),
+                Err(error) => Ok(Err(error)),
+            }
         }
     }
 }
 
 /// Takes a request, and replies to it.
-pub(crate) fn take_request<D: BlockDev, R: Read, W: Write>(
+pub(crate) fn take_request<D: SyncDev, R: Read, W: Write>(
     alloc: Global,
     queue: &mut Queue<D>,
     export: &Export<'_>,

@@ -2,9 +2,9 @@
 use Rattle.std.proofs.Common.{◌≡◌, ◌⊎◌, ◌<◌, ◌≤◌, ℕ, ◌+◌, true, false, Bool, List, refl, ap, sym, ◌∙◌, arith, inl, inr, nat_lt, ◌==◌, Ok, Err, Option, Some, None}
 use Rattle.std.specs.Prelude.{option_map}
 use Rattle.std.proofs.lemmas.Bool.{lt-ltb}
-use Rattle.stack_loader.specs.declared.lower.DevId.{DevId}
-use Rattle.stack_loader.specs.Records.{Configuration}
-use Rattle.stack_loader.specs.Names.{mapped, device_named, size}
+use Rattle.stack_rules.specs.declared.lower.DevId.{DevId}
+use Rattle.stack_rules.specs.Records.{Configuration}
+use Rattle.stack_rules.specs.Names.{mapped, device_named, size}
 use Rattle.request_queue.specs.declared.fault.SubmitFault.TheVariants.{NoSuchDevice, OutOfRange, Length}
 use Rattle.request_queue.specs.Ranges.{range_at, range_in, range_of}
 

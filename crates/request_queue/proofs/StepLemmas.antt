@@ -1,14 +1,16 @@
--- One piece of a request, as a step of the world.
+-- One piece of a request and a sync, as steps of the world.
 use Rattle.std.proofs.Common.{◌≡◌, ◌<◌, ◌≤◌, ◌-◌, ℕ, List, get_or, set, ap, sym, ◌∙◌, subst, arith, Some, Result, Ok, Err}
-use Rattle.std.specs.Prelude.{position, remove}
+use Rattle.std.specs.Prelude.{IfErr, OnOk, position, remove}
+use Rattle.stack_rules.specs.Records.{Configuration}
 use Rattle.stack_engine.specs.declared.fault.IoFault.{IoFault}
 use Rattle.stack_engine.specs.Stacks.{StackRecord, AnswerRecord}
+use Rattle.stack_engine.specs.Syncs.{FailsToSync}
 use Rattle.request_queue.specs.declared.reply.Progress.TheVariants.{More, Done}
 use Rattle.request_queue.specs.declared.reply.Reply.{Reply}
 use Rattle.request_queue.specs.Flights.{FlightRecord, IsSoundFlight, reply_to, has_ticket}
 use Rattle.request_queue.specs.Parts.{EachPart, Asks, part_of_work, done_of}
 use Rattle.request_queue.specs.Ranges.{piece_len}
-use Rattle.request_queue.specs.World.{world, Serves, IsSoundWorld}
+use Rattle.request_queue.specs.World.{World, world, Serves, Syncs, IsSoundWorld}
 use Rattle.request_queue.specs.Serving.{NextPiece, FailedPiece}
 use Rattle.request_queue.proofs.lemmas.PartLemmas.{any-keeps, each-any}
 use Rattle.request_queue.proofs.FlightLemmas.{place-inside, at-place, remove-set, sound-next, sound-set, sound-remove}
@@ -77,3 +79,14 @@ pub sound-done : (v v' : StackRecord) (given : ℕ) (fs fs' : List FlightRecord)
     → NextPiece v f v' f' → fs' ≡ remove (set fs i f') i → IsSoundWorld v.config given fs → IsSoundWorld v'.config given fs'
 sound-done v v' given fs fs' i f f' p r s =
     subst (λ l. IsSoundWorld v'.config given l) (sym (r ∙ remove-set fs i f')) (sound-remove v.config v'.config given fs i (same-config v v' f (Ok p.got) p.answered) s)
+
+-- ---- a sync
+
+pub synced : (w : World) (v : StackRecord) (result : Result Unit IoFault) → OnOk result (v ≡ w.stack) → v.config ≡ w.stack.config → IfErr result (FailsToSync w.stack.leaves v.leaves)
+    → Syncs w result (world v w.given w.in_flight)
+synced w v (Ok done) same config fails = ap (λ (s : StackRecord). world s w.given w.in_flight) same
+synced w v (Err fault) same config fails = record {
+  after = v.leaves;
+  fails = fails;
+  leaves = ap (λ (c : Configuration). world (record { config = c; leaves = v.leaves }) w.given w.in_flight) config;
+}

@@ -7,8 +7,8 @@ use Rattle.hash_tree.specs.Difference.{IsTopmostDifference, block_at}
 use Rattle.hash_tree.specs.Laws.{AreBlocks}
 use Rattle.hash_tree.specs.Tree.{root}
 use Rattle.dm_table.specs.declared.verity.Verity.{Verity}
-use Rattle.stack_loader.specs.Records.{Configuration}
-use Rattle.stack_loader.specs.Trees.{tree_of}
+use Rattle.stack_rules.specs.Records.{Configuration}
+use Rattle.stack_rules.specs.Trees.{tree_of}
 use Rattle.stack_engine.specs.declared.fault.IoFault.{IoFault}
 use Rattle.stack_engine.specs.Found.{FoundRecord}
 use Rattle.stack_engine.specs.Laws.{digests_of, IsSha256Collision}
@@ -17,7 +17,7 @@ use Rattle.request_queue.specs.declared.reply.Progress.{Progress}
 use Rattle.request_queue.specs.declared.reply.Progress.TheVariants.{More, Done}
 use Rattle.request_queue.specs.declared.reply.Reply.{Reply}
 use Rattle.request_queue.specs.declared.reply.Reply.TheVariants.{Sectors, Written}
-use Rattle.request_queue.specs.World.{Event, submit, step, load, remove_device, run}
+use Rattle.request_queue.specs.World.{Event, submit, step, load, remove_device, run, sync}
 
 -- ---- the chains that are handed out
 
@@ -42,6 +42,7 @@ chains_of (load text reply) = []
 chains_of (remove_device name reply) = []
 chains_of (run r (Ok answer)) = answer_chains answer
 chains_of (run r (Err fault)) = []
+chains_of (sync reply) = []
 
 -- ---- what holds of each
 

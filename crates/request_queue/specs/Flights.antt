@@ -1,8 +1,8 @@
 -- Requests in flight, and their parts.
 use Rattle.std.specs.Prelude.{◌≡◌, ℕ, ◌+◌, ◌-◌, ◌*◌, ◌≤◌, ◌==◌, Bool, IsTrue, List, [], ◌++◌, length}
-use Rattle.stack_loader.specs.Records.{Configuration}
-use Rattle.stack_loader.specs.Names.{mapped, may_write}
-use Rattle.stack_loader.specs.Descend.{read_cost, write_cost}
+use Rattle.stack_rules.specs.Records.{Configuration}
+use Rattle.stack_rules.specs.Names.{mapped, may_write}
+use Rattle.stack_rules.specs.Descend.{read_cost, write_cost}
 use Rattle.stack_engine.specs.Stacks.{AnswerRecord}
 use Rattle.request_queue.specs.declared.range.SectorRange.{SectorRange}
 use Rattle.request_queue.specs.declared.reply.Reply.{Reply}

@@ -1,6 +1,6 @@
 -- What runs give the requests that are in flight in them.
 use Rattle.std.specs.Prelude.{◌≡◌, ℕ, ◌*◌, ◌<◌, ◌≤◌, Bool, true, false, List, [], ◌∷◌, length, All, Option, Some, None, Result, Ok, Err, if◌then◌else◌}
-use Rattle.stack_loader.specs.Records.{Configuration}
+use Rattle.stack_rules.specs.Records.{Configuration}
 use Rattle.stack_engine.specs.declared.fault.IoFault.{IoFault}
 use Rattle.stack_engine.specs.Leaves.{AllSteady}
 use Rattle.stack_engine.specs.Stacks.{StackRecord, AnswerRecord}
@@ -13,7 +13,7 @@ use Rattle.request_queue.specs.Parts.{PartRelation, AnyPart, SteadyPart, EachPar
 use Rattle.request_queue.specs.Ranges.{piece_len}
 use Rattle.request_queue.specs.Requests.{RequestRecord}
 use Rattle.request_queue.specs.Runs.{Turn, Run, last, total, is_step, flight_of, moved_for}
-use Rattle.request_queue.specs.World.{World, Event, submit, step, load, remove_device, run, Step, Begins}
+use Rattle.request_queue.specs.World.{World, Event, submit, step, load, remove_device, run, sync, Step, Begins}
 
 -- ---- the steps of one request in a run
 
@@ -39,6 +39,7 @@ end_of (step u (Err none)) = None
 end_of (load text reply) = None
 end_of (remove_device name reply) = None
 end_of (run r reply) = None
+end_of (sync reply) = None
 
 abbrev pub or_else : Option (Result Reply IoFault) → Option (Result Reply IoFault) → Option (Result Reply IoFault)
 or_else None later = later
@@ -78,7 +79,7 @@ pub record RequestLaw (w : World) (r : RequestRecord) (t : ℕ) (range : SectorR
   pub steps : length (passages t v turns) ≤ range.count
   pub moved : total (moved_for t) v turns ≤ range.count * work_cost w.stack.config range.device.0 (first_work r)
 
--- the event is a refusal
+-- The event is a refusal. A sync that fails is none: the leaf counts its failure.
 abbrev pub is_refusal : Event → Bool
 is_refusal (submit r (Ok ticket)) = false
 is_refusal (submit r (Err fault)) = true
@@ -90,6 +91,7 @@ is_refusal (remove_device name (Ok done)) = false
 is_refusal (remove_device name (Err fault)) = true
 is_refusal (run r (Ok answer)) = false
 is_refusal (run r (Err fault)) = true
+is_refusal (sync reply) = false
 
 -- A turn leaves each request that it doesn't serve as it was, and a refusal leaves all as it was.
 pub record TurnLaw (w : World) (x : Turn) : Type 0 where

@@ -1,9 +1,9 @@
 -- Ranges of a mapped device's sectors, and their pieces.
 use Rattle.std.specs.Prelude.{ℕ, ◌+◌, ◌-◌, ◌^◌, ◌<◌, ◌≤◌, ◌||◌, ◌==◌, nat_lt, min, List, length, Option, Some, None, Result, Ok, Err, if◌then◌else◌}
 use Rattle.std.specs.Option.{option_map_or}
-use Rattle.stack_loader.specs.Records.{Configuration}
-use Rattle.stack_loader.specs.Names.{mapped, device_named, size}
-use Rattle.stack_loader.specs.Lines.{line_at}
+use Rattle.stack_rules.specs.Records.{Configuration}
+use Rattle.stack_rules.specs.Names.{mapped, device_named, size}
+use Rattle.stack_rules.specs.Lines.{line_at}
 use Rattle.request_queue.specs.declared.fault.SubmitFault.{SubmitFault}
 use Rattle.request_queue.specs.declared.fault.SubmitFault.TheVariants.{NoSuchDevice, OutOfRange, Length}
 use Rattle.request_queue.specs.declared.range.SectorRange.{SectorRange}

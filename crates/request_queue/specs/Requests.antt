@@ -1,8 +1,8 @@
 -- Requests, and which sectors they are for.
 use Rattle.std.specs.Prelude.{ℕ, ◌%◌, ◌==◌, not, List, length, Result, Ok, Err, if◌then◌else◌}
 use Rattle.std.specs.Int.{div_ceil}
-use Rattle.stack_loader.specs.Records.{Configuration}
-use Rattle.stack_loader.specs.Names.{mapped, may_write}
+use Rattle.stack_rules.specs.Records.{Configuration}
+use Rattle.stack_rules.specs.Names.{mapped, may_write}
 use Rattle.request_queue.specs.declared.fault.SubmitFault.{SubmitFault}
 use Rattle.request_queue.specs.declared.fault.SubmitFault.TheVariants.{Length, ReadOnly}
 use Rattle.request_queue.specs.declared.range.SectorRange.{SectorRange}

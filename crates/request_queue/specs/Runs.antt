@@ -1,11 +1,11 @@
 -- Runs: one event after another, each with the world that it leaves.
 use Rattle.std.specs.Prelude.{ℕ, ◌+◌, ◌-◌, ◌*◌, ◌==◌, Bool, false, List, [], ◌∷◌, find, Option, Some, None, Ok, Err, if◌then◌else◌}
-use Rattle.stack_loader.specs.Records.{Configuration}
+use Rattle.stack_rules.specs.Records.{Configuration}
 use Rattle.stack_engine.specs.Leaves.{reads_of, writes_of}
 use Rattle.stack_engine.specs.Stacks.{StackRecord}
 use Rattle.request_queue.specs.Flights.{FlightRecord, has_ticket, work_cost}
 use Rattle.request_queue.specs.Parts.{PartRelation}
-use Rattle.request_queue.specs.World.{World, Event, submit, step, load, remove_device, run, Step}
+use Rattle.request_queue.specs.World.{World, Event, submit, step, load, remove_device, run, sync, Step}
 
 -- an event, and the world that it leaves
 pub record Turn : Type 0 where
@@ -34,6 +34,7 @@ is_step t (step u (Err none)) = false
 is_step t (load text reply) = false
 is_step t (remove_device name reply) = false
 is_step t (run r reply) = false
+is_step t (sync reply) = false
 
 -- the request in flight with that ticket
 abbrev pub flight_of : World → ℕ → Option FlightRecord

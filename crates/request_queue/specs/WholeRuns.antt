@@ -1,7 +1,7 @@
 -- A request that is run: what it is as a whole, from the stack before it to the stack after.
 use Rattle.std.specs.Prelude.{◌≡◌, ◌<◌, ℕ, ◌*◌, List, take, Result, Ok, Err}
-use Rattle.stack_loader.specs.Names.{mapped}
-use Rattle.stack_loader.specs.Descend.{read_cost}
+use Rattle.stack_rules.specs.Names.{mapped}
+use Rattle.stack_rules.specs.Descend.{read_cost}
 use Rattle.stack_engine.specs.declared.fault.IoFault.{IoFault}
 use Rattle.stack_engine.specs.declared.fault.IoFault.TheVariants as io
 use Rattle.stack_engine.specs.Outcomes.{span}

@@ -1,14 +1,16 @@
 -- Worlds, and the steps between them.
 use Rattle.std.specs.Prelude.{◌≡◌, ◌≢◌, ◌⊎◌, ℕ, ◌+◌, ◌-◌, ◌^◌, ◌<◌, ◌≤◌, ◌||◌, ◌==◌, nat_le, Bool, List, [], ◌∷◌, ◌++◌, length, position, slice_get, set, remove, Some, None, Result, Ok, Err, All, if◌then◌else◌}
+use Rattle.block_device.specs.Device.{Device}
 use Rattle.dm_table.specs.declared.stack.Entry.{Entry}
-use Rattle.stack_loader.specs.declared.refusal.LoadFault.{LoadFault}
-use Rattle.stack_loader.specs.declared.refusal.LoadFault.TheVariants as load_fault
-use Rattle.stack_loader.specs.declared.refusal.RemoveFault.{RemoveFault}
-use Rattle.stack_loader.specs.Removal.{removal_fault, after_removal}
-use Rattle.stack_loader.specs.Records.{Configuration}
-use Rattle.stack_loader.specs.Rules.{first_refusal, IsLoaded, IsRefusal, after_load}
+use Rattle.stack_rules.specs.declared.refusal.LoadFault.{LoadFault}
+use Rattle.stack_rules.specs.declared.refusal.LoadFault.TheVariants as load_fault
+use Rattle.stack_rules.specs.declared.refusal.RemoveFault.{RemoveFault}
+use Rattle.stack_rules.specs.Removal.{removal_fault, after_removal}
+use Rattle.stack_rules.specs.Records.{Configuration}
+use Rattle.stack_rules.specs.Rules.{first_refusal, IsLoaded, IsRefusal, after_load}
 use Rattle.stack_engine.specs.declared.fault.IoFault.{IoFault}
 use Rattle.stack_engine.specs.Stacks.{StackRecord, AnswerRecord}
+use Rattle.stack_engine.specs.Syncs.{FailsToSync}
 use Rattle.request_queue.specs.declared.fault.Held.{Held}
 use Rattle.request_queue.specs.declared.fault.Held.TheVariants.{Busy, Fault}
 use Rattle.request_queue.specs.declared.fault.NoSuchTicket.{NoSuchTicket}
@@ -144,6 +146,19 @@ Removes w name (Ok done) w' = RemovalDone w name w'
 Removes w name (Err Busy) w' = (w.in_flight ≢ []) × (w' ≡ w)
 Removes w name (Err (Fault fault)) w' = (w.in_flight ≡ []) × (removal_fault w.stack.config name ≡ Some fault) × (w' ≡ w)
 
+-- ---- syncs
+
+-- What was written to a leaf couldn't be put on its medium. All requests stay in flight as they were.
+pub record SyncFails (w : World) (fault : IoFault) (w' : World) : Type 0 where
+  pub after : List Device
+  pub fails : FailsToSync w.stack.leaves after fault
+  pub leaves : w' ≡ world (record { config = w.stack.config; leaves = after }) w.given w.in_flight
+
+-- where what was written is put on the media, nothing else changes
+abbrev pub Syncs : World → Result Unit IoFault → World → Type 0
+Syncs w (Ok done) w' = w' ≡ w
+Syncs w (Err fault) w' = SyncFails w fault w'
+
 -- ---- runs of one request
 
 -- steps of a ticket up to its last
@@ -169,6 +184,7 @@ pub data Event : Type 0 where
   load : List Entry → Result Unit (Held LoadFault) → Event
   remove_device : List ℕ → Result Unit (Held RemoveFault) → Event
   run : RequestRecord → Result (Result Reply IoFault) SubmitFault → Event
+  sync : Result Unit IoFault → Event
 
 -- From w, the event may lead to w'.
 abbrev pub Step : PartRelation → World → Event → World → Type 0
@@ -177,6 +193,7 @@ Step part w (step ticket reply) w' = Steps part w ticket reply w'
 Step part w (load text reply) w' = Loads w text reply w'
 Step part w (remove_device name reply) w' = Removes w name reply w'
 Step part w (run r reply) w' = Runs part w r reply w'
+Step part w (sync reply) w' = Syncs w reply w'
 
 -- ---- what holds of every queue
 

@@ -6,7 +6,7 @@ ghost use Rattle.request_queue.specs.Replies.{outcome_of};
 ghost use Rattle.request_queue.specs.Requests.{request_record};
 ghost use Rattle.request_queue.specs.Runs.{flight_of};
 ghost use Rattle.request_queue.specs.WholeRuns.{RunAnswers};
-ghost use Rattle.request_queue.specs.World.{Ends, IsSoundWorld, Step, admission, load, remove_device, run, step, submit};
+ghost use Rattle.request_queue.specs.World.{Ends, IsSoundWorld, Step, admission, load, remove_device, run, step, submit, sync};
 ghost use Rattle.request_queue.specs.Flights.{IsAdmissible};
 ghost use Rattle.request_queue.specs.declared.fault.SubmitFault.{SubmitFault};
 ghost use Rattle.request_queue.specs.declared.request.Request.{Request};
@@ -18,7 +18,7 @@ use crate::range::SectorRange;
 use crate::reply::{Progress, Reply, Ticket};
 use crate::request::Request;
 use crate::work::Work;
-use block_device::BlockDev;
+use block_device::{BlockDev, SyncDev};
 use dm_table::StackText;
 use stack_engine::laws::{answered_chains_are_good, forged_answers_collide};
 use stack_engine::{IoFault, Stack};
@@ -219,5 +219,15 @@ impl<D: BlockDev> Queue<D> {
             Ok(()) => Ok(()),
             Err(fault) => Err(Held::Fault(fault)),
         }
+    }
+}
+
+impl<D: SyncDev> Queue<D> {
+    /// Has what was written to the leaves put on their media, also where requests are in flight. The fault names the
+    /// first leaf of which that failed, counted from 1.
+    pub fn sync(&mut self) -> Result<(), IoFault>
+        ensures { Step EachPart self.old (sync result) self.new }
+    {
+        self.stack.sync()
     }
 }

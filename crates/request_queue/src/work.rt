@@ -1,6 +1,6 @@
 // What a request in flight does.
 ghost use Rattle.std.specs.Prelude.{ℕ, ◌≡◌, ◌≤◌, ◌+◌, ◌++◌, OnOk, IfOk, IfErr};
-ghost use Rattle.stack_loader.specs.Names.{mapped, size};
+ghost use Rattle.stack_rules.specs.Names.{mapped, size};
 ghost use Rattle.request_queue.specs.Flights.{IsWorkOn, first_work, joint_answer, reply_to, work_record};
 ghost use Rattle.request_queue.specs.Requests.{request_record};
 ghost use Rattle.request_queue.specs.Serving.{PartDone, PartFailed};

@@ -1,34 +1,13 @@
--- How a word is cut, and what stands behind names.
-use Rattle.std.proofs.Common.{◌≡◌, ◌<◌, ◌+◌, ℕ, zero, suc, true, false, Bool, List, [], ◌∷◌, ◌++◌, length, map, take, get_or, refl, ap, sym, subst, ◌∙◌, arith, nat_lt, Some, None, ◌==◌}
+-- Leaves and devices to which names are bound, one binding after another.
+use Rattle.std.proofs.Common.{◌≡◌, ◌<◌, ◌+◌, ℕ, List, [], ◌∷◌, ◌++◌, length, map, take, get_or, ap, sym, subst, ◌∙◌}
 use Rattle.std.proofs.lemmas.List.{map-append, take_more}
-use Rattle.std.specs.List.{position_or_len, before_first, after_first}
-use Rattle.std.proofs.lemmas.Bool.{lt-ltb, ltb-true}
 use Rattle.block_device.specs.Device.{Device}
 use Rattle.block_device.specs.declared.any.AnyDev.{AnyDev}
-use Rattle.stack_loader.specs.Records.{LeafRecord}
+use Rattle.stack_rules.specs.Records.{LeafRecord}
 use Rattle.stack_engine.specs.Leaves.{ServeLeaves}
-use Rattle.stack_commands.specs.declared.bindings.Binding.{Binding}
-use Rattle.stack_commands.specs.Bindings.{AreBound, AreDevicesOf, BackingRecord, BindingRecord, IsDeviceOf, backing_record, binding_record, cut}
-
-pub cut-some : (b : ℕ) (text before behind : List ℕ) → position_or_len (λ x. x == b) text < length text
-    → before ≡ before_first (λ x. x == b) text → behind ≡ after_first (λ x. x == b) text → cut b text ≡ Some (before, behind)
-unfolding cut
-cut-some b text before behind has is_before is_behind =
-    let test : nat_lt (position_or_len (λ x. x == b) text) (length text) ≡ true = lt-ltb (position_or_len (λ x. x == b) text) (length text) has in
-    rw (test, is_before, is_behind) refl
-
-pub cut-none : (b : ℕ) (text : List ℕ) → position_or_len (λ x. x == b) text ≡ length text → cut b text ≡ None
-unfolding cut
-cut-none b text lacks =
-    let test : nat_lt (position_or_len (λ x. x == b) text) (length text) ≡ false = not_less (position_or_len (λ x. x == b) text) (length text) lacks in
-    rw test refl
-  where
-    not_less : (m n : ℕ) → m ≡ n → nat_lt m n ≡ false
-    not_less m n e = go (nat_lt m n) refl
-      where
-        go : (t : Bool) → nat_lt m n ≡ t → nat_lt m n ≡ false
-        go false is = is
-        go true is = let lt : m < n = ltb-true m n is in absurd (omega arith)
+use Rattle.command_line.specs.declared.bindings.Binding.{Binding}
+use Rattle.command_line.specs.Bindings.{BackingRecord, BindingRecord, backing_record, binding_record}
+use Rattle.stack_commands.specs.Bindings.{AreBound, AreDevicesOf, IsDeviceOf}
 
 AreDevicesOf-last : (backings : List BackingRecord) (devices : List Device) (backing : BackingRecord) (device : Device) → AreDevicesOf backings devices
     → IsDeviceOf backing device → AreDevicesOf (backings ++ backing ∷ []) (devices ++ device ∷ [])

@@ -7,13 +7,13 @@ use Rattle.dm_table.specs.declared.fault.ParseFault.{ParseFault}
 use Rattle.dm_table.specs.declared.fault.ParseFault.TheVariants as parse
 use Rattle.dm_table.specs.Reading.{IsAnswer}
 use Rattle.dm_table.specs.StackText.{stack_of}
-use Rattle.stack_loader.specs.declared.refusal.ConfigFault.{ConfigFault}
-use Rattle.stack_loader.specs.declared.refusal.LoadFault.{LoadFault}
-use Rattle.stack_loader.specs.declared.refusal.LoadFault.TheVariants as load
-use Rattle.stack_loader.specs.declared.refusal.Refusal.{Refusal}
-use Rattle.stack_loader.specs.Records.{Configuration, LeafRecord}
-use Rattle.stack_loader.specs.Leaves.{first_fault}
-use Rattle.stack_loader.specs.Rules.{first_refusal, after_load}
+use Rattle.stack_rules.specs.declared.refusal.ConfigFault.{ConfigFault}
+use Rattle.stack_rules.specs.declared.refusal.LoadFault.{LoadFault}
+use Rattle.stack_rules.specs.declared.refusal.LoadFault.TheVariants as load
+use Rattle.stack_rules.specs.declared.refusal.Refusal.{Refusal}
+use Rattle.stack_rules.specs.Records.{Configuration, LeafRecord}
+use Rattle.stack_rules.specs.Leaves.{first_fault}
+use Rattle.stack_rules.specs.Rules.{first_refusal, after_load}
 use Rattle.command_faults.specs.declared.fault.CommandFault.{CommandFault}
 use Rattle.command_faults.specs.declared.fault.CommandFault.TheVariants.{Leaves, Text, Load, NoMemory}
 use Rattle.command_faults.specs.Endings.{text_ending, load_ending}

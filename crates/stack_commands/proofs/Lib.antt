@@ -1,10 +1,7 @@
 pub mod BindingLemmas
-pub mod CommandLemmas
-pub mod CommandWordLemmas
 pub mod ConfigurationLemmas
 pub mod FileUseLemmas
-pub mod GrammarLemmas
 pub mod OpeningLemmas
 pub mod RecoveryLemmas
 pub mod ServeLemmas
-pub mod SyncLemmas
+pub mod UsageLemmas

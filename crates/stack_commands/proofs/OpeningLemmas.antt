@@ -3,8 +3,8 @@ use Rattle.std.proofs.Common.{◌≡◌, ◌⊎◌, ◌<◌, ℕ, zero, suc, Lis
 use Rattle.std.specs.Prelude.{IfErr, IsErrAnd}
 use Rattle.command_faults.specs.declared.fault.CommandFault.{CommandFault}
 use Rattle.command_faults.specs.declared.fault.CommandFault.TheVariants.{NoMemory}
-use Rattle.stack_commands.specs.declared.bindings.Binding.{Binding}
-use Rattle.stack_commands.specs.Bindings.{backing_record, binding_record}
+use Rattle.command_line.specs.declared.bindings.Binding.{Binding}
+use Rattle.command_line.specs.Bindings.{backing_record, binding_record}
 use Rattle.stack_commands.specs.Openings.{IsBackingEnd, IsBindingEnd}
 
 -- what holds of a fault holds of the result that hands it on

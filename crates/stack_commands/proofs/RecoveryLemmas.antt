@@ -3,7 +3,7 @@ use Rattle.std.proofs.Common.{◌≡◌, ℕ, ◌-◌, ◌≤◌, ◌<◌, ◌^�
 use Rattle.std.specs.Io.KnownBytes.{Appends}
 use Rattle.std.proofs.lemmas.List.{append-nil, append_assoc}
 use Rattle.block_device.specs.Device.{Device}
-use Rattle.stack_loader.specs.Records.{LeafRecord}
+use Rattle.stack_rules.specs.Records.{LeafRecord}
 use Rattle.stack_engine.specs.Pieces.{stack_over}
 use Rattle.stack_engine.specs.Stacks.{StackRecord}
 use Rattle.command_faults.specs.declared.fault.CommandFault.{CommandFault}
@@ -14,7 +14,8 @@ use Rattle.stack_recovery.specs.LostRuns.{lost_in, lost_runs}
 use Rattle.stack_recovery.specs.Recoveries.{IsBegun, Recovers, Sides}
 use Rattle.stack_recovery.specs.Surveys.{IsSurvey, PieceRead, State, all_states}
 use Rattle.stack_recovery.specs.Texts.{runs_text}
-use Rattle.stack_commands.specs.Bindings.{AreBound, BindingRecord}
+use Rattle.stack_commands.specs.Bindings.{AreBound}
+use Rattle.command_line.specs.Bindings.{BindingRecord}
 use Rattle.stack_commands.specs.Recoveries.{AllFound, AreFound, DeviceWords, HasDevice, IsCopyEnd, IsFoundEnd, IsOutputEnd, IsScanEnd, PrintsLost, PrintsRuns, PrintsSome, PrintsStates}
 use Rattle.stack_commands.specs.Recovering.{IsCountsEnd, IsRecoverEnd, TellsCounts}
 use Rattle.stack_commands.specs.StackCommands.{IsLoaded}

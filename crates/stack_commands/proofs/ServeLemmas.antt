@@ -4,7 +4,7 @@ use Rattle.block_device.specs.Device.{Device}
 use Rattle.nbd_server.specs.declared.fault.ServiceFault.{ServiceFault}
 use Rattle.nbd_server.specs.Exports.{ExportRecord, IsExport}
 use Rattle.nbd_server.specs.Service.{IsService}
-use Rattle.stack_loader.specs.Records.{Configuration, LeafRecord}
+use Rattle.stack_rules.specs.Records.{Configuration, LeafRecord}
 use Rattle.stack_engine.specs.declared.fault.IoFault.{IoFault}
 use Rattle.stack_engine.specs.Pieces.{stack_over}
 use Rattle.request_queue.specs.World.{World}
@@ -13,7 +13,8 @@ use Rattle.stack_session.specs.QueueSessions.{IsQueueSession}
 use Rattle.stack_session.specs.Session.{Streams}
 use Rattle.command_faults.specs.declared.fault.CommandFault.{CommandFault}
 use Rattle.command_faults.specs.declared.fault.CommandFault.TheVariants.{Usage, NoMemory, TooLong, Open, Leaves, Text, Load, Submit, Io, Format, Verify, Differs, Random, Lost, OutputTooSmall, OutputFailed, Session, Service}
-use Rattle.stack_commands.specs.Bindings.{AreBound, BindingRecord}
+use Rattle.stack_commands.specs.Bindings.{AreBound}
+use Rattle.command_line.specs.Bindings.{BindingRecord}
 use Rattle.stack_commands.specs.Configuration.{configuration_of, leaves_alone}
 use Rattle.stack_commands.specs.Openings.{IsBindingEnd}
 use Rattle.stack_commands.specs.Requests.{new_world}

@@ -1,29 +1,23 @@
 -- What the program does: which command prints what where it succeeds, and how it ends early.
-use Rattle.std.specs.Prelude.{◌≡◌, ◌⊎◌, ℕ, Bool, true, List, [], codes, Option, Some, None, Ok, unwrap_or}
-use Rattle.std.specs.Option.{option_and_then}
-use Rattle.clap.specs.Simple.{subcommand_of}
-use Rattle.clap.specs.Takes.{takes}
-use Rattle.clap.specs.Walk.{Text, all_of, first_of}
+use Rattle.std.specs.Prelude.{◌≡◌, ◌⊎◌, ℕ, Bool, true, List, Some, Ok}
 use Rattle.command_faults.specs.declared.fault.CommandFault.{CommandFault}
+use Rattle.command_faults.specs.declared.fault.CommandFault.TheVariants.{NoMemory, Usage}
 use Rattle.command_faults.specs.Endings.{IsEnd, IsQuiet}
-use Rattle.image_commands.specs.declared.options.ImageOptions.{ImageOptions}
+use Rattle.command_line.specs.declared.image_options.ImageOptions.{ImageOptions}
 use Rattle.image_commands.specs.ImageCommands.{IsFormatFilesEnd, IsSuperblockEnd, IsVerifyFilesEnd, PrintsMade, PrintsMatches, PrintsSuperblock}
 use Rattle.image_commands.specs.SuperblockTexts.{line_text, superblock_text}
 use Rattle.request_queue.specs.Requests.{a_read, a_write}
 use Rattle.stack_session.specs.Session.{Streams}
-use Rattle.stack_commands.specs.CommandWords.{InvocationRecord, IsUsage, copy, dump, format, invocation_of, load, nbd, read, scan, session, table, verify, write}
-use Rattle.stack_commands.specs.Grammar.{grammar}
+use Rattle.command_line.specs.CommandWords.{InvocationRecord, copy, dump, format, load, nbd, read, scan, session, table, verify, write}
+use Rattle.command_line.specs.CommandLines.{IsNoCommand, invoked}
 use Rattle.stack_commands.specs.Recoveries.{IsCopyEnd, IsScanEnd, PrintsStates, device_words}
 use Rattle.stack_commands.specs.StackCommands.{FailsToAsk, FailsToList, IsClientEnd, IsServeEnd, IsStackEnd, IsWriteFilesEnd, PrintsDevices, PrintsReply, PrintsWritten, Serves, ServesClient}
 
--- what the words of a command line invoke, as clap cuts them into a command's name, its options and its positional words
-abbrev pub invoked : List Text → Option InvocationRecord
-invoked words =
-    option_and_then (λ cut. invocation_of cut.0 (first_of (codes "cache") cut.1) (unwrap_or (all_of (codes "words") cut.1) [])) (subcommand_of grammar words)
-
--- clap doesn't take the words, or they invoke nothing
-abbrev pub IsNoCommand : List Text → Type 0
-IsNoCommand words = (takes grammar words ≡ true → ⊥) ⊎ (invoked words ≡ None)
+-- the fault is `Usage` with that cause, or memory ran out
+abbrev pub IsUsageEnd : CommandFault → Type 0 → Type 0
+IsUsageEnd Usage Cause = Cause
+IsUsageEnd NoMemory Cause = Unit {0}
+IsUsageEnd fault Cause = ⊥
 
 -- what each command prints where it succeeds
 abbrev pub Succeeds : InvocationRecord → Streams → Streams → Type 0
@@ -48,7 +42,7 @@ IsCauseOf (session cache bindings) fault = ⊥
 IsCauseOf (nbd cache stack name bindings) fault = ⊥
 IsCauseOf (scan stack name bindings) fault = ⊥
 IsCauseOf (copy stack name out bindings) fault = ⊥
-IsCauseOf (format image hash) fault = IsUsage fault (Unit {0}) ⊎ ((options : ImageOptions) × IsFormatFilesEnd image hash options fault)
+IsCauseOf (format image hash) fault = IsUsageEnd fault (Unit {0}) ⊎ ((options : ImageOptions) × IsFormatFilesEnd image hash options fault)
 IsCauseOf (verify image hash root) fault = IsVerifyFilesEnd image hash root fault
 IsCauseOf (dump hash) fault = IsSuperblockEnd hash fault
 IsCauseOf (table hash root image_name hash_name) fault = IsSuperblockEnd hash fault
@@ -63,17 +57,17 @@ Fails (copy stack name out bindings) old new fault = IsCopyEnd (device_words sta
 Fails invocation old new fault = IsCauseOf invocation fault × IsQuiet fault old.output new.output
 
 -- the words are no command, or memory ran out while they were read; or their command ended early
-abbrev pub IsRunEnd : List Text → Streams → Streams → CommandFault → Type 0
+abbrev pub IsRunEnd : List (List ℕ) → Streams → Streams → CommandFault → Type 0
 IsRunEnd words old new fault =
-    (IsUsage fault (IsNoCommand words) × (new ≡ old)) ⊎ ((invocation : InvocationRecord) × (invoked words ≡ Some invocation) × Fails invocation old new fault)
+    (IsUsageEnd fault (IsNoCommand words) × (new ≡ old)) ⊎ ((invocation : InvocationRecord) × (invoked words ≡ Some invocation) × Fails invocation old new fault)
 
 -- A command ended early: its text is printed and its status answered, or that can't be written.
-pub record EndsEarly (words : List Text) (old new : Streams) (failed : Bool) (status : ℕ) : Type 0 where
+pub record EndsEarly (words : List (List ℕ)) (old new : Streams) (failed : Bool) (status : ℕ) : Type 0 where
   pub fault : CommandFault
   pub before : Streams
   pub fails : IsRunEnd words old before fault
   pub told : IsEnd fault before.output new.output status ⊎ ((status ≡ 1) × (failed ≡ true))
 
 -- the command of some words succeeded
-abbrev pub IsDone : List Text → Streams → Streams → Type 0
+abbrev pub IsDone : List (List ℕ) → Streams → Streams → Type 0
 IsDone words old new = (invocation : InvocationRecord) × (invoked words ≡ Some invocation) × Succeeds invocation old new

@@ -3,13 +3,13 @@ use Rattle.std.specs.Prelude.{ℕ, zero, suc, List, [], ◌++◌, length, codes,
 use Rattle.dm_table.specs.declared.stack.Entry.{Entry}
 use Rattle.dm_table.specs.declared.fault.TextFault.{TextFault}
 use Rattle.dm_table.specs.StackText.{stack_of}
-use Rattle.stack_loader.specs.declared.refusal.ConfigFault.{ConfigFault}
-use Rattle.stack_loader.specs.declared.refusal.Refusal.{Refusal}
-use Rattle.stack_loader.specs.Records.{Configuration, LeafRecord}
-use Rattle.stack_loader.specs.Leaves.{first_fault}
-use Rattle.stack_loader.specs.Names.{mapped, name_of, size, may_write}
-use Rattle.stack_loader.specs.Descend.{depth, read_cost, write_cost}
-use Rattle.stack_loader.specs.Rules.{first_refusal, after_load}
+use Rattle.stack_rules.specs.declared.refusal.ConfigFault.{ConfigFault}
+use Rattle.stack_rules.specs.declared.refusal.Refusal.{Refusal}
+use Rattle.stack_rules.specs.Records.{Configuration, LeafRecord}
+use Rattle.stack_rules.specs.Leaves.{first_fault}
+use Rattle.stack_rules.specs.Names.{mapped, name_of, size, may_write}
+use Rattle.stack_rules.specs.Descend.{depth, read_cost, write_cost}
+use Rattle.stack_rules.specs.Rules.{first_refusal, after_load}
 use Rattle.command_faults.specs.declared.fault.CommandFault.{CommandFault}
 use Rattle.command_faults.specs.declared.fault.CommandFault.TheVariants.{Leaves, Text, Load}
 

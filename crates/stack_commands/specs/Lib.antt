@@ -1,12 +1,9 @@
 pub mod Bindings
-pub mod CommandWords
 pub mod Commands
 pub mod Configuration
 pub mod FileUses
-pub mod Grammar
 pub mod Openings
 pub mod Recoveries
 pub mod Recovering
 pub mod Requests
 pub mod StackCommands
-pub mod Syncs

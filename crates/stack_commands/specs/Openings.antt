@@ -2,7 +2,7 @@
 use Rattle.std.specs.Prelude.{◌≡◌, ◌⊎◌, ℕ, List, [], ◌∷◌}
 use Rattle.command_faults.specs.declared.fault.CommandFault.{CommandFault}
 use Rattle.command_faults.specs.declared.fault.CommandFault.TheVariants.{NoMemory, Open, TooLong}
-use Rattle.stack_commands.specs.Bindings.{BackingRecord, BindingRecord, file, ramp, zeros}
+use Rattle.command_line.specs.Bindings.{BackingRecord, BindingRecord, file, ramp, zeros}
 
 -- the file at this path isn't opened or can't be read, or memory ran out
 abbrev pub IsReadEnd : List ℕ → CommandFault → Type 0

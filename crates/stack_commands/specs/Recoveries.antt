@@ -2,8 +2,8 @@
 use Rattle.std.specs.Prelude.{◌≡◌, ◌⊎◌, ℕ, ◌-◌, ◌<◌, List, ◌++◌, length, Option, Some, None, Ok}
 use Rattle.std.specs.Io.KnownBytes.{Appends}
 use Rattle.block_device.specs.Device.{Device}
-use Rattle.stack_loader.specs.Names.{device_named, mapped, size}
-use Rattle.stack_loader.specs.Records.{Configuration, LeafRecord}
+use Rattle.stack_rules.specs.Names.{device_named, mapped, size}
+use Rattle.stack_rules.specs.Records.{Configuration, LeafRecord}
 use Rattle.stack_engine.specs.Pieces.{stack_over}
 use Rattle.stack_engine.specs.Stacks.{StackRecord}
 use Rattle.request_queue.specs.declared.fault.SubmitFault.TheVariants.{NoSuchDevice}
@@ -16,7 +16,7 @@ use Rattle.stack_recovery.specs.declared.lost_run.LostRun.{LostRun}
 use Rattle.stack_recovery.specs.LostRuns.{lost_in, lost_runs}
 use Rattle.stack_recovery.specs.Surveys.{IsSurvey, PieceRead, State, all_states}
 use Rattle.stack_recovery.specs.Texts.{runs_text}
-use Rattle.stack_commands.specs.Bindings.{BindingRecord}
+use Rattle.command_line.specs.Bindings.{BindingRecord}
 use Rattle.stack_commands.specs.Configuration.{configuration_of}
 use Rattle.stack_commands.specs.StackCommands.{FailsToLoad, Failing, IsLoaded, IsStackEnd}
 

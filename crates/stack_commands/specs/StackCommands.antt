@@ -2,9 +2,10 @@
 use Rattle.std.specs.Prelude.{◌≡◌, ◌⊎◌, ◌≤◌, ◌^◌, ℕ, List, length, Option, Some, Result, Ok, Err}
 use Rattle.std.specs.Io.KnownBytes.{Appends}
 use Rattle.block_device.specs.Device.{Device}
-use Rattle.stack_loader.specs.Leaves.{first_fault}
-use Rattle.stack_loader.specs.Records.{Configuration, LeafRecord}
+use Rattle.stack_rules.specs.Leaves.{first_fault}
+use Rattle.stack_rules.specs.Records.{Configuration, LeafRecord}
 use Rattle.stack_engine.specs.Pieces.{stack_over}
+use Rattle.stack_engine.specs.Syncs.{FailsToSync}
 use Rattle.nbd_server.specs.declared.fault.ServiceFault.{ServiceFault}
 use Rattle.nbd_server.specs.Exports.{ExportRecord, IsExport}
 use Rattle.nbd_server.specs.Service.{IsService}
@@ -19,12 +20,12 @@ use Rattle.stack_session.specs.Session.{Streams}
 use Rattle.stack_session.specs.Texts.{reply_text, written_text}
 use Rattle.command_faults.specs.declared.fault.CommandFault.{CommandFault}
 use Rattle.command_faults.specs.declared.fault.CommandFault.TheVariants.{Io, Leaves, NoMemory, Service, Session, Submit}
-use Rattle.stack_commands.specs.Bindings.{AreBound, BindingRecord}
+use Rattle.stack_commands.specs.Bindings.{AreBound}
+use Rattle.command_line.specs.Bindings.{BindingRecord}
 use Rattle.stack_commands.specs.Configuration.{configuration_of, devices_text, leaves_alone}
 use Rattle.command_faults.specs.Endings.{MayEnd}
 use Rattle.stack_commands.specs.Openings.{IsBindingEnd, IsReadEnd, IsTextEnd}
 use Rattle.stack_commands.specs.Requests.{FailsToServe, IsServed, new_world}
-use Rattle.stack_commands.specs.Syncs.{FailsToSync}
 
 -- the configuration that a stack text of at most 1 MiB makes of the bindings' leaves
 pub record IsLoaded (bindings : List BindingRecord) (config : Configuration) (devices : List Device) : Type 0 where

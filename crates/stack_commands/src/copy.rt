@@ -1,15 +1,15 @@
 // The command `copy`: copies what can be had of a device.
 ghost use Rattle.std.specs.Prelude.{◌≡◌, false, true, map, OnOk, IfErr};
 ghost use Rattle.block_device.specs.Device.{HasFailed};
-ghost use Rattle.stack_commands.specs.Bindings.{binding_record};
+ghost use Rattle.command_line.specs.Bindings.{binding_record};
 ghost use Rattle.stack_commands.specs.Recoveries.{IsCopyEnd, PrintsStates, device_words};
 
-use crate::bindings::Binding;
 use crate::device::{load_device, recover_device, tell_counts};
 use crate::file_use::FileUse;
 use crate::opening::{open_all, stack_text};
-use block_device::BlockDev;
+use block_device::{BlockDev, SyncDev};
 use command_faults::{CommandFault, open_file};
+use command_line::Binding;
 use stack_session::Counted;
 use std::fs::File;
 use std::io::Write;

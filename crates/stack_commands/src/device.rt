@@ -1,6 +1,6 @@
 // The mapped device that a command goes over.
 ghost use Rattle.std.specs.Prelude.{◌≡◌, ◌≤◌, ◌<◌, ◌^◌, length, map, IsTrue, IfOk, IfErr, OnOk};
-ghost use Rattle.stack_loader.specs.Names.{mapped, size};
+ghost use Rattle.stack_rules.specs.Names.{mapped, size};
 ghost use Rattle.stack_engine.specs.Leaves.{ServeLeaves};
 ghost use Rattle.stack_recovery.specs.Recoveries.{Recovers, sides};
 ghost use Rattle.stack_commands.specs.Recoveries.{FailsToFind, HasDevice};

@@ -1,17 +1,17 @@
 // The command `load`: checks a stack, and says what its devices are.
 ghost use Rattle.std.specs.Prelude.{◌≡◌, ◌≤◌, ◌<◌, ◌^◌, codes, if◌then◌else◌, length, map, Ok, IfErr, OnOk};
 ghost use Rattle.std.specs.Io.KnownBytes.{Appends};
-ghost use Rattle.stack_loader.specs.Records.{Configuration};
+ghost use Rattle.stack_rules.specs.Records.{Configuration};
 ghost use Rattle.stack_session.specs.Counted.{Writes};
 ghost use Rattle.command_faults.specs.Endings.{IsQuiet};
-ghost use Rattle.stack_commands.specs.Bindings.{binding_record};
+ghost use Rattle.command_line.specs.Bindings.{binding_record};
 ghost use Rattle.stack_commands.specs.Configuration.{configuration_of, device_facts, device_line, devices_text};
 ghost use Rattle.stack_commands.specs.StackCommands.{FailsToList, FailsToLoad, IsStackEnd, PrintsDevices};
 
-use crate::bindings::Binding;
 use crate::configuration::configuration_of;
 use crate::opening::{OpenLeaves, open_all, stack_text};
 use command_faults::CommandFault;
+use command_line::Binding;
 use stack_loader::{Config, DevId, Leaf};
 use stack_session::{Counted, WriteFault};
 use std::alloc::Global;

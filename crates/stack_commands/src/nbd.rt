@@ -1,21 +1,19 @@
 // The command `nbd`: serves a device to a client of the NBD protocol.
 ghost use Rattle.std.specs.Prelude.{◌≡◌, ◌≤◌, ◌^◌, length, map, Ok, OnOk, IfOk, IfErr};
-ghost use Rattle.stack_loader.specs.Records.{Configuration};
+ghost use Rattle.stack_rules.specs.Records.{Configuration};
 ghost use Rattle.stack_engine.specs.Leaves.{ServeLeaves};
 ghost use Rattle.stack_engine.specs.Pieces.{stack_over};
 ghost use Rattle.stack_session.specs.Session.{streams};
-ghost use Rattle.stack_commands.specs.Bindings.{binding_record};
+ghost use Rattle.command_line.specs.Bindings.{binding_record};
 ghost use Rattle.stack_commands.specs.Configuration.{configuration_of};
 ghost use Rattle.stack_commands.specs.Requests.{new_world};
 ghost use Rattle.stack_commands.specs.StackCommands.{FailsToLoad, IsClientEnd, ServesClient};
 
-use crate::bindings::Binding;
-use crate::command_words::ServedDevice;
 use crate::configuration::configuration_of;
 use crate::opening::{OpenLeaves, open_all, stack_text};
-use crate::sync::sync_stack;
 use block_device::{AnyDev, BlockDev};
 use command_faults::CommandFault;
+use command_line::{Binding, ServedDevice};
 use nbd_server::{Export, serve};
 use request_queue::{Queue, SubmitFault};
 use stack_engine::Stack;
@@ -44,7 +42,7 @@ pub fn serve_client<'a, R: Files<File = File> + AllocGlobal, S: Read, W: Write>(
         return Err(CommandFault::Submit(SubmitFault::NoSuchDevice));
     };
     let outcome = serve(rt.alloc(), &mut queue, &export, reader, writer);
-    let synced = sync_stack(queue.into_stack());
+    let synced = queue.sync();
     outcome?;
     Ok(synced?)
 }

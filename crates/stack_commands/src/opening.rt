@@ -1,14 +1,15 @@
 // Opens what a command line names.
 ghost use Rattle.std.specs.Prelude.{false, ◌≡◌, ◌≤◌, ◌^◌, ◌++◌, [], ◌∷◌, length, map, IfOk, IfErr, OnOk};
 ghost use Rattle.stack_engine.specs.Leaves.{ServeLeaves};
-ghost use Rattle.stack_commands.specs.Bindings.{AreBound, IsDeviceOf, backing_record, binding_record};
+ghost use Rattle.stack_commands.specs.Bindings.{AreBound, IsDeviceOf};
+ghost use Rattle.command_line.specs.Bindings.{backing_record, binding_record};
 ghost use Rattle.stack_commands.specs.FileUses.{AreApart, AreApartBeside, has_clash, use_of};
 ghost use Rattle.stack_commands.specs.Openings.{IsBackingEnd, IsBindingEnd, IsTextEnd};
 
-use crate::bindings::{Backing, Binding};
 use crate::file_use::{FileUse, has_clash};
 use block_device::{AnyDev, BlockDev, MemoryDev, OpenFault};
 use command_faults::{CommandFault, open_file};
+use command_line::{Backing, Binding};
 use stack_loader::Leaf;
 use std::alloc::{AllocError, Global};
 use std::fs;

@@ -1,21 +1,18 @@
 // The whole program: its words, a reader and a writer in, the status out.
 ghost use Rattle.std.specs.Prelude.{false, ◌≡◌, ◌⊎◌, map, string_bytes, OnOk, IfErr};
 ghost use Rattle.stack_session.specs.Session.{streams};
-ghost use Rattle.stack_commands.specs.CommandWords.{invocation_record};
+ghost use Rattle.command_line.specs.CommandWords.{invocation_record};
 ghost use Rattle.stack_commands.specs.Commands.{EndsEarly, Fails, IsDone, IsRunEnd, Succeeds};
 
-use crate::command_words::{Invocation, invocation_of};
 use crate::copy::copy_files;
-use crate::grammar::matches_of;
-use crate::image_options::options_of;
 use crate::load::load_files;
 use crate::nbd::serve_client;
 use crate::read::read_files;
 use crate::scan::scan_files;
 use crate::serve::serve_files;
 use crate::write::write_files;
-use clap::ArgMatches;
 use command_faults::{CommandFault, end};
+use command_line::{CommandLine, Invocation, OptionWords, options_of, parse};
 use image_commands::{LineWords, dump_file, format_files, print_table_of_file, verify_files};
 use stack_session::Counted;
 use std::fs::File;
@@ -56,23 +53,18 @@ fn run<'a, R: Files<File = File> + AllocGlobal + RandomSource, S: Read, W: Write
     ensures ok { OnOk result (IsDone (map string_bytes words.now) (streams (S.remaining reader.old.inner) (W.contents writer.old.inner)) (streams (S.remaining reader.new.inner) (W.contents writer.new.inner))) }
     ensures err { IfErr result (IsRunEnd (map string_bytes words.now) (streams (S.remaining reader.old.inner) (W.contents writer.old.inner)) (streams (S.remaining reader.new.inner) (W.contents writer.new.inner))) }
 {
-    let alloc = rt.alloc();
-    let matches = matches_of(alloc, words)?;
-    let Some((name, found)) = matches.subcommand() else {
-        return Err(CommandFault::Usage);
-    };
-    let words = found.get_strs("words").unwrap_or(&[]);
-    match invocation_of(alloc, name.as_bytes(), found.get_str("cache"), words) {
-        Ok(invocation) => invoke(rt, invocation, found, reader, writer),
-        Err(fault) => Err(fault),
-    }
+    let CommandLine {
+        invocation,
+        options,
+    } = parse(rt.alloc(), words)?;
+    invoke(rt, invocation, &options, reader, writer)
 }
 
-// Runs a command, whose options stand in what was found.
+// Runs a command; the options are those of `format`.
 fn invoke<'a, R: Files<File = File> + AllocGlobal + RandomSource, S: Read, W: Write>(
     rt: &R,
     invocation: Invocation<'a>,
-    found: &ArgMatches<'a>,
+    options: &OptionWords<'a>,
     reader: &mut Counted<S>,
     writer: &mut Counted<W>,
 ) -> Result<(), CommandFault<'a>>
@@ -113,7 +105,7 @@ fn invoke<'a, R: Files<File = File> + AllocGlobal + RandomSource, S: Read, W: Wr
             serve_client(rt, device, bindings.as_slice(), reader, writer)
         }
         Invocation::Format { data, hash } => {
-            let options = options_of(rt.alloc(), found)?;
+            let options = options_of(rt.alloc(), options)?;
             format_files(rt, options, data, hash, writer)
         }
         Invocation::Verify { data, hash, root } => verify_files(rt, data, hash, &root, writer),

@@ -1,26 +1,24 @@
 // The command `read`: loads a stack, and prints sectors of one of its devices.
 ghost use Rattle.std.specs.Prelude.{◌≡◌, ◌≤◌, ◌^◌, length, map, Ok, OnOk, IfOk, IfErr};
 ghost use Rattle.std.specs.Io.KnownBytes.{Appends};
-ghost use Rattle.stack_loader.specs.Records.{Configuration};
+ghost use Rattle.stack_rules.specs.Records.{Configuration};
 ghost use Rattle.stack_engine.specs.Leaves.{ServeLeaves};
 ghost use Rattle.stack_engine.specs.Pieces.{stack_over};
 ghost use Rattle.request_queue.specs.declared.reply.Reply.{Reply as Told};
 ghost use Rattle.request_queue.specs.World.{World};
 ghost use Rattle.stack_session.specs.Texts.{reply_text};
-ghost use Rattle.stack_commands.specs.Bindings.{binding_record};
-ghost use Rattle.stack_commands.specs.CommandWords.{read_request};
+ghost use Rattle.command_line.specs.Bindings.{binding_record};
+ghost use Rattle.stack_commands.specs.Requests.{FailsToServe, IsServed, new_world, read_request};
 ghost use Rattle.stack_commands.specs.Configuration.{configuration_of};
 ghost use Rattle.command_faults.specs.Endings.{IsQuiet};
-ghost use Rattle.stack_commands.specs.Requests.{FailsToServe, IsServed, new_world};
 ghost use Rattle.stack_commands.specs.StackCommands.{FailsToAsk, IsStackEnd, PrintsReply};
 
-use crate::bindings::Binding;
-use crate::command_words::Sectors;
 use crate::configuration::configuration_of;
 use crate::opening::{OpenLeaves, open_all, stack_text};
 use crate::request::serve_request;
 use block_device::{AnyDev, BlockDev};
 use command_faults::CommandFault;
+use command_line::{Binding, Sectors};
 use request_queue::{Queue, Reply, Request};
 use stack_engine::Stack;
 use stack_session::{Counted, say_reply};

@@ -1,12 +1,12 @@
 // The command `scan`: says which sectors of a device are lost.
 ghost use Rattle.std.specs.Prelude.{map, OnOk, IfErr};
-ghost use Rattle.stack_commands.specs.Bindings.{binding_record};
+ghost use Rattle.command_line.specs.Bindings.{binding_record};
 ghost use Rattle.stack_commands.specs.Recoveries.{IsScanEnd, PrintsStates, device_words};
 
-use crate::bindings::Binding;
 use crate::device::{load_device, recover_device, tell_counts};
 use crate::opening::{open_all, stack_text};
 use command_faults::CommandFault;
+use command_line::Binding;
 use stack_recovery::Discard;
 use stack_session::Counted;
 use std::fs::File;

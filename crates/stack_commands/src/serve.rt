@@ -1,13 +1,12 @@
 // The command `session`: serves the lines of a reader.
 ghost use Rattle.std.specs.Prelude.{false, ◌≡◌, map, Ok, OnOk, IfErr};
 ghost use Rattle.stack_session.specs.Session.{streams};
-ghost use Rattle.stack_commands.specs.Bindings.{binding_record};
+ghost use Rattle.command_line.specs.Bindings.{binding_record};
 ghost use Rattle.stack_commands.specs.StackCommands.{IsServeEnd, Serves};
 
-use crate::bindings::Binding;
 use crate::opening::{OpenLeaves, open_all};
-use crate::sync::sync_stack;
 use command_faults::CommandFault;
+use command_line::Binding;
 use request_queue::Queue;
 use stack_engine::Stack;
 use stack_loader::Config;
@@ -36,7 +35,7 @@ pub fn serve_files<'a, R: Files<File = File> + AllocGlobal, S: Read, W: Write>(
     };
     let mut queue = Queue::new(rt.alloc(), stack);
     let outcome = session(rt.alloc(), &mut queue, reader, writer);
-    let synced = sync_stack(queue.into_stack());
+    let synced = queue.sync();
     outcome?;
     Ok(synced?)
 }

@@ -1,28 +1,27 @@
 // The command `write`: loads a stack, and writes a file's bytes to one of its devices.
-ghost use Rattle.std.specs.Prelude.{◌≡◌, ◌≤◌, ◌^◌, length, map, Ok, OnOk, IfOk, IfErr};
-ghost use Rattle.stack_loader.specs.Records.{Configuration};
+ghost use Rattle.std.specs.Prelude.{◌≡◌, ◌≤◌, ◌^◌, List, length, map, Ok, OnOk, IfOk, IfErr};
+ghost use Rattle.block_device.specs.Device.{Device};
+ghost use Rattle.stack_rules.specs.Records.{Configuration};
 ghost use Rattle.stack_engine.specs.Leaves.{ServeLeaves};
 ghost use Rattle.stack_engine.specs.Pieces.{stack_over};
+ghost use Rattle.stack_engine.specs.Syncs.{FailsToSync};
 ghost use Rattle.request_queue.specs.declared.reply.Reply.{Reply as Told};
 ghost use Rattle.request_queue.specs.World.{World};
 ghost use Rattle.command_faults.specs.Endings.{IsQuiet};
-ghost use Rattle.stack_commands.specs.Bindings.{binding_record};
-ghost use Rattle.stack_commands.specs.CommandWords.{write_request};
+ghost use Rattle.command_line.specs.Bindings.{binding_record};
+ghost use Rattle.stack_commands.specs.Requests.{FailsToServe, IsServed, new_world, write_request};
 ghost use Rattle.stack_commands.specs.Configuration.{configuration_of};
-ghost use Rattle.stack_commands.specs.Requests.{FailsToServe, IsServed, new_world};
 ghost use Rattle.stack_commands.specs.StackCommands.{FailsToAsk, IsWriteFilesEnd, PrintsWritten};
 
-use crate::bindings::Binding;
-use crate::command_words::Transfer;
 use crate::configuration::configuration_of;
 use crate::opening::{OpenLeaves, open_all, stack_text};
 use crate::request::serve_request;
 use crate::source::{Source, read_source};
-use crate::sync::sync_stack;
 use block_device::{AnyDev, BlockDev};
 use command_faults::CommandFault;
+use command_line::{Binding, Transfer};
 use request_queue::{Queue, Reply, Request};
-use stack_engine::Stack;
+use stack_engine::{IoFault, Stack};
 use stack_session::{Counted, say_written};
 use std::alloc::Global;
 use std::fs::File;
@@ -50,6 +49,13 @@ pub fn write_files<'a, R: Files<File = File> + AllocGlobal, W: Write>(
     let stack = write(rt.alloc(), over, cache, text.as_slice(), transfer, bytes)?;
     sync_stack(stack)?;
     Ok(say_written(writer)?)
+}
+
+// Has what was written put on the media. The stack is of no use after it.
+fn sync_stack(mut stack: Stack<AnyDev>) -> Result<(), IoFault>
+    ensures { IfErr result (λ fault. (after : List Device) × FailsToSync stack.leaves after fault) }
+{
+    stack.sync()
 }
 
 // Loads a text over the leaves, and writes the bytes to the stack that is answered.

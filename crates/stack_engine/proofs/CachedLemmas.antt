@@ -8,10 +8,10 @@ use Rattle.std.specs.Str.{bytes_eq}
 use Rattle.hash_tree.specs.Digests.{digest}
 use Rattle.block_device.specs.Device.{Device}
 use Rattle.dm_table.specs.declared.verity.Verity.{Verity}
-use Rattle.stack_loader.specs.declared.lower.Lower.TheVariants.{Leaf as leaf}
-use Rattle.stack_loader.specs.Names.{named}
-use Rattle.stack_loader.specs.Rules.{most_leaves}
-use Rattle.stack_loader.specs.Records.{Configuration}
+use Rattle.stack_rules.specs.declared.lower.Lower.TheVariants.{Leaf as leaf}
+use Rattle.stack_rules.specs.Names.{named}
+use Rattle.stack_rules.specs.Rules.{most_leaves}
+use Rattle.stack_rules.specs.Records.{Configuration}
 use Rattle.verified_cache.specs.Cache.{CachedBlock, CacheRecord, block_under, blocks_with, cache_after_find, cache_after_keep}
 use Rattle.verified_cache.specs.declared.key.Key.{Key}
 use Rattle.verified_cache.proofs.lemmas.AnswerLemmas.{block_under-is, All-block_under, All-after_find, All-after_keep}

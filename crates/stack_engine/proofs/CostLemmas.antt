@@ -6,17 +6,17 @@ use Rattle.dm_table.specs.declared.table.Base.{Base}
 use Rattle.dm_table.specs.declared.table.Line.{Line}
 use Rattle.dm_table.specs.declared.table.Target.{Target}
 use Rattle.dm_table.specs.declared.table.Target.TheVariants.{Linear, Striped, Zero, Error, Crypt as crypt_target, Verity as verity_target}
-use Rattle.stack_loader.specs.declared.lower.Lower.{Lower}
-use Rattle.stack_loader.specs.declared.lower.Lower.TheVariants.{Leaf as leaf}
-use Rattle.stack_loader.specs.Records.{Configuration}
-use Rattle.stack_loader.specs.Names.{mapped, named, lines_of}
-use Rattle.stack_loader.specs.Descend.{descend, greatest, known, by_name, line_read_cost, line_write_cost, cost_rule, read_cost, write_cost}
-use Rattle.stack_loader.specs.Lines.{IsLine}
-use Rattle.stack_loader.specs.Units.{unit_sectors}
-use Rattle.stack_loader.proofs.lemmas.UnitLemmas.{times-some, unit_sectors-some, unit_write-some}
-use Rattle.stack_loader.proofs.lemmas.CostRuleLemmas.{IsLineLocal, line_read_cost-local, line_write_cost-local, cost-rule}
-use Rattle.stack_loader.specs.Rules.{IsValid}
-use Rattle.stack_loader.proofs.lemmas.ValidLemmas.{depth-low}
+use Rattle.stack_rules.specs.declared.lower.Lower.{Lower}
+use Rattle.stack_rules.specs.declared.lower.Lower.TheVariants.{Leaf as leaf}
+use Rattle.stack_rules.specs.Records.{Configuration}
+use Rattle.stack_rules.specs.Names.{mapped, named, lines_of}
+use Rattle.stack_rules.specs.Descend.{descend, greatest, known, by_name, line_read_cost, line_write_cost, cost_rule, read_cost, write_cost}
+use Rattle.stack_rules.specs.Lines.{IsLine}
+use Rattle.stack_rules.specs.Units.{unit_sectors}
+use Rattle.stack_rules.proofs.lemmas.UnitLemmas.{times-some, unit_sectors-some, unit_write-some}
+use Rattle.stack_rules.proofs.lemmas.CostRuleLemmas.{IsLineLocal, line_read_cost-local, line_write_cost-local, cost-rule}
+use Rattle.stack_rules.specs.Rules.{IsValid}
+use Rattle.stack_rules.proofs.lemmas.ValidLemmas.{depth-low}
 use Rattle.stack_engine.specs.Beneath.{beneath}
 use Rattle.stack_engine.proofs.LoadedLemmas.{at_place, of_beneath}
 

@@ -7,9 +7,9 @@ use Rattle.dm_table.specs.declared.table.Base.{Base}
 use Rattle.dm_table.specs.declared.table.Line.{Line}
 use Rattle.dm_table.specs.declared.table.Target.{Target}
 use Rattle.dm_table.specs.declared.table.Target.TheVariants.{Linear, Striped, Zero, Error}
-use Rattle.stack_loader.specs.Records.{Configuration, DeviceRecord, LeafRecord}
-use Rattle.stack_loader.specs.Names.{mapped}
-use Rattle.stack_loader.specs.Descend.{descend, read_cost}
+use Rattle.stack_rules.specs.Records.{Configuration, DeviceRecord, LeafRecord}
+use Rattle.stack_rules.specs.Names.{mapped}
+use Rattle.stack_rules.specs.Descend.{descend, read_cost}
 use Rattle.stack_engine.specs.Outcomes.{Outcome, span, error_target, mismatch, zero_sector}
 use Rattle.stack_engine.specs.Meaning.{said_at, sector}
 use Rattle.stack_engine.specs.Puts.{done, stopped, put_on}

@@ -1,59 +1,35 @@
 -- What is forgotten before a write to a leaf, and that what stays is true after it.
-use Rattle.std.proofs.Common.{◌≡◌, ◌≢◌, ℕ, zero, suc, ◌+◌, ◌<◌, ◌≤◌, Bool, true, false, not, cond, ◌&&◌, ◌||◌, ◌==◌, List, [], ◌∷◌, length, get_or, map, All, Contains, Option, Some, None, Ok, Err, refl, sym, ap, ◌∙◌, subst, arith, inl, inr}
-use Rattle.std.specs.Prelude.{filter, nat_lt, slice_get}
+use Rattle.std.proofs.Common.{◌≡◌, ◌≢◌, ℕ, zero, suc, ◌+◌, ◌<◌, Bool, true, false, not, cond, ◌&&◌, ◌||◌, ◌==◌, List, [], ◌∷◌, length, get_or, map, All, Contains, Option, Some, None, refl, sym, ap, ◌∙◌, subst, arith, inl, inr}
+use Rattle.std.specs.Prelude.{filter}
 use Rattle.std.specs.List.{list_any, AllByRecursion}
-use Rattle.std.specs.Option.{option_map_or}
-use Rattle.std.proofs.Math.Path.{fun_ext}
 use Rattle.std.proofs.lemmas.Bool.{cases_lt}
 use Rattle.std.proofs.lemmas.Bool.Decides.{nat_tests}
 use Rattle.std.proofs.lemmas.List.{get_or-map, get_or_past, length-map}
 use Rattle.std.proofs.lemmas.List.Elements.{All-nil, All-cons, All-head, All-tail, All-from_recursion}
-use Rattle.std.proofs.lemmas.Option.{slice_get_past}
 use Rattle.block_device.specs.Device.{Device}
-use Rattle.stack_loader.specs.declared.lower.Lower.{Lower}
-use Rattle.stack_loader.specs.declared.lower.Lower.TheVariants.{Leaf as leaf}
-use Rattle.stack_loader.specs.Descend.{known}
-use Rattle.stack_loader.specs.Names.{named, lines_of}
-use Rattle.stack_loader.specs.Records.{Configuration}
-use Rattle.stack_loader.specs.Rules.{most_leaves}
-use Rattle.verified_cache.specs.Cache.{CachedBlock, CacheRecord, is_of_line, cache_without_line}
+use Rattle.stack_rules.specs.declared.lower.Lower.{Lower}
+use Rattle.stack_rules.specs.declared.lower.Lower.TheVariants.{Leaf as leaf}
+use Rattle.stack_rules.specs.Descend.{known}
+use Rattle.stack_rules.specs.Names.{named}
+use Rattle.stack_rules.specs.Records.{Configuration}
+use Rattle.stack_rules.specs.Rules.{most_leaves}
+use Rattle.verified_cache.specs.Cache.{CachedBlock, CacheRecord, cache_without}
 use Rattle.verified_cache.specs.declared.key.Key.{Key}
 use Rattle.stack_engine.specs.declared.leaf_set.LeafSet.{LeafSet}
 use Rattle.stack_engine.specs.Blocks.{hash_sectors, hash_place}
 use Rattle.stack_engine.specs.Caches.{IsCached}
-use Rattle.stack_engine.specs.Changes.{LeafSectors, KeepsOthers, reached}
+use Rattle.stack_engine.specs.Changes.{KeepsOthers, reached}
 use Rattle.stack_engine.specs.Laws.{leaves_beneath}
-use Rattle.stack_engine.specs.Leaves.{images_of, AllSteady, Fixed, fixed_part}
-use Rattle.stack_engine.specs.Meaning.{Said, none_said, said_at, said_by_name}
+use Rattle.stack_engine.specs.Leaves.{images_of, AllSteady, fixed_part}
+use Rattle.stack_engine.specs.Meaning.{Said, none_said, said_at}
 use Rattle.stack_engine.specs.Outcomes.{Images, LeafSector, span}
-use Rattle.stack_engine.specs.Standing.{contains, stands_on, line_stands_on, key_stands_on, cache_without, cache_without_leaf, CoversBlocks}
-use Rattle.stack_engine.proofs.StandingLemmas.{or-false, and-true, and-false, verity-stands, line-past}
-use Rattle.stack_engine.proofs.lemmas.LeafListLemmas.{same_length, AllSteady-kept}
+use Rattle.stack_engine.specs.Standing.{contains, stands_on, key_stands_on, cache_without_leaf, CoversBlocks}
+use Rattle.stack_engine.proofs.StandingLemmas.{and-true, verity-stands}
+use Rattle.stack_engine.proofs.lemmas.LeafListLemmas.{AllSteady-kept}
 use Rattle.stack_engine.proofs.lemmas.LeavesBeneathLemmas.{spans-alike}
 use Rattle.stack_engine.proofs.lemmas.SectorLemmas.{said_at-leaf}
 
 -- ---- blocks under some keys are dropped
-
-filter-then : (p q : CachedBlock → Bool) (xs : List CachedBlock) → filter q (filter p xs) ≡ filter (λ x. p x && q x) xs
-filter-then p q [] = refl
-filter-then p q (x ∷ xs) = go (filter-then p q xs) (p x)
-  where
-    go : filter q (filter p xs) ≡ filter (λ y. p y && q y) xs → (b : Bool) → filter q (cond b (x ∷ filter p xs) (filter p xs)) ≡ cond (b && q x) (x ∷ filter (λ y. p y && q y) xs) (filter (λ y. p y && q y) xs)
-    go more true = ap (λ (rest : List CachedBlock). cond (q x) (x ∷ rest) rest) more
-    go more false = more
-
-neither : (a b : Bool) → (not a && not b) ≡ not (a || b)
-neither true b = refl
-neither false b = refl
-
-without-then : (p q : Key → Bool) (cache : CacheRecord) → cache_without q (cache_without p cache) ≡ cache_without (λ k. p k || q k) cache
-without-then p q cache =
-    ap (λ (blocks : List CachedBlock). record cache { blocks = blocks })
-    (filter-then (λ b. not (p b.key)) (λ b. not (q b.key)) cache.blocks
-    ∙ ap (λ (f : CachedBlock → Bool). filter f cache.blocks) (fun_ext (λ b. neither (p b.key) (q b.key))))
-
-without-same : (p q : Key → Bool) (cache : CacheRecord) → ((k : Key) → p k ≡ q k) → cache_without p cache ≡ cache_without q cache
-without-same p q cache same = ap (λ (f : Key → Bool). cache_without f cache) (fun_ext same)
 
 filter-all : (p : CachedBlock → Bool) (xs : List CachedBlock) → All (λ x. p x ≡ true) xs → filter p xs ≡ xs
 filter-all p [] all = refl
@@ -62,102 +38,12 @@ filter-all p (x ∷ xs) all = ap (λ (b : Bool). cond b (x ∷ filter p xs) (fil
 without-none : (p : Key → Bool) (cache : CacheRecord) → All (λ b. p b.key ≡ false) cache.blocks → cache_without p cache ≡ cache
 without-none p cache all = ap (λ (blocks : List CachedBlock). record cache { blocks = blocks }) (filter-all (λ b. not (p b.key)) cache.blocks (λ i d h. ap not (all i d h)))
 
--- ---- line by line, and device by device
-
-less-more : (l n : ℕ) → (l == n) ≡ false → nat_lt l n ≡ nat_lt l (n + 1)
-less-more l n h = grind (arith, nat_tests)
-
-not-less : (l n : ℕ) → l ≡ n → nat_lt l n ≡ false
-not-less l n h = grind (arith, nat_tests)
-
-now-less : (l n : ℕ) → l ≡ n → nat_lt l (n + 1) ≡ true
-now-less l n h = grind (arith, nat_tests)
+-- ---- the leaves that are noted
 
 same-of : (e d : ℕ) → (e == d) ≡ true → e ≡ d
 same-of e d h = grind (arith, nat_tests)
 
-past-of : (l n : ℕ) → nat_lt l n ≡ false → n ≤ l
-past-of l n h = grind (arith, nat_tests)
-
-zero-less : (l : ℕ) → nat_lt l 0 ≡ false
-zero-less l = grind (arith, nat_tests)
-
 module _ (c : Configuration) (i : ℕ) where
-  -- the key is of one of the first n lines of device d, whose hash device stands on the leaf
-  abbrev pub is_before_line : ℕ → ℕ → Key → Bool
-  is_before_line d n key = key.device == d && (nat_lt key.line n && key_stands_on c i key)
-
-  line-step : (d n : ℕ) (t : Bool) → line_stands_on c i d n ≡ t → (key : Key) → (is_before_line d n key || (t && is_of_line d n key)) ≡ is_before_line d (n + 1) key
-  line-step d n t e key = go (key.device == d) refl (key.line == n) refl
-    where
-      s : Bool
-      s = key_stands_on c i key
-
-      go : (a : Bool) → (key.device == d) ≡ a → (b : Bool) → (key.line == n) ≡ b → ((a && (nat_lt key.line n && s)) || (t && (a && b))) ≡ (a && (nat_lt key.line (n + 1) && s))
-      go false ea b eb = and-false t
-      go true ea false eb = ap (λ (u : Bool). (nat_lt key.line n && s) || u) (and-false t) ∙ or-false (nat_lt key.line n && s) ∙ ap (λ (u : Bool). u && s) (less-more key.line n eb)
-      go true ea true eb =
-          let line : key.line ≡ n = same-of key.line n eb in
-          let stands : s ≡ t = ap (λ (x : ℕ). line_stands_on c i x key.line) (same-of key.device d ea) ∙ ap (line_stands_on c i d) line ∙ e in
-          ap (λ (u : Bool). (u && s) || (t && true)) (not-less key.line n line) ∙ and-true t ∙ sym stands ∙ ap (λ (u : Bool). u && s) (sym (now-less key.line n line))
-
-  pub lines-none : (d : ℕ) (cache : CacheRecord) → cache_without (is_before_line d 0) cache ≡ cache
-  lines-none d cache = without-none (is_before_line d 0) cache (λ k x h. let key = (get_or cache.blocks k x).key in ap (λ (u : Bool). key.device == d && (u && key_stands_on c i key)) (zero-less key.line) ∙ and-false (key.device == d))
-
-  pub lines-more : (d n : ℕ) (cache : CacheRecord) → line_stands_on c i d n ≡ true → cache_without_line d n (cache_without (is_before_line d n) cache) ≡ cache_without (is_before_line d (n + 1)) cache
-  lines-more d n cache e = without-then (is_before_line d n) (is_of_line d n) cache ∙ without-same (λ k. is_before_line d n k || is_of_line d n k) (is_before_line d (n + 1)) cache (line-step d n true e)
-
-  pub lines-same : (d n : ℕ) (cache : CacheRecord) → line_stands_on c i d n ≡ false → cache_without (is_before_line d n) cache ≡ cache_without (is_before_line d (n + 1)) cache
-  lines-same d n cache e = without-same (is_before_line d n) (is_before_line d (n + 1)) cache (λ k. sym (or-false (is_before_line d n k)) ∙ line-step d n false e k)
-
-  -- a line behind the last stands on nothing
-  line-end : (d n : ℕ) → length (lines_of c d) ≤ n → line_stands_on c i d n ≡ false
-  line-end d n past = line-past c i d n (slice_get_past (lines_of c d) n past)
-
-  pub lines-all : (d n : ℕ) (cache : CacheRecord) → length (lines_of c d) ≤ n → cache_without (is_before_line d n) cache ≡ cache_without (λ key. key.device == d && key_stands_on c i key) cache
-  lines-all d n cache past = without-same (is_before_line d n) (λ key. key.device == d && key_stands_on c i key) cache (λ key. by key (key.device == d) refl (nat_lt key.line n) refl)
-    where
-      by : (key : Key) (a : Bool) → (key.device == d) ≡ a → (b : Bool) → nat_lt key.line n ≡ b → (a && (b && key_stands_on c i key)) ≡ (a && key_stands_on c i key)
-      by key false ea b eb = refl
-      by key true ea true eb = refl
-      by key true ea false eb =
-          let behind : n ≤ key.line = past-of key.line n eb in
-          sym (ap (λ (x : ℕ). line_stands_on c i x key.line) (same-of key.device d ea) ∙ line-end d key.line (omega (arith, behind, past)))
-
-  -- the key is of one of the first n devices, and its line's hash device stands on the leaf
-  abbrev pub is_before_device : ℕ → Key → Bool
-  is_before_device n key = nat_lt key.device n && key_stands_on c i key
-
-  device-step : (n : ℕ) (key : Key) → (is_before_device n key || (key.device == n && key_stands_on c i key)) ≡ is_before_device (n + 1) key
-  device-step n key = go (key.device == n) refl
-    where
-      s : Bool
-      s = key_stands_on c i key
-
-      go : (a : Bool) → (key.device == n) ≡ a → ((nat_lt key.device n && s) || (a && s)) ≡ (nat_lt key.device (n + 1) && s)
-      go false ea = or-false (nat_lt key.device n && s) ∙ ap (λ (u : Bool). u && s) (less-more key.device n ea)
-      go true ea =
-          let same : key.device ≡ n = same-of key.device n ea in
-          ap (λ (u : Bool). (u && s) || s) (not-less key.device n same) ∙ ap (λ (u : Bool). u && s) (sym (now-less key.device n same))
-
-  pub devices-none : (cache : CacheRecord) → cache_without (is_before_device 0) cache ≡ cache
-  devices-none cache = without-none (is_before_device 0) cache (λ k x h. let key = (get_or cache.blocks k x).key in ap (λ (u : Bool). u && key_stands_on c i key) (zero-less key.device))
-
-  pub devices-more : (n : ℕ) (cache : CacheRecord) → cache_without (λ key. key.device == n && key_stands_on c i key) (cache_without (is_before_device n) cache) ≡ cache_without (is_before_device (n + 1)) cache
-  devices-more n cache = without-then (is_before_device n) (λ key. key.device == n && key_stands_on c i key) cache ∙ without-same (λ key. is_before_device n key || (key.device == n && key_stands_on c i key)) (is_before_device (n + 1)) cache (device-step n)
-
-  pub devices-all : (n : ℕ) (cache : CacheRecord) → length c.devices ≤ n → cache_without (is_before_device n) cache ≡ cache_without_leaf c i cache
-  devices-all n cache past = without-same (is_before_device n) (key_stands_on c i) cache (λ key. by key (nat_lt key.device n) refl)
-    where
-      by : (key : Key) (b : Bool) → nat_lt key.device n ≡ b → (b && key_stands_on c i key) ≡ key_stands_on c i key
-      by key true eb = refl
-      by key false eb =
-          let behind : n ≤ key.device = past-of key.device n eb in
-          let none : lines_of c key.device ≡ [] = ap (λ o. option_map_or (λ x. x.table) o []) (slice_get_past c.devices key.device (omega (arith, behind, past))) in
-          sym (line-end key.device key.line (omega (arith, ap (λ l. length l) none)))
-
-  -- ---- the leaves that are noted
-
   filter-both : (p : CachedBlock → Bool) (P Q : CachedBlock → Type 0) → ((x : CachedBlock) → P x → p x ≡ true → Q x) → (xs : List CachedBlock) → All P xs → All Q (filter p xs)
   filter-both p P Q turn [] all = All-nil Q
   filter-both p P Q turn (x ∷ xs) all = go (filter-both p P Q turn xs (All-tail P x xs all)) (p x) refl

@@ -7,7 +7,7 @@ use Rattle.std.proofs.lemmas.List.Sums.{sum_by-set}
 use Rattle.std.proofs.lemmas.List.Elements.{All-nil, All-cons}
 use Rattle.std.proofs.lemmas.Bool.{cases_eq}
 use Rattle.block_device.specs.Device.{Device, IsRead, IsWhole, HasFailed}
-use Rattle.stack_loader.specs.Records.{LeafRecord}
+use Rattle.stack_rules.specs.Records.{LeafRecord}
 use Rattle.stack_engine.specs.Leaves.{images_of, ServeLeaves, fixed_part, AllSteady, Counts, AreRead, LeafFailed}
 
 -- a field that is the same at the one leaf that was set

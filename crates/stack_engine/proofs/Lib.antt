@@ -21,6 +21,7 @@ pub mod WritablePlainLemmas
 pub mod UnitWriteLemmas
 pub mod UnitChangeLemmas
 pub mod WriteSourceLemmas
+pub mod CutLemmas
 pub mod HeldLemmas
 pub mod ExampleLemmas
 pub mod TableLineLemmas

@@ -9,16 +9,16 @@ use Rattle.dm_table.specs.declared.table.Base.{Base}
 use Rattle.dm_table.specs.declared.table.Line.{Line}
 use Rattle.dm_table.specs.declared.table.Target.{Target}
 use Rattle.dm_table.specs.declared.table.Target.TheVariants.{Linear, Striped, Zero, Error, Crypt as crypt_target, Verity as verity_target}
-use Rattle.stack_loader.specs.declared.lower.Lower.{Lower}
-use Rattle.stack_loader.specs.declared.lower.Lower.TheVariants.{Leaf as leaf, Device as device}
-use Rattle.stack_loader.specs.Records.{Configuration, DeviceRecord, LeafRecord}
-use Rattle.stack_loader.specs.Names.{mapped, named, names, lines_of, sectors_of, size}
-use Rattle.stack_loader.specs.Descend.{depth}
-use Rattle.stack_loader.specs.Lines.{IsLine}
-use Rattle.stack_loader.proofs.lemmas.UnrollLemmas.{falls-at}
-use Rattle.stack_loader.proofs.lemmas.ValidLemmas.{depth-low}
-use Rattle.stack_loader.proofs.lemmas.ValidLineLemmas.{sound, size-low}
-use Rattle.stack_loader.specs.Rules.{IsValid, IsLoaded, is_undivided, is_beyond, most_sectors, most_depth}
+use Rattle.stack_rules.specs.declared.lower.Lower.{Lower}
+use Rattle.stack_rules.specs.declared.lower.Lower.TheVariants.{Leaf as leaf, Device as device}
+use Rattle.stack_rules.specs.Records.{Configuration, DeviceRecord, LeafRecord}
+use Rattle.stack_rules.specs.Names.{mapped, named, names, lines_of, sectors_of, size}
+use Rattle.stack_rules.specs.Descend.{depth}
+use Rattle.stack_rules.specs.Lines.{IsLine}
+use Rattle.stack_rules.proofs.lemmas.UnrollLemmas.{falls-at}
+use Rattle.stack_rules.proofs.lemmas.ValidLemmas.{depth-low}
+use Rattle.stack_rules.proofs.lemmas.ValidLineLemmas.{sound, size-low}
+use Rattle.stack_rules.specs.Rules.{IsValid, IsLoaded, is_undivided, is_beyond, most_sectors, most_depth}
 use Rattle.stack_engine.specs.Beneath.{beneath}
 
 pub at_place : {X : Type 0} (P : X → Type 0) (xs : List X) (i : ℕ) (x : X) → AllByRecursion P xs → slice_get xs i ≡ Some x → P x

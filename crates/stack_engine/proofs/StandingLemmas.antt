@@ -17,17 +17,17 @@ use Rattle.dm_table.specs.declared.table.Line.{Line}
 use Rattle.dm_table.specs.declared.table.Target.{Target}
 use Rattle.dm_table.specs.declared.table.Target.TheVariants.{Linear, Striped, Zero, Error, Crypt as crypt_target, Verity as verity_target}
 use Rattle.dm_table.specs.declared.verity.Verity.{Verity}
-use Rattle.stack_loader.specs.declared.lower.Lower.{Lower}
-use Rattle.stack_loader.specs.declared.lower.Lower.TheVariants.{Leaf as leaf, Device as device}
-use Rattle.stack_loader.specs.Records.{Configuration, LeafRecord, DeviceRecord}
-use Rattle.stack_loader.specs.Names.{mapped, named, names, lines_of, lowers, path_of}
-use Rattle.stack_loader.specs.Descend.{descend, depth, depth_rule, known, most_devices}
-use Rattle.stack_loader.specs.Lines.{IsLine, names_at, lower_at}
-use Rattle.stack_loader.specs.Rules.{IsLoaded, IsValid, most_depth, most_leaves}
+use Rattle.stack_rules.specs.declared.lower.Lower.{Lower}
+use Rattle.stack_rules.specs.declared.lower.Lower.TheVariants.{Leaf as leaf, Device as device}
+use Rattle.stack_rules.specs.Records.{Configuration, LeafRecord, DeviceRecord}
+use Rattle.stack_rules.specs.Names.{mapped, named, names, lines_of, lowers, path_of}
+use Rattle.stack_rules.specs.Descend.{descend, depth, depth_rule, known, most_devices}
+use Rattle.stack_rules.specs.Lines.{IsLine, names_at, lower_at}
+use Rattle.stack_rules.specs.Rules.{IsLoaded, IsValid, most_depth, most_leaves}
 use Rattle.stack_loader.proofs.lemmas.LoadedLineLemmas.{names-shallower}
-use Rattle.stack_loader.proofs.lemmas.UnrollLemmas.{AllOf, all_none, all_and, IsLocal, descend-rule, depth-rule, falls-at}
-use Rattle.stack_loader.proofs.lemmas.ValidLemmas.{depth-low}
-use Rattle.stack_loader.proofs.lemmas.ValidLineLemmas.{few, few_lines}
+use Rattle.stack_rules.proofs.lemmas.UnrollLemmas.{AllOf, all_none, all_and, IsLocal, descend-rule, depth-rule, falls-at}
+use Rattle.stack_rules.proofs.lemmas.ValidLemmas.{depth-low}
+use Rattle.stack_rules.proofs.lemmas.ValidLineLemmas.{few, few_lines}
 use Rattle.stack_engine.specs.declared.leaf_set.LeafSet.{LeafSet}
 use Rattle.stack_engine.specs.Laws.{leaves_rule, leaves_beneath}
 use Rattle.stack_engine.specs.Standing.{contains, is_verity, set_at, stands_on, name_stands_on, hashes_stand_on, line_stands_on, HasLeaves, IsInside, KnowsLeaves, AreSetsBelow, AreLeafSets}
@@ -201,10 +201,6 @@ module _ (c : Configuration) (loaded : IsLoaded c) where
 
 pub verity-stands : (c : Configuration) (i d l : ℕ) (line : Line) (v : Verity) → IsLine c d l line → line.target ≡ verity_target v → line_stands_on c i d l ≡ name_stands_on c i v.hash
 verity-stands c i d l line v at is = ap (λ (o : Option Line). option_map_or (λ line. hashes_stand_on c i line.target) o false) at ∙ ap (hashes_stand_on c i) is
-
--- a line that isn't there stands on nothing
-pub line-past : (c : Configuration) (i d l : ℕ) → slice_get (lines_of c d) l ≡ None → line_stands_on c i d l ≡ false
-line-past c i d l none = ap (λ (o : Option Line). option_map_or (λ line. hashes_stand_on c i line.target) o false) none
 
 -- the hash device of a verity line is its second name
 pub hash-stands : (c : Configuration) (i d l : ℕ) (line : Line) (v : Verity) (y : Lower) → IsLoaded c → IsLine c d l line → line.target ≡ verity_target v → lower_at c d l 1 ≡ Some y

@@ -12,12 +12,12 @@ use Rattle.dm_table.specs.declared.table.Line.{Line}
 use Rattle.dm_table.specs.declared.table.Target.{Target}
 use Rattle.dm_table.specs.declared.table.Target.TheVariants.{Linear, Striped}
 use Rattle.dm_table.specs.Grammar.{IsStripedOfGrammar}
-use Rattle.stack_loader.specs.declared.lower.Lower.{Lower}
-use Rattle.stack_loader.specs.Records.{Configuration}
-use Rattle.stack_loader.specs.Names.{named, names, size}
-use Rattle.stack_loader.specs.Lines.{IsLine, names_at, lower_at}
-use Rattle.stack_loader.proofs.lemmas.RangeLemmas.{is_beyond-linear, is_beyond-striped}
-use Rattle.stack_loader.specs.Rules.{IsLoaded, is_undivided, is_beyond, ends_past, most_sectors}
+use Rattle.stack_rules.specs.declared.lower.Lower.{Lower}
+use Rattle.stack_rules.specs.Records.{Configuration}
+use Rattle.stack_rules.specs.Names.{named, names, size}
+use Rattle.stack_rules.specs.Lines.{IsLine, names_at, lower_at}
+use Rattle.stack_rules.proofs.lemmas.RangeLemmas.{is_beyond-linear, is_beyond-striped}
+use Rattle.stack_rules.specs.Rules.{IsLoaded, is_undivided, is_beyond, ends_past, most_sectors}
 use Rattle.stack_engine.specs.Beneath.{beneath}
 use Rattle.stack_engine.specs.Sources.{LieOn, HasTarget}
 use Rattle.stack_engine.proofs.LoadedLemmas.{line-divided, line-inside, size-small}

@@ -7,11 +7,11 @@ use Rattle.verity_format.specs.Image.{data_sectors}
 use Rattle.verity_format.specs.Line.{table_text, spaced, salt_word}
 use Rattle.verity_format.specs.Superblock.{SuperRecord, shape_of}
 use Rattle.dm_table.specs.Grammar.{IsLineOfGrammar}
-use Rattle.dm_table.specs.Print.{spaced_word, target_words}
+use Rattle.table_printer.specs.Print.{spaced_word, target_words}
 use Rattle.dm_table.specs.TableText.{table_of}
 use Rattle.dm_table.specs.Words.{Word}
-use Rattle.dm_table.specs.Verity.{verity_words, salt_word as table_salt_word}
-use Rattle.dm_table.proofs.lemmas.ReadBackLemmas.{line-reads-back}
+use Rattle.table_printer.specs.ArgumentWords.{verity_words, salt_word as table_salt_word}
+use Rattle.table_printer.proofs.lemmas.ReadBackLemmas.{line-reads-back}
 use Rattle.stack_engine.specs.TableLines.{image_line, AreLineParts, TableLinesReadBack}
 
 same-salt : (salt : List ℕ) → salt_word salt ≡ table_salt_word salt

@@ -8,11 +8,11 @@ use Rattle.std.proofs.Math.Nat.{mul-add, mul-le-mul_right}
 use Rattle.block_device.specs.Device.{Device, sectors_of, spliced}
 use Rattle.block_device.proofs.lemmas.SectorLemmas.{put_at, put_run, concat-sectors_of}
 use Rattle.dm_table.specs.declared.crypt.Crypt.{Crypt}
-use Rattle.stack_loader.specs.declared.lower.Lower.{Lower}
-use Rattle.stack_loader.specs.Records.{Configuration}
-use Rattle.stack_loader.specs.Names.{mapped, named, lines_of, may_write}
-use Rattle.stack_loader.specs.Descend.{read_cost, write_cost}
-use Rattle.stack_loader.specs.Rules.{IsLoaded}
+use Rattle.stack_rules.specs.declared.lower.Lower.{Lower}
+use Rattle.stack_rules.specs.Records.{Configuration}
+use Rattle.stack_rules.specs.Names.{mapped, named, lines_of, may_write}
+use Rattle.stack_rules.specs.Descend.{read_cost, write_cost}
+use Rattle.stack_rules.specs.Rules.{IsLoaded}
 use Rattle.stack_engine.specs.declared.fault.IoFault.{IoFault}
 use Rattle.stack_engine.specs.declared.fault.IoFault.TheVariants as io
 use Rattle.stack_engine.specs.declared.source.BlockPart.{BlockPart}
@@ -20,7 +20,7 @@ use Rattle.stack_engine.specs.declared.units.WholeUnit.{WholeUnit}
 use Rattle.stack_engine.specs.declared.source.Source.TheVariants.{Units, UnitPart}
 use Rattle.stack_engine.specs.Sectors.{SomeOf, IsRun, gathered}
 use Rattle.stack_engine.specs.Outcomes.{Fault, error_target, mismatch, Images, Outcome, LeafSector, span}
-use Rattle.stack_loader.specs.Units.{unit_sectors}
+use Rattle.stack_rules.specs.Units.{unit_sectors}
 use Rattle.stack_engine.specs.Units.{decrypted_unit, encrypted_unit, unit_first}
 use Rattle.stack_engine.specs.Found.{FoundRecord}
 use Rattle.stack_engine.specs.Meaning.{Said, crypt_said, said_at}
@@ -31,7 +31,7 @@ use Rattle.stack_engine.specs.Places.{Read}
 use Rattle.stack_engine.specs.Reading.{Ends, Answers, MeetVerity, IsPlain}
 use Rattle.stack_engine.specs.Sources.{LieInUnit, IsWholeOf, cost_beneath, source_said, ReadsSource}
 use Rattle.stack_engine.specs.Writing.{sectors_in, put_on_line, MayEnd, IsPut, Writes, source_destination}
-use Rattle.stack_loader.proofs.lemmas.UnitLemmas.{unit_sectors-some}
+use Rattle.stack_rules.proofs.lemmas.UnitLemmas.{unit_sectors-some}
 use Rattle.stack_engine.proofs.UnitLineLemmas.{IsUnitLine, unit-line, cost-beneath, unit-said}
 use Rattle.stack_engine.proofs.UnitPutLemmas.{sectors_in-of, whole-put, some-put}
 use Rattle.stack_engine.proofs.UnitReadLemmas.{images-whole, unit-means, whole-unit, unit-fails}

@@ -8,15 +8,15 @@ use Rattle.dm_table.specs.declared.crypt.Crypt.{Crypt}
 use Rattle.dm_table.specs.declared.table.Line.{Line}
 use Rattle.dm_table.specs.declared.table.Target.{Target}
 use Rattle.dm_table.specs.declared.table.Target.TheVariants.{Crypt as crypt_target}
-use Rattle.stack_loader.specs.declared.lower.Lower.{Lower}
-use Rattle.stack_loader.specs.Records.{Configuration}
-use Rattle.stack_loader.specs.Names.{mapped, named, lines_of}
-use Rattle.stack_loader.specs.Descend.{by_name, known, read_cost, write_cost}
-use Rattle.stack_loader.specs.Lines.{lower_at, key_at}
-use Rattle.stack_loader.specs.Rules.{IsLoaded}
+use Rattle.stack_rules.specs.declared.lower.Lower.{Lower}
+use Rattle.stack_rules.specs.Records.{Configuration}
+use Rattle.stack_rules.specs.Names.{mapped, named, lines_of}
+use Rattle.stack_rules.specs.Descend.{by_name, known, read_cost, write_cost}
+use Rattle.stack_rules.specs.Lines.{lower_at, key_at}
+use Rattle.stack_rules.specs.Rules.{IsLoaded}
 use Rattle.stack_loader.proofs.lemmas.CryptLineLemmas.{IsCryptLine, crypt-line, crypt-key}
 use Rattle.stack_engine.specs.declared.source.BlockPart.{BlockPart}
-use Rattle.stack_loader.specs.Units.{unit_sectors, unit_write_cost, crypt_of}
+use Rattle.stack_rules.specs.Units.{unit_sectors, unit_write_cost, crypt_of}
 use Rattle.stack_engine.specs.Meaning.{Said, none_said, crypt_said, line_said, said_at, said_by_name}
 use Rattle.stack_engine.specs.Sources.{HasTarget, AreUnits, LieInUnit, cost_of_crypt, cost_beneath, said_of_line, part_said}
 use Rattle.stack_engine.proofs.StripeLemmas.{named-by, target-names}

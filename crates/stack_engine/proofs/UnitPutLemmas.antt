@@ -1,9 +1,9 @@
 -- What a put of units does.
-use Rattle.std.proofs.Common.{◌≡◌, ℕ, zero, suc, ◌+◌, ◌-◌, ◌*◌, ◌/◌, ◌%◌, ◌<◌, ◌≤◌, ◌==◌, ◌⊎◌, Bool, true, false, nat_lt, List, [], ◌∷◌, ◌++◌, length, take, drop, Option, Some, Ok, Err, refl, sym, ap, ◌∙◌, subst, inl, inr, arith}
+use Rattle.std.proofs.Common.{◌≡◌, ℕ, zero, suc, ◌+◌, ◌-◌, ◌*◌, ◌/◌, ◌%◌, ◌<◌, ◌≤◌, ◌==◌, Bool, true, false, List, [], ◌++◌, length, take, Option, Some, refl, sym, ap, ◌∙◌, subst, inl, inr, arith}
 use Rattle.std.specs.Prelude.{slice_get, if◌then◌else◌}
 use Rattle.std.specs.List.{concat}
 use Rattle.std.proofs.lemmas.Bool.{eq-eqb, eqb-true}
-use Rattle.std.proofs.lemmas.List.{length-take-le, length-drop, take_all, nil_from_length}
+use Rattle.std.proofs.lemmas.List.{length-take-le, take_all}
 use Rattle.std.proofs.lemmas.Nat.{div-mul-add, mod-mul-add, le-div}
 use Rattle.std.proofs.Math.Nat.{add-mul}
 use Rattle.std.proofs.Math.Seq.{take-add}
@@ -13,27 +13,25 @@ use Rattle.dm_table.specs.declared.crypt.Crypt.{Crypt}
 use Rattle.dm_table.specs.declared.table.Line.{Line}
 use Rattle.dm_table.specs.declared.table.Target.{Target}
 use Rattle.dm_table.specs.declared.table.Target.TheVariants.{Crypt as crypt_target}
-use Rattle.stack_loader.specs.declared.lower.Lower.{Lower}
-use Rattle.stack_loader.specs.declared.lower.Lower.TheVariants.{Leaf as leaf}
-use Rattle.stack_loader.specs.Records.{Configuration}
-use Rattle.stack_loader.specs.Names.{named, lines_of}
-use Rattle.stack_loader.specs.Descend.{descend, known}
-use Rattle.stack_loader.specs.Rules.{IsLoaded}
+use Rattle.stack_rules.specs.declared.lower.Lower.{Lower}
+use Rattle.stack_rules.specs.Records.{Configuration}
+use Rattle.stack_rules.specs.Names.{named, lines_of}
+use Rattle.stack_rules.specs.Descend.{known}
 use Rattle.xts_sector.specs.Units.{unit}
-use Rattle.stack_engine.specs.declared.source.BlockPart.{BlockPart}
 use Rattle.stack_engine.specs.Outcomes.{Images, Outcome, span}
 use Rattle.dm_table.specs.Crypt.{sector_size}
-use Rattle.stack_loader.specs.Units.{unit_sectors}
+use Rattle.stack_rules.specs.Units.{unit_sectors}
 use Rattle.stack_engine.specs.Units.{encrypted_unit, encrypted_units, unit_first}
 use Rattle.stack_engine.specs.Meaning.{Said, none_said, said_at}
-use Rattle.stack_engine.specs.Puts.{Put, done, then_put, Putting, none_put, runs_from, put_runs, together, read_put, encrypted_sectors, changed_unit, unit_put, leaf_put, line_put, put_on}
+use Rattle.stack_engine.specs.Puts.{Put, then_put, Putting, none_put, runs_from, put_runs, together, read_put, encrypted_sectors, changed_unit, unit_put, line_put, put_on}
+use Rattle.stack_engine.specs.Cuts.{PutsInSteps}
 use Rattle.stack_engine.specs.Sources.{HasCrypt}
-use Rattle.stack_engine.specs.Writing.{sectors_in, put_by_name, put_on_line, part_put}
+use Rattle.stack_engine.specs.Writing.{sectors_in, put_by_name, put_on_line}
 use Rattle.stack_engine.proofs.StripeLemmas.{part-more, part-ends}
-use Rattle.stack_loader.proofs.lemmas.UnitLemmas.{unit_sectors-some, unit-bytes}
+use Rattle.stack_rules.proofs.lemmas.UnitLemmas.{unit_sectors-some}
 use Rattle.stack_engine.proofs.UnitReadLemmas.{unit_first-more}
-use Rattle.stack_engine.proofs.lemmas.PutLemmas.{then_same, Apart, put-apart, put-together, leaf-append, put-none}
-use Rattle.stack_engine.proofs.lemmas.UnitLemmas.{unit-more, unit-is, unit-begin, unit-length, length-encrypted_units, unit-encrypted, units-count}
+use Rattle.stack_engine.proofs.lemmas.PutLemmas.{then_same, Apart, put-apart, put-together, put-none}
+use Rattle.stack_engine.proofs.lemmas.UnitLemmas.{unit-more, unit-is, unit-length, length-encrypted_units, unit-encrypted, units-count}
 use Rattle.stack_engine.proofs.lemmas.WriteRunLemmas.{length-sectors_in, sectors_in-none, sectors_in-append}
 
 -- ---- sectors as bytes
@@ -203,44 +201,70 @@ module _ (c : Configuration) (d l : ℕ) (crypt : Crypt) (has : HasCrypt c d l c
         ∙ ap (λ (p : Put). then_put p (put_runs g (runs_from tog (s + length xs) ys))) (sym (line-put s xs images))
         ∙ then_same (put_on_line c d l (slice_get (lines_of c d) l) s xs images) _ _ (λ j. sym (line-put (s + length xs) ys j))
 
--- ---- units on a leaf
+-- ---- units of which a put may be cut behind each one
 
-put-leaf : (c : Configuration) (k s : ℕ) (sectors : List (List ℕ)) (images : Images) → put_on c (leaf k) s sectors images ≡ leaf_put k s sectors images
-unfolding descend
-put-leaf c k s sectors images = refl
+module _ (c : Configuration) (d l : ℕ) (crypt : Crypt) (has : HasCrypt c d l crypt) (lower : Lower) (is : named c crypt.base.device ≡ Some lower) (w : ℕ) (bytes : List ℕ) (n : ℕ) (aligned : w % unit_sectors crypt ≡ 0) (len : length bytes ≡ 512 * n)
+    (whole : n % unit_sectors crypt ≡ 0) (cut : PutsInSteps (put_on c lower) (unit_first crypt w) n (record { size = unit_sectors crypt; skip = 0 })) where
+  enc-length : length (encrypted_units crypt (w / unit_sectors crypt) bytes) ≡ 512 * n
+  enc-length = length-encrypted_units crypt bytes n len whole (w / unit_sectors crypt)
 
-module _ (c : Configuration) (d l : ℕ) (crypt : Crypt) (has : HasCrypt c d l crypt) (k : ℕ) (is : named c crypt.base.device ≡ Some (leaf k)) (w : ℕ) (bytes : List ℕ) (n : ℕ) (aligned : w % unit_sectors crypt ≡ 0) (len : length bytes ≡ 512 * n)
-    (whole : n % unit_sectors crypt ≡ 0) where
-  -- the same bytes, encrypted
-  abbrev out : List ℕ
-  out = encrypted_units crypt (w / unit_sectors crypt) bytes
+  -- no sectors are before the first unit
+  none-before : (x : List ℕ) → sectors_in (take (512 * (0 * unit_sectors crypt)) x) ≡ []
+  none-before x =
+      let none : 0 * unit_sectors crypt ≡ 0 = omega arith in
+      ap (λ (j : ℕ). sectors_in (take (512 * j) x)) none ∙ sectors_in-none
 
-  pub leaf-units : (i : ℕ) (images : Images) → i * unit_sectors crypt ≤ n → put_on_line c d l (slice_get (lines_of c d) l) w (sectors_in (take (512 * (i * unit_sectors crypt)) bytes)) images
-      ≡ leaf_put k (unit_first crypt w) (sectors_in (take (512 * (i * unit_sectors crypt)) (encrypted_units crypt (w / unit_sectors crypt) bytes))) images
-  leaf-units zero images fits =
+  -- units before the i-th, encrypted
+  out-count : (i : ℕ) → i * unit_sectors crypt ≤ n → length (sectors_in (take (512 * (i * unit_sectors crypt)) (encrypted_units crypt (w / unit_sectors crypt) bytes))) ≡ i * unit_sectors crypt
+  out-count i fits =
+      let enc = encrypted_units crypt (w / unit_sectors crypt) bytes in
+      omega (arith, length-sectors_in (take (512 * (i * unit_sectors crypt)) enc), length-take-le (512 * (i * unit_sectors crypt)) enc (omega (arith, enc-length, fits)))
+
+  -- the put of the units before the i-th and of the i-th
+  out-parts : (i : ℕ) (images : Images) → i * unit_sectors crypt + unit_sectors crypt ≤ n
+      → put_on c lower (unit_first crypt w) (sectors_in (take (512 * (i * unit_sectors crypt)) (encrypted_units crypt (w / unit_sectors crypt) bytes)) ++ sectors_in (unit (sector_size crypt) (encrypted_units crypt (w / unit_sectors crypt) bytes) i)) images
+      ≡ then_put (put_on c lower (unit_first crypt w) (sectors_in (take (512 * (i * unit_sectors crypt)) (encrypted_units crypt (w / unit_sectors crypt) bytes))) images)
+      (put_on c lower (unit_first crypt w + i * unit_sectors crypt) (sectors_in (unit (sector_size crypt) (encrypted_units crypt (w / unit_sectors crypt) bytes) i)))
+  out-parts zero images fits =
       let u : ℕ = unit_sectors crypt in
-      let none : 0 * u ≡ 0 = omega arith in
-      ap (λ (j : ℕ). put_on_line c d l (slice_get (lines_of c d) l) w (sectors_in (take (512 * j) bytes)) images) none
-      ∙ ap (λ (x : List (List ℕ)). put_on_line c d l (slice_get (lines_of c d) l) w x images) sectors_in-none
-      ∙ line-put c d l crypt has (leaf k) is w [] images
-      ∙ sym (sym (put-leaf c k (unit_first crypt w) [] images) ∙ put-none c (leaf k) (unit_first crypt w) images)
-      ∙ ap (λ (x : List (List ℕ)). leaf_put k (unit_first crypt w) x images) (sym sectors_in-none)
-      ∙ ap (λ (j : ℕ). leaf_put k (unit_first crypt w) (sectors_in (take (512 * j) (encrypted_units crypt (w / u) bytes))) images) (sym none)
-  leaf-units (suc i) images fits =
+      let one = sectors_in (unit (sector_size crypt) (encrypted_units crypt (w / u) bytes) 0) in
+      let first : unit_first crypt w ≡ unit_first crypt w + 0 * u = omega arith in
+      let none = none-before (encrypted_units crypt (w / u) bytes) in
+      ap (λ (x : List (List ℕ)). put_on c lower (unit_first crypt w) (x ++ one) images) none
+      ∙ ap (λ (k : ℕ). put_on c lower k one images) first
+      ∙ ap (λ (p : Put). then_put p (put_on c lower (unit_first crypt w + 0 * u) one)) (sym (put-none c lower (unit_first crypt w) images))
+      ∙ ap (λ (x : List (List ℕ)). then_put (put_on c lower (unit_first crypt w) x images) (put_on c lower (unit_first crypt w + 0 * u) one)) (sym none)
+  out-parts (suc i) images fits =
       let u : ℕ = unit_sectors crypt in
-      let some : 0 < u = omega (arith, unit_sectors-some crypt) in
+      let enc = encrypted_units crypt (w / u) bytes in
+      let front = sectors_in (take (512 * (suc i * u)) enc) in
+      let one = sectors_in (unit (sector_size crypt) enc (suc i)) in
+      let count : length front ≡ suc i * u = out-count (suc i) (omega (arith, fits)) in
+      let long : length one ≡ u = omega (arith, length-sectors_in (unit (sector_size crypt) enc (suc i)), unit-length crypt enc n enc-length (suc i) fits) in
+      let positive : 0 < suc i * u = omega (arith, add-mul 1 i u, unit_sectors-some crypt) in
+      let split : 0 + length front ≡ suc i * u + 0 = omega (arith, count) in
+      let ends : (0 + length front) % u ≡ 0 = ap (λ (k : ℕ). k % u) split ∙ mod-mul-add (suc i) u 0 (omega (arith, unit_sectors-some crypt)) in
+      let at : unit_first crypt w + length front ≡ unit_first crypt w + suc i * u = omega (arith, count) in
+      cut front one images (omega (arith, count, positive)) (omega (arith, long, unit_sectors-some crypt)) (omega (arith, count, long, fits)) ends
+      ∙ ap (λ (k : ℕ). then_put (put_on c lower (unit_first crypt w) front images) (put_on c lower k one)) at
+
+  pub lower-units : (i : ℕ) (images : Images) → i * unit_sectors crypt ≤ n → put_on_line c d l (slice_get (lines_of c d) l) w (sectors_in (take (512 * (i * unit_sectors crypt)) bytes)) images
+      ≡ put_on c lower (unit_first crypt w) (sectors_in (take (512 * (i * unit_sectors crypt)) (encrypted_units crypt (w / unit_sectors crypt) bytes))) images
+  lower-units zero images fits =
+      let u : ℕ = unit_sectors crypt in
+      ap (λ (x : List (List ℕ)). put_on_line c d l (slice_get (lines_of c d) l) w x images) (none-before bytes)
+      ∙ line-put c d l crypt has lower is w [] images
+      ∙ sym (put-none c lower (unit_first crypt w) images)
+      ∙ ap (λ (x : List (List ℕ)). put_on c lower (unit_first crypt w) x images) (sym (none-before (encrypted_units crypt (w / u) bytes)))
+  lower-units (suc i) images fits =
+      let u : ℕ = unit_sectors crypt in
       let room : i * u + u ≤ n = omega (arith, fits, add-mul 1 i u) in
       let enc = encrypted_units crypt (w / u) bytes in
-      let long : length enc ≡ 512 * n = length-encrypted_units crypt bytes n len whole (w / u) in
-      let front = take (512 * (i * u)) bytes in
       let done_front = take (512 * (i * u)) enc in
       let one = unit (sector_size crypt) bytes i in
-      let count : unit_first crypt w + length (sectors_in done_front) ≡ unit_first crypt w + i * u = omega (arith, length-sectors_in done_front, length-take-le (512 * (i * u)) enc (omega (arith, long, room))) in
-      ap (λ (x : List (List ℕ)). put_on_line c d l (slice_get (lines_of c d) l) w x images) (front-more c d l crypt has (leaf k) is w bytes n aligned len whole i room)
-      ∙ units-apart c d l crypt has (leaf k) is w bytes n aligned len whole i (sectors_in one) images (omega (arith, room))
-      ∙ ap (λ (p : Put). then_put p (put_on_line c d l (slice_get (lines_of c d) l) (w + i * u) (sectors_in one))) (leaf-units i images (omega (arith, room)))
-      ∙ then_same (leaf_put k (unit_first crypt w) (sectors_in done_front) images) _ _
-      (λ j. unit-step c d l crypt has (leaf k) is w bytes n aligned len whole i j room ∙ put-leaf c k (unit_first crypt w + i * u) (sectors_in (unit (sector_size crypt) enc i)) j
-      ∙ ap (λ (s : ℕ). leaf_put k s (sectors_in (unit (sector_size crypt) enc i)) j) (sym count))
-      ∙ sym (leaf-append k (unit_first crypt w) (sectors_in done_front) (sectors_in (unit (sector_size crypt) enc i)) images)
-      ∙ ap (λ (x : List (List ℕ)). leaf_put k (unit_first crypt w) x images) (sym (front-more c d l crypt has (leaf k) is w enc n aligned long whole i room))
+      ap (λ (x : List (List ℕ)). put_on_line c d l (slice_get (lines_of c d) l) w x images) (front-more c d l crypt has lower is w bytes n aligned len whole i room)
+      ∙ units-apart c d l crypt has lower is w bytes n aligned len whole i (sectors_in one) images (omega (arith, room))
+      ∙ ap (λ (p : Put). then_put p (put_on_line c d l (slice_get (lines_of c d) l) (w + i * u) (sectors_in one))) (lower-units i images (omega (arith, room)))
+      ∙ then_same (put_on c lower (unit_first crypt w) (sectors_in done_front) images) _ _ (λ j. unit-step c d l crypt has lower is w bytes n aligned len whole i j room)
+      ∙ sym (out-parts i images room)
+      ∙ ap (λ (x : List (List ℕ)). put_on c lower (unit_first crypt w) x images) (sym (front-more c d l crypt has lower is w enc n aligned enc-length whole i room))

@@ -7,14 +7,14 @@ use Rattle.std.proofs.Math.Nat.{add-mul, mul-le-mul_left}
 use Rattle.xts_sector.specs.Units.{unit}
 use Rattle.block_device.specs.Device.{Device, IsSector}
 use Rattle.dm_table.specs.declared.crypt.Crypt.{Crypt}
-use Rattle.stack_loader.specs.declared.lower.Lower.{Lower}
-use Rattle.stack_loader.specs.Records.{Configuration}
-use Rattle.stack_loader.specs.Rules.{IsLoaded}
+use Rattle.stack_rules.specs.declared.lower.Lower.{Lower}
+use Rattle.stack_rules.specs.Records.{Configuration}
+use Rattle.stack_rules.specs.Rules.{IsLoaded}
 use Rattle.stack_engine.specs.declared.fault.IoFault.{IoFault}
 use Rattle.stack_engine.specs.Sectors.{SomeOf, gathered}
 use Rattle.stack_engine.specs.Outcomes.{Fault, Outcome, Images, joint_outcome, changed_outcome, span, part}
 use Rattle.dm_table.specs.Crypt.{sector_size}
-use Rattle.stack_loader.specs.Units.{unit_sectors}
+use Rattle.stack_rules.specs.Units.{unit_sectors}
 use Rattle.stack_engine.specs.Units.{decrypted_unit, decrypted_units, unit_number, unit_part, unit_first}
 use Rattle.stack_engine.specs.Found.{FoundRecord, entry_of, Grown}
 use Rattle.stack_engine.specs.Meaning.{Said, crypt_said, said_at}
@@ -23,7 +23,7 @@ use Rattle.stack_engine.specs.Leaves.{images_of}
 use Rattle.stack_engine.specs.Changes.{AllWhole}
 use Rattle.stack_engine.specs.Places.{Place, place_of, run_expected, Read}
 use Rattle.stack_engine.specs.Reading.{Reads, Finds}
-use Rattle.stack_loader.proofs.lemmas.UnitLemmas.{unit_sectors-some}
+use Rattle.stack_rules.proofs.lemmas.UnitLemmas.{unit_sectors-some}
 use Rattle.stack_engine.proofs.lemmas.LeafListLemmas.{AreRead-none, AreRead-more}
 use Rattle.stack_engine.proofs.lemmas.FoundLemmas.{in-gathered}
 use Rattle.stack_engine.proofs.lemmas.RunLemmas.{part_left, fault_passes}

@@ -7,11 +7,11 @@ use Rattle.block_device.specs.Device.{Device}
 use Rattle.dm_table.specs.declared.crypt.Crypt.{Crypt}
 use Rattle.dm_table.specs.declared.table.Line.{Line}
 use Rattle.dm_table.specs.declared.table.Target.TheVariants.{Crypt as crypt_target}
-use Rattle.stack_loader.specs.declared.lower.Lower.{Lower}
-use Rattle.stack_loader.specs.Records.{Configuration}
-use Rattle.stack_loader.specs.Names.{mapped, named, lines_of, size}
-use Rattle.stack_loader.specs.Descend.{read_cost}
-use Rattle.stack_loader.specs.Rules.{IsLoaded}
+use Rattle.stack_rules.specs.declared.lower.Lower.{Lower}
+use Rattle.stack_rules.specs.Records.{Configuration}
+use Rattle.stack_rules.specs.Names.{mapped, named, lines_of, size}
+use Rattle.stack_rules.specs.Descend.{read_cost}
+use Rattle.stack_rules.specs.Rules.{IsLoaded}
 use Rattle.stack_engine.specs.declared.fault.IoFault.{IoFault}
 use Rattle.stack_engine.specs.declared.source.BlockPart.{BlockPart}
 use Rattle.stack_engine.specs.declared.units.WholeUnit.{WholeUnit}
@@ -19,14 +19,14 @@ use Rattle.stack_engine.specs.declared.source.Source.TheVariants.{Units, UnitPar
 use Rattle.stack_engine.specs.Sectors.{SomeOf, gathered}
 use Rattle.stack_engine.specs.Outcomes.{mismatch}
 use Rattle.dm_table.specs.Crypt.{sector_size}
-use Rattle.stack_loader.specs.Units.{unit_sectors}
+use Rattle.stack_rules.specs.Units.{unit_sectors}
 use Rattle.stack_engine.specs.Units.{decrypted_units, unit_first}
 use Rattle.stack_engine.specs.Meaning.{Said, crypt_said, said_at}
 use Rattle.stack_engine.specs.Changes.{AllWhole}
 use Rattle.stack_engine.specs.Places.{Read}
 use Rattle.stack_engine.specs.Reading.{Reads, Finds, IsPlain}
 use Rattle.stack_engine.specs.Sources.{HasCrypt, AreUnits, LieInUnit, IsWholeOf, said_of_line, source_said, source_place, ReadsSource}
-use Rattle.stack_loader.proofs.lemmas.UnitLemmas.{unit_sectors-some, unit-bytes}
+use Rattle.stack_rules.proofs.lemmas.UnitLemmas.{unit_sectors-some, unit-bytes}
 use Rattle.stack_engine.proofs.UnitLineLemmas.{unit-line, unit-line-on, cost-beneath, unit-said, same-crypt}
 use Rattle.stack_engine.proofs.UnitReadLemmas.{units_said, units_place, units-some, units-meet, units_ok, units_err, same-first, part_ok, part_err}
 use Rattle.stack_engine.proofs.lemmas.FoundLemmas.{in-gathered}

@@ -1,39 +1,38 @@
 -- What is written through the units of a `crypt` line.
-use Rattle.std.proofs.Common.{◌≡◌, ◌≢◌, ℕ, zero, suc, ◌+◌, ◌-◌, ◌*◌, ◌/◌, ◌%◌, ◌<◌, ◌≤◌, IsTrue, List, [], ◌++◌, length, take, drop, Contains, Option, Some, None, Result, Ok, Err, refl, sym, ap, ◌∙◌, subst, arith}
+use Rattle.std.proofs.Common.{◌≡◌, ℕ, suc, ◌+◌, ◌-◌, ◌*◌, ◌/◌, ◌%◌, ◌<◌, ◌≤◌, List, [], ◌++◌, length, take, drop, Contains, Option, Some, None, Result, Ok, Err, refl, sym, ap, ◌∙◌, subst, arith}
 use Rattle.std.specs.Prelude.{slice_get}
 use Rattle.std.proofs.lemmas.List.{take_all, length-take-le, take-append-drop, append_assoc}
 use Rattle.std.proofs.lemmas.Nat.{div-add-mod', div-mul-add, mod-mul-add}
-use Rattle.std.proofs.Math.Nat.{add-mul, mul_assoc, mul-le-mul_right}
-use Rattle.block_device.specs.Device.{Device, sectors_of}
+use Rattle.std.proofs.Math.Nat.{add-mul, mul_assoc}
+use Rattle.block_device.specs.Device.{Device}
 use Rattle.dm_table.specs.declared.crypt.Crypt.{Crypt}
 use Rattle.dm_table.specs.declared.table.Line.{Line}
-use Rattle.stack_loader.specs.declared.lower.Lower.{Lower}
-use Rattle.stack_loader.specs.declared.lower.Lower.TheVariants.{Leaf as leaf}
-use Rattle.stack_loader.specs.Records.{Configuration}
-use Rattle.stack_loader.specs.Names.{named, lines_of}
-use Rattle.stack_loader.specs.Descend.{descend, write_cost}
-use Rattle.stack_loader.specs.Rules.{IsLoaded}
+use Rattle.stack_rules.specs.declared.lower.Lower.{Lower}
+use Rattle.stack_rules.specs.Records.{Configuration}
+use Rattle.stack_rules.specs.Names.{named, lines_of}
+use Rattle.stack_rules.specs.Descend.{write_cost}
+use Rattle.stack_rules.specs.Rules.{IsLoaded}
 use Rattle.xts_sector.specs.Units.{unit}
 use Rattle.stack_engine.specs.declared.fault.IoFault.{IoFault}
-use Rattle.stack_engine.specs.declared.fault.IoFault.TheVariants as io
 use Rattle.stack_engine.specs.declared.source.BlockPart.{BlockPart}
-use Rattle.stack_engine.specs.declared.source.Source.TheVariants.{Units, UnitPart}
+use Rattle.stack_engine.specs.declared.source.Source.TheVariants.{Units}
 use Rattle.stack_engine.specs.Sectors.{SomeOf}
 use Rattle.stack_engine.specs.Outcomes.{Fault, Images, LeafSector}
 use Rattle.dm_table.specs.Crypt.{sector_size}
-use Rattle.stack_loader.specs.Units.{unit_sectors}
+use Rattle.stack_rules.specs.Units.{unit_sectors}
 use Rattle.stack_engine.specs.Units.{encrypted_units, unit_first}
 use Rattle.stack_engine.specs.Meaning.{Said, crypt_said, said_at}
-use Rattle.stack_engine.specs.Puts.{Put, done, then_put, Putting, put_on, leaf_put}
+use Rattle.stack_engine.specs.Puts.{Put, done, then_put, Putting, put_on}
 use Rattle.stack_engine.specs.Leaves.{images_of}
-use Rattle.stack_engine.specs.Changes.{reached, AreWritten}
+use Rattle.stack_engine.specs.Changes.{reached}
+use Rattle.stack_engine.specs.Cuts.{PutsInSteps}
 use Rattle.stack_engine.specs.Sources.{HasCrypt, AreUnits, source_said}
 use Rattle.stack_engine.specs.Writing.{sectors_in, put_on_line, IsPut, destination_of, Writes, source_destination}
-use Rattle.stack_loader.proofs.lemmas.UnitLemmas.{unit_sectors-some, unit-bytes}
+use Rattle.stack_rules.proofs.lemmas.UnitLemmas.{unit_sectors-some, unit-bytes}
 use Rattle.stack_engine.proofs.UnitLineLemmas.{cost-beneath, unit-said}
 use Rattle.stack_engine.proofs.UnitSourceLemmas.{units-aligned, units-whole}
 use Rattle.stack_engine.proofs.UnitReadLemmas.{units-some, unit_first-more}
-use Rattle.stack_engine.proofs.UnitPutLemmas.{unit-step, unit-apart, units-apart, front-more, front-length, leaf-units}
+use Rattle.stack_engine.proofs.UnitPutLemmas.{unit-step, unit-apart, units-apart, front-more, front-length, lower-units}
 use Rattle.stack_engine.proofs.lemmas.ChangeLemmas.{AreWritten-more}
 use Rattle.stack_engine.proofs.lemmas.FoundLemmas.{in-gathered}
 use Rattle.stack_engine.proofs.lemmas.UnitLemmas.{unit-more, unit-fits, unit-is, unit-length, length-encrypted_units}
@@ -212,17 +211,13 @@ module _ (crypt : Crypt) (len n at size : ℕ) (is : size ≡ sector_size crypt)
       let room = unit-fits (unit_sectors crypt) n j some whole below in
       omega (arith, room, same)
 
--- ---- units on a leaf
+-- ---- units at once
 
-put-leaf : (c : Configuration) (k s : ℕ) (sectors : List (List ℕ)) (images : Images) → put_on c (leaf k) s sectors images ≡ leaf_put k s sectors images
-unfolding descend
-put-leaf c k s sectors images = refl
-
-pub leaf-written : (c : Configuration) (b : BlockPart) (bytes : List ℕ) (n : ℕ) (crypt : Crypt) (loaded : IsLoaded c) (has : HasCrypt c b.device.0 b.line crypt) (units : AreUnits c b.device.0 b.line b.first n) (k : ℕ)
-    (is : named c crypt.base.device ≡ Some (leaf k)) (len : length bytes ≡ 512 * n) {old new : List Device} {result : Result Unit IoFault}
-    → Writes (destination_of c (leaf k)) (unit_first crypt b.first) (sectors_in (encrypted_units crypt (b.first / unit_sectors crypt) bytes)) old new result
+pub lower-written : (c : Configuration) (b : BlockPart) (bytes : List ℕ) (n : ℕ) (crypt : Crypt) (loaded : IsLoaded c) (has : HasCrypt c b.device.0 b.line crypt) (units : AreUnits c b.device.0 b.line b.first n) (lower : Lower)
+    (is : named c crypt.base.device ≡ Some lower) (len : length bytes ≡ 512 * n) (cut : PutsInSteps (put_on c lower) (unit_first crypt b.first) n (record { size = unit_sectors crypt; skip = 0 })) {old new : List Device} {result : Result Unit IoFault}
+    → Writes (destination_of c lower) (unit_first crypt b.first) (sectors_in (encrypted_units crypt (b.first / unit_sectors crypt) bytes)) old new result
     → Writes (source_destination c (Units b)) 0 (sectors_in bytes) old new result
-leaf-written c b bytes n crypt loaded has units k is len {old = old} {new = new} {result = result} p =
+lower-written c b bytes n crypt loaded has units lower is len cut {old = old} {new = new} {result = result} p =
     let u : ℕ = unit_sectors crypt in
     let aligned = units-aligned c b.device.0 b.line b.first n crypt loaded has units in
     let whole = units-whole c b.device.0 b.line b.first n crypt loaded has units in
@@ -236,13 +231,12 @@ leaf-written c b bytes n crypt loaded has units k is len {old = old} {new = new}
     let all : m * u ≡ n = omega (arith, div-add-mod' n u, whole) in
     let whole_bytes : take (512 * (m * u)) bytes ≡ bytes = take_all (512 * (m * u)) bytes (omega (arith, len, all)) in
     let whole_enc : take (512 * (m * u)) enc ≡ enc = take_all (512 * (m * u)) enc (omega (arith, long, all)) in
-    raised c b bytes n crypt loaded has units (leaf k) is len 0 (sectors_in bytes) (sectors_in enc) even count
+    raised c b bytes n crypt loaded has units lower is len 0 (sectors_in bytes) (sectors_in enc) even count
     (λ images.
     let on_line : ℕ → Putting = put_on_line c b.device.0 b.line (slice_get (lines_of c b.device.0) b.line) in
     ap (λ (j : ℕ). on_line j (sectors_in bytes) images) first
     ∙ ap (λ (x : List ℕ). on_line b.first (sectors_in x) images) (sym whole_bytes)
-    ∙ leaf-units c b.device.0 b.line crypt has k is b.first bytes n aligned len whole m images (omega (arith, all))
-    ∙ ap (λ (x : List ℕ). leaf_put k (unit_first crypt b.first) (sectors_in x) images) whole_enc
-    ∙ ap (λ (j : ℕ). leaf_put k j (sectors_in enc) images) (sym zero_on)
-    ∙ sym (put-leaf c k (unit_first crypt b.first + 0) (sectors_in enc) images))
-    (subst (λ (j : ℕ). Writes (destination_of c (leaf k)) j (sectors_in enc) old new result) (sym zero_on) p)
+    ∙ lower-units c b.device.0 b.line crypt has lower is b.first bytes n aligned len whole cut m images (omega (arith, all))
+    ∙ ap (λ (x : List ℕ). put_on c lower (unit_first crypt b.first) (sectors_in x) images) whole_enc
+    ∙ ap (λ (j : ℕ). put_on c lower j (sectors_in enc) images) (sym zero_on))
+    (subst (λ (j : ℕ). Writes (destination_of c lower) j (sectors_in enc) old new result) (sym zero_on) p)

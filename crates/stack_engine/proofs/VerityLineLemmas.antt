@@ -7,12 +7,12 @@ use Rattle.hash_tree.specs.Shape.{IsShape, is_block_size, area_end}
 use Rattle.dm_table.specs.declared.verity.Verity.{Verity}
 use Rattle.dm_table.specs.declared.table.Line.{Line}
 use Rattle.dm_table.specs.declared.table.Target.TheVariants.{Verity as verity_target}
-use Rattle.stack_loader.specs.declared.lower.Lower.{Lower}
-use Rattle.stack_loader.specs.Records.{Configuration}
-use Rattle.stack_loader.specs.Names.{mapped, named, size, may_write}
-use Rattle.stack_loader.specs.Descend.{depth, known, read_cost}
-use Rattle.stack_loader.specs.Rules.{IsLoaded}
-use Rattle.stack_loader.specs.Trees.{tree_of, data_sectors, block_sectors}
+use Rattle.stack_rules.specs.declared.lower.Lower.{Lower}
+use Rattle.stack_rules.specs.Records.{Configuration}
+use Rattle.stack_rules.specs.Names.{mapped, named, size, may_write}
+use Rattle.stack_rules.specs.Descend.{depth, known, read_cost}
+use Rattle.stack_rules.specs.Rules.{IsLoaded}
+use Rattle.stack_rules.specs.Trees.{tree_of, data_sectors, block_sectors}
 use Rattle.stack_loader.proofs.lemmas.VerityLineLemmas.{IsVerityLine, verity-line, data_block-inside, hash_block-inside}
 use Rattle.stack_engine.specs.declared.tree.Tree.{Tree}
 use Rattle.stack_engine.specs.Blocks.{hash_sectors}

@@ -6,13 +6,13 @@ use Rattle.std.specs.Option.{option_map_or}
 use Rattle.std.proofs.lemmas.Bool.{or_parts, not-false}
 use Rattle.block_device.specs.Device.{Device}
 use Rattle.dm_table.specs.declared.table.Line.{Line}
-use Rattle.stack_loader.specs.declared.lower.Lower.{Lower}
-use Rattle.stack_loader.specs.declared.lower.Lower.TheVariants.{Leaf}
-use Rattle.stack_loader.specs.Records.{Configuration, DeviceRecord, LeafRecord}
-use Rattle.stack_loader.specs.Names.{mapped, named, names, may_write}
-use Rattle.stack_loader.specs.Lines.{IsLine}
-use Rattle.stack_loader.specs.Rules.{IsValid, names_read_only}
-use Rattle.stack_loader.proofs.lemmas.ValidLineLemmas.{sound}
+use Rattle.stack_rules.specs.declared.lower.Lower.{Lower}
+use Rattle.stack_rules.specs.declared.lower.Lower.TheVariants.{Leaf}
+use Rattle.stack_rules.specs.Records.{Configuration, DeviceRecord, LeafRecord}
+use Rattle.stack_rules.specs.Names.{mapped, named, names, may_write}
+use Rattle.stack_rules.specs.Lines.{IsLine}
+use Rattle.stack_rules.specs.Rules.{IsValid, names_read_only}
+use Rattle.stack_rules.proofs.lemmas.ValidLineLemmas.{sound}
 use Rattle.stack_engine.specs.Beneath.{beneath}
 use Rattle.stack_engine.specs.Leaves.{ServeLeaves}
 use Rattle.stack_engine.proofs.LoadedLemmas.{device-of, of_beneath}

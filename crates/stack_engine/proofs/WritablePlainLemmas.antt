@@ -4,17 +4,17 @@ use Rattle.dm_table.specs.declared.crypt.Crypt.{Crypt}
 use Rattle.dm_table.specs.declared.table.Line.{Line}
 use Rattle.dm_table.specs.declared.table.Target.{Target}
 use Rattle.dm_table.specs.declared.table.Target.TheVariants.{Linear, Striped, Zero, Error, Crypt as crypt_target, Verity as verity_target}
-use Rattle.stack_loader.specs.declared.lower.Lower.{Lower}
-use Rattle.stack_loader.specs.declared.lower.Lower.TheVariants.{Leaf as leaf, Device as device}
-use Rattle.stack_loader.specs.Records.{Configuration}
-use Rattle.stack_loader.specs.Names.{mapped, named, may_write}
-use Rattle.stack_loader.specs.Descend.{depth, known}
-use Rattle.stack_loader.specs.Lines.{line_at, IsLine}
-use Rattle.stack_loader.specs.Rules.{IsLoaded}
+use Rattle.stack_rules.specs.declared.lower.Lower.{Lower}
+use Rattle.stack_rules.specs.declared.lower.Lower.TheVariants.{Leaf as leaf, Device as device}
+use Rattle.stack_rules.specs.Records.{Configuration}
+use Rattle.stack_rules.specs.Names.{mapped, named, may_write}
+use Rattle.stack_rules.specs.Descend.{depth, known}
+use Rattle.stack_rules.specs.Lines.{line_at, IsLine}
+use Rattle.stack_rules.specs.Rules.{IsLoaded}
 use Rattle.stack_loader.proofs.lemmas.VerityLineLemmas.{verity-line}
 use Rattle.stack_engine.specs.Sectors.{on_found, SomeOf}
 use Rattle.stack_engine.specs.Outcomes.{Fault, error_target, mismatch}
-use Rattle.stack_loader.specs.Units.{unit_sectors}
+use Rattle.stack_rules.specs.Units.{unit_sectors}
 use Rattle.stack_engine.specs.Units.{unit_first}
 use Rattle.stack_engine.specs.Beneath.{beneath, said_or}
 use Rattle.stack_engine.specs.Meaning.{Said, leaf_said, none_said, line_said, said_at, said_by_name}

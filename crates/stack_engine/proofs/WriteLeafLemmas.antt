@@ -3,9 +3,9 @@ use Rattle.std.proofs.Common.{◌≡◌, ℕ, ◌+◌, ◌-◌, ◌*◌, ◌<◌
 use Rattle.std.proofs.lemmas.List.{map-set, get_or-map, get_or-set_same, get_or-set_other, length-map, get_or-take, get_or-drop, get_or_default}
 use Rattle.std.proofs.lemmas.Bool.{cases_eq, cases_lt}
 use Rattle.block_device.specs.Device.{Device, IsWhole, IsWritten, HasFailed, spliced}
-use Rattle.stack_loader.specs.declared.lower.Lower.TheVariants.{Leaf}
-use Rattle.stack_loader.specs.Records.{Configuration}
-use Rattle.stack_loader.specs.Descend.{descend, write_cost}
+use Rattle.stack_rules.specs.declared.lower.Lower.TheVariants.{Leaf}
+use Rattle.stack_rules.specs.Records.{Configuration}
+use Rattle.stack_rules.specs.Descend.{descend, write_cost}
 use Rattle.stack_engine.specs.declared.fault.IoFault.{IoFault}
 use Rattle.stack_engine.specs.declared.fault.IoFault.TheVariants as io
 use Rattle.stack_engine.specs.Reading.{IsPlain}

@@ -1,23 +1,22 @@
 -- What is written to where a device's sectors lie is written to the device.
-use Rattle.std.proofs.Common.{◌≡◌, ℕ, suc, ◌+◌, ◌-◌, ◌/◌, ◌%◌, ◌*◌, ◌<◌, ◌≤◌, ◌⊎◌, inl, inr, true, false, IsTrue, List, [], ◌∷◌, ◌++◌, length, Option, Some, Result, Ok, Err, refl, sym, ap, ◌∙◌, subst, arith}
+use Rattle.std.proofs.Common.{◌≡◌, ℕ, ◌+◌, ◌-◌, ◌/◌, ◌%◌, ◌*◌, ◌<◌, ◌≤◌, ◌⊎◌, inl, inr, true, false, IsTrue, List, [], ◌++◌, length, Option, Result, Ok, Err, refl, sym, ap, ◌∙◌, subst, arith}
 use Rattle.block_device.specs.Device.{Device}
 use Rattle.dm_table.specs.declared.table.Line.{Line}
 use Rattle.dm_table.specs.declared.table.Target.{Target}
 use Rattle.dm_table.specs.declared.table.Target.TheVariants.{Zero, Error}
-use Rattle.stack_loader.specs.declared.lower.Lower.{Lower}
-use Rattle.stack_loader.specs.Records.{Configuration}
-use Rattle.stack_loader.specs.Names.{mapped, lines_of, may_write}
-use Rattle.stack_loader.specs.Lines.{IsLine}
-use Rattle.stack_loader.specs.Descend.{known, write_cost}
-use Rattle.stack_loader.specs.Rules.{IsLoaded}
+use Rattle.stack_rules.specs.declared.lower.Lower.{Lower}
+use Rattle.stack_rules.specs.Records.{Configuration}
+use Rattle.stack_rules.specs.Names.{mapped, lines_of, may_write}
+use Rattle.stack_rules.specs.Lines.{IsLine}
+use Rattle.stack_rules.specs.Descend.{known, write_cost}
+use Rattle.stack_rules.specs.Rules.{IsLoaded}
 use Rattle.stack_engine.specs.declared.fault.IoFault.{IoFault}
 use Rattle.stack_engine.specs.declared.fault.IoFault.TheVariants as io
 use Rattle.stack_engine.specs.declared.source.Source.{Source}
 use Rattle.stack_engine.specs.declared.source.Source.TheVariants.{Below, Units, UnitPart, Zeros, Fails, Block}
-use Rattle.stack_loader.specs.Units.{unit_sectors}
-use Rattle.stack_engine.specs.Beneath.{beneath}
+use Rattle.stack_rules.specs.Units.{unit_sectors}
 use Rattle.stack_engine.specs.declared.source.BlockPart.{BlockPart}
-use Rattle.stack_loader.proofs.lemmas.UnitLemmas.{unit_sectors-some}
+use Rattle.stack_rules.proofs.lemmas.UnitLemmas.{unit_sectors-some}
 use Rattle.stack_engine.proofs.UnitLineLemmas.{unit-line, cost-beneath}
 use Rattle.std.specs.Prelude.{slice_get}
 use Rattle.std.proofs.Math.Nat.{mul-le-mul_right}
@@ -31,6 +30,7 @@ use Rattle.stack_engine.proofs.SourceLemmas.{units-at, served-said}
 use Rattle.stack_engine.proofs.VerityLineLemmas.{part-read_only}
 use Rattle.stack_engine.proofs.WritableLemmas.{writable-falls}
 use Rattle.stack_engine.proofs.lemmas.ChangeLemmas.{AreWritten-none}
+use Rattle.stack_engine.proofs.lemmas.LineLemmas.{found-more}
 use Rattle.stack_engine.proofs.lemmas.PutLemmas.{Apart, put-together, device-apart, put_on-line, line_put-beneath}
 use Rattle.stack_engine.proofs.lemmas.WriteRunLemmas.{length-sectors_in, sectors_in-none, sectors_in-append, PutsInParts, PutsAlike, write_ok, write_err, write_as}
 
@@ -45,30 +45,37 @@ part-put c d l w j line b sectors images is begins =
     ∙ ap (λ (k : ℕ). put_on_line c d l (slice_get (lines_of c d) l) (k + j) sectors images) begins.2
     ∙ ap (λ (o : Option Line). put_on_line c d l o (w + j) sectors images) is
 
-module _ (c : Configuration) (d l : ℕ) (line : Line) (is : IsLine c d l line) (w : ℕ) (sectors : List (List ℕ)) (images : Images) (some : 0 < length sectors) where
+module _ (c : Configuration) (d l : ℕ) (line : Line) (is : IsLine c d l line) (w j n : ℕ) (sectors : List (List ℕ)) (images : Images) (some : 0 < length sectors) (fits : j + length sectors ≤ n) where
   -- a target of which all sectors go down together
-  one-run : (target : Target) → ((j : ℕ) → IsTrue (together target (w + j))) → line.target ≡ target
-      → put_runs (line_put c (put_by_name c) d l line.target) (runs_from (together line.target) w sectors) images ≡ line_put c (put_by_name c) d l target w sectors images
+  one-run : (target : Target) → ((i : ℕ) → IsTrue (together target (w + j + i))) → line.target ≡ target
+      → put_runs (line_put c (put_by_name c) d l line.target) (runs_from (together line.target) (w + j) sectors) images ≡ line_put c (put_by_name c) d l target (w + j) sectors images
   one-run target all come =
-      ap (λ (t : Target). put_runs (line_put c (put_by_name c) d l t) (runs_from (together t) w sectors) images) come
-      ∙ put-together (line_put c (put_by_name c) d l target) (together target) w sectors images some (λ j h. all j)
+      ap (λ (t : Target). put_runs (line_put c (put_by_name c) d l t) (runs_from (together t) (w + j) sectors) images) come
+      ∙ put-together (line_put c (put_by_name c) d l target) (together target) (w + j) sectors images some (λ i h. all i)
 
-  come-put : (source : Source) → SourceMayWrite c source → ComeFrom c (d, l) line.target w (length sectors) source
-      → put_runs (line_put c (put_by_name c) d l line.target) (runs_from (together line.target) w sectors) images ≡ source_put c source 0 sectors images
+  -- of n sectors from w on, those from the j-th on
+  come-put : (source : Source) → SourceMayWrite c source → ComeFrom c (d, l) line.target w n source
+      → put_runs (line_put c (put_by_name c) d l line.target) (runs_from (together line.target) (w + j) sectors) images ≡ source_put c source j sectors images
   come-put (Below lower first) may come =
       let on = come.1 in
-      let a : w + 0 ≡ w = omega arith in
-      let there : beneath line.target w ≡ Some (on.name, first + 0) = ap (beneath line.target) (sym a) ∙ on.under 0 some in
-      put-together (line_put c (put_by_name c) d l line.target) (together line.target) w sectors images some come.2
-      ∙ line_put-beneath c (put_by_name c) d l line.target w (on.name, first + 0) sectors images come.0 there
-      ∙ ap (λ (o : Option Lower). known {A = ℕ → Putting} (λ t. none_put) (put_on c) o (first + 0) sectors images) on.is
-  come-put (Units b) may come = let e : w ≡ w + 0 = omega arith in
-      ap (λ (k : ℕ). put_runs (line_put c (put_by_name c) d l line.target) (runs_from (together line.target) k sectors) images) e ∙ sym (part-put c d l w 0 line b sectors images is come.0)
-  come-put (UnitPart b) may come = let e : w ≡ w + 0 = omega arith in
-      ap (λ (k : ℕ). put_runs (line_put c (put_by_name c) d l line.target) (runs_from (together line.target) k sectors) images) e ∙ sym (part-put c d l w 0 line b sectors images is come.0)
-  come-put Zeros may come = one-run Zero (λ j. refl) come
-  come-put Fails may come = one-run Error (λ j. refl) come
+      put-together (line_put c (put_by_name c) d l line.target) (together line.target) (w + j) sectors images some
+      (λ i h. let e : w + j + i ≡ w + (j + i) = omega arith in ap (together line.target) e ∙ come.2 (j + i) (omega (arith, h, fits)))
+      ∙ line_put-beneath c (put_by_name c) d l line.target (w + j) (on.name, first + j) sectors images come.0 (on.under j (omega (arith, some, fits)))
+      ∙ ap (λ (o : Option Lower). known {A = ℕ → Putting} (λ t. none_put) (put_on c) o (first + j) sectors images) on.is
+  come-put (Units b) may come = sym (part-put c d l w j line b sectors images is come.0)
+  come-put (UnitPart b) may come = sym (part-put c d l w j line b sectors images is come.0)
+  come-put Zeros may come = one-run Zero (λ i. refl) come
+  come-put Fails may come = one-run Error (λ i. refl) come
   come-put (Block b) may come = absurd may
+
+-- of n sectors of a device from s on, those from the j-th on
+pub served-put : (c : Configuration) (d s n j : ℕ) (source : Source) (sectors : List (List ℕ)) (images : Images) → IsLoaded c → 0 < length sectors → j + length sectors ≤ n → SourceMayWrite c source → IsServed c d s n source
+    → put_on c (mapped d) (s + j) sectors images ≡ source_put c source j sectors images
+served-put c d s n j source sectors images loaded some fits may r =
+    let at : s + j - r.line.start ≡ s - r.line.start + j = omega (arith, r.start) in
+    put_on-line c loaded.valid d (s + j) r.number r.line sectors images (found-more 0 (lines_of c d) s (s + j) (r.number, r.line) r.found (omega arith) (omega (arith, some, fits, r.fits))) (omega (arith, r.start)) (omega (arith, fits, r.fits))
+    ∙ ap (λ (k : ℕ). put_runs (line_put c (put_by_name c) d r.number r.line.target) (runs_from (together r.line.target) k sectors) images) at
+    ∙ come-put c d r.number r.line r.is (s - r.line.start) j n sectors images some fits source may r.come
 
 -- ---- writes
 
@@ -105,8 +112,8 @@ served-alike : (c : Configuration) (d s : ℕ) (source : Source) (sectors : List
 served-alike c d s source sectors loaded some may r = record {
   said = λ j h. let e : 0 + j ≡ j = omega arith in ap (source_destination c source).said e ∙ served-said c d s (length sectors) j source loaded h r;
   puts = λ images.
-      sym (put_on-line c loaded.valid d s r.number r.line sectors images r.found r.start r.fits
-      ∙ come-put c d r.number r.line r.is (s - r.line.start) sectors images some source may r.come);
+      let e : s + 0 ≡ s = omega arith in
+      sym (served-put c d s (length sectors) 0 source sectors images loaded some (omega arith) may r) ∙ ap (λ (k : ℕ). put_on c (mapped d) k sectors images) e;
   cost = served-write-cost c d s (length sectors) source loaded some r;
 }
 

@@ -15,6 +15,7 @@ pub mod RunLemmas
 pub mod SectorLemmas
 pub mod SizeLemmas
 pub mod SpanLemmas
+pub mod SyncLemmas
 pub mod UnitLemmas
 pub mod WalkLemmas
 pub mod WritePieceLemmas

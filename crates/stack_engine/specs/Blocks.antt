@@ -4,7 +4,7 @@ use Rattle.std.specs.Str.{bytes_eq}
 use Rattle.hash_tree.specs.Digests.{digest, digest_in}
 use Rattle.hash_tree.specs.Shape.{levels, position, slot, ancestor}
 use Rattle.dm_table.specs.declared.verity.Verity.{Verity}
-use Rattle.stack_loader.specs.Trees.{tree_of, block_sectors, zero_block}
+use Rattle.stack_rules.specs.Trees.{tree_of, block_sectors, zero_block}
 use Rattle.stack_engine.specs.Sectors.{SomeOf}
 use Rattle.stack_engine.specs.Outcomes.{Outcome, Fault, mismatch, span, then_outcome}
 

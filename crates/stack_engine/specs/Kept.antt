@@ -6,9 +6,9 @@ use Rattle.dm_table.specs.declared.verity.Verity.{Verity}
 use Rattle.dm_table.specs.declared.table.Line.{Line}
 use Rattle.dm_table.specs.declared.table.Target.{Target}
 use Rattle.dm_table.specs.declared.table.Target.TheVariants.{Linear, Striped, Zero, Error, Crypt as crypt_target, Verity as verity_target}
-use Rattle.stack_loader.specs.Records.{Configuration}
-use Rattle.stack_loader.specs.Trees.{tree_of}
-use Rattle.stack_loader.specs.Lines.{IsLine}
+use Rattle.stack_rules.specs.Records.{Configuration}
+use Rattle.stack_rules.specs.Trees.{tree_of}
+use Rattle.stack_rules.specs.Lines.{IsLine}
 use Rattle.stack_engine.specs.Outcomes.{Images, Outcome}
 use Rattle.stack_engine.specs.Blocks.{block_at}
 use Rattle.stack_engine.specs.Found.{FoundRecord}

@@ -13,14 +13,14 @@ use Rattle.block_device.specs.Device.{IsSector}
 use Rattle.dm_table.specs.declared.table.Line.{Line}
 use Rattle.dm_table.specs.declared.table.Target.TheVariants.{Verity as verity_target}
 use Rattle.dm_table.specs.declared.verity.Verity.{Verity}
-use Rattle.stack_loader.specs.declared.lower.Lower.{Lower}
-use Rattle.stack_loader.specs.declared.lower.Lower.TheVariants.{Leaf as leaf, Device as device}
-use Rattle.stack_loader.specs.Descend.{descend}
-use Rattle.stack_loader.specs.Lines.{line_at}
-use Rattle.stack_loader.specs.Names.{mapped, lowers}
-use Rattle.stack_loader.specs.Records.{Configuration}
-use Rattle.stack_loader.specs.Rules.{IsLoaded}
-use Rattle.stack_loader.specs.Trees.{tree_of, data_sectors, block_sectors, zero_block}
+use Rattle.stack_rules.specs.declared.lower.Lower.{Lower}
+use Rattle.stack_rules.specs.declared.lower.Lower.TheVariants.{Leaf as leaf, Device as device}
+use Rattle.stack_rules.specs.Descend.{descend}
+use Rattle.stack_rules.specs.Lines.{line_at}
+use Rattle.stack_rules.specs.Names.{mapped, lowers}
+use Rattle.stack_rules.specs.Records.{Configuration}
+use Rattle.stack_rules.specs.Rules.{IsLoaded}
+use Rattle.stack_rules.specs.Trees.{tree_of, data_sectors, block_sectors, zero_block}
 use Rattle.stack_engine.specs.Blocks.{hash_sectors, is_ignored}
 use Rattle.stack_engine.specs.Found.{FoundRecord}
 use Rattle.stack_engine.specs.May.{MayBe}

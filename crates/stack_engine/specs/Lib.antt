@@ -6,6 +6,7 @@ pub mod Found
 pub mod Blocks
 pub mod Meaning
 pub mod Puts
+pub mod Cuts
 pub mod May
 pub mod Leaves
 pub mod Changes
@@ -21,5 +22,6 @@ pub mod Stacks
 pub mod Pieces
 pub mod WritePieces
 pub mod IoFaults
+pub mod Syncs
 pub mod Laws
 pub mod TableLines

@@ -1,7 +1,7 @@
 -- What a read of sectors may answer over devices that answer anything.
 use Rattle.std.specs.Prelude.{ℕ, List}
-use Rattle.stack_loader.specs.declared.lower.Lower.{Lower}
-use Rattle.stack_loader.specs.Records.{Configuration}
+use Rattle.stack_rules.specs.declared.lower.Lower.{Lower}
+use Rattle.stack_rules.specs.Records.{Configuration}
 use Rattle.stack_engine.specs.Sectors.{SomeOf, IsRun}
 use Rattle.stack_engine.specs.Outcomes.{Fault}
 use Rattle.stack_engine.specs.Found.{FoundRecord, AreDistinct, AreUsed}

@@ -6,11 +6,11 @@ use Rattle.dm_table.specs.declared.crypt.Crypt.{Crypt}
 use Rattle.dm_table.specs.declared.verity.Verity.{Verity}
 use Rattle.hash_tree.specs.Chain.{IsGood}
 use Rattle.block_device.specs.Device.{IsSector}
-use Rattle.stack_loader.specs.declared.lower.Lower.{Lower}
-use Rattle.stack_loader.specs.Records.{Configuration}
-use Rattle.stack_loader.specs.Descend.{by_name}
-use Rattle.stack_loader.specs.Trees.{tree_of, block_sectors}
-use Rattle.stack_loader.specs.Units.{unit_sectors}
+use Rattle.stack_rules.specs.declared.lower.Lower.{Lower}
+use Rattle.stack_rules.specs.Records.{Configuration}
+use Rattle.stack_rules.specs.Descend.{by_name}
+use Rattle.stack_rules.specs.Trees.{tree_of, block_sectors}
+use Rattle.stack_rules.specs.Units.{unit_sectors}
 use Rattle.stack_engine.specs.Sectors.{OnLine, by_sector, SomeOf, IsRun, gathered}
 use Rattle.stack_engine.specs.Outcomes.{Fault, error_target, Images, LeafSector, Outcome, changed_outcome, zero_sector, span, then_outcome, part}
 use Rattle.stack_engine.specs.Units.{unit_part, unit_first}

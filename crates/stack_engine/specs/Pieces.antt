@@ -1,9 +1,9 @@
 -- Pieces of a read: at most 128 sectors, which one call answers.
 use Rattle.std.specs.Prelude.{◌≡◌, ℕ, ◌*◌, List, Result}
 use Rattle.block_device.specs.Device.{Device}
-use Rattle.stack_loader.specs.Records.{Configuration}
-use Rattle.stack_loader.specs.Names.{mapped}
-use Rattle.stack_loader.specs.Descend.{read_cost}
+use Rattle.stack_rules.specs.Records.{Configuration}
+use Rattle.stack_rules.specs.Names.{mapped}
+use Rattle.stack_rules.specs.Descend.{read_cost}
 use Rattle.stack_engine.specs.declared.fault.IoFault.{IoFault}
 use Rattle.stack_engine.specs.Outcomes.{span}
 use Rattle.stack_engine.specs.Meaning.{sector}

@@ -1,9 +1,9 @@
 -- Places from which sectors are read, and what is expected of a read.
 use Rattle.std.specs.Prelude.{ℕ, ◌*◌, List}
 use Rattle.block_device.specs.Device.{Device}
-use Rattle.stack_loader.specs.declared.lower.Lower.{Lower}
-use Rattle.stack_loader.specs.Records.{Configuration}
-use Rattle.stack_loader.specs.Descend.{read_cost}
+use Rattle.stack_rules.specs.declared.lower.Lower.{Lower}
+use Rattle.stack_rules.specs.Records.{Configuration}
+use Rattle.stack_rules.specs.Descend.{read_cost}
 use Rattle.stack_engine.specs.Sectors.{SomeOf, IsRun}
 use Rattle.stack_engine.specs.Outcomes.{Fault, Outcome, Images, span}
 use Rattle.stack_engine.specs.Found.{FoundRecord}

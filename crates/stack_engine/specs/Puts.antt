@@ -6,13 +6,13 @@ use Rattle.block_device.specs.Device.{sectors_of, spliced}
 use Rattle.dm_table.specs.declared.crypt.Crypt.{Crypt}
 use Rattle.dm_table.specs.declared.table.Target.{Target}
 use Rattle.dm_table.specs.declared.table.Target.TheVariants.{Linear, Striped, Zero, Error, Crypt as crypt_target, Verity as verity_target}
-use Rattle.stack_loader.specs.declared.lower.Lower.{Lower}
-use Rattle.stack_loader.specs.declared.lower.Lower.TheVariants.{Leaf as leaf, Device as device}
-use Rattle.stack_loader.specs.Records.{Configuration}
-use Rattle.stack_loader.specs.Descend.{descend}
-use Rattle.stack_loader.specs.Lines.{line_at}
-use Rattle.stack_loader.specs.Trees.{block_sectors}
-use Rattle.stack_loader.specs.Units.{unit_sectors}
+use Rattle.stack_rules.specs.declared.lower.Lower.{Lower}
+use Rattle.stack_rules.specs.declared.lower.Lower.TheVariants.{Leaf as leaf, Device as device}
+use Rattle.stack_rules.specs.Records.{Configuration}
+use Rattle.stack_rules.specs.Descend.{descend}
+use Rattle.stack_rules.specs.Lines.{line_at}
+use Rattle.stack_rules.specs.Trees.{block_sectors}
+use Rattle.stack_rules.specs.Units.{unit_sectors}
 use Rattle.stack_engine.specs.Sectors.{OnLine, sector_rule}
 use Rattle.stack_engine.specs.Outcomes.{Fault, error_target, Images, Outcome, span}
 use Rattle.stack_engine.specs.Units.{encrypted_unit, decrypted_unit, unit_first}

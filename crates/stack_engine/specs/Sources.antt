@@ -7,13 +7,13 @@ use Rattle.dm_table.specs.declared.verity.Verity.{Verity}
 use Rattle.dm_table.specs.declared.table.Line.{Line}
 use Rattle.dm_table.specs.declared.table.Target.{Target}
 use Rattle.dm_table.specs.declared.table.Target.TheVariants.{Zero, Error, Crypt as crypt_target, Verity as verity_target}
-use Rattle.stack_loader.specs.declared.lower.Lower.{Lower}
-use Rattle.stack_loader.specs.Records.{Configuration}
-use Rattle.stack_loader.specs.Names.{mapped, named, lines_of, size}
-use Rattle.stack_loader.specs.Descend.{by_name, depth, read_cost}
-use Rattle.stack_loader.specs.Lines.{line_at, IsLine}
-use Rattle.stack_loader.specs.Trees.{block_sectors}
-use Rattle.stack_loader.specs.Units.{unit_sectors, crypt_of}
+use Rattle.stack_rules.specs.declared.lower.Lower.{Lower}
+use Rattle.stack_rules.specs.Records.{Configuration}
+use Rattle.stack_rules.specs.Names.{mapped, named, lines_of, size}
+use Rattle.stack_rules.specs.Descend.{by_name, depth, read_cost}
+use Rattle.stack_rules.specs.Lines.{line_at, IsLine}
+use Rattle.stack_rules.specs.Trees.{block_sectors}
+use Rattle.stack_rules.specs.Units.{unit_sectors, crypt_of}
 use Rattle.stack_engine.specs.declared.fault.IoFault.{IoFault}
 use Rattle.stack_engine.specs.declared.source.BlockPart.{BlockPart}
 use Rattle.stack_engine.specs.declared.source.Source.{Source}

@@ -1,8 +1,8 @@
 -- A stack and the answer of a read, as contracts see them.
 use Rattle.std.specs.Prelude.{ℕ, List}
 use Rattle.block_device.specs.Device.{Device}
-use Rattle.stack_loader.specs.Records.{Configuration}
-use Rattle.stack_loader.specs.Rules.{IsLoaded}
+use Rattle.stack_rules.specs.Records.{Configuration}
+use Rattle.stack_rules.specs.Rules.{IsLoaded}
 use Rattle.stack_engine.specs.Found.{FoundRecord}
 use Rattle.stack_engine.specs.Leaves.{ServeLeaves}
 use Rattle.stack_engine.specs.Caches.{StackCache, IsCacheOf}

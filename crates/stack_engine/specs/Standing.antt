@@ -1,17 +1,17 @@
 -- The leaves on which devices and lines stand.
-use Rattle.std.specs.Prelude.{◌≡◌, ℕ, ◌<◌, Bool, true, false, not, ◌&&◌, ◌==◌, nat_lt, List, length, filter, slice_get, All}
+use Rattle.std.specs.Prelude.{◌≡◌, ℕ, ◌<◌, Bool, true, false, ◌==◌, List, length, slice_get, All}
 use Rattle.std.specs.Int.{bit_at}
 use Rattle.std.specs.List.{list_any, slice_index_or}
 use Rattle.std.specs.Option.{option_map_or}
 use Rattle.dm_table.specs.declared.table.Target.{Target}
 use Rattle.dm_table.specs.declared.table.Target.TheVariants.{Linear, Striped, Zero, Error, Crypt as crypt_target, Verity as verity_target}
-use Rattle.stack_loader.specs.declared.lower.Lower.{Lower}
-use Rattle.stack_loader.specs.declared.lower.Lower.TheVariants.{Leaf as leaf, Device as device}
-use Rattle.stack_loader.specs.Descend.{by_name, depth, most_devices}
-use Rattle.stack_loader.specs.Names.{mapped, lines_of}
-use Rattle.stack_loader.specs.Records.{Configuration}
-use Rattle.stack_loader.specs.Rules.{most_leaves}
-use Rattle.verified_cache.specs.Cache.{CachedBlock, CacheRecord}
+use Rattle.stack_rules.specs.declared.lower.Lower.{Lower}
+use Rattle.stack_rules.specs.declared.lower.Lower.TheVariants.{Leaf as leaf, Device as device}
+use Rattle.stack_rules.specs.Descend.{by_name, depth, most_devices}
+use Rattle.stack_rules.specs.Names.{mapped, lines_of}
+use Rattle.stack_rules.specs.Records.{Configuration}
+use Rattle.stack_rules.specs.Rules.{most_leaves}
+use Rattle.verified_cache.specs.Cache.{CachedBlock, CacheRecord, cache_without}
 use Rattle.verified_cache.specs.declared.key.Key.{Key}
 use Rattle.stack_engine.specs.declared.leaf_set.LeafSet.{LeafSet}
 use Rattle.stack_engine.specs.Laws.{leaves_beneath}
@@ -59,11 +59,7 @@ line_stands_on c i d l = option_map_or (λ line. hashes_stand_on c i line.target
 abbrev pub key_stands_on : Configuration → ℕ → Key → Bool
 key_stands_on c i key = line_stands_on c i key.device key.line
 
--- what is left of a cache without the blocks under such keys
-abbrev pub cache_without : (Key → Bool) → CacheRecord → CacheRecord
-cache_without test cache = record cache { blocks = filter (λ b. not (test b.key)) cache.blocks }
-
--- without those of the lines whose hash device is leaf i or stands on it
+-- what is left of a cache without the blocks of the lines whose hash device is leaf i or stands on it
 abbrev pub cache_without_leaf : Configuration → ℕ → CacheRecord → CacheRecord
 cache_without_leaf c i = cache_without (key_stands_on c i)
 

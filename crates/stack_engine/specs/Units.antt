@@ -3,7 +3,7 @@ use Rattle.std.specs.Prelude.{ℕ, ◌+◌, ◌*◌, ◌/◌, ◌%◌, ◌^◌, 
 use Rattle.aes_block.specs.Blocks.{joined}
 use Rattle.dm_table.specs.declared.crypt.Crypt.{Crypt}
 use Rattle.dm_table.specs.Crypt.{sector_size, iv_large_sectors}
-use Rattle.stack_loader.specs.Units.{unit_sectors}
+use Rattle.stack_rules.specs.Units.{unit_sectors}
 use Rattle.xts_sector.specs.Units.{unit}
 use Rattle.xts_sector.specs.Xts.{encrypted, decrypted}
 use Rattle.stack_engine.specs.Outcomes.{part}

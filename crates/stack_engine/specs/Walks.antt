@@ -6,10 +6,10 @@ use Rattle.hash_tree.specs.Shape.{levels}
 use Rattle.block_device.specs.Device.{Device}
 use Rattle.dm_table.specs.declared.verity.Verity.{Verity}
 use Rattle.dm_table.specs.declared.table.Target.TheVariants.{Verity as verity_target}
-use Rattle.stack_loader.specs.Records.{Configuration}
-use Rattle.stack_loader.specs.Names.{named}
-use Rattle.stack_loader.specs.Descend.{by_name, read_cost}
-use Rattle.stack_loader.specs.Trees.{tree_of, block_sectors, path_sectors}
+use Rattle.stack_rules.specs.Records.{Configuration}
+use Rattle.stack_rules.specs.Names.{named}
+use Rattle.stack_rules.specs.Descend.{by_name, read_cost}
+use Rattle.stack_rules.specs.Trees.{tree_of, block_sectors, path_sectors}
 use Rattle.stack_engine.specs.declared.fault.IoFault.{IoFault}
 use Rattle.stack_engine.specs.declared.tree.Tree.{Tree}
 use Rattle.stack_engine.specs.Sectors.{SomeOf}

@@ -1,8 +1,8 @@
 -- Pieces of a write: at most 128 sectors, which one call puts.
 use Rattle.std.specs.Prelude.{◌≡◌, ◌≤◌, ℕ, ◌+◌, ◌*◌, ◌/◌, List, [], ◌++◌, length, Result, Ok, Err}
-use Rattle.stack_loader.specs.Names.{mapped}
-use Rattle.stack_loader.specs.Records.{Configuration}
-use Rattle.stack_loader.specs.Descend.{write_cost}
+use Rattle.stack_rules.specs.Names.{mapped}
+use Rattle.stack_rules.specs.Records.{Configuration}
+use Rattle.stack_rules.specs.Descend.{write_cost}
 use Rattle.stack_engine.specs.declared.fault.IoFault.{IoFault}
 use Rattle.stack_engine.specs.Meaning.{said_at}
 use Rattle.stack_engine.specs.May.{MayFault}

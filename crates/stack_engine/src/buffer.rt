@@ -1,7 +1,7 @@
 // The buffers of pieces.
 ghost use Rattle.std.specs.Prelude.{◌≡◌, ◌≤◌, ◌+◌, ◌*◌, ◌/◌, length, replicate, IfOk, OnErr, vec_len};
-ghost use Rattle.stack_loader.specs.Names.{mapped, size};
-ghost use Rattle.stack_loader.specs.Rules.{IsLoaded};
+ghost use Rattle.stack_rules.specs.Names.{mapped, size};
+ghost use Rattle.stack_rules.specs.Rules.{IsLoaded};
 ghost use Rattle.stack_engine.specs.Meaning.{said_at};
 ghost use Rattle.stack_engine.specs.Writing.{AreSectors, SomeEncrypt, IsBufferFor};
 

@@ -1,15 +1,15 @@
 // The hash blocks that a stack keeps.
-ghost use Rattle.std.specs.Prelude.{◌≡◌, ◌<◌, ◌==◌, ◌||◌, ◌&&◌, [], ℕ, length, option_map, IfOk, OnOk, OnErr};
-ghost use Rattle.stack_loader.specs.Names.{lines_of};
-ghost use Rattle.stack_loader.specs.Records.{Configuration};
-ghost use Rattle.stack_loader.specs.Rules.{IsLoaded, most_leaves};
+ghost use Rattle.std.specs.Prelude.{◌≡◌, ◌<◌, ◌||◌, [], ℕ, option_map, IfOk, OnOk, OnErr};
+ghost use Rattle.stack_rules.specs.Records.{Configuration};
+ghost use Rattle.stack_rules.specs.Rules.{IsLoaded, most_leaves};
 ghost use Rattle.verified_cache.specs.Cache.{CachedBlock, block_under, cache_after_find, cache_after_keep};
-ghost use Rattle.stack_engine.specs.Standing.{contains, stands_on, line_stands_on, key_stands_on, cache_without, cache_without_leaf, IsInside, KnowsLeaves, AreLeafSets, CoversBlocks};
+ghost use Rattle.stack_engine.specs.Standing.{contains, stands_on, cache_without_leaf, IsInside, KnowsLeaves, AreLeafSets, CoversBlocks};
 ghost use Rattle.stack_engine.specs.Caches.{IsFresh};
 
+use crate::keys_on_leaf::KeysOnLeaf;
 use crate::leaf_set::LeafSet;
-use crate::leaf_sets::{is_verity, leaf_sets, lower_leaves};
-use stack_loader::{Config, DevId, Lower};
+use crate::leaf_sets::{leaf_sets, lower_leaves};
+use stack_loader::{Config, Lower};
 use std::alloc::{AllocError, Global};
 use std::marker::Model;
 use verified_cache::{BlockCache, Key};
@@ -104,40 +104,8 @@ impl Cache {
         self.blocks.keep(key, digest, copy)
     }
 
-    /// Whether the hash device of a line is the leaf, or stands on it.
-    fn is_hashed_on(&self, config: &Config, d: DevId, line: u32, leaf: u32) -> bool
-        requires loaded { IsLoaded config.now }
-        requires device { d.0 < length config.now.devices }
-        requires line { line < length (lines_of config.now d.0) }
-        requires leaf { leaf < most_leaves }
-        requires sets { AreLeafSets config.now self.now.beneath }
-        ensures { result ≡ line_stands_on config.now leaf d.0 line }
-    {
-        let lines = config.table(d).lines();
-        if !is_verity(&lines[line as usize].target) {
-            return false;
-        }
-        let hash = config.lower(d, line, 1);
-        lower_leaves(&self.beneath, hash).contains(leaf)
-    }
-
-    /// Drops the blocks of the lines of one device whose hash device is the leaf, or stands on it.
-    fn forget_of_device(&mut self, config: &Config, d: DevId, leaf: u32)
-        requires loaded { IsLoaded config.now }
-        requires device { d.0 < length config.now.devices }
-        requires leaf { leaf < most_leaves }
-        requires sets { AreLeafSets config.now self.old.beneath }
-        ensures { self.new ≡ record self.old { blocks = cache_without (λ key. key.device == d.0 && key_stands_on config.now leaf key) self.old.blocks } }
-    {
-        let count = config.table(d).lines().len();
-        for line in 0..count {
-            if self.is_hashed_on(config, d, line as u32, leaf) {
-                self.blocks.forget_line(d.0, line as u32);
-            }
-        }
-    }
-
-    /// The same of each device. Where no block was kept for such a line since the last time, that is known at once.
+    /// Drops the blocks of the lines whose hash device is the leaf, or stands on it, and looks at each block once.
+    /// Where no block was kept for such a line since the last time, that is known at once.
     pub(crate) fn forget_leaf(&mut self, config: &Config, leaf: u32)
         requires loaded { IsLoaded config.now }
         requires leaf { leaf < most_leaves }
@@ -150,9 +118,11 @@ impl Cache {
         if !self.covered.contains(leaf) {
             return;
         }
-        for place in 0..config.count() {
-            self.forget_of_device(config, DevId(place as u32), leaf);
-        }
+        self.blocks.forget_where(&KeysOnLeaf {
+            config,
+            beneath: &self.beneath,
+            leaf,
+        });
         self.covered = self.covered.without(leaf);
     }
 }

@@ -1,7 +1,7 @@
 // Whether a write of sectors encrypts some of them, which asks no device.
 ghost use Rattle.std.specs.Prelude.{◌≡◌, ◌↔◌, ◌<◌, ◌≤◌, ◌+◌, IsTrue};
-ghost use Rattle.stack_loader.specs.Names.{mapped, size};
-ghost use Rattle.stack_loader.specs.Rules.{IsLoaded};
+ghost use Rattle.stack_rules.specs.Names.{mapped, size};
+ghost use Rattle.stack_rules.specs.Rules.{IsLoaded};
 ghost use Rattle.stack_engine.specs.Meaning.{said_at};
 ghost use Rattle.stack_engine.specs.Sources.{SourceHolds, source_said};
 ghost use Rattle.stack_engine.specs.Writing.{SomeEncrypt};

@@ -8,7 +8,7 @@ pub(crate) struct LeafSet {
 
 impl LeafSet {
     ghost use Rattle.std.specs.Prelude.{◌≡◌, ◌==◌, ◌<◌, ◌||◌, ◌&&◌, not, false, ℕ};
-    ghost use Rattle.stack_loader.specs.Rules.{most_leaves};
+    ghost use Rattle.stack_rules.specs.Rules.{most_leaves};
     ghost use Rattle.stack_engine.specs.Standing.{contains};
 
     pub(crate) fn empty() -> LeafSet

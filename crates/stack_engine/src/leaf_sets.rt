@@ -2,11 +2,11 @@
 ghost use Rattle.std.specs.Prelude.{◌≡◌, ◌<◌, ◌+◌, ℕ, length};
 ghost use Rattle.std.specs.List.{list_any};
 ghost use Rattle.dm_table.specs.Grammar.{IsTargetOfGrammar};
-ghost use Rattle.stack_loader.specs.Descend.{depth};
-ghost use Rattle.stack_loader.specs.Lines.{names_at};
-ghost use Rattle.stack_loader.specs.Names.{mapped, names};
-ghost use Rattle.stack_loader.specs.Records.{Configuration};
-ghost use Rattle.stack_loader.specs.Rules.{IsLoaded};
+ghost use Rattle.stack_rules.specs.Descend.{depth};
+ghost use Rattle.stack_rules.specs.Lines.{names_at};
+ghost use Rattle.stack_rules.specs.Names.{mapped, names};
+ghost use Rattle.stack_rules.specs.Records.{Configuration};
+ghost use Rattle.stack_rules.specs.Rules.{IsLoaded};
 ghost use Rattle.stack_engine.specs.Standing.{contains, is_verity, name_stands_on, IsInside, HasLeaves, KnowsLeaves, AreSetsBelow, AreLeafSets};
 
 use crate::leaf_set::LeafSet;

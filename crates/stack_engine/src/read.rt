@@ -1,7 +1,7 @@
 // Reads through the lines of a stack, down to its leaves.
 ghost use Rattle.std.specs.Prelude.{◌≡◌, ◌<◌, ◌≤◌, ◌+◌, ◌*◌, ◌/◌, ◌%◌, List, length, map};
-ghost use Rattle.stack_loader.specs.Names.{mapped, size};
-ghost use Rattle.stack_loader.specs.Rules.{IsLoaded};
+ghost use Rattle.stack_rules.specs.Names.{mapped, size};
+ghost use Rattle.stack_rules.specs.Rules.{IsLoaded};
 ghost use Rattle.stack_engine.specs.Leaves.{ServeLeaves};
 ghost use Rattle.stack_engine.specs.Found.{FoundRecord};
 ghost use Rattle.stack_engine.specs.Kept.{AllKept};

@@ -1,9 +1,9 @@
 // The run of sectors at a place of a device.
 ghost use Rattle.std.specs.Prelude.{◌≡◌, ◌<◌, ◌≤◌, ◌+◌, ◌%◌};
 ghost use Rattle.dm_table.specs.Grammar.{IsBaseOfGrammar, IsStripedOfGrammar, IsTargetOfGrammar, IsVerityOfGrammar};
-ghost use Rattle.stack_loader.specs.Names.{mapped, size};
-ghost use Rattle.stack_loader.specs.Rules.{IsLoaded};
-ghost use Rattle.stack_loader.specs.Units.{unit_sectors};
+ghost use Rattle.stack_rules.specs.Names.{mapped, size};
+ghost use Rattle.stack_rules.specs.Rules.{IsLoaded};
+ghost use Rattle.stack_rules.specs.Units.{unit_sectors};
 ghost use Rattle.stack_engine.specs.Puts.{together, in_one_run};
 ghost use Rattle.stack_engine.specs.Sources.{ComeFrom, HasTarget, EndsRun, IsServed};
 
@@ -95,33 +95,25 @@ fn crypt_run(config: &Config, d: DevId, line: u32, crypt: &Crypt, within: u64, c
     units_run(config, d, line, crypt, within, count)
 }
 
-/// The sectors that lie in one chunk.
-fn striped_run(
-    config: &Config,
-    d: DevId,
-    line: u32,
-    chunk: u64,
-    bases: &[Base],
-    within: u64,
-    count: u64,
-) -> Run
+/// The sectors that lie in one chunk, from that one of the line on.
+fn striped_run(config: &Config, from: BlockPart, chunk: u64, bases: &[Base], count: u64) -> Run
     requires loaded { IsLoaded config.now }
     requires grammar { IsStripedOfGrammar chunk bases.now }
-    requires line { HasTarget config.now d.0 line (Target.Striped chunk bases.now) (within + count) }
+    requires line { HasTarget config.now from.device.0 from.line (Target.Striped chunk bases.now) (from.first + count) }
     requires some { 0 < count }
-    ensures come { ComeFrom config.now (d.0, line) (Target.Striped chunk bases.now) within result.count result.source }
+    ensures come { ComeFrom config.now (from.device.0, from.line) (Target.Striped chunk bases.now) from.first result.count result.source }
     ensures some { 0 < result.count }
     ensures most { result.count ≤ count }
-    ensures longest { EndsRun (together (Target.Striped chunk bases.now)) within count result.count }
+    ensures longest { EndsRun (together (Target.Striped chunk bases.now)) from.first count result.count }
 {
-    let number = within / chunk;
-    let part = within % chunk;
+    let number = from.first / chunk;
+    let part = from.first % chunk;
     let stripes = bases.len() as u64;
     let stripe = number % stripes;
     let base = &bases[stripe as usize];
     let count = count.min(chunk - part);
     let first = base.offset + number / stripes * chunk + part;
-    let lower = config.lower(d, line, stripe as u32);
+    let lower = config.lower(from.device, from.line, stripe as u32);
     Run {
         source: Source::Below { lower, first },
         count,
@@ -166,7 +158,12 @@ fn line_run(config: &Config, d: DevId, number: u32, line: &Line, within: u64, co
     match &line.target {
         Target::Linear(base) => linear_run(config, d, number, base, within, count),
         Target::Striped { chunk, bases } => {
-            striped_run(config, d, number, *chunk, bases.as_slice(), within, count)
+            let from = BlockPart {
+                device: d,
+                line: number,
+                first: within,
+            };
+            striped_run(config, from, *chunk, bases.as_slice(), count)
         }
         Target::Zero => Run {
             source: Source::Zeros,

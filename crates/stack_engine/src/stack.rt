@@ -1,14 +1,15 @@
 // A stack: a configuration, and the devices of its leaves.
-ghost use Rattle.std.specs.Prelude.{◌≡◌, ◌<◌, ◌≤◌, ◌+◌, ◌*◌, ◌/◌, ◌^◌, length, map, IsTrue, IfOk, IfErr, OnOk, OnErr, None, Some, Err};
+ghost use Rattle.std.specs.Prelude.{◌≡◌, ◌<◌, ◌≤◌, ◌+◌, ◌*◌, ◌/◌, ◌^◌, length, map, IsTrue, IsOk, IfOk, IfErr, OnOk, OnErr, None, Some, Err};
 ghost use Rattle.block_device.specs.Device.{capped};
-ghost use Rattle.stack_loader.specs.Names.{mapped, size, may_write};
-ghost use Rattle.stack_loader.specs.Rules.{after_load, IsRefusal, first_refusal};
-ghost use Rattle.stack_loader.specs.Removal.{removal_fault, after_removal};
-ghost use Rattle.stack_loader.specs.declared.refusal.Refusal.{Refusal};
+ghost use Rattle.stack_rules.specs.Names.{mapped, size, may_write};
+ghost use Rattle.stack_rules.specs.Rules.{after_load, IsRefusal, first_refusal};
+ghost use Rattle.stack_rules.specs.Removal.{removal_fault, after_removal};
+ghost use Rattle.stack_rules.specs.declared.refusal.Refusal.{Refusal};
 ghost use Rattle.stack_engine.specs.Leaves.{ServeLeaves, AllSteady, reads_of, writes_of};
 ghost use Rattle.stack_engine.specs.Pieces.{AnyPiece, SteadyPiece};
 ghost use Rattle.stack_engine.specs.Stacks.{StackRecord, IsSound};
 ghost use Rattle.stack_engine.specs.Meaning.{said_at};
+ghost use Rattle.stack_engine.specs.Syncs.{FailsToSync, NeverFail};
 ghost use Rattle.stack_engine.specs.WritePieces.{ArePiece, AnyWrite, SteadyWrite};
 ghost use Rattle.stack_engine.specs.Writing.{SomeEncrypt};
 
@@ -19,8 +20,9 @@ use crate::counters::counted;
 use crate::fault::IoFault;
 use crate::read::read_device;
 use crate::reader::Reader;
+use crate::sync::sync_leaves;
 use crate::write::write_device;
-use block_device::BlockDev;
+use block_device::{BlockDev, SyncDev};
 use dm_table::StackText;
 use stack_loader::{Config, DevId, LoadFault, RemoveFault};
 use std::alloc::Global;
@@ -179,5 +181,20 @@ impl<D: BlockDev> Stack<D> {
         ensures { result ≡ (capped (reads_of self.now.leaves), capped (writes_of self.now.leaves)) }
     {
         counted(self.reader.devices.as_slice())
+    }
+}
+
+impl<D: SyncDev> Stack<D> {
+    /// Has what was written to the leaves put on their media: leaf by leaf in order, those that were written. The
+    /// fault names the first leaf of which that failed, counted from 1; those behind it aren't asked then.
+    pub fn sync(&mut self) -> Result<(), IoFault>
+        ensures ok { OnOk result (self.new ≡ self.old) }
+        ensures config { self.new.config ≡ self.old.config }
+        ensures err { IfErr result (FailsToSync self.old.leaves self.new.leaves) }
+        ensures sure { NeverFail self.old.leaves → IsOk result }
+    {
+        // As in `new`.
+        let _loaded = self.config.count();
+        sync_leaves(self.reader.devices.as_mut_slice())
     }
 }

@@ -1,9 +1,9 @@
 // What a read of a verity line's blocks uses.
 ghost use Rattle.std.specs.Prelude.{◌≡◌, ◌<◌, ◌≤◌, ◌+◌, ◌*◌, ℕ, length, take, drop, get_or, IfSome, IfNone};
 ghost use Rattle.hash_tree.specs.Shape.{ancestor, levels};
-ghost use Rattle.stack_loader.specs.Names.{size};
-ghost use Rattle.stack_loader.specs.Rules.{IsLoaded};
-ghost use Rattle.stack_loader.specs.Trees.{tree_of, block_sectors};
+ghost use Rattle.stack_rules.specs.Names.{size};
+ghost use Rattle.stack_rules.specs.Rules.{IsLoaded};
+ghost use Rattle.stack_rules.specs.Trees.{tree_of, block_sectors};
 ghost use Rattle.stack_engine.specs.Blocks.{hash_sectors, hash_start, is_ignored};
 ghost use Rattle.stack_engine.specs.Found.{FoundRecord, entry_of};
 ghost use Rattle.stack_engine.specs.Walks.{HasVerity, IsOnVerity, IsTreeOf};

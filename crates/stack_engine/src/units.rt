@@ -1,8 +1,8 @@
 // The units of `crypt` lines.
 ghost use Rattle.std.specs.Prelude.{◌≡◌, ◌<◌, ◌≤◌, ◌+◌, ◌*◌, ◌%◌, ◌^◌, ◌++◌, length, take, drop};
-ghost use Rattle.stack_loader.specs.Rules.{IsLoaded};
+ghost use Rattle.stack_rules.specs.Rules.{IsLoaded};
 ghost use Rattle.dm_table.specs.Crypt.{sector_size};
-ghost use Rattle.stack_loader.specs.Units.{unit_sectors};
+ghost use Rattle.stack_rules.specs.Units.{unit_sectors};
 ghost use Rattle.stack_engine.specs.Units.{unit_number, encrypted_units, decrypted_units};
 ghost use Rattle.stack_engine.specs.Sources.{HasTarget, HasCrypt, IsOnCrypt, IsUnitAt, IsWholeOf};
 

@@ -1,13 +1,14 @@
 // Writes through the lines of a stack, down to its leaves.
 ghost use Rattle.std.specs.Prelude.{◌≡◌, ◌<◌, ◌≤◌, ◌+◌, ◌-◌, ◌/◌, ◌⊎◌, ◌++◌, [], IsTrue, length, map, take, drop};
-ghost use Rattle.stack_loader.specs.Names.{mapped, size, may_write};
-ghost use Rattle.stack_loader.specs.Rules.{IsLoaded};
+ghost use Rattle.stack_rules.specs.Names.{mapped, size, may_write};
+ghost use Rattle.stack_rules.specs.Rules.{IsLoaded};
 ghost use Rattle.stack_engine.specs.Leaves.{ServeLeaves};
 ghost use Rattle.stack_engine.specs.Meaning.{said_at};
 ghost use Rattle.stack_engine.specs.Sources.{AreUnits, LieInUnit, SourceHolds, source_said};
 ghost use Rattle.stack_engine.specs.Writing.{AreSectors, AreHeld, sectors_in, destination_of, Writes, SourceMayWrite, source_destination};
 ghost use Rattle.stack_engine.specs.Caches.{IsCacheOf, KeepsCache};
 
+use crate::cuts::{Steps, lower_cuts};
 use crate::fault::IoFault;
 use crate::read::read_units;
 use crate::reader::Reader;
@@ -136,8 +137,8 @@ fn write_run<D: BlockDev>(
     }
 }
 
-/// Whole units of a crypt line, which are encrypted in place. Each is written by itself, but for those on a leaf, where
-/// that makes no difference.
+/// Whole units of a crypt line, which are encrypted in place. They are written at once where that makes no difference,
+/// and else each by itself.
 #[cycle(write)]
 fn write_units<D: BlockDev>(
     config: &Config,
@@ -160,23 +161,25 @@ fn write_units<D: BlockDev>(
     let sectors = unit_sectors(crypt);
     let size = sectors as usize * 512;
     encrypt(config, part, crypt, unit.index, units);
-    match unit.lower {
-        Lower::Leaf(leaf) => write_leaf(config, reader, leaf, unit.first, units),
-        Lower::Device(d) => {
-            let none: &[u8] = &[];
-            let len = units.len();
-            let mut at = 0;
-            while at < len {
-                let first = unit.first + at as u64 / 512;
-                let end = len.min(at + size);
-                match write_device(config, reader, d, first, none, &mut units[at..end]) {
-                    Ok(()) => at = end,
-                    Err(fault) => return Err(fault),
-                }
-            }
-            Ok(())
+    let none: &[u8] = &[];
+    let len = units.len();
+    let steps = Steps {
+        size: u64::from(sectors),
+        skip: 0,
+    };
+    if lower_cuts(config, unit.lower, unit.first, len as u64 / 512, steps) {
+        return write_lower(config, reader, unit.lower, unit.first, none, units);
+    }
+    let mut at = 0;
+    while at < len {
+        let first = unit.first + at as u64 / 512;
+        let end = len.min(at + size);
+        match write_lower(config, reader, unit.lower, first, none, &mut units[at..end]) {
+            Ok(()) => at = end,
+            Err(fault) => return Err(fault),
         }
     }
+    Ok(())
 }
 
 /// Sectors of one unit of a crypt line, which is read, changed and written whole.

@@ -11,12 +11,12 @@ use Rattle.dm_table.specs.declared.stack.Entry.{Entry}
 use Rattle.dm_table.specs.Grammar.{IsTableOfGrammar}
 use Rattle.dm_table.specs.Names.{is_mapped_name}
 use Rattle.dm_table.specs.StackText.{IsStackOfGrammar, IsEntryOfGrammar}
-use Rattle.stack_loader.specs.declared.refusal.LoadKind.TheVariants.{DuplicateName}
-use Rattle.stack_loader.specs.Records.{Configuration, DeviceRecord}
-use Rattle.stack_loader.specs.Names.{device_named}
-use Rattle.stack_loader.proofs.lemmas.ValidLineLemmas.{apart}
-use Rattle.stack_loader.proofs.lemmas.CycleLemmas.{acyclic}
-use Rattle.stack_loader.specs.Rules.{first, duplicate_names, replacement, new_device, after_load, IsLoaded, IsValid, rules}
+use Rattle.stack_rules.specs.declared.refusal.LoadKind.TheVariants.{DuplicateName}
+use Rattle.stack_rules.specs.Records.{Configuration, DeviceRecord}
+use Rattle.stack_rules.specs.Names.{device_named}
+use Rattle.stack_rules.proofs.lemmas.ValidLineLemmas.{apart}
+use Rattle.stack_rules.proofs.lemmas.CycleLemmas.{acyclic}
+use Rattle.stack_rules.specs.Rules.{first, duplicate_names, replacement, new_device, after_load, IsLoaded, IsValid, rules}
 use Rattle.stack_loader.proofs.LeafLemmas.{none-all, over_map, change}
 use Rattle.stack_loader.proofs.DuplicateNameLemmas.{bytes_eq-sym}
 
@@ -103,9 +103,6 @@ names-replacement text (d ∷ more) = ap (λ n. n ∷ map (λ d. d.name) (map (r
 names-new_device : (text : List Entry) → map (λ d. d.name) (map new_device text) ≡ map (λ e. e.name) text
 names-new_device [] = refl
 names-new_device (e ∷ more) = ap (λ ns. e.name ∷ ns) (names-new_device more)
-
-is_new : Configuration → Entry → Bool
-is_new c e = is_none (device_named c e.name)
 
 pub names-after : (c : Configuration) (text : List Entry) → map (λ d. d.name) (after_load c text).devices ≡ map (λ d. d.name) c.devices ++ map (λ e. e.name) (filter (λ e. is_none (device_named c e.name)) text)
 names-after c text =

@@ -5,13 +5,13 @@ use Rattle.std.specs.List.{AllByRecursion, enumerate_from, list_any}
 use Rattle.std.specs.Str.{bytes_eq}
 use Rattle.std.proofs.Math.Decide.{dec_le}
 use Rattle.dm_table.specs.declared.stack.Entry.{Entry}
-use Rattle.stack_loader.specs.declared.refusal.LoadKind.{LoadKind}
-use Rattle.stack_loader.specs.declared.refusal.LoadKind.TheVariants.{DuplicateName, TooMany, NoSuchDevice, StandsOnItself, ZeroLength, Gap, TooLarge, StripesDontDivide, UnitDoesntDivide, IvOffset, BeyondDevice, LineBeyondTree, TreeBeyondDevice, NeedsReadOnly, LowerReadOnly, TooDeep, CostTooLarge}
-use Rattle.stack_loader.specs.declared.refusal.Refusal.{Refusal}
-use Rattle.stack_loader.specs.Records.{Configuration, DeviceRecord}
-use Rattle.stack_loader.specs.Cycles.{is_on_cycle}
-use Rattle.stack_loader.specs.Rules.{first, refuse, rules, first_refusal, after_load, IsRefusal, duplicate_names, cycles, unknown_names, each_device, table_rules, device_rules, depth_rules, cost_rules, is_too_many}
-use Rattle.stack_loader.proofs.lemmas.CycleLemmas.{is_on_cycle-decides}
+use Rattle.stack_rules.specs.declared.refusal.LoadKind.{LoadKind}
+use Rattle.stack_rules.specs.declared.refusal.LoadKind.TheVariants.{DuplicateName, TooMany, NoSuchDevice, StandsOnItself, ZeroLength, Gap, TooLarge, StripesDontDivide, UnitDoesntDivide, IvOffset, BeyondDevice, LineBeyondTree, TreeBeyondDevice, NeedsReadOnly, LowerReadOnly, TooDeep, CostTooLarge}
+use Rattle.stack_rules.specs.declared.refusal.Refusal.{Refusal}
+use Rattle.stack_rules.specs.Records.{Configuration, DeviceRecord}
+use Rattle.stack_rules.specs.Cycles.{is_on_cycle}
+use Rattle.stack_rules.specs.Rules.{first, refuse, rules, first_refusal, after_load, IsRefusal, duplicate_names, cycles, unknown_names, each_device, table_rules, device_rules, depth_rules, cost_rules, is_too_many}
+use Rattle.stack_rules.proofs.lemmas.CycleLemmas.{is_on_cycle-decides}
 
 -- ---- rules of other kinds
 

@@ -6,8 +6,8 @@ use Rattle.std.specs.Str.{bytes_eq}
 use Rattle.std.proofs.lemmas.List.{at_drop_more, take_more, append_assoc, append-nil, map_push}
 use Rattle.std.proofs.lemmas.Slice.Eq.{bytes_eq-Decides}
 use Rattle.dm_table.specs.declared.stack.Entry.{Entry}
-use Rattle.stack_loader.specs.Records.{DeviceRecord}
-use Rattle.stack_loader.specs.Rules.{first, duplicate_names, new_device}
+use Rattle.stack_rules.specs.Records.{DeviceRecord}
+use Rattle.stack_rules.specs.Rules.{first, duplicate_names, new_device}
 
 pub bytes_eq-sym : (xs ys : List ℕ) → bytes_eq xs ys ≡ bytes_eq ys xs
 bytes_eq-sym xs ys = go (bytes_eq xs ys) (bytes_eq ys xs) refl refl
@@ -18,7 +18,7 @@ bytes_eq-sym xs ys = go (bytes_eq xs ys) (bytes_eq ys xs) refl refl
     go true false p q = sym ((bytes_eq-Decides ys xs).1 (sym ((bytes_eq-Decides xs ys).0 p))) ∙ q
     go false true p q = sym (sym ((bytes_eq-Decides xs ys).1 (sym ((bytes_eq-Decides ys xs).0 q))) ∙ p)
 
-pub duplicate_more : (earlier : List (List ℕ)) (entries : List Entry) (i : ℕ) (e : Entry) (all : Option Rattle.stack_loader.specs.declared.refusal.Refusal.Refusal) → i < length entries → e ≡ get_or entries i e
+pub duplicate_more : (earlier : List (List ℕ)) (entries : List Entry) (i : ℕ) (e : Entry) (all : Option Rattle.stack_rules.specs.declared.refusal.Refusal.Refusal) → i < length entries → e ≡ get_or entries i e
     → list_any (bytes_eq e.name) earlier ≡ false → first (duplicate_names earlier (drop i entries)) ≡ all → first (duplicate_names (e.name ∷ earlier) (drop (i + 1) entries)) ≡ all
 duplicate_more earlier entries i e all low is none before =
     let here : first (duplicate_names earlier (e ∷ drop (i + 1) entries)) ≡ first (duplicate_names (e.name ∷ earlier) (drop (i + 1) entries)) = rw none refl in

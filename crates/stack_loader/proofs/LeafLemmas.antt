@@ -5,14 +5,14 @@ use Rattle.std.specs.List.{AllByRecursion, IsDistinct, list_any}
 use Rattle.std.specs.Str.{bytes_eq}
 use Rattle.std.proofs.lemmas.Bool.{ltb-false}
 use Rattle.std.proofs.lemmas.List.Elements.{All-from_recursion, All-nil}
-use Rattle.stack_loader.specs.declared.refusal.ConfigFault.{ConfigFault}
-use Rattle.stack_loader.specs.declared.refusal.ConfigFault.TheVariants.{DuplicateLeaf, TooMany, BadName, TooLarge}
-use Rattle.stack_loader.specs.Records.{LeafRecord, DeviceRecord}
-use Rattle.stack_loader.specs.Leaves.{has_duplicate, first_fault}
+use Rattle.stack_rules.specs.declared.refusal.ConfigFault.{ConfigFault}
+use Rattle.stack_rules.specs.declared.refusal.ConfigFault.TheVariants.{DuplicateLeaf, TooMany, BadName, TooLarge}
+use Rattle.stack_rules.specs.Records.{LeafRecord, DeviceRecord}
+use Rattle.stack_rules.specs.Leaves.{has_duplicate, first_fault}
 use Rattle.stack_loader.specs.declared.facts.Facts.{Facts}
 use Rattle.stack_loader.specs.Facts.{IsKept}
-use Rattle.stack_loader.proofs.lemmas.CycleLemmas.{acyclic}
-use Rattle.stack_loader.specs.Rules.{AreLeaves, IsValid, is_leaf_name, most_leaves, most_sectors}
+use Rattle.stack_rules.proofs.lemmas.CycleLemmas.{acyclic}
+use Rattle.stack_rules.specs.Rules.{AreLeaves, IsValid, is_leaf_name, most_leaves, most_sectors}
 
 none-or : (a b : Bool) → (a || b) ≡ false → (a ≡ false) × (b ≡ false)
 none-or true b h = let clash : true ≡ false = h in cc

@@ -5,9 +5,9 @@ use Rattle.std.specs.List.{enumerate_from}
 use Rattle.std.proofs.lemmas.List.Sums.{sum_by-cons}
 use Rattle.std.proofs.lemmas.Bool.Decides.{nat_tests}
 use Rattle.dm_table.specs.declared.table.Line.{Line}
-use Rattle.stack_loader.specs.Names.{sectors_of}
-use Rattle.stack_loader.specs.Lines.{Follow, line_in, StartsBy, StartsAfter, IsIn}
-use Rattle.stack_loader.proofs.ListLemmas.{slice_get-read}
+use Rattle.stack_rules.specs.Names.{sectors_of}
+use Rattle.stack_rules.specs.Lines.{Follow, line_in, StartsBy, StartsAfter, IsIn}
+use Rattle.stack_rules.proofs.lemmas.ListLemmas.{slice_get-read}
 
 abbrev in_from : ℕ → List Line → ℕ → Option (ℕ × Line)
 in_from k lines s = find (λ p. nat_lt s (p.1.start + p.1.length)) (enumerate_from k lines)

@@ -4,14 +4,14 @@ use Rattle.dm_table.specs.declared.stack.Entry.{Entry}
 use Rattle.dm_table.specs.StackText.{IsStackOfGrammar}
 use Rattle.stack_loader.specs.declared.facts.Facts.{Facts}
 use Rattle.stack_loader.specs.declared.check.Next.{Next}
-use Rattle.stack_loader.specs.declared.refusal.LoadFault.{LoadFault}
-use Rattle.stack_loader.specs.declared.refusal.LoadFault.TheVariants.{Refused}
-use Rattle.stack_loader.specs.declared.refusal.Refusal.{Refusal}
-use Rattle.stack_loader.specs.Records.{Configuration, DeviceRecord, LeafRecord, configuration}
+use Rattle.stack_rules.specs.declared.refusal.LoadFault.{LoadFault}
+use Rattle.stack_rules.specs.declared.refusal.LoadFault.TheVariants.{Refused}
+use Rattle.stack_rules.specs.declared.refusal.Refusal.{Refusal}
+use Rattle.stack_rules.specs.Records.{Configuration, DeviceRecord, LeafRecord, configuration}
 use Rattle.stack_loader.specs.Facts.{AreFacts, IsKept}
 use Rattle.stack_loader.specs.Next.{IsNext}
-use Rattle.stack_loader.specs.Passing.{IsFirst}
-use Rattle.stack_loader.specs.Rules.{first, rules, after_load, IsLoaded}
+use Rattle.stack_rules.specs.Passing.{IsFirst}
+use Rattle.stack_rules.specs.Rules.{first, rules, after_load, IsLoaded}
 use Rattle.stack_loader.proofs.AfterLoadLemmas.{loaded-after}
 
 pub moved : (P : Configuration → List Entry → Type 0) (l m : List LeafRecord) (d e : List DeviceRecord) (t u : List Entry) → l ≡ m → d ≡ e → t ≡ u → P (configuration l d) t → P (configuration m e) u

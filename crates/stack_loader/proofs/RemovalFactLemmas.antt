@@ -13,22 +13,23 @@ use Rattle.dm_table.specs.Grammar.{IsTableOfGrammar}
 use Rattle.dm_table.specs.Names.{is_mapped_name}
 use Rattle.dm_table.specs.declared.table.Line.{Line}
 use Rattle.stack_loader.specs.declared.facts.Facts.{Facts}
-use Rattle.stack_loader.specs.declared.lower.Lower.{Lower}
-use Rattle.stack_loader.specs.declared.refusal.RemoveFault.TheVariants.{NoSuchDevice, InUse}
-use Rattle.stack_loader.specs.Records.{Configuration, DeviceRecord}
-use Rattle.stack_loader.specs.Names.{mapped, named, names, device_named}
-use Rattle.stack_loader.specs.Descend.{depth, read_cost, write_cost}
-use Rattle.stack_loader.specs.Cycles.{is_mapped, names_device}
+use Rattle.stack_rules.specs.declared.lower.Lower.{Lower}
+use Rattle.stack_rules.specs.declared.refusal.RemoveFault.TheVariants.{NoSuchDevice, InUse}
+use Rattle.stack_rules.specs.Records.{Configuration, DeviceRecord}
+use Rattle.stack_rules.specs.Names.{mapped, named, names, device_named}
+use Rattle.stack_rules.specs.Descend.{depth, read_cost, write_cost}
+use Rattle.stack_rules.specs.Cycles.{is_mapped, names_device}
 use Rattle.stack_loader.specs.Facts.{AreFacts, IsKept, AreWithout}
-use Rattle.stack_loader.specs.Kept.{AreLowers, meanings, each_mapped, keys_from, zero_digests_of}
-use Rattle.stack_loader.specs.Removal.{is_in_use, removal_fault, after_removal, lower_after}
-use Rattle.stack_loader.specs.Rules.{IsLoaded}
-use Rattle.stack_loader.proofs.KeptLemmas.{length-each_mapped, length-lowers, lines_of-read}
-use Rattle.stack_loader.proofs.BeneathLemmas.{names_device-rows}
+use Rattle.stack_rules.specs.Kept.{AreLowers, meanings, each_mapped}
+use Rattle.stack_loader.specs.Keys.{keys_from, zero_digests_of}
+use Rattle.stack_rules.specs.Removal.{is_in_use, removal_fault, after_removal, lower_after}
+use Rattle.stack_rules.specs.Rules.{IsLoaded}
+use Rattle.stack_rules.proofs.lemmas.KeptLemmas.{length-each_mapped, length-lowers, lines_of-read}
+use Rattle.stack_rules.proofs.lemmas.BeneathLemmas.{names_device-rows}
 use Rattle.stack_loader.proofs.RemoveLemmas.{map-remove, all-remove, filter-remove, place_before, place_before-same, place_before-later, place_before-earlier}
 use Rattle.stack_loader.proofs.RemovalRuleLemmas.{valid-after}
-use Rattle.stack_loader.proofs.lemmas.CycleLemmas.{acyclic, names_device-inside}
-use Rattle.stack_loader.proofs.lemmas.RangeLemmas.{list_any-map}
+use Rattle.stack_rules.proofs.lemmas.CycleLemmas.{acyclic, names_device-inside}
+use Rattle.stack_rules.proofs.lemmas.RangeLemmas.{list_any-map}
 use Rattle.stack_loader.proofs.lemmas.RemovalLemmas.{without, IsUnused, Avoids, unused-lines, named-after, depth-after, read_cost-after, write_cost-after}
 
 -- ---- a device that is in use

@@ -10,26 +10,26 @@ use Rattle.std.proofs.lemmas.List.Edits.{length-remove}
 use Rattle.dm_table.specs.declared.table.Line.{Line}
 use Rattle.dm_table.specs.declared.table.Target.{Target}
 use Rattle.dm_table.specs.declared.table.Target.TheVariants.{Linear, Striped, Zero, Error, Crypt, Verity}
-use Rattle.stack_loader.specs.declared.lower.Lower.{Lower}
-use Rattle.stack_loader.specs.declared.lower.Lower.TheVariants.{Leaf as leaf, Device as device}
-use Rattle.stack_loader.specs.declared.refusal.LoadKind.{LoadKind}
-use Rattle.stack_loader.specs.declared.refusal.LoadKind.TheVariants.{TooMany, NoSuchDevice, StandsOnItself, TooDeep, CostTooLarge}
-use Rattle.stack_loader.specs.declared.refusal.Refusal.{Refusal}
-use Rattle.stack_loader.specs.Records.{Configuration, DeviceRecord}
-use Rattle.stack_loader.specs.Names.{mapped, named, names, lowers, sectors_of, size, may_write}
-use Rattle.stack_loader.specs.Trees.{tree_sectors}
-use Rattle.stack_loader.specs.Descend.{depth, read_cost, most_devices}
-use Rattle.stack_loader.specs.Cycles.{is_mapped, names_device, Leads, by_line, by_chain, IsOnCycle, is_on_cycle}
-use Rattle.stack_loader.specs.Removal.{place_after, lower_after}
-use Rattle.stack_loader.specs.Rules.{IsValid, first, refuse, each_device, ends_past, is_beyond, is_tree_beyond, ranges, names_read_only, line_faults, line_rules, table_rules, unknown_in, unknown_names, cycles, is_too_many, most_lines, depth_rules, cost_rules, device_rules, most_depth, most_cost}
-use Rattle.stack_loader.proofs.KeptLemmas.{lines_of-read}
+use Rattle.stack_rules.specs.declared.lower.Lower.{Lower}
+use Rattle.stack_rules.specs.declared.lower.Lower.TheVariants.{Leaf as leaf, Device as device}
+use Rattle.stack_rules.specs.declared.refusal.LoadKind.{LoadKind}
+use Rattle.stack_rules.specs.declared.refusal.LoadKind.TheVariants.{TooMany, NoSuchDevice, StandsOnItself, TooDeep, CostTooLarge}
+use Rattle.stack_rules.specs.declared.refusal.Refusal.{Refusal}
+use Rattle.stack_rules.specs.Records.{Configuration, DeviceRecord}
+use Rattle.stack_rules.specs.Names.{mapped, named, names, lowers, sectors_of, size, may_write}
+use Rattle.stack_rules.specs.Trees.{tree_sectors}
+use Rattle.stack_rules.specs.Descend.{depth, read_cost, most_devices}
+use Rattle.stack_rules.specs.Cycles.{is_mapped, names_device, Leads, by_line, by_chain, IsOnCycle, is_on_cycle}
+use Rattle.stack_rules.specs.Removal.{place_after, lower_after}
+use Rattle.stack_rules.specs.Rules.{IsValid, first, refuse, each_device, ends_past, is_beyond, is_tree_beyond, ranges, names_read_only, line_faults, line_rules, table_rules, unknown_in, unknown_names, cycles, is_too_many, most_lines, depth_rules, cost_rules, device_rules, most_depth, most_cost}
+use Rattle.stack_rules.proofs.lemmas.KeptLemmas.{lines_of-read}
 use Rattle.stack_loader.proofs.RemoveLemmas.{slice_get-remove, list_any-remove, place_before, place_before-same}
-use Rattle.stack_loader.proofs.lemmas.CycleLemmas.{is_on_cycle-decides}
-use Rattle.stack_loader.proofs.lemmas.RangeLemmas.{ranges-names}
+use Rattle.stack_rules.proofs.lemmas.CycleLemmas.{is_on_cycle-decides}
+use Rattle.stack_rules.proofs.lemmas.RangeLemmas.{ranges-names}
 use Rattle.stack_loader.proofs.lemmas.RemovalLemmas.{without, IsUnused, IsOther, Avoids, others-beneath, unused-lines, size-after, may_write-after, named-after, lowers-after, depth-after, read_cost-after}
-use Rattle.stack_loader.proofs.lemmas.UnrollLemmas.{all-map}
-use Rattle.stack_loader.proofs.lemmas.ValidLemmas.{depth-low}
-use Rattle.stack_loader.proofs.lemmas.ValidLineLemmas.{apart, at_place, faults-none, none-faults, rules-of, or-false}
+use Rattle.stack_rules.proofs.lemmas.UnrollLemmas.{all-map}
+use Rattle.stack_rules.proofs.lemmas.ValidLemmas.{depth-low}
+use Rattle.stack_rules.proofs.lemmas.ValidLineLemmas.{apart, at_place, faults-none, none-faults, rules-of, or-false}
 
 -- ---- lists in which nothing refuses
 

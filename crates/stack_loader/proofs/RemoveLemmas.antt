@@ -8,9 +8,9 @@ use Rattle.std.proofs.Math.Decide.{dec_le}
 use Rattle.std.proofs.lemmas.Bool.Decides.{nat_tests}
 use Rattle.std.proofs.lemmas.Iterator.Adapters.{position_from-zero}
 use Rattle.std.proofs.lemmas.Slice.Eq.{bytes_eq-Decides}
-use Rattle.stack_loader.specs.Removal.{place_after}
+use Rattle.stack_rules.specs.Removal.{place_after}
 use Rattle.stack_loader.proofs.DuplicateNameLemmas.{bytes_eq-sym}
-use Rattle.stack_loader.proofs.lemmas.ValidLineLemmas.{or-false}
+use Rattle.stack_rules.proofs.lemmas.ValidLineLemmas.{or-false}
 
 -- ---- places
 

@@ -3,22 +3,22 @@ use Rattle.std.proofs.Common.{◌≡◌, ◌+◌, ◌-◌, ℕ, List, [], ◌∷
 use Rattle.std.specs.Prelude.{flat_map}
 use Rattle.std.specs.List.{enumerate_from, range_with_len}
 use Rattle.std.proofs.lemmas.List.FromFn.{length-map-range_with_len}
-use Rattle.stack_loader.specs.declared.costs.Direction.TheVariants.{Read}
-use Rattle.stack_loader.specs.declared.lower.Lower.{Lower}
-use Rattle.stack_loader.specs.declared.refusal.LoadFault.{LoadFault}
-use Rattle.stack_loader.specs.declared.refusal.LoadFault.TheVariants.{Refused, NoMemory}
-use Rattle.stack_loader.specs.declared.refusal.LoadKind.{LoadKind}
-use Rattle.stack_loader.specs.declared.refusal.LoadKind.TheVariants.{TooMany, TooDeep, CostTooLarge}
-use Rattle.stack_loader.specs.declared.refusal.Refusal.{Refusal}
-use Rattle.stack_loader.specs.Records.{Configuration}
-use Rattle.stack_loader.specs.Names.{mapped}
-use Rattle.stack_loader.specs.Descend.{depth, read_cost}
-use Rattle.stack_loader.specs.Kept.{each_mapped}
-use Rattle.stack_loader.specs.Passing.{IsFirst, above}
-use Rattle.stack_loader.specs.Rules.{first, refuse, rules, is_too_many, unknown_names, cycles, each_device, table_rules, device_rules, depth_rules, cost_rules, most_depth, most_cost}
-use Rattle.stack_loader.specs.Costs.{capped}
-use Rattle.stack_loader.proofs.CappedLemmas.{above-capped}
-use Rattle.stack_loader.proofs.ScanLemmas.{first-none, first-some}
+use Rattle.stack_costs.specs.declared.cost.Direction.TheVariants.{Read}
+use Rattle.stack_rules.specs.declared.lower.Lower.{Lower}
+use Rattle.stack_rules.specs.declared.refusal.LoadFault.{LoadFault}
+use Rattle.stack_rules.specs.declared.refusal.LoadFault.TheVariants.{Refused, NoMemory}
+use Rattle.stack_rules.specs.declared.refusal.LoadKind.{LoadKind}
+use Rattle.stack_rules.specs.declared.refusal.LoadKind.TheVariants.{TooMany, TooDeep, CostTooLarge}
+use Rattle.stack_rules.specs.declared.refusal.Refusal.{Refusal}
+use Rattle.stack_rules.specs.Records.{Configuration}
+use Rattle.stack_rules.specs.Names.{mapped}
+use Rattle.stack_rules.specs.Descend.{depth, read_cost}
+use Rattle.stack_rules.specs.Kept.{each_mapped}
+use Rattle.stack_rules.specs.Passing.{IsFirst, above}
+use Rattle.stack_rules.specs.Rules.{first, refuse, rules, is_too_many, unknown_names, cycles, each_device, table_rules, device_rules, depth_rules, cost_rules, most_depth, most_cost}
+use Rattle.stack_costs.specs.Costs.{capped}
+use Rattle.stack_costs.proofs.lemmas.CappedLemmas.{above-capped}
+use Rattle.stack_rules.proofs.lemmas.ScanLemmas.{first-none, first-some}
 
 pub left : (fault : LoadFault) (xs ys : List (Option Refusal)) → IsFirst fault xs → IsFirst fault (xs ++ ys)
 left (Refused r) xs ys h = first-some xs ys r h

@@ -1,11 +1,4 @@
 -- What callers may cite.
-pub mod UnrollLemmas
-pub mod CycleLemmas
-pub mod UnitLemmas
-pub mod CostRuleLemmas
-pub mod ValidLemmas
-pub mod ValidLineLemmas
-pub mod RangeLemmas
 pub mod LoadedLineLemmas
 pub mod WriteCostLemmas
 pub mod CryptLineLemmas

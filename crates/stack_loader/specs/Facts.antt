@@ -2,11 +2,12 @@
 use Rattle.std.specs.Prelude.{◌≡◌, ◌<◌, ℕ, length, map, vec_len}
 use Rattle.std.specs.List.{remove}
 use Rattle.stack_loader.specs.declared.facts.Facts.{Facts}
-use Rattle.stack_loader.specs.Rules.{IsLoaded}
-use Rattle.stack_loader.specs.Records.{Configuration}
-use Rattle.stack_loader.specs.Descend.{depth, read_cost, write_cost}
-use Rattle.stack_loader.specs.Kept.{AreLowers, AreKeys, AreZeroDigests, each_mapped}
-use Rattle.stack_loader.specs.Removal.{lower_after}
+use Rattle.stack_rules.specs.Rules.{IsLoaded}
+use Rattle.stack_rules.specs.Records.{Configuration}
+use Rattle.stack_rules.specs.Descend.{depth, read_cost, write_cost}
+use Rattle.stack_rules.specs.Kept.{AreLowers, each_mapped}
+use Rattle.stack_loader.specs.Keys.{AreKeys, AreZeroDigests}
+use Rattle.stack_rules.specs.Removal.{lower_after}
 
 pub record AreFacts (c : Configuration) (facts : Facts) : Type 0 where
   pub depths : facts.depths.items ≡ each_mapped (depth c) (length c.devices)

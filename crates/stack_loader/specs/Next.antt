@@ -2,8 +2,8 @@
 use Rattle.std.specs.Prelude.{◌≡◌, List, [], None}
 use Rattle.dm_table.specs.declared.stack.Entry.{Entry}
 use Rattle.stack_loader.specs.declared.check.Next.{Next}
-use Rattle.stack_loader.specs.Records.{Configuration}
-use Rattle.stack_loader.specs.Rules.{first, rules, duplicate_names, after_load}
+use Rattle.stack_rules.specs.Records.{Configuration}
+use Rattle.stack_rules.specs.Rules.{first, rules, duplicate_names, after_load}
 use Rattle.stack_loader.specs.Facts.{AreFacts}
 
 -- the devices after a load, with what is computed of them

@@ -1,35 +1,26 @@
 // A configuration to come, checked by all rules.
 ghost use Rattle.std.specs.Prelude.{◌≡◌, ◌≤◌, length, nat_lt};
 ghost use Rattle.std.specs.List.{list_any};
-ghost use Rattle.stack_loader.specs.Records.{configuration};
-ghost use Rattle.stack_loader.specs.Passing.{IsPassed, above};
+ghost use Rattle.stack_rules.specs.Records.{configuration};
+ghost use Rattle.stack_rules.specs.Passing.{IsPassed, above};
 ghost use Rattle.stack_loader.specs.Facts.{AreFacts};
 ghost use Rattle.stack_loader.specs.Next.{IsNext};
-ghost use Rattle.stack_loader.specs.Descend.{most_devices};
-ghost use Rattle.stack_loader.specs.Rules.{first, rules, load_rules, is_too_many, most_leaves, most_lines};
+ghost use Rattle.stack_rules.specs.Descend.{most_devices};
+ghost use Rattle.stack_rules.specs.Rules.{first, rules, load_rules, is_too_many, most_leaves, most_lines};
 
-use crate::costs::{Direction, costs};
-use crate::cycles::cycle_refusal;
-use crate::depths::depths;
 use crate::facts::Facts;
 use crate::keys::device_keys;
-use crate::leaf::Leaf;
-use crate::lower_sets::{MOST_DEVICES, lower_sets};
-use crate::mapped::Mapped;
 use crate::next::{copied_devices, duplicate, planned_devices};
-use crate::planned::Planned;
-use crate::refusal::{LoadFault, LoadKind, Refusal};
-use crate::resolve::lowers_of;
-use crate::rules::lines_refusal;
 use crate::zero_digests::device_digests;
 use dm_table::Entry;
+use stack_checks::{lines_refusal, lowers_of};
+use stack_costs::{
+    Direction, MOST_COST, MOST_DEPTH, MOST_DEVICES, costs, cycle_refusal, depths, lower_sets,
+};
+use stack_rules::{Leaf, LoadFault, LoadKind, Mapped, Planned, Refusal};
 use std::alloc::Global;
 
 const MOST_LINES: usize = 256;
-
-pub(crate) const MOST_DEPTH: u64 = 8;
-
-pub(crate) const MOST_COST: u64 = 1 << 32;
 
 const TOO_MANY: Refusal = Refusal {
     kind: LoadKind::TooMany,

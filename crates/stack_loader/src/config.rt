@@ -1,23 +1,20 @@
 // A loaded configuration.
 ghost use Rattle.std.specs.Prelude.{◌≡◌, ◌<◌, length, slice_get, None, Some, [], IfOk, IfErr, OnOk, OnErr, Err, option_map, IsTrue, is_some};
-ghost use Rattle.stack_loader.specs.Names.{device_named, name_of, lines_of, mapped, size, may_write};
-ghost use Rattle.stack_loader.specs.Descend.{depth, read_cost, write_cost};
-ghost use Rattle.stack_loader.specs.Lines.{IsIn, names_at, lower_at, key_at, zero_digest_at};
-ghost use Rattle.stack_loader.specs.Leaves.{first_fault};
-ghost use Rattle.stack_loader.specs.declared.refusal.Refusal.{Refusal};
-ghost use Rattle.stack_loader.specs.Rules.{IsLoaded, IsRefusal, after_load, first_refusal};
-ghost use Rattle.stack_loader.specs.Removal.{after_removal, removal_fault};
+ghost use Rattle.stack_rules.specs.Names.{device_named, name_of, lines_of, mapped, size, may_write};
+ghost use Rattle.stack_rules.specs.Descend.{depth, read_cost, write_cost};
+ghost use Rattle.stack_rules.specs.Lines.{IsIn, names_at, lower_at, key_at, zero_digest_at};
+ghost use Rattle.stack_rules.specs.Leaves.{first_fault};
+ghost use Rattle.stack_rules.specs.declared.refusal.Refusal.{Refusal};
+ghost use Rattle.stack_rules.specs.Rules.{IsLoaded, IsRefusal, after_load, first_refusal};
+ghost use Rattle.stack_rules.specs.Removal.{after_removal, removal_fault};
 
 use crate::check::next_load;
 use crate::facts::Facts;
-use crate::leaf::Leaf;
-use crate::leaves::leaves_fault;
-use crate::lower::{DevId, Lower};
-use crate::mapped::{Mapped, place_of};
-use crate::refusal::{ConfigFault, LoadFault, RemoveFault};
 use crate::removal::is_in_use;
 use crate::sectors::line_of;
 use dm_table::{StackText, Table};
+use stack_checks::leaves_fault;
+use stack_rules::{ConfigFault, DevId, Leaf, LoadFault, Lower, Mapped, RemoveFault, place_of};
 use std::alloc::Global;
 use std::marker::Model;
 use xts_sector::XtsKey;
@@ -32,7 +29,7 @@ pub struct Config {
 }
 
 impl Model for Config {
-    ghost use Rattle.stack_loader.specs.Records.{Configuration};
+    ghost use Rattle.stack_rules.specs.Records.{Configuration};
     ghost use Rattle.stack_loader.specs.Facts.{IsKept};
 
     ghost Value = { Configuration };

@@ -1,7 +1,7 @@
 // What is computed once of a configuration.
 use crate::keys::DeviceKeys;
-use crate::lowers::DeviceLowers;
 use crate::zero_digests::ZeroDigests;
+use stack_rules::DeviceLowers;
 
 /// Of each device, by its place: its depth and costs, what its lines name, the keys of its crypt lines and the digests
 /// of zeros of its verity lines.

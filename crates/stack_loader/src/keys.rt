@@ -2,12 +2,12 @@
 ghost use Rattle.std.specs.Prelude.{◌≡◌, ◌≤◌, ◌<◌, ◌^◌, ◌==◌, IsTrue, is_some, find, Some, option_copied, length, All, IfOk};
 ghost use Rattle.std.specs.Option.{option_map};
 ghost use Rattle.dm_table.specs.Grammar.{IsTargetOfGrammar, IsLineOfGrammar};
-ghost use Rattle.stack_loader.specs.Kept.{keys_from, AreKeys};
-ghost use Rattle.stack_loader.specs.Lines.{key_of};
-ghost use Rattle.stack_loader.specs.Rules.{most_lines};
+ghost use Rattle.stack_loader.specs.Keys.{keys_from, AreKeys};
+ghost use Rattle.stack_rules.specs.Lines.{key_of};
+ghost use Rattle.stack_rules.specs.Rules.{most_lines};
 
-use crate::planned::Planned;
 use dm_table::{Line, Target};
+use stack_rules::Planned;
 use std::alloc::{AllocError, Global};
 use std::marker::Model;
 use xts_sector::XtsKey;

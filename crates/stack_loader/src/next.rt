@@ -1,12 +1,10 @@
 // The devices after a load.
 ghost use Rattle.std.specs.Prelude.{◌≡◌, ◌++◌, [], is_none, map, filter, find, position, option_copied, IfOk};
 ghost use Rattle.std.specs.Str.{bytes_eq};
-ghost use Rattle.stack_loader.specs.Rules.{replacement, new_device, first, duplicate_names};
+ghost use Rattle.stack_rules.specs.Rules.{replacement, new_device, first, duplicate_names};
 
-use crate::mapped::{Mapped, place_of};
-use crate::planned::Planned;
-use crate::refusal::{LoadKind, Refusal};
 use dm_table::Entry;
+use stack_rules::{LoadKind, Mapped, Planned, Refusal, place_of};
 use std::alloc::{AllocError, Global};
 use std::collections::HashMap;
 

@@ -1,9 +1,9 @@
 // Whether a mapped device may be removed.
 ghost use Rattle.std.specs.Prelude.{◌≡◌};
 ghost use Rattle.std.specs.List.{list_any};
-ghost use Rattle.stack_loader.specs.Cycles.{is_mapped};
+ghost use Rattle.stack_rules.specs.Cycles.{is_mapped};
 
-use crate::lowers::DeviceLowers;
+use stack_rules::DeviceLowers;
 
 /// Whether a device names the one of that place.
 pub(crate) fn is_in_use(lowers: &[DeviceLowers], place: usize) -> bool

@@ -1,7 +1,8 @@
 // The line of a sector.
-ghost use Rattle.std.specs.Prelude.{◌≡◌, ◌<◌, ◌≤◌, ◌+◌, ◌^◌, length};
-ghost use Rattle.stack_loader.specs.Names.{sectors_of};
-ghost use Rattle.stack_loader.specs.Lines.{IsIn, Follow, StartsBy, StartsAfter};
+ghost use Rattle.std.specs.Prelude.{◌<◌, ◌^◌, length};
+ghost use Rattle.stack_rules.specs.Names.{sectors_of};
+ghost use Rattle.stack_rules.specs.Lines.{IsIn, Follow, StartsBy};
+ghost use Rattle.stack_loader.specs.LastStart.{IsLastStart};
 
 use dm_table::{Line, Table};
 
@@ -9,9 +10,7 @@ use dm_table::{Line, Table};
 fn last_start(lines: &[Line], sector: u64) -> usize
     requires some { 0 < length lines.now }
     requires first { StartsBy lines.now 0 sector }
-    ensures within { result < length lines.now }
-    ensures starts { StartsBy lines.now result sector }
-    ensures next { StartsAfter lines.now (result + 1) sector }
+    ensures { IsLastStart lines.now sector result }
 {
     let mut low = 0;
     let mut high = lines.len();

@@ -2,13 +2,13 @@
 ghost use Rattle.std.specs.Prelude.{◌≡◌, ◌≤◌, map, slice_get, option_and_then, All, IfOk};
 ghost use Rattle.dm_table.specs.Grammar.{IsTargetOfGrammar, IsLineOfGrammar};
 ghost use Rattle.hash_tree.specs.Digests.{digest};
-ghost use Rattle.stack_loader.specs.Kept.{zero_digests_of, AreZeroDigests};
-ghost use Rattle.stack_loader.specs.Lines.{zero_digest_of};
-ghost use Rattle.stack_loader.specs.Trees.{zero_block};
+ghost use Rattle.stack_loader.specs.Keys.{zero_digests_of, AreZeroDigests};
+ghost use Rattle.stack_rules.specs.Lines.{zero_digest_of};
+ghost use Rattle.stack_rules.specs.Trees.{zero_block};
 
-use crate::planned::Planned;
 use dm_table::{Line, Target, Verity};
 use hash_tree::digest;
+use stack_rules::Planned;
 use std::alloc::{AllocError, Global};
 use std::marker::Model;
 

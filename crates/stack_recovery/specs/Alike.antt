@@ -1,7 +1,7 @@
 -- Sectors that are lost together.
 use Rattle.std.specs.Prelude.{◌≡◌, ℕ, ◌+◌, ◌<◌, Err}
-use Rattle.stack_loader.specs.Names.{mapped}
-use Rattle.stack_loader.specs.Records.{Configuration}
+use Rattle.stack_rules.specs.Names.{mapped}
+use Rattle.stack_rules.specs.Records.{Configuration}
 use Rattle.stack_engine.specs.Meaning.{sector}
 use Rattle.stack_engine.specs.Outcomes.{Fault, Images}
 

@@ -3,10 +3,10 @@ use Rattle.std.specs.Prelude.{◌≡◌, ◌≢◌, ◌↔◌, ℕ, zero, suc, �
 use Rattle.block_device.specs.Device.{Device}
 use Rattle.dm_table.specs.declared.table.Line.{Line}
 use Rattle.dm_table.specs.declared.verity.Verity.{Verity}
-use Rattle.stack_loader.specs.Names.{mapped}
-use Rattle.stack_loader.specs.Records.{Configuration}
-use Rattle.stack_loader.specs.Rules.{IsLoaded}
-use Rattle.stack_loader.specs.Trees.{block_sectors}
+use Rattle.stack_rules.specs.Names.{mapped}
+use Rattle.stack_rules.specs.Records.{Configuration}
+use Rattle.stack_rules.specs.Rules.{IsLoaded}
+use Rattle.stack_rules.specs.Trees.{block_sectors}
 use Rattle.stack_engine.specs.declared.fault.IoFault.TheVariants.{ErrorTarget, Mismatch}
 use Rattle.stack_engine.specs.Kept.{block_of}
 use Rattle.stack_engine.specs.Laws.{LiesInVerity}

@@ -1,7 +1,7 @@
 // The next piece of a device that is gone over.
 ghost use Rattle.std.specs.Prelude.{◌≡◌, ◌+◌, ◌≤◌, ◌<◌, length};
 ghost use Rattle.dm_table.specs.Grammar.{IsTargetOfGrammar};
-ghost use Rattle.stack_loader.specs.Names.{mapped, size};
+ghost use Rattle.stack_rules.specs.Names.{mapped, size};
 ghost use Rattle.stack_recovery.specs.Pieces.{AreLostTogether, IsPace, IsPiece};
 
 use dm_table::Target;

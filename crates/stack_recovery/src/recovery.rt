@@ -1,6 +1,6 @@
 // Going over a mapped device from its first sector to its last.
 ghost use Rattle.std.specs.Prelude.{◌≡◌, ◌≤◌, ◌<◌, length, IsTrue, IfOk, IfErr};
-ghost use Rattle.stack_loader.specs.Names.{mapped, size};
+ghost use Rattle.stack_rules.specs.Names.{mapped, size};
 ghost use Rattle.stack_recovery.specs.Recoveries.{IsRecoveryEnd, Recovers, sides};
 
 use crate::fault::RecoveryFault;

@@ -3,9 +3,9 @@ use Rattle.std.proofs.Common.{◌≡◌, List, ℕ, refl, ap, sym, subst, inl, R
 use Rattle.std.specs.Prelude.{option_map, Option}
 use Rattle.std.specs.Option.{option_map_or}
 use Rattle.std.specs.Io.KnownBytes.{Appends}
-use Rattle.stack_loader.specs.declared.lower.DevId.{DevId}
-use Rattle.stack_loader.specs.Records.{Configuration}
-use Rattle.stack_loader.specs.Names.{device_named}
+use Rattle.stack_rules.specs.declared.lower.DevId.{DevId}
+use Rattle.stack_rules.specs.Records.{Configuration}
+use Rattle.stack_rules.specs.Names.{device_named}
 use Rattle.request_queue.specs.declared.fault.SubmitFault.TheVariants.{NoSuchDevice}
 use Rattle.stack_engine.specs.declared.fault.IoFault.{IoFault}
 use Rattle.request_queue.specs.declared.fault.NoSuchTicket.{NoSuchTicket}

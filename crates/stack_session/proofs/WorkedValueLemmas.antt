@@ -4,7 +4,7 @@ use Rattle.std.specs.Fmt.{digits}
 use Rattle.hex.specs.Hex.{encode_with, decode_pairs}
 use Rattle.dm_table.specs.Words.{words}
 use Rattle.dm_table.specs.Numbers.{number}
-use Rattle.stack_loader.specs.declared.refusal.LoadKind.TheVariants.{Gap}
+use Rattle.stack_rules.specs.declared.refusal.LoadKind.TheVariants.{Gap}
 use Rattle.request_queue.specs.declared.fault.SubmitFault.TheVariants.{Full}
 use Rattle.request_queue.specs.declared.reply.Progress.TheVariants.{More}
 use Rattle.request_queue.specs.Requests.{a_read, a_write}

@@ -6,12 +6,12 @@ use Rattle.dm_table.specs.declared.stack.Entry.{Entry}
 use Rattle.dm_table.specs.declared.fault.TextFault.{TextFault}
 use Rattle.dm_table.specs.Words.{Word}
 use Rattle.dm_table.specs.StackText.{stack_of}
-use Rattle.dm_table.specs.Print.{table_text}
-use Rattle.stack_loader.specs.declared.refusal.LoadFault.{LoadFault}
-use Rattle.stack_loader.specs.declared.refusal.RemoveFault.{RemoveFault}
-use Rattle.stack_loader.specs.Records.{Configuration}
-use Rattle.stack_loader.specs.Names.{mapped, device_named, lines_of, size}
-use Rattle.stack_loader.specs.Descend.{depth, read_cost, write_cost}
+use Rattle.table_printer.specs.Print.{table_text}
+use Rattle.stack_rules.specs.declared.refusal.LoadFault.{LoadFault}
+use Rattle.stack_rules.specs.declared.refusal.RemoveFault.{RemoveFault}
+use Rattle.stack_rules.specs.Records.{Configuration}
+use Rattle.stack_rules.specs.Names.{mapped, device_named, lines_of, size}
+use Rattle.stack_rules.specs.Descend.{depth, read_cost, write_cost}
 use Rattle.stack_engine.specs.declared.fault.IoFault.{IoFault}
 use Rattle.stack_engine.specs.Leaves.{reads_of, writes_of}
 use Rattle.request_queue.specs.declared.fault.Held.{Held}
@@ -93,6 +93,7 @@ IsWhole w (event.step ticket result) w' = Unit {0}
 IsWhole w (event.load text result) w' = Unit {0}
 IsWhole w (event.remove_device name result) w' = Unit {0}
 IsWhole w (event.run r result) w' = RunAnswers w r result w'
+IsWhole w (event.sync result) w' = Unit {0}
 
 -- all that is known of a step: of each piece, and of each run as a whole
 pub record WholeStep (w : World) (e : Event) (w' : World) : Type 0 where

@@ -3,14 +3,14 @@ use Rattle.std.specs.Prelude.{ℕ, zero, suc, ◌+◌, ◌/◌, ◌==◌, List, 
 use Rattle.std.specs.List.{list_all}
 use Rattle.hex.specs.Hex.{encode_lower}
 use Rattle.dm_table.specs.declared.fault.TextFault.{TextFault}
-use Rattle.stack_loader.specs.declared.refusal.LoadFault.{LoadFault}
-use Rattle.stack_loader.specs.declared.refusal.LoadFault.TheVariants as load
-use Rattle.stack_loader.specs.declared.refusal.Refusal.{Refusal}
-use Rattle.stack_loader.specs.declared.refusal.RemoveFault.{RemoveFault}
+use Rattle.stack_rules.specs.declared.refusal.LoadFault.{LoadFault}
+use Rattle.stack_rules.specs.declared.refusal.LoadFault.TheVariants as load
+use Rattle.stack_rules.specs.declared.refusal.Refusal.{Refusal}
+use Rattle.stack_rules.specs.declared.refusal.RemoveFault.{RemoveFault}
 use Rattle.stack_engine.specs.declared.fault.IoFault.{IoFault}
 use Rattle.stack_engine.specs.declared.fault.IoFault.TheVariants as io
 use Rattle.dm_table.specs.TextKinds.{text_number, text_name}
-use Rattle.stack_loader.specs.FaultKinds.{load_number, load_name, removal_number, removal_name}
+use Rattle.stack_rules.specs.FaultKinds.{load_number, load_name, removal_number, removal_name}
 use Rattle.request_queue.specs.declared.fault.Held.{Held}
 use Rattle.request_queue.specs.declared.fault.Held.TheVariants.{Busy, Fault}
 use Rattle.request_queue.specs.declared.fault.NoSuchTicket.{NoSuchTicket}

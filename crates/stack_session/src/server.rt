@@ -18,11 +18,12 @@ use crate::reply::{
     say_text_fault, say_ticket, say_usage,
 };
 use block_device::BlockDev;
-use dm_table::{ParseFault, parse_stack, print_table};
+use dm_table::{ParseFault, parse_stack};
 use request_queue::{Held, NoSuchTicket, Progress, Queue, RunFault, SubmitFault, Ticket};
 use stack_loader::LoadFault;
 use std::alloc::Global;
 use std::io::{Read, Write};
+use table_printer::print_table;
 
 // Loads a text, and replies to that. A fault of the text goes before requests in flight.
 fn reply_to_load<D: BlockDev, W: Write>(

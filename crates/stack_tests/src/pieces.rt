@@ -2,6 +2,8 @@
 mod cached;
 mod crypt;
 mod leaves;
+mod lost;
+mod units;
 mod verity;
 mod writes;
 mod zero_blocks;

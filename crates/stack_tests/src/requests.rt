@@ -1,4 +1,6 @@
 // Requests in flight, served in many orders, and calls that are refused.
+mod failing;
+
 ghost use Rattle.std.specs.Prelude.{◌≡◌, ◌∷◌, [], IfOk};
 
 use block_device::{BlockDev, FailAt, MemoryDev};

@@ -1,5 +1,5 @@
 -- Blocks that move from the end to the front.
-use Rattle.std.proofs.Common.{◌≡◌, ℕ, zero, suc, ◌+◌, ◌-◌, ◌<◌, ◌≤◌, true, false, not, List, [], ◌∷◌, ◌++◌, length, map, take, drop, Some, refl, sym, ap, ◌∙◌, subst, arith, length-append, append-nil, append_assoc, add-one}
+use Rattle.std.proofs.Common.{◌≡◌, ℕ, zero, suc, ◌+◌, ◌-◌, ◌<◌, ◌≤◌, Bool, true, false, not, List, [], ◌∷◌, ◌++◌, length, map, take, drop, Some, refl, sym, ap, ◌∙◌, subst, arith, length-append, append-nil, append_assoc, add-one}
 use Rattle.std.specs.Prelude.{filter, slice_get}
 use Rattle.std.specs.List.{IsDistinct}
 use Rattle.std.specs.Map.{lookup}
@@ -12,7 +12,7 @@ use Rattle.std.proofs.lemmas.List.Elements.{filter-append}
 use Rattle.lru.specs.LruCache.{promoted}
 use Rattle.verified_cache.specs.declared.key.Key.{Key}
 use Rattle.verified_cache.specs.declared.cache.DigestedBlock.{DigestedBlock}
-use Rattle.verified_cache.specs.Cache.{CachedBlock, CacheRecord, IsCache, same_key, cache_after_moves, cache_without_line, is_of_line, blocks_of_others}
+use Rattle.verified_cache.specs.Cache.{CachedBlock, CacheRecord, IsCache, same_key, cache_after_moves, cache_without, blocks_without}
 use Rattle.verified_cache.specs.Slots.{block_of}
 use Rattle.verified_cache.proofs.lemmas.KeyLemmas.{same_key-refl, same_key-symm}
 use Rattle.verified_cache.proofs.lemmas.CacheLemmas.{is_under_another, IsAbsent, AreDistinct, IsCache-after_find, IsCache-take}
@@ -61,29 +61,29 @@ lookup_last (u ∷ us) e d =
 same_bytes : (digest : List ℕ) → false ≡ not (bytes_eq digest digest)
 same_bytes digest = rw ((bytes_eq-Decides digest digest).1 refl) refl
 
-module _ (device line : ℕ) where
+module _ (test : Key → Bool) where
   abbrev kept : List CachedBlock → List CachedBlock
-  kept = blocks_of_others device line
+  kept = blocks_without test
 
   module _ (capacity : ℕ) where
     abbrev cache_with : List CachedBlock → CacheRecord
     cache_with blocks = record { capacity = capacity; blocks = blocks }
 
-    pub after_moves_of : (us vs : List CachedBlock) → cache_after_moves device line (length vs) (cache_with (us ++ vs)) ≡ cache_with (kept vs ++ us)
+    pub after_moves_of : (us vs : List CachedBlock) → cache_after_moves test (length vs) (cache_with (us ++ vs)) ≡ cache_with (kept vs ++ us)
     after_moves_of us vs =
         let front : length (us ++ vs) - length vs ≡ length us = omega (arith, length-append us vs) in
         ap cache_with (rw (front, drop-append_seam us vs, take-append_seam us vs) refl)
 
     more_at : (us : List CachedBlock) (x : CachedBlock) (vs : List CachedBlock)
-        → cache_after_moves device line 1 (cache_after_moves device line (length vs) (cache_with ((us ++ x ∷ []) ++ vs))) ≡ cache_after_moves device line (length (x ∷ vs)) (cache_with (us ++ (x ∷ vs)))
+        → cache_after_moves test 1 (cache_after_moves test (length vs) (cache_with ((us ++ x ∷ []) ++ vs))) ≡ cache_after_moves test (length (x ∷ vs)) (cache_with (us ++ (x ∷ vs)))
     more_at us x vs =
-        let first : cache_after_moves device line (length vs) (cache_with ((us ++ x ∷ []) ++ vs)) ≡ cache_with (kept vs ++ (us ++ x ∷ [])) = after_moves_of (us ++ x ∷ []) vs in
+        let first : cache_after_moves test (length vs) (cache_with ((us ++ x ∷ []) ++ vs)) ≡ cache_with (kept vs ++ (us ++ x ∷ [])) = after_moves_of (us ++ x ∷ []) vs in
         let turned : cache_with (kept vs ++ (us ++ x ∷ [])) ≡ cache_with ((kept vs ++ us) ++ x ∷ []) = ap cache_with (sym (append_assoc (kept vs) us (x ∷ []))) in
-        let next : cache_after_moves device line 1 (cache_with ((kept vs ++ us) ++ x ∷ [])) ≡ cache_with (kept (x ∷ []) ++ (kept vs ++ us)) = after_moves_of (kept vs ++ us) (x ∷ []) in
+        let next : cache_after_moves test 1 (cache_with ((kept vs ++ us) ++ x ∷ [])) ≡ cache_with (kept (x ∷ []) ++ (kept vs ++ us)) = after_moves_of (kept vs ++ us) (x ∷ []) in
         let joined : (kept (x ∷ []) ++ kept vs) ++ us ≡ kept (x ∷ []) ++ (kept vs ++ us) = append_assoc (kept (x ∷ [])) (kept vs) us in
-        let both : kept (x ∷ vs) ≡ kept (x ∷ []) ++ kept vs = filter-append (λ b. not (is_of_line device line b.key)) (x ∷ []) vs in
-        let all : cache_after_moves device line (length (x ∷ vs)) (cache_with (us ++ (x ∷ vs))) ≡ cache_with (kept (x ∷ vs) ++ us) = after_moves_of us (x ∷ vs) in
-        ap (cache_after_moves device line 1) (first ∙ turned) ∙ next ∙ ap cache_with (sym joined ∙ ap (λ l. l ++ us) (sym both)) ∙ sym all
+        let both : kept (x ∷ vs) ≡ kept (x ∷ []) ++ kept vs = filter-append (λ b. not (test b.key)) (x ∷ []) vs in
+        let all : cache_after_moves test (length (x ∷ vs)) (cache_with (us ++ (x ∷ vs))) ≡ cache_with (kept (x ∷ vs) ++ us) = after_moves_of us (x ∷ vs) in
+        ap (cache_after_moves test 1) (first ∙ turned) ∙ next ∙ ap cache_with (sym joined ∙ ap (λ l. l ++ us) (sym both)) ∙ sym all
 
     module _ (slots : Slots) (e : Key × DigestedBlock) (last : Some e ≡ slice_get slots (length slots - 1)) where
       abbrev before : Slots
@@ -92,28 +92,28 @@ module _ (device line : ℕ) where
       cut : slots ≡ before ++ e ∷ []
       cut = last_cut slots e last
 
-      one_move : cache_after_moves device line 1 (cache_with (map block_of slots)) ≡ cache_with (kept (block_of e ∷ []) ++ map block_of before)
+      one_move : cache_after_moves test 1 (cache_with (map block_of slots)) ≡ cache_with (kept (block_of e ∷ []) ++ map block_of before)
       one_move =
-          ap (cache_after_moves device line 1) (ap cache_with (ap (map block_of) cut ∙ map-append block_of before (e ∷ []))) ∙ after_moves_of (map block_of before) (block_of e ∷ [])
+          ap (cache_after_moves test 1) (ap cache_with (ap (map block_of) cut ∙ map-append block_of before (e ∷ []))) ∙ after_moves_of (map block_of before) (block_of e ∷ [])
 
-      -- where it is of that line, the last slot goes
-      pub dropped : true ≡ is_of_line device line e.0 → (seen : CacheRecord) → cache_with (map block_of slots) ≡ seen → cache_with (map block_of before) ≡ cache_after_moves device line 1 seen
-      dropped of_line seen is =
-          let none : kept (block_of e ∷ []) ≡ [] = rw (← of_line) refl in
-          sym (ap (cache_after_moves device line 1) (sym is) ∙ one_move ∙ ap (λ l. cache_with (l ++ map block_of before)) none)
+      -- where its key passes the test, the last slot goes
+      pub dropped : true ≡ test e.0 → (seen : CacheRecord) → cache_with (map block_of slots) ≡ seen → cache_with (map block_of before) ≡ cache_after_moves test 1 seen
+      dropped goes seen is =
+          let none : kept (block_of e ∷ []) ≡ [] = rw (← goes) refl in
+          sym (ap (cache_after_moves test 1) (sym is) ∙ one_move ∙ ap (λ l. cache_with (l ++ map block_of before)) none)
 
       found_last : AreDistinct (map block_of slots) → lookup (same_key e.0) slots ≡ Some e.1
       found_last d = subst (λ l. lookup (same_key e.0) l ≡ Some e.1) (sym cut) (lookup_last before e (subst (λ l. AreDistinct (map block_of l)) cut d))
 
       -- else it is promoted
-      pub moved : AreDistinct (map block_of slots) → false ≡ is_of_line device line e.0 → (seen : CacheRecord) → cache_with (map block_of slots) ≡ seen
-          → cache_with (map block_of (promoted (same_key e.0) slots)) ≡ cache_after_moves device line 1 seen
+      pub moved : AreDistinct (map block_of slots) → false ≡ test e.0 → (seen : CacheRecord) → cache_with (map block_of slots) ≡ seen
+          → cache_with (map block_of (promoted (same_key e.0) slots)) ≡ cache_after_moves test 1 seen
       moved d other seen is =
           let one : kept (block_of e ∷ []) ≡ block_of e ∷ [] = rw (← other) refl in
           let others : filter (is_under_another e.0) (map block_of slots) ≡ map block_of before =
           subst (λ l. filter (is_under_another e.0) (map block_of l) ≡ map block_of before) (sym cut) (others_of_last before e (subst (λ l. AreDistinct (map block_of l)) cut d)) in
           let first : map block_of (promoted (same_key e.0) slots) ≡ block_of e ∷ map block_of before = map-promoted e.0 slots e.1 d (found_last d) ∙ ap (λ l. block_of e ∷ l) others in
-          ap cache_with first ∙ sym (ap (cache_after_moves device line 1) (sym is) ∙ one_move ∙ ap (λ l. cache_with (l ++ map block_of before)) one)
+          ap cache_with first ∙ sym (ap (cache_after_moves test 1) (sym is) ∙ one_move ∙ ap (λ l. cache_with (l ++ map block_of before)) one)
 
       pub IsCache-moved : IsCache (cache_with (map block_of slots)) → IsCache (cache_with (map block_of (promoted (same_key e.0) slots)))
       IsCache-moved valid =
@@ -125,7 +125,7 @@ module _ (device line : ℕ) where
           subst (λ bs. IsCache (cache_with bs)) (sym (map-take (length slots - 1) slots)) (IsCache-take (length slots - 1) (cache_with (map block_of slots)) valid)
 
     front_moves : (blocks : List CachedBlock) (n : ℕ) → n < length blocks
-        → cache_after_moves device line 1 (cache_after_moves device line n (cache_with blocks)) ≡ cache_after_moves device line (suc n) (cache_with blocks)
+        → cache_after_moves test 1 (cache_after_moves test n (cache_with blocks)) ≡ cache_after_moves test (suc n) (cache_with blocks)
     front_moves blocks n within =
         let at = cut_at blocks (length blocks - suc n) (omega arith) in
         let us : List CachedBlock = at.0 in
@@ -136,18 +136,18 @@ module _ (device line : ℕ) where
         let whole : length blocks ≡ length (us ++ x ∷ vs) = ap length is in
         let rest : length vs ≡ n = omega (arith, length-append us (x ∷ vs)) in
         let parts : (us ++ x ∷ []) ++ vs ≡ us ++ x ∷ vs = append_assoc us (x ∷ []) vs in
-        subst (λ m. cache_after_moves device line 1 (cache_after_moves device line m (cache_with blocks)) ≡ cache_after_moves device line (suc m) (cache_with blocks)) rest
-        (subst (λ l. cache_after_moves device line 1 (cache_after_moves device line (length vs) (cache_with l)) ≡ cache_after_moves device line (suc (length vs)) (cache_with l)) (sym is)
-        (subst (λ l. cache_after_moves device line 1 (cache_after_moves device line (length vs) (cache_with l)) ≡ cache_after_moves device line (suc (length vs)) (cache_with (us ++ x ∷ vs))) parts
+        subst (λ m. cache_after_moves test 1 (cache_after_moves test m (cache_with blocks)) ≡ cache_after_moves test (suc m) (cache_with blocks)) rest
+        (subst (λ l. cache_after_moves test 1 (cache_after_moves test (length vs) (cache_with l)) ≡ cache_after_moves test (suc (length vs)) (cache_with l)) (sym is)
+        (subst (λ l. cache_after_moves test 1 (cache_after_moves test (length vs) (cache_with l)) ≡ cache_after_moves test (suc (length vs)) (cache_with (us ++ x ∷ vs))) parts
         (more_at us x vs)))
 
   -- no moves, one more, and all
-  pub cache_after_moves-none : (cache : CacheRecord) → cache_after_moves device line 0 cache ≡ cache
-  cache_after_moves-none cache = ap (λ l. cache_after_moves device line 0 (cache_with cache.capacity l)) (sym (append-nil cache.blocks)) ∙ after_moves_of cache.capacity cache.blocks []
+  pub cache_after_moves-none : (cache : CacheRecord) → cache_after_moves test 0 cache ≡ cache
+  cache_after_moves-none cache = ap (λ l. cache_after_moves test 0 (cache_with cache.capacity l)) (sym (append-nil cache.blocks)) ∙ after_moves_of cache.capacity cache.blocks []
 
   pub cache_after_moves-more : (n : ℕ) (cache : CacheRecord) → n < length cache.blocks
-      → cache_after_moves device line 1 (cache_after_moves device line n cache) ≡ cache_after_moves device line (n + 1) cache
+      → cache_after_moves test 1 (cache_after_moves test n cache) ≡ cache_after_moves test (n + 1) cache
   cache_after_moves-more n cache within = rw add-one (front_moves cache.capacity cache.blocks n within)
 
-  pub cache_after_moves-all : (cache : CacheRecord) → cache_after_moves device line (length cache.blocks) cache ≡ cache_without_line device line cache
+  pub cache_after_moves-all : (cache : CacheRecord) → cache_after_moves test (length cache.blocks) cache ≡ cache_without test cache
   cache_after_moves-all cache = after_moves_of cache.capacity [] cache.blocks ∙ ap (cache_with cache.capacity) (append-nil (kept cache.blocks))

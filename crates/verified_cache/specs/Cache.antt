@@ -50,15 +50,19 @@ cache_after_keep block cache = record cache { blocks = take cache.capacity (bloc
 abbrev pub is_of_line : ℕ → ℕ → Key → Bool
 is_of_line device line key = key.device == device && key.line == line
 
--- the blocks of other lines and other devices, in their order
-abbrev pub blocks_of_others : ℕ → ℕ → List CachedBlock → List CachedBlock
-blocks_of_others device line blocks = filter (λ b. not (is_of_line device line b.key)) blocks
+-- the blocks whose keys don't pass the test, in their order
+abbrev pub blocks_without : (Key → Bool) → List CachedBlock → List CachedBlock
+blocks_without test blocks = filter (λ b. not (test b.key)) blocks
+
+-- what is left of a cache without the blocks whose keys pass the test
+abbrev pub cache_without : (Key → Bool) → CacheRecord → CacheRecord
+cache_without test cache = record cache { blocks = blocks_without test cache.blocks }
 
 -- what forgetting a line leaves
 abbrev pub cache_without_line : ℕ → ℕ → CacheRecord → CacheRecord
-cache_without_line device line cache = record cache { blocks = blocks_of_others device line cache.blocks }
+cache_without_line device line = cache_without (is_of_line device line)
 
--- the last n blocks go first, in their order, but for those of that line
-abbrev pub cache_after_moves : ℕ → ℕ → ℕ → CacheRecord → CacheRecord
-cache_after_moves device line n cache = let front = length cache.blocks - n in
-    record cache { blocks = blocks_of_others device line (drop front cache.blocks) ++ take front cache.blocks }
+-- the last n blocks go first, in their order, but for those whose keys pass the test
+abbrev pub cache_after_moves : (Key → Bool) → ℕ → CacheRecord → CacheRecord
+cache_after_moves test n cache = let front = length cache.blocks - n in
+    record cache { blocks = blocks_without test (drop front cache.blocks) ++ take front cache.blocks }

@@ -2,9 +2,10 @@
 ghost use Rattle.std.specs.Prelude.{◌≡◌, ◌⊎◌, [], length, option_map, IfOk, OnOk, OnErr, IsOk, IsSome};
 ghost use Rattle.std.specs.Option.{option_copied};
 ghost use Rattle.std.specs.Borrow.{sem};
-ghost use Rattle.verified_cache.specs.Cache.{IsCache, block_at, block_under, cache_after_find, cache_after_keep, cache_without_line, cache_after_moves};
+ghost use Rattle.verified_cache.specs.Cache.{IsCache, block_at, block_under, cache_after_find, cache_after_keep, cache_without, cache_without_line, cache_after_moves};
 
-use crate::Key;
+use crate::keys::KeysOfLine;
+use crate::{Key, Keys};
 use lru::LruCache;
 use std::alloc::{AllocError, Global};
 use std::marker::Model;
@@ -86,20 +87,29 @@ impl BlockCache {
     pub fn forget_line(&mut self, device: u32, line: u32)
         ensures { self.new ≡ cache_without_line device line self.old }
     {
+        self.forget_where(&KeysOfLine { device, line });
+    }
+
+    /// Drops the blocks under some keys, and looks at each block once.
+    pub fn forget_where<K: Keys>(&mut self, keys: &K)
+        requires { K.can_tell keys.now }
+        ensures { self.new ≡ cache_without (K.has keys.now) self.old }
+    {
         for _ in 0..self.len() {
-            self.move_oldest(device, line);
+            self.move_oldest(keys);
         }
     }
 
-    /// Makes the least recently used block the most recently used, or drops it where it is of that line.
-    fn move_oldest(&mut self, device: u32, line: u32)
-        ensures { self.new ≡ cache_after_moves device line 1 self.old }
+    /// Makes the least recently used block the most recently used, or drops it where it is under such a key.
+    fn move_oldest<K: Keys>(&mut self, keys: &K)
+        requires { K.can_tell keys.now }
+        ensures { self.new ≡ cache_after_moves (K.has keys.now) 1 self.old }
     {
         let Some((key, _)) = self.slots.peek_lru() else {
             return;
         };
         let key = *key;
-        if key.is_of_line(device, line) {
+        if keys.has(key) {
             drop(self.slots.pop_lru());
         } else {
             self.slots.promote(&key);

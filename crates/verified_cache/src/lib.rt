@@ -3,7 +3,9 @@
 
 mod cache;
 mod key;
+mod keys;
 pub mod laws;
 
 pub use cache::BlockCache;
 pub use key::Key;
+pub use keys::Keys;

@@ -3,12 +3,11 @@ ghost use Rattle.std.specs.Prelude.{◌≡◌, ◌+◌, ◌≤◌, ◌==◌, ◌
 ghost use Rattle.std.specs.Result.{result_err};
 ghost use Rattle.std.specs.Str.{bytes_eq};
 ghost use Rattle.std.specs.List.{before_first};
-ghost use Rattle.hash_tree.specs.Shape.{is_block_size};
 ghost use Rattle.verity_format.specs.FaultNames.{super_number, super_name};
 ghost use Rattle.verity_format.specs.Superblock.{SuperRecord, IsSuperblock, Carries, number16, number32, number64, spelling, super_fault, read_of};
 
 use crate::Superblock;
-use hash_tree::{Salt, Shape};
+use hash_tree::{Salt, Shape, is_block_size};
 use thiserror::Error;
 
 /// The first field that is wrong, in the order in which the fields are looked at.
@@ -149,12 +148,6 @@ fn number64(bytes: &[u8], at: usize) -> u64
     let mut number = [0; 8];
     number.copy_from_slice(&bytes[at..at + 8]);
     u64::from_le_bytes(number)
-}
-
-fn is_block_size(size: u32) -> bool
-    ensures { result ≡ is_block_size size }
-{
-    size == 512 || size == 1024 || size == 2048 || size == 4096
 }
 
 // Whether the field holds `sha256` up to its first zero byte.

@@ -7,13 +7,13 @@ ghost use Rattle.xts_sector.specs.Xts.{encrypted_block, decrypted_block, encrypt
 
 use crate::masks::{add_masks, fill_masks};
 use crate::tweak::Block;
-use aes_block::AesKey;
+use aes_lanes::LanesKey;
 
 /// The most bytes whose masks are made ahead.
 const PART: usize = 512;
 
 /// Encrypts blocks, the first of which has the tweak `first`, and gives the tweak after the last.
-fn encrypt_part(key: &AesKey, first: u128, blocks: &mut [u8]) -> u128
+fn encrypt_part(key: &LanesKey, first: u128, blocks: &mut [u8]) -> u128
     requires { (length blocks.old % 16 ≡ 0) × (length blocks.old ≤ PART) }
     ensures value { blocks.new ≡ encrypted_blocks key.now (λ j. times_alpha_power j (block_of first)) blocks.old }
     ensures inverse { (j : ℕ) → j < length blocks.old / 16 → decrypted_block key.now (times_alpha_power j (block_of first)) (encrypted_block key.now (times_alpha_power j (block_of first)) (block blocks.old j)) ≡ block blocks.old j }
@@ -23,13 +23,13 @@ fn encrypt_part(key: &AesKey, first: u128, blocks: &mut [u8]) -> u128
     let masks = &mut all[..blocks.len()];
     let next = fill_masks(first, masks);
     add_masks(blocks, masks);
-    aes_lanes::encrypt_blocks(key, blocks);
+    key.encrypt_blocks(blocks);
     add_masks(blocks, masks);
     next
 }
 
 /// Encrypts a unit of whole blocks, whose first block has the tweak `first`.
-pub fn encrypt_blocks(key: &AesKey, first: &Block, unit: &mut [u8])
+pub fn encrypt_blocks(key: &LanesKey, first: &Block, unit: &mut [u8])
     requires { length unit.old % 16 ≡ 0 }
     ensures value { unit.new ≡ encrypted_blocks key.now (λ j. times_alpha_power j first.now) unit.old }
     ensures inverse { decrypted_blocks key.now (λ j. times_alpha_power j first.now) unit.new ≡ unit.old }

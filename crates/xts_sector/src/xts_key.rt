@@ -8,12 +8,13 @@ use crate::decryption::decrypt_blocks;
 use crate::encryption::encrypt_blocks;
 use crate::tweak::unit_number;
 use aes_block::AesKey;
+use aes_lanes::LanesKey;
 use std::marker::Model;
 
 /// A key of 32 or 64 bytes: an AES key for the data, and then one for the tweak. Contracts see it as those bytes.
 #[derive(Drop)]
 pub struct XtsKey {
-    data_key: AesKey,
+    data_key: LanesKey,
     tweak_key: AesKey,
 }
 
@@ -37,7 +38,7 @@ impl XtsKey {
     {
         let (data_key, tweak_key) = key.split_at(key.len() / 2);
         Some(XtsKey {
-            data_key: AesKey::new(data_key)?,
+            data_key: LanesKey::new(data_key)?,
             tweak_key: AesKey::new(tweak_key)?,
         })
     }

@@ -1,5 +1,5 @@
 // What real files keep, which file one is, and that writes reach the medium.
-use block_device::{AnyDev, BlockDev, FileDev, MemoryDev};
+use block_device::{AnyDev, BlockDev, FileDev, MemoryDev, SyncDev};
 use std::fs;
 use std::os::unix::fs::symlink;
 use std::test::Fail;

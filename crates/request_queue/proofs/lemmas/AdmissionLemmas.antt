@@ -1,8 +1,8 @@
 -- What an admitted request has.
 use Rattle.std.proofs.Common.{◌≡◌, ◌<◌, ◌==◌, ◌||◌, ℕ, ◌+◌, ◌*◌, ◌/◌, ◌%◌, nat_lt, true, false, Bool, List, length, refl, sym, ap, subst, arith, Option, Some, None, Result, Ok, Err}
 use Rattle.std.specs.Prelude.{not, min, IsTrue, IfOk, if◌then◌else◌}
-use Rattle.stack_loader.specs.Records.{Configuration}
-use Rattle.stack_loader.specs.Names.{mapped, may_write, size, device_named}
+use Rattle.stack_rules.specs.Records.{Configuration}
+use Rattle.stack_rules.specs.Names.{mapped, may_write, size, device_named}
 use Rattle.request_queue.specs.declared.fault.SubmitFault.{SubmitFault}
 use Rattle.request_queue.specs.declared.fault.SubmitFault.TheVariants.{NoSuchDevice, OutOfRange, Length, ReadOnly, Full}
 use Rattle.request_queue.specs.declared.range.SectorRange.{SectorRange}

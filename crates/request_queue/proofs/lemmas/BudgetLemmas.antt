@@ -4,9 +4,9 @@ use Rattle.std.specs.Prelude.{set, remove, find}
 use Rattle.std.proofs.lemmas.Option.{get_or_from_slice_get}
 use Rattle.std.proofs.Math.Nat.{mul-le-mul_right, add-mul}
 use Rattle.dm_table.specs.declared.stack.Entry.{Entry}
-use Rattle.stack_loader.specs.declared.refusal.LoadFault.{LoadFault}
-use Rattle.stack_loader.specs.declared.refusal.RemoveFault.{RemoveFault}
-use Rattle.stack_loader.specs.Records.{Configuration}
+use Rattle.stack_rules.specs.declared.refusal.LoadFault.{LoadFault}
+use Rattle.stack_rules.specs.declared.refusal.RemoveFault.{RemoveFault}
+use Rattle.stack_rules.specs.Records.{Configuration}
 use Rattle.stack_engine.specs.declared.fault.IoFault.{IoFault}
 use Rattle.stack_engine.specs.Stacks.{StackRecord, AnswerRecord}
 use Rattle.request_queue.specs.declared.fault.Held.{Held}
@@ -20,7 +20,7 @@ use Rattle.request_queue.specs.Ranges.{piece_len}
 use Rattle.request_queue.specs.Requests.{RequestRecord}
 use Rattle.request_queue.specs.Flights.{FlightRecord, WorkRecord, reads, writes, first_flight, next_flight, next_work, first_work, work_cost, has_ticket}
 use Rattle.request_queue.specs.Parts.{PartRelation, AnyPart, Asks, part_of_work, done_of}
-use Rattle.request_queue.specs.World.{World, world, Event, submit, step, load, remove_device, run, Step, IsAt, Rise, Begins, IsRefused, Serves, Loads, Removes, Ends, at_once, later, Runs, next_count}
+use Rattle.request_queue.specs.World.{World, world, Event, submit, step, load, remove_device, run, sync, Step, IsAt, Rise, Begins, IsRefused, Serves, Loads, Removes, Syncs, Ends, at_once, later, Runs, next_count}
 use Rattle.request_queue.specs.Runs.{Turn, Run, last, total, is_step, flight_of, moved_of, moved_for, served_for, rest_of, due_of, due, rest}
 use Rattle.request_queue.proofs.lemmas.PartLemmas.{any-keeps, part_cost-work}
 use Rattle.request_queue.proofs.lemmas.TicketLemmas.{test-same, test-other, at-ticket, find-at, find-removed, find-changed, others-set, others-remove, others-push, found-pushed, rise-push, rise-set, rise-remove}
@@ -180,6 +180,10 @@ kept-removal w w' name (Ok done) t order s =
 kept-removal w w' name (Err Busy) t order s = kept-same w w' t order s.1
 kept-removal w w' name (Err (Fault fault)) t order s = kept-same w w' t order s.2
 
+kept-sync : (w w' : World) (reply : Result Unit IoFault) (t : ℕ) → InOrder w → Syncs w reply w' → Kept w t w'
+kept-sync w w' (Ok done) t order s = kept-same w w' t order s
+kept-sync w w' (Err fault) t order s = subst (Kept w t) (sym s.leaves) (record { same = refl; config = inr refl; given = omega arith; order = order })
+
 kept-ends : (t u : ℕ) (answer : Result Reply IoFault) (w w' : World) → u ≢ t → InOrder w → Ends AnyPart u answer w w' → Kept w t w'
 kept-ends t u answer w w' other order (at_once s) = kept-served w w' t u other (has-served w u (Done answer) w' order s)
 kept-ends t u answer w w' other order (later {v = v} s more) =
@@ -211,6 +215,7 @@ turned w w' t (step u (Err none)) order old s = other_turn refl (kept-same w w' 
 turned w w' t (load text reply) order old s = other_turn refl (kept-load w w' text reply t order s)
 turned w w' t (remove_device name reply) order old s = other_turn refl (kept-removal w w' name reply t order s)
 turned w w' t (run r reply) order old s = other_turn refl (kept-run w w' r reply t order old s)
+turned w w' t (sync reply) order old s = other_turn refl (kept-sync w w' reply t order s)
 
 -- a request that was begun is in flight, and its steps come next
 pub record Newly (w : World) (r : RequestRecord) (range : SectorRange) (ticket : ℕ) (w' : World) : Type 0 where

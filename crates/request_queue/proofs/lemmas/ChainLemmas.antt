@@ -4,10 +4,10 @@ use Rattle.std.specs.Prelude.{remove}
 use Rattle.std.proofs.lemmas.List.{get_or_default}
 use Rattle.std.proofs.lemmas.List.Elements.{All-append, All-take, All-drop, All-set, All-cons, All-nil}
 use Rattle.std.proofs.lemmas.Option.{slice_get_within, get_or_from_slice_get}
-use Rattle.stack_loader.specs.declared.lower.Lower.{Lower}
-use Rattle.stack_loader.specs.Names.{mapped}
-use Rattle.stack_loader.specs.Records.{Configuration}
-use Rattle.stack_loader.specs.Rules.{IsLoaded}
+use Rattle.stack_rules.specs.declared.lower.Lower.{Lower}
+use Rattle.stack_rules.specs.Names.{mapped}
+use Rattle.stack_rules.specs.Records.{Configuration}
+use Rattle.stack_rules.specs.Rules.{IsLoaded}
 use Rattle.stack_engine.specs.declared.fault.IoFault.{IoFault}
 use Rattle.stack_engine.specs.Found.{FoundRecord}
 use Rattle.stack_engine.specs.Laws.{AnsweredChainsAreGood, ForgedAnswersCollide}
@@ -21,7 +21,7 @@ use Rattle.request_queue.specs.Chains.{reply_chains, answer_chains, progress_cha
 use Rattle.request_queue.specs.Flights.{FlightRecord, WorkRecord, reads, writes, first_work, next_work, next_flight, first_flight, reply_to}
 use Rattle.request_queue.specs.Parts.{AnyPart, Asks, part_of_work, done_of}
 use Rattle.request_queue.specs.Requests.{RequestRecord, a_read, a_write}
-use Rattle.request_queue.specs.World.{World, world, Event, submit, step, load, remove_device, run, Step, IsAt, Begins, Serves, Answers, Ends, at_once, later, next_count}
+use Rattle.request_queue.specs.World.{World, world, Event, submit, step, load, remove_device, run, sync, Step, IsAt, Begins, Serves, Answers, Ends, at_once, later, next_count}
 use Rattle.request_queue.specs.Runs.{Turn, Run, last}
 use Rattle.request_queue.proofs.lemmas.PartLemmas.{any-keeps}
 
@@ -170,6 +170,10 @@ module _ (good : AnsweredChainsAreGood) (forged : ForgedAnswersCollide) where
       let first = begun w r (w.given + 1) s.begun honest s.begins in
       turn-of w (run r (Ok answer)) w' (after-another w s.begun w' (answer_chains answer) first.config (ended (w.given + 1) answer s.begun w' first.honest s.ends))
   honest-turn w (run r (Err fault)) w' honest s = turn-of w (run r (Err fault)) w' (same-world w w' honest s.same)
+  honest-turn w (sync (Ok done)) w' honest s = turn-of w (sync (Ok done)) w' (same-world w w' honest s)
+  honest-turn w (sync (Err fault)) w' honest s =
+      let stack : StackRecord = record { config = w.stack.config; leaves = s.after } in
+      turn-of w (sync (Err fault)) w' (hands-out w [] stack w.in_flight w' s.leaves refl honest.loaded honest.flights (All-nil _))
 
   pub honest-run : (w : World) (turns : List Turn) → IsHonest w → Run AnyPart w turns → IsHonest (last w turns)
   honest-run w [] honest r = honest

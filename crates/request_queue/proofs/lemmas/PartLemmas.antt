@@ -2,9 +2,9 @@
 use Rattle.std.proofs.Common.{◌≡◌, ℕ, ◌+◌, ◌*◌, ◌/◌, ◌≤◌, length, take, drop, map, arith, Result}
 use Rattle.std.proofs.lemmas.List.{length-take}
 use Rattle.std.proofs.Math.Nat.{mul-le-mul_right}
-use Rattle.stack_loader.specs.Records.{Configuration}
-use Rattle.stack_loader.specs.Names.{mapped}
-use Rattle.stack_loader.specs.Descend.{read_cost, write_cost}
+use Rattle.stack_rules.specs.Records.{Configuration}
+use Rattle.stack_rules.specs.Names.{mapped}
+use Rattle.stack_rules.specs.Descend.{read_cost, write_cost}
 use Rattle.stack_engine.specs.declared.fault.IoFault.{IoFault}
 use Rattle.stack_engine.specs.Leaves.{AllSteady, fixed_part}
 use Rattle.stack_engine.specs.Stacks.{StackRecord, AnswerRecord}

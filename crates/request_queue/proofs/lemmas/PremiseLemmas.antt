@@ -2,12 +2,14 @@
 use Rattle.std.proofs.Common.{◌≡◌, ℕ, ◌+◌, List, [], ◌∷◌, sym, subst, Result, Ok, Err}
 use Rattle.block_device.specs.Device.{Device}
 use Rattle.dm_table.specs.declared.stack.Entry.{Entry}
-use Rattle.stack_loader.specs.declared.refusal.LoadFault.{LoadFault}
-use Rattle.stack_loader.specs.declared.refusal.RemoveFault.{RemoveFault}
+use Rattle.stack_rules.specs.declared.refusal.LoadFault.{LoadFault}
+use Rattle.stack_rules.specs.declared.refusal.RemoveFault.{RemoveFault}
 use Rattle.stack_engine.specs.declared.fault.IoFault.{IoFault}
 use Rattle.stack_engine.specs.Leaves.{AllSteady}
 use Rattle.stack_engine.specs.Stacks.{StackRecord, AnswerRecord}
+use Rattle.stack_engine.specs.Syncs.{FailsToSync}
 use Rattle.stack_engine.proofs.lemmas.LeafListLemmas.{AllSteady-kept}
+use Rattle.stack_engine.proofs.lemmas.SyncLemmas.{unsynced-steady}
 use Rattle.request_queue.specs.declared.fault.Held.{Held}
 use Rattle.request_queue.specs.declared.fault.Held.TheVariants.{Busy, Fault}
 use Rattle.request_queue.specs.declared.fault.SubmitFault.{SubmitFault}
@@ -17,7 +19,7 @@ use Rattle.request_queue.specs.declared.reply.Reply.{Reply}
 use Rattle.request_queue.specs.Requests.{RequestRecord}
 use Rattle.request_queue.specs.Flights.{FlightRecord}
 use Rattle.request_queue.specs.Parts.{Part, PartRelation, AnyPart, SteadyPart, EachPart, part_of_work}
-use Rattle.request_queue.specs.World.{World, Event, submit, step, load, remove_device, run, Step, Begins, Answers, Serves, Loads, Removes, Ends, at_once, later, Runs}
+use Rattle.request_queue.specs.World.{World, Event, submit, step, load, remove_device, run, sync, Step, Begins, Answers, Serves, Loads, Removes, Syncs, Ends, at_once, later, Runs}
 use Rattle.request_queue.specs.Runs.{Turn, Run, last}
 use Rattle.request_queue.proofs.lemmas.PartLemmas.{any-keeps, each-any, each-steady, steady-any-part}
 
@@ -25,7 +27,11 @@ use Rattle.request_queue.proofs.lemmas.PartLemmas.{any-keeps, each-any, each-ste
 abbrev pub Passes : PartRelation → PartRelation → (List Device → Type 0) → Type 0
 Passes P Q F = (v : StackRecord) (d first : ℕ) (part : Part) (answer : Result AnswerRecord IoFault) (v' : StackRecord) → F v.leaves → P v d first part answer v' → Q v d first part answer v' × F v'.leaves
 
-module _ (P Q : PartRelation) (F : List Device → Type 0) (pass : Passes P Q F) where
+-- a fact about the leaves goes on where one isn't synced
+abbrev pub OutlivesSyncs : (List Device → Type 0) → Type 0
+OutlivesSyncs F = (old new : List Device) (fault : IoFault) → FailsToSync old new fault → F old → F new
+
+module _ (P Q : PartRelation) (F : List Device → Type 0) (pass : Passes P Q F) (outlives : OutlivesSyncs F) where
   answers-as : (w : World) (i : ℕ) (f : FlightRecord) (progress : Progress) (w' : World) → F w.stack.leaves → Answers P w i f progress w' → Answers Q w i f progress w' × F w'.stack.leaves
   answers-as w i f More w' h s =
       let p = pass w.stack f.rest.device.0 f.rest.first (part_of_work f.work _ _) (Ok s.got) s.stack h s.asks in
@@ -65,6 +71,10 @@ module _ (P Q : PartRelation) (F : List Device → Type 0) (pass : Passes P Q F)
   removes-leaves w name (Err Busy) w' s h = same-leaves w w' s.1 h
   removes-leaves w name (Err (Fault fault)) w' s h = same-leaves w w' s.2 h
 
+  syncs-leaves : (w : World) (reply : Result Unit IoFault) (w' : World) → Syncs w reply w' → F w.stack.leaves → F w'.stack.leaves
+  syncs-leaves w (Ok done) w' s h = same-leaves w w' s h
+  syncs-leaves w (Err fault) w' s h = subst (λ (x : World). F x.stack.leaves) (sym s.leaves) (outlives w.stack.leaves s.after fault s.fails h)
+
   runs-as : (w : World) (r : RequestRecord) (reply : Result (Result Reply IoFault) SubmitFault) (w' : World) → F w.stack.leaves → Runs P w r reply w' → Runs Q w r reply w' × F w'.stack.leaves
   runs-as w r (Err fault) w' h s = (s, same-leaves w w' s.same h)
   runs-as w r (Ok answer) w' h s =
@@ -80,6 +90,7 @@ module _ (P Q : PartRelation) (F : List Device → Type 0) (pass : Passes P Q F)
   step-as w (load text reply) w' h s = (s, loads-leaves w text reply w' s h)
   step-as w (remove_device name reply) w' h s = (s, removes-leaves w name reply w' s h)
   step-as w (run r reply) w' h s = runs-as w r reply w' h s
+  step-as w (sync reply) w' h s = (s, syncs-leaves w reply w' s h)
 
   pub run-as : (w : World) (turns : List Turn) → F w.stack.leaves → Run P w turns → Run Q w turns × F (last w turns).stack.leaves
   run-as w [] h r = (tt, h)
@@ -93,6 +104,9 @@ module _ (P Q : PartRelation) (F : List Device → Type 0) (pass : Passes P Q F)
 abbrev Anything : List Device → Type 0
 Anything leaves = Unit {0}
 
+outlives-any : OutlivesSyncs Anything
+outlives-any old new fault fails h = tt
+
 pass-any : Passes EachPart AnyPart Anything
 pass-any v d first part answer v' h p = (each-any v d first part answer v' p, tt)
 
@@ -100,21 +114,21 @@ pass-steady : Passes EachPart SteadyPart AllSteady
 pass-steady v d first part answer v' h p = (each-steady v d first part answer v' h p, AllSteady-kept v.leaves v'.leaves (any-keeps v d first part answer v' (each-any v d first part answer v' p)).fixed h)
 
 pub serves-any : (w : World) (t : ℕ) (progress : Progress) (w' : World) → Serves EachPart w t progress w' → Serves AnyPart w t progress w'
-serves-any w t progress w' s = (serves-as EachPart AnyPart Anything pass-any w t progress w' tt s).0
+serves-any w t progress w' s = (serves-as EachPart AnyPart Anything pass-any outlives-any w t progress w' tt s).0
 
 pub step-any : (w : World) (e : Event) (w' : World) → Step EachPart w e w' → Step AnyPart w e w'
-step-any w e w' s = (step-as EachPart AnyPart Anything pass-any w e w' tt s).0
+step-any w e w' s = (step-as EachPart AnyPart Anything pass-any outlives-any w e w' tt s).0
 
 -- a run whatever the leaves answer
 pub run-any : (w : World) (turns : List Turn) → Run EachPart w turns → Run AnyPart w turns
-run-any w turns r = (run-as EachPart AnyPart Anything pass-any w turns tt r).0
+run-any w turns r = (run-as EachPart AnyPart Anything pass-any outlives-any w turns tt r).0
 
 -- a run over steady leaves
 pub run-steady : (w : World) (turns : List Turn) → AllSteady w.stack.leaves → Run EachPart w turns → Run SteadyPart w turns × AllSteady (last w turns).stack.leaves
-run-steady w turns h r = run-as EachPart SteadyPart AllSteady pass-steady w turns h r
+run-steady w turns h r = run-as EachPart SteadyPart AllSteady pass-steady unsynced-steady w turns h r
 
 pass-steady-any : Passes SteadyPart AnyPart Anything
 pass-steady-any v d first part answer v' h p = (steady-any-part v d first part answer v' p, tt)
 
 pub step-steady-any : (w : World) (e : Event) (w' : World) → Step SteadyPart w e w' → Step AnyPart w e w'
-step-steady-any w e w' s = (step-as SteadyPart AnyPart Anything pass-steady-any w e w' tt s).0
+step-steady-any w e w' s = (step-as SteadyPart AnyPart Anything pass-steady-any outlives-any w e w' tt s).0

@@ -2,7 +2,7 @@
 use Rattle.std.proofs.Common.{◌≡◌, ℕ, true, false, Bool, List, [], ◌∷◌, length, refl, ap, sym, ◌∙◌, subst, arith, inl, inr, ◌⊎◌, All, Some, None, Ok, Err}
 use Rattle.std.specs.Prelude.{remove}
 use Rattle.std.proofs.lemmas.List.Elements.{All-cons, All-nil}
-use Rattle.stack_loader.specs.Records.{Configuration}
+use Rattle.stack_rules.specs.Records.{Configuration}
 use Rattle.stack_engine.specs.Laws.{AnsweredChainsAreGood, ForgedAnswersCollide}
 use Rattle.stack_engine.specs.Leaves.{AllSteady}
 use Rattle.stack_engine.specs.Stacks.{StackRecord}
@@ -12,7 +12,7 @@ use Rattle.request_queue.specs.declared.reply.Progress.TheVariants.{More, Done}
 use Rattle.request_queue.specs.Requests.{RequestRecord}
 use Rattle.request_queue.specs.Flights.{FlightRecord, first_flight, next_flight}
 use Rattle.request_queue.specs.Parts.{PartRelation, AnyPart, SteadyPart, EachPart, Asks}
-use Rattle.request_queue.specs.World.{World, world, Event, submit, step, load, remove_device, run, Step, Serves, Begins, next_count}
+use Rattle.request_queue.specs.World.{World, world, Event, submit, step, load, remove_device, run, sync, Step, Serves, Begins, next_count}
 use Rattle.request_queue.specs.Runs.{Turn, Run, last, total, is_step, flight_of, served_for}
 use Rattle.request_queue.specs.Laws.{passage, passages, end_of, answer_to, IsServed, waits, goes_on, finishes, fails, IsOver, RequestLaw, is_refusal, TurnLaw, QueueLaw}
 use Rattle.request_queue.proofs.lemmas.TicketLemmas.{test-same, at-ticket, find-at, find-changed, find-removed}
@@ -43,6 +43,7 @@ own-step part t v (step u (Err none)) w' is s = let clash : false ≡ true = is 
 own-step part t v (load text reply) w' is s = let clash : false ≡ true = is in cc
 own-step part t v (remove_device name reply) w' is s = let clash : false ≡ true = is in cc
 own-step part t v (run r reply) w' is s = let clash : false ≡ true = is in cc
+own-step part t v (sync reply) w' is s = let clash : false ≡ true = is in cc
 
 module _ (part : PartRelation) (t : ℕ) (v : World) (v' : World) (f : FlightRecord) (order : InOrder v) (there : flight_of v t ≡ Some f) where
   -- the request that a step of its ticket serves
@@ -188,6 +189,7 @@ refusal-same part w (remove_device name (Err Busy)) w' is s = s.1
 refusal-same part w (remove_device name (Err (Fault fault))) w' is s = s.2
 refusal-same part w (run r (Ok answer)) w' is s = let clash : false ≡ true = is in cc
 refusal-same part w (run r (Err fault)) w' is s = s.same
+refusal-same part w (sync reply) w' is s = let clash : false ≡ true = is in cc
 
 order-kept : (w : World) (turns : List Turn) → InOrder w → Run EachPart w turns → InOrder (last w turns)
 order-kept w [] order r = order

@@ -2,8 +2,8 @@
 use Rattle.std.proofs.Common.{◌≡◌, ◌<◌, ◌≤◌, ℕ, ◌+◌, ◌-◌, ◌*◌, ◌/◌, ◌%◌, List, [], ◌++◌, length, take, drop, refl, ap, sym, ◌∙◌, subst, arith, Some, Result, Ok, Err}
 use Rattle.std.proofs.lemmas.List.{length-take-le, length-drop, take-append-drop}
 use Rattle.std.proofs.Math.Seq.{take-length, take-add}
-use Rattle.stack_loader.specs.Names.{mapped}
-use Rattle.stack_loader.specs.Rules.{IsLoaded}
+use Rattle.stack_rules.specs.Names.{mapped}
+use Rattle.stack_rules.specs.Rules.{IsLoaded}
 use Rattle.stack_engine.specs.declared.fault.IoFault.{IoFault}
 use Rattle.stack_engine.specs.declared.fault.IoFault.TheVariants as io
 use Rattle.stack_engine.specs.Pieces.{EachPiece, stack_over}

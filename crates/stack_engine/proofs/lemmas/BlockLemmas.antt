@@ -9,8 +9,8 @@ use Rattle.hash_tree.specs.Chain.{ChainRecord, HangsFrom, IsGood}
 use Rattle.hash_tree.specs.Shape.{ShapeRecord}
 use Rattle.block_device.specs.Device.{Device}
 use Rattle.dm_table.specs.declared.verity.Verity.{Verity}
-use Rattle.stack_loader.specs.Records.{Configuration}
-use Rattle.stack_loader.specs.Trees.{tree_of, block_sectors}
+use Rattle.stack_rules.specs.Records.{Configuration}
+use Rattle.stack_rules.specs.Trees.{tree_of, block_sectors}
 use Rattle.stack_engine.specs.declared.fault.IoFault.{IoFault}
 use Rattle.stack_engine.specs.Sectors.{SomeOf}
 use Rattle.stack_engine.specs.Outcomes.{Outcome, Images, then_outcome, part}

@@ -3,12 +3,12 @@ use Rattle.std.proofs.Common.{◌≡◌, ℕ, zero, suc, ◌+◌, ◌-◌, ◌<�
 use Rattle.std.specs.Prelude.{slice_get}
 use Rattle.std.proofs.lemmas.Bool.{cases_lt}
 use Rattle.dm_table.specs.declared.table.Line.{Line}
-use Rattle.stack_loader.specs.declared.lower.Lower.{Lower}
-use Rattle.stack_loader.specs.declared.lower.Lower.TheVariants.{Leaf as leaf, Device as device}
-use Rattle.stack_loader.specs.Records.{Configuration}
-use Rattle.stack_loader.specs.Names.{named, lines_of}
-use Rattle.stack_loader.specs.Descend.{descend, after_steps, most_devices, by_name, known}
-use Rattle.stack_loader.specs.Lines.{line_at, IsLine}
+use Rattle.stack_rules.specs.declared.lower.Lower.{Lower}
+use Rattle.stack_rules.specs.declared.lower.Lower.TheVariants.{Leaf as leaf, Device as device}
+use Rattle.stack_rules.specs.Records.{Configuration}
+use Rattle.stack_rules.specs.Names.{named, lines_of}
+use Rattle.stack_rules.specs.Descend.{descend, after_steps, most_devices, by_name, known}
+use Rattle.stack_rules.specs.Lines.{line_at, IsLine}
 use Rattle.stack_engine.specs.Sectors.{on_found, sector_rule}
 use Rattle.stack_engine.specs.Meaning.{Said, leaf_said, none_said, line_said, said_at}
 use Rattle.stack_engine.proofs.lemmas.LineLemmas.{end_of, found_from, here, later}

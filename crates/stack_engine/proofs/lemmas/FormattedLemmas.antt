@@ -20,9 +20,9 @@ use Rattle.hash_tree.proofs.lemmas.TreeLemmas.{length-digest}
 use Rattle.dm_table.specs.declared.verity.Verity.{Verity}
 use Rattle.dm_table.specs.declared.table.Target.{Target}
 use Rattle.dm_table.specs.declared.table.Target.TheVariants.{Verity as verity_target}
-use Rattle.stack_loader.specs.Names.{mapped}
-use Rattle.stack_loader.specs.Lines.{IsLine}
-use Rattle.stack_loader.specs.Trees.{tree_of, data_sectors, block_sectors, zero_block}
+use Rattle.stack_rules.specs.Names.{mapped}
+use Rattle.stack_rules.specs.Lines.{IsLine}
+use Rattle.stack_rules.specs.Trees.{tree_of, data_sectors, block_sectors, zero_block}
 use Rattle.stack_loader.proofs.lemmas.VerityLineLemmas.{verity-line}
 use Rattle.stack_engine.specs.Laws.{named_sector, formatted_sector, FormattedDataIsRead}
 use Rattle.stack_engine.specs.Meaning.{Said, line_said, said_by_name, sector}

@@ -6,8 +6,8 @@ use Rattle.std.proofs.lemmas.List.Elements.{Contains-append_left, Contains-appen
 use Rattle.block_device.specs.Device.{Device}
 use Rattle.dm_table.specs.declared.table.Target.{Target}
 use Rattle.dm_table.specs.declared.table.Target.TheVariants.{Linear, Striped, Zero, Error, Crypt as crypt_target, Verity as verity_target}
-use Rattle.stack_loader.specs.declared.lower.Lower.{Lower}
-use Rattle.stack_loader.specs.Records.{Configuration}
+use Rattle.stack_rules.specs.declared.lower.Lower.{Lower}
+use Rattle.stack_rules.specs.Records.{Configuration}
 use Rattle.stack_engine.specs.Sectors.{SomeOf, gathered}
 use Rattle.stack_engine.specs.Beneath.{beneath, said_or}
 use Rattle.stack_engine.specs.Meaning.{Said, none_said, said_at}

@@ -3,7 +3,7 @@ use Rattle.std.proofs.Common.{◌≡◌, ℕ, suc, ◌+◌, ◌-◌, ◌^◌, �
 use Rattle.std.proofs.lemmas.List.{get_or-map, get_or_past, length-map}
 use Rattle.std.proofs.lemmas.Bool.{cases_lt}
 use Rattle.block_device.specs.Device.{Device}
-use Rattle.stack_loader.specs.Records.{LeafRecord}
+use Rattle.stack_rules.specs.Records.{LeafRecord}
 use Rattle.stack_engine.specs.Outcomes.{Images}
 use Rattle.stack_engine.specs.Leaves.{images_of, sizes_of, flags_of, ServeLeaves, Fixed, fixed_part, AllSteady, Counts, Moves, KeepsImages, AreRead, LeafFailed}
 

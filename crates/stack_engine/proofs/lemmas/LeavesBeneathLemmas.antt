@@ -8,15 +8,15 @@ use Rattle.dm_table.specs.declared.table.Base.{Base}
 use Rattle.dm_table.specs.declared.table.Line.{Line}
 use Rattle.dm_table.specs.declared.table.Target.{Target}
 use Rattle.dm_table.specs.declared.table.Target.TheVariants.{Linear, Striped, Zero, Error, Crypt as crypt_target, Verity as verity_target}
-use Rattle.stack_loader.specs.declared.lower.Lower.{Lower}
-use Rattle.stack_loader.specs.declared.lower.Lower.TheVariants.{Leaf as leaf, Device as device}
-use Rattle.stack_loader.specs.Records.{Configuration}
-use Rattle.stack_loader.specs.Names.{named, names, lowers, lines_of}
-use Rattle.stack_loader.specs.Descend.{descend, after_steps, most_devices, by_name, known}
-use Rattle.stack_loader.specs.Lines.{line_at}
-use Rattle.stack_loader.proofs.lemmas.CostRuleLemmas.{in-append}
+use Rattle.stack_rules.specs.declared.lower.Lower.{Lower}
+use Rattle.stack_rules.specs.declared.lower.Lower.TheVariants.{Leaf as leaf, Device as device}
+use Rattle.stack_rules.specs.Records.{Configuration}
+use Rattle.stack_rules.specs.Names.{named, names, lowers, lines_of}
+use Rattle.stack_rules.specs.Descend.{descend, after_steps, most_devices, by_name, known}
+use Rattle.stack_rules.specs.Lines.{line_at}
+use Rattle.stack_rules.proofs.lemmas.CostRuleLemmas.{in-append}
 use Rattle.stack_engine.specs.Beneath.{said_or}
-use Rattle.stack_loader.specs.Units.{unit_sectors}
+use Rattle.stack_rules.specs.Units.{unit_sectors}
 use Rattle.stack_engine.specs.Units.{unit_part, unit_first}
 use Rattle.stack_engine.specs.Blocks.{block_at}
 use Rattle.stack_engine.specs.Laws.{leaves_rule, leaves_beneath}

@@ -5,11 +5,11 @@ use Rattle.std.specs.List.{enumerate_from}
 use Rattle.std.specs.Option.{option_map_or}
 use Rattle.std.proofs.lemmas.Bool.{cases_lt, lt-ltb, le-ltb}
 use Rattle.dm_table.specs.declared.table.Line.{Line}
-use Rattle.stack_loader.specs.Records.{Configuration, DeviceRecord}
-use Rattle.stack_loader.specs.Names.{lines_of}
-use Rattle.stack_loader.specs.Lines.{line_at, Follow}
-use Rattle.stack_loader.specs.Rules.{IsValid}
-use Rattle.stack_loader.proofs.lemmas.ValidLineLemmas.{follow}
+use Rattle.stack_rules.specs.Records.{Configuration, DeviceRecord}
+use Rattle.stack_rules.specs.Names.{lines_of}
+use Rattle.stack_rules.specs.Lines.{line_at, Follow}
+use Rattle.stack_rules.specs.Rules.{IsValid}
+use Rattle.stack_rules.proofs.lemmas.ValidLineLemmas.{follow}
 
 abbrev pub end_of : Line → ℕ
 end_of line = line.start + line.length

@@ -1,23 +1,21 @@
 -- Puts: of runs that are cut, of the sectors of one line, and of a leaf's sectors, one after another.
-use Rattle.std.proofs.Common.{◌≡◌, ℕ, zero, suc, ◌+◌, ◌-◌, ◌*◌, ◌/◌, ◌%◌, ◌<◌, ◌≤◌, ◌⊎◌, Bool, true, false, nat_lt, ◌&&◌, List, [], ◌∷◌, ◌++◌, length, get_or, set, take, drop, Option, Some, None, refl, sym, ap, ◌∙◌, subst, arith, inl, inr}
+use Rattle.std.proofs.Common.{◌≡◌, ℕ, zero, suc, ◌+◌, ◌-◌, ◌<◌, ◌≤◌, ◌⊎◌, Bool, true, false, nat_lt, ◌&&◌, List, [], ◌∷◌, ◌++◌, length, get_or, set, take, drop, Option, Some, refl, sym, ap, ◌∙◌, subst, arith, inl, inr}
 use Rattle.std.specs.Option.{option_map_or}
-use Rattle.std.proofs.Math.Path.{fun_ext}
 use Rattle.std.proofs.lemmas.Bool.{cases_lt, lt-ltb}
 use Rattle.std.proofs.lemmas.List.{set-set, set_past, set-get_or, length-set, drop_all, get_or-set_same, take-append-drop, drop-drop, append-nil}
 use Rattle.block_device.specs.Device.{spliced}
-use Rattle.dm_table.specs.declared.table.Base.{Base}
 use Rattle.dm_table.specs.declared.table.Line.{Line}
 use Rattle.dm_table.specs.declared.table.Target.{Target}
 use Rattle.dm_table.specs.declared.table.Target.TheVariants.{Linear, Striped, Zero, Error, Crypt as crypt_target, Verity as verity_target}
-use Rattle.stack_loader.specs.declared.lower.Lower.{Lower}
-use Rattle.stack_loader.specs.declared.lower.Lower.TheVariants.{Leaf as leaf, Device as device}
-use Rattle.stack_loader.specs.Records.{Configuration}
-use Rattle.stack_loader.specs.Names.{mapped, named, lines_of}
-use Rattle.stack_loader.specs.Descend.{descend, after_steps, most_devices, depth, by_name, known}
-use Rattle.stack_loader.specs.Lines.{line_at}
-use Rattle.stack_loader.proofs.lemmas.UnrollLemmas.{all_and, IsLocal, descend-rule, falls-at}
-use Rattle.stack_loader.specs.Rules.{IsValid, most_depth}
-use Rattle.stack_loader.proofs.lemmas.ValidLemmas.{depth-low}
+use Rattle.stack_rules.specs.declared.lower.Lower.{Lower}
+use Rattle.stack_rules.specs.declared.lower.Lower.TheVariants.{Leaf as leaf, Device as device}
+use Rattle.stack_rules.specs.Records.{Configuration}
+use Rattle.stack_rules.specs.Names.{mapped, lines_of}
+use Rattle.stack_rules.specs.Descend.{descend, most_devices, depth}
+use Rattle.stack_rules.specs.Lines.{line_at}
+use Rattle.stack_rules.proofs.lemmas.UnrollLemmas.{all_and, IsLocal, descend-rule, falls-at}
+use Rattle.stack_rules.specs.Rules.{IsValid, most_depth}
+use Rattle.stack_rules.proofs.lemmas.ValidLemmas.{depth-low}
 use Rattle.stack_engine.specs.Sectors.{on_found, sector_rule}
 use Rattle.stack_engine.specs.Outcomes.{Images}
 use Rattle.stack_engine.specs.Beneath.{beneath, said_or, HandsOn}
@@ -29,7 +27,7 @@ use Rattle.stack_engine.proofs.lemmas.SectorLemmas.{AsksOfNames, said_or-same, s
 
 -- ---- one put after another
 
-then_assoc : (p : Put) (f g : Images → Put) → then_put (then_put p f) g ≡ then_put p (λ images. then_put (f images) g)
+pub then_assoc : (p : Put) (f g : Images → Put) → then_put (then_put p f) g ≡ then_put p (λ images. then_put (f images) g)
 then_assoc (done images) f g = refl
 then_assoc (stopped fault images) f g = refl
 

@@ -7,15 +7,15 @@ use Rattle.dm_table.specs.declared.table.Base.{Base}
 use Rattle.dm_table.specs.declared.table.Line.{Line}
 use Rattle.dm_table.specs.declared.table.Target.{Target}
 use Rattle.dm_table.specs.declared.table.Target.TheVariants.{Linear, Striped, Zero, Error, Crypt as crypt_target, Verity as verity_target}
-use Rattle.stack_loader.specs.declared.lower.Lower.{Lower}
-use Rattle.stack_loader.specs.declared.lower.Lower.TheVariants.{Leaf as leaf, Device as device}
-use Rattle.stack_loader.specs.Records.{Configuration}
-use Rattle.stack_loader.specs.Names.{mapped, named, names, lines_of}
-use Rattle.stack_loader.specs.Descend.{descend, after_steps, most_devices, depth, by_name, known}
-use Rattle.stack_loader.specs.Lines.{line_at}
-use Rattle.stack_loader.proofs.lemmas.UnrollLemmas.{AllOf, all_none, all_and, IsLocal, descend-rule, falls-at}
-use Rattle.stack_loader.specs.Rules.{IsValid, most_depth}
-use Rattle.stack_loader.proofs.lemmas.ValidLemmas.{depth-low}
+use Rattle.stack_rules.specs.declared.lower.Lower.{Lower}
+use Rattle.stack_rules.specs.declared.lower.Lower.TheVariants.{Leaf as leaf, Device as device}
+use Rattle.stack_rules.specs.Records.{Configuration}
+use Rattle.stack_rules.specs.Names.{mapped, named, names, lines_of}
+use Rattle.stack_rules.specs.Descend.{descend, after_steps, most_devices, depth, by_name, known}
+use Rattle.stack_rules.specs.Lines.{line_at}
+use Rattle.stack_rules.proofs.lemmas.UnrollLemmas.{AllOf, all_none, all_and, IsLocal, descend-rule, falls-at}
+use Rattle.stack_rules.specs.Rules.{IsValid, most_depth}
+use Rattle.stack_rules.proofs.lemmas.ValidLemmas.{depth-low}
 use Rattle.stack_engine.specs.Sectors.{OnLine, on_found, sector_rule, by_sector}
 use Rattle.stack_engine.specs.Beneath.{beneath, said_or, HandsOn}
 use Rattle.stack_engine.specs.Meaning.{Said, leaf_said, none_said, crypt_said, verity_said, line_said, said_at, said_by_name}

@@ -10,21 +10,21 @@ use Rattle.dm_table.specs.declared.crypt.Crypt.{Crypt}
 use Rattle.dm_table.specs.declared.verity.Verity.{Verity}
 use Rattle.dm_table.specs.declared.table.Target.{Target}
 use Rattle.dm_table.specs.declared.table.Target.TheVariants.{Linear, Striped, Zero, Error, Crypt as crypt_target, Verity as verity_target}
-use Rattle.stack_loader.specs.declared.lower.Lower.{Lower}
-use Rattle.stack_loader.specs.Records.{Configuration}
-use Rattle.stack_loader.specs.Rules.{IsLoaded}
-use Rattle.stack_loader.specs.Trees.{tree_of, block_sectors, zero_block}
+use Rattle.stack_rules.specs.declared.lower.Lower.{Lower}
+use Rattle.stack_rules.specs.Records.{Configuration}
+use Rattle.stack_rules.specs.Rules.{IsLoaded}
+use Rattle.stack_rules.specs.Trees.{tree_of, block_sectors, zero_block}
 use Rattle.stack_loader.proofs.lemmas.VerityLineLemmas.{verity-line}
 use Rattle.hash_tree.specs.Shape.{levels}
 use Rattle.xts_sector.proofs.lemmas.UnitLemmas as units
-use Rattle.stack_loader.specs.Units.{unit_sectors}
+use Rattle.stack_rules.specs.Units.{unit_sectors}
 use Rattle.stack_engine.specs.Units.{unit_number, decrypted_unit, unit_part, unit_first}
 use Rattle.stack_engine.specs.Beneath.{beneath, said_or}
 use Rattle.stack_engine.specs.Blocks.{hash_sectors, hash_start, next_digest, checked, checked_span, is_ignored, data_block_at, block_below, block_at}
 use Rattle.stack_engine.specs.Laws.{AreWhole}
 use Rattle.stack_engine.specs.Meaning.{Said, none_said, leaf_said, crypt_said, line_said, said_at, said_by_name}
 use Rattle.stack_engine.specs.Outcomes.{Images, Outcome, mismatch, changed_outcome, joint_outcome, span, then_outcome, part, zero_sector}
-use Rattle.stack_loader.proofs.lemmas.UnitLemmas.{unit_sectors-some}
+use Rattle.stack_rules.proofs.lemmas.UnitLemmas.{unit_sectors-some}
 use Rattle.stack_engine.proofs.VerityLineLemmas.{whole-sectors}
 use Rattle.stack_engine.proofs.lemmas.EachLineLemmas.{IsHandedUpIn, said_at-each_in, said_by_name-each_in}
 use Rattle.stack_engine.proofs.lemmas.SpanLemmas.{span-add}

@@ -10,9 +10,9 @@ use Rattle.xts_sector.specs.Units.{unit}
 use Rattle.xts_sector.proofs.lemmas.UnitLemmas as xts
 use Rattle.stack_engine.specs.Outcomes.{Fault, Outcome, joint_outcome, span, changed_outcome, part}
 use Rattle.dm_table.specs.Crypt.{sector_size}
-use Rattle.stack_loader.specs.Units.{unit_sectors}
+use Rattle.stack_rules.specs.Units.{unit_sectors}
 use Rattle.stack_engine.specs.Units.{unit_number, encrypted_unit, decrypted_unit, encrypted_units, decrypted_units, unit_part, unit_first}
-use Rattle.stack_loader.proofs.lemmas.UnitLemmas.{unit_sectors-some, unit-bytes}
+use Rattle.stack_rules.proofs.lemmas.UnitLemmas.{unit_sectors-some, unit-bytes}
 use Rattle.stack_engine.proofs.lemmas.RunLemmas.{part_left}
 
 -- ---- parts

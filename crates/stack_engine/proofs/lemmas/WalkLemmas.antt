@@ -10,7 +10,7 @@ use Rattle.hash_tree.specs.Digests.{digest}
 use Rattle.hash_tree.specs.Shape.{levels}
 use Rattle.block_device.specs.Device.{Device}
 use Rattle.dm_table.specs.declared.verity.Verity.{Verity}
-use Rattle.stack_loader.specs.Trees.{tree_of, block_sectors, zero_block}
+use Rattle.stack_rules.specs.Trees.{tree_of, block_sectors, zero_block}
 use Rattle.stack_engine.specs.declared.fault.IoFault.{IoFault}
 use Rattle.stack_engine.specs.declared.fault.IoFault.TheVariants as io
 use Rattle.stack_engine.specs.Outcomes.{mismatch, Outcome, Images, then_outcome}

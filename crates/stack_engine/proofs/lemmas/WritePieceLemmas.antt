@@ -2,10 +2,10 @@
 use Rattle.std.proofs.Common.{◌≡◌, ℕ, ◌+◌, ◌*◌, ◌/◌, ◌%◌, ◌≤◌, List, [], ◌++◌, length, Result, Ok, Err, refl, sym, ap, ◌∙◌, subst, append-nil, arith}
 use Rattle.std.proofs.lemmas.List.{length-append}
 use Rattle.std.proofs.Math.Nat.{add-mul, mul-le-mul_right}
-use Rattle.stack_loader.specs.Records.{Configuration}
-use Rattle.stack_loader.specs.Names.{mapped}
-use Rattle.stack_loader.specs.Descend.{write_cost}
-use Rattle.stack_loader.specs.Rules.{IsLoaded}
+use Rattle.stack_rules.specs.Records.{Configuration}
+use Rattle.stack_rules.specs.Names.{mapped}
+use Rattle.stack_rules.specs.Descend.{write_cost}
+use Rattle.stack_rules.specs.Rules.{IsLoaded}
 use Rattle.stack_engine.specs.declared.fault.IoFault.{IoFault}
 use Rattle.stack_engine.specs.declared.fault.IoFault.TheVariants as io
 use Rattle.stack_engine.specs.May.{MayFault}

@@ -5,16 +5,16 @@ use Rattle.dm_table.specs.Grammar.{IsTargetOfGrammar, IsCryptOfGrammar}
 use Rattle.dm_table.specs.declared.crypt.Crypt.{Crypt as CryptRecord}
 use Rattle.dm_table.specs.declared.table.Line.{Line}
 use Rattle.dm_table.specs.declared.table.Target.TheVariants.{Crypt}
-use Rattle.stack_loader.specs.declared.lower.Lower.{Lower}
-use Rattle.stack_loader.specs.Records.{Configuration}
-use Rattle.stack_loader.specs.Names.{mapped, named, size, may_write}
-use Rattle.stack_loader.specs.Descend.{depth, read_cost, write_cost}
-use Rattle.stack_loader.specs.Lines.{IsLine, key_of, key_at}
-use Rattle.stack_loader.specs.Rules.{IsLoaded, cuts_unit, is_beyond, is_off_unit, most_sectors}
-use Rattle.stack_loader.specs.Units.{unit_sectors, unit_write_cost}
-use Rattle.stack_loader.proofs.lemmas.UnitLemmas.{times-some, unit_sectors-some, unit_write-some}
-use Rattle.stack_loader.proofs.lemmas.ValidLineLemmas.{equal}
-use Rattle.stack_loader.proofs.lemmas.RangeLemmas.{is_beyond-crypt}
+use Rattle.stack_rules.specs.declared.lower.Lower.{Lower}
+use Rattle.stack_rules.specs.Records.{Configuration}
+use Rattle.stack_rules.specs.Names.{mapped, named, size, may_write}
+use Rattle.stack_rules.specs.Descend.{depth, read_cost, write_cost}
+use Rattle.stack_rules.specs.Lines.{IsLine, key_of, key_at}
+use Rattle.stack_rules.specs.Rules.{IsLoaded, cuts_unit, is_beyond, is_off_unit, most_sectors}
+use Rattle.stack_rules.specs.Units.{unit_sectors, unit_write_cost}
+use Rattle.stack_rules.proofs.lemmas.UnitLemmas.{times-some, unit_sectors-some, unit_write-some}
+use Rattle.stack_rules.proofs.lemmas.ValidLineLemmas.{equal}
+use Rattle.stack_rules.proofs.lemmas.RangeLemmas.{is_beyond-crypt}
 use Rattle.stack_loader.proofs.lemmas.LoadedLineLemmas.{sound-line, line-grammar, size-most, range-inside, names-known, names-writable, names-shallower, line-read-cost, line-write-cost, name-cost}
 
 -- a line of device d in whole units, and what reading and writing them costs

@@ -9,18 +9,18 @@ use Rattle.std.proofs.lemmas.List.Elements.{recursion_from_All}
 use Rattle.dm_table.specs.Grammar.{IsTableOfGrammar, IsLineOfGrammar}
 use Rattle.dm_table.specs.declared.table.Line.{Line}
 use Rattle.dm_table.specs.declared.table.Target.{Target}
-use Rattle.stack_loader.specs.declared.lower.Lower.{Lower}
-use Rattle.stack_loader.specs.declared.lower.Lower.TheVariants.{Leaf as leaf, Device as device}
-use Rattle.stack_loader.specs.declared.refusal.LoadKind.TheVariants.{NoSuchDevice}
-use Rattle.stack_loader.specs.Records.{Configuration, DeviceRecord, LeafRecord}
-use Rattle.stack_loader.specs.Names.{mapped, named, names, lines_of, sectors_of, size, may_write}
-use Rattle.stack_loader.specs.Descend.{descend, depth, greatest, known, by_name, cost_rule, line_read_cost, line_write_cost, read_cost, write_cost}
-use Rattle.stack_loader.specs.Lines.{IsLine}
-use Rattle.stack_loader.specs.Rules.{IsLoaded, IsValid, refuse, unknown_in, ends_past, names_read_only, most_sectors}
-use Rattle.stack_loader.proofs.lemmas.CostRuleLemmas.{IsLineLocal, line_read_cost-local, line_write_cost-local, cost-rule}
-use Rattle.stack_loader.proofs.lemmas.UnrollLemmas.{falls-at}
-use Rattle.stack_loader.proofs.lemmas.ValidLemmas.{depth-low}
-use Rattle.stack_loader.proofs.lemmas.ValidLineLemmas.{IsSound, sound, size-low, apart, at_place, rules-of, or-false}
+use Rattle.stack_rules.specs.declared.lower.Lower.{Lower}
+use Rattle.stack_rules.specs.declared.lower.Lower.TheVariants.{Leaf as leaf, Device as device}
+use Rattle.stack_rules.specs.declared.refusal.LoadKind.TheVariants.{NoSuchDevice}
+use Rattle.stack_rules.specs.Records.{Configuration, DeviceRecord, LeafRecord}
+use Rattle.stack_rules.specs.Names.{mapped, named, names, lines_of, sectors_of, size, may_write}
+use Rattle.stack_rules.specs.Descend.{descend, depth, greatest, known, by_name, cost_rule, line_read_cost, line_write_cost, read_cost, write_cost}
+use Rattle.stack_rules.specs.Lines.{IsLine}
+use Rattle.stack_rules.specs.Rules.{IsLoaded, IsValid, refuse, unknown_in, ends_past, names_read_only, most_sectors}
+use Rattle.stack_rules.proofs.lemmas.CostRuleLemmas.{IsLineLocal, line_read_cost-local, line_write_cost-local, cost-rule}
+use Rattle.stack_rules.proofs.lemmas.UnrollLemmas.{falls-at}
+use Rattle.stack_rules.proofs.lemmas.ValidLemmas.{depth-low}
+use Rattle.stack_rules.proofs.lemmas.ValidLineLemmas.{IsSound, sound, size-low, apart, at_place, rules-of, or-false}
 
 -- ---- elements
 

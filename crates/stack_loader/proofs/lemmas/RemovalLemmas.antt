@@ -9,19 +9,19 @@ use Rattle.std.proofs.lemmas.List.Elements.{filter_map-append}
 use Rattle.dm_table.specs.declared.table.Line.{Line}
 use Rattle.dm_table.specs.declared.table.Target.{Target}
 use Rattle.dm_table.specs.declared.table.Target.TheVariants.{Linear, Striped, Zero, Error, Crypt, Verity}
-use Rattle.stack_loader.specs.declared.lower.Lower.{Lower}
-use Rattle.stack_loader.specs.declared.lower.Lower.TheVariants.{Leaf as leaf, Device as device}
-use Rattle.stack_loader.specs.Records.{Configuration, DeviceRecord}
-use Rattle.stack_loader.specs.Names.{mapped, named, names, path_of, lowers, lowers_of, lines_of, sectors_of, size, may_write}
-use Rattle.stack_loader.specs.Descend.{greatest, known, by_name, depth, depth_rule, descend, cost_rule, line_read_cost, line_write_cost, read_cost, write_cost}
-use Rattle.stack_loader.specs.Units.{unit_sectors, unit_write_cost}
-use Rattle.stack_loader.specs.Cycles.{is_mapped, names_device}
-use Rattle.stack_loader.specs.Removal.{place_after, lower_after}
+use Rattle.stack_rules.specs.declared.lower.Lower.{Lower}
+use Rattle.stack_rules.specs.declared.lower.Lower.TheVariants.{Leaf as leaf, Device as device}
+use Rattle.stack_rules.specs.Records.{Configuration, DeviceRecord}
+use Rattle.stack_rules.specs.Names.{mapped, named, names, path_of, lowers, lowers_of, lines_of, sectors_of, size, may_write}
+use Rattle.stack_rules.specs.Descend.{greatest, known, by_name, depth, depth_rule, descend, cost_rule, line_read_cost, line_write_cost, read_cost, write_cost}
+use Rattle.stack_rules.specs.Units.{unit_sectors, unit_write_cost}
+use Rattle.stack_rules.specs.Cycles.{is_mapped, names_device}
+use Rattle.stack_rules.specs.Removal.{place_after, lower_after}
 use Rattle.stack_loader.proofs.RemoveLemmas.{slice_get-remove, position-remove}
-use Rattle.stack_loader.proofs.lemmas.CostRuleLemmas.{IsLineLocal, line_read_cost-local, line_write_cost-local, in-append, cons-tail}
+use Rattle.stack_rules.proofs.lemmas.CostRuleLemmas.{IsLineLocal, line_read_cost-local, line_write_cost-local, in-append, cons-tail}
 use Rattle.stack_loader.proofs.lemmas.RenumberLemmas.{AreRelated, descend-renumbered}
-use Rattle.stack_loader.proofs.lemmas.UnrollLemmas.{AllOf, all_and}
-use Rattle.stack_loader.proofs.lemmas.ValidLineLemmas.{or-false}
+use Rattle.stack_rules.proofs.lemmas.UnrollLemmas.{AllOf, all_and}
+use Rattle.stack_rules.proofs.lemmas.ValidLineLemmas.{or-false}
 
 -- the configuration without device d
 abbrev pub without : Configuration → ℕ → Configuration

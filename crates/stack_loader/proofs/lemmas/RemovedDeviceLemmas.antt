@@ -5,10 +5,10 @@ use Rattle.std.specs.Option.{option_map}
 use Rattle.std.specs.Str.{bytes_eq}
 use Rattle.std.proofs.lemmas.List.Quantifiers.{position-Some}
 use Rattle.std.proofs.lemmas.Slice.Eq.{bytes_eq-Decides}
-use Rattle.stack_loader.specs.Records.{Configuration, DeviceRecord}
-use Rattle.stack_loader.specs.Names.{device_named}
-use Rattle.stack_loader.specs.Removal.{is_in_use, removal_fault, after_removal, place_after}
-use Rattle.stack_loader.specs.Rules.{IsLoaded}
+use Rattle.stack_rules.specs.Records.{Configuration, DeviceRecord}
+use Rattle.stack_rules.specs.Names.{device_named}
+use Rattle.stack_rules.specs.Removal.{is_in_use, removal_fault, after_removal, place_after}
+use Rattle.stack_rules.specs.Rules.{IsLoaded}
 use Rattle.stack_loader.proofs.RemovalFactLemmas.{unused-of, fault-none, fault-some, after_removal-without}
 use Rattle.stack_loader.proofs.RemoveLemmas.{slice_get-remove, position-remove}
 use Rattle.stack_loader.proofs.lemmas.RemovalLemmas.{without, IsUnused}
@@ -29,11 +29,11 @@ pub removal-of : (c : Configuration) (name : List ℕ) → IsLoaded c → remova
 removal-of c name loaded none = go (device_named c name) refl
   where
     used : (d : ℕ) → device_named c name ≡ Some d → (b : Bool) → is_in_use c d ≡ b → b ≡ false
-    used d found true is = let clash : None ≡ Some Rattle.stack_loader.specs.declared.refusal.RemoveFault.TheVariants.InUse = sym none ∙ fault-some c name d true found is in cc
+    used d found true is = let clash : None ≡ Some Rattle.stack_rules.specs.declared.refusal.RemoveFault.TheVariants.InUse = sym none ∙ fault-some c name d true found is in cc
     used d found false is = refl
 
     go : (o : Option ℕ) → device_named c name ≡ o → (d : ℕ) × IsRemoval c name d
-    go None is = let clash : None ≡ Some Rattle.stack_loader.specs.declared.refusal.RemoveFault.TheVariants.NoSuchDevice = sym none ∙ fault-none c name is in cc
+    go None is = let clash : None ≡ Some Rattle.stack_rules.specs.declared.refusal.RemoveFault.TheVariants.NoSuchDevice = sym none ∙ fault-none c name is in cc
     go (Some d) found = (
       d,
       record {

@@ -1,11 +1,11 @@
 -- What a definition by descend says in two configurations whose leaves and devices have other numbers.
 use Rattle.std.proofs.Common.{ℕ, zero, suc}
 use Rattle.std.specs.List.{AllByRecursion}
-use Rattle.stack_loader.specs.declared.lower.Lower.{Lower}
-use Rattle.stack_loader.specs.Records.{Configuration}
-use Rattle.stack_loader.specs.Names.{lowers_of}
-use Rattle.stack_loader.specs.Descend.{descend, after_steps, most_devices}
-use Rattle.stack_loader.proofs.lemmas.UnrollLemmas.{AllOf, turn}
+use Rattle.stack_rules.specs.declared.lower.Lower.{Lower}
+use Rattle.stack_rules.specs.Records.{Configuration}
+use Rattle.stack_rules.specs.Names.{lowers_of}
+use Rattle.stack_rules.specs.Descend.{descend, after_steps, most_devices}
+use Rattle.stack_rules.proofs.lemmas.UnrollLemmas.{AllOf, turn}
 
 -- what two rules give is related, where it is for what stands directly beneath
 abbrev pub AreRelated {ℓ} : {A B : Type ℓ} → (A → B → Type ℓ) → Configuration → (Lower → Type 0) → (Lower → Lower) → ((Lower → A) → Lower → A) → ((Lower → B) → Lower → B) → Type ℓ

@@ -8,14 +8,14 @@ use Rattle.dm_table.specs.Grammar.{IsTargetOfGrammar, IsVerityOfGrammar}
 use Rattle.dm_table.specs.declared.table.Line.{Line}
 use Rattle.dm_table.specs.declared.table.Target.TheVariants.{Verity}
 use Rattle.dm_table.specs.declared.verity.Verity.{Verity as VerityRecord}
-use Rattle.stack_loader.specs.declared.lower.Lower.{Lower}
-use Rattle.stack_loader.specs.Records.{Configuration}
-use Rattle.stack_loader.specs.Names.{mapped, named, size, may_write}
-use Rattle.stack_loader.specs.Trees.{tree_of, data_sectors, tree_sectors, block_sectors, path_sectors}
-use Rattle.stack_loader.specs.Descend.{depth, read_cost}
-use Rattle.stack_loader.specs.Lines.{IsLine}
-use Rattle.stack_loader.specs.Rules.{IsLoaded, is_beyond, is_uncovered, is_tree_beyond, needs_read_only}
-use Rattle.stack_loader.proofs.lemmas.RangeLemmas.{is_beyond-verity}
+use Rattle.stack_rules.specs.declared.lower.Lower.{Lower}
+use Rattle.stack_rules.specs.Records.{Configuration}
+use Rattle.stack_rules.specs.Names.{mapped, named, size, may_write}
+use Rattle.stack_rules.specs.Trees.{tree_of, data_sectors, tree_sectors, block_sectors, path_sectors}
+use Rattle.stack_rules.specs.Descend.{depth, read_cost}
+use Rattle.stack_rules.specs.Lines.{IsLine}
+use Rattle.stack_rules.specs.Rules.{IsLoaded, is_beyond, is_uncovered, is_tree_beyond, needs_read_only}
+use Rattle.stack_rules.proofs.lemmas.RangeLemmas.{is_beyond-verity}
 use Rattle.stack_loader.proofs.lemmas.LoadedLineLemmas.{sound-line, line-grammar, size-most, range-inside, names-known, names-shallower, line-read-cost, name-cost}
 
 -- a line of device d, whose data blocks and tree lie on those two

@@ -7,18 +7,18 @@ use Rattle.dm_table.specs.declared.table.Base.{Base}
 use Rattle.dm_table.specs.declared.table.Line.{Line}
 use Rattle.dm_table.specs.declared.table.Target.{Target}
 use Rattle.dm_table.specs.declared.table.Target.TheVariants.{Linear, Striped, Zero, Error, Crypt, Verity}
-use Rattle.stack_loader.specs.declared.lower.Lower.{Lower}
-use Rattle.stack_loader.specs.declared.lower.Lower.TheVariants.{Leaf as leaf, Device as device}
-use Rattle.stack_loader.specs.Records.{Configuration}
-use Rattle.stack_loader.specs.Names.{mapped, named, names, lines_of}
-use Rattle.stack_loader.specs.Units.{unit_sectors, unit_write_cost}
-use Rattle.stack_loader.specs.Descend.{descend, depth, greatest, known, by_name, line_write_cost, read_cost, write_cost}
-use Rattle.stack_loader.specs.Rules.{IsValid, most_depth, most_cost}
-use Rattle.stack_loader.proofs.lemmas.UnitLemmas.{unit_sectors-most}
-use Rattle.stack_loader.proofs.lemmas.CostRuleLemmas.{line_write_cost-local, cost-rule}
+use Rattle.stack_rules.specs.declared.lower.Lower.{Lower}
+use Rattle.stack_rules.specs.declared.lower.Lower.TheVariants.{Leaf as leaf, Device as device}
+use Rattle.stack_rules.specs.Records.{Configuration}
+use Rattle.stack_rules.specs.Names.{mapped, named, names, lines_of}
+use Rattle.stack_rules.specs.Units.{unit_sectors, unit_write_cost}
+use Rattle.stack_rules.specs.Descend.{descend, depth, greatest, known, by_name, line_write_cost, read_cost, write_cost}
+use Rattle.stack_rules.specs.Rules.{IsValid, most_depth, most_cost}
+use Rattle.stack_rules.proofs.lemmas.UnitLemmas.{unit_sectors-most}
+use Rattle.stack_rules.proofs.lemmas.CostRuleLemmas.{line_write_cost-local, cost-rule}
 use Rattle.stack_loader.proofs.lemmas.LoadedLineLemmas.{names-shallower}
-use Rattle.stack_loader.proofs.lemmas.UnrollLemmas.{depth-rule}
-use Rattle.stack_loader.proofs.lemmas.ValidLemmas.{depth-low, cost-low}
+use Rattle.stack_rules.proofs.lemmas.UnrollLemmas.{depth-rule}
+use Rattle.stack_rules.proofs.lemmas.ValidLemmas.{depth-low, cost-low}
 
 -- ---- one line, where no device that it names costs more than b to write
 

@@ -1,6 +1,6 @@
 // Worked cases as data: what each step of a case answers, as text.
 ghost use Rattle.std.specs.Prelude.{◌≡◌, length};
-ghost use Rattle.stack_loader.specs.Names.{names};
+ghost use Rattle.stack_rules.specs.Names.{names};
 
 use super::{leaf, load};
 use dm_table::Target;

@@ -178,6 +178,23 @@ fn writes_a_linear_piece_by_one_call(rt: HostRuntime) -> Result<(), Fail> {
     Ok(())
 }
 
+// A sync is a call that a failing device counts: only leaves that were written are asked, in order up to the first fault.
+#[test]
+fn syncs_the_leaves_that_were_written(rt: HostRuntime) -> Result<(), Fail> {
+    let alloc = rt.alloc();
+    let a = FailAt::new(MemoryDev::zeros(alloc, 8, true)?, 2);
+    let b = FailAt::new(MemoryDev::zeros(alloc, 8, true)?, 2);
+    let mut stack = stack_of(alloc, a, b, b"a,,,rw,0 8 linear A 0;b,,,rw,0 8 linear B 0")?;
+    let bytes = filled(alloc, b"1")?;
+    assert!(rt; stack.sync() == Ok(()));
+    assert!(rt; write_to(&mut stack, b"a", 2, bytes.as_slice()) == Some(Ok(())));
+    assert!(rt; write_to(&mut stack, b"b", 2, bytes.as_slice()) == Some(Ok(())));
+    assert!(rt; stack.sync() == Err(IoFault::Device(1)));
+    assert!(rt; stack.sync() == Err(IoFault::Device(2)));
+    assert!(rt; stack.sync() == Ok(()));
+    Ok(())
+}
+
 /// A striped line of 16 devices, of which the one that has sector `place` has an `error` line there.
 fn broken_stripes(alloc: Global, place: u32) -> Result<String, AllocError> {
     let stripe = place % 16;

@@ -8,14 +8,8 @@ use Rattle.aes_block.proofs.lemmas.PartLemmas.{IsWrittenTo-none}
 use Rattle.aes_block.proofs.lemmas.CipherLemmas.{cipher-inverse_cipher}
 use Rattle.aes_block.proofs.lemmas.CipherBlocksLemmas.{length-inverse_cipher, inverse_cipher_blocks_undone}
 use Rattle.aes_lanes.proofs.VectorLemmas.{length-block, IsBytes-block}
-use Rattle.aes_lanes.proofs.BlocksLemmas.{rounds_between, inverse_cipher-with, part_written, inverse_rest_written}
+use Rattle.aes_lanes.proofs.BlocksLemmas.{rounds_between, HoldKeys-with, inverse_cipher-with, part_written, inverse_rest_written}
 use Rattle.aes_lanes.proofs.blocks.decrypt_blocks.Goals as goal
-
-pub key_planes-keys-requires : goal.key_planes-keys-requires
-key_planes-keys-requires c =
-    let len = c.schedule-schedule.ensures.len in
-    let between = rounds_between c.args.key.now c.schedule-schedule.ensures.key.0 in
-    record { few = omega (arith, len, between); long = omega (arith, len) }
 
 pub decrypt_sixteen-requires : goal.decrypt_sixteen-requires
 decrypt_sixteen-requires c =
@@ -42,7 +36,7 @@ loop-i-preserved c =
     let n : ℕ = length w / 16 - 1 in
     let count : n ≡ rounds key = omega (arith, c.schedule-schedule.ensures.len) in
     let next : 16 * c.loop-i.i + 16 ≡ 16 * (c.loop-i.i + 1) = omega arith in
-    let made = c.decrypt_sixteen.ensures w c.key_planes-keys.ensures in
+    let made = c.decrypt_sixteen.ensures w (HoldKeys-with key w c.args.keys.now n c.schedule-schedule.ensures.value count c.requires.keys) in
     let same = joined-same (λ j. inverse_cipher_with n w (block part j)) (λ j. inverse_cipher key (block part j)) 16 (λ j h. inverse_cipher-with key w (block part j) n c.schedule-schedule.ensures.value count) in
     record {
       bytes = c.loop-i.invariant.bytes;
@@ -52,12 +46,12 @@ loop-i-preserved c =
 
 pub returns-clause-value : goal.returns-clause-value
 returns-clause-value c =
-    inverse_rest_written c.args.key.now c.args.blocks.now c.loop-i.blocks c.decrypt_blocks.new.bytes c.loop-i.i (omega arith) c.requires c.loop-i.auto.blocks c.decrypt_blocks.ensures.value c.loop-i.invariant.written
+    inverse_rest_written c.args.key.now c.args.blocks.now c.loop-i.blocks c.decrypt_blocks.new.bytes c.loop-i.i (omega arith) c.requires.whole c.loop-i.auto.blocks c.decrypt_blocks.ensures.value c.loop-i.invariant.written
 
 pub returns-clause-inverse : goal.returns-clause-inverse
 returns-clause-inverse c =
     let key = c.args.key.now in
     let old = c.args.blocks.now in
-    ap (cipher_blocks key) (inverse_rest_written key old c.loop-i.blocks c.decrypt_blocks.new.bytes c.loop-i.i (omega arith) c.requires c.loop-i.auto.blocks c.decrypt_blocks.ensures.value c.loop-i.invariant.written)
-    ∙ inverse_cipher_blocks_undone key old c.requires (λ j h.
+    ap (cipher_blocks key) (inverse_rest_written key old c.loop-i.blocks c.decrypt_blocks.new.bytes c.loop-i.i (omega arith) c.requires.whole c.loop-i.auto.blocks c.decrypt_blocks.ensures.value c.loop-i.invariant.written)
+    ∙ inverse_cipher_blocks_undone key old c.requires.whole (λ j h.
     cipher-inverse_cipher key (block old j) c.schedule-schedule.ensures.key.1 (record { len = length-block old j (omega arith); bytes = IsBytes-block old j c.loop-i.invariant.bytes }))

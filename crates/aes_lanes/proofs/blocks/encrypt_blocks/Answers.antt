@@ -8,14 +8,8 @@ use Rattle.aes_block.proofs.lemmas.PartLemmas.{IsWrittenTo-none}
 use Rattle.aes_block.proofs.lemmas.CipherLemmas.{inverse_cipher-cipher}
 use Rattle.aes_block.proofs.lemmas.CipherBlocksLemmas.{length-cipher, cipher_blocks_undone}
 use Rattle.aes_lanes.proofs.VectorLemmas.{length-block, IsBytes-block}
-use Rattle.aes_lanes.proofs.BlocksLemmas.{rounds_between, cipher-with, part_written, rest_written}
+use Rattle.aes_lanes.proofs.BlocksLemmas.{rounds_between, HoldKeys-with, cipher-with, part_written, rest_written}
 use Rattle.aes_lanes.proofs.blocks.encrypt_blocks.Goals as goal
-
-pub key_planes-keys-requires : goal.key_planes-keys-requires
-key_planes-keys-requires c =
-    let len = c.schedule-schedule.ensures.len in
-    let between = rounds_between c.args.key.now c.schedule-schedule.ensures.key.0 in
-    record { few = omega (arith, len, between); long = omega (arith, len) }
 
 pub encrypt_sixteen-requires : goal.encrypt_sixteen-requires
 encrypt_sixteen-requires c =
@@ -42,7 +36,7 @@ loop-i-preserved c =
     let n : ℕ = length w / 16 - 1 in
     let count : n ≡ rounds key = omega (arith, c.schedule-schedule.ensures.len) in
     let next : 16 * c.loop-i.i + 16 ≡ 16 * (c.loop-i.i + 1) = omega arith in
-    let made = c.encrypt_sixteen.ensures w c.key_planes-keys.ensures in
+    let made = c.encrypt_sixteen.ensures w (HoldKeys-with key w c.args.keys.now n c.schedule-schedule.ensures.value count c.requires.keys) in
     let same = joined-same (λ j. cipher_with n w (block part j)) (λ j. cipher key (block part j)) 16 (λ j h. cipher-with key w (block part j) n c.schedule-schedule.ensures.value count) in
     record {
       bytes = c.loop-i.invariant.bytes;
@@ -52,12 +46,12 @@ loop-i-preserved c =
 
 pub returns-clause-value : goal.returns-clause-value
 returns-clause-value c =
-    rest_written c.args.key.now c.args.blocks.now c.loop-i.blocks c.encrypt_blocks.new.bytes c.loop-i.i (omega arith) c.requires c.loop-i.auto.blocks c.encrypt_blocks.ensures.value c.loop-i.invariant.written
+    rest_written c.args.key.now c.args.blocks.now c.loop-i.blocks c.encrypt_blocks.new.bytes c.loop-i.i (omega arith) c.requires.whole c.loop-i.auto.blocks c.encrypt_blocks.ensures.value c.loop-i.invariant.written
 
 pub returns-clause-inverse : goal.returns-clause-inverse
 returns-clause-inverse c =
     let key = c.args.key.now in
     let old = c.args.blocks.now in
-    ap (inverse_cipher_blocks key) (rest_written key old c.loop-i.blocks c.encrypt_blocks.new.bytes c.loop-i.i (omega arith) c.requires c.loop-i.auto.blocks c.encrypt_blocks.ensures.value c.loop-i.invariant.written)
-    ∙ cipher_blocks_undone key old c.requires (λ j h.
+    ap (inverse_cipher_blocks key) (rest_written key old c.loop-i.blocks c.encrypt_blocks.new.bytes c.loop-i.i (omega arith) c.requires.whole c.loop-i.auto.blocks c.encrypt_blocks.ensures.value c.loop-i.invariant.written)
+    ∙ cipher_blocks_undone key old c.requires.whole (λ j h.
     inverse_cipher-cipher key (block old j) c.schedule-schedule.ensures.key.1 (record { len = length-block old j (omega arith); bytes = IsBytes-block old j c.loop-i.invariant.bytes }))

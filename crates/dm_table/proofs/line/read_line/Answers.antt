@@ -3,7 +3,8 @@ use Rattle.dm_table.specs.declared.fault.TextKind.TheVariants as kinds
 use Rattle.dm_table.specs.Reading.{◌>>=◌}
 use Rattle.dm_table.specs.Lines.{line_of}
 use Rattle.dm_table.proofs.ReadLemmas.{exit_kind, exit_part}
-use Rattle.dm_table.proofs.LineLemmas.{line-start, line-length, line-target}
+use Rattle.dm_table.proofs.LineLemmas.{line-start, line-length}
+use Rattle.dm_table.proofs.lemmas.ReadLineLemmas.{line-target}
 use Rattle.dm_table.proofs.line.read_line.Goals as goal
 
 pub returns-in_err-first : goal.returns-in_err-first

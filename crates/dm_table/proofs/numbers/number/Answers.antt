@@ -5,7 +5,8 @@ use Rattle.std.specs.List.{list_all}
 use Rattle.std.specs.Str.Parse.{digits_value, digits_value_after}
 use Rattle.std.proofs.lemmas.List.{at_drop_all}
 use Rattle.std.proofs.lemmas.List.Folds.{list_all_at}
-use Rattle.dm_table.proofs.NumberLemmas.{number-empty, number-large, number-no_digits, number-some, digits_value-large, digit_value-digit}
+use Rattle.dm_table.proofs.NumberLemmas.{number-empty, number-large, number-no_digits, digits_value-large, digit_value-digit}
+use Rattle.dm_table.proofs.lemmas.ReadLineLemmas.{number-some}
 use Rattle.dm_table.proofs.numbers.number.Goals as goal
 
 pub returns-then-is_empty : goal.returns-then-is_empty

@@ -1,6 +1,7 @@
 use Rattle.std.proofs.Common.{◌∷◌, ◌++◌, [], map, ap, sym, ◌∙◌, append_assoc, append-nil}
 use Rattle.dm_table.specs.Options.{known_at, are_options}
-use Rattle.dm_table.proofs.OptionLemmas.{options-fault, options-push, known_at-ok}
+use Rattle.dm_table.proofs.OptionLemmas.{options-fault, options-push}
+use Rattle.dm_table.proofs.lemmas.ReadLineLemmas.{known_at-ok}
 use Rattle.dm_table.proofs.option_words.read_known.Goals as goal
 
 pub returns-then-not-is_new : goal.returns-then-not-is_new

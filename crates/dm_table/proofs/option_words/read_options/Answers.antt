@@ -3,7 +3,8 @@ use Rattle.std.proofs.lemmas.Bool.{false≢true}
 use Rattle.dm_table.specs.Reading.{◌>>=◌}
 use Rattle.dm_table.specs.Options.{options_at, counted_at}
 use Rattle.dm_table.proofs.ReadLemmas.{exit_kind}
-use Rattle.dm_table.proofs.OptionLemmas.{options-count, options-known}
+use Rattle.dm_table.proofs.OptionLemmas.{options-count}
+use Rattle.dm_table.proofs.lemmas.ReadLineLemmas.{options-known}
 use Rattle.dm_table.proofs.option_words.read_options.Goals as goal
 
 pub returns-in_default : goal.returns-in_default

@@ -6,7 +6,8 @@ use Rattle.dm_table.specs.Lines.{line_of}
 use Rattle.dm_table.specs.TableText.{table_lines, some_lines}
 use Rattle.dm_table.proofs.ReadLemmas.{after, after-nil, after_end, exit_text}
 use Rattle.dm_table.proofs.GrammarLemmas.{table-grammar}
-use Rattle.dm_table.proofs.StackLemmas.{table-not_text, table-lines, table_lines-full, length-pieces, some_lines-some, some_lines-none}
+use Rattle.dm_table.proofs.StackLemmas.{table-not_text, length-pieces, some_lines-none}
+use Rattle.dm_table.proofs.lemmas.ReadLineLemmas.{table-lines, table_lines-full, some_lines-some}
 use Rattle.dm_table.proofs.table_text.parse_table.Goals as goal
 
 pub returns-then-not-is_text : goal.returns-then-not-is_text

@@ -3,7 +3,8 @@ use Rattle.dm_table.specs.declared.table.Target.TheVariants.{Striped}
 use Rattle.dm_table.specs.Reading.{◌>>=◌}
 use Rattle.dm_table.specs.Lines.{striped_at}
 use Rattle.dm_table.proofs.ReadLemmas.{exit_kind, exit_part}
-use Rattle.dm_table.proofs.LineLemmas.{striped-stripes, striped-chunk, striped-count, striped-bases}
+use Rattle.dm_table.proofs.LineLemmas.{striped-stripes, striped-chunk, striped-count}
+use Rattle.dm_table.proofs.lemmas.ReadLineLemmas.{striped-bases}
 use Rattle.std.proofs.lemmas.Bool.{false≢true}
 use Rattle.dm_table.proofs.target.read_striped.Goals as goal
 

@@ -4,7 +4,8 @@ use Rattle.dm_table.specs.declared.table.Target.TheVariants.{Crypt, Verity}
 use Rattle.dm_table.specs.Reading.{◌>>=◌}
 use Rattle.dm_table.specs.Lines.{crypt_target_at, verity_target_at}
 use Rattle.dm_table.proofs.ReadLemmas.{exit_part}
-use Rattle.dm_table.proofs.LineLemmas.{target-linear, target-striped, target-zero, target-error, target-crypt, target-verity, target-other}
+use Rattle.dm_table.proofs.lemmas.ReadLineLemmas.{target-linear, target-striped, target-zero, target-error, target-crypt, target-verity}
+use Rattle.dm_table.proofs.LineLemmas.{target-other}
 use Rattle.dm_table.proofs.target.read_target.Goals as goal
 
 pub returns-then-eq : goal.returns-then-eq

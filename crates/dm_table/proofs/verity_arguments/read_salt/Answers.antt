@@ -1,6 +1,7 @@
 use Rattle.std.proofs.Common.{◌≡◌, true, false, [], codes, ap, sym, ◌∙◌, arith}
 use Rattle.std.specs.Str.{bytes_eq}
-use Rattle.dm_table.proofs.VerityLemmas.{salt_at-none, salt_at-size, salt_at-digits, salt-made}
+use Rattle.dm_table.proofs.lemmas.ReadLineLemmas.{salt_at-none, salt_at-digits}
+use Rattle.dm_table.proofs.VerityLemmas.{salt_at-size, salt-made}
 use Rattle.dm_table.proofs.verity_arguments.read_salt.Goals as goal
 
 pub returns-then-eq : goal.returns-then-eq

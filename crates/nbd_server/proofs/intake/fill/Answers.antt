@@ -1,6 +1,5 @@
-use Rattle.std.proofs.Common.{◌≡◌, ◌-◌, ◌<◌, arith, length, length-drop, drop, subst, sym}
+use Rattle.std.proofs.Common.{◌≡◌, ◌-◌, arith, length, length-drop, drop}
 use Rattle.std.proofs.lemmas.List.{length-take-le}
-use borrow.Rule.Slice.PartMut.{put_mid}
 use Rattle.nbd_server.proofs.IntakeLemmas.{filled-more, filled-kept, length-filled}
 use Rattle.nbd_server.proofs.intake.fill.Goals as goal
 use Rattle.nbd_server.proofs.intake.fill.Goals.{in-Ok+else-done-buffer, in-Err+else-ne}

@@ -2,7 +2,7 @@ use Rattle.std.proofs.Common.{◌≡◌, Ok, ◌-◌, arith, length, length-appe
 use Rattle.std.proofs.lemmas.List.{length-take-le}
 use Rattle.std.proofs.lemmas.Result.{err_from_is_err_and}
 use Rattle.nbd_server.specs.Streaming.{Fills}
-use Rattle.nbd_server.proofs.IntakeLemmas.{skipped-none, skipped-more, skipped-all, skipped-part}
+use Rattle.nbd_server.proofs.IntakeLemmas.{skipped-more, skipped-part}
 use Rattle.nbd_server.proofs.intake.skip.Goals as goal
 
 pub returns-in_err-fill-clause-err : goal.returns-in_err-fill-clause-err

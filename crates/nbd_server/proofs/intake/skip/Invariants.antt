@@ -1,4 +1,4 @@
-use Rattle.std.proofs.Common.{◌≡◌, ◌+◌, length}
+use Rattle.std.proofs.Common.{◌≡◌, length}
 use Rattle.nbd_server.proofs.IntakeLemmas.{Skipped}
 use Rattle.nbd_server.proofs.intake.skip.Given as goal
 

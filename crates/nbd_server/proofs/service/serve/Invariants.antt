@@ -1,4 +1,3 @@
-use Rattle.std.proofs.Common.{◌≡◌, ◌≢◌}
 use Rattle.stack_session.specs.Session.{streams}
 use Rattle.nbd_server.specs.Exports.{IsExport, export_record}
 use Rattle.nbd_server.proofs.ServiceLemmas.{Held}

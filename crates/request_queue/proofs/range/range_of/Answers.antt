@@ -1,5 +1,5 @@
 use Rattle.std.proofs.Common.{◌≡◌, ◌⊎◌, ◌<◌, ◌+◌, arith, inl, inr, sym}
-use Rattle.stack_loader.specs.Names.{mapped, device_named, size}
+use Rattle.stack_rules.specs.Names.{mapped, device_named, size}
 use Rattle.request_queue.proofs.RangeLemmas.{named-none, named-some, range_of-none, range_of-past, range_of-length, range_of-ok}
 use Rattle.request_queue.proofs.range.range_of.Goals as goal
 use Rattle.request_queue.proofs.range.range_of.Goals.{then-count-sectors-via-then-count-sectors, then-count-sectors-via-else-count-sectors+then-first-sectors, then-count-eq0-via-then-count-eq0, then-count-eq0-via-else-count-eq0+then-count-gt-MOST_COUNT}

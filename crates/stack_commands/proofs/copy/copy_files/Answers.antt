@@ -1,6 +1,6 @@
 use Rattle.std.proofs.Common.{map, inl, inr}
 use Rattle.std.proofs.lemmas.Result.{IfErr-weaker, on_ok_weaker}
-use Rattle.stack_commands.specs.Bindings.{binding_record}
+use Rattle.command_line.specs.Bindings.{binding_record}
 use Rattle.stack_commands.specs.Recoveries.{device_words}
 use Rattle.stack_commands.proofs.OpeningLemmas.{err-from}
 use Rattle.stack_commands.proofs.RecoveryLemmas.{IsHad, all-printed, counts-end, counts-told, copy-ends, runs-printed}

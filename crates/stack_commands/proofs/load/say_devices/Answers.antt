@@ -1,5 +1,5 @@
 use Rattle.std.proofs.Common.{arith}
-use Rattle.stack_loader.proofs.lemmas.ValidLineLemmas.{few}
+use Rattle.stack_rules.proofs.lemmas.ValidLineLemmas.{few}
 use Rattle.stack_commands.proofs.load.say_devices.Goals as goal
 
 pub overflow_cast-d : goal.overflow_cast-d

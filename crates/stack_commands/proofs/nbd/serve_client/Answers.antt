@@ -2,12 +2,12 @@ use Rattle.std.proofs.Common.{ℕ, List, map, ap, ◌∙◌, subst, inl, inr, re
 use Rattle.std.specs.Borrow.{Bor}
 use Rattle.block_device.specs.contracts.any.AnyDevBlockDev.TheImpl.{ghosts}
 use Rattle.command_faults.specs.declared.fault.CommandFault.TheVariants.{Io, Service}
-use Rattle.stack_loader.specs.Records.{Configuration}
+use Rattle.stack_rules.specs.Records.{Configuration}
 use Rattle.stack_engine.specs.Stacks.{StackRecord}
 use Rattle.request_queue.specs.World.{World}
 use Rattle.stack_session.specs.Session.{streams}
 use Rattle.nbd_server.specs.Exports.{IsExport, export_record}
-use Rattle.stack_commands.specs.Bindings.{binding_record}
+use Rattle.command_line.specs.Bindings.{binding_record}
 use Rattle.stack_commands.specs.StackCommands.{ServesClient}
 use Rattle.stack_commands.proofs.OpeningLemmas.{err-from}
 use Rattle.stack_commands.proofs.ServeLemmas.{ServesClient-new}
@@ -34,7 +34,7 @@ returns-in_err-outcome-clause-err g c =
     let e = export_record c.in-Some.export in
     let made = c.in_ok-queue.ensures.ok in
     let at = c.config.ensures.value ∙ ap (λ (v : StackRecord). v.config) c.stack.ensures ∙ ap (λ (w : World). w.stack.config) made.2 in
-    let named = ap (λ (b : Bor (List ℕ)). b.now) c.in-Some.ensures.1 ∙ c.as_bytes.ensures.value in
+    let named = ap (λ (b : Bor (List ℕ)). b.now) c.in-Some.ensures.some.1 ∙ c.as_bytes.ensures.value in
     let old = streams (g.S.Read.remaining c.args.reader.now.inner) (g.W.Write.contents c.args.writer.now.inner) in
     let new = streams (g.S.Read.remaining c.serve-outcome.new.reader.inner) (g.W.Write.contents c.serve-outcome.new.writer.inner) in
     err-from c.from_residual-in_err-outcome.result _ (Service c.in_err-outcome.field-0.0) c.from_residual-in_err-outcome.ensures.1
@@ -43,7 +43,7 @@ returns-in_err-outcome-clause-err g c =
       refl,
       (subst (λ (n : List ℕ). ServesClient bindings n old new (Err c.in_err-outcome.field-0.0)) named
           (ServesClient-new bindings over.leaves.items c.as_slice.result.now (map ghosts.state over.devices.items) made.0 e c.in_ok-queue.queue c.serve-outcome.new.queue old new (Err c.in_err-outcome.field-0.0)
-          c.in_ok-over.ensures.bound (rw c.as_slice.ensures.value c.in_ok-text.ensures.ok) made.1 made.2 (subst (λ (x : Configuration). IsExport x e) at c.in-Some.ensures.0) c.in_err-outcome.ensures)),
+          c.in_ok-over.ensures.bound (rw c.as_slice.ensures.value c.in_ok-text.ensures.ok) made.1 made.2 (subst (λ (x : Configuration). IsExport x e) at c.in-Some.ensures.some.0) c.in_err-outcome.ensures)),
     )))
 
 pub returns-in_err-synced-clause-err : goal.returns-in_err-synced-clause-err
@@ -53,15 +53,15 @@ returns-in_err-synced-clause-err g c =
     let e = export_record c.in-Some.export in
     let made = c.in_ok-queue.ensures.ok in
     let at = c.config.ensures.value ∙ ap (λ (v : StackRecord). v.config) c.stack.ensures ∙ ap (λ (w : World). w.stack.config) made.2 in
-    let named = ap (λ (b : Bor (List ℕ)). b.now) c.in-Some.ensures.1 ∙ c.as_bytes.ensures.value in
+    let named = ap (λ (b : Bor (List ℕ)). b.now) c.in-Some.ensures.some.1 ∙ c.as_bytes.ensures.value in
     let old = streams (g.S.Read.remaining c.args.reader.now.inner) (g.W.Write.contents c.args.writer.now.inner) in
     let new = streams (g.S.Read.remaining c.serve-outcome.new.reader.inner) (g.W.Write.contents c.serve-outcome.new.writer.inner) in
     err-from c.from_residual-in_err-synced.result _ (Io c.in_err-synced.field-0.0) c.from_residual-in_err-synced.ensures.1
     (inr (inr (
       (subst (λ (n : List ℕ). ServesClient bindings n old new (Ok tt)) named
           (ServesClient-new bindings over.leaves.items c.as_slice.result.now (map ghosts.state over.devices.items) made.0 e c.in_ok-queue.queue c.serve-outcome.new.queue old new (Ok tt)
-          c.in_ok-over.ensures.bound (rw c.as_slice.ensures.value c.in_ok-text.ensures.ok) made.1 made.2 (subst (λ (x : Configuration). IsExport x e) at c.in-Some.ensures.0) c.in_ok-outcome.ensures)),
-      (_, c.in_err-synced.ensures.0, c.in_err-synced.ensures.1),
+          c.in_ok-over.ensures.bound (rw c.as_slice.ensures.value c.in_ok-text.ensures.ok) made.1 made.2 (subst (λ (x : Configuration). IsExport x e) at c.in-Some.ensures.some.0) c.in_ok-outcome.ensures)),
+      (_, c.in_err-synced.ensures.after, c.in_err-synced.ensures.fails),
     )))
 
 pub returns-clause-ok : goal.returns-clause-ok
@@ -71,9 +71,9 @@ returns-clause-ok g c =
     let e = export_record c.in-Some.export in
     let made = c.in_ok-queue.ensures.ok in
     let at = c.config.ensures.value ∙ ap (λ (v : StackRecord). v.config) c.stack.ensures ∙ ap (λ (w : World). w.stack.config) made.2 in
-    let named = ap (λ (b : Bor (List ℕ)). b.now) c.in-Some.ensures.1 ∙ c.as_bytes.ensures.value in
+    let named = ap (λ (b : Bor (List ℕ)). b.now) c.in-Some.ensures.some.1 ∙ c.as_bytes.ensures.value in
     let old = streams (g.S.Read.remaining c.args.reader.now.inner) (g.W.Write.contents c.args.writer.now.inner) in
     let new = streams (g.S.Read.remaining c.serve-outcome.new.reader.inner) (g.W.Write.contents c.serve-outcome.new.writer.inner) in
     (subst (λ (n : List ℕ). ServesClient bindings n old new (Ok tt)) named
     (ServesClient-new bindings over.leaves.items c.as_slice.result.now (map ghosts.state over.devices.items) made.0 e c.in_ok-queue.queue c.serve-outcome.new.queue old new (Ok tt)
-    c.in_ok-over.ensures.bound (rw c.as_slice.ensures.value c.in_ok-text.ensures.ok) made.1 made.2 (subst (λ (x : Configuration). IsExport x e) at c.in-Some.ensures.0) c.in_ok-outcome.ensures))
+    c.in_ok-over.ensures.bound (rw c.as_slice.ensures.value c.in_ok-text.ensures.ok) made.1 made.2 (subst (λ (x : Configuration). IsExport x e) at c.in-Some.ensures.some.0) c.in_ok-outcome.ensures))

@@ -2,7 +2,7 @@ use Rattle.std.proofs.Common.{map, rules, ap, ◌∙◌}
 use Rattle.block_device.specs.contracts.any.AnyDevBlockDev.TheImpl.{ghosts}
 use Rattle.stack_engine.specs.Pieces.{stack_over}
 use Rattle.command_faults.specs.declared.fault.CommandFault.TheVariants.{Io, Session}
-use Rattle.stack_commands.specs.Bindings.{binding_record}
+use Rattle.command_line.specs.Bindings.{binding_record}
 use Rattle.stack_commands.specs.Requests.{new_world}
 use Rattle.stack_commands.proofs.OpeningLemmas.{err-from}
 use Rattle.stack_commands.proofs.ServeLemmas.{IsServeEnd-unopened, Serves-new}
@@ -23,7 +23,7 @@ returns-in_err-synced-clause-err g c =
       Serves-new (map binding_record c.args.bindings.now) c.in_ok-leaves.field-0.leaves.items (map ghosts.state c.in_ok-leaves.field-0.devices.items) _ _ _ _ _
           c.in_ok-leaves.ensures.bound
           (c.new-queue.ensures.value ∙ ap new_world (c.in-Ok.ensures.ok ∙ ap (λ config. stack_over config (map ghosts.state c.in_ok-leaves.field-0.devices.items)) c.in_ok-config.ensures.ok)) c.in_ok-outcome.ensures.session,
-      (_, c.in_err-synced.ensures.0, c.in_err-synced.ensures.1),
+      (_, c.in_err-synced.ensures.after, c.in_err-synced.ensures.fails),
     )
 
 pub returns-clause-ok : goal.returns-clause-ok

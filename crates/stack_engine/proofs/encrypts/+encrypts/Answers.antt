@@ -1,6 +1,6 @@
 use Rattle.std.proofs.Common.{◌≡◌, ◌↔◌, ◌≤◌, ◌+◌, IsTrue, true, refl, sym, subst, arith}
-use Rattle.stack_loader.specs.declared.lower.Lower.{Lower}
-use Rattle.stack_loader.specs.Names.{mapped}
+use Rattle.stack_rules.specs.declared.lower.Lower.{Lower}
+use Rattle.stack_rules.specs.Names.{mapped}
 use Rattle.stack_engine.specs.declared.source.Source.{Source}
 use Rattle.stack_engine.specs.Meaning.{said_at}
 use Rattle.stack_engine.specs.Sources.{source_said, SourceHolds}

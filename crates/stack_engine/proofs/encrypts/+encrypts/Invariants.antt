@@ -1,6 +1,6 @@
 use Rattle.std.proofs.Common.{◌+◌, ◌*◌, ◌-◌, ◌≤◌}
-use Rattle.stack_loader.specs.Names.{mapped}
-use Rattle.stack_loader.specs.Descend.{depth}
+use Rattle.stack_rules.specs.Names.{mapped}
+use Rattle.stack_rules.specs.Descend.{depth}
 use Rattle.stack_engine.specs.Meaning.{said_at}
 use Rattle.stack_engine.specs.Sources.{source_depth}
 use Rattle.stack_engine.specs.Writing.{SomeEncrypt}

@@ -3,8 +3,8 @@ use Rattle.std.specs.List.{list_any}
 use Rattle.std.proofs.lemmas.List.{take_all}
 use Rattle.std.proofs.lemmas.Option.{slice_get_read}
 use Rattle.dm_table.specs.declared.table.Line.{Line}
-use Rattle.stack_loader.specs.Lines.{IsLine, names_at}
-use Rattle.stack_loader.specs.Names.{names, lines_of}
+use Rattle.stack_rules.specs.Lines.{IsLine, names_at}
+use Rattle.stack_rules.specs.Names.{names, lines_of}
 use Rattle.stack_engine.specs.Standing.{contains, name_stands_on}
 use Rattle.stack_engine.proofs.StandingLemmas.{lines-more, lines-few, stands-device}
 use Rattle.stack_engine.proofs.leaf_sets.device_leaves.Goals as goal

@@ -1,6 +1,6 @@
 use Rattle.std.proofs.Common.{◌≡◌, ℕ, take}
 use Rattle.std.specs.List.{list_any}
-use Rattle.stack_loader.specs.Names.{names, lines_of}
+use Rattle.stack_rules.specs.Names.{names, lines_of}
 use Rattle.stack_engine.specs.Standing.{contains, name_stands_on}
 use Rattle.stack_engine.proofs.leaf_sets.device_leaves.Given as goal
 

@@ -1,7 +1,7 @@
 use Rattle.std.proofs.Common.{◌≡◌, ℕ, ◌+◌, ◌<◌, ◌≤◌, Bool, true, false, ◌&&◌, ◌||◌, ◌==◌, List, length, map, get_or, set, take, Some, refl, sym, ap, ◌∙◌, subst, arith, inl, inr}
 use Rattle.std.specs.List.{list_any}
 use Rattle.std.proofs.lemmas.List.{take_all}
-use Rattle.stack_loader.specs.Lines.{names_at}
+use Rattle.stack_rules.specs.Lines.{names_at}
 use Rattle.stack_engine.specs.Standing.{contains, name_stands_on}
 use Rattle.stack_engine.proofs.StandingLemmas.{knows-lower, names-more, lower-inside}
 use Rattle.stack_engine.proofs.leaf_sets.line_leaves.Goals as goal

@@ -1,6 +1,6 @@
 use Rattle.std.proofs.Common.{◌≡◌, ℕ, take}
 use Rattle.std.specs.List.{list_any}
-use Rattle.stack_loader.specs.Lines.{names_at}
+use Rattle.stack_rules.specs.Lines.{names_at}
 use Rattle.stack_engine.specs.Standing.{contains, name_stands_on}
 use Rattle.stack_engine.proofs.leaf_sets.line_leaves.Given as goal
 

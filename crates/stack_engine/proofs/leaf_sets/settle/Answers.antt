@@ -1,8 +1,8 @@
 use Rattle.std.proofs.Common.{◌≡◌, ℕ, ◌+◌, ◌<◌, ◌≤◌, Bool, true, false, ◌&&◌, ◌||◌, ◌==◌, List, length, map, get_or, set, take, Some, refl, sym, ap, ◌∙◌, subst, arith, inl, inr}
 use Rattle.std.proofs.lemmas.List.{length-set}
-use Rattle.stack_loader.specs.Descend.{depth}
-use Rattle.stack_loader.specs.Names.{mapped}
-use Rattle.stack_loader.proofs.lemmas.ValidLineLemmas.{few}
+use Rattle.stack_rules.specs.Descend.{depth}
+use Rattle.stack_rules.specs.Names.{mapped}
+use Rattle.stack_rules.proofs.lemmas.ValidLineLemmas.{few}
 use Rattle.stack_engine.specs.declared.leaf_set.LeafSet.{LeafSet}
 use Rattle.stack_engine.specs.Standing.{AreSetsBelow}
 use Rattle.stack_engine.proofs.StandingLemmas.{AreSettled, settled-none, settled-below, settled-past, settled-more, settled-all}

@@ -10,13 +10,13 @@ use borrow.Rule.Slice.PartMut.{put_mid}
 use Rattle.hash_tree.specs.Digests.{digest, digest_in}
 use Rattle.hash_tree.specs.Shape.{ShapeRecord, slot, ancestor}
 use Rattle.block_device.specs.Device.{Device}
-use Rattle.stack_loader.specs.Records.{Configuration}
-use Rattle.stack_loader.specs.Names.{mapped, named}
-use Rattle.stack_loader.specs.Descend.{depth}
-use Rattle.stack_loader.specs.Trees.{block_sectors}
-use Rattle.stack_loader.specs.declared.lower.DevId.{DevId}
-use Rattle.stack_loader.specs.declared.lower.Lower.TheVariants.{Leaf}
-use Rattle.stack_loader.specs.declared.lower.Lower.{Lower}
+use Rattle.stack_rules.specs.Records.{Configuration}
+use Rattle.stack_rules.specs.Names.{mapped, named}
+use Rattle.stack_rules.specs.Descend.{depth}
+use Rattle.stack_rules.specs.Trees.{block_sectors}
+use Rattle.stack_rules.specs.declared.lower.DevId.{DevId}
+use Rattle.stack_rules.specs.declared.lower.Lower.TheVariants.{Leaf}
+use Rattle.stack_rules.specs.declared.lower.Lower.{Lower}
 use Rattle.stack_engine.specs.declared.fault.IoFault.TheVariants.{ErrorTarget}
 use Rattle.stack_engine.specs.declared.source.Source.{Source}
 use Rattle.stack_engine.specs.declared.source.Source.TheVariants.{Units, UnitPart, Block}
@@ -45,7 +45,7 @@ use Rattle.stack_engine.proofs.lemmas.BlockLemmas.{length-content}
 use Rattle.stack_engine.proofs.lemmas.WalkLemmas.{checked_ok, data_zeros, data_full, data_read, walk_down, walk_stops, walk_ends, walk_fails, walk_full}
 use Rattle.stack_engine.proofs.read.+read.Goals.{read_block-in-Err-push, read_block-in-Ok-push}
 use Rattle.stack_engine.proofs.LeafLemmas.{all-whole}
-use Rattle.stack_loader.specs.Units.{unit_sectors}
+use Rattle.stack_rules.specs.Units.{unit_sectors}
 use Rattle.stack_engine.specs.Units.{decrypted_units}
 use Rattle.stack_engine.specs.Meaning.{said_at}
 use Rattle.stack_engine.proofs.lemmas.PlainLemmas.{plain-none}

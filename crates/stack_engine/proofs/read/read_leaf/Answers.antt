@@ -1,8 +1,8 @@
 use Rattle.std.proofs.Common.{◌≡◌, ◌≤◌, ◌+◌, ◌*◌, ◌/◌, ◌-◌, length, map, get_or, set, false, ℕ, List, Ok, sym, ap, ◌∙◌, subst, arith, inl, inr}
 use Rattle.block_device.specs.Device.{Device, IsRead, HasFailed}
-use Rattle.stack_loader.specs.declared.lower.Lower.TheVariants.{Leaf}
-use Rattle.stack_loader.specs.Records.{Configuration}
-use Rattle.stack_loader.specs.Descend.{read_cost}
+use Rattle.stack_rules.specs.declared.lower.Lower.TheVariants.{Leaf}
+use Rattle.stack_rules.specs.Records.{Configuration}
+use Rattle.stack_rules.specs.Descend.{read_cost}
 use Rattle.stack_engine.specs.Outcomes.{zero_sector}
 use Rattle.stack_engine.specs.Meaning.{Said, said_at}
 use Rattle.stack_engine.specs.Leaves.{images_of, LeafFailed}

@@ -2,7 +2,7 @@ use Rattle.std.proofs.Common.{◌≡◌, ◌-◌, ◌<◌, ◌≤◌, ℕ, List,
 use Rattle.std.specs.Prelude.{slice_get}
 use Rattle.std.proofs.lemmas.Option.{slice_get_read, slice_get_within}
 use Rattle.dm_table.specs.declared.table.Line.{Line}
-use Rattle.stack_loader.specs.Names.{lines_of}
+use Rattle.stack_rules.specs.Names.{lines_of}
 use Rattle.stack_engine.specs.Puts.{together}
 use Rattle.stack_engine.specs.Sources.{ComeFrom, EndsRun}
 use Rattle.stack_engine.proofs.RunEndLemmas.{run-served, run-longest}

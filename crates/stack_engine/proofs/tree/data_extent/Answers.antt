@@ -1,5 +1,5 @@
 use Rattle.std.proofs.Common.{◌≡◌, ◌*◌, ℕ, ap, arith}
-use Rattle.stack_loader.specs.Trees.{block_sectors}
+use Rattle.stack_rules.specs.Trees.{block_sectors}
 use Rattle.stack_engine.proofs.LoadedLemmas.{size-small}
 use Rattle.stack_engine.proofs.VerityLineLemmas.{data-whole, data-inside}
 use Rattle.stack_engine.proofs.tree.data_extent.Goals as goal

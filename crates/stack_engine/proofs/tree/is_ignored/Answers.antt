@@ -4,9 +4,9 @@ use Rattle.std.specs.Str.{bytes_eq}
 use Rattle.hash_tree.specs.Digests.{digest}
 use Rattle.dm_table.specs.declared.table.Line.{Line}
 use Rattle.dm_table.specs.declared.verity.Verity.{Verity}
-use Rattle.stack_loader.specs.Records.{Configuration}
-use Rattle.stack_loader.specs.Lines.{zero_digest_of, zero_digest_at}
-use Rattle.stack_loader.specs.Trees.{zero_block}
+use Rattle.stack_rules.specs.Records.{Configuration}
+use Rattle.stack_rules.specs.Lines.{zero_digest_of, zero_digest_at}
+use Rattle.stack_rules.specs.Trees.{zero_block}
 use Rattle.stack_engine.specs.Walks.{HasVerity}
 use Rattle.stack_engine.proofs.tree.is_ignored.Goals as goal
 

@@ -1,10 +1,10 @@
 use Rattle.std.proofs.Common.{◌≡◌, ℕ, List, Option, Some, ◌+◌, ◌*◌, ◌/◌, ◌%◌, ◌<◌, ◌≤◌, IsTrue, sym, ap, ◌∙◌, subst, refl, arith}
 use Rattle.std.specs.Prelude.{is_some}
 use Rattle.dm_table.specs.Crypt.{sector_size}
-use Rattle.stack_loader.specs.Units.{unit_sectors}
+use Rattle.stack_rules.specs.Units.{unit_sectors}
 use Rattle.stack_engine.proofs.LoadedLemmas.{device-there}
 use Rattle.stack_engine.proofs.UnitLineLemmas.{unit-key}
-use Rattle.stack_loader.proofs.lemmas.UnitLemmas.{unit-bytes, unit_sectors-some}
+use Rattle.stack_rules.proofs.lemmas.UnitLemmas.{unit-bytes, unit_sectors-some}
 use Rattle.stack_engine.proofs.units.encrypt.Goals as goal
 
 pub key-key-requires-clause-device : goal.key-key-requires-clause-device

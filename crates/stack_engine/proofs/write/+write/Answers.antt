@@ -1,16 +1,17 @@
-use Rattle.std.proofs.Common.{◌≡◌, ◌⊎◌, inl, inr, false, ◌<◌, ◌≤◌, ◌+◌, ◌/◌, ◌*◌, ◌-◌, ◌%◌, length, take, drop, map, ℕ, List, [], ◌++◌, Some, Ok, Err, refl, sym, ap, ◌∙◌, subst, arith}
+use Rattle.std.proofs.Common.{◌≡◌, ◌⊎◌, inl, inr, false, ◌<◌, ◌≤◌, ◌+◌, ◌/◌, ◌*◌, ◌-◌, ◌%◌, length, take, drop, map, ℕ, List, [], ◌++◌, Ok, Err, refl, sym, ap, ◌∙◌, subst, arith}
 use Rattle.std.proofs.lemmas.List.{length-take, length-drop, take-append-drop, take_all, nil_from_length}
 use Rattle.std.proofs.Math.Seq.{take-add}
-use Rattle.stack_loader.specs.Names.{mapped}
-use Rattle.stack_loader.specs.declared.lower.Lower.{Lower}
-use Rattle.stack_loader.specs.Records.{Configuration}
+use Rattle.stack_rules.specs.Names.{mapped}
+use Rattle.stack_rules.specs.declared.lower.Lower.{Lower}
+use Rattle.stack_rules.specs.Records.{Configuration}
 use Rattle.stack_engine.specs.declared.source.Source.{Source}
-use Rattle.stack_loader.specs.Descend.{depth}
+use Rattle.stack_rules.specs.Descend.{depth}
 use Rattle.stack_engine.specs.declared.source.Source.TheVariants.{Units, UnitPart}
-use Rattle.stack_engine.specs.Puts.{in_one_run}
+use Rattle.stack_engine.specs.Cuts.{PutsInSteps}
+use Rattle.stack_engine.specs.Puts.{in_one_run, put_on}
 use Rattle.stack_engine.specs.Sources.{SourceHolds, IsServed, EndsRun, AreUnits, LieInUnit, source_said, source_depth}
 use Rattle.stack_engine.specs.Meaning.{said_at}
-use Rattle.stack_engine.specs.Writing.{AreSectors, SomeEncrypt, SourceMayWrite, AreHeld, sectors_in, destination_of, Writes, source_destination}
+use Rattle.stack_engine.specs.Writing.{AreSectors, SomeEncrypt, SourceMayWrite, sectors_in, destination_of, Writes, source_destination}
 use Rattle.stack_engine.proofs.lemmas.LeafListLemmas.{leaves_kept}
 use Rattle.stack_engine.proofs.LoadedLemmas.{size-small}
 use Rattle.stack_engine.proofs.SourceLemmas.{served-depth, served-holds}
@@ -19,27 +20,27 @@ use Rattle.stack_engine.proofs.lemmas.PutLemmas.{put-none}
 use Rattle.stack_engine.proofs.lemmas.WriteRunLemmas.{length-sectors_in, sectors_in-none, write_none, write_as}
 use Rattle.stack_engine.proofs.EncryptLemmas.{units-some, unit_part-some}
 use Rattle.dm_table.specs.declared.crypt.Crypt.{Crypt}
-use Rattle.stack_loader.specs.declared.lower.Lower.TheVariants.{Leaf}
-use Rattle.stack_loader.specs.Units.{unit_sectors}
+use Rattle.stack_rules.specs.declared.lower.Lower.TheVariants.{Leaf}
+use Rattle.stack_rules.specs.Units.{unit_sectors}
 use Rattle.stack_engine.specs.Units.{encrypted_units}
 use Rattle.stack_engine.proofs.UnitSourceLemmas.{units-small, units-bytes}
 use Rattle.dm_table.specs.Crypt.{sector_size}
 use Rattle.xts_sector.specs.Units.{unit as unit_of}
 use Rattle.std.proofs.Math.Nat.{add-mul}
 use Rattle.std.proofs.lemmas.Slice.{drop-put_mid}
-use Rattle.stack_loader.proofs.lemmas.UnitLemmas.{unit_sectors-some, unit-bytes}
+use Rattle.stack_rules.proofs.lemmas.UnitLemmas.{unit_sectors-some, unit-bytes}
 use Rattle.stack_engine.specs.Units.{unit_first}
 use Rattle.stack_engine.proofs.UnitLineLemmas.{unit-line-on}
 use Rattle.stack_engine.proofs.UnitSourceLemmas.{units-inside, units-whole, lies_in, whole-units}
 use Rattle.std.proofs.Common.{IsTrue}
-use Rattle.stack_loader.specs.Names.{may_write}
+use Rattle.stack_rules.specs.Names.{may_write}
 use Rattle.stack_engine.specs.declared.source.BlockPart.{BlockPart}
 use Rattle.stack_engine.specs.Places.{Read}
 use Rattle.stack_engine.specs.Reading.{IsPlain}
 use Rattle.stack_engine.specs.Sources.{ReadsSource}
 use Rattle.stack_engine.proofs.LeafLemmas.{all-whole}
 use Rattle.stack_engine.proofs.UnitChangeLemmas.{part-ended, part-written}
-use Rattle.stack_engine.proofs.UnitWriteLemmas.{leaf-written, units-none, units-more, units-ended, at-is, next-is, next-even, one-is, one-fits}
+use Rattle.stack_engine.proofs.UnitWriteLemmas.{lower-written, units-none, units-more, units-ended, at-is, next-is, next-even, one-is, one-fits}
 use Rattle.stack_engine.proofs.HeldLemmas.{rest-later, one-none, none-plain, IsCut, cut-bytes, cut-rest, cut-held}
 use Rattle.stack_engine.proofs.write.+write.Goals as goal
 
@@ -356,8 +357,50 @@ write_units-encrypt-requires-clause-whole g t c =
 encrypted-is : (crypt : Crypt) (k k' : ℕ) (bytes new : List ℕ) → new ≡ encrypted_units crypt k bytes → k ≡ k' → new ≡ encrypted_units crypt k' bytes
 encrypted-is crypt k k' bytes new is same = is ∙ ap (λ (j : ℕ). encrypted_units crypt j bytes) same
 
-pub write_units-returns-in-Leaf-clause-writes : goal.write_units-returns-in-Leaf-clause-writes
-write_units-returns-in-Leaf-clause-writes g t c =
+pub write_units-lower_cuts-requires-clause-allowed : goal.write_units-lower_cuts-requires-clause-allowed
+write_units-lower_cuts-requires-clause-allowed g t c =
+    let p = c.args.part in
+    let line = unit-line-on c.args.config.now p.device.0 p.line 0 c.crypt_at-crypt.result.now c.requires.loaded c.crypt_at-crypt.ensures c.unit_at-unit.result.lower c.unit_at-unit.ensures.lower in
+    line.crypt_line.writable c.requires.allowed
+
+pub write_units-lower_cuts-requires-clause-inside : goal.write_units-lower_cuts-requires-clause-inside
+write_units-lower_cuts-requires-clause-inside g t c =
+    let p = c.args.part in
+    let n : ℕ = length c.args.units.now / 512 in
+    let inside = units-inside c.args.config.now p.device.0 p.line p.first n c.crypt_at-crypt.result.now c.requires.loaded c.crypt_at-crypt.ensures c.requires.inside c.unit_at-unit.result.lower c.unit_at-unit.ensures.lower in
+    omega (arith, inside, c.unit_at-unit.ensures.first, c.encrypt.auto.units)
+
+pub write_units-write_lower-requires : goal.write_units-write_lower-requires
+write_units-write_lower-requires g t c κs within =
+    let config = c.args.config.now in
+    let p = c.args.part in
+    let n : ℕ = length c.args.units.now / 512 in
+    let crypt = c.crypt_at-crypt.result.now in
+    let unit = c.unit_at-unit in
+    let line = unit-line-on config p.device.0 p.line 0 crypt c.requires.loaded c.crypt_at-crypt.ensures unit.result.lower unit.ensures.lower in
+    let inside = units-inside config p.device.0 p.line p.first n crypt c.requires.loaded c.crypt_at-crypt.ensures c.requires.inside unit.result.lower unit.ensures.lower in
+    let same = c.encrypt.auto.units in (
+      omega (arith, line.crypt_line.shallower),
+      (
+        within,
+        (
+          c.requires.loaded,
+          (
+            c.requires.serve,
+            (
+              line.crypt_line.writable c.requires.allowed,
+              (
+                record { sectors = record { some = omega (arith, same, c.requires.sectors.some); whole = omega (arith, same, c.requires.sectors.whole) }; one = inl refl },
+                (omega (arith, inside, unit.ensures.first, same), c.requires.cache),
+              ),
+            ),
+          ),
+        ),
+      ),
+    )
+
+pub write_units-returns-then-lower_cuts-clause-writes : goal.write_units-returns-then-lower_cuts-clause-writes
+write_units-returns-then-lower_cuts-clause-writes g t c =
     let config = c.args.config.now in
     let state = g.D.BlockDev.state in
     let p = c.args.part in
@@ -365,15 +408,21 @@ write_units-returns-in-Leaf-clause-writes g t c =
     let n : ℕ = length bytes / 512 in
     let crypt = c.crypt_at-crypt.result.now in
     let unit = c.unit_at-unit in
+    let lower = unit.result.lower in
     let enc = encrypted-is crypt unit.result.index (p.first / unit_sectors crypt) bytes c.encrypt.new.units c.encrypt.ensures unit.ensures.index in
     let old = map state c.args.reader.now.devices.items in
-    let new = map state c.write_leaf.new.reader.devices.items in
-    leaf-written config p bytes n crypt c.requires.loaded c.crypt_at-crypt.ensures c.requires.inside c.in-Leaf.leaf (unit.ensures.lower ∙ ap Some c.in-Leaf.is) (omega (arith, c.requires.sectors.whole))
-    (subst (λ (k : ℕ). Writes (destination_of config (Leaf c.in-Leaf.leaf)) k (sectors_in (encrypted_units crypt (p.first / unit_sectors crypt) bytes)) old new c.write_leaf.result) unit.ensures.first
-    (subst (λ (b : List ℕ). Writes (destination_of config (Leaf c.in-Leaf.leaf)) unit.result.first (sectors_in b) old new c.write_leaf.result) enc c.write_leaf.ensures.writes))
+    let new = map state c.write_lower.new.reader.devices.items in
+    let count : length c.encrypt.new.units / 512 ≡ n = omega (arith, c.encrypt.auto.units) in
+    let cut : PutsInSteps (put_on config lower) (unit_first crypt p.first) n (record { size = unit_sectors crypt; skip = 0 }) =
+    subst (λ (k : ℕ). PutsInSteps (put_on config lower) (unit_first crypt p.first) n (record { size = k; skip = 0 })) (c.from.ensures ∙ c.unit_sectors-sectors.ensures.value)
+    (subst (λ (k : ℕ). PutsInSteps (put_on config lower) (unit_first crypt p.first) k (record { size = c.from.result; skip = 0 })) count
+    (subst (λ (k : ℕ). PutsInSteps (put_on config lower) k (length c.encrypt.new.units / 512) (record { size = c.from.result; skip = 0 })) unit.ensures.first (c.lower_cuts.ensures c.if-lower_cuts.true))) in
+    lower-written config p bytes n crypt c.requires.loaded c.crypt_at-crypt.ensures c.requires.inside lower unit.ensures.lower (omega (arith, c.requires.sectors.whole)) cut
+    (subst (λ (k : ℕ). Writes (destination_of config lower) k (sectors_in (encrypted_units crypt (p.first / unit_sectors crypt) bytes)) old new c.write_lower.result) unit.ensures.first
+    (subst (λ (b : List ℕ). Writes (destination_of config lower) unit.result.first (sectors_in b) old new c.write_lower.result) enc c.write_lower.ensures.writes))
 
-pub write_units-write_device-requires : goal.write_units-write_device-requires
-write_units-write_device-requires g t c κs within =
+pub write_units-write_lower-requires-in-loop-at : goal.write_units-write_lower-requires-in-loop-at
+write_units-write_lower-requires-in-loop-at g t c κs within =
     let config = c.args.config.now in
     let p = c.args.part in
     let bytes = c.args.units.now in
@@ -384,8 +433,8 @@ write_units-write_device-requires g t c κs within =
     let unit = c.unit_at-unit in
     let size : ℕ = c.unit_sectors-sectors.result * 512 in
     let at = c.loop-at.at in
-    let named_so = unit.ensures.lower ∙ ap Some c.in-Device.is in
-    let line = unit-line-on config p.device.0 p.line 0 crypt c.requires.loaded has (mapped c.in-Device.d.0) named_so in
+    let named_so = unit.ensures.lower in
+    let line = unit-line-on config p.device.0 p.line 0 crypt c.requires.loaded has unit.result.lower named_so in
     let is : size ≡ sector_size crypt = omega (arith, c.unit_sectors-sectors.ensures.value, unit-bytes crypt) in
     let long : len ≡ 512 * n = omega (arith, c.requires.sectors.whole) in
     let whole = units-whole config p.device.0 p.line p.first n crypt c.requires.loaded has c.requires.inside in
@@ -397,7 +446,7 @@ write_units-write_device-requires g t c κs within =
     let end : c.min-end.result ≡ at + size = omega (arith, c.min-end.ensures, next, fits, long, add-mul 1 (at / size) (unit_sectors crypt), c.encrypt.auto.units) in
     let one = take (c.min-end.result - at) (drop at c.loop-at.units) in
     let width : length one ≡ size = omega (arith, end, next, fits, long, add-mul 1 (at / size) (unit_sectors crypt), length-take (c.min-end.result - at) (drop at c.loop-at.units), length-drop at c.loop-at.units, c.loop-at.auto.units, c.encrypt.auto.units) in
-    let inside = units-inside config p.device.0 p.line p.first n crypt c.requires.loaded has c.requires.inside (mapped c.in-Device.d.0) named_so in
+    let inside = units-inside config p.device.0 p.line p.first n crypt c.requires.loaded has c.requires.inside unit.result.lower named_so in
     let some = unit_sectors-some crypt in (
       omega (arith, line.crypt_line.shallower),
       (
@@ -443,8 +492,8 @@ write_units-loop-at-preserved g t c =
     let unit = c.unit_at-unit in
     let size : ℕ = c.unit_sectors-sectors.result * 512 in
     let at = c.loop-at.at in
-    let lower = mapped c.in-Device.d.0 in
-    let named_so = unit.ensures.lower ∙ ap Some c.in-Device.is in
+    let lower = unit.result.lower in
+    let named_so = unit.ensures.lower in
     let is : size ≡ sector_size crypt = omega (arith, c.unit_sectors-sectors.ensures.value, unit-bytes crypt) in
     let long : len ≡ 512 * n = omega (arith, c.requires.sectors.whole) in
     let whole = units-whole config p.device.0 p.line p.first n crypt c.requires.loaded has c.requires.inside in
@@ -461,7 +510,7 @@ write_units-loop-at-preserved g t c =
     ap (λ (k : ℕ). take (k - at) (drop at now)) end ∙ ap (take (at + size - at)) c.loop-at.invariant.rest ∙ ap (λ (x : List ℕ). take (at + size - at) (drop at x)) enc_is ∙ one-is crypt len n at size is long whole even enc in
     let first : unit.result.first + at / 512 ≡ unit_first crypt p.first + at / size * unit_sectors crypt = omega (arith, unit.ensures.first, place) in
     let mid = map state c.loop-at.reader.devices.items in
-    let new = map state c.write_device.new.reader.devices.items in
+    let new = map state c.write_lower-in-loop-at.new.reader.devices.items in
     let step : Writes (destination_of config lower) (unit_first crypt p.first + at / size * unit_sectors crypt) (sectors_in (unit_of (sector_size crypt) enc (at / size))) mid new (Ok tt) =
     subst (λ (k : ℕ). Writes (destination_of config lower) k (sectors_in (unit_of (sector_size crypt) enc (at / size))) mid new (Ok tt)) first
     (subst (λ (b : List ℕ). Writes (destination_of config lower) (unit.result.first + at / 512) (sectors_in b) mid new (Ok tt)) one c.in-Ok.ensures.writes) in
@@ -470,8 +519,8 @@ write_units-loop-at-preserved g t c =
     record {
       even = ap (λ (k : ℕ). k % size) end ∙ next-even crypt len n at size is long whole even;
       within = omega (arith, c.min-end.ensures, c.encrypt.auto.units);
-      rest = drop-put_mid at (c.min-end.result - at) now c.write_device.new.buffer c.min-end.result (omega (arith, end)) (omega (arith, low, c.loop-at.auto.units, c.encrypt.auto.units))
-          (c.write_device.auto.buffer ∙ (omega (arith, end, next, fits, long, add-mul 1 (at / size) (unit_sectors crypt), length-take (c.min-end.result - at) (drop at now), length-drop at now, c.loop-at.auto.units, c.encrypt.auto.units)))
+      rest = drop-put_mid at (c.min-end.result - at) now c.write_lower-in-loop-at.new.buffer c.min-end.result (omega (arith, end)) (omega (arith, low, c.loop-at.auto.units, c.encrypt.auto.units))
+          (c.write_lower-in-loop-at.auto.buffer ∙ (omega (arith, end, next, fits, long, add-mul 1 (at / size) (unit_sectors crypt), length-take (c.min-end.result - at) (drop at now), length-drop at now, c.loop-at.auto.units, c.encrypt.auto.units)))
           ∙ ap (λ (k : ℕ). drop k now) end ∙ rest-later now c.encrypt.new.units at size c.loop-at.invariant.rest ∙ ap (λ (k : ℕ). drop k c.encrypt.new.units) (sym end);
       so_far = subst (λ (k : ℕ). Writes (source_destination config (Units p)) 0 (sectors_in (take k bytes)) (map state c.args.reader.now.devices.items) new (Ok tt)) (sym (end ∙ next)) all;
       cached = record { capacity = c.in-Ok.ensures.cached.capacity ∙ c.loop-at.invariant.cached.capacity; sound = c.in-Ok.ensures.cached.sound };
@@ -490,8 +539,8 @@ write_units-returns-in-Err-clause-writes g t c =
     let unit = c.unit_at-unit in
     let size : ℕ = c.unit_sectors-sectors.result * 512 in
     let at = c.loop-at.at in
-    let lower = mapped c.in-Device.d.0 in
-    let named_so = unit.ensures.lower ∙ ap Some c.in-Device.is in
+    let lower = unit.result.lower in
+    let named_so = unit.ensures.lower in
     let is : size ≡ sector_size crypt = omega (arith, c.unit_sectors-sectors.ensures.value, unit-bytes crypt) in
     let long : len ≡ 512 * n = omega (arith, c.requires.sectors.whole) in
     let whole = units-whole config p.device.0 p.line p.first n crypt c.requires.loaded has c.requires.inside in
@@ -508,28 +557,12 @@ write_units-returns-in-Err-clause-writes g t c =
     ap (λ (k : ℕ). take (k - at) (drop at now)) end ∙ ap (take (at + size - at)) c.loop-at.invariant.rest ∙ ap (λ (x : List ℕ). take (at + size - at) (drop at x)) enc_is ∙ one-is crypt len n at size is long whole even enc in
     let first : unit.result.first + at / 512 ≡ unit_first crypt p.first + at / size * unit_sectors crypt = omega (arith, unit.ensures.first, place) in
     let mid = map state c.loop-at.reader.devices.items in
-    let new = map state c.write_device.new.reader.devices.items in
+    let new = map state c.write_lower-in-loop-at.new.reader.devices.items in
     let step : Writes (destination_of config lower) (unit_first crypt p.first + at / size * unit_sectors crypt) (sectors_in (unit_of (sector_size crypt) enc (at / size))) mid new (Err c.in-Err.fault) =
     subst (λ (k : ℕ). Writes (destination_of config lower) k (sectors_in (unit_of (sector_size crypt) enc (at / size))) mid new (Err c.in-Err.fault)) first
     (subst (λ (b : List ℕ). Writes (destination_of config lower) (unit.result.first + at / 512) (sectors_in b) mid new (Err c.in-Err.fault)) one c.in-Err.ensures.writes) in
     let so_far = subst (λ (k : ℕ). Writes (source_destination config (Units p)) 0 (sectors_in (take k bytes)) (map state c.args.reader.now.devices.items) mid (Ok tt)) place c.loop-at.invariant.so_far in
     units-ended config p bytes n crypt c.requires.loaded has c.requires.inside lower named_so long (at / size) fits so_far c.in-Err.fault step
-
-pub write_units-write_leaf-requires-clause-allowed : goal.write_units-write_leaf-requires-clause-allowed
-write_units-write_leaf-requires-clause-allowed g t c =
-    let config = c.args.config.now in
-    let p = c.args.part in
-    let line = unit-line-on config p.device.0 p.line 0 c.crypt_at-crypt.result.now c.requires.loaded c.crypt_at-crypt.ensures (Leaf c.in-Leaf.leaf) (c.unit_at-unit.ensures.lower ∙ ap Some c.in-Leaf.is) in
-    line.crypt_line.writable c.requires.allowed
-
-pub write_units-write_leaf-requires-clause-inside : goal.write_units-write_leaf-requires-clause-inside
-write_units-write_leaf-requires-clause-inside g t c =
-    let config = c.args.config.now in
-    let p = c.args.part in
-    let n : ℕ = length c.args.units.now / 512 in
-    let crypt = c.crypt_at-crypt.result.now in
-    let inside = units-inside config p.device.0 p.line p.first n crypt c.requires.loaded c.crypt_at-crypt.ensures c.requires.inside (Leaf c.in-Leaf.leaf) (c.unit_at-unit.ensures.lower ∙ ap Some c.in-Leaf.is) in
-    omega (arith, inside, c.unit_at-unit.ensures.first, c.encrypt.auto.units)
 
 pub write_units-overflow_add-first : goal.write_units-overflow_add-first
 write_units-overflow_add-first g t c =
@@ -537,12 +570,12 @@ write_units-overflow_add-first g t c =
     let p = c.args.part in
     let n : ℕ = length c.args.units.now / 512 in
     let crypt = c.crypt_at-crypt.result.now in
-    let inside = units-inside config p.device.0 p.line p.first n crypt c.requires.loaded c.crypt_at-crypt.ensures c.requires.inside (mapped c.in-Device.d.0) (c.unit_at-unit.ensures.lower ∙ ap Some c.in-Device.is) in
-    let small = size-small config (mapped c.in-Device.d.0) c.requires.loaded in
+    let inside = units-inside config p.device.0 p.line p.first n crypt c.requires.loaded c.crypt_at-crypt.ensures c.requires.inside c.unit_at-unit.result.lower c.unit_at-unit.ensures.lower in
+    let small = size-small config c.unit_at-unit.result.lower c.requires.loaded in
     omega (arith, inside, small, c.unit_at-unit.ensures.first, c.encrypt.auto.units, c.loop-at-test.true)
 
-pub write_units-returns-after-loop-at-clause-writes : goal.write_units-returns-after-loop-at-clause-writes
-write_units-returns-after-loop-at-clause-writes g t c =
+pub write_units-returns-clause-writes : goal.write_units-returns-clause-writes
+write_units-returns-clause-writes g t c =
     let config = c.args.config.now in
     let state = g.D.BlockDev.state in
     let bytes = c.args.units.now in

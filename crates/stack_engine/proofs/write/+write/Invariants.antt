@@ -1,6 +1,6 @@
 use Rattle.std.proofs.Common.{◌⊎◌, ◌/◌, length, take, drop, map, ◌-◌, ◌≡◌, ◌≤◌, ◌+◌, ◌++◌, ◌*◌, ◌%◌, Ok}
-use Rattle.stack_loader.specs.Names.{mapped}
-use Rattle.stack_loader.specs.Descend.{depth}
+use Rattle.stack_rules.specs.Names.{mapped}
+use Rattle.stack_rules.specs.Descend.{depth}
 use Rattle.stack_engine.specs.Writing.{sectors_in, destination_of, source_destination, Writes}
 use Rattle.stack_engine.specs.declared.source.Source.TheVariants.{Units}
 use Rattle.stack_engine.proofs.WriteSourceLemmas.{EndsBefore}

@@ -2,24 +2,24 @@ use Rattle.std.proofs.Common.{ℕ, List, refl, sym, ap, ◌∙◌, length, arith
 use Rattle.std.specs.Borrow.{Bor}
 use Rattle.std.proofs.lemmas.Bool.{ltb-false}
 use Rattle.std.proofs.lemmas.Result.{err_from_is_err_and}
-use Rattle.stack_loader.specs.declared.refusal.LoadFault.TheVariants.{Refused}
-use Rattle.stack_loader.specs.declared.refusal.LoadKind.TheVariants.{TooDeep, CostTooLarge}
-use Rattle.stack_loader.specs.Records.{Configuration, configuration}
-use Rattle.stack_loader.specs.Descend.{most_devices, depth, read_cost, write_cost}
+use Rattle.stack_rules.specs.declared.refusal.LoadFault.TheVariants.{Refused}
+use Rattle.stack_rules.specs.declared.refusal.LoadKind.TheVariants.{TooDeep, CostTooLarge}
+use Rattle.stack_rules.specs.Records.{Configuration, configuration}
+use Rattle.stack_rules.specs.Descend.{most_devices, depth, read_cost, write_cost}
 use Rattle.stack_loader.specs.Facts.{AreFacts}
-use Rattle.stack_loader.specs.Depths.{rounds}
-use Rattle.stack_loader.specs.Kept.{AreLowers}
-use Rattle.stack_loader.specs.Passing.{above}
-use Rattle.stack_loader.specs.Rules.{IsValid, first, rules, unknown_names, most_depth, most_cost}
-use Rattle.stack_loader.proofs.lemmas.ValidLemmas.{costs-low}
-use Rattle.stack_loader.proofs.lemmas.ValidLineLemmas.{or-false}
-use Rattle.stack_loader.specs.Costs.{AreMeasured, capped, cost}
-use Rattle.stack_loader.proofs.DepthLemmas.{rounds-depths}
-use Rattle.stack_loader.proofs.CappedLemmas.{each-exact}
+use Rattle.stack_costs.specs.Depths.{rounds}
+use Rattle.stack_rules.specs.Kept.{AreLowers}
+use Rattle.stack_rules.specs.Passing.{above}
+use Rattle.stack_rules.specs.Rules.{IsValid, first, rules, unknown_names, most_depth, most_cost}
+use Rattle.stack_rules.proofs.lemmas.ValidLemmas.{costs-low}
+use Rattle.stack_rules.proofs.lemmas.ValidLineLemmas.{or-false}
+use Rattle.stack_costs.specs.Costs.{AreMeasured, capped, cost}
+use Rattle.stack_costs.proofs.lemmas.DepthLemmas.{rounds-depths}
+use Rattle.stack_costs.proofs.lemmas.CappedLemmas.{each-exact}
 use Rattle.stack_loader.proofs.lemmas.WriteCostLemmas.{write_cost-low}
-use Rattle.stack_loader.proofs.CostLemmas.{lowers-rows, write_cost-given}
-use Rattle.stack_loader.specs.declared.costs.Direction.TheVariants.{Read, Write}
-use Rattle.stack_loader.proofs.PassingLemmas.{IsFirst-passed, passed-IsFirst}
+use Rattle.stack_costs.proofs.lemmas.CostLemmas.{lowers-rows, write_cost-given}
+use Rattle.stack_costs.specs.declared.cost.Direction.TheVariants.{Read, Write}
+use Rattle.stack_rules.proofs.lemmas.PassingLemmas.{IsFirst-passed, passed-IsFirst}
 use Rattle.stack_loader.proofs.StageLemmas.{Known, unknown-first, cycles-first, lines-first, depths-first, costs-first, none-first, depths-above, costs-above, length-values}
 use Rattle.stack_loader.proofs.check.check.Goals as goal
 

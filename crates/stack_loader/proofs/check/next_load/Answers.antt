@@ -1,12 +1,12 @@
 use Rattle.std.proofs.Common.{[], ◌++◌, sym, ◌∙◌}
 use Rattle.std.proofs.lemmas.Result.{err_from_is_err_and}
-use Rattle.stack_loader.specs.Records.{Configuration, configuration}
+use Rattle.stack_rules.specs.Records.{Configuration, configuration}
 use Rattle.stack_loader.specs.Facts.{AreFacts}
 use Rattle.stack_loader.specs.Next.{IsNext}
-use Rattle.stack_loader.specs.Rules.{rules, duplicate_names, after_load}
+use Rattle.stack_rules.specs.Rules.{rules, duplicate_names, after_load}
 use Rattle.stack_loader.proofs.LoadLemmas.{checked-moved, fault-moved}
-use Rattle.stack_loader.proofs.PassingLemmas.{IsFirst-passed, passed-IsFirst}
-use Rattle.stack_loader.proofs.ScanLemmas.{first-none, first-some}
+use Rattle.stack_rules.proofs.lemmas.PassingLemmas.{IsFirst-passed, passed-IsFirst}
+use Rattle.stack_rules.proofs.lemmas.ScanLemmas.{first-none, first-some}
 use Rattle.stack_loader.proofs.StageLemmas.{right}
 use Rattle.stack_loader.proofs.check.next_load.Goals as goal
 

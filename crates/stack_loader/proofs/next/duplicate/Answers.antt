@@ -3,7 +3,7 @@ use Rattle.std.specs.Prelude.{is_some}
 use Rattle.std.specs.Str.{bytes_eq}
 use Rattle.std.specs.HashMap.{get_by}
 use Rattle.std.proofs.lemmas.Map.Text.{hash_map_updates_str}
-use Rattle.stack_loader.specs.Rules.{first, duplicate_names}
+use Rattle.stack_rules.specs.Rules.{first, duplicate_names}
 use Rattle.stack_loader.proofs.DuplicateNameLemmas.{duplicate_more, names_more}
 use Rattle.stack_loader.proofs.next.duplicate.Goals as goal
 

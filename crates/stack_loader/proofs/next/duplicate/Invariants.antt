@@ -3,7 +3,7 @@ use Rattle.std.specs.Prelude.{is_some}
 use Rattle.std.specs.Str.{bytes_eq}
 use Rattle.std.specs.List.{list_any}
 use Rattle.std.specs.HashMap.{get_by}
-use Rattle.stack_loader.specs.Rules.{first, duplicate_names}
+use Rattle.stack_rules.specs.Rules.{first, duplicate_names}
 use Rattle.stack_loader.proofs.next.duplicate.Given as goal
 
 abbrev pub invariant-loop-entry : goal.invariant-loop-entry

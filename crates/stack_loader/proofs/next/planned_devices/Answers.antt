@@ -2,8 +2,8 @@ use Rattle.std.proofs.Common.{List, ℕ, ◌++◌, ◌∷◌, [], map, position,
 use Rattle.std.specs.Prelude.{is_none}
 use Rattle.std.specs.Str.{bytes_eq}
 use Rattle.dm_table.specs.declared.stack.Entry.{Entry}
-use Rattle.stack_loader.specs.Records.{DeviceRecord}
-use Rattle.stack_loader.specs.Rules.{replacement}
+use Rattle.stack_rules.specs.Records.{DeviceRecord}
+use Rattle.stack_rules.specs.Rules.{replacement}
 use Rattle.stack_loader.proofs.DuplicateNameLemmas.{new_more, old_more, none-of}
 use Rattle.stack_loader.proofs.next.planned_devices.Goals as goal
 use Rattle.stack_loader.proofs.next.planned_devices.Goals.{then-is_none+in_ok-push-2, else-is_none}

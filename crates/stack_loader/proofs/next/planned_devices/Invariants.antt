@@ -1,7 +1,7 @@
 use Rattle.std.proofs.Common.{◌≡◌, ◌++◌, map, filter, take, position}
 use Rattle.std.specs.Prelude.{is_none}
 use Rattle.std.specs.Str.{bytes_eq}
-use Rattle.stack_loader.specs.Rules.{replacement, new_device}
+use Rattle.stack_rules.specs.Rules.{replacement, new_device}
 use Rattle.stack_loader.proofs.next.planned_devices.Given as goal
 
 abbrev pub invariant-loop-device : goal.invariant-loop-device

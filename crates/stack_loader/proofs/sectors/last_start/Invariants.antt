@@ -1,5 +1,5 @@
 use Rattle.std.proofs.Common.{◌<◌, ◌≤◌, ◌-◌, length}
-use Rattle.stack_loader.specs.Lines.{StartsBy, StartsAfter}
+use Rattle.stack_rules.specs.Lines.{StartsBy, StartsAfter}
 use Rattle.stack_loader.proofs.sectors.last_start.Given as goal
 
 abbrev pub invariant-loop-high : goal.invariant-loop-high

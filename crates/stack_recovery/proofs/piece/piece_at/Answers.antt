@@ -4,7 +4,7 @@ use Rattle.std.proofs.lemmas.Bool.{leb-true, leb-false}
 use Rattle.std.proofs.lemmas.Nat.{div-add-mod'}
 use Rattle.std.proofs.lemmas.Option.{slice_get_read, slice_get_within}
 use Rattle.dm_table.specs.declared.table.Line.{Line}
-use Rattle.stack_loader.specs.Names.{lines_of}
+use Rattle.stack_rules.specs.Names.{lines_of}
 use Rattle.stack_recovery.specs.Pieces.{AreLostTogether}
 use Rattle.stack_recovery.proofs.AlikeLemmas.{alike-at, fewer-together}
 use Rattle.stack_recovery.proofs.piece.piece_at.Goals as goal

@@ -1,5 +1,5 @@
 use Rattle.std.proofs.Common.{◌≡◌, ◌-◌, ◌+◌, ◌*◌, ◌≤◌}
-use Rattle.stack_loader.specs.Names.{mapped, size}
+use Rattle.stack_rules.specs.Names.{mapped, size}
 use Rattle.stack_recovery.specs.Pieces.{IsPace}
 use Rattle.stack_recovery.specs.Recoveries.{sides}
 use Rattle.stack_recovery.proofs.UnderwayLemmas.{IsUnderway}

@@ -1,6 +1,6 @@
 use Rattle.std.proofs.Common.{ap, ◌∙◌, refl, inl}
 use Rattle.std.specs.Prelude.{false}
-use Rattle.dm_table.specs.Print.{table_text}
+use Rattle.table_printer.specs.Print.{table_text}
 use Rattle.request_queue.specs.declared.fault.SubmitFault.TheVariants.{NoSuchDevice}
 use Rattle.stack_session.specs.Commands.{table}
 use Rattle.stack_session.specs.Texts.{submit_text}

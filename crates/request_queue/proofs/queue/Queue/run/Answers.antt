@@ -1,5 +1,5 @@
 use Rattle.std.proofs.Common.{Ok, Err, subst}
-use Rattle.stack_loader.specs.Rules.{IsLoaded}
+use Rattle.stack_rules.specs.Rules.{IsLoaded}
 use Rattle.request_queue.specs.World.{World}
 use Rattle.request_queue.specs.Requests.{request_record}
 use Rattle.request_queue.proofs.lemmas.BudgetLemmas.{begun-there}

@@ -1,6 +1,6 @@
 use Rattle.std.proofs.Common.{◌≡◌, ℕ, ◌-◌, List, ◌++◌, length, take, drop, map, refl, ap, ◌∙◌, subst, arith}
 use Rattle.std.proofs.lemmas.List.{take_all, length-drop}
-use Rattle.stack_loader.specs.Names.{mapped}
+use Rattle.stack_rules.specs.Names.{mapped}
 use Rattle.stack_engine.specs.Stacks.{StackRecord}
 use Rattle.stack_engine.specs.Pieces.{stack_over}
 use Rattle.stack_engine.specs.Writing.{sectors_in, destination_of, Writes}

@@ -1,9 +1,9 @@
 use Rattle.std.proofs.Common.{arith, length}
-use Rattle.stack_loader.specs.Records.{Configuration}
-use Rattle.stack_loader.specs.Descend.{depth}
-use Rattle.stack_loader.specs.Names.{mapped}
-use Rattle.stack_loader.proofs.lemmas.ValidLemmas.{depth-low}
-use Rattle.stack_loader.proofs.KeptLemmas.{length-each_mapped, each_mapped-at}
+use Rattle.stack_rules.specs.Records.{Configuration}
+use Rattle.stack_rules.specs.Descend.{depth}
+use Rattle.stack_rules.specs.Names.{mapped}
+use Rattle.stack_rules.proofs.lemmas.ValidLemmas.{depth-low}
+use Rattle.stack_rules.proofs.lemmas.KeptLemmas.{length-each_mapped, each_mapped-at}
 use Rattle.stack_loader.proofs.config.Config.depth.Goals as goal
 
 pub index-requires : goal.index-requires

@@ -1,8 +1,8 @@
 use Rattle.std.proofs.Common.{◌≡◌, ◌<◌, ◌≤◌, ℕ, List, Option, Some, length, arith, ap, ◌∙◌, sym, position}
 use Rattle.std.proofs.lemmas.List.Quantifiers.{position-Some}
 use Rattle.std.specs.Str.{bytes_eq}
-use Rattle.stack_loader.specs.Records.{Configuration, DeviceRecord}
-use Rattle.stack_loader.proofs.lemmas.ValidLineLemmas.{few}
+use Rattle.stack_rules.specs.Records.{Configuration, DeviceRecord}
+use Rattle.stack_rules.proofs.lemmas.ValidLineLemmas.{few}
 use Rattle.stack_loader.proofs.config.Config.device.Goals as goal
 
 inside : (devices : List DeviceRecord) (name : List ℕ) (place : ℕ) → position (λ d. bytes_eq d.name name) devices ≡ Some place → place < length devices

@@ -3,9 +3,9 @@ use Rattle.std.specs.Prelude.{IsTrue, find, is_some}
 use Rattle.std.specs.Option.{option_map}
 use Rattle.std.proofs.lemmas.List.{get_or_read}
 use Rattle.stack_loader.specs.declared.keys.LineKey.{LineKey}
-use Rattle.stack_loader.specs.Records.{Configuration}
-use Rattle.stack_loader.specs.Lines.{key_at}
-use Rattle.stack_loader.proofs.KeptLemmas.{length-keys, key-kept}
+use Rattle.stack_rules.specs.Records.{Configuration}
+use Rattle.stack_rules.specs.Lines.{key_at}
+use Rattle.stack_loader.proofs.KeyLemmas.{length-keys, key-kept}
 use Rattle.stack_loader.proofs.config.Config.key.Goals as goal
 
 pub index-requires : goal.index-requires

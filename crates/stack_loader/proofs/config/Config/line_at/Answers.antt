@@ -1,9 +1,9 @@
 use Rattle.std.proofs.Common.{◌<◌, arith}
-use Rattle.stack_loader.specs.Records.{Configuration}
-use Rattle.stack_loader.specs.Names.{lines_of, sectors_of}
-use Rattle.stack_loader.proofs.lemmas.ValidLineLemmas.{follow, few_lines}
-use Rattle.stack_loader.proofs.ListLemmas.{slice_get-read}
-use Rattle.stack_loader.proofs.KeptLemmas.{lines_of-read}
+use Rattle.stack_rules.specs.Records.{Configuration}
+use Rattle.stack_rules.specs.Names.{lines_of, sectors_of}
+use Rattle.stack_rules.proofs.lemmas.ValidLineLemmas.{follow, few_lines}
+use Rattle.stack_rules.proofs.lemmas.ListLemmas.{slice_get-read}
+use Rattle.stack_rules.proofs.lemmas.KeptLemmas.{lines_of-read}
 use Rattle.stack_loader.proofs.config.Config.line_at.Goals as goal
 
 pub line_of-requires-clause-follow : goal.line_of-requires-clause-follow

@@ -1,15 +1,15 @@
 use Rattle.std.proofs.Common.{◌≡◌, List, None, sym, ap, ◌∙◌}
 use Rattle.std.proofs.lemmas.Result.{err_from_is_err_and}
 use Rattle.dm_table.specs.declared.stack.Entry.{Entry}
-use Rattle.stack_loader.specs.declared.refusal.LoadFault.TheVariants.{Refused}
-use Rattle.stack_loader.specs.Records.{Configuration, configuration}
+use Rattle.stack_rules.specs.declared.refusal.LoadFault.TheVariants.{Refused}
+use Rattle.stack_rules.specs.Records.{Configuration, configuration}
 use Rattle.stack_loader.specs.Next.{IsNext}
-use Rattle.stack_loader.specs.Passing.{IsFirst}
-use Rattle.stack_loader.specs.Rules.{first, load_rules, after_load, first_refusal}
-use Rattle.stack_loader.proofs.lemmas.ValidLineLemmas.{few}
+use Rattle.stack_rules.specs.Passing.{IsFirst}
+use Rattle.stack_rules.specs.Rules.{first, load_rules, after_load, first_refusal}
+use Rattle.stack_rules.proofs.lemmas.ValidLineLemmas.{few}
 use Rattle.stack_loader.proofs.LoadLemmas.{moved, kept-next, refused-first}
 use Rattle.stack_loader.proofs.CycleRefusalLemmas.{refusal-of}
-use Rattle.stack_loader.proofs.PassingLemmas.{IsFirst-passed}
+use Rattle.stack_rules.proofs.lemmas.PassingLemmas.{IsFirst-passed}
 use Rattle.stack_loader.proofs.config.Config.load.Goals as goal
 
 pub next_load-requires-clause-devices : goal.next_load-requires-clause-devices

@@ -2,9 +2,9 @@ use Rattle.std.proofs.Common.{◌<◌, ◌≤◌, ℕ, List, [], length, get_or,
 use Rattle.std.proofs.lemmas.List.{get_or_read}
 use Rattle.std.proofs.lemmas.List.{get_or_past}
 use Rattle.std.proofs.Math.Decide.{dec_le}
-use Rattle.stack_loader.specs.declared.lower.Lower.{Lower}
-use Rattle.stack_loader.specs.Records.{Configuration}
-use Rattle.stack_loader.proofs.KeptLemmas.{length-lowers, length-row, lower_at-kept}
+use Rattle.stack_rules.specs.declared.lower.Lower.{Lower}
+use Rattle.stack_rules.specs.Records.{Configuration}
+use Rattle.stack_rules.proofs.lemmas.KeptLemmas.{length-lowers, length-row, lower_at-kept}
 use Rattle.stack_loader.proofs.config.Config.lower.Goals as goal
 
 pub index-requires : goal.index-requires

@@ -1,11 +1,12 @@
 use Rattle.std.proofs.Common.{◌≡◌, ◌<◌, ℕ, List, true, false, Some, None, length, sym, ap, ◌∙◌, position, arith}
 use Rattle.std.proofs.lemmas.List.Quantifiers.{position-Some}
 use Rattle.std.specs.Str.{bytes_eq}
-use Rattle.stack_loader.specs.Records.{Configuration, DeviceRecord}
-use Rattle.stack_loader.specs.Names.{device_named}
-use Rattle.stack_loader.specs.Descend.{depth, read_cost, write_cost}
-use Rattle.stack_loader.specs.Removal.{is_in_use, removal_fault, after_removal}
-use Rattle.stack_loader.proofs.KeptLemmas.{length-each_mapped, length-lowers, length-keys, length-zero_digests}
+use Rattle.stack_rules.specs.Records.{Configuration, DeviceRecord}
+use Rattle.stack_rules.specs.Names.{device_named}
+use Rattle.stack_rules.specs.Descend.{depth, read_cost, write_cost}
+use Rattle.stack_rules.specs.Removal.{is_in_use, removal_fault, after_removal}
+use Rattle.stack_rules.proofs.lemmas.KeptLemmas.{length-each_mapped, length-lowers}
+use Rattle.stack_loader.proofs.KeyLemmas.{length-keys, length-zero_digests}
 use Rattle.stack_loader.proofs.RemovalFactLemmas.{in_use-rows, unused-of, fault-none, fault-some, after_removal-without, kept-after}
 use Rattle.stack_loader.proofs.config.Config.remove.Goals as goal
 
@@ -58,6 +59,6 @@ pub returns-else-is_in_use-clause-after : goal.returns-else-is_in_use-clause-aft
 returns-else-is_in_use-clause-after c =
     let now : Configuration = record { leaves = c.self.inside.leaves.items; devices = c.self.inside.devices.items } in
     let found : device_named now c.args.name.now ≡ Some c.in-Some.place = rw c.as_slice.ensures.value at (sym c.in-Some.ensures) in
-    ap (λ devices. Rattle.stack_loader.specs.Records.configuration c.self.inside.leaves.items devices) c.remove.ensures.items
+    ap (λ devices. Rattle.stack_rules.specs.Records.configuration c.self.inside.leaves.items devices) c.remove.ensures.items
     ∙ sym (after_removal-without now c.args.name.now c.in-Some.place c.self.invariant.loaded found)
     ∙ ap (λ c0. after_removal c0 c.args.name.now) c.self.view_is

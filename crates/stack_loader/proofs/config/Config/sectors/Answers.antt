@@ -1,9 +1,9 @@
 use Rattle.std.proofs.Common.{arith, sym, ◌∙◌, ap}
-use Rattle.stack_loader.specs.Records.{Configuration}
-use Rattle.stack_loader.proofs.lemmas.ValidLineLemmas.{size-low}
-use Rattle.stack_loader.specs.Names.{sectors_of}
-use Rattle.stack_loader.proofs.ListLemmas.{slice_get-read}
-use Rattle.stack_loader.proofs.KeptLemmas.{lines_of-read}
+use Rattle.stack_rules.specs.Records.{Configuration}
+use Rattle.stack_rules.proofs.lemmas.ValidLineLemmas.{size-low}
+use Rattle.stack_rules.specs.Names.{sectors_of}
+use Rattle.stack_rules.proofs.lemmas.ListLemmas.{slice_get-read}
+use Rattle.stack_rules.proofs.lemmas.KeptLemmas.{lines_of-read}
 use Rattle.stack_loader.proofs.config.Config.sectors.Goals as goal
 
 pub overflow_cast-result : goal.overflow_cast-result

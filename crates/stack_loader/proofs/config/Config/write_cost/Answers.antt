@@ -1,7 +1,7 @@
 use Rattle.std.proofs.Common.{arith, length}
-use Rattle.stack_loader.specs.Records.{Configuration}
-use Rattle.stack_loader.specs.Descend.{write_cost}
-use Rattle.stack_loader.proofs.KeptLemmas.{length-each_mapped, each_mapped-at}
+use Rattle.stack_rules.specs.Records.{Configuration}
+use Rattle.stack_rules.specs.Descend.{write_cost}
+use Rattle.stack_rules.proofs.lemmas.KeptLemmas.{length-each_mapped, each_mapped-at}
 use Rattle.stack_loader.proofs.config.Config.write_cost.Goals as goal
 
 pub index-requires : goal.index-requires

@@ -1,7 +1,7 @@
 use Rattle.std.proofs.Common.{◌<◌, [], length, ◌∙◌, arith}
 use Rattle.std.proofs.lemmas.List.{get_or_read}
-use Rattle.stack_loader.specs.Records.{Configuration}
-use Rattle.stack_loader.proofs.KeptLemmas.{length-zero_digests, zero_digest-kept}
+use Rattle.stack_rules.specs.Records.{Configuration}
+use Rattle.stack_loader.proofs.KeyLemmas.{length-zero_digests, zero_digest-kept}
 use Rattle.stack_loader.proofs.config.Config.zero_digest.Goals as goal
 
 pub index-requires : goal.index-requires

@@ -1,7 +1,7 @@
 use Rattle.std.proofs.Common.{List, set, sym, ap, ◌∙◌, map}
 use Rattle.std.proofs.lemmas.List.Edits.{map_over_more}
-use Rattle.stack_loader.specs.declared.lower.Lower.{Lower}
-use Rattle.stack_loader.specs.Removal.{lower_after}
+use Rattle.stack_rules.specs.declared.lower.Lower.{Lower}
+use Rattle.stack_rules.specs.Removal.{lower_after}
 use Rattle.stack_loader.proofs.facts.Facts.remove.Goals as goal
 
 pub loop-device-preserved : goal.loop-device-preserved

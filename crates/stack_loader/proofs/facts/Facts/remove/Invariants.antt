@@ -1,5 +1,5 @@
 use Rattle.std.proofs.Common.{◌≡◌, ◌++◌, map, take, drop}
-use Rattle.stack_loader.specs.Removal.{lower_after}
+use Rattle.stack_rules.specs.Removal.{lower_after}
 use Rattle.stack_loader.proofs.facts.Facts.remove.Given as goal
 
 abbrev pub invariant-loop-device : goal.invariant-loop-device

@@ -1,0 +1,13 @@
+-- What the fields of a `LanesKey` hold.
+use Rattle.std.specs.Prelude.{ℕ, List}
+use Rattle.aes_block.specs.KeyExpansion.{rounds, key_schedule}
+use Rattle.aes_lanes.specs.declared.lanes_key.LanesKey.TheInside.{Inside}
+use Rattle.aes_lanes.specs.Keys.{HoldKeys}
+
+-- the key's bytes
+abbrev pub key_of : Inside → List ℕ
+key_of k = k.key
+
+-- the planes of its round keys
+abbrev pub HoldsPlanes : Inside → Type 0
+HoldsPlanes k = HoldKeys (rounds k.key) (key_schedule k.key) k.planes

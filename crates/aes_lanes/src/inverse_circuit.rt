@@ -1,0 +1,129 @@
+//! The map of InvSubBytes (FIPS 197, 5.3.2) as a circuit: that of SubBytes, whose first sums are those of the bits after the
+//! inverse of the affine map, and whose last give the inverse's bits.
+
+ghost use Rattle.std.specs.Prelude.{◌≡◌, ℕ, ◌<◌, List};
+ghost use Rattle.aes_lanes.specs.Planes.{ArePlanes, block_of};
+ghost use Rattle.aes_lanes.specs.Circuit.{CarryEach};
+ghost use Rattle.aes_lanes.specs.InverseCircuit.{inverse_sums, inverse_substituted};
+ghost use Rattle.aes_block.specs.Rounds.{inv_sub_bytes};
+
+use crate::circuit::{combined, inverse, products};
+use crate::planes::Planes;
+use std::simd::prelude::*;
+
+// The sums that the rest needs, of the bits to which those of the constant 0x63 are added.
+#[inline(always)]
+fn inverse_sums(x: &Planes) -> [u8x32; 22]
+    ensures { (p b v : ℕ) (bits : List ℕ) → p < 32 → b < 8 → v < 256 → CarryEach 8 p b v x.now bits → CarryEach 22 p b v result (inverse_sums bits) }
+{
+    let [x0, x1, b2, b3, b4, x5, x6, b7] = *x;
+    let ones = u8x32::splat(0xff);
+    let b0 = x0 ^ ones;
+    let b1 = x1 ^ ones;
+    let b5 = x5 ^ ones;
+    let b6 = x6 ^ ones;
+    let y9 = b3 ^ b4;
+    let y5 = b4 ^ b6;
+    let y18 = b5 ^ y9;
+    let y8 = b6 ^ b7;
+    let y1 = b0 ^ y9;
+    let y6 = b4 ^ y8;
+    let y3 = b4 ^ b7;
+    let y19 = b0 ^ b3;
+    let y14 = b3 ^ y6;
+    let y13 = b1 ^ y1;
+    let y2 = y5 ^ y13;
+    let y4 = y9 ^ y2;
+    let y10 = y8 ^ y19;
+    let y12 = y3 ^ y4;
+    let y7 = b5 ^ y4;
+    let y16 = y1 ^ y7;
+    let y21 = b1 ^ y7;
+    let a0 = b2 ^ b7;
+    let y20 = y2 ^ a0;
+    let y0 = b5 ^ a0;
+    let y11 = y9 ^ y20;
+    let y17 = y10 ^ y11;
+    let y15 = y6 ^ y0;
+    [
+        y0, y1, y2, y3, y4, y5, y6, y7, y8, y9, y10, y11, y12, y13, y14, y15, y16, y17, y18, y19,
+        y20, y21,
+    ]
+}
+
+// The bits of the sums of the products.
+#[inline(always)]
+fn inverse_substituted(products: &[u8x32; 18]) -> Planes
+    ensures { (p b v : ℕ) (products_bits : List ℕ) → p < 32 → b < 8 → v < 256 → CarryEach 18 p b v products.now products_bits → CarryEach 8 p b v result (inverse_substituted products_bits) }
+{
+    let [
+        z0,
+        z1,
+        z2,
+        z3,
+        z4,
+        z5,
+        z6,
+        z7,
+        z8,
+        z9,
+        z10,
+        z11,
+        z12,
+        z13,
+        z14,
+        z15,
+        z16,
+        z17,
+    ] = *products;
+    let c0 = z6 ^ z15;
+    let c1 = z12 ^ c0;
+    let c2 = z16 ^ c1;
+    let c3 = z8 ^ z13;
+    let c4 = z1 ^ z4;
+    let c5 = z2 ^ z10;
+    let c6 = c2 ^ c3;
+    let c7 = z14 ^ c5;
+    let c8 = z7 ^ z13;
+    let c9 = z5 ^ c6;
+    let c10 = z3 ^ c2;
+    let c11 = z9 ^ z17;
+    let c12 = c4 ^ c7;
+    let c13 = z4 ^ c8;
+    let c14 = z3 ^ c3;
+    let c15 = z11 ^ c11;
+    let c16 = z5 ^ c5;
+    let c17 = z11 ^ c1;
+    let c18 = z2 ^ c6;
+    let c19 = z8 ^ c12;
+    let c20 = z0 ^ z17;
+    let c21 = z0 ^ c4;
+    let c22 = c11 ^ c14;
+    let c23 = c17 ^ c20;
+    let s0 = z15 ^ c15;
+    let c24 = c0 ^ c22;
+    let s2 = c9 ^ c21;
+    let c25 = c13 ^ c16;
+    let s1 = c10 ^ c13;
+    let c26 = z11 ^ c19;
+    let s3 = c23 ^ c25;
+    let s6 = c12 ^ c24;
+    let s4 = z0 ^ c18;
+    let s7 = z3 ^ c9;
+    let s5 = c10 ^ c26;
+    [s0, s1, s2, s3, s4, s5, s6, s7]
+}
+
+// InvSubBytes (5.3.2).
+#[inline(always)]
+pub(crate) fn inv_sub_bytes(q: &Planes) -> Planes
+    requires { ArePlanes q.now }
+    ensures planes { ArePlanes result }
+    ensures blocks { (j : ℕ) → j < 16 → block_of result j ≡ inv_sub_bytes (block_of q.now j) }
+{
+    let sums = inverse_sums(q);
+    let combined = combined(&sums);
+    let inverse = inverse(&combined);
+    let products = products(&sums, &inverse);
+    inverse_substituted(&products)
+}

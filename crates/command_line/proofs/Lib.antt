@@ -1,0 +1,4 @@
+pub mod BindingLemmas
+pub mod CommandLemmas
+pub mod CommandWordLemmas
+pub mod GrammarLemmas

@@ -1,0 +1,170 @@
+-- What the words of a command line invoke.
+use Rattle.std.specs.Prelude.{ℕ, ◌==◌, ◌&&◌, nat_le, nat_lt, Bool, List, [], ◌∷◌, map, length, drop, slice_index, codes, Option, Some, None, option_map, if◌then◌else◌}
+use Rattle.std.specs.List.{list_any}
+use Rattle.std.specs.Option.{option_and_then}
+use Rattle.std.specs.Str.{bytes_eq}
+use Rattle.std.specs.Result.{result_ok}
+use Rattle.hex.specs.Hex.{decode_sized}
+use Rattle.dm_table.specs.Names.{is_device}
+use Rattle.dm_table.specs.Numbers.{number, number_if}
+use Rattle.command_line.specs.declared.fault.WordsFault.{WordsFault}
+use Rattle.command_line.specs.declared.fault.WordsFault.TheVariants.{Usage, NoMemory}
+use Rattle.command_line.specs.declared.command_words.Invocation.{Invocation}
+use Rattle.command_line.specs.declared.command_words.Invocation.TheVariants.{Load, Read, Write, Session, Nbd, Scan, Copy, Format, Verify, Dump, Table}
+use Rattle.command_line.specs.Bindings.{BindingRecord, binding_of, binding_record}
+
+pub data InvocationRecord : Type 0 where
+  -- a stack file, and bindings
+  load : List ℕ → List BindingRecord → InvocationRecord
+  -- how many blocks are cached, a stack file, a device's name, its first sector and how many, and bindings
+  read : ℕ → List ℕ → List ℕ → ℕ → ℕ → List BindingRecord → InvocationRecord
+  -- how many blocks are cached, a stack file, a device's name, its first sector, a source file, and bindings
+  write : ℕ → List ℕ → List ℕ → ℕ → List ℕ → List BindingRecord → InvocationRecord
+  -- how many blocks are cached, and bindings
+  session : ℕ → List BindingRecord → InvocationRecord
+  -- how many blocks are cached, a stack file, a device's name, and bindings
+  nbd : ℕ → List ℕ → List ℕ → List BindingRecord → InvocationRecord
+  -- a stack file, a device's name, and bindings
+  scan : List ℕ → List ℕ → List BindingRecord → InvocationRecord
+  -- a stack file, a device's name, an image, and bindings
+  copy : List ℕ → List ℕ → List ℕ → List BindingRecord → InvocationRecord
+  -- a data image, and a hash image
+  format : List ℕ → List ℕ → InvocationRecord
+  -- a data image, a hash image, and a root digest
+  verify : List ℕ → List ℕ → List ℕ → InvocationRecord
+  -- a hash image
+  dump : List ℕ → InvocationRecord
+  -- a hash image, a root digest, and the device arguments of data and hashes
+  table : List ℕ → List ℕ → List ℕ → List ℕ → InvocationRecord
+
+-- 64 blocks are cached unless the words say so, and at most 65,536
+abbrev pub cache_of : Option (List ℕ) → Option ℕ
+cache_of None = Some 64
+cache_of (Some word) = number_if (λ n. nat_le n 65536) (number word)
+
+-- the word begins with `-` (45) and isn't `-` alone
+abbrev pub is_option : List ℕ → Bool
+is_option word = nat_lt 1 (length word) && (slice_index word 0 == 45)
+
+abbrev pub cons : Option BindingRecord → Option (List BindingRecord) → Option (List BindingRecord)
+cons None more = None
+cons (Some binding) None = None
+cons (Some binding) (Some more) = Some (binding ∷ more)
+
+-- the bindings, if all words are bindings
+unfoldable pub bindings_of : List (List ℕ) → Option (List BindingRecord)
+bindings_of [] = Some []
+bindings_of (word ∷ words) = cons (binding_of word) (bindings_of words)
+
+-- `STACK BINDING...`
+abbrev pub load_of : List (List ℕ) → Option InvocationRecord
+load_of [] = None
+load_of (stack ∷ words) = option_map (load stack) (bindings_of words)
+
+abbrev pub read_at : ℕ → List ℕ → List ℕ → Option ℕ → Option ℕ → Option (List BindingRecord) → Option InvocationRecord
+read_at cache stack name (Some first) (Some count) bindings = option_map (read cache stack name first count) bindings
+read_at cache stack name (Some first) None bindings = None
+read_at cache stack name None count bindings = None
+
+-- `STACK NAME FIRST COUNT BINDING...`
+abbrev pub read_of : ℕ → List (List ℕ) → Option InvocationRecord
+read_of cache (stack ∷ name ∷ first ∷ count ∷ words) = read_at cache stack name (number first) (number count) (bindings_of words)
+read_of cache words = None
+
+abbrev pub write_at : ℕ → List ℕ → List ℕ → Option ℕ → List ℕ → Option (List BindingRecord) → Option InvocationRecord
+write_at cache stack name (Some first) source bindings = option_map (write cache stack name first source) bindings
+write_at cache stack name None source bindings = None
+
+-- `STACK NAME FIRST SOURCE BINDING...`
+abbrev pub write_of : ℕ → List (List ℕ) → Option InvocationRecord
+write_of cache (stack ∷ name ∷ first ∷ source ∷ words) = write_at cache stack name (number first) source (bindings_of words)
+write_of cache words = None
+
+-- `BINDING...`
+abbrev pub session_of : ℕ → List (List ℕ) → Option InvocationRecord
+session_of cache words = option_map (session cache) (bindings_of words)
+
+-- `STACK NAME BINDING...`
+abbrev pub nbd_of : ℕ → List (List ℕ) → Option InvocationRecord
+nbd_of cache (stack ∷ name ∷ words) = option_map (nbd cache stack name) (bindings_of words)
+nbd_of cache words = None
+
+-- `STACK NAME BINDING...`
+abbrev pub scan_of : List (List ℕ) → Option InvocationRecord
+scan_of (stack ∷ name ∷ words) = option_map (scan stack name) (bindings_of words)
+scan_of words = None
+
+-- `STACK NAME OUT BINDING...`
+abbrev pub copy_of : List (List ℕ) → Option InvocationRecord
+copy_of (stack ∷ name ∷ out ∷ words) = option_map (copy stack name out) (bindings_of words)
+copy_of words = None
+
+-- 64 hexadecimal digits as 32 bytes
+unfoldable pub root_of : List ℕ → Option (List ℕ)
+root_of word = result_ok (decode_sized word 32)
+
+-- `DATA HASH`
+abbrev pub format_of : List (List ℕ) → Option InvocationRecord
+format_of (image ∷ hash ∷ []) = Some (format image hash)
+format_of words = None
+
+-- `DATA HASH ROOT`
+abbrev pub verify_of : List (List ℕ) → Option InvocationRecord
+verify_of (image ∷ hash ∷ root ∷ []) = option_map (verify image hash) (root_of root)
+verify_of words = None
+
+-- `HASH`
+abbrev pub dump_of : List (List ℕ) → Option InvocationRecord
+dump_of (hash ∷ []) = Some (dump hash)
+dump_of words = None
+
+-- of device arguments alone
+abbrev pub table_at : List ℕ → Option (List ℕ) → List ℕ → List ℕ → Option InvocationRecord
+table_at hash root image_name hash_name =
+    if is_device image_name && is_device hash_name then option_map (λ bytes. table hash bytes image_name hash_name) root else None
+
+-- `HASH ROOT DATANAME HASHNAME`
+abbrev pub table_of : List (List ℕ) → Option InvocationRecord
+table_of (hash ∷ root ∷ image_name ∷ hash_name ∷ []) = table_at hash (root_of root) image_name hash_name
+table_of words = None
+
+-- by a command's name, how many blocks are cached, and its positional words
+abbrev pub invocation_at : List ℕ → ℕ → List (List ℕ) → Option InvocationRecord
+invocation_at name cache words =
+    if bytes_eq name (codes "load") then load_of words
+    else if bytes_eq name (codes "read") then read_of cache words
+    else if bytes_eq name (codes "write") then write_of cache words
+    else if bytes_eq name (codes "session") then session_of cache words
+    else if bytes_eq name (codes "nbd") then nbd_of cache words
+    else if bytes_eq name (codes "scan") then scan_of words
+    else if bytes_eq name (codes "copy") then copy_of words
+    else if bytes_eq name (codes "format") then format_of words
+    else if bytes_eq name (codes "verify") then verify_of words
+    else if bytes_eq name (codes "dump") then dump_of words
+    else if bytes_eq name (codes "table") then table_of words
+    else None
+
+-- by a command's name, the value of its option `--cache`, and its positional words, of which none behind the first is an option
+unfoldable pub invocation_of : List ℕ → Option (List ℕ) → List (List ℕ) → Option InvocationRecord
+invocation_of name cache words =
+    if list_any is_option (drop 1 words) then None
+    else option_and_then (λ blocks. invocation_at name blocks words) (cache_of cache)
+
+-- what the program's own value says
+abbrev pub invocation_record : Invocation → InvocationRecord
+invocation_record (Load stack bindings) = load stack.now (map binding_record bindings.items)
+invocation_record (Read cache stack sectors bindings) = read cache stack.now sectors.name.now sectors.first sectors.count (map binding_record bindings.items)
+invocation_record (Write cache stack transfer bindings) = write cache stack.now transfer.name.now transfer.first transfer.source.now (map binding_record bindings.items)
+invocation_record (Session cache bindings) = session cache (map binding_record bindings.items)
+invocation_record (Nbd device bindings) = nbd device.cache device.stack.now device.name.now (map binding_record bindings.items)
+invocation_record (Scan stack name bindings) = scan stack.now name.now (map binding_record bindings.items)
+invocation_record (Copy stack name out bindings) = copy stack.now name.now out.now (map binding_record bindings.items)
+invocation_record (Format image hash) = format image.now hash.now
+invocation_record (Verify image hash root) = verify image.now hash.now root
+invocation_record (Dump hash) = dump hash.now
+invocation_record (Table hash root image_name hash_name) = table hash.now root image_name.now hash_name.now
+
+-- the fault is `Usage` with that cause, or memory ran out
+abbrev pub IsUsage : WordsFault → Type 0 → Type 0
+IsUsage Usage Cause = Cause
+IsUsage NoMemory Cause = Unit {0}

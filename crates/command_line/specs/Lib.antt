@@ -1,0 +1,4 @@
+pub mod Bindings
+pub mod CommandLines
+pub mod CommandWords
+pub mod Grammar

@@ -1,0 +1,73 @@
+// The names that a command line binds to devices.
+ghost use Rattle.std.specs.Prelude.{◌≡◌, option_map};
+ghost use Rattle.command_line.specs.Bindings.{backing_by, backing_record, backing_of, binding_record, binding_of, sectors_at};
+
+use dm_table::number;
+
+const MOST_SECTORS: u64 = 65536;
+
+/// What stands behind a name: a file, or new sectors in memory.
+#[derive(Clone, Copy, Debug, PartialEq, Eq)]
+pub enum Backing<'a> {
+    File { path: &'a str, writable: bool },
+    Zeros(u32),
+    Ramp(u32),
+}
+
+/// A name and the device that it stands for.
+#[derive(Clone, Copy, Debug, PartialEq, Eq)]
+pub struct Binding<'a> {
+    pub name: &'a str,
+    pub backing: Backing<'a>,
+}
+
+/// `NAME=rw:FILE`, `NAME=ro:FILE`, `NAME=zero:N` or `NAME=ramp:N`, cut at the first `=`.
+pub fn binding_of(word: &str) -> Option<Binding<'_>>
+    ensures { option_map binding_record result ≡ binding_of word.now }
+{
+    let (name, text) = word.split_once('=')?;
+    let backing = backing_of(text)?;
+    Some(Binding { name, backing })
+}
+
+// `rw:FILE`, `ro:FILE`, `zero:N` or `ramp:N`
+fn backing_of(text: &str) -> Option<Backing<'_>>
+    ensures { option_map backing_record result ≡ backing_of text.now }
+{
+    let (kind, rest) = text.split_once(':')?;
+    backing_by(kind.as_bytes(), rest)
+}
+
+// What stands behind the colon, by the kind that stands before it.
+fn backing_by<'a>(kind: &[u8], rest: &'a str) -> Option<Backing<'a>>
+    ensures { option_map backing_record result ≡ backing_by kind.now rest.now }
+{
+    if kind == b"rw".as_slice() {
+        Some(Backing::File {
+            path: rest,
+            writable: true,
+        })
+    } else if kind == b"ro".as_slice() {
+        Some(Backing::File {
+            path: rest,
+            writable: false,
+        })
+    } else if kind == b"zero".as_slice() {
+        Some(Backing::Zeros(sectors_at(rest)?))
+    } else if kind == b"ramp".as_slice() {
+        Some(Backing::Ramp(sectors_at(rest)?))
+    } else {
+        None
+    }
+}
+
+// From 1 to 65,536 sectors.
+fn sectors_at(word: &str) -> Option<u32>
+    ensures { result ≡ sectors_at word.now }
+{
+    let sectors = number(word.as_bytes())?;
+    if sectors < 1 || sectors > MOST_SECTORS {
+        return None;
+    }
+    Some(sectors as u32)
+}

@@ -1,0 +1,407 @@
+// What the words of a command line invoke.
+ghost use Rattle.std.specs.Prelude.{◌≡◌, map, drop, Some, None, IfOk, IfErr, option_map};
+ghost use Rattle.std.specs.List.{list_any};
+ghost use Rattle.command_line.specs.Bindings.{binding_record};
+ghost use Rattle.command_line.specs.CommandWords.{IsUsage, bindings_of, cache_of, copy_of, dump_of, format_of, invocation_at, invocation_of, invocation_record, is_option, load_of, nbd_of, read_of, root_of, scan_of, session_of, table_of, verify_of, write_of};
+
+use crate::bindings::{Binding, binding_of};
+use crate::fault::WordsFault;
+use dm_table::{is_device, number};
+use std::alloc::Global;
+
+const CACHED_BLOCKS: u32 = 64;
+
+const MOST_CACHED_BLOCKS: u64 = 65536;
+
+/// Sectors of a mapped device.
+#[derive(Clone, Copy, Debug, PartialEq, Eq)]
+pub struct Sectors<'a> {
+    pub name: &'a str,
+    pub first: u64,
+    pub count: u64,
+}
+
+/// A file whose bytes are written, and the mapped device to which they go from its sector `first` on.
+#[derive(Clone, Copy, Debug, PartialEq, Eq)]
+pub struct Transfer<'a> {
+    pub name: &'a str,
+    pub first: u64,
+    pub source: &'a str,
+}
+
+/// A mapped device of a stack file, and how many blocks are cached.
+#[derive(Clone, Copy, Debug, PartialEq, Eq)]
+pub struct ServedDevice<'a> {
+    pub cache: u32,
+    pub stack: &'a str,
+    pub name: &'a str,
+}
+
+/// A command with its positional words, and how many blocks are cached.
+#[derive(Debug, Drop)]
+pub enum Invocation<'a> {
+    /// `load STACK BINDING...`
+    Load {
+        stack: &'a str,
+        bindings: Vec<Binding<'a>>,
+    },
+    /// `read [--cache N] STACK NAME FIRST COUNT BINDING...`
+    Read {
+        cache: u32,
+        stack: &'a str,
+        sectors: Sectors<'a>,
+        bindings: Vec<Binding<'a>>,
+    },
+    /// `write [--cache N] STACK NAME FIRST SOURCE BINDING...`
+    Write {
+        cache: u32,
+        stack: &'a str,
+        transfer: Transfer<'a>,
+        bindings: Vec<Binding<'a>>,
+    },
+    /// `session [--cache N] BINDING...`
+    Session {
+        cache: u32,
+        bindings: Vec<Binding<'a>>,
+    },
+    /// `nbd [--cache N] STACK NAME BINDING...`
+    Nbd {
+        device: ServedDevice<'a>,
+        bindings: Vec<Binding<'a>>,
+    },
+    /// `scan STACK NAME BINDING...`
+    Scan {
+        stack: &'a str,
+        name: &'a str,
+        bindings: Vec<Binding<'a>>,
+    },
+    /// `copy STACK NAME OUT BINDING...`
+    Copy {
+        stack: &'a str,
+        name: &'a str,
+        out: &'a str,
+        bindings: Vec<Binding<'a>>,
+    },
+    /// `format [OPTIONS] DATA HASH`
+    Format {
+        data: &'a str,
+        hash: &'a str,
+    },
+    /// `verify DATA HASH ROOT`
+    Verify {
+        data: &'a str,
+        hash: &'a str,
+        root: [u8; 32],
+    },
+    /// `dump HASH`
+    Dump {
+        hash: &'a str,
+    },
+    /// `table HASH ROOT DATANAME HASHNAME`
+    Table {
+        hash: &'a str,
+        root: [u8; 32],
+        data_name: &'a str,
+        hash_name: &'a str,
+    },
+}
+
+/// What a command invokes, by the value of its option `--cache` and its positional words, of which none
+/// behind the first may have the form of an option.
+pub fn invocation_of<'a>(
+    alloc: Global,
+    name: &[u8],
+    cache: Option<&str>,
+    words: &[&'a str],
+) -> Result<Invocation<'a>, WordsFault>
+    ensures ok { IfOk result (λ got. invocation_of name.now (option_map (λ word. word.now) cache.entry) (map (λ word. word.now) words.now) ≡ Some (invocation_record got)) }
+    ensures err { IfErr result (λ fault. IsUsage fault (invocation_of name.now (option_map (λ word. word.now) cache.entry) (map (λ word. word.now) words.now) ≡ None)) }
+{
+    if has_late_option(words) {
+        return Err(WordsFault::Usage);
+    }
+    match cache_of(cache) {
+        Some(blocks) => invocation_at(alloc, name, blocks, words),
+        None => Err(WordsFault::Usage),
+    }
+}
+
+fn invocation_at<'a>(
+    alloc: Global,
+    name: &[u8],
+    cache: u32,
+    words: &[&'a str],
+) -> Result<Invocation<'a>, WordsFault>
+    ensures ok { IfOk result (λ got. invocation_at name.now cache (map (λ word. word.now) words.now) ≡ Some (invocation_record got)) }
+    ensures err { IfErr result (λ fault. IsUsage fault (invocation_at name.now cache (map (λ word. word.now) words.now) ≡ None)) }
+{
+    if name == b"load".as_slice() {
+        load_of(alloc, words)
+    } else if name == b"read".as_slice() {
+        read_of(alloc, cache, words)
+    } else if name == b"write".as_slice() {
+        write_of(alloc, cache, words)
+    } else if name == b"session".as_slice() {
+        session_of(alloc, cache, words)
+    } else if name == b"nbd".as_slice() {
+        nbd_of(alloc, cache, words)
+    } else if name == b"scan".as_slice() {
+        scan_of(alloc, words)
+    } else if name == b"copy".as_slice() {
+        copy_of(alloc, words)
+    } else if name == b"format".as_slice() {
+        format_of(words)
+    } else if name == b"verify".as_slice() {
+        verify_of(words)
+    } else if name == b"dump".as_slice() {
+        dump_of(words)
+    } else if name == b"table".as_slice() {
+        table_of(words)
+    } else {
+        Err(WordsFault::Usage)
+    }
+}
+
+// `STACK BINDING...`
+fn load_of<'a>(alloc: Global, words: &[&'a str]) -> Result<Invocation<'a>, WordsFault>
+    ensures ok { IfOk result (λ got. load_of (map (λ word. word.now) words.now) ≡ Some (invocation_record got)) }
+    ensures err { IfErr result (λ fault. IsUsage fault (load_of (map (λ word. word.now) words.now) ≡ None)) }
+{
+    let [stack, rest @ ..] = words else {
+        return Err(WordsFault::Usage);
+    };
+    match bindings_of(alloc, rest) {
+        Ok(bindings) => Ok(Invocation::Load { stack, bindings }),
+        Err(fault) => Err(fault),
+    }
+}
+
+// `STACK NAME FIRST COUNT BINDING...`
+fn read_of<'a>(alloc: Global, cache: u32, words: &[&'a str]) -> Result<Invocation<'a>, WordsFault>
+    ensures ok { IfOk result (λ got. read_of cache (map (λ word. word.now) words.now) ≡ Some (invocation_record got)) }
+    ensures err { IfErr result (λ fault. IsUsage fault (read_of cache (map (λ word. word.now) words.now) ≡ None)) }
+{
+    let [stack, name, first, count, rest @ ..] = words else {
+        return Err(WordsFault::Usage);
+    };
+    let (Some(first), Some(count)) = (number(first.as_bytes()), number(count.as_bytes())) else {
+        return Err(WordsFault::Usage);
+    };
+    match bindings_of(alloc, rest) {
+        Ok(bindings) => Ok(Invocation::Read {
+            cache,
+            stack,
+            sectors: Sectors { name, first, count },
+            bindings,
+        }),
+        Err(fault) => Err(fault),
+    }
+}
+
+// `STACK NAME FIRST SOURCE BINDING...`
+fn write_of<'a>(alloc: Global, cache: u32, words: &[&'a str]) -> Result<Invocation<'a>, WordsFault>
+    ensures ok { IfOk result (λ got. write_of cache (map (λ word. word.now) words.now) ≡ Some (invocation_record got)) }
+    ensures err { IfErr result (λ fault. IsUsage fault (write_of cache (map (λ word. word.now) words.now) ≡ None)) }
+{
+    let [stack, name, first, source, rest @ ..] = words else {
+        return Err(WordsFault::Usage);
+    };
+    let Some(first) = number(first.as_bytes()) else {
+        return Err(WordsFault::Usage);
+    };
+    match bindings_of(alloc, rest) {
+        Ok(bindings) => Ok(Invocation::Write {
+            cache,
+            stack,
+            transfer: Transfer {
+                name,
+                first,
+                source,
+            },
+            bindings,
+        }),
+        Err(fault) => Err(fault),
+    }
+}
+
+// `BINDING...`
+fn session_of<'a>(
+    alloc: Global,
+    cache: u32,
+    words: &[&'a str],
+) -> Result<Invocation<'a>, WordsFault>
+    ensures ok { IfOk result (λ got. session_of cache (map (λ word. word.now) words.now) ≡ Some (invocation_record got)) }
+    ensures err { IfErr result (λ fault. IsUsage fault (session_of cache (map (λ word. word.now) words.now) ≡ None)) }
+{
+    match bindings_of(alloc, words) {
+        Ok(bindings) => Ok(Invocation::Session { cache, bindings }),
+        Err(fault) => Err(fault),
+    }
+}
+
+// `STACK NAME BINDING...`
+fn nbd_of<'a>(alloc: Global, cache: u32, words: &[&'a str]) -> Result<Invocation<'a>, WordsFault>
+    ensures ok { IfOk result (λ got. nbd_of cache (map (λ word. word.now) words.now) ≡ Some (invocation_record got)) }
+    ensures err { IfErr result (λ fault. IsUsage fault (nbd_of cache (map (λ word. word.now) words.now) ≡ None)) }
+{
+    let [stack, name, rest @ ..] = words else {
+        return Err(WordsFault::Usage);
+    };
+    match bindings_of(alloc, rest) {
+        Ok(bindings) => Ok(Invocation::Nbd {
+            device: ServedDevice { cache, stack, name },
+            bindings,
+        }),
+        Err(fault) => Err(fault),
+    }
+}
+
+// `STACK NAME BINDING...`
+fn scan_of<'a>(alloc: Global, words: &[&'a str]) -> Result<Invocation<'a>, WordsFault>
+    ensures ok { IfOk result (λ got. scan_of (map (λ word. word.now) words.now) ≡ Some (invocation_record got)) }
+    ensures err { IfErr result (λ fault. IsUsage fault (scan_of (map (λ word. word.now) words.now) ≡ None)) }
+{
+    let [stack, name, rest @ ..] = words else {
+        return Err(WordsFault::Usage);
+    };
+    match bindings_of(alloc, rest) {
+        Ok(bindings) => Ok(Invocation::Scan {
+            stack,
+            name,
+            bindings,
+        }),
+        Err(fault) => Err(fault),
+    }
+}
+
+// `STACK NAME OUT BINDING...`
+fn copy_of<'a>(alloc: Global, words: &[&'a str]) -> Result<Invocation<'a>, WordsFault>
+    ensures ok { IfOk result (λ got. copy_of (map (λ word. word.now) words.now) ≡ Some (invocation_record got)) }
+    ensures err { IfErr result (λ fault. IsUsage fault (copy_of (map (λ word. word.now) words.now) ≡ None)) }
+{
+    let [stack, name, out, rest @ ..] = words else {
+        return Err(WordsFault::Usage);
+    };
+    match bindings_of(alloc, rest) {
+        Ok(bindings) => Ok(Invocation::Copy {
+            stack,
+            name,
+            out,
+            bindings,
+        }),
+        Err(fault) => Err(fault),
+    }
+}
+
+// `DATA HASH`
+fn format_of<'a>(words: &[&'a str]) -> Result<Invocation<'a>, WordsFault>
+    ensures ok { IfOk result (λ got. format_of (map (λ word. word.now) words.now) ≡ Some (invocation_record got)) }
+    ensures err { IfErr result (λ fault. IsUsage fault (format_of (map (λ word. word.now) words.now) ≡ None)) }
+{
+    match words {
+        [data, hash] => Ok(Invocation::Format { data, hash }),
+        _ => Err(WordsFault::Usage),
+    }
+}
+
+// `DATA HASH ROOT`
+fn verify_of<'a>(words: &[&'a str]) -> Result<Invocation<'a>, WordsFault>
+    ensures ok { IfOk result (λ got. verify_of (map (λ word. word.now) words.now) ≡ Some (invocation_record got)) }
+    ensures err { IfErr result (λ fault. IsUsage fault (verify_of (map (λ word. word.now) words.now) ≡ None)) }
+{
+    let [data, hash, root] = words else {
+        return Err(WordsFault::Usage);
+    };
+    match root_of(root) {
+        Some(root) => Ok(Invocation::Verify { data, hash, root }),
+        None => Err(WordsFault::Usage),
+    }
+}
+
+// `HASH`
+fn dump_of<'a>(words: &[&'a str]) -> Result<Invocation<'a>, WordsFault>
+    ensures ok { IfOk result (λ got. dump_of (map (λ word. word.now) words.now) ≡ Some (invocation_record got)) }
+    ensures err { IfErr result (λ fault. IsUsage fault (dump_of (map (λ word. word.now) words.now) ≡ None)) }
+{
+    match words {
+        [hash] => Ok(Invocation::Dump { hash }),
+        _ => Err(WordsFault::Usage),
+    }
+}
+
+// `HASH ROOT DATANAME HASHNAME`, of which the last two are device arguments of a table line.
+fn table_of<'a>(words: &[&'a str]) -> Result<Invocation<'a>, WordsFault>
+    ensures ok { IfOk result (λ got. table_of (map (λ word. word.now) words.now) ≡ Some (invocation_record got)) }
+    ensures err { IfErr result (λ fault. IsUsage fault (table_of (map (λ word. word.now) words.now) ≡ None)) }
+{
+    let [hash, root, data_name, hash_name] = words else {
+        return Err(WordsFault::Usage);
+    };
+    if !is_device(data_name.as_bytes()) || !is_device(hash_name.as_bytes()) {
+        return Err(WordsFault::Usage);
+    }
+    match root_of(root) {
+        Some(root) => Ok(Invocation::Table {
+            hash,
+            root,
+            data_name,
+            hash_name,
+        }),
+        None => Err(WordsFault::Usage),
+    }
+}
+
+// Whether a word has the form of an option, as `-x`; `-` alone has not.
+fn is_option(word: &str) -> bool
+    ensures { result ≡ is_option word.now }
+{
+    let bytes = word.as_bytes();
+    bytes.len() > 1 && bytes[0] == b'-'
+}
+
+// Whether a word behind the first one has the form of an option.
+fn has_late_option(words: &[&str]) -> bool
+    ensures { result ≡ list_any (λ word. is_option word.now) (drop 1 words.now) }
+{
+    words.iter().skip(1).any(|word| is_option(word))
+}
+
+// How many blocks are cached, if the option's value says how many.
+fn cache_of(word: Option<&str>) -> Option<u32>
+    ensures { result ≡ cache_of (option_map (λ word. word.now) word.entry) }
+{
+    let Some(word) = word else {
+        return Some(CACHED_BLOCKS);
+    };
+    let blocks = number(word.as_bytes())?;
+    if blocks > MOST_CACHED_BLOCKS {
+        return None;
+    }
+    Some(blocks as u32)
+}
+
+// A root digest of 64 hexadecimal digits.
+fn root_of(word: &str) -> Option<[u8; 32]>
+    ensures { result ≡ root_of word.now }
+{
+    let mut root = [0u8; 32];
+    match hex::decode_to_slice(word, &mut root) {
+        Ok(()) => Some(root),
+        Err(_) => None,
+    }
+}
+
+// The bindings, if all words are bindings.
+fn bindings_of<'a>(alloc: Global, words: &[&'a str]) -> Result<Vec<Binding<'a>>, WordsFault>
+    ensures ok { IfOk result (λ bindings. bindings_of (map (λ word. word.now) words.now) ≡ Some (map binding_record bindings.items)) }
+    ensures err { IfErr result (λ fault. IsUsage fault (bindings_of (map (λ word. word.now) words.now) ≡ None)) }
+{
+    let mut bindings = Vec::new(alloc);
+    'words: for word in words {
+        match binding_of(word) {
+            Some(binding) => bindings.push(binding)?,
+            None => return Err(WordsFault::Usage),
+        }
+    }
+    Ok(bindings)
+}

@@ -1,0 +1,127 @@
+// The options of `format`, as words and as what they say.
+ghost use Rattle.std.specs.Prelude.{IfErr};
+ghost use Rattle.clap.specs.Matches.{found_of};
+ghost use Rattle.command_line.specs.CommandLines.{AreOptions};
+ghost use Rattle.command_line.specs.CommandWords.{IsUsage};
+
+use crate::fault::WordsFault;
+use clap::ArgMatches;
+use dm_table::number;
+use hash_tree::Salt;
+use std::alloc::Global;
+use uuid::Uuid;
+
+const BLOCK_SIZE: u32 = 4096;
+
+/// What `format` is to make. Where there is no salt or identifier, one is drawn; where there is no number of
+/// blocks, all whole blocks are taken.
+#[derive(Clone, Copy)]
+pub struct ImageOptions {
+    pub data_block: u32,
+    pub hash_block: u32,
+    pub blocks: Option<u64>,
+    pub salt: Option<Salt>,
+    pub uuid: Option<[u8; 16]>,
+}
+
+/// The values of the options, as they stand in the words.
+#[derive(Clone, Copy, Debug, PartialEq, Eq)]
+pub struct OptionWords<'a> {
+    pub data_block: Option<&'a str>,
+    pub hash_block: Option<&'a str>,
+    pub blocks: Option<&'a str>,
+    pub salt: Option<&'a str>,
+    pub uuid: Option<&'a str>,
+}
+
+/// The values of the options that clap found.
+pub fn option_words<'a>(found: &ArgMatches<'a>) -> OptionWords<'a>
+    ensures { AreOptions (found_of found.now) result }
+{
+    OptionWords {
+        data_block: found.get_str("data-block"),
+        hash_block: found.get_str("hash-block"),
+        blocks: found.get_str("blocks"),
+        salt: found.get_str("salt"),
+        uuid: found.get_str("uuid"),
+    }
+}
+
+/// `[--data-block N] [--hash-block N] [--blocks N] [--salt HEX] [--uuid U]`
+pub fn options_of(alloc: Global, words: &OptionWords<'_>) -> Result<ImageOptions, WordsFault>
+    ensures { IfErr result (λ fault. IsUsage fault (Unit {0})) }
+{
+    let data_block = block_size_of(words.data_block)?;
+    let hash_block = block_size_of(words.hash_block)?;
+    let blocks = count_of(words.blocks)?;
+    let salt = salt_of(alloc, words.salt)?;
+    let uuid = uuid_of(words.uuid)?;
+    Ok(ImageOptions {
+        data_block,
+        hash_block,
+        blocks,
+        salt,
+        uuid,
+    })
+}
+
+// A block size of 4,096 bytes unless the word says another.
+fn block_size_of(word: Option<&str>) -> Result<u32, WordsFault>
+    ensures { IfErr result (λ fault. IsUsage fault (Unit {0})) }
+{
+    match count_of(word)? {
+        None => Ok(BLOCK_SIZE),
+        Some(size) => match u32::try_from(size) {
+            Ok(size) => Ok(size),
+            Err(_) => Err(WordsFault::Usage),
+        },
+    }
+}
+
+fn count_of(word: Option<&str>) -> Result<Option<u64>, WordsFault>
+    ensures { IfErr result (λ fault. IsUsage fault (Unit {0})) }
+{
+    let Some(word) = word else {
+        return Ok(None);
+    };
+    match number(word.as_bytes()) {
+        Some(count) => Ok(Some(count)),
+        None => Err(WordsFault::Usage),
+    }
+}
+
+// `-` for an empty salt, or 2 to 512 hexadecimal digits.
+fn salt_of(alloc: Global, word: Option<&str>) -> Result<Option<Salt>, WordsFault>
+    ensures { IfErr result (λ fault. IsUsage fault (Unit {0})) }
+{
+    let Some(word) = word else {
+        return Ok(None);
+    };
+    if word == "-" {
+        return Ok(Salt::new(&[]));
+    }
+    if word.is_empty() {
+        return Err(WordsFault::Usage);
+    }
+    let bytes = match hex::decode(alloc, word) {
+        Ok(bytes) => bytes,
+        Err(hex::FromHexError::OutOfMemory) => return Err(WordsFault::NoMemory),
+        Err(_) => return Err(WordsFault::Usage),
+    };
+    match Salt::new(bytes.as_slice()) {
+        Some(salt) => Ok(Some(salt)),
+        None => Err(WordsFault::Usage),
+    }
+}
+
+fn uuid_of(word: Option<&str>) -> Result<Option<[u8; 16]>, WordsFault>
+    ensures { IfErr result (λ fault. IsUsage fault (Unit {0})) }
+{
+    let Some(word) = word else {
+        return Ok(None);
+    };
+    match Uuid::try_parse(word) {
+        Ok(uuid) => Ok(Some(uuid.into_bytes())),
+        Err(_) => Err(WordsFault::Usage),
+    }
+}

@@ -1,0 +1,94 @@
+-- Lines and table texts without a fault, step by step.
+use Rattle.std.proofs.Common.{◌≡◌, ℕ, ◌+◌, ◌*◌, ◌^◌, ◌<◌, ◌≤◌, true, false, List, [], ◌∷◌, length, Some, refl, ap, ◌∙◌, not, eqb, Ok, Err, ◌/◌, codes}
+use Rattle.std.specs.List.{list_all}
+use Rattle.std.specs.Char.{is_ascii_digit}
+use Rattle.std.specs.Str.Parse.{digits_value}
+use Rattle.std.proofs.lemmas.Bool.{cond-false, lt-ltb, cond-true, and_from, eq-eqb, le-leb}
+use Rattle.dm_table.specs.Numbers.{number}
+use Rattle.std.specs.Str.{bytes_eq}
+use Rattle.dm_table.specs.declared.fault.TextKind.TheVariants as kinds
+use Rattle.dm_table.specs.Words.{Word, is_text, words, lines_of}
+use Rattle.dm_table.specs.Reading.{◌>>=◌, at_place}
+use Rattle.dm_table.specs.Arguments.{number_at, bytes_at}
+use Rattle.dm_table.specs.Options.{are_options, known_at, counted_at, options_at}
+use Rattle.dm_table.specs.Verity.{salt_at}
+use Rattle.dm_table.specs.declared.table.Target.TheVariants.{Striped, Zero, Error}
+use Rattle.dm_table.specs.Lines.{linear_at, stripes_at, chunk_at, pairs_at, bases_at, striped_at, bare_at, crypt_target_at, verity_target_at, target_at, line_of}
+use Rattle.dm_table.specs.declared.table.Line.{Line}
+use Rattle.dm_table.specs.TableText.{is_skipped, table_lines, some_lines, table_of}
+
+-- the three facts by which a word is a number
+pub number-some : (word : List ℕ) → 0 < length word → list_all is_ascii_digit word ≡ true → digits_value 10 word < 2 ^ 64 → number word ≡ Some (digits_value 10 word)
+unfolding number
+number-some word some digits fits = rw (lt-ltb 0 (length word) some, digits, lt-ltb (digits_value 10 word) (2 ^ 64) fits) refl
+
+pub known_at-ok : (known words : List Word) → are_options known words ≡ true → known_at known words ≡ Ok words
+unfolding known_at
+known_at-ok known words all = cond-true _ _ _ all
+
+pub options-known : (known : List Word) (count : Word) (words : List Word) (n : ℕ) → number_at count ≡ Ok n → length words ≡ n → options_at known (count ∷ words) ≡ known_at known words
+unfolding options_at
+options-known known count words n e same = ap (λ r. r >>= (λ n. counted_at known n words)) e ∙ cond-true _ _ _ (eq-eqb (length words) n same)
+
+-- a salt at each of its words
+pub salt_at-none : (word : Word) → bytes_eq word (codes "-") ≡ true → salt_at word ≡ Ok []
+unfolding salt_at
+salt_at-none word none = cond-true _ _ _ none
+
+pub salt_at-digits : (word : Word) → bytes_eq word (codes "-") ≡ false → 2 ≤ length word → length word ≤ 512 → salt_at word ≡ bytes_at (length word / 2) kinds.Salt word
+unfolding salt_at
+salt_at-digits word some low high = cond-false _ _ _ some ∙ cond-true _ _ _ (and_from _ _ (le-leb 2 (length word) low) (le-leb (length word) 512 high))
+
+pub striped-pairs : (count size : Word) (pairs : List Word) (n chunk : ℕ) → stripes_at count ≡ Ok n → chunk_at size ≡ Ok chunk → striped_at (count ∷ size ∷ pairs) ≡ (pairs_at n pairs >>= (λ bases. Ok (Striped chunk bases)))
+unfolding striped_at
+striped-pairs count size pairs n chunk e f =
+    ap (λ r. r >>= (λ n. chunk_at size >>= (λ chunk. pairs_at n pairs >>= (λ bases. Ok (Striped chunk bases))))) e
+    ∙ ap (λ r. r >>= (λ chunk. pairs_at n pairs >>= (λ bases. Ok (Striped chunk bases)))) f
+
+pub striped-bases : (count size : Word) (pairs : List Word) (n chunk : ℕ) → stripes_at count ≡ Ok n → chunk_at size ≡ Ok chunk → length pairs ≡ 2 * n → striped_at (count ∷ size ∷ pairs) ≡ (bases_at pairs >>= (λ bases. Ok (Striped chunk bases)))
+striped-bases count size pairs n chunk e f same =
+    striped-pairs count size pairs n chunk e f
+    ∙ ap (λ r. r >>= (λ bases. Ok (Striped chunk bases))) (cond-true (eqb (length pairs) (2 * n)) (bases_at pairs) (Err kinds.ArgCount) (eq-eqb (length pairs) (2 * n) same))
+
+pub line-target : (start count type : Word) (arguments : List Word) (n m : ℕ) → number_at start ≡ Ok n → number_at count ≡ Ok m → line_of (start ∷ count ∷ type ∷ arguments) ≡ (target_at type arguments >>= (λ target. Ok (record { start = n; length = m; target = target })))
+unfolding line_of
+line-target start count type arguments n m e f =
+    ap (λ r. r >>= (λ first. number_at count >>= (λ sectors. target_at type arguments >>= (λ target. Ok (record { start = first; length = sectors; target = target }))))) e
+    ∙ ap (λ r. r >>= (λ sectors. target_at type arguments >>= (λ target. Ok (record { start = n; length = sectors; target = target })))) f
+
+-- the types of targets, each behind those before it
+pub target-linear : (type : Word) (arguments : List Word) → bytes_eq type (codes "linear") ≡ true → target_at type arguments ≡ linear_at arguments
+unfolding target_at
+target-linear type arguments linear = cond-true _ _ _ linear
+
+pub target-striped : (type : Word) (arguments : List Word) → bytes_eq type (codes "linear") ≡ false → bytes_eq type (codes "striped") ≡ true → target_at type arguments ≡ striped_at arguments
+unfolding target_at
+target-striped type arguments linear striped = cond-false _ _ _ linear ∙ cond-true _ _ _ striped
+
+pub target-zero : (type : Word) (arguments : List Word) → bytes_eq type (codes "linear") ≡ false → bytes_eq type (codes "striped") ≡ false → bytes_eq type (codes "zero") ≡ true → target_at type arguments ≡ bare_at Zero arguments
+unfolding target_at
+target-zero type arguments linear striped zeros = cond-false _ _ _ linear ∙ cond-false _ _ _ striped ∙ cond-true _ _ _ zeros
+
+pub target-error : (type : Word) (arguments : List Word) → bytes_eq type (codes "linear") ≡ false → bytes_eq type (codes "striped") ≡ false → bytes_eq type (codes "zero") ≡ false → bytes_eq type (codes "error") ≡ true → target_at type arguments ≡ bare_at Error arguments
+unfolding target_at
+target-error type arguments linear striped zeros errors = cond-false _ _ _ linear ∙ cond-false _ _ _ striped ∙ cond-false _ _ _ zeros ∙ cond-true _ _ _ errors
+
+pub target-crypt : (type : Word) (arguments : List Word) → bytes_eq type (codes "linear") ≡ false → bytes_eq type (codes "striped") ≡ false → bytes_eq type (codes "zero") ≡ false → bytes_eq type (codes "error") ≡ false → bytes_eq type (codes "crypt") ≡ true → target_at type arguments ≡ crypt_target_at arguments
+unfolding target_at
+target-crypt type arguments linear striped zeros errors crypt = cond-false _ _ _ linear ∙ cond-false _ _ _ striped ∙ cond-false _ _ _ zeros ∙ cond-false _ _ _ errors ∙ cond-true _ _ _ crypt
+
+pub target-verity : (type : Word) (arguments : List Word) → bytes_eq type (codes "linear") ≡ false → bytes_eq type (codes "striped") ≡ false → bytes_eq type (codes "zero") ≡ false → bytes_eq type (codes "error") ≡ false → bytes_eq type (codes "crypt") ≡ false → bytes_eq type (codes "verity") ≡ true → target_at type arguments ≡ verity_target_at arguments
+unfolding target_at
+target-verity type arguments linear striped zeros errors crypt verity = cond-false _ _ _ linear ∙ cond-false _ _ _ striped ∙ cond-false _ _ _ zeros ∙ cond-false _ _ _ errors ∙ cond-false _ _ _ crypt ∙ cond-true _ _ _ verity
+
+pub table-lines : (text : List ℕ) → is_text text ≡ true → table_of text ≡ (table_lines 1 (lines_of text) >>= some_lines)
+unfolding table_of
+table-lines text good = cond-false (not (is_text text)) _ _ (ap not good)
+
+pub table_lines-full : (n : ℕ) (text : List ℕ) (more : List (List ℕ)) → is_skipped (words text) ≡ false
+    → table_lines n (text ∷ more) ≡ (at_place 0 n (line_of (words text)) >>= (λ line. table_lines (n + 1) more >>= (λ lines. Ok (line ∷ lines))))
+table_lines-full n text more full = cond-false (is_skipped (words text)) _ _ full
+
+pub some_lines-some : (lines : List Line) → (length lines ≡ 0 → ⊥) → some_lines lines ≡ Ok lines
+some_lines-some [] some = absurd (some refl)
+some_lines-some (line ∷ more) some = refl

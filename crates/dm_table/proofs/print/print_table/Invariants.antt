@@ -1,6 +1,0 @@
-use Rattle.std.proofs.Common.{◌≡◌, take}
-use Rattle.dm_table.specs.Print.{table_text}
-use Rattle.dm_table.proofs.print.print_table.Given as goal
-
-abbrev pub invariant-loop-line : goal.invariant-loop-line
-invariant-loop-line l = l.text.items ≡ table_text l.fn.show_keys (take l.line-index l.line-items)

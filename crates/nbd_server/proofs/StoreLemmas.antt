@@ -1,0 +1,226 @@
+-- Sectors that are put by one run after another.
+use Rattle.std.proofs.Common.{◌≡◌, ◌≤◌, ℕ, ◌+◌, ◌-◌, ◌*◌, ◌/◌, ◌%◌, List, [], ◌++◌, length, take, drop, refl, ap, sym, ◌∙◌, subst, append_assoc, append-nil, arith, inl, inr, Some, Result, Ok, Err}
+use Rattle.std.specs.Prelude.{◌⊎◌}
+use Rattle.std.proofs.lemmas.List.{length-append, length-take-le, take-append-drop, take-append-le}
+use Rattle.std.proofs.Math.Nat.{add-mul, mul-le-mul_right}
+use Rattle.std.proofs.Math.Seq.{take-append-add, take-add}
+use Rattle.stack_rules.specs.Names.{device_named, mapped}
+use Rattle.stack_rules.specs.Descend.{write_cost}
+use Rattle.stack_rules.specs.Records.{Configuration}
+use Rattle.stack_engine.specs.declared.fault.IoFault.{IoFault}
+use Rattle.stack_engine.specs.declared.fault.IoFault.TheVariants as io
+use Rattle.stack_engine.specs.Changes.{reached, AreWritten}
+use Rattle.stack_engine.specs.May.{MayFault}
+use Rattle.stack_engine.specs.Meaning.{said_at}
+use Rattle.stack_engine.specs.Outcomes.{Fault, error_target, LeafSector}
+use Rattle.stack_engine.specs.Stacks.{StackRecord}
+use Rattle.stack_engine.specs.WritePieces.{piece_reached, AnyWrite, EachWrite, InTurn, WritesInPieces, nothing, next, ends}
+use Rattle.stack_engine.specs.Writing.{MayEnd}
+use Rattle.stack_engine.proofs.lemmas.ChangeLemmas.{reached-first, reached-later, AreWritten-then, AreWritten-more}
+use Rattle.stack_engine.proofs.lemmas.FoundLemmas.{SomeOf-more}
+use Rattle.stack_engine.proofs.lemmas.LeafListLemmas.{failed_later}
+use Rattle.stack_engine.proofs.lemmas.WritePieceLemmas.{write-none}
+use Rattle.request_queue.specs.declared.range.SectorRange.{SectorRange}
+use Rattle.request_queue.specs.declared.reply.Reply.TheVariants.{Written}
+use Rattle.request_queue.specs.Parts.{EachPart}
+use Rattle.request_queue.specs.Ranges.{range_at, range_of}
+use Rattle.request_queue.specs.Requests.{a_write, sector_count, sectors_for}
+use Rattle.request_queue.specs.WholeRuns.{WritesWhole, RunAnswers}
+use Rattle.request_queue.specs.World.{World, Step, admission, is_full, run}
+use Rattle.request_queue.proofs.lemmas.AdmissionLemmas.{admission-whole, unless-ok, writable-ok}
+use Rattle.nbd_server.specs.declared.request_error.RequestError.{RequestError}
+use Rattle.nbd_server.specs.declared.request_error.RequestError.TheVariants.{NoMemory, InputOutput}
+use Rattle.nbd_server.specs.Sectors.{IsStored, FailsToStore, EndsPut, StopsPut, error_of}
+use Rattle.nbd_server.proofs.FetchLemmas.{named-range}
+use Rattle.nbd_server.proofs.LedLemmas.{led-none, led-one, led-then}
+
+-- ---- a write, and one behind it
+
+module _ (x y z : List ℕ) (even : length x % 512 ≡ 0) where
+  count : length (x ++ (y ++ z)) / 512 ≡ (length x + (length y + length z)) / 512
+  count = omega (arith, length-append x (y ++ z), length-append y z)
+
+  fits : length x / 512 + length y / 512 ≤ length (x ++ (y ++ z)) / 512
+  fits = omega (arith, count, even)
+
+module _ {w w' w'' : StackRecord} (d first : ℕ) (x y z : List ℕ) (even : length x % 512 ≡ 0) (p : AnyWrite w d first x (Ok tt) w') where
+  -- the second one, over the same configuration
+  same-config : {result : Result Unit IoFault} → AnyWrite w' d (first + length x / 512) y result w''
+      → AreWritten (piece_reached w.config d (first + length x / 512) (length y / 512)) w'.leaves (length y / 512 * write_cost w.config (mapped d)) w''.leaves
+  same-config q = subst (λ (c : Configuration). AreWritten (piece_reached c d (first + length x / 512) (length y / 512)) w'.leaves (length y / 512 * write_cost c (mapped d)) w''.leaves) p.config q.moved
+
+  both-moved : {result : Result Unit IoFault} → AnyWrite w' d (first + length x / 512) y result w''
+      → AreWritten (piece_reached w.config d first (length (x ++ (y ++ z)) / 512)) w.leaves (length (x ++ (y ++ z)) / 512 * write_cost w.config (mapped d)) w''.leaves
+  both-moved q =
+      let reaches : ℕ → List LeafSector = λ s. (said_at w.config (mapped d) s).reaches in
+      let n : ℕ = length (x ++ (y ++ z)) / 512 in
+      let k : ℕ = write_cost w.config (mapped d) in
+      let front : AreWritten (reached reaches first n) w.leaves (length x / 512 * k) w'.leaves = AreWritten-more (reached-first reaches first (length x / 512) n (omega (arith, fits x y z even))) (omega arith) p.moved in
+      let back : AreWritten (reached reaches first n) w'.leaves (length y / 512 * k) w''.leaves = AreWritten-more (reached-later reaches first (length x / 512) (length y / 512) n (fits x y z even)) (omega arith) (same-config q) in
+      let most : (length x / 512 + length y / 512) * k ≤ n * k = mul-le-mul_right k (fits x y z even) in
+      AreWritten-more (λ q all. all) (omega (arith, most, add-mul (length x / 512) (length y / 512) k)) (AreWritten-then front back)
+
+  any-then : {result : Result Unit IoFault} → (result ≡ Err io.NoMemory → ⊥) → AnyWrite w' d (first + length x / 512) y result w'' → AnyWrite w d first (x ++ (y ++ z)) result w''
+  any-then {result = result} grown q = record {
+    config = q.config ∙ p.config;
+    whole = λ h. q.whole (p.whole h);
+    moved = both-moved q;
+    ends = later result grown (subst (λ (c : Configuration). MayEnd (MayFault c (mapped d) (first + length x / 512) (length y / 512)) w'.leaves w''.leaves result) p.config q.ends);
+  }
+    where
+      more : (fault : Fault) → MayFault w.config (mapped d) (first + length x / 512) (length y / 512) fault → MayFault w.config (mapped d) first (length (x ++ (y ++ z)) / 512) fault
+      more fault h = SomeOf-more (λ s. (said_at w.config (mapped d) s).meets fault) first (length x / 512) (length y / 512) (length (x ++ (y ++ z)) / 512) (fits x y z even) h
+
+      later : (result : Result Unit IoFault) → (result ≡ Err io.NoMemory → ⊥) → MayEnd (MayFault w.config (mapped d) (first + length x / 512) (length y / 512)) w'.leaves w''.leaves result
+          → MayEnd (MayFault w.config (mapped d) first (length (x ++ (y ++ z)) / 512)) w.leaves w''.leaves result
+      later (Ok u) grown h = tt
+      later (Err io.ErrorTarget) grown h = more error_target h
+      later (Err io.Mismatch) grown h = h
+      later (Err (io.Device i)) grown h = (h.0, failed_later p.moved.moved q.moved.moved h.1)
+      later (Err io.NoMemory) grown h = absurd (grown refl)
+
+abbrev pub ended : IoFault → Result Unit IoFault
+ended fault = Err fault
+
+-- ---- their pieces
+
+start-more : (first : ℕ) (x a : List ℕ) → length x % 512 ≡ 0 → first + length x / 512 + length a / 512 ≡ first + length (x ++ a) / 512
+start-more first x a even = omega (arith, length-append x a, even)
+
+turns-then : (d first : ℕ) {w v : StackRecord} (x : List ℕ) → length x % 512 ≡ 0 → InTurn d first w x (Ok tt) v → {y : List ℕ} {result : Result Unit IoFault} {w' : StackRecord}
+    → InTurn d (first + length x / 512) v y result w' → InTurn d first w (x ++ y) result w'
+turns-then d first {w = w} {v = v} x even p nothing = subst (λ l. InTurn d first w l (Ok tt) v) (sym (append-nil x)) p
+turns-then d first {w = w} {v = v} x even p (next {x = a} {y = b} {w' = m} {w'' = u} q r) =
+    subst (λ l. InTurn d first w l (Ok tt) u) (append_assoc x a b)
+    (next (turns-then d first x even p q) (subst (λ k. EachWrite m d k b (Ok tt) u) (start-more first x a even) r))
+turns-then d first {w = w} {v = v} x even p (ends {x = a} {y = b} {w' = m} {w'' = u} {fault = fault} c q r) =
+    subst (λ l. InTurn d first w l (Err fault) u) (append_assoc x a (b ++ c))
+    (ends c (turns-then d first x even p q) (subst (λ k. EachWrite m d k b (Err fault) u) (start-more first x a even) r))
+
+-- bytes behind a fault aren't written
+turns-more : (d first : ℕ) {v : StackRecord} (z : List ℕ) {y : List ℕ} {fault : IoFault} {w' : StackRecord} → InTurn d first v y (Err fault) w' → InTurn d first v (y ++ z) (Err fault) w'
+turns-more d first {v = v} z (ends {x = a} {y = b} {w' = m} {w'' = u} {fault = fault} c q r) =
+    let seam : a ++ (b ++ (c ++ z)) ≡ (a ++ (b ++ c)) ++ z = ap (λ l. a ++ l) (sym (append_assoc b c z)) ∙ sym (append_assoc a (b ++ c) z) in
+    subst (λ l. InTurn d first v l (Err fault) u) seam (ends (c ++ z) q r)
+
+module _ {w v w' : StackRecord} (d first : ℕ) (x y : List ℕ) (even : length x % 512 ≡ 0) (p : WritesInPieces w d first x (Ok tt) v) where
+  pub pieces-then : WritesInPieces v d (first + length x / 512) y (Ok tt) w' → WritesInPieces w d first (x ++ y) (Ok tt) w'
+  pieces-then q = record {
+    any = subst (λ (l : List ℕ). AnyWrite w d first (x ++ l) (Ok tt) w') (append-nil y) (any-then d first x y [] even p.any (λ e. cc) q.any);
+    pieces = turns-then d first x even p.pieces q.pieces;
+  }
+
+  pub pieces-end : (z : List ℕ) (fault : IoFault) → (ended fault ≡ ended io.NoMemory → ⊥) → WritesInPieces v d (first + length x / 512) y (Err fault) w' → WritesInPieces w d first (x ++ (y ++ z)) (Err fault) w'
+  pieces-end z fault grown q = record {
+    any = any-then d first x y z even p.any grown q.any;
+    pieces = turns-then d first x even p.pieces (turns-more d (first + length x / 512) z q.pieces);
+  }
+
+-- ---- one run
+
+pub stored-none : (w : World) (d first : ℕ) → IsStored w d first [] w
+stored-none w d first = record { put = write-none w.stack d first; led = led-none EachPart w }
+
+-- memory ran out before the first sector
+pub store-stops : (w : World) (d first : ℕ) (bytes : List ℕ) (w' : World) → w' ≡ w → FailsToStore w d first bytes NoMemory w'
+store-stops w d first bytes w' same =
+    subst (λ (x : World). FailsToStore w d first bytes NoMemory x) (sym same)
+    (record { cause = inr (refl, 0, omega arith, stored-none w d first); led = led-none EachPart w })
+
+module _ (w : World) (name : List ℕ) (d first : ℕ) (bytes : List ℕ) (found : device_named w.stack.config name ≡ Some d) (w' : World) where
+  write-range : (range : SectorRange) → admission w (a_write name first bytes) ≡ Ok range → range_at d first (sector_count bytes) ≡ range
+  write-range range h =
+      let c = w.stack.config in
+      named-range c name d first (sector_count bytes) range found
+      (writable-ok c bytes (range_of c name first (sector_count bytes)) range (unless-ok (is_full w) (sectors_for c (a_write name first bytes)) range h)).0
+
+  at-place : (some : List ℕ) (result : Result Unit IoFault) (range : SectorRange) → admission w (a_write name first bytes) ≡ Ok range
+      → WritesInPieces w.stack range.device.0 range.first some result w'.stack → WritesInPieces w.stack d first some result w'.stack
+  at-place some result range h p = subst (λ (r : SectorRange). WritesInPieces w.stack r.device.0 r.first some result w'.stack) (sym (write-range range h)) p
+
+  pub run-stored : RunAnswers w (a_write name first bytes) (Ok (Ok Written)) w' → Step EachPart w (run (a_write name first bytes) (Ok (Ok Written))) w' → IsStored w d first bytes w'
+  run-stored p s = record { put = at-place bytes (Ok tt) p.0 p.1 p.2; led = led-one EachPart w (run (a_write name first bytes) (Ok (Ok Written))) w' s }
+
+  put-fails : (fault : IoFault) (range : SectorRange) → admission w (a_write name first bytes) ≡ Ok range → Step EachPart w (run (a_write name first bytes) (Ok (Err fault))) w'
+      → WritesWhole w.stack range bytes (Err fault) w'.stack → EndsPut w d first bytes (error_of fault) w' ⊎ StopsPut w d first bytes (error_of fault) w'
+  put-fails io.ErrorTarget range h s p = inl (refl, io.ErrorTarget, refl, at-place bytes (Err io.ErrorTarget) range h p)
+  put-fails io.Mismatch range h s p = inl (refl, io.Mismatch, refl, at-place bytes (Err io.Mismatch) range h p)
+  put-fails (io.Device i) range h s p = inl (refl, io.Device i, refl, at-place bytes (Err (io.Device i)) range h p)
+  put-fails io.NoMemory range h s p =
+      let front = take (512 * p.0) bytes in
+      inr (
+        refl,
+        p.0,
+        omega (arith, p.1, admission-whole w name first bytes range h),
+        record { put = at-place front (Ok tt) range h p.2; led = led-one EachPart w (run (a_write name first bytes) (Ok (Err io.NoMemory))) w' s },
+      )
+
+  pub run-unstored : (fault : IoFault) → RunAnswers w (a_write name first bytes) (Ok (Err fault)) w' → Step EachPart w (run (a_write name first bytes) (Ok (Err fault))) w' → FailsToStore w d first bytes (error_of fault) w'
+  run-unstored fault p s = record {
+    cause = put-fails fault p.0 p.1 s p.2;
+    led = led-one EachPart w (run (a_write name first bytes) (Ok (Err fault))) w' s;
+  }
+
+-- ---- runs one after another
+
+module _ (w v w' : World) (d first : ℕ) (x y : List ℕ) (even : length x % 512 ≡ 0) (p : IsStored w d first x v) where
+  pub stored-more : IsStored v d (first + length x / 512) y w' → IsStored w d first (x ++ y) w'
+  stored-more q = record { put = pieces-then d first x y even p.put q.put; led = led-then EachPart w v w' p.led q.led }
+
+no-memory : (fault : IoFault) → error_of fault ≡ InputOutput → ended fault ≡ ended io.NoMemory → ⊥
+no-memory io.ErrorTarget e same = cc
+no-memory io.Mismatch e same = cc
+no-memory (io.Device i) e same = cc
+no-memory io.NoMemory e same = cc
+
+module _ (w v w' : World) (d first : ℕ) (x y z : List ℕ) (even : length x % 512 ≡ 0) (p : IsStored w d first x v) where
+  cause-more : (error : RequestError) → EndsPut v d (first + length x / 512) y error w' ⊎ StopsPut v d (first + length x / 512) y error w' → EndsPut w d first (x ++ (y ++ z)) error w' ⊎ StopsPut w d first (x ++ (y ++ z)) error w'
+  cause-more error (inl q) = inl (q.0, q.1, q.2, pieces-end d first x y even p.put z q.1 (no-memory q.1 q.2) q.3)
+  cause-more error (inr q) =
+      let n : ℕ = 512 * q.1 in
+      let k : ℕ = length x / 512 + q.1 in
+      let sum : 512 * k ≡ length x + n = omega (arith, even) in
+      let front : take (512 * k) (x ++ (y ++ z)) ≡ x ++ take n y =
+      ap (λ m. take m (x ++ (y ++ z))) sum ∙ take-append-add x (y ++ z) n ∙ ap (λ l. x ++ l) (take-append-le n y z q.2) in
+      inr (
+        q.0,
+        k,
+        omega (arith, sum, q.2, length-append x (y ++ z), length-append y z),
+        subst (λ l. IsStored w d first l w') (sym front) (stored-more w v w' d first x (take n y) even p q.3),
+      )
+
+  pub stored-fails : (error : RequestError) → FailsToStore v d (first + length x / 512) y error w' → FailsToStore w d first (x ++ (y ++ z)) error w'
+  stored-fails error q = record { cause = cause-more error q.cause; led = led-then EachPart w v w' p.led q.led }
+
+-- ---- the runs of some bytes
+
+module _ (w v w' : World) (d first : ℕ) (bytes : List ℕ) (done part : ℕ) (within : done ≤ length bytes) (whole : done % 512 ≡ 0) (p : IsStored w d first (take done bytes) v) where
+  front-length : length (take done bytes) ≡ done
+  front-length = length-take-le done bytes within
+
+  start : first + done / 512 ≡ first + length (take done bytes) / 512
+  start = omega (arith, front-length)
+
+  even : length (take done bytes) % 512 ≡ 0
+  even = omega (arith, front-length, whole)
+
+  as-part : done + part - done ≡ part
+  as-part = omega arith
+
+  -- the next run
+  pub stored-next : IsStored v d (first + done / 512) (take (done + part - done) (drop done bytes)) w' → IsStored w d first (take (done + part) bytes) w'
+  stored-next q =
+      let y = take part (drop done bytes) in
+      subst (λ l. IsStored w d first l w') (sym (take-add done part bytes))
+      (stored-more w v w' d first (take done bytes) y even p
+      (subst (λ k. IsStored v d k y w') start (subst (λ n. IsStored v d (first + done / 512) (take n (drop done bytes)) w') as-part q)))
+
+  -- the next run, which isn't put
+  pub stored-stops : (error : RequestError) → FailsToStore v d (first + done / 512) (take (done + part - done) (drop done bytes)) error w' → FailsToStore w d first bytes error w'
+  stored-stops error q =
+      let y = take part (drop done bytes) in
+      let z = drop part (drop done bytes) in
+      let all : take done bytes ++ (y ++ z) ≡ bytes = ap (λ l. take done bytes ++ l) (take-append-drop part (drop done bytes)) ∙ take-append-drop done bytes in
+      subst (λ l. FailsToStore w d first l error w') all
+      (stored-fails w v w' d first (take done bytes) y z even p error
+      (subst (λ k. FailsToStore v d k y error w') start (subst (λ n. FailsToStore v d (first + done / 512) (take n (drop done bytes)) error w') as-part q)))

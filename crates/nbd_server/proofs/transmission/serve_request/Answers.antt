@@ -1,0 +1,32 @@
+use Rattle.std.proofs.Common.{◌≡◌, Ok, Err, ap, sym, ◌∙◌}
+use Rattle.nbd_server.specs.declared.header.Command.TheVariants.{Write}
+use Rattle.nbd_server.specs.Exports.{export_record}
+use Rattle.nbd_server.specs.Headers.{command_of}
+use Rattle.nbd_server.specs.Transmission.{data_of, written}
+use Rattle.nbd_server.proofs.ByteLemmas.{served-write, write-payload}
+use Rattle.nbd_server.proofs.transmission.serve_request.Goals as goal
+
+pub returns-in-Ok-clause-ok : goal.returns-in-Ok-clause-ok
+returns-in-Ok-clause-ok g c =
+    let e = export_record c.args.export.now in
+    let h = c.args.header in
+    let p = c.in_ok-take_write-in-Ok-Write.ensures.ok in
+    let command : command_of e h ≡ Ok (Write c.in-Ok-Write.offset c.in-Ok-Write.length) = sym c.command.ensures.value ∙ c.in-Ok-Write.is ∙ ap Ok c.in-Ok-Write.field-0-is in (
+      p.0,
+      p.1 ∙ sym (write-payload e h c.in-Ok-Write.offset c.in-Ok-Write.length command),
+      p.2,
+      served-write e c.args.queue.now c.take_write.new.queue h c.in-Ok-Write.offset c.in-Ok-Write.length p.0 c.in_ok-take_write-in-Ok-Write.field-0 (Ok (data_of c.none.result)) command p.3
+          (ap written c.in-Ok.is ∙ ap Ok (sym c.none.ensures.value)),
+    )
+
+pub returns-in-Err-2-clause-ok : goal.returns-in-Err-2-clause-ok
+returns-in-Err-2-clause-ok g c =
+    let e = export_record c.args.export.now in
+    let h = c.args.header in
+    let p = c.in_ok-take_write-in-Ok-Write.ensures.ok in
+    let command : command_of e h ≡ Ok (Write c.in-Ok-Write.offset c.in-Ok-Write.length) = sym c.command.ensures.value ∙ c.in-Ok-Write.is ∙ ap Ok c.in-Ok-Write.field-0-is in (
+      p.0,
+      p.1 ∙ sym (write-payload e h c.in-Ok-Write.offset c.in-Ok-Write.length command),
+      p.2,
+      served-write e c.args.queue.now c.take_write.new.queue h c.in-Ok-Write.offset c.in-Ok-Write.length p.0 c.in_ok-take_write-in-Ok-Write.field-0 (Err c.in-Err-2.error) command p.3 (ap written c.in-Err-2.is),
+    )

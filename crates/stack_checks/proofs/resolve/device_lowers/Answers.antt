@@ -1,0 +1,28 @@
+use Rattle.std.proofs.Common.{◌≡◌, ◌+◌, take, refl}
+use Rattle.std.proofs.lemmas.List.{take_all}
+use Rattle.stack_rules.specs.declared.refusal.LoadKind.TheVariants.{NoSuchDevice}
+use Rattle.stack_rules.specs.Rules.{first, unknown_in}
+use Rattle.stack_rules.proofs.lemmas.MeaningLemmas.{found-none, found-some, rows_more}
+use Rattle.stack_rules.proofs.lemmas.ScanLemmas.{scan_found, scan_more, scan_end}
+use Rattle.stack_rules.proofs.lemmas.UnknownNameLemmas.{unknown_line}
+use Rattle.stack_checks.proofs.resolve.device_lowers.Goals as goal
+
+pub returns-in-None : goal.returns-in-None
+returns-in-None c = λ c' is.
+    scan_found (unknown_line c' c.args.d) c.args.lines.now c.loop-i.i (c.loop-i.i + 1) c.index-lines-i.result (record { kind = NoSuchDevice; device = c.args.d; line = c.loop-i.i + 1 }) (first (unknown_in c' c.args.d c.args.lines.now))
+    c.loop-i-test.true c.index-lines-i.is
+    (found-none c' c.args.d (c.loop-i.i + 1) c.index-lines-i.result (rw c.in-None.is at (c.in_ok-row.ensures c' is))) (c.loop-i.invariant c' is).1
+
+pub loop-i-preserved : goal.loop-i-preserved
+loop-i-preserved c = λ c' is.
+    let f = found-some c' c.args.d (c.loop-i.i + 1) c.index-lines-i.result c.in-Some.row (rw c.in-Some.is at (c.in_ok-row.ensures c' is)) in
+    let inv = c.loop-i.invariant c' is in (
+      rw c.in_ok-push-in-Some.ensures.items (rows_more c' c.loop-i.rows.items c.args.lines.now c.loop-i.i c.index-lines-i.result c.in-Some.row c.loop-i-test.true c.index-lines-i.is f.0 inv.0),
+      scan_more (unknown_line c' c.args.d) c.args.lines.now c.loop-i.i (c.loop-i.i + 1) c.index-lines-i.result (first (unknown_in c' c.args.d c.args.lines.now)) c.loop-i-test.true c.index-lines-i.is refl f.1 inv.1,
+    )
+
+pub returns : goal.returns
+returns c = λ c' is.
+    let inv = c.loop-i.invariant c' is in
+    let all : take c.loop-i.i c.args.lines.now ≡ c.args.lines.now = take_all c.loop-i.i c.args.lines.now c.loop-i-test.false in
+    (scan_end (unknown_line c' c.args.d) c.args.lines.now c.loop-i.i (c.loop-i.i + 1) (first (unknown_in c' c.args.d c.args.lines.now)) c.loop-i-test.false inv.1, rw c.new.ensures (rw all at inv.0))

@@ -1,0 +1,41 @@
+use Rattle.std.proofs.Common.{◌≡◌, ◌+◌, take, length, refl, ap, ◌∙◌, arith}
+use Rattle.std.proofs.lemmas.List.{take_all}
+use Rattle.std.proofs.lemmas.Result.{err_from_is_err_and}
+use Rattle.stack_rules.specs.Records.{Configuration, configuration}
+use Rattle.stack_rules.specs.Kept.{AreLowers}
+use Rattle.stack_rules.specs.Passing.{RowsMean}
+use Rattle.stack_rules.specs.Rules.{first, unknown_in, unknown_names}
+use Rattle.stack_rules.proofs.lemmas.MeaningLemmas.{tables_more}
+use Rattle.stack_rules.proofs.lemmas.PassingLemmas.{passed_found}
+use Rattle.stack_rules.proofs.lemmas.ScanLemmas.{scan_more, scan_end}
+use Rattle.stack_checks.proofs.resolve.lowers_of.Goals as goal
+
+pub returns-in_err-device_lowers : goal.returns-in_err-device_lowers
+returns-in_err-device_lowers c =
+    let c' : Configuration = configuration c.args.leaves.now c.args.devices.now in
+    let p = err_from_is_err_and c.from_residual-in_err-device_lowers.result c.from_residual-in_err-device_lowers.ensures.1 in
+    let f = rw (c.lines.ensures.value, c.table.ensures) at (c.in_err-device_lowers.ensures c' c.in_ok-index.ensures) in
+    rw (p.1, p.2) (passed_found (λ rows. RowsMean c' rows c.index-devices-i.result.table) (λ lowers. AreLowers c' lowers.items) (λ d x. unknown_in c' d x.table) c.args.devices.now c.loop-i.i (c.loop-i.i + 1) c.index-devices-i.result
+    c.in_err-device_lowers.field-0.0 (unknown_names c') c.loop-i-test.true c.index-devices-i.is f c.loop-i.invariant.1)
+
+pub device_lowers-requires : goal.device_lowers-requires
+device_lowers-requires c =
+    let short = c.requires.lines c.loop-i.i c.index-devices-i.result c.loop-i-test.true in
+    let same = ap length (c.lines.ensures.value ∙ c.table.ensures) in
+    let here = ap (λ (x : Rattle.stack_rules.specs.Records.DeviceRecord). length x.table) c.index-devices-i.is in
+    omega (arith, short, same, here)
+
+pub loop-i-preserved : goal.loop-i-preserved
+loop-i-preserved c =
+    let c' : Configuration = configuration c.args.leaves.now c.args.devices.now in
+    let f = rw (c.lines.ensures.value, c.table.ensures) at (c.in_ok-device_lowers.ensures c' c.in_ok-index.ensures) in
+    let inv = c.loop-i.invariant in (
+      rw c.in_ok-push.ensures.items (tables_more c' c.loop-i.lowers.items c.args.devices.now c.loop-i.i c.index-devices-i.result c.in_ok-device_lowers.field-0 c.loop-i-test.true c.index-devices-i.is f.1 inv.0),
+      scan_more (λ d x. unknown_in c' d x.table) c.args.devices.now c.loop-i.i (c.loop-i.i + 1) c.index-devices-i.result (first (unknown_names c')) c.loop-i-test.true c.index-devices-i.is refl f.0 inv.1,
+    )
+
+pub returns : goal.returns
+returns c =
+    let c' : Configuration = configuration c.args.leaves.now c.args.devices.now in
+    let all : take c.loop-i.i c.args.devices.now ≡ c.args.devices.now = take_all c.loop-i.i c.args.devices.now c.loop-i-test.false in
+    (scan_end (λ d x. unknown_in c' d x.table) c.args.devices.now c.loop-i.i (c.loop-i.i + 1) (first (unknown_names c')) c.loop-i-test.false c.loop-i.invariant.1, rw all at c.loop-i.invariant.0)

@@ -1,0 +1,11 @@
+//! Leaves, names and lines of a configuration, checked by the rules.
+#![tactic(auto)]
+
+mod index;
+mod leaves;
+mod resolve;
+mod rules;
+
+pub use leaves::leaves_fault;
+pub use resolve::lowers_of;
+pub use rules::lines_refusal;

@@ -1,0 +1,5 @@
+pub mod lemmas
+pub mod GreatestLemmas
+pub mod DeviceSetLemmas
+pub mod ClosureLemmas
+pub mod LowerSetLemmas

@@ -1,0 +1,4 @@
+-- What callers may cite.
+pub mod DepthLemmas
+pub mod CappedLemmas
+pub mod CostLemmas

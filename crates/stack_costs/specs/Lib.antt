@@ -1,0 +1,3 @@
+pub mod DeviceSet
+pub mod Depths
+pub mod Costs

@@ -1,0 +1,24 @@
+-- Leaves whose writes are put on their media.
+use Rattle.std.specs.Prelude.{◌≡◌, ◌≢◌, ℕ, ◌-◌, ◌≤◌, List, IsTrue, All, set}
+use Rattle.std.specs.List.{slice_index_or}
+use Rattle.block_device.specs.Device.{Device, IsUnsynced}
+use Rattle.stack_engine.specs.declared.fault.IoFault.{IoFault}
+use Rattle.stack_engine.specs.declared.fault.IoFault.TheVariants as io
+use Rattle.stack_engine.specs.Leaves.{LeafFailed}
+
+-- The writes to leaf i, of which there were some, couldn't be put on its medium. Nothing else changed.
+pub record LeafUnsynced (i : ℕ) (old new : List Device) : Type 0 where
+  pub failed : LeafFailed i old new
+  pub written : (d : Device) → (slice_index_or old i d).writes ≢ 0
+  pub after : Device
+  pub unsynced : (d : Device) → IsUnsynced (slice_index_or old i d) after
+  pub leaves : new ≡ set old i after
+
+-- a leaf, whose number counts from 1, isn't synced
+abbrev pub FailsToSync : List Device → List Device → IoFault → Type 0
+FailsToSync old new (io.Device i) = (1 ≤ i) × LeafUnsynced (i - 1) old new
+FailsToSync old new fault = ⊥
+
+-- no leaf ever fails
+abbrev pub NeverFail : List Device → Type 0
+NeverFail leaves = All (λ l. IsTrue l.never_fails) leaves

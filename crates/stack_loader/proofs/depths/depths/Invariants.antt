@@ -1,6 +1,0 @@
-use Rattle.std.proofs.Common.{◌≡◌}
-use Rattle.stack_loader.specs.Depths.{rounds}
-use Rattle.stack_loader.proofs.depths.depths.Given as goal
-
-abbrev pub invariant-loop-round : goal.invariant-loop-round
-invariant-loop-round l = l.values.items ≡ rounds l.sets l._round

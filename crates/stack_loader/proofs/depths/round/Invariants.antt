@@ -1,6 +1,0 @@
-use Rattle.std.proofs.Common.{◌≡◌, take}
-use Rattle.stack_loader.specs.Depths.{round}
-use Rattle.stack_loader.proofs.depths.round.Given as goal
-
-abbrev pub invariant-loop-set : goal.invariant-loop-set
-invariant-loop-set l = l.next.items ≡ round (take l.set-index l.sets) l.values

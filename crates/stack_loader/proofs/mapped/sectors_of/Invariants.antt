@@ -1,6 +1,0 @@
-use Rattle.std.proofs.Common.{◌≡◌, ◌≤◌, ◌*◌, ◌^◌, take}
-use Rattle.stack_loader.specs.Names.{sectors_of}
-use Rattle.stack_loader.proofs.mapped.sectors_of.Given as goal
-
-abbrev pub invariant-loop-line : goal.invariant-loop-line
-invariant-loop-line l = (l.sectors ≡ sectors_of (take l.line-index l.lines)) × (l.sectors ≤ l.line-index * 2 ^ 64)

@@ -1,0 +1,4 @@
+pub mod lemmas
+pub mod TreeLemmas
+pub mod WorkedLoadLemmas
+pub mod WorkedVerityLemmas

@@ -1,0 +1,15 @@
+-- What callers may cite.
+pub mod UnrollLemmas
+pub mod CycleLemmas
+pub mod UnitLemmas
+pub mod CostRuleLemmas
+pub mod ValidLemmas
+pub mod ValidLineLemmas
+pub mod RangeLemmas
+pub mod ListLemmas
+pub mod KeptLemmas
+pub mod ScanLemmas
+pub mod MeaningLemmas
+pub mod UnknownNameLemmas
+pub mod BeneathLemmas
+pub mod PassingLemmas

@@ -1,0 +1,72 @@
+-- The units of a crypt line.
+use Rattle.std.proofs.Common.{◌≡◌, ◌+◌, ◌*◌, ◌/◌, ◌≤◌, ◌==◌, ℕ, Bool, true, false, cond, ap, sym, ◌∙◌, inl, inr, arith}
+use Rattle.std.proofs.Math.Nat.{mul-le-mul_right}
+use Rattle.std.specs.Prelude.{◌⊎◌}
+use Rattle.dm_table.specs.declared.crypt.Crypt.{Crypt}
+use Rattle.dm_table.specs.Crypt.{sector_size}
+use Rattle.dm_table.proofs.lemmas.SectorSizeLemmas.{sector_size-is}
+use Rattle.stack_rules.specs.Units.{unit_sectors, unit_write_cost}
+
+-- 1, 2, 4 or 8 sectors
+pub unit_sectors-is : (crypt : Crypt) → (unit_sectors crypt ≡ 1) ⊎ ((unit_sectors crypt ≡ 2) ⊎ ((unit_sectors crypt ≡ 4) ⊎ (unit_sectors crypt ≡ 8)))
+unit_sectors-is crypt = elim (sector_size-is crypt) [
+  | inl size ↦ inl (ap (λ n. n / 512) size)
+  | inr more ↦ elim more [
+    | inl size ↦ inr (inl (ap (λ n. n / 512) size))
+    | inr more ↦ elim more [
+      | inl size ↦ inr (inr (inl (ap (λ n. n / 512) size)))
+      | inr size ↦ inr (inr (inr (ap (λ n. n / 512) size)))
+    ]
+  ]
+]
+
+pub unit_sectors-some : (crypt : Crypt) → 1 ≤ unit_sectors crypt
+unit_sectors-some crypt = elim (unit_sectors-is crypt) [
+  | inl is ↦ omega (arith, is)
+  | inr more ↦ elim more [
+    | inl is ↦ omega (arith, is)
+    | inr more ↦ elim more [
+      | inl is ↦ omega (arith, is)
+      | inr is ↦ omega (arith, is)
+    ]
+  ]
+]
+
+pub unit_sectors-most : (crypt : Crypt) → unit_sectors crypt ≤ 8
+unit_sectors-most crypt = elim (unit_sectors-is crypt) [
+  | inl is ↦ omega (arith, is)
+  | inr more ↦ elim more [
+    | inl is ↦ omega (arith, is)
+    | inr more ↦ elim more [
+      | inl is ↦ omega (arith, is)
+      | inr is ↦ omega (arith, is)
+    ]
+  ]
+]
+
+-- a unit's bytes are whole sectors
+pub unit-bytes : (crypt : Crypt) → sector_size crypt ≡ unit_sectors crypt * 512
+unit-bytes crypt = elim (sector_size-is crypt) [
+  | inl size ↦ size ∙ sym (ap (λ n. n / 512 * 512) size)
+  | inr more ↦ elim more [
+    | inl size ↦ size ∙ sym (ap (λ n. n / 512 * 512) size)
+    | inr more ↦ elim more [
+      | inl size ↦ size ∙ sym (ap (λ n. n / 512 * 512) size)
+      | inr size ↦ size ∙ sym (ap (λ n. n / 512 * 512) size)
+    ]
+  ]
+]
+
+-- ---- costs
+
+-- a unit costs at least what one sector of it does
+pub times-some : (u n : ℕ) → 1 ≤ u → n ≤ u * n
+times-some u n some = let low : 1 * n ≤ u * n = mul-le-mul_right n some in omega (arith, low)
+
+-- a write costs at least what it does on the lower device
+pub unit_write-some : (u read write : ℕ) → 1 ≤ u → write ≤ unit_write_cost u read write
+unit_write-some u read write some = go (u == 1)
+  where
+    go : (one : Bool) → write ≤ cond one write (u * (read + write))
+    go true = omega arith
+    go false = omega (arith, times-some u (read + write) some)

@@ -1,0 +1,13 @@
+pub mod Records
+pub mod Names
+pub mod Trees
+pub mod Units
+pub mod Descend
+pub mod Cycles
+pub mod Lines
+pub mod Rules
+pub mod Leaves
+pub mod FaultKinds
+pub mod Kept
+pub mod Passing
+pub mod Removal

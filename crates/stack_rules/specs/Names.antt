@@ -1,0 +1,67 @@
+-- What the names in a table mean, and which device stands on which.
+use Rattle.std.specs.Prelude.{ℕ, Bool, false, List, [], ◌∷◌, ◌++◌, map, filter_map, flat_map, sum_by, Option, option_map, slice_get, position, codes}
+use Rattle.std.specs.Str.{bytes_eq}
+use Rattle.std.specs.Option.{option_or, option_map_or}
+use Rattle.dm_table.specs.declared.table.Line.{Line}
+use Rattle.dm_table.specs.declared.table.Target.{Target}
+use Rattle.dm_table.specs.declared.table.Target.TheVariants.{Linear, Striped, Zero, Error, Crypt, Verity}
+use Rattle.stack_rules.specs.declared.lower.Lower.{Lower}
+use Rattle.stack_rules.specs.declared.lower.Lower.TheVariants.{Leaf as leaf, Device as device}
+use Rattle.stack_rules.specs.Records.{Configuration}
+
+-- the mapped device of that place
+abbrev pub mapped : ℕ → Lower
+mapped d = device (record { 0 = d })
+
+-- the names that a line's target has, from left to right
+abbrev pub names : Target → List (List ℕ)
+names (Linear base) = base.device ∷ []
+names (Striped chunk bases) = map (λ base. base.device) bases
+names Zero = []
+names Error = []
+names (Crypt crypt) = crypt.base.device ∷ []
+names (Verity verity) = verity.data ∷ verity.hash ∷ []
+
+-- how a table names a mapped device
+abbrev pub path_of : List ℕ → List ℕ
+path_of name = codes "/dev/mapper/" ++ name
+
+-- the place of the mapped device with that name
+abbrev pub device_named : Configuration → List ℕ → Option ℕ
+device_named c name = position (λ d. bytes_eq d.name name) c.devices
+
+-- what a table means by that name: a leaf, or the mapped device of that path
+abbrev pub named : Configuration → List ℕ → Option Lower
+named c name = option_or
+    (option_map leaf (position (λ l. bytes_eq l.name name) c.leaves))
+    (option_map mapped (position (λ d. bytes_eq (path_of d.name) name) c.devices))
+
+-- the name of a mapped device
+abbrev pub name_of : Configuration → ℕ → List ℕ
+name_of c d = option_map_or (λ x. x.name) (slice_get c.devices d) []
+
+-- the lines of a mapped device
+abbrev pub lines_of : Configuration → ℕ → List Line
+lines_of c d = option_map_or (λ x. x.table) (slice_get c.devices d) []
+
+-- the leaves and devices that the lines of a device name
+abbrev pub lowers : Configuration → ℕ → List Lower
+lowers c d = filter_map (named c) (flat_map (λ line. names line.target) (lines_of c d))
+
+-- what stands directly beneath: nothing beneath a leaf
+abbrev pub lowers_of : Configuration → Lower → List Lower
+lowers_of c (leaf i) = []
+lowers_of c (device d) = lowers c d.0
+
+-- how many sectors there are
+abbrev pub sectors_of : List Line → ℕ
+sectors_of lines = sum_by (λ line. line.length) lines
+
+abbrev pub size : Configuration → Lower → ℕ
+size c (leaf i) = option_map_or (λ l. l.sectors) (slice_get c.leaves i) 0
+size c (device d) = sectors_of (lines_of c d.0)
+
+-- whether it may be written
+abbrev pub may_write : Configuration → Lower → Bool
+may_write c (leaf i) = option_map_or (λ l. l.writable) (slice_get c.leaves i) false
+may_write c (device d) = option_map_or (λ x. x.writable) (slice_get c.devices d.0) false

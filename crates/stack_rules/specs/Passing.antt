@@ -1,0 +1,44 @@
+-- What a check of rules answers.
+use Rattle.std.specs.Prelude.{◌≡◌, ℕ, List, Option, Some, None, Result, Ok, Err, map, true, is_none, nat_lt, flat_map, [], ◌∷◌}
+use Rattle.std.specs.List.{list_any, enumerate_from}
+use Rattle.dm_table.specs.declared.table.Line.{Line}
+use Rattle.stack_rules.specs.declared.lower.Lower.{Lower}
+use Rattle.stack_rules.specs.declared.refusal.LoadFault.{LoadFault}
+use Rattle.stack_rules.specs.declared.refusal.LoadFault.TheVariants.{Refused, NoMemory}
+use Rattle.stack_rules.specs.declared.refusal.LoadKind.{LoadKind}
+use Rattle.stack_rules.specs.declared.refusal.Refusal.{Refusal}
+use Rattle.stack_rules.specs.Records.{Configuration}
+use Rattle.stack_rules.specs.Names.{named, names}
+use Rattle.stack_rules.specs.Rules.{first, refuse}
+
+-- a value only where no rule refuses, and otherwise the first refusal, unless memory ran out
+abbrev pub IsPassed : {A : Type 0} → Result A LoadFault → List (Option Refusal) → (A → Type 0) → Type 0
+IsPassed (Ok x) rules P = (first rules ≡ None) × P x
+IsPassed (Err (Refused refusal)) rules P = first rules ≡ Some refusal
+IsPassed (Err NoMemory) rules P = Unit {0}
+
+-- the lower devices are what the names mean
+abbrev pub Mean : Configuration → List Lower → List (List ℕ) → Type 0
+Mean c lowers names = map (λ lower. Some lower) lowers ≡ map (named c) names
+
+-- that kind, at device d and line l
+abbrev pub refusal_at : ℕ → ℕ → LoadKind → Refusal
+refusal_at d l kind = record { kind = kind; device = d; line = l }
+
+-- nothing where a name has no meaning, and otherwise what they mean
+abbrev pub AreFound : Configuration → Option (List Lower) → List (List ℕ) → Type 0
+AreFound c None names = list_any (λ name. is_none (named c name)) names ≡ true
+AreFound c (Some lowers) names = Mean c lowers names
+
+-- what the names of each line mean
+abbrev pub RowsMean : Configuration → List (List Lower) → List Line → Type 0
+RowsMean c rows lines = map (map (λ lower. Some lower)) rows ≡ map (λ line. map (named c) (names line.target)) lines
+
+-- each device, counted from 1, with more than the most
+abbrev pub above : LoadKind → ℕ → List ℕ → List (Option Refusal)
+above kind most values = flat_map (λ p. refuse kind p.0 0 (nat_lt most p.1) ∷ []) (enumerate_from 1 values)
+
+-- the first refusal, unless memory ran out
+abbrev pub IsFirst : LoadFault → List (Option Refusal) → Type 0
+IsFirst (Refused refusal) rules = first rules ≡ Some refusal
+IsFirst NoMemory rules = Unit {0}

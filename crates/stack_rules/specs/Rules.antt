@@ -1,0 +1,252 @@
+-- Which loads are refused, and by which rule first.
+use Rattle.std.specs.Prelude.{◌≡◌, ◌≤◌, IsTrue, All, ℕ, ◌+◌, ◌-◌, ◌*◌, ◌/◌, ◌%◌, ◌^◌, Bool, true, false, not, ◌&&◌, ◌||◌, ◌==◌, nat_lt, is_none, List, [], ◌∷◌, ◌++◌, length, map, take, filter, flat_map, Option, Some, None, if◌then◌else◌, find}
+use Rattle.std.specs.List.{list_any, enumerate_from, starts_with, IsDistinct}
+use Rattle.std.specs.Option.{option_map_or}
+use Rattle.std.specs.Str.{bytes_eq}
+use Rattle.dm_table.specs.declared.stack.Entry.{Entry}
+use Rattle.dm_table.specs.declared.table.Base.{Base}
+use Rattle.dm_table.specs.declared.table.Line.{Line}
+use Rattle.dm_table.specs.declared.table.Target.{Target}
+use Rattle.dm_table.specs.declared.table.Target.TheVariants.{Linear, Striped, Zero, Error, Crypt, Verity}
+use Rattle.dm_table.specs.Grammar.{IsTableOfGrammar}
+use Rattle.dm_table.specs.Names.{is_mapped_name, is_name_of, is_leaf_byte, mapper}
+use Rattle.stack_rules.specs.declared.refusal.LoadKind.{LoadKind}
+use Rattle.stack_rules.specs.declared.refusal.LoadKind.TheVariants.{DuplicateName, TooMany, NoSuchDevice, StandsOnItself, ZeroLength, Gap, TooLarge, StripesDontDivide, BeyondDevice, LineBeyondTree, TreeBeyondDevice, NeedsReadOnly, LowerReadOnly, TooDeep, CostTooLarge, UnitDoesntDivide, IvOffset}
+use Rattle.stack_rules.specs.declared.refusal.Refusal.{Refusal}
+use Rattle.stack_rules.specs.Records.{Configuration, DeviceRecord, LeafRecord}
+use Rattle.stack_rules.specs.Names.{mapped, named, names, sectors_of, size, may_write, device_named}
+use Rattle.stack_rules.specs.Trees.{data_sectors, tree_sectors}
+use Rattle.stack_rules.specs.Units.{unit_sectors}
+use Rattle.stack_rules.specs.Descend.{depth, read_cost, most_devices}
+use Rattle.stack_rules.specs.Cycles.{is_on_cycle, IsOnCycle, IsFirstOnCycle}
+
+-- ---- the configuration to come
+
+-- the device, with the table and flag of the entry that has its name
+abbrev pub replacement : List Entry → DeviceRecord → DeviceRecord
+replacement text d = option_map_or (λ e. record d { writable = e.writable; table = e.table }) (find (λ e. bytes_eq e.name d.name) text) d
+
+abbrev pub new_device : Entry → DeviceRecord
+new_device e = record { name = e.name; writable = e.writable; table = e.table }
+
+-- the present devices in order, and then the new ones in the text's order
+abbrev pub after_load : Configuration → List Entry → Configuration
+after_load c text = record c {
+  devices = map (replacement text) c.devices ++ map new_device (filter (λ e. is_none (device_named c e.name)) text);
+}
+
+-- ---- the rules, each at a device and line that count from 1
+
+abbrev pub refuse : LoadKind → ℕ → ℕ → Bool → Option Refusal
+refuse kind d l applies = if applies then Some (record { kind = kind; device = d; line = l }) else None
+
+-- at each entry whose name an earlier one has
+abbrev pub duplicate_names : List (List ℕ) → List Entry → List (Option Refusal)
+duplicate_names earlier [] = []
+duplicate_names earlier (e ∷ more) = refuse DuplicateName e.number 0 (list_any (bytes_eq e.name) earlier) ∷ duplicate_names (e.name ∷ earlier) more
+
+abbrev pub most_lines : ℕ
+most_lines = 256
+
+-- the most sectors of a device, the most leaf sectors that a read of one moves, and the most depth
+abbrev pub most_sectors : ℕ
+most_sectors = 2 ^ 54
+
+abbrev pub most_cost : ℕ
+most_cost = 2 ^ 32
+
+abbrev pub most_depth : ℕ
+most_depth = 8
+
+-- a range of the named device that ends there ends past it
+abbrev pub ends_past : Configuration → List ℕ → ℕ → Bool
+ends_past c name end = option_map_or (λ lower. nat_lt (size c lower) end) (named c name) true
+
+-- the range that so many sectors from a base take: the name of its device, and the sector at which it ends
+abbrev pub range_from : ℕ → Base → List ℕ × ℕ
+range_from sectors base = (base.device, base.offset + sectors)
+
+-- the mapped ranges of a line of so many sectors, its stripes' shares, or all its data blocks
+abbrev pub ranges : ℕ → Target → List (List ℕ × ℕ)
+ranges len (Linear base) = range_from len base ∷ []
+ranges len (Striped chunk bases) = map (range_from (len / length bases)) bases
+ranges len Zero = []
+ranges len Error = []
+ranges len (Crypt crypt) = range_from len crypt.base ∷ []
+ranges len (Verity verity) = (verity.data, data_sectors verity) ∷ []
+
+-- so many sectors from a base end past its device
+abbrev pub ends_beyond : Configuration → ℕ → Base → Bool
+ends_beyond c sectors base = ends_past c base.device (base.offset + sectors)
+
+-- a range of a line ends past the named device
+abbrev pub is_beyond : Configuration → ℕ → Target → Bool
+is_beyond c len target = list_any (λ range. ends_past c range.0 range.1) (ranges len target)
+
+-- the length is no multiple of stripes times chunk
+abbrev pub is_undivided : ℕ → Target → Bool
+is_undivided len (Linear base) = false
+is_undivided len (Striped chunk bases) = not (len % (length bases * chunk) == 0)
+is_undivided len Zero = false
+is_undivided len Error = false
+is_undivided len (Crypt crypt) = false
+is_undivided len (Verity verity) = false
+
+-- the length is no multiple of the unit
+abbrev pub cuts_unit : ℕ → Target → Bool
+cuts_unit len (Linear base) = false
+cuts_unit len (Striped chunk bases) = false
+cuts_unit len Zero = false
+cuts_unit len Error = false
+cuts_unit len (Crypt crypt) = not (len % unit_sectors crypt == 0)
+cuts_unit len (Verity verity) = false
+
+-- the number of the first unit is no multiple of the unit's sectors, however units are numbered
+abbrev pub is_off_unit : Target → Bool
+is_off_unit (Linear base) = false
+is_off_unit (Striped chunk bases) = false
+is_off_unit Zero = false
+is_off_unit Error = false
+is_off_unit (Crypt crypt) = not (crypt.iv_offset % unit_sectors crypt == 0)
+is_off_unit (Verity verity) = false
+
+-- the line has more sectors than its data blocks
+abbrev pub is_uncovered : ℕ → Target → Bool
+is_uncovered len (Linear base) = false
+is_uncovered len (Striped chunk bases) = false
+is_uncovered len Zero = false
+is_uncovered len Error = false
+is_uncovered len (Crypt crypt) = false
+is_uncovered len (Verity verity) = nat_lt (data_sectors verity) len
+
+-- the tree, if it has a block, ends past the hash device
+abbrev pub is_tree_beyond : Configuration → Target → Bool
+is_tree_beyond c (Linear base) = false
+is_tree_beyond c (Striped chunk bases) = false
+is_tree_beyond c Zero = false
+is_tree_beyond c Error = false
+is_tree_beyond c (Crypt crypt) = false
+is_tree_beyond c (Verity verity) = ends_past c verity.hash (tree_sectors verity)
+
+-- no sector of such a line can be written
+abbrev pub needs_read_only : Target → Bool
+needs_read_only (Linear base) = false
+needs_read_only (Striped chunk bases) = false
+needs_read_only Zero = false
+needs_read_only Error = false
+needs_read_only (Crypt crypt) = false
+needs_read_only (Verity verity) = true
+
+-- the line names a leaf or device that may not be written
+abbrev pub names_read_only : Configuration → Target → Bool
+names_read_only c target = list_any (λ name. option_map_or (λ lower. not (may_write c lower)) (named c name) false) (names target)
+
+-- the rules of a line in their order, and whether each refuses, where the lines before have so many sectors
+abbrev pub line_faults : Configuration → Bool → ℕ → Line → List (LoadKind × Bool)
+line_faults c writable before line =
+    (ZeroLength, line.length == 0)
+    ∷ (Gap, not (line.start == before))
+    ∷ (TooLarge, nat_lt most_sectors (line.start + line.length))
+    ∷ (StripesDontDivide, is_undivided line.length line.target)
+    ∷ (UnitDoesntDivide, cuts_unit line.length line.target)
+    ∷ (IvOffset, is_off_unit line.target)
+    ∷ (BeyondDevice, is_beyond c line.length line.target)
+    ∷ (LineBeyondTree, is_uncovered line.length line.target)
+    ∷ (TreeBeyondDevice, is_tree_beyond c line.target)
+    ∷ (NeedsReadOnly, writable && needs_read_only line.target)
+    ∷ (LowerReadOnly, writable && names_read_only c line.target)
+    ∷ []
+
+-- rules at line l of device d
+abbrev pub refusals_at : ℕ → ℕ → List (LoadKind × Bool) → List (Option Refusal)
+refusals_at d l faults = map (λ fault. refuse fault.0 d l fault.1) faults
+
+-- the rules of line l of device d
+abbrev pub line_rules : Configuration → Bool → ℕ → ℕ → ℕ → Line → List (Option Refusal)
+line_rules c writable d l before line = refusals_at d l (line_faults c writable before line)
+
+-- what a rule says of each device in order
+abbrev pub each_device : Configuration → (ℕ → DeviceRecord → List (Option Refusal)) → List (Option Refusal)
+each_device c rules = flat_map (λ p. rules p.0 p.1) (enumerate_from 1 c.devices)
+
+-- each line whose names don't all mean a leaf or device
+abbrev pub unknown_in : Configuration → ℕ → List Line → List (Option Refusal)
+unknown_in c d lines = flat_map (λ p. refuse NoSuchDevice d p.0 (list_any (λ name. is_none (named c name)) (names p.1.target)) ∷ []) (enumerate_from 1 lines)
+
+abbrev pub unknown_names : Configuration → List (Option Refusal)
+unknown_names c = each_device c (λ d x. unknown_in c d x.table)
+
+-- each device on a cycle
+abbrev pub cycles : Configuration → List (Option Refusal)
+cycles c = each_device c (λ d x. refuse StandsOnItself d 0 (is_on_cycle c (d - 1)) ∷ [])
+
+-- the rules of each line of device d
+abbrev pub table_rules : Configuration → ℕ → DeviceRecord → List (Option Refusal)
+table_rules c d x = flat_map (λ p. line_rules c x.writable d p.0 (sectors_of (take (p.0 - 1) x.table)) p.1) (enumerate_from 1 x.table)
+
+-- more devices or lines than may stand
+abbrev pub is_too_many : List DeviceRecord → Bool
+is_too_many devices = nat_lt most_devices (length devices) || list_any (λ d. nat_lt most_lines (length d.table)) devices
+
+-- the rules on the whole configuration, and then those on each line
+abbrev pub device_rules : Configuration → List (Option Refusal)
+device_rules c = refuse TooMany 0 0 (is_too_many c.devices) ∷ unknown_names c ++ cycles c ++ each_device c (table_rules c)
+
+-- each device whose depth is above the limit
+abbrev pub depth_rules : Configuration → List (Option Refusal)
+depth_rules c = each_device c (λ d x. refuse TooDeep d 0 (nat_lt most_depth (depth c (mapped (d - 1)))) ∷ [])
+
+-- each device whose read cost is above the limit
+abbrev pub cost_rules : Configuration → List (Option Refusal)
+cost_rules c = each_device c (λ d x. refuse CostTooLarge d 0 (nat_lt most_cost (read_cost c (mapped (d - 1)))) ∷ [])
+
+-- all rules but that on the names in the text, in their order
+abbrev pub rules : Configuration → List (Option Refusal)
+rules c = device_rules c ++ depth_rules c ++ cost_rules c
+
+-- the first refusal of a list
+abbrev pub first : List (Option Refusal) → Option Refusal
+first [] = None
+first (None ∷ more) = first more
+first (Some refusal ∷ more) = Some refusal
+
+-- the rules on a load, in their order
+abbrev pub load_rules : Configuration → List Entry → List (Option Refusal)
+load_rules c text = duplicate_names [] text ++ rules (after_load c text)
+
+-- the first refusal of a load
+unfoldable pub first_refusal : Configuration → List Entry → Option Refusal
+first_refusal c text = first (load_rules c text)
+
+-- why a load is refused: by the first rule that does, and where that is of cycles, for the first device on one
+pub record IsRefusal (c : Configuration) (text : List Entry) (refusal : Refusal) : Type 0 where
+  pub first : first_refusal c text ≡ Some refusal
+  pub cycle : refusal.kind ≡ StandsOnItself → IsFirstOnCycle (after_load c text) refusal.device
+
+-- no rule refuses it
+unfoldable pub IsValid : Configuration → Type 0
+IsValid c = first (rules c) ≡ None
+
+-- a name that a table may give a leaf: 1 to 255 bytes, which don't begin as the path of a mapped device does
+unfoldable pub is_leaf_name : List ℕ → Bool
+is_leaf_name name = is_name_of 255 is_leaf_byte name && not (starts_with ◌==◌ name mapper)
+
+-- the most leaves
+abbrev pub most_leaves : ℕ
+most_leaves = 64
+
+-- at most 64 leaves, each with a leaf name of its own and at most 2^54 sectors
+pub record AreLeaves (leaves : List LeafRecord) : Type 0 where
+  pub count : length leaves ≤ most_leaves
+  pub distinct : IsDistinct bytes_eq (map (λ l. l.name) leaves)
+  pub names : All (λ l. IsTrue (is_leaf_name l.name)) leaves
+  pub sizes : All (λ l. l.sectors ≤ most_sectors) leaves
+
+-- a configuration that loads have made: each name once, tables as they are read, no device on a cycle, and no rule refuses it
+pub record IsLoaded (c : Configuration) : Type 0 where
+  pub leaves : AreLeaves c.leaves
+  pub distinct : IsDistinct bytes_eq (map (λ d. d.name) c.devices)
+  pub mapped : All (λ d. IsTrue (is_mapped_name d.name)) c.devices
+  pub tables : All (λ d. IsTableOfGrammar d.table) c.devices
+  pub valid : IsValid c
+  pub acyclic : (d : ℕ) → IsOnCycle c d → ⊥

@@ -1,0 +1,40 @@
+// The leaves of a stack.
+use std::marker::Model;
+
+/// A device at the bottom of a stack, by the name that tables give it.
+#[derive(Debug, Drop)]
+pub struct Leaf {
+    pub name: Vec<u8>,
+    pub sectors: u64,
+    pub writable: bool,
+}
+
+impl Model for Leaf {
+    ghost use Rattle.stack_rules.specs.Records.{LeafRecord};
+
+    ghost Value = { LeafRecord };
+
+    ghost view = { λ l. record { name = l.name.items; sectors = l.sectors; writable = l.writable } };
+}
+
+impl Leaf {
+    ghost use Rattle.std.specs.Prelude.{◌≡◌};
+
+    pub fn name(&self) -> &[u8]
+        ensures { result.now ≡ self.now.name }
+    {
+        self.name.as_slice()
+    }
+
+    pub fn sectors(&self) -> u64
+        ensures { result ≡ self.now.sectors }
+    {
+        self.sectors
+    }
+
+    pub fn writable(&self) -> bool
+        ensures { result ≡ self.now.writable }
+    {
+        self.writable
+    }
+}

@@ -1,0 +1,20 @@
+//! What a configuration of stacked devices is, and by which rules it is refused.
+#![tactic(auto)]
+
+mod leaf;
+mod lower;
+mod lowers;
+mod mapped;
+mod planned;
+mod refusal;
+mod tree;
+mod units;
+
+pub use leaf::Leaf;
+pub use lower::{DevId, Lower};
+pub use lowers::{DeviceLowers, LineLowers};
+pub use mapped::{Mapped, place_of};
+pub use planned::Planned;
+pub use refusal::{ConfigFault, LoadFault, LoadKind, Refusal, RemoveFault};
+pub use tree::{block_sectors, data_sectors, path_sectors, tree_sectors, verity_of};
+pub use units::{crypt_of, unit_sectors};

@@ -1,0 +1,96 @@
+// A mapped device of a configuration.
+ghost use Rattle.std.specs.Prelude.{◌≡◌, IfOk, position};
+ghost use Rattle.std.specs.Str.{bytes_eq};
+ghost use Rattle.stack_rules.specs.Names.{sectors_of};
+
+use dm_table::{Line, Table};
+use std::alloc::{AllocError, Global};
+use std::marker::Model;
+
+/// A mapped device, by the name that its entry gave it. The size is the sum of its lines' lengths.
+#[derive(Drop)]
+pub struct Mapped {
+    name: Vec<u8>,
+    writable: bool,
+    table: Table,
+    size: u128,
+}
+
+impl Model for Mapped {
+    ghost use Rattle.std.specs.Prelude.{◌≡◌};
+    ghost use Rattle.stack_rules.specs.Records.{DeviceRecord};
+    ghost use Rattle.stack_rules.specs.Names.{sectors_of};
+
+    ghost Value = { DeviceRecord };
+
+    ghost view = { λ d. record { name = d.name.items; writable = d.writable; table = d.table } };
+
+    ghost invariant = { λ d. d.size ≡ sectors_of d.table };
+}
+
+/// The sum of the lines' lengths.
+pub fn sectors_of(lines: &[Line]) -> u128
+    ensures { result ≡ sectors_of lines.now }
+{
+    let mut sectors: u128 = 0;
+    for line in lines {
+        sectors += u128::from(line.length);
+    }
+    sectors
+}
+
+impl Mapped {
+    ghost use Rattle.std.specs.Prelude.{◌≡◌, IfOk};
+    ghost use Rattle.stack_rules.specs.Names.{sectors_of};
+
+    /// A device of these parts, which are copied.
+    pub fn new(
+        alloc: Global,
+        name: &[u8],
+        writable: bool,
+        table: &Table,
+    ) -> Result<Mapped, AllocError>
+        ensures { IfOk result (λ d. d ≡ record { name = name.now; writable = writable; table = table.now }) }
+    {
+        let name = Vec::from_slice(alloc, name)?;
+        let table = table.try_clone(alloc)?;
+        let size = sectors_of(table.lines());
+        Ok(Mapped {
+            name,
+            writable,
+            table,
+            size,
+        })
+    }
+
+    pub fn name(&self) -> &[u8]
+        ensures { result.now ≡ self.now.name }
+    {
+        self.name.as_slice()
+    }
+
+    pub fn writable(&self) -> bool
+        ensures { result ≡ self.now.writable }
+    {
+        self.writable
+    }
+
+    pub fn table(&self) -> &Table
+        ensures { result.now ≡ self.now.table }
+    {
+        &self.table
+    }
+
+    pub fn size(&self) -> u128
+        ensures { result ≡ sectors_of self.now.table }
+    {
+        self.size
+    }
+}
+
+/// The place of the first device with that name.
+pub fn place_of(devices: &[Mapped], name: &[u8]) -> Option<usize>
+    ensures { result ≡ position (λ d. bytes_eq d.name name.now) devices.now }
+{
+    devices.iter().position(|device| device.name() == name)
+}

@@ -1,0 +1,69 @@
+// A mapped device of a configuration to come, of which nothing is copied yet.
+ghost use Rattle.std.specs.Prelude.{◌≡◌};
+ghost use Rattle.stack_rules.specs.Names.{sectors_of};
+
+use crate::mapped::sectors_of;
+use dm_table::Table;
+use std::marker::Model;
+
+/// A mapped device whose name and table stand where they were read or loaded. The size is the sum of its lines' lengths.
+#[derive(Drop)]
+pub struct Planned<'a> {
+    name: &'a [u8],
+    writable: bool,
+    table: &'a Table,
+    size: u128,
+}
+
+impl<'a> Model for Planned<'a> {
+    ghost use Rattle.std.specs.Prelude.{◌≡◌};
+    ghost use Rattle.stack_rules.specs.Records.{DeviceRecord};
+    ghost use Rattle.stack_rules.specs.Names.{sectors_of};
+
+    ghost Value = { DeviceRecord };
+
+    ghost view = { λ d. record { name = d.name.now; writable = d.writable; table = d.table.now } };
+
+    ghost invariant = { λ d. d.size ≡ sectors_of d.table.now };
+}
+
+impl<'a> Planned<'a> {
+    ghost use Rattle.std.specs.Prelude.{◌≡◌};
+    ghost use Rattle.stack_rules.specs.Names.{sectors_of};
+
+    pub fn new(name: &'a [u8], writable: bool, table: &'a Table) -> Planned<'a>
+        ensures { result ≡ record { name = name.now; writable = writable; table = table.now } }
+    {
+        let size = sectors_of(table.lines());
+        Planned {
+            name,
+            writable,
+            table,
+            size,
+        }
+    }
+
+    pub fn name(&self) -> &'a [u8]
+        ensures { result.now ≡ self.now.name }
+    {
+        self.name
+    }
+
+    pub fn writable(&self) -> bool
+        ensures { result ≡ self.now.writable }
+    {
+        self.writable
+    }
+
+    pub fn table(&self) -> &'a Table
+        ensures { result.now ≡ self.now.table }
+    {
+        self.table
+    }
+
+    pub fn size(&self) -> u128
+        ensures { result ≡ sectors_of self.now.table }
+    {
+        self.size
+    }
+}

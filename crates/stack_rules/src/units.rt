@@ -1,0 +1,28 @@
+// The units of a crypt line.
+ghost use Rattle.std.specs.Prelude.{◌≡◌, ◌≤◌, option_copied};
+ghost use Rattle.stack_rules.specs.Units.{crypt_of, unit_sectors};
+
+use dm_table::{Crypt, Target};
+
+/// The arguments of a crypt line.
+pub fn crypt_of(target: &Target) -> Option<&Crypt>
+    ensures { option_copied result ≡ crypt_of target.now }
+{
+    match target {
+        Target::Crypt(crypt) => Some(crypt),
+        Target::Linear(_)
+        | Target::Striped { .. }
+        | Target::Zero
+        | Target::Error
+        | Target::Verity(_) => None,
+    }
+}
+
+/// The sectors that are encrypted as one: 1, 2, 4 or 8.
+pub fn unit_sectors(crypt: &Crypt) -> u32
+    ensures value { result ≡ unit_sectors crypt.now }
+    ensures some { 1 ≤ result }
+    ensures few { result ≤ 8 }
+{
+    crypt.sector_size() / 512
+}

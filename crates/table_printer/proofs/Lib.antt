@@ -1,0 +1,10 @@
+pub mod lemmas
+pub mod PrintLemmas
+pub mod PrintedLemmas
+pub mod PrintedBytesLemmas
+pub mod PrintedOptionLemmas
+pub mod PrintedCryptLemmas
+pub mod PrintedVerityLemmas
+pub mod RoundTripLemmas
+pub mod HiddenKeyLemmas
+mod WorkedPrintLemmas

@@ -1,0 +1,166 @@
+-- A table that was printed with its keys reads back as that table.
+use Rattle.std.proofs.Common.{◌≡◌, ℕ, ◌+◌, ◌*◌, ◌^◌, ◌<◌, ◌≤◌, true, false, ◌&&◌, ◌||◌, eqb, leb, List, [], ◌∷◌, ◌++◌, length, flat_map, codes, decimal, All, Some, None, Ok, ok_or, refl, ap, ◌∙◌, append_assoc, arith}
+use Rattle.std.specs.List.{list_all, slice_split}
+use Rattle.std.proofs.lemmas.Bool.{cond-true, and_from, le-leb}
+use Rattle.std.proofs.lemmas.Fmt.{decimal_is_IsNumeral}
+use Rattle.std.proofs.lemmas.List.Elements.{All-head, All-tail}
+use Rattle.std.proofs.lemmas.List.Folds.{list_all-append}
+use Rattle.std.proofs.lemmas.List.Splits.{slice_split_at, slice_split_none}
+use Rattle.dm_table.specs.declared.table.Base.{Base}
+use Rattle.dm_table.specs.declared.table.Line.{Line}
+use Rattle.dm_table.specs.declared.table.Target.{Target}
+use Rattle.dm_table.specs.declared.table.Target.TheVariants.{Linear, Striped, Zero, Error, Crypt, Verity}
+use Rattle.dm_table.specs.declared.fault.TextKind.TheVariants as kinds
+use Rattle.dm_table.specs.Words.{Word, is_white, is_graphic, words, lines_of}
+use Rattle.dm_table.specs.Numbers.{number_if}
+use Rattle.dm_table.specs.Reading.{◌>>=◌, at_place}
+use Rattle.dm_table.specs.Lines.{linear_at, bases_at, stripes_at, chunk_at, bare_at, crypt_target_at, verity_target_at, target_at, line_of}
+use Rattle.dm_table.specs.Grammar.{IsBaseOfGrammar, IsTargetOfGrammar, IsLineOfGrammar, IsTableOfGrammar}
+use Rattle.dm_table.specs.TableText.{is_skipped, table_lines, some_lines, table_of}
+use Rattle.table_printer.specs.ArgumentWords.{crypt_words, verity_words}
+use Rattle.table_printer.specs.Print.{base_words, target_words, line_words, line_text, table_text}
+use Rattle.dm_table.proofs.lemmas.ReadLineLemmas.{striped-bases, target-linear, target-striped, target-zero, target-error, target-crypt, target-verity, line-target}
+use Rattle.dm_table.proofs.lemmas.ReadLineLemmas.{table-lines, table_lines-full, some_lines-some}
+use Rattle.table_printer.proofs.PrintedLemmas.{ArePrinted, words-joined, text-joined, one_line-joined, printed-decimal, number-decimal, number_at-decimal, digit-no_comment, printed-device, base_at-printed}
+use Rattle.table_printer.proofs.PrintedCryptLemmas.{crypt-printed, printed-crypt}
+use Rattle.table_printer.proofs.PrintedVerityLemmas.{verity-printed, printed-verity}
+
+-- targets
+bases_at-printed : (bases : List Base) → All IsBaseOfGrammar bases → bases_at (flat_map base_words bases) ≡ Ok bases
+bases_at-printed [] h = refl
+bases_at-printed (base ∷ bases) h =
+    ap (λ r. r >>= (λ base. bases_at (flat_map base_words bases) >>= (λ bases. Ok (base ∷ bases)))) (base_at-printed base (All-head IsBaseOfGrammar base bases h))
+    ∙ ap (λ r. r >>= (λ bases. Ok (base ∷ bases))) (bases_at-printed bases (All-tail IsBaseOfGrammar base bases h))
+
+length-bases : (bases : List Base) → length (flat_map base_words bases) ≡ 2 * length bases
+length-bases [] = refl
+length-bases (base ∷ bases) = let more = length-bases bases in omega arith
+
+printed-bases : (bases : List Base) → All IsBaseOfGrammar bases → ArePrinted (flat_map base_words bases)
+printed-bases [] h = tt
+printed-bases (base ∷ bases) h =
+    let first = All-head IsBaseOfGrammar base bases h in
+    (printed-device base.device first.device, (printed-decimal base.offset first.offset, printed-bases bases (All-tail IsBaseOfGrammar base bases h)))
+
+printed-target : (target : Target) → IsTargetOfGrammar target → ArePrinted (target_words true target)
+unfolding target_words
+printed-target (Linear base) h =
+    ((omega arith, refl), (printed-device base.device h.device, (printed-decimal base.offset h.offset, tt)))
+printed-target (Striped chunk bases) h =
+    let most = h.most in
+    ((omega arith, refl), (printed-decimal (length bases) (omega arith), (printed-decimal chunk h.chunk_fits, printed-bases bases h.each)))
+printed-target Zero h = ((omega arith, refl), tt)
+printed-target Error h = ((omega arith, refl), tt)
+printed-target (Crypt crypt) h = printed-crypt crypt h
+printed-target (Verity verity) h = printed-verity verity h
+
+stripes_at-printed : (n : ℕ) → 1 ≤ n → n ≤ 16 → stripes_at (decimal n) ≡ Ok n
+stripes_at-printed n low high =
+    ap (λ o. ok_or (number_if (λ k. leb 1 k && leb k 16) o) kinds.StripeCount) (number-decimal n (omega arith))
+    ∙ ap (λ o. ok_or o kinds.StripeCount) (cond-true (leb 1 n && leb n 16) (Some n) None (and_from _ _ (le-leb 1 n low) (le-leb n 16 high)))
+
+chunk_at-printed : (n : ℕ) → 1 ≤ n → n < 2 ^ 64 → chunk_at (decimal n) ≡ Ok n
+chunk_at-printed n low fits =
+    ap (λ o. ok_or (number_if (λ k. leb 1 k) o) kinds.ZeroChunk) (number-decimal n fits)
+    ∙ ap (λ o. ok_or o kinds.ZeroChunk) (cond-true (leb 1 n) (Some n) None (le-leb 1 n low))
+
+-- a line read back, whatever its target
+abbrev ReadsLine : ℕ → ℕ → Target → List Word → Type 0
+ReadsLine start count target [] = ⊥
+ReadsLine start count target (type ∷ arguments) = target_at type arguments ≡ Ok target
+
+target-printed : (start count : ℕ) (target : Target) → IsTargetOfGrammar target → ReadsLine start count target (target_words true target)
+unfolding target_words linear_at bare_at crypt_target_at verity_target_at
+target-printed start count (Linear base) h =
+    target-linear (codes "linear") (base.device ∷ decimal base.offset ∷ []) refl
+    ∙ ap (λ r. r >>= (λ base. Ok (Linear base))) (base_at-printed base h)
+target-printed start count (Striped chunk bases) h =
+    target-striped (codes "striped") (decimal (length bases) ∷ decimal chunk ∷ flat_map base_words bases) refl refl
+    ∙ striped-bases (decimal (length bases)) (decimal chunk) (flat_map base_words bases) (length bases) chunk
+    (stripes_at-printed (length bases) h.some h.most) (chunk_at-printed chunk h.chunk_some h.chunk_fits) (length-bases bases)
+    ∙ ap (λ r. r >>= (λ bases. Ok (Striped chunk bases))) (bases_at-printed bases h.each)
+target-printed start count Zero h = target-zero (codes "zero") [] refl refl refl
+target-printed start count Error h = target-error (codes "error") [] refl refl refl refl
+target-printed start count (Crypt crypt) h =
+    target-crypt (codes "crypt") (crypt_words true crypt) refl refl refl refl refl ∙ ap (λ r. r >>= (λ crypt. Ok (Crypt crypt))) (crypt-printed crypt h)
+target-printed start count (Verity verity) h =
+    target-verity (codes "verity") (verity_words verity) refl refl refl refl refl refl ∙ ap (λ r. r >>= (λ verity. Ok (Verity verity))) (verity-printed verity h)
+
+line-from_target : (start count : ℕ) (target : Target) (tail : List Word) → start < 2 ^ 64 → count < 2 ^ 64 → ReadsLine start count target tail
+    → line_of (decimal start ∷ decimal count ∷ tail) ≡ Ok (record { start = start; length = count; target = target })
+line-from_target start count target [] s c e = absurd e
+line-from_target start count target (type ∷ arguments) s c e =
+    line-target (decimal start) (decimal count) type arguments start count (number_at-decimal start s) (number_at-decimal count c)
+    ∙ ap (λ r. r >>= (λ target. Ok (record { start = start; length = count; target = target }))) e
+
+line-printed : (line : Line) → IsLineOfGrammar line → line_of (line_words true line) ≡ Ok line
+line-printed line h =
+    line-from_target line.start line.length line.target (target_words true line.target) h.start h.sectors (target-printed line.start line.length line.target h.target)
+
+printed-line : (line : Line) → IsLineOfGrammar line → ArePrinted (line_words true line)
+printed-line line h = (printed-decimal line.start h.start, (printed-decimal line.length h.sectors, printed-target line.target h.target))
+
+words-line : (line : Line) → IsLineOfGrammar line → words (line_text true line) ≡ line_words true line
+unfolding line_text
+words-line line h = words-joined (decimal line.start) (decimal line.length ∷ target_words true line.target) (printed-line line h)
+
+line-kept : (line : Line) → IsLineOfGrammar line → is_skipped (words (line_text true line)) ≡ false
+line-kept line h =
+    let numeral = decimal_is_IsNumeral line.start h.start in
+    ap is_skipped (words-line line h) ∙ digit-no_comment (decimal line.start) numeral.0.0 numeral.0.1
+
+-- tables
+split-table : (line : Line) (lines : List Line) → IsLineOfGrammar line → slice_split (λ b. eqb b 10) (table_text true (line ∷ lines)) ≡ line_text true line ∷ slice_split (λ b. eqb b 10) (table_text true lines)
+unfolding line_text
+split-table line lines h =
+    ap (slice_split (λ b. eqb b 10)) (append_assoc (line_text true line) (10 ∷ []) (table_text true lines))
+    ∙ slice_split_at (λ b. eqb b 10) (line_text true line) 10 (table_text true lines) (one_line-joined (decimal line.start) (decimal line.length ∷ target_words true line.target) (printed-line line h)) refl
+
+table_lines-printed : (n : ℕ) (lines : List Line) → All IsLineOfGrammar lines → table_lines n (slice_split (λ b. eqb b 10) (table_text true lines)) ≡ Ok lines
+unfolding words
+table_lines-printed n [] h = refl
+table_lines-printed n (line ∷ lines) h =
+    let first = All-head IsLineOfGrammar line lines h in
+    let rest = slice_split (λ b. eqb b 10) (table_text true lines) in
+    ap (table_lines n) (split-table line lines first)
+    ∙ table_lines-full n (line_text true line) rest (line-kept line first)
+    ∙ ap (λ r. at_place 0 n r >>= (λ line. table_lines (n + 1) rest >>= (λ lines. Ok (line ∷ lines)))) (ap line_of (words-line line first) ∙ line-printed line first)
+    ∙ ap (λ r. r >>= (λ lines. Ok (line ∷ lines))) (table_lines-printed (n + 1) lines (All-tail IsLineOfGrammar line lines h))
+
+text-table : (lines : List Line) → All IsLineOfGrammar lines → list_all (λ b. is_white b || is_graphic b) (table_text true lines) ≡ true
+unfolding line_text
+text-table [] h = refl
+text-table (line ∷ lines) h =
+    let test = λ (b : ℕ). is_white b || is_graphic b in
+    let first = text-joined (decimal line.start) (decimal line.length ∷ target_words true line.target) (printed-line line (All-head IsLineOfGrammar line lines h)) in
+    list_all-append test (line_text true line ++ 10 ∷ []) (table_text true lines)
+    ∙ and_from _ _ (list_all-append test (line_text true line) (10 ∷ []) ∙ and_from _ _ first refl) (text-table lines (All-tail IsLineOfGrammar line lines h))
+
+-- what was printed with its keys gives the table back
+pub table-shown : (lines : List Line) → IsTableOfGrammar lines → table_of (table_text true lines) ≡ Ok lines
+unfolding lines_of
+table-shown lines h =
+    let some = h.some in
+    table-lines (table_text true lines) (text-table lines h.each)
+    ∙ ap (λ r. r >>= some_lines) (table_lines-printed 1 lines h.each)
+    ∙ some_lines-some lines (λ none. omega arith)
+
+-- a text of one line
+split-line : (line : Line) → IsLineOfGrammar line → slice_split (λ b. eqb b 10) (line_text true line) ≡ line_text true line ∷ []
+unfolding line_text
+split-line line h = slice_split_none (λ b. eqb b 10) (line_text true line) (one_line-joined (decimal line.start) (decimal line.length ∷ target_words true line.target) (printed-line line h))
+
+text-line : (line : Line) → IsLineOfGrammar line → list_all (λ b. is_white b || is_graphic b) (line_text true line) ≡ true
+unfolding line_text
+text-line line h = text-joined (decimal line.start) (decimal line.length ∷ target_words true line.target) (printed-line line h)
+
+-- a line that was printed with its key gives the line back
+pub line-shown : (line : Line) → IsLineOfGrammar line → table_of (line_text true line) ≡ Ok (line ∷ [])
+unfolding lines_of
+line-shown line h =
+    table-lines (line_text true line) (text-line line h)
+    ∙ ap (λ r. r >>= some_lines) (
+    ap (table_lines 1) (split-line line h)
+    ∙ table_lines-full 1 (line_text true line) [] (line-kept line h)
+    ∙ ap (λ r. at_place 0 1 r >>= (λ line. table_lines 2 [] >>= (λ lines. Ok (line ∷ lines)))) (ap line_of (words-line line h) ∙ line-printed line h)
+    )

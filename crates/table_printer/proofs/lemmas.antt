@@ -1,0 +1,3 @@
+-- What callers may cite.
+pub mod KeyLemmas
+pub mod ReadBackLemmas

@@ -1,0 +1,3 @@
+pub mod ArgumentWords
+pub mod Print
+pub mod Keys
