@@ -3,7 +3,7 @@
 
 nbd_clients.py [PROGRAM]: copies devices out with nbdcopy and qemu-img and compares them, copies an image in through a
 `crypt` line and reads it back by another stack, writes with qemu-io across the ends of sectors, reads a verity volume
-with one changed block, and prints the speed beside nbdkit's. What isn't installed is named and left out (Debian:
+with one changed block, and prints the speed over each kind of line beside nbdkit's. What isn't installed is named and left out (Debian:
 libnbd-bin, python3-libnbd, qemu-utils, socat, nbdkit).
 """
 import os
@@ -56,16 +56,20 @@ class Served:
             os.remove(self.path)
 
 
-def volume(size):
-    """A data image, its hash image and its root digest, made by the program."""
-    data = random.Random(7).randbytes(size)
-    open("data", "wb").write(data)
-    open("hash", "wb").write(bytes(size // 8 + 65536))
+def format_data(size):
+    """The hash image of the data image, and a stack with its root digest, made by the program."""
+    open("hash", "wb").write(bytes(size // 64 + 65536))
     made = run(PROGRAM, "format", "--salt", "00ff", "data", "hash").stdout.decode()
-    words = made.split()
-    root = next(word for word in words if len(word) == 64)
+    root = next(word for word in made.split() if len(word) == 64)
     line = run(PROGRAM, "table", "hash", root, "D", "H").stdout.decode().strip()
     open("verity", "w").write(f"v,,,ro,{line}")
+
+
+def volume(size):
+    """A data image and its hash image."""
+    data = random.Random(7).randbytes(size)
+    open("data", "wb").write(data)
+    format_data(size)
     return data
 
 
@@ -112,23 +116,35 @@ def copied_in(data):
         say("copy in: read back by another stack", done.returncode == 0 and open("back", "rb").read() == bytes(wanted), done.stderr.decode())
 
 
-def speed():
-    """nbdcopy of 256 MiB over a linear stack beside nbdkit's of the same file, both through socat."""
-    size = 256 << 20
-    open("big", "wb").write(random.Random(3).randbytes(1 << 20) * 256)
-    open("wide", "w").write(f"w,,,ro,0 {size // 512} linear B 0")
-    times = []
-    for words in (words_for("wide", "w", "B=ro:" + os.path.abspath("big")), ["nbdkit", "-s", "-r", "file", os.path.abspath("big")]):
-        best = None
-        for _ in range(3):
+def least_seconds(label, services):
+    """The least time of five that nbdcopy takes to read each whole service, the services in turn."""
+    times = [[] for _ in services]
+    for _ in range(5):
+        for words, taken in zip(services, times):
             with Served(words) as uri:
                 start = time.monotonic()
                 done = run("nbdcopy", uri, "null:")
-                took = time.monotonic() - start
-                say("speed: nbdcopy", done.returncode == 0, done.stderr.decode())
-                best = took if best is None else min(best, took)
-        times.append(best)
-    print(f"256 MiB: {times[0]:.2f} s, nbdkit {times[1]:.2f} s, ratio {times[1] / times[0]:.2f}")
+                taken.append(time.monotonic() - start)
+                say(f"speed: {label}", done.returncode == 0, done.stderr.decode())
+    return [min(it) for it in times]
+
+
+def speed():
+    """nbdcopy of 256 MiB over lines of each kind, beside nbdkit's of the same file, all through socat."""
+    size = 256 << 20
+    sectors = size // 512
+    open("data", "wb").write(random.Random(3).randbytes(1 << 20) * 256)
+    format_data(size)
+    key = "".join(f"{k:02x}" for k in range(64))
+    data, hash = "D=ro:" + os.path.abspath("data"), "H=ro:" + os.path.abspath("hash")
+    services = {"nbdkit": ["nbdkit", "-s", "-r", "file", os.path.abspath("data")], "verity": words_for("verity", "v", data, hash)}
+    lines = {"linear": "linear D 0", "crypt": f"crypt aes-xts-plain64 {key} 0 D 0", "crypt by 4,096 bytes": f"crypt aes-xts-plain64 {key} 0 D 0 1 sector_size:4096"}
+    for place, (name, line) in enumerate(lines.items()):
+        open(f"fast{place}", "w").write(f"f,,,ro,0 {sectors} {line}")
+        services[name] = words_for(f"fast{place}", "f", data)
+    times = dict(zip(services, least_seconds("nbdcopy", services.values())))
+    for name, taken in times.items():
+        print(f"256 MiB, {name}: {taken:.2f} s, {256 / taken:.0f} MiB/s; nbdkit's time is {times['nbdkit'] / taken:.2f} of it")
 
 
 def changed_block(data):
@@ -173,15 +189,15 @@ def main():
         whole("linear", words_for("linear", "l", verity[0]), data)
         whole("verity", words_for("verity", "v", *verity), data)
         copied_in(data)
-        if shutil.which("nbdkit") and shutil.which("nbdcopy"):
-            speed()
-        else:
-            print("nbdkit isn't installed")
     else:
         print("socat isn't installed")
     changed_block(data)
+    if all(shutil.which(it) for it in ("socat", "nbdkit", "nbdcopy")):
+        speed()
+    else:
+        print("nbdkit isn't installed")
     print(f"clients: {passed} passed, {failed} failed")
-    return failed != 0
+    return 1 if failed or not passed else 0
 
 
 if __name__ == "__main__":

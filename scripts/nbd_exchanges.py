@@ -3,13 +3,19 @@
 
 nbd_exchanges.py [PROGRAM]: runs each exchange on the program (`dmstack`) and compares what it writes, its
 status and the images that it leaves. What is wanted is worked out here from the protocol's document: messages are put
-together field by field, and an export is a run of bytes. It prints how many agree, and the exchanges that don't.
+together field by field, and an export is a run of bytes; what is encrypted is worked out by the model's cipher. It prints
+how many agree, and the exchanges that don't.
 """
 import os
 import struct
 import subprocess
 import sys
 import tempfile
+
+sys.dont_write_bytecode = True
+sys.path.insert(0, os.path.join(os.path.dirname(os.path.realpath(__file__)), "model"))
+
+from cipher import xts_encrypt  # noqa: E402
 
 MAGIC, OPTION_MAGIC, REPLY_MAGIC = b"NBDMAGIC", b"IHAVEOPT", 0x3E889045565A9
 REQUEST, SIMPLE_REPLY = 0x25609513, 0x67446698
@@ -263,28 +269,50 @@ def writes(runner):
     runner.run("writes of holed", "holed", asked, told)
 
 
+def long_runs(runner):
+    """Reads and writes of many runs, at the ends of sectors and within them."""
+    size = 6 << 20
+    before = bytes(size)
+    open("long", "w").write(f"f,,,rw,0 {size // SECTOR} linear F 0")
+    e = Export("f", before, writable=True)
+    sent, wanted = begun(e)
+    run = 2048 * SECTOR
+    for step, (offset, length) in enumerate(((0, run), (run, run + 1), (511, 2 * run + 2), (run - 1, 3 * run), (3, size - 3), (0, size))):
+        data = struct.pack(">I", step + 1) * (length // 4) + b"end"[: length % 4]
+        sent += request(WRITE, offset, length, data=data) + request(READ, offset // 2, length)
+        wanted += e.write(offset, data) + e.read(offset // 2, length)
+    sent += request(READ, 0, size) + request(READ, 1, size - 2) + request(FLUSH)
+    wanted += e.read(0, size) + e.read(1, size - 2) + reply()
+    open("F", "wb").write(before)
+    served = subprocess.run([runner.program, "nbd", "long", "f", "F=rw:F"], input=sent, capture_output=True, timeout=60)
+    runner.count("long runs", served.stdout == wanted and served.returncode == 0 and not served.stderr)
+    runner.count("long runs: the image", open("F", "rb").read() == bytes(e.content))
+
+
 def crypt(runner):
-    """What is written through a `crypt` line is read back by another stack."""
-    open("F", "wb").write(bytes(16 * SECTOR))
-    key = "".join(f"{k:02x}" for k in range(64))
-    for size in ("", " 1 sector_size:4096"):
-        plain = Export("c", bytes(16 * SECTOR), writable=True)
-        line = f"0 16 crypt aes-xts-plain64 {key} 0 F 0{size}"
+    """What is written through a `crypt` line is read back by another stack, and stands encrypted in the image."""
+    text = "".join(f"{k:02x}" for k in range(64))
+    key = bytes.fromhex(text)
+    for count in (1, 8):
+        line = f"0 16 crypt aes-xts-plain64 {text} 0 F 0" + (f" 1 sector_size:{SECTOR * count}" if count > 1 else "")
+        open("F", "wb").write(bytes(16 * SECTOR))
         open("crypt", "w").write(f"c,,,rw,{line}")
-        open("back", "w").write(f"c,,,ro,{line}")
+        open("back", "w").write(f"b,,,ro,{line}")
+        plain = Export("c", bytes(16 * SECTOR), writable=True)
         sent, wanted = begun(plain)
         for offset, length in ((0, 16 * SECTOR), (3, 1), (500, 30), (4000, 200), (4096, 4096), (8191, 1)):
             data = bytes((7 * offset + 5 * k) % 256 for k in range(length))
             sent += request(WRITE, offset, length, data=data) + request(READ, 0, 16 * SECTOR)
             wanted += plain.write(offset, data) + plain.read(0, 16 * SECTOR)
+        label = f"writes through crypt, {count} sectors a unit"
         served = subprocess.run([runner.program, "nbd", "crypt", "c", "F=rw:F"], input=sent + request(FLUSH), capture_output=True, timeout=60)
-        back = subprocess.run([runner.program, "read", "back", "c", "0", "16", "F=ro:F"], capture_output=True, timeout=60)
-        sectors = [plain.content[512 * k : 512 * k + 512] for k in range(16)]
-        shown = [f"{k} " + (f"all {it[0]:02x}" if len(set(it)) == 1 else it.hex()) for k, it in enumerate(sectors)]
-        raw = open("F", "rb").read()
-        good = served.stdout == wanted + reply() and served.returncode == 0 and [it for it in back.stdout.decode().splitlines() if it[:1].isdigit()] == shown
-        good = good and raw != bytes(plain.content)
-        runner.count(f"writes through crypt{size}", good)
+        runner.count(label, served.stdout == wanted + reply() and served.returncode == 0 and not served.stderr)
+        size = SECTOR * count
+        units = [bytes(plain.content[at : at + size]) for at in range(0, 16 * SECTOR, size)]
+        runner.count(f"{label}: the image", open("F", "rb").read() == b"".join(xts_encrypt(key, count * k, it) for k, it in enumerate(units)))
+        opened, told = begun(Export("b", plain.content))
+        back = subprocess.run([runner.program, "nbd", "back", "b", "F=ro:F"], input=opened + request(READ, 0, 16 * SECTOR), capture_output=True, timeout=60)
+        runner.count(f"{label}: read back", back.stdout == told + plain.read(0, 16 * SECTOR) and back.returncode == 0)
 
 
 def cuts(runner):
@@ -324,10 +352,10 @@ def main():
     runner = Runner(os.path.abspath(given) if os.path.exists(given) else given)
     with tempfile.TemporaryDirectory() as room:
         os.chdir(room)
-        for part in (handshakes, transmissions, writes, crypt, cuts, refusals):
+        for part in (handshakes, transmissions, writes, long_runs, crypt, cuts, refusals):
             part(runner)
-    print(f"{runner.passed} exchanges agree, {runner.failed} don't")
-    return runner.failed != 0
+    print(f"exchanges: {runner.passed} passed, {runner.failed} failed")
+    return 1 if runner.failed or not runner.passed else 0
 
 
 if __name__ == "__main__":

@@ -205,7 +205,8 @@ fn reads_each_block_at_most_twice_more(rt: HostRuntime) -> Result<(), Fail> {
     for (damage, lost, again) in &rows {
         let (found, reads) = reads_of(rt.alloc(), *damage)?;
         assert_eq!(rt; found, *lost);
-        assert!(rt; WAY * BLOCKS <= reads && reads <= WAY * (BLOCKS + *again));
+        let most = BLOCKS.saturating_add(*again).saturating_mul(WAY);
+        assert!(rt; WAY * BLOCKS <= reads && reads <= most);
     }
     Ok(())
 }
