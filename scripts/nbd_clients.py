@@ -3,8 +3,8 @@
 
 nbd_clients.py [PROGRAM]: copies devices out with nbdcopy and qemu-img and compares them, copies an image in through a
 `crypt` line and reads it back by another stack, writes with qemu-io across the ends of sectors, reads a verity volume
-with one changed block, and prints the speed over each kind of line beside nbdkit's. What isn't installed is named and left out (Debian:
-libnbd-bin, python3-libnbd, qemu-utils, socat, nbdkit).
+with one changed block, and prints the speed over each kind of line beside nbdkit's and beside `scan`'s. What isn't
+installed is named and left out (Debian: libnbd-bin, python3-libnbd, qemu-utils, socat, nbdkit).
 """
 import os
 import random
@@ -116,21 +116,27 @@ def copied_in(data):
         say("copy in: read back by another stack", done.returncode == 0 and open("back", "rb").read() == bytes(wanted), done.stderr.decode())
 
 
-def least_seconds(label, services):
-    """The least time of five that nbdcopy takes to read each whole service, the services in turn."""
-    times = [[] for _ in services]
-    for _ in range(5):
-        for words, taken in zip(services, times):
-            with Served(words) as uri:
-                start = time.monotonic()
-                done = run("nbdcopy", uri, "null:")
-                taken.append(time.monotonic() - start)
-                say(f"speed: {label}", done.returncode == 0, done.stderr.decode())
-    return [min(it) for it in times]
+def nbdcopy_seconds(words):
+    """How long nbdcopy takes to read a whole service."""
+    with Served(words) as uri:
+        start = time.monotonic()
+        done = run("nbdcopy", uri, "null:")
+        taken = time.monotonic() - start
+    say("speed: nbdcopy", done.returncode == 0, done.stderr.decode())
+    return taken
+
+
+def scan_seconds(words):
+    """How long `scan` takes to read the device of a service, which is what a service does beneath the protocol."""
+    start = time.monotonic()
+    done = run(PROGRAM, "scan", *words[2:])
+    taken = time.monotonic() - start
+    say("speed: scan", done.returncode == 0, done.stdout.decode())
+    return taken
 
 
 def speed():
-    """nbdcopy of 256 MiB over lines of each kind, beside nbdkit's of the same file, all through socat."""
+    """nbdcopy of 256 MiB over lines of each kind, beside nbdkit's of the same file, all through socat, and beside `scan`."""
     size = 256 << 20
     sectors = size // 512
     open("data", "wb").write(random.Random(3).randbytes(1 << 20) * 256)
@@ -142,9 +148,17 @@ def speed():
     for place, (name, line) in enumerate(lines.items()):
         open(f"fast{place}", "w").write(f"f,,,ro,0 {sectors} {line}")
         services[name] = words_for(f"fast{place}", "f", data)
-    times = dict(zip(services, least_seconds("nbdcopy", services.values())))
-    for name, taken in times.items():
-        print(f"256 MiB, {name}: {taken:.2f} s, {256 / taken:.0f} MiB/s; nbdkit's time is {times['nbdkit'] / taken:.2f} of it")
+    copied, scanned = {name: [] for name in services}, {name: [] for name in services}
+    for _ in range(5):
+        for name, words in services.items():
+            copied[name].append(nbdcopy_seconds(words))
+            if name != "nbdkit":
+                scanned[name].append(scan_seconds(words))
+    least = min(copied["nbdkit"])
+    for name in services:
+        taken = min(copied[name])
+        beneath = f"; scan's time is {min(scanned[name]) / taken:.2f} of it" if scanned[name] else ""
+        print(f"256 MiB, {name}: {taken:.2f} s, {256 / taken:.0f} MiB/s; nbdkit's time is {least / taken:.2f} of it{beneath}")
 
 
 def changed_block(data):

@@ -341,6 +341,60 @@ def cuts(runner):
     runner.run("not cut, and ended", "file", sent + request(DISC), wanted, after=bytes(e.content))
 
 
+def talks(failing=None, error=EIO):
+    """What is written in an exchange over the file, where the request of that number fails and does nothing."""
+    e = exports()["file"]
+    asked = [("write", 509, b"across"), ("flush",), ("read", 508, 8), ("write", 1024, bytes(range(256)) * 4), ("flush",), ("read", 0, 4096)]
+    sent, wanted = begun(e)
+    for number, (kind, *rest) in enumerate(asked):
+        if kind == "write":
+            sent += request(WRITE, rest[0], len(rest[1]), data=rest[1])
+            answer = reply(error) if number == failing else e.write(*rest)
+        elif kind == "flush":
+            sent += request(FLUSH)
+            answer = reply(error) if number == failing else reply()
+        else:
+            sent += request(READ, *rest)
+            answer = reply(error) if number == failing else e.read(*rest)
+        wanted += answer
+    kinds = [kind for kind, *_ in asked]
+    return sent, wanted, bytes(e.content), kinds
+
+
+def failures(runner):
+    """Each call of the system, and each allocation, fails in turn: the request that met it says so, and the others nothing."""
+    library = os.path.join(os.getcwd(), "fail.so")
+    sources = [os.path.join(os.path.dirname(os.path.realpath(__file__)), it) for it in ("fail_calls.c", "refuse_alloc.c")]
+    subprocess.run(["cc", "-shared", "-fPIC", "-O2", "-o", library, *sources, "-ldl"], check=True)
+    open("stack", "w").write(STACK)
+    sent, plain, after, kinds = talks()
+    for kind in ("device", "memory", "input", "output"):
+        for number in range(1, 10000):
+            open("F", "wb").write(exports()["file"].content)
+            if os.path.exists("met"):
+                os.remove("met")
+            names = ("REFUSE", "REFUSE_MET") if kind == "memory" else ("FAIL", "FAIL_MET")
+            more = {"LD_PRELOAD": library, names[0]: str(number), names[1]: "met", **({} if kind == "memory" else {"FAIL_KIND": kind})}
+            words = [runner.program, "nbd", "stack", "file", "R=ramp:8", "Z=zero:4", "F=rw:F"]
+            done = subprocess.run(words, input=sent, env={**os.environ, **more}, capture_output=True, timeout=60)
+            if not os.path.exists("met"):
+                break
+            met = open("met").read()
+            found = done.stdout, done.returncode, open("F", "rb").read()
+            if kind == "device":
+                synced = met.startswith("sync")
+                ends = [(told, 0, left) for _, told, left, _ in (talks(k) for k, it in enumerate(kinds) if (it == "flush") == synced)]
+                # the sync at the end: the file is the third binding
+                good = found in ends or synced and found == (plain + b"fault 3 Device 3\n", 3, after)
+            elif kind == "memory":
+                ends = [(told, 0, left) for _, told, left, _ in (talks(), *(talks(k, ENOMEM) for k in range(len(kinds))))]
+                good = found in ends or found[:2] in ((b"no memory\n", 1), (GREETING, 4))
+            else:
+                good = done.returncode == 1 and plain.startswith(done.stdout)
+            runner.count(f"{kind} {number} fails ({met.strip()})", good and not done.stderr, f"status {done.returncode}, {len(done.stdout)} of {len(plain)} bytes, {done.stdout[-40:]!r}")
+        runner.count(f"{kind}: some failed", number > 1)
+
+
 def refusals(runner):
     """What isn't served at all says so as every command does."""
     for name, text in (("none", "refused 1 NoSuchDevice\n"), ("R", "refused 1 NoSuchDevice\n"), ("", "refused 1 NoSuchDevice\n")):
@@ -352,7 +406,7 @@ def main():
     runner = Runner(os.path.abspath(given) if os.path.exists(given) else given)
     with tempfile.TemporaryDirectory() as room:
         os.chdir(room)
-        for part in (handshakes, transmissions, writes, long_runs, crypt, cuts, refusals):
+        for part in (handshakes, transmissions, writes, long_runs, crypt, cuts, failures, refusals):
             part(runner)
     print(f"exchanges: {runner.passed} passed, {runner.failed} failed")
     return 1 if runner.failed or not runner.passed else 0

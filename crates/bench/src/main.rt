@@ -32,12 +32,40 @@ fn main(rt: HostRuntime) -> anyhow::Result<()> {
         [_, "memory"] => memory::show(&rt),
         [_, "xts"] => xts::measure(&rt),
         [_, "stacks"] => {
-            compare(&rt, "reads of crypt", &mut CryptReads::new(alloc)?)?;
-            compare(&rt, "writes of crypt", &mut CryptWrites::new(alloc)?)?;
-            compare(&rt, "reads of verity", &mut VerityReads::new(alloc)?)
+            measure_crypt(&rt)?;
+            measure_verity(&rt)
         }
         _ => Ok(println!(rt;
             "digest, area, format DATA HASH, verify DATA HASH, memory, xts, or stacks"
         )?),
     }
+}
+
+/// Pieces through a `crypt` line, over a leaf and over mapped devices.
+fn measure_crypt(rt: &HostRuntime) -> anyhow::Result<()> {
+    let alloc = rt.alloc();
+    compare(rt, "reads of crypt", &mut CryptReads::new(alloc)?)?;
+    for (name, lower, times) in [
+        ("writes of crypt", "A", 1),
+        ("writes of crypt over linear", "/dev/mapper/l", 1),
+        ("writes of crypt over striped", "/dev/mapper/s", 1),
+        ("writes of crypt over crypt", "/dev/mapper/c", 2),
+    ] {
+        compare(rt, name, &mut CryptWrites::new(alloc, lower, times)?)?;
+    }
+    Ok(())
+}
+
+/// Pieces through a `verity` line: without a cache beside the digests of all blocks that are read, and with and without one
+/// beside those of the data blocks.
+fn measure_verity(rt: &HostRuntime) -> anyhow::Result<()> {
+    let alloc = rt.alloc();
+    for (name, cache, digests) in [
+        ("reads of verity", 0, 3),
+        ("warm reads of verity, beside the data alone", 64, 1),
+        ("reads of verity, beside the data alone", 0, 1),
+    ] {
+        compare(rt, name, &mut VerityReads::new(alloc, cache, digests)?)?;
+    }
+    Ok(())
 }

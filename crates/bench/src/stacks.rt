@@ -30,8 +30,14 @@ fn pair<T: Drop>(alloc: Global, a: T, b: T) -> Result<Vec<T>, AllocError>
     Ok(both)
 }
 
-/// The stack of a text over the leaves `A` and `B`, without a cache.
-fn stack_of(alloc: Global, a: MemoryDev, b: MemoryDev, text: &[u8]) -> Result<Stack<MemoryDev>> {
+/// The stack of a text over the leaves `A` and `B`, with a cache of at most so many hash blocks.
+fn stack_of(
+    alloc: Global,
+    a: MemoryDev,
+    b: MemoryDev,
+    text: &[u8],
+    cache: u32,
+) -> Result<Stack<MemoryDev>> {
     if text.len() > 1 << 20 {
         bail!("the text is too long");
     }
@@ -48,7 +54,7 @@ fn stack_of(alloc: Global, a: MemoryDev, b: MemoryDev, text: &[u8]) -> Result<St
     let leaves = pair(alloc, leaf_a, leaf_b)?;
     let devices = pair(alloc, a, b)?;
     let config = Config::new(alloc, leaves)?;
-    let Ok(mut stack) = Stack::new(alloc, config, devices, 0) else {
+    let Ok(mut stack) = Stack::new(alloc, config, devices, cache) else {
         bail!("no stack");
     };
     let text = parse_stack(alloc, text)?;
@@ -73,11 +79,9 @@ fn device_of(stack: &Stack<MemoryDev>, first: u64) -> Option<DevId>
     Some(d)
 }
 
-/// The text of the one device `v`, from that line on.
-fn text_of(alloc: Global, flag: &str, line: &[u8]) -> Result<Vec<u8>> {
-    let mut text = Vec::from_slice(alloc, b"v,,,")?;
-    text.extend_from_slice(flag.as_bytes())?;
-    text.push(b',')?;
+/// The text of the one device `v`, which can't be written, from that line on.
+fn text_of(alloc: Global, line: &[u8]) -> Result<Vec<u8>> {
+    let mut text = Vec::from_slice(alloc, b"v,,,ro,")?;
     text.extend_from_slice(line)?;
     Ok(text)
 }
@@ -97,28 +101,33 @@ fn write(stack: &mut Stack<MemoryDev>, piece: u32, bytes: &[u8]) -> Result<()> {
     Ok(stack.write_piece(d, first, bytes)?)
 }
 
-/// One `crypt` line over 16 MiB, and its key.
+/// A `crypt` line over 16 MiB, its key, and how often a sector is encrypted on its way to a leaf.
 #[derive(Drop)]
 struct Encrypted {
     stack: Stack<MemoryDev>,
     key: XtsKey,
     bytes: Vec<u8>,
+    times: u32,
 }
 
 impl Encrypted {
-    fn new(alloc: Global) -> Result<Encrypted> {
+    /// Over the leaf `A`, or over the device `l` of a `linear` line, `s` of a `striped` one, or `c` of a `crypt` one.
+    fn new(alloc: Global, lower: &str, times: u32) -> Result<Encrypted> {
         let mut key = [0x5a; 64];
         key[0] = 0xa5;
         let digits = hex::encode(alloc, &key)?;
         let sectors = PIECES * PIECE;
-        let line = format!(in alloc; "0 {sectors} crypt aes-xts-plain64 {digits} 0 A 0")?;
-        let text = text_of(alloc, "rw", line.as_bytes())?;
-        let image = MemoryDev::zeros(alloc, sectors, true)?;
-        let none = MemoryDev::zeros(alloc, 1, true)?;
+        let crypt = format!(in alloc; "{sectors} crypt aes-xts-plain64 {digits} 0")?;
+        let text = format!(in alloc;
+            "l,,,rw,0 {sectors} linear A 0;s,,,rw,0 {sectors} striped 2 128 A 0 B 0;c,,,rw,0 {crypt} A 0;v,,,rw,0 {crypt} {lower} 0"
+        )?;
+        let a = MemoryDev::zeros(alloc, sectors, true)?;
+        let b = MemoryDev::zeros(alloc, sectors, true)?;
         Ok(Encrypted {
-            stack: stack_of(alloc, image, none, &text)?,
+            stack: stack_of(alloc, a, b, text.as_bytes(), 0)?,
             key: XtsKey::new(&key).context("the key was refused")?,
             bytes: vec![in alloc; 0x3cu8; PIECE as usize * 512]?,
+            times,
         })
     }
 }
@@ -129,7 +138,7 @@ pub struct CryptReads(Encrypted);
 
 impl CryptReads {
     pub fn new(alloc: Global) -> Result<CryptReads> {
-        Ok(CryptReads(Encrypted::new(alloc)?))
+        Ok(CryptReads(Encrypted::new(alloc, "A", 1)?))
     }
 }
 
@@ -156,13 +165,13 @@ impl Compared for CryptReads {
     }
 }
 
-/// Pieces written through a `crypt` line, beside the encryption of as many sectors.
+/// Pieces written through a `crypt` line, beside the encryption of as many sectors by as many lines.
 #[derive(Drop)]
 pub struct CryptWrites(Encrypted);
 
 impl CryptWrites {
-    pub fn new(alloc: Global) -> Result<CryptWrites> {
-        Ok(CryptWrites(Encrypted::new(alloc)?))
+    pub fn new(alloc: Global, lower: &str, times: u32) -> Result<CryptWrites> {
+        Ok(CryptWrites(Encrypted::new(alloc, lower, times)?))
     }
 }
 
@@ -176,30 +185,30 @@ impl Compared for CryptWrites {
     }
 
     fn least(&mut self, _alloc: Global) -> Result<u8> {
+        let pieces = u64::from(PIECES) * u64::from(self.0.times);
         let Encrypted { key, bytes, .. } = &mut self.0;
         let bytes = bytes.as_mut_slice();
         if !bytes.len().is_multiple_of(512) {
             bail!("the sectors are not whole");
         }
-        for piece in 0..PIECES {
-            key.encrypt_units(u64::from(piece * PIECE), 512, bytes);
+        for piece in 0..pieces {
+            key.encrypt_units(piece, 512, bytes);
         }
         Ok(0)
     }
 }
 
-/// Pieces read through a `verity` line over 16 MiB in blocks of 4,096 bytes, beside the digests of the blocks that are read:
-/// for each data block itself and one hash block at each of two levels.
+/// Pieces read through a `verity` line over 16 MiB in blocks of 4,096 bytes, beside so many digests for each data block. Of
+/// the 33 hash blocks, in two levels, a cache keeps so many at most.
 #[derive(Drop)]
 pub struct VerityReads {
     stack: Stack<MemoryDev>,
     block: Vec<u8>,
+    digests: u32,
 }
 
-const LEVELS: u32 = 2;
-
 impl VerityReads {
-    pub fn new(alloc: Global) -> Result<VerityReads> {
+    pub fn new(alloc: Global, cache: u32, digests: u32) -> Result<VerityReads> {
         let sectors = PIECES * PIECE;
         let mut data_dev = MemoryDev::ramp(alloc, sectors, true)?;
         let mut hash_dev = MemoryDev::zeros(alloc, sectors / 64, true)?;
@@ -207,10 +216,11 @@ impl VerityReads {
         let superblock = Superblock::new([0; 16], 4096, 4096, u64::from(sectors / 8), salt)?;
         let root = format(alloc, &mut data_dev, &mut hash_dev, superblock)?;
         let line = table_line(alloc, &superblock, b"A", b"B", &root)?;
-        let text = text_of(alloc, "ro", &line)?;
+        let text = text_of(alloc, &line)?;
         Ok(VerityReads {
-            stack: stack_of(alloc, data_dev, hash_dev, &text)?,
+            stack: stack_of(alloc, data_dev, hash_dev, &text, cache)?,
             block: vec![in alloc; 0x5au8; BLOCK]?,
+            digests,
         })
     }
 }
@@ -227,7 +237,7 @@ impl Compared for VerityReads {
 
     fn least(&mut self, _alloc: Global) -> Result<u8> {
         let mut byte = 0;
-        for _ in 0..PIECES * (PIECE / 8) * (1 + LEVELS) {
+        for _ in 0..u64::from(PIECES * (PIECE / 8)) * u64::from(self.digests) {
             byte ^= Sha256::digest(self.block.as_slice())[0];
         }
         Ok(byte)

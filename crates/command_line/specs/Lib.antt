@@ -1,4 +1,5 @@
 pub mod Bindings
 pub mod CommandLines
 pub mod CommandWords
+pub mod FormatOptions
 pub mod Grammar

@@ -18,6 +18,9 @@ use stack_session::{Counted, SessionFault};
 use std::alloc::Global;
 use std::io::Write;
 
+// A device that is gone over meets each hash block again and again.
+const CACHED_BLOCKS: u32 = 64;
+
 /// The stack that a text makes of the leaves, and its device of that name.
 pub fn load_device<'a>(
     alloc: Global,
@@ -39,7 +42,7 @@ pub fn load_device<'a>(
     let Some(device) = config.device(name.as_bytes()) else {
         return Err(CommandFault::Submit(SubmitFault::NoSuchDevice));
     };
-    let Ok(stack) = Stack::new(alloc, config, devices, 0) else {
+    let Ok(stack) = Stack::new(alloc, config, devices, CACHED_BLOCKS) else {
         return Err(CommandFault::NoMemory);
     };
     Ok((stack, device))

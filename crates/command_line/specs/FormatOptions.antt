@@ -1,0 +1,29 @@
+-- What the words of `format`'s options say.
+use Rattle.std.specs.Prelude.{ℕ, ◌≡◌, ◌==◌, nat_lt, List, [], length, codes, Option, Some, None, option_map, if◌then◌else◌}
+use Rattle.std.specs.Str.{bytes_eq}
+use Rattle.std.specs.Result.{result_ok}
+use Rattle.hex.specs.Hex.{decode_of}
+use Rattle.uuid.specs.Text.{parsed}
+use Rattle.dm_table.specs.Numbers.{number, number_if}
+use Rattle.command_line.specs.declared.image_options.OptionWords.{OptionWords}
+use Rattle.command_line.specs.declared.image_options.ImageOptions.{ImageOptions}
+
+-- 4,096 bytes unless a word says another number below 2^32
+abbrev pub block_size_of : Option (List ℕ) → Option ℕ
+block_size_of None = Some 4096
+block_size_of (Some word) = number_if (λ n. nat_lt n 4294967296) (number word)
+
+-- `-` for no bytes, or hexadecimal digits
+abbrev pub salt_of : List ℕ → Option (List ℕ)
+salt_of word =
+    if bytes_eq word (codes "-") then Some []
+    else if length word == 0 then None
+    else result_ok (decode_of word)
+
+-- each value is the one that its word says; where there is no word, it is 4,096 for a block size, and none for the others
+pub record AreSaid (words : OptionWords) (options : ImageOptions) : Type 0 where
+  pub data_block : block_size_of (option_map (λ word. word.now) words.data_block) ≡ Some options.data_block
+  pub hash_block : block_size_of (option_map (λ word. word.now) words.hash_block) ≡ Some options.hash_block
+  pub blocks : option_map (λ word. number word.now) words.blocks ≡ option_map Some options.blocks
+  pub salt : option_map (λ word. salt_of word.now) words.salt ≡ option_map Some options.salt
+  pub uuid : option_map (λ word. parsed word.now) words.uuid ≡ option_map Some options.uuid
