@@ -10,8 +10,8 @@ use block_device::BlockDev;
 use request_queue::{Queue, Reply, Request, RunFault};
 use std::alloc::{AllocError, Global};
 
-// The most sectors of one run.
-const MOST_COUNT: u64 = 2048;
+// The most sectors of one run: those of a piece, so that its chains are dropped before the next is read.
+const MOST_COUNT: u64 = 128;
 
 // One run.
 fn read_run<D: BlockDev>(
