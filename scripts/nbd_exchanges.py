@@ -388,7 +388,7 @@ def failures(runner):
                 good = found in ends or synced and found == (plain + b"fault 3 Device 3\n", 3, after)
             elif kind == "memory":
                 ends = [(told, 0, left) for _, told, left, _ in (talks(), *(talks(k, ENOMEM) for k in range(len(kinds))))]
-                good = found in ends or found[:2] in ((b"no memory\n", 1), (GREETING, 4))
+                good = found in ends or found[:2] in ((b"no memory\n", 1), (GREETING, 1))
             else:
                 good = done.returncode == 1 and plain.startswith(done.stdout)
             runner.count(f"{kind} {number} fails ({met.strip()})", good and not done.stderr, f"status {done.returncode}, {len(done.stdout)} of {len(plain)} bytes, {done.stdout[-40:]!r}")

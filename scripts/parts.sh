@@ -1,5 +1,5 @@
-# The parts of the gate: runs them in turn or side by side, says how long each took, and ends at the first that failed.
-# It is read by a script that has made the folder $room.
+# The parts of the gate: runs them in turn or side by side, says how long each took, and ends at the first that failed, also
+# where others still run beside it. It is read by a script that has made the folder $room.
 times=()
 begun=()
 
@@ -18,7 +18,7 @@ begin() {
     local name=$1 at=${#begun[@]}
     shift
     begun+=("$name")
-    while [ "$(jobs -pr | wc -l)" -ge "$(nproc)" ]; do wait -n || true; done
+    while [ "$(jobs -pr | wc -l)" -ge "$(nproc)" ]; do wait_for_one; done
     set -m
     run_part "$room/part.$at" "$@" &
     set +m
@@ -32,17 +32,29 @@ run_part() {
     echo $status > "$file.status"
 }
 
+# wait_for_one: waits until a part that was begun has ended. Where one has failed, it is shown, and that is the end.
+wait_for_one() {
+    local at
+    wait -n || true
+    for at in "${!begun[@]}"; do
+        ! grep -qsvx 0 "$room/part.$at.status" || show "$at"
+    done
+}
+
 # finish: waits for the parts that were begun, and shows what each printed, in the order in which they were begun.
 finish() {
-    local at file
-    wait
-    for at in "${!begun[@]}"; do
-        file=$room/part.$at
-        echo "== ${begun[at]}"
-        cat "$file"
-        ended "${begun[at]}" "$file.times" "$(cat "$file.status" || echo 1)"
-    done
+    local at
+    while [ -n "$(jobs -pr)" ]; do wait_for_one; done
+    for at in "${!begun[@]}"; do show "$at"; done
     begun=()
+}
+
+# show NUMBER: what a part printed that was begun and has ended.
+show() {
+    local file=$room/part.$1
+    echo "== ${begun[$1]}"
+    cat "$file"
+    ended "${begun[$1]}" "$file.times" "$(cat "$file.status" || echo 1)"
 }
 
 # ended NAME TIMES STATUS: says how long a part took, and ends where it failed.
@@ -55,10 +67,11 @@ ended() {
     [ "$3" = 0 ] || { echo "check: failed at: $1"; exit "$3"; }
 }
 
-# stop_parts: ends the parts that still run.
+# stop_parts: ends the parts that still run, and waits until they have ended.
 stop_parts() {
     local it
     for it in $(jobs -pr); do kill -- "-$it" 2> /dev/null || true; done
+    wait || true
 }
 
 # total: how long all parts took together.

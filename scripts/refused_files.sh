@@ -120,7 +120,8 @@ expect 1 'refused 2 Device' copy readable_stack a image D=ramp:4
 unset LD_PRELOAD
 expect 0 'read 4 lost 0' copy readable_stack a image D=ramp:4
 
-# A full file system, where this one may mount a small one.
+# A full file system, where this one may mount a small one, of two pages. A write is told as the leaf's fault; a format whose
+# tree finds no room leaves no superblock before it, and so does one for which there is no room at all.
 mkdir full
 if mount -t tmpfs -o size=8k,mode=777 tmpfs full 2> mount_errors; then
     trap 'umount full; rm -rf "$room"' EXIT
@@ -131,6 +132,18 @@ if mount -t tmpfs -o size=8k,mode=777 tmpfs full 2> mount_errors; then
     printf 'a,,,rw,0 128 linear D 0\n' > large_stack
     expect 3 'fault 3 Device 1' write large_stack a 0 large D=rw:full/image
     expect 0 '127 all 00' read large_stack a 127 1 D=rw:full/image
+    truncate -s 131072 blocks
+    truncate -s 9216 full/made
+    chmod 644 blocks
+    chmod 666 full/made
+    expect 1 'refused 5 Device' format "${sizes[@]}" blocks full/made
+    same 'a tree was written where there was no room' cmp -n 9216 full/made /dev/zero
+    rm full/image
+    expect 1 'refused 5 Device' format "${sizes[@]}" blocks full/made
+    same 'a superblock stands before a tree that found no room' cmp -n 512 full/made /dev/zero
+    same 'no tree was begun' test -n "$(tr -d '\0' < full/made | head -c 1 | od -A n)"
+else
+    echo 'full file system: not tried, since none may be mounted'
 fi
 echo "refused files: $passed passed, $failed failed"
 [ $failed = 0 ]

@@ -4,7 +4,8 @@
 A name of a file of proofs/, but for those that answer goals (Answers, Invariants, Proof), is cited where an answer, a
 definition of specs/, an attribute of a source (`using(crate::proofs::M::name)`), a planted bug or another cited name of
 proofs/ names it: in its own file, or in a file that imports it from there. What is only imported isn't cited. Marked are
-names of worked rows, which are there to be computed, and names that a document has.
+names of worked rows, which are there to be computed, and laws of proofs/lemmas that the crate's README names for callers:
+these stand, and what they cite isn't listed.
 """
 import glob
 import os
@@ -97,21 +98,35 @@ def roots(cites):
     return found
 
 
-def main():
-    os.chdir(TOP)
-    paths = [it for kind in ("proofs", "specs") for it in glob.glob(f"crates/*/{kind}/**/*.antt", recursive=True)]
-    cites = citations({it: File(it) for it in paths})
-    reached = roots(cites)
-    left = [*reached]
+def promises(cites):
+    """The laws for callers that the README of their own crate names."""
+    found = set()
+    for readme in glob.glob("crates/*/README.md"):
+        text, home = text_of(readme), f"{os.path.dirname(readme)}/proofs/lemmas/"
+        found |= {it for it in cites if it[0].startswith(home) and f"`{it[1]}`" in text}
+    return found
+
+
+def reached_from(cites, names):
+    """These names and all that they cite, one by way of another."""
+    reached, left = {*names}, [*names]
     while left:
         more = cites.get(left.pop(), set()) - reached
         reached |= more
         left += more
-    documents = "\n".join(text_of(it) for it in [*glob.glob("*.md"), *glob.glob("docs/*.md"), *glob.glob("crates/*/*.md")])
+    return reached
+
+
+def main():
+    os.chdir(TOP)
+    paths = [it for kind in ("proofs", "specs") for it in glob.glob(f"crates/*/{kind}/**/*.antt", recursive=True)]
+    cites = citations({it: File(it) for it in paths})
+    cited, named = roots(cites), promises(cites)
+    reached = reached_from(cites, cited | named) - (named - reached_from(cites, cited))
     for path, name in sorted(it for it in cites if is_lemma(it[0]) and it not in reached):
         if sys.argv[1:] and path.split("/")[1] not in sys.argv[1:]:
             continue
-        mark = " (a worked row)" if re.match("Worked|Example|.*Row", os.path.basename(path)) else " (in a document)" if f"`{name}`" in documents else ""
+        mark = " (a worked row)" if re.match("Worked|Example|.*Row", os.path.basename(path)) else " (named in README)" if (path, name) in named else ""
         by = sorted(it[1] for it in cites if (path, name) in cites[it] and it != (path, name))
         print(f"{path}: {name}{mark}" + (f", but for {', '.join(by)}" if by else ""))
 

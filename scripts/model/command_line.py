@@ -3,6 +3,7 @@
 import re
 
 from configuration import Configuration, Leaf, Refused, check_leaves
+from nbd import Service
 from recovery import check_size, looked_up, recovered
 from session import MOST_SECTORS, Session, Usage, check_request, costs
 from stack import SECTOR, Fault, FileImage, MemoryImage, Stack
@@ -19,6 +20,7 @@ OPTIONS = {
     "format": (b"data-block", b"hash-block", b"blocks", b"salt", b"uuid"),
     "verify": (), "dump": (), "table": (), "load": (),
     "read": (b"cache",), "write": (b"cache",), "session": (b"cache",), "scan": (), "copy": (),
+    "nbd": (b"cache",),
 }
 UUID = re.compile(rb"[0-9a-f]{8}(-[0-9a-f]{4}){3}-[0-9a-f]{12}", re.IGNORECASE)
 
@@ -55,10 +57,18 @@ class Drawn(Exception):
 class Files:
     """A directory's files: bytearrays by path (two paths may share one), or other kinds.
 
-    The other kinds are the words `directory`, `pipe`, `character`."""
+    The other kinds are the words `directory`, `pipe`, `character`. Behind lines of a session files may be cut
+    short: `cuts` has the number of lines, a name and a size, and `counts` gets the number of replies before each."""
 
     def __init__(self, nodes):
-        self.nodes, self.opened = nodes, []
+        self.nodes, self.opened, self.cuts, self.counts = nodes, [], (), []
+
+    def cut_after(self, lines, replies):
+        for line, name, size in self.cuts:
+            if line == lines:
+                self.counts.append(len(replies))
+                if isinstance(self.nodes.get(name), bytearray):
+                    del self.nodes[name][size:]
 
     def find(self, path):
         if path == b"/dev/null":
@@ -190,11 +200,11 @@ def binding(word):
 def bound(words, files):
     """A stack over the leaves of the bindings, without a device."""
     images, leaves = {}, []
-    for name, kind, value in words:
+    for place, (name, kind, value) in enumerate(words, 1):
         if kind in (b"zero", b"ramp"):
             image = MemoryImage(value, kind == b"ramp")
         else:
-            image = FileImage(files.image(value, kind == b"rw"))
+            image = FileImage(files.image(value, kind == b"rw"), place)
         images[name] = image
         leaves.append(Leaf(name, image.sectors, kind != b"ro"))
     check_leaves(leaves)
@@ -312,22 +322,30 @@ def run_copy(_options, words, files, _given, features):
     return lines, FAULT if is_lost else DONE
 
 
+def run_nbd(options, words, files, given, features):
+    read_cache(options)
+    (path, name), rest = at_least(words, 2)
+    bindings = [binding(word) for word in rest]
+    stack = loaded(stack_text(path, files), bindings, files, features)
+    return Service(stack, looked_up(stack.configuration, name)).serve(given)
+
+
 def run_session(options, words, files, given, features):
     read_cache(options)
     stack = bound([binding(word) for word in words], files)
-    return Session(stack, features).serve(given)
+    return Session(stack, features).serve(given, files.cut_after)
 
 
 COMMANDS = {
     b"format": run_format, b"verify": run_verify, b"dump": run_dump, b"table": run_table,
     b"load": run_load, b"read": run_read, b"write": run_write, b"session": run_session,
-    b"scan": run_scan, b"copy": run_copy,
+    b"scan": run_scan, b"copy": run_copy, b"nbd": run_nbd,
 }
 
 
-def run(words, given, files, features):
-    """The lines on standard output and the status; `files` is as the command leaves it."""
-    files.opened = []
+def run(words, given, files, features, cuts=()):
+    """The lines on standard output, or the replies to a client, and the status; `files` is as the command leaves it."""
+    files.opened, files.cuts, files.counts = [], cuts, []
     try:
         name = words[0].decode("latin-1") if words else ""
         if name not in features["commands"] or not all(map(is_utf8, words)):

@@ -3,18 +3,22 @@
 The model is asked which devices stand while a session is made, so that its lines name them.
 """
 
+from dataclasses import replace
+
 from random_images import Images
 from random_parts import Case, Run
-from random_recovery import Recoveries
+from random_services import Services
 from strange_words import STRANGE_NUMBERS
 
 
-class Maker(Recoveries, Images):
+class Maker(Services, Images):
     """Makes one case."""
 
     def case(self):
-        makers = [(self.session_case, 58), (self.stack_case, 16), (self.image_case, 18),
-                  (self.words_case, 8)]
+        makers = [(self.session_case, 51), (self.stack_case, 14), (self.image_case, 16),
+                  (self.words_case, 7)]
+        if self.has("commands", "nbd"):
+            makers.append((self.service_case, 14))
         made, = self.random.choices([maker for maker, _ in makers], [share for _, share in makers])
         return Case(self.files, made())
 
@@ -24,6 +28,8 @@ class Maker(Recoveries, Images):
         if self.has("targets", "verity") and self.chance(0.2):
             text = self.verity_entries(words)
         session = self.session_over(words)
+        if self.chance(0.15):
+            text = text or self.holed_stack(session, True)
         text = text or self.stack_text(session)
         if self.chance(0.25):
             text = self.spoiled(text)
@@ -86,16 +92,18 @@ class Maker(Recoveries, Images):
         return Run([b"write"] + self.cache() + [stack, name, first, source] + words)
 
     def words_case(self):
-        kind = self.random.randrange(4)
+        kind = self.random.randrange(5)
         if kind == 0:
             runs = self.image_case()
         elif kind == 1:
             runs = self.stack_case()
-        elif kind == 2:
+        elif kind == 2 and self.has("commands", "nbd"):
+            runs = self.service_case()
+        elif kind == 3:
             runs = [Run([b"session"] + self.cache() + self.bindings(), b"moved\n")]
         else:
             words = [self.pick([b"", b"load", b"read", b"write", b"session", b"format", b"verify", b"dump",
-                                b"table", b"help", b"--help", b"-h", b"--version", b"Load", b"x"])]
+                                b"table", b"nbd", b"help", b"--help", b"-h", b"--version", b"Load", b"x"])]
             words += [self.pick([b"data", b"--", b"-", b"--help", b"-x", b"--cache=1", b"a=zero:1"])
                       for _ in range(self.random.randrange(5))]
             return [Run(words[:self.random.randint(0, 5)], b"moved\n")]
@@ -124,7 +132,7 @@ class Maker(Recoveries, Images):
             drawn = [name for name in (b"--salt", b"--uuid")
                      if not any(word.split(b"=")[0] == name for word in words)]
             words[1:1] = [word for name in drawn for word in (name, b"00" * (1 if name == b"--salt" else 16))]
-        return Run(words, run.given)
+        return replace(run, words=words)
 
 
 def random_case(seed, features):

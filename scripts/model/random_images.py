@@ -134,6 +134,8 @@ class Images(Dice):
             image[at:at + size] = (value % 256**size).to_bytes(size, "little")
         else:
             image[at + self.random.randrange(size)] ^= 1 << self.random.randrange(8)
-        if self.chance(0.3):
-            at, size = self.pick([(8, 4), (12, 4), (64, 4), (68, 4), (72, 8), (80, 2)])
-            image[at:at + size] = bytes(size)
+        if self.chance(0.4):
+            fields = [(8, 4), (12, 4), (64, 4), (68, 4), (72, 8), (80, 2)]
+            first = self.random.randrange(len(fields))
+            for at, size in fields[first:first + self.pick([1, 2, 2])]:
+                image[at:at + size] = bytes(size)

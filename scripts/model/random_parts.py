@@ -9,9 +9,26 @@ from tables import PREFIX
 
 @dataclass
 class Run:
-    """One call of the program: its words and its standard input."""
+    """One call of the program: its words and its standard input, which of a client are its messages.
+
+    Each cut has a number of lines of input, and the name and the size of a file that is cut short behind them."""
     words: list
     given: bytes = b""
+    messages: tuple = ()
+    cuts: tuple = ()
+
+    def __post_init__(self):
+        if self.messages:
+            self.given = b"".join(message.encoded() for message in self.messages)
+
+    def input_texts(self):
+        """The input as lines to be shown."""
+        if self.messages:
+            return [message.text().encode() for message in self.messages]
+        lines = self.given.split(b"\n") if self.given else []
+        for line, name, size in sorted(self.cuts, reverse=True):
+            lines.insert(line, b"[now %s has %d bytes]" % (name, size))
+        return lines
 
 
 @dataclass

@@ -43,27 +43,6 @@ class Recoveries(Sessions):
                     content[self.random.randrange(len(content))] ^= 1 << self.random.randrange(8)
                 self.files[path] = bytes(content)
 
-    def holed_stack(self, session):
-        """A device with error lines in it, and one with lines of every kind over it."""
-        leaves = [leaf for leaf in session.stack.configuration.leaves.values() if 0 < leaf.sectors <= 400]
-        if not leaves:
-            return b"low,,,ro,0 3 error,3 2 zero,5 1 error"
-        leaf = self.pick(leaves)
-        at, start, lows, tops = 0, 0, [], []
-        while at < leaf.sectors:
-            length = min(self.pick([1, 2, 3, 5, 8, 17, 130]), leaf.sectors - at)
-            kind = b"error" if self.chance(0.3) else b"linear %s %d" % (leaf.name, at)
-            lows.append(b"%d %d %s" % (at, length, kind))
-            at += length
-        lower = [(PREFIX + b"low", leaf.sectors)]
-        for _ in range(self.pick([1, 2, 3])):
-            length, words = self.target(lower, False)
-            tops.append(b"%d %d %s" % (start, length, words))
-            start += length
-        entries = [b"low,,,ro," + b",".join(lows), b"top,,,ro," + b",".join(tops)]
-        self.random.shuffle(entries)
-        return b";".join(entries)
-
     def recovery_run(self, session, stack, words):
         """Goes over a device, often into an image that mostly is large enough."""
         devices = [device for device in session.stack.configuration.devices.values()

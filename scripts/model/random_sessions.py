@@ -2,19 +2,22 @@
 
 from command_line import Files, binding, bound
 from random_parts import Run, nodes
-from random_stacks import Stacks
+from random_holes import Holes
 from session import LIMIT, Session
 from strange_words import LEAF_NAMES, NAMES, STRANGE_BYTES, STRANGE_NAMES, STRANGE_NUMBERS
 
 
-class Sessions(Stacks):
+class Sessions(Holes):
     def session_over(self, words):
         """The model's session over bindings, or over none where they are refused."""
+        files = Files(nodes(self.files))
         try:
-            stack = bound([binding(word) for word in words], Files(nodes(self.files)))
+            stack = bound([binding(word) for word in words], files)
         except Exception:
             stack = bound([], Files({}))
-        return Session(stack, self.features)
+        session = Session(stack, self.features)
+        session.files = files
+        return session
 
     def sector_range(self, session, device, write):
         """The words FIRST and COUNT of a request."""
@@ -129,8 +132,13 @@ class Sessions(Stacks):
             text = self.verity_entries(words)
             texts += [text] + [self.spoiled(text) for _ in range(self.pick([0, 1, 4]))] if text else []
         session = self.session_over(words)
-        lines = []
-        for _ in range(self.pick([6, 12, 20, 30, 40])):
+        if self.chance(0.15):
+            texts.append(self.holed_stack(session, True))
+        lines, cuts = [], ()
+        cut_at = self.random.randrange(20) if self.chance(0.15) else None
+        for at in range(self.pick([6, 12, 20, 30, 40])):
+            if at == cut_at:
+                cuts = self.cut_short(words, session, lines)
             line = self.line(session, texts).replace(b"\n", b" ")
             lines.append(line)
             self.follow(session, line)
@@ -140,10 +148,32 @@ class Sessions(Stacks):
             self.change_tree(session, lines)
         if self.chance(0.02):
             self.fill_up(session, lines)
-        if self.chance(0.004):
+        if self.chance(0.004) and not cuts:
             self.flood(lines)
         end = b"" if self.chance(0.2) else b"\n"
-        return [Run([b"session"] + self.cache() + words, b"\n".join(lines + [b"moved"]) + end)]
+        # A hash block that is kept isn't read again, so what a cut takes of one is told without a cache alone.
+        cache = [b"--cache=0"] if cuts else self.cache()
+        cuts = cuts if session.stack.is_known else ()
+        return [Run([b"session"] + cache + words, b"\n".join(lines + [b"moved"]) + end, cuts=cuts)]
+
+    def cut_short(self, words, session, lines):
+        """Cuts a file short that is bound, and reads about its new end; the cut."""
+        bound_files = [word.split(b"=", 1) for word in words if b"=" in word]
+        files = [(leaf, rest[3:]) for leaf, rest in bound_files if len(session.files.nodes.get(rest[3:], b"")) > 1024]
+        if not files or not session.stack.configuration.leaves:
+            return ()
+        leaf, name = self.pick(files)
+        lines.append(b"moved")
+        sectors = len(session.files.nodes[name]) // 512
+        end = self.below(sectors - 1)
+        made = (len(lines), name, end * 512 + self.pick([0, 0, 1, 511]))
+        del session.files.nodes[name][made[2]:]
+        first, count = max(end - 1, 0), min(3, sectors - max(end - 1, 0))
+        for line in [b"load gone,,,ro,0 %d linear %s 0" % (sectors, leaf), b"read gone %d %d" % (first, count),
+                     b"read gone %d 1" % first, b"moved"]:
+            lines.append(line)
+            self.follow(session, line)
+        return (made,)
 
     def change_tree(self, session, lines):
         """Reads a checked sector before and after a change of what its tree stands on."""

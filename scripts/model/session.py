@@ -212,13 +212,16 @@ class Session:
             raise Usage
         return [MovedReply(self.stack.moved)]
 
-    def serve(self, given):
-        """The replies to a whole input, and the status."""
+    def serve(self, given, between):
+        """The replies to a whole input, and the status; `between` is called behind each line."""
         lines = given[:LIMIT].split(b"\n")
         whole = len(given) <= LIMIT
         if not whole:
             lines.pop()
-        replies = [reply for line in lines for reply in self.reply(line)]
+        replies = []
+        for number, line in enumerate(lines, 1):
+            replies += self.reply(line)
+            between(number, replies)
         return replies, 0 if whole else 1
 
 

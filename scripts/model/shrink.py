@@ -7,15 +7,20 @@ from dataclasses import replace
 from random_parts import Case, Run
 
 
-def without_parts(parts):
-    """Lists with a part taken out: halves first, single parts last."""
+def without_lines(parts):
+    """Lists with a part taken out, and from where to where: halves first, single parts last."""
     size = max(len(parts) // 2, 1)
     while parts:
         for at in range(0, len(parts), size):
-            yield parts[:at] + parts[at + size:]
+            yield (at, at + size), parts[:at] + parts[at + size:]
         if size == 1:
             return
         size //= 2
+
+
+def without_parts(parts):
+    for _, less in without_lines(parts):
+        yield less
 
 
 def smaller_texts(text):
@@ -68,20 +73,32 @@ def fewer_files(case):
 
 def fewer_lines(case):
     def smaller(run):
-        for lines in without_parts(run.given.split(b"\n")):
-            yield replace(run, given=b"\n".join(lines))
+        for messages in without_parts(list(run.messages)):
+            yield Run(run.words, messages=tuple(messages))
+        if run.messages:
+            return
+        if run.cuts:
+            yield replace(run, cuts=())
+        for at, lines in without_lines(run.given.split(b"\n")):
+            cuts = tuple((line - max(0, min(line, at[1]) - at[0]), *rest) for line, *rest in run.cuts)
+            yield replace(run, given=b"\n".join(lines), cuts=cuts)
     return each_run(case, smaller)
 
 
 def fewer_words(case):
     def smaller(run):
         for words in without_parts(run.words[1:]):
-            yield Run(run.words[:1] + words, run.given)
+            yield replace(run, words=run.words[:1] + words)
     return each_run(case, smaller)
 
 
 def smaller_lines(case):
     def smaller(run):
+        for at, message in enumerate(run.messages):
+            for less in message.smaller():
+                yield replace(run, messages=run.messages[:at] + (less,) + run.messages[at + 1:])
+        if run.messages:
+            return
         lines = run.given.split(b"\n")
         for at, line in enumerate(lines):
             for less in smaller_texts(line):
@@ -93,7 +110,7 @@ def smaller_words(case):
     def smaller(run):
         for at, word in enumerate(run.words):
             for less in smaller_texts(word):
-                yield Run(run.words[:at] + [less] + run.words[at + 1:], run.given)
+                yield replace(run, words=run.words[:at] + [less] + run.words[at + 1:])
     return each_run(case, smaller)
 
 
@@ -108,11 +125,12 @@ PHASES = [fewer_runs, fewer_lines, fewer_words, fewer_files, smaller_lines, smal
 
 def size(case):
     """What gets smaller: runs and files, then bytes, then the numbers' values."""
-    texts = [word for run in case.runs for word in run.words + [run.given]]
+    texts = [word for run in case.runs for word in run.words + run.input_texts()]
     contents = [content for content in case.files.values() if isinstance(content, bytes)]
     short = texts + [content for content in contents if len(content) <= 4096]
     numbers = sum(int(digits[:40]) for text in short for digits in re.findall(rb"\d+", text))
     octets = sum(len(text) + 1 for text in texts) + sum(map(len, contents))
+    octets += sum(len(run.given) for run in case.runs if run.messages)
     unlike = sum(len(content.strip(b"\0")) for content in contents)
     return len(case.runs) + len(case.files), octets, unlike, numbers
 

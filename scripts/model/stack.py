@@ -41,15 +41,20 @@ class MemoryImage:
 
 
 class FileImage:
-    """The whole sectors of a file's bytes."""
+    """The whole sectors of a file's bytes, as many as it had when it was opened.
 
-    def __init__(self, content):
-        self.content, self.sectors = content, len(content) // SECTOR
+    Where it is shorter by now, what is gone can't be read; a write makes it longer again."""
+
+    def __init__(self, content, place):
+        self.content, self.sectors, self.place = content, len(content) // SECTOR, place
 
     def read(self, first, count):
+        if (first + count) * SECTOR > len(self.content):
+            raise Fault("fault 3 Device %d" % self.place)
         return bytes(self.content[first * SECTOR:(first + count) * SECTOR])
 
     def write(self, first, data):
+        self.content.extend(bytes(max(first * SECTOR - len(self.content), 0)))
         self.content[first * SECTOR:first * SECTOR + len(data)] = data
 
 
@@ -76,6 +81,7 @@ class Moved:
 class Stack:
     def __init__(self, configuration, images):
         self.configuration, self.images, self.moved = configuration, images, Moved()
+        self.is_known = True
 
     def line_at(self, device, sector):
         """The line of a sector, and the sectors left in it from there."""
@@ -108,7 +114,12 @@ class Stack:
         if self.is_open(device):
             self.moved.open_writes = True
         self.moved.shared_budget += count * self.configuration.write_cost(device)
-        self.write_run(device, first, data)
+        try:
+            self.write_run(device, first, data)
+        except Fault as fault:
+            # Any of the piece's sectors may have been written where a leaf fails.
+            self.is_known &= fault.text == ERROR_TARGET
+            raise
 
     def runs(self, device, first, count):
         """The runs of sectors that stay in one line, with the sector within the line."""
@@ -135,7 +146,12 @@ class Stack:
     def read_run(self, lower, first, count):
         if isinstance(lower, Leaf):
             self.moved.reads += count
-            return self.images[lower.name].read(first, count)
+            try:
+                return self.images[lower.name].read(first, count)
+            except Fault:
+                # How much is asked for at once, where a part of it is gone, is left open.
+                self.moved.open_reads = True
+                raise
         return b"".join(self.read_line(*run) for run in self.runs(lower, first, count))
 
     def read_line(self, target, at, count):

@@ -50,53 +50,29 @@ fn sums(x: &Planes) -> [u8x32; 22]
 pub(crate) fn combined(sums: &[u8x32; 22]) -> [u8x32; 4]
     ensures { (p b v : ℕ) (sums_bits : List ℕ) → p < 32 → b < 8 → v < 256 → CarryEach 22 p b v sums.now sums_bits → CarryEach 4 p b v result (combined sums_bits) }
 {
-    let [
-        x7,
-        y1,
-        y2,
-        y3,
-        y4,
-        y5,
-        y6,
-        y7,
-        y8,
-        y9,
-        y10,
-        y11,
-        y12,
-        y13,
-        y14,
-        y15,
-        y16,
-        y17,
-        y18,
-        y19,
-        y20,
-        y21,
-    ] = *sums;
-    let t2 = y12 & y15;
-    let t3 = y3 & y6;
+    let t2 = sums[12] & sums[15];
+    let t3 = sums[3] & sums[6];
     let t4 = t3 ^ t2;
-    let t5 = y4 & x7;
+    let t5 = sums[4] & sums[0];
     let t6 = t5 ^ t2;
-    let t7 = y13 & y16;
-    let t8 = y5 & y1;
+    let t7 = sums[13] & sums[16];
+    let t8 = sums[5] & sums[1];
     let t9 = t8 ^ t7;
-    let t10 = y2 & y7;
+    let t10 = sums[2] & sums[7];
     let t11 = t10 ^ t7;
-    let t12 = y9 & y11;
-    let t13 = y14 & y17;
+    let t12 = sums[9] & sums[11];
+    let t13 = sums[14] & sums[17];
     let t14 = t13 ^ t12;
-    let t15 = y8 & y10;
+    let t15 = sums[8] & sums[10];
     let t16 = t15 ^ t12;
     let t17 = t4 ^ t14;
     let t18 = t6 ^ t16;
     let t19 = t9 ^ t14;
     let t20 = t11 ^ t16;
-    let t21 = t17 ^ y20;
-    let t22 = t18 ^ y19;
-    let t23 = t19 ^ y21;
-    let t24 = t20 ^ y18;
+    let t21 = t17 ^ sums[20];
+    let t22 = t18 ^ sums[19];
+    let t23 = t19 ^ sums[21];
+    let t24 = t20 ^ sums[18];
     [t21, t22, t23, t24]
 }
 
@@ -135,49 +111,25 @@ pub(crate) fn inverse(combined: &[u8x32; 4]) -> [u8x32; 9]
 pub(crate) fn products(sums: &[u8x32; 22], inverse: &[u8x32; 9]) -> [u8x32; 18]
     ensures { (p b v : ℕ) (sums_bits inverse_bits : List ℕ) → p < 32 → b < 8 → v < 256 → CarryEach 22 p b v sums.now sums_bits → CarryEach 9 p b v inverse.now inverse_bits → CarryEach 18 p b v result (products sums_bits inverse_bits) }
 {
-    let [
-        x7,
-        y1,
-        y2,
-        y3,
-        y4,
-        y5,
-        y6,
-        y7,
-        y8,
-        y9,
-        y10,
-        y11,
-        y12,
-        y13,
-        y14,
-        y15,
-        y16,
-        y17,
-        y18,
-        y19,
-        y20,
-        y21,
-    ] = *sums;
     let [t29, t33, t37, t40, t41, t42, t43, t44, t45] = *inverse;
-    let z0 = t44 & y15;
-    let z1 = t37 & y6;
-    let z2 = t33 & x7;
-    let z3 = t43 & y16;
-    let z4 = t40 & y1;
-    let z5 = t29 & y7;
-    let z6 = t42 & y11;
-    let z7 = t45 & y17;
-    let z8 = t41 & y10;
-    let z9 = t44 & y12;
-    let z10 = t37 & y3;
-    let z11 = t33 & y4;
-    let z12 = t43 & y13;
-    let z13 = t40 & y5;
-    let z14 = t29 & y2;
-    let z15 = t42 & y9;
-    let z16 = t45 & y14;
-    let z17 = t41 & y8;
+    let z0 = t44 & sums[15];
+    let z1 = t37 & sums[6];
+    let z2 = t33 & sums[0];
+    let z3 = t43 & sums[16];
+    let z4 = t40 & sums[1];
+    let z5 = t29 & sums[7];
+    let z6 = t42 & sums[11];
+    let z7 = t45 & sums[17];
+    let z8 = t41 & sums[10];
+    let z9 = t44 & sums[12];
+    let z10 = t37 & sums[3];
+    let z11 = t33 & sums[4];
+    let z12 = t43 & sums[13];
+    let z13 = t40 & sums[5];
+    let z14 = t29 & sums[2];
+    let z15 = t42 & sums[9];
+    let z16 = t45 & sums[14];
+    let z17 = t41 & sums[8];
     [
         z0, z1, z2, z3, z4, z5, z6, z7, z8, z9, z10, z11, z12, z13, z14, z15, z16, z17,
     ]
@@ -188,47 +140,27 @@ pub(crate) fn products(sums: &[u8x32; 22], inverse: &[u8x32; 9]) -> [u8x32; 18]
 fn substituted(products: &[u8x32; 18]) -> Planes
     ensures { (p b v : ℕ) (products_bits : List ℕ) → p < 32 → b < 8 → v < 256 → CarryEach 18 p b v products.now products_bits → CarryEach 8 p b v result (substituted products_bits) }
 {
-    let [
-        z0,
-        z1,
-        z2,
-        z3,
-        z4,
-        z5,
-        z6,
-        z7,
-        z8,
-        z9,
-        z10,
-        z11,
-        z12,
-        z13,
-        z14,
-        z15,
-        z16,
-        z17,
-    ] = *products;
-    let t46 = z15 ^ z16;
-    let t47 = z10 ^ z11;
-    let t48 = z5 ^ z13;
-    let t49 = z9 ^ z10;
-    let t50 = z2 ^ z12;
-    let t51 = z2 ^ z5;
-    let t52 = z7 ^ z8;
-    let t53 = z0 ^ z3;
-    let t54 = z6 ^ z7;
-    let t55 = z16 ^ z17;
-    let t56 = z12 ^ t48;
+    let t46 = products[15] ^ products[16];
+    let t47 = products[10] ^ products[11];
+    let t48 = products[5] ^ products[13];
+    let t49 = products[9] ^ products[10];
+    let t50 = products[2] ^ products[12];
+    let t51 = products[2] ^ products[5];
+    let t52 = products[7] ^ products[8];
+    let t53 = products[0] ^ products[3];
+    let t54 = products[6] ^ products[7];
+    let t55 = products[16] ^ products[17];
+    let t56 = products[12] ^ t48;
     let t57 = t50 ^ t53;
-    let t58 = z4 ^ t46;
-    let t59 = z3 ^ t54;
+    let t58 = products[4] ^ t46;
+    let t59 = products[3] ^ t54;
     let t60 = t46 ^ t57;
-    let t61 = z14 ^ t57;
+    let t61 = products[14] ^ t57;
     let t62 = t52 ^ t58;
     let t63 = t49 ^ t58;
-    let t64 = z4 ^ t59;
+    let t64 = products[4] ^ t59;
     let t65 = t61 ^ t62;
-    let t66 = z1 ^ t63;
+    let t66 = products[1] ^ t63;
     let s0 = t59 ^ t63;
     let s6 = t56 ^ t62;
     let s7 = t48 ^ t60;

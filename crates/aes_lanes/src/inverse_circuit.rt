@@ -56,60 +56,40 @@ fn inverse_sums(x: &Planes) -> [u8x32; 22]
 fn inverse_substituted(products: &[u8x32; 18]) -> Planes
     ensures { (p b v : ℕ) (products_bits : List ℕ) → p < 32 → b < 8 → v < 256 → CarryEach 18 p b v products.now products_bits → CarryEach 8 p b v result (inverse_substituted products_bits) }
 {
-    let [
-        z0,
-        z1,
-        z2,
-        z3,
-        z4,
-        z5,
-        z6,
-        z7,
-        z8,
-        z9,
-        z10,
-        z11,
-        z12,
-        z13,
-        z14,
-        z15,
-        z16,
-        z17,
-    ] = *products;
-    let c0 = z6 ^ z15;
-    let c1 = z12 ^ c0;
-    let c2 = z16 ^ c1;
-    let c3 = z8 ^ z13;
-    let c4 = z1 ^ z4;
-    let c5 = z2 ^ z10;
+    let c0 = products[6] ^ products[15];
+    let c1 = products[12] ^ c0;
+    let c2 = products[16] ^ c1;
+    let c3 = products[8] ^ products[13];
+    let c4 = products[1] ^ products[4];
+    let c5 = products[2] ^ products[10];
     let c6 = c2 ^ c3;
-    let c7 = z14 ^ c5;
-    let c8 = z7 ^ z13;
-    let c9 = z5 ^ c6;
-    let c10 = z3 ^ c2;
-    let c11 = z9 ^ z17;
+    let c7 = products[14] ^ c5;
+    let c8 = products[7] ^ products[13];
+    let c9 = products[5] ^ c6;
+    let c10 = products[3] ^ c2;
+    let c11 = products[9] ^ products[17];
     let c12 = c4 ^ c7;
-    let c13 = z4 ^ c8;
-    let c14 = z3 ^ c3;
-    let c15 = z11 ^ c11;
-    let c16 = z5 ^ c5;
-    let c17 = z11 ^ c1;
-    let c18 = z2 ^ c6;
-    let c19 = z8 ^ c12;
-    let c20 = z0 ^ z17;
-    let c21 = z0 ^ c4;
+    let c13 = products[4] ^ c8;
+    let c14 = products[3] ^ c3;
+    let c15 = products[11] ^ c11;
+    let c16 = products[5] ^ c5;
+    let c17 = products[11] ^ c1;
+    let c18 = products[2] ^ c6;
+    let c19 = products[8] ^ c12;
+    let c20 = products[0] ^ products[17];
+    let c21 = products[0] ^ c4;
     let c22 = c11 ^ c14;
     let c23 = c17 ^ c20;
-    let s0 = z15 ^ c15;
+    let s0 = products[15] ^ c15;
     let c24 = c0 ^ c22;
     let s2 = c9 ^ c21;
     let c25 = c13 ^ c16;
     let s1 = c10 ^ c13;
-    let c26 = z11 ^ c19;
+    let c26 = products[11] ^ c19;
     let s3 = c23 ^ c25;
     let s6 = c12 ^ c24;
-    let s4 = z0 ^ c18;
-    let s7 = z3 ^ c9;
+    let s4 = products[0] ^ c18;
+    let s7 = products[3] ^ c9;
     let s5 = c10 ^ c26;
     [s0, s1, s2, s3, s4, s5, s6, s7]
 }

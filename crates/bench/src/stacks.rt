@@ -5,12 +5,12 @@ ghost use Rattle.stack_rules.specs.Names.{mapped, size};
 use crate::compared::Compared;
 use anyhow::{Context, Result, bail};
 use block_device::{BlockDev, MemoryDev};
-use dm_table::parse_stack;
 use hash_tree::Salt;
 use sha2::{Digest, Sha256};
 use stack_engine::{Answer, Stack};
 use stack_loader::{Config, DevId, Leaf};
 use std::alloc::{AllocError, Global};
+use table_reader::parse_stack;
 use verity_format::{Superblock, format, table_line};
 use xts_sector::XtsKey;
 

@@ -1,5 +1,5 @@
 -- What a command prints where it ends early, and its status.
-use Rattle.std.specs.Prelude.{◌≡◌, ◌≢◌, ℕ, List, [], ◌++◌, codes, decimal, Option}
+use Rattle.std.specs.Prelude.{◌≡◌, ◌≢◌, ℕ, Bool, true, List, [], ◌++◌, codes, decimal, Option}
 use Rattle.std.specs.Io.KnownBytes.{Appends}
 use Rattle.block_device.specs.declared.open_fault.OpenFault.{OpenFault}
 use Rattle.block_device.specs.declared.open_fault.OpenFault.TheVariants as opening
@@ -94,21 +94,26 @@ ending_status fault = 1
 abbrev pub IsEnd : CommandFault → Option (List ℕ) → Option (List ℕ) → ℕ → Type 0
 IsEnd fault old new status = (status ≡ ending_status fault) × Appends old new (ending_text fault)
 
--- want of memory, or a line that can't be written: these may end a command at any time
-abbrev pub MayEnd : CommandFault → Type 0
-MayEnd NoMemory = Unit {0}
-MayEnd (Session fault) = fault ≡ WriteFault
-MayEnd fault = ⊥
+-- a line can't be written: the writer failed
+abbrev pub IsUnwritten : Bool → CommandFault → Type 0
+IsUnwritten failed (Session fault) = (fault ≡ WriteFault) × (failed ≡ true)
+IsUnwritten failed fault = ⊥
+
+-- want of memory, or a line that can't be written
+abbrev pub MayEnd : Bool → CommandFault → Type 0
+MayEnd failed NoMemory = Unit {0}
+MayEnd failed (Session fault) = (fault ≡ WriteFault) × (failed ≡ true)
+MayEnd failed fault = ⊥
 
 -- a fault of reading a superblock with its cause, or want of memory, or a line that can't be written
-abbrev pub IsVerifyEnd : (VerifyFault → Type 0) → CommandFault → Type 0
-IsVerifyEnd Cause (Verify fault) = Cause fault
-IsVerifyEnd Cause fault = MayEnd fault
+abbrev pub IsVerifyEnd : (VerifyFault → Type 0) → Bool → CommandFault → Type 0
+IsVerifyEnd Cause failed (Verify fault) = Cause fault
+IsVerifyEnd Cause failed fault = MayEnd failed fault
 
 -- the same of a comparison, or the difference that was found
-abbrev pub IsComparisonEnd : (VerifyFault → Type 0) → (Verdict → Type 0) → CommandFault → Type 0
-IsComparisonEnd Cause Finding (Differs verdict) = (verdict ≢ verdicts.Matches) × Finding verdict
-IsComparisonEnd Cause Finding fault = IsVerifyEnd Cause fault
+abbrev pub IsComparisonEnd : (VerifyFault → Type 0) → (Verdict → Type 0) → Bool → CommandFault → Type 0
+IsComparisonEnd Cause Finding failed (Differs verdict) = (verdict ≢ verdicts.Matches) × Finding verdict
+IsComparisonEnd Cause Finding failed fault = IsVerifyEnd Cause failed fault
 
 -- nothing is written ahead of what ends a command, unless it is the writing that fails
 abbrev pub IsQuiet : CommandFault → Option (List ℕ) → Option (List ℕ) → Type 0

@@ -24,9 +24,11 @@ const FAULT: u8 = 3;
 
 const BROKEN_CLIENT: u8 = 4;
 
-/// Prints why a command ends early, and answers its status: 1 where that can't be written.
+/// Prints why a command ends early, and answers its status: 1 where that can't be written. A failure of the writer stays
+/// known.
 pub fn end<W: Write>(writer: &mut Counted<W>, fault: CommandFault<'_>) -> u8
-    ensures { IsEnd fault.entry (W.contents writer.old.inner) (W.contents writer.new.inner) result ⊎ ((result ≡ 1) × (writer.new.failed ≡ true)) }
+    ensures told { IsEnd fault.entry (W.contents writer.old.inner) (W.contents writer.new.inner) result ⊎ ((result ≡ 1) × (writer.new.failed ≡ true)) }
+    ensures failed { writer.old.failed ≡ true → writer.new.failed ≡ true }
 {
     match say_fault(writer, fault) {
         Ok(()) => status_of(fault),

@@ -17,11 +17,6 @@ use Rattle.command_line.specs.CommandWords.{invocation_of}
 use Rattle.command_line.specs.CommandLines.{invoked}
 use Rattle.command_line.specs.Grammar.{grammar}
 
--- no command was met
-pub invoked-none : (words : List Text) → subcommand_of grammar words ≡ None → invoked words ≡ None
-invoked-none words none =
-    ap (option_and_then (λ cut. invocation_of cut.0 (first_of (codes "cache") cut.1) (unwrap_or (all_of (codes "words") cut.1) []))) none
-
 -- what the getters read
 pub invoked-some : (words : List Text) (name : Text) (found : Found) (cache : Option Text) (texts : List Text) → subcommand_of grammar words ≡ Some (name, rows_of found)
     → cache ≡ first_value found (codes "cache") → texts ≡ unwrap_or (option_map raw_values (matched_of found (codes "words"))) []

@@ -2,7 +2,7 @@
 ghost use Rattle.std.specs.Prelude.{◌≡◌, option_map};
 ghost use Rattle.command_line.specs.Bindings.{backing_by, backing_record, backing_of, binding_record, binding_of, sectors_at};
 
-use dm_table::number;
+use table_reader::number;
 
 const MOST_SECTORS: u64 = 65536;
 

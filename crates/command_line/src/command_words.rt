@@ -6,8 +6,9 @@ ghost use Rattle.command_line.specs.CommandWords.{IsUsage, bindings_of, cache_of
 
 use crate::bindings::{Binding, binding_of};
 use crate::fault::WordsFault;
-use dm_table::{is_device, number};
+use dm_table::is_device;
 use std::alloc::Global;
+use table_reader::number;
 
 const CACHED_BLOCKS: u32 = 64;
 

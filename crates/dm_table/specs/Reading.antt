@@ -2,8 +2,6 @@
 use Rattle.std.specs.Prelude.{◌≡◌, ℕ, Result, Ok, Err}
 use Rattle.dm_table.specs.declared.fault.ParseFault.{ParseFault}
 use Rattle.dm_table.specs.declared.fault.ParseFault.TheVariants as parse
-use Rattle.dm_table.specs.declared.fault.LineFault.{LineFault}
-use Rattle.dm_table.specs.declared.fault.LineFault.TheVariants as line_fault
 use Rattle.dm_table.specs.declared.fault.TextFault.{TextFault}
 use Rattle.dm_table.specs.declared.fault.TextKind.{TextKind}
 
@@ -26,9 +24,3 @@ abbrev pub IsAnswer : {A : Type 0} → Result A ParseFault → Result A TextFaul
 IsAnswer (Ok value) answer = answer ≡ Ok value
 IsAnswer (Err (parse.Text fault)) answer = answer ≡ Err fault
 IsAnswer (Err parse.NoMemory) answer = Unit {0}
-
--- the same of a part of a line, which does not know its place
-abbrev pub IsReading : {A : Type 0} → Result A LineFault → Read A → Type 0
-IsReading (Ok value) answer = answer ≡ Ok value
-IsReading (Err (line_fault.Kind kind)) answer = answer ≡ Err kind
-IsReading (Err line_fault.NoMemory) answer = Unit {0}

@@ -2,8 +2,7 @@
 ghost use Rattle.std.specs.Prelude.{◌≡◌, ◌≤◌, length, take, IfOk};
 ghost use Rattle.dm_table.specs.Crypt.{iv_large_sectors, sector_size};
 
-use crate::option_words::is_kept;
-use crate::options::Options;
+use crate::options::{Options, is_kept};
 use crate::table::Base;
 use std::alloc::{AllocError, Global};
 use std::marker::Model;
@@ -26,8 +25,8 @@ impl Model for Key {
 }
 
 impl Key {
-    // The first bytes of the array.
-    pub(crate) fn new(bytes: [u8; 64], len: usize) -> Key
+    /// The first `len` bytes of the array, of which there are at most 64.
+    pub fn new(bytes: [u8; 64], len: usize) -> Key
         requires { len ≤ 64 }
         ensures { result ≡ take len bytes }
     {

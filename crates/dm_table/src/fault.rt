@@ -1,6 +1,5 @@
 //! What is wrong with a text, and where.
 ghost use Rattle.std.specs.Prelude.{◌≡◌};
-ghost use Rattle.dm_table.specs.declared.fault.LineFault.TheVariants as line_fault;
 ghost use Rattle.dm_table.specs.declared.fault.ParseFault.TheVariants as parse_fault;
 ghost use Rattle.dm_table.specs.TextKinds.{text_name, text_number};
 
@@ -115,28 +114,5 @@ impl<T: Drop> From<AllocFailed<T>> for ParseFault {
 
     fn from(_refused: AllocFailed<T>) -> ParseFault {
         ParseFault::NoMemory
-    }
-}
-
-/// Why a line was not read.
-#[derive(Clone, Copy, Debug, PartialEq, Eq)]
-pub(crate) enum LineFault {
-    Kind(TextKind),
-    NoMemory,
-}
-
-impl From<AllocError> for LineFault {
-    ghost from_gives = { λ _ fault. fault ≡ line_fault.NoMemory };
-
-    fn from(_error: AllocError) -> LineFault {
-        LineFault::NoMemory
-    }
-}
-
-impl From<TextKind> for LineFault {
-    ghost from_gives = { λ kind fault. fault ≡ line_fault.Kind kind };
-
-    fn from(kind: TextKind) -> LineFault {
-        LineFault::Kind(kind)
     }
 }

@@ -6,7 +6,7 @@ ghost use Rattle.dm_table.specs.Names.{is_device, is_leaf_byte, is_mapped_byte, 
 const MAPPER: &[u8; 12] = b"/dev/mapper/";
 
 /// 1 to 127 bytes, none of them a slash, a comma, a semicolon or a backslash.
-pub(crate) fn is_mapped_name(word: &[u8]) -> bool
+pub fn is_mapped_name(word: &[u8]) -> bool
     ensures { result ≡ is_mapped_name word.now }
 {
     has_name_len(word, 127) && are_mapped_bytes(word)

@@ -1,5 +1,6 @@
 //! The optional arguments of a line.
 ghost use Rattle.std.specs.Prelude.{◌≡◌, [], ◌∷◌, ◌++◌, IfOk, MatchResult};
+ghost use Rattle.dm_table.specs.Options.{is_one_of};
 
 use crate::table::Name;
 use std::alloc::{AllocError, Global};
@@ -20,7 +21,8 @@ impl Model for Options {
 }
 
 impl Options {
-    pub(crate) fn new(alloc: Global) -> Options
+    /// No option.
+    pub fn new(alloc: Global) -> Options
         ensures { result ≡ [] }
     {
         Options {
@@ -28,7 +30,8 @@ impl Options {
         }
     }
 
-    pub(crate) fn push(&mut self, word: Name) -> Result<(), AllocError>
+    /// One option more. It fails only where memory does, and then the options are what they were.
+    pub fn push(&mut self, word: Name) -> Result<(), AllocError>
         ensures { MatchResult result
             (λ _. self.new ≡ self.old ++ word ∷ [])
             (λ _. self.new ≡ self.old) }
@@ -53,4 +56,11 @@ impl Options {
         }
         Ok(options)
     }
+}
+
+/// Whether the word is one of the options.
+pub fn is_kept(options: &Options, word: &[u8]) -> bool
+    ensures { result ≡ is_one_of word.now options.now }
+{
+    options.as_slice().iter().any(|one| one.as_slice() == word)
 }

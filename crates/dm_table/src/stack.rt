@@ -39,7 +39,8 @@ impl Model for StackText {
 }
 
 impl StackText {
-    pub(crate) fn new(entries: Vec<Entry>) -> StackText
+    /// These devices.
+    pub fn new(entries: Vec<Entry>) -> StackText
         requires { IsStackOfGrammar entries.items }
         ensures { result ≡ entries.items }
     {

@@ -23,7 +23,8 @@ impl Model for Name {
 }
 
 impl Name {
-    pub(crate) fn new(alloc: Global, bytes: &[u8]) -> Result<Name, AllocError>
+    /// A name of these bytes. It fails only where memory does.
+    pub fn new(alloc: Global, bytes: &[u8]) -> Result<Name, AllocError>
         ensures { IfOk result (λ name. name ≡ bytes.now) }
     {
         let bytes = Vec::from_slice(alloc, bytes)?;
@@ -76,14 +77,16 @@ impl Model for Bases {
 }
 
 impl Bases {
-    pub(crate) fn with_capacity(alloc: Global, count: usize) -> Result<Bases, AllocError>
+    /// No device, with room for that many. It fails only where memory does.
+    pub fn with_capacity(alloc: Global, count: usize) -> Result<Bases, AllocError>
         ensures { IfOk result (λ bases. bases ≡ []) }
     {
         let list = Vec::with_capacity(alloc, count)?;
         Ok(Bases { list })
     }
 
-    pub(crate) fn push(&mut self, base: Base) -> Result<(), AllocError>
+    /// One device more. It fails only where memory does, and then the devices are what they were.
+    pub fn push(&mut self, base: Base) -> Result<(), AllocError>
         ensures { MatchResult result
             (λ _. self.new ≡ self.old ++ base ∷ [])
             (λ _. self.new ≡ self.old) }
@@ -186,7 +189,8 @@ impl Model for Table {
 }
 
 impl Table {
-    pub(crate) fn new(lines: Vec<Line>) -> Table
+    /// A table of these lines.
+    pub fn new(lines: Vec<Line>) -> Table
         requires { IsTableOfGrammar lines.items }
         ensures { result ≡ lines.items }
     {

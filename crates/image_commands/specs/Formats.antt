@@ -1,6 +1,8 @@
 -- What `format` makes and prints, and how it ends early.
-use Rattle.std.specs.Prelude.{◌≡◌, ℕ, List, ◌++◌, Ok, Err}
-use Rattle.block_device.specs.Device.{Device}
+use Rattle.std.specs.Prelude.{◌≡◌, ◌⊎◌, ℕ, List, ◌++◌, Ok, Err}
+use Rattle.block_device.specs.Device.{Device, IsUnsynced}
+use Rattle.verity_format.specs.declared.formatting.FormatFault.{FormatFault}
+use Rattle.verity_format.specs.declared.formatting.FormatFault.TheVariants.{Device as DeviceFailed}
 use Rattle.verity_format.specs.declared.formatting.FormatOptions.{FormatOptions}
 use Rattle.verity_format.specs.Formatting.{IsFormatting, given_blocks}
 use Rattle.verity_format.specs.Options.{superblock_with}
@@ -20,7 +22,16 @@ pub record IsMade (options : FormatOptions) (data_dev hash_dev data_dev' hash_de
   pub uuid : made.uuid ≡ options.uuid
   pub blocks : made.blocks ≡ given_blocks options.blocks options.data_block data_dev.size
 
--- it was refused, or not finished
+-- it was formatted, but what was written couldn't be put on the medium
+pub record IsNotKept (options : FormatOptions) (data_dev hash_dev data_dev' hash_dev' : Device) (fault : FormatFault) : Type 0 where
+  pub root : List ℕ
+  pub written : Device
+  pub formatting : IsFormatting (superblock_with options data_dev.size) data_dev hash_dev data_dev' written (Ok root)
+  pub unsynced : IsUnsynced written hash_dev'
+  pub is : fault ≡ DeviceFailed
+
+-- it was refused, not finished, or not synced
 abbrev pub IsFormatEnd : FormatOptions → Device → Device → Device → Device → CommandFault → Type 0
-IsFormatEnd options data_dev hash_dev data_dev' hash_dev' (Format fault) = IsFormatting (superblock_with options data_dev.size) data_dev hash_dev data_dev' hash_dev' (Err fault)
+IsFormatEnd options data_dev hash_dev data_dev' hash_dev' (Format fault) =
+    IsFormatting (superblock_with options data_dev.size) data_dev hash_dev data_dev' hash_dev' (Err fault) ⊎ IsNotKept options data_dev hash_dev data_dev' hash_dev' fault
 IsFormatEnd options data_dev hash_dev data_dev' hash_dev' fault = ⊥

@@ -1,16 +1,14 @@
 -- What the commands on verity images print where they succeed, and how they end early.
-use Rattle.std.specs.Prelude.{◌≡◌, ◌⊎◌, ℕ, true, false, List, codes, Option, IfSome}
+use Rattle.std.specs.Prelude.{◌≡◌, ◌⊎◌, ℕ, Bool, true, false, List, codes, Option, IfSome}
 use Rattle.std.specs.Io.KnownBytes.{Appends}
-use Rattle.block_device.specs.Device.{Device, HasFailed}
-use Rattle.stack_session.specs.declared.fault.SessionFault.TheVariants.{WriteFault}
-use Rattle.verity_format.specs.declared.formatting.FormatFault.TheVariants.{Device as DeviceFailed}
+use Rattle.block_device.specs.Device.{Device}
 use Rattle.verity_format.specs.declared.formatting.FormatOptions.{FormatOptions}
 use Rattle.verity_format.specs.declared.verifying.Verdict.TheVariants.{Matches}
 use Rattle.verity_format.specs.Superblock.{SuperRecord}
 use Rattle.verity_format.specs.Verifying.{IsFound, IsReadCause, IsVerifyCause}
 use Rattle.command_faults.specs.declared.fault.CommandFault.{CommandFault}
-use Rattle.command_faults.specs.declared.fault.CommandFault.TheVariants.{Format, Random, Session}
-use Rattle.command_faults.specs.Endings.{IsComparisonEnd, IsVerifyEnd}
+use Rattle.command_faults.specs.declared.fault.CommandFault.TheVariants.{Random}
+use Rattle.command_faults.specs.Endings.{IsComparisonEnd, IsUnwritten, IsVerifyEnd}
 use Rattle.command_faults.specs.Opened.{IsOpened, IsUnopened}
 use Rattle.image_commands.specs.declared.format.MadeImage.{MadeImage}
 use Rattle.command_line.specs.declared.image_options.ImageOptions.{ImageOptions}
@@ -22,9 +20,9 @@ abbrev pub PrintsSuperblock : (SuperRecord → List ℕ) → Option (List ℕ) �
 PrintsSuperblock text old new = (image : Device) × IsOpened image false × SaysSuperblock image text old new
 
 -- its file isn't opened, its superblock isn't read, memory ran out, or the text can't be written
-abbrev pub IsSuperblockEnd : List ℕ → CommandFault → Type 0
-IsSuperblockEnd path fault =
-    IsUnopened path fault ⊎ ((image image' : Device) × IsOpened image false × IsVerifyEnd (IsReadCause image image') fault)
+abbrev pub IsSuperblockEnd : List ℕ → Bool → CommandFault → Type 0
+IsSuperblockEnd path failed fault =
+    IsUnopened path fault ⊎ ((image image' : Device) × IsOpened image false × IsVerifyEnd (IsReadCause image image') failed fault)
 
 -- `verify`: that the hash image has the tree of the data image, and this root
 pub record PrintsMatches (root : List ℕ) (old new : Option (List ℕ)) : Type 0 where
@@ -38,18 +36,18 @@ pub record PrintsMatches (root : List ℕ) (old new : Option (List ℕ)) : Type 
   pub printed : Appends old new (codes "matches\n")
 
 -- a comparison that was made of two images ends early
-pub record EndsComparison (root : List ℕ) (fault : CommandFault) : Type 0 where
+pub record EndsComparison (root : List ℕ) (failed : Bool) (fault : CommandFault) : Type 0 where
   pub data_dev : Device
   pub hash_dev : Device
   pub data_dev' : Device
   pub hash_dev' : Device
   pub data_opened : IsOpened data_dev false
   pub hash_opened : IsOpened hash_dev false
-  pub ends : IsComparisonEnd (IsVerifyCause data_dev hash_dev data_dev' hash_dev') (IsFound data_dev hash_dev data_dev' hash_dev' root) fault
+  pub ends : IsComparisonEnd (IsVerifyCause data_dev hash_dev data_dev' hash_dev') (IsFound data_dev hash_dev data_dev' hash_dev' root) failed fault
 
 -- one of the two files isn't opened, or the comparison ends early
-abbrev pub IsVerifyFilesEnd : List ℕ → List ℕ → List ℕ → CommandFault → Type 0
-IsVerifyFilesEnd data_path hash_path root fault = IsUnopened data_path fault ⊎ (IsUnopened hash_path fault ⊎ EndsComparison root fault)
+abbrev pub IsVerifyFilesEnd : List ℕ → List ℕ → List ℕ → Bool → CommandFault → Type 0
+IsVerifyFilesEnd data_path hash_path root failed fault = IsUnopened data_path fault ⊎ (IsUnopened hash_path fault ⊎ EndsComparison root failed fault)
 
 -- the options as they are given, with some salt and some identifier where none is
 pub record AreGiven (options : ImageOptions) (given : FormatOptions) : Type 0 where
@@ -85,13 +83,7 @@ pub record EndsFormat (options : ImageOptions) (fault : CommandFault) : Type 0 w
   pub hash_opened : IsOpened hash_dev true
   pub ends : IsFormatEnd given data_dev hash_dev data_dev' hash_dev' fault
 
--- there are no random bytes, the image that was made isn't synced, or its text can't be written
-abbrev pub IsLateEnd : CommandFault → Type 0
-IsLateEnd Random = Unit {0}
-IsLateEnd (Format fault) = (fault ≡ DeviceFailed) × ((image image' : Device) × HasFailed image image')
-IsLateEnd (Session fault) = fault ≡ WriteFault
-IsLateEnd fault = ⊥
-
--- one of the two files isn't opened, the formatting ends early, or what comes before or after it fails
-abbrev pub IsFormatFilesEnd : List ℕ → List ℕ → ImageOptions → CommandFault → Type 0
-IsFormatFilesEnd data_path hash_path options fault = IsUnopened data_path fault ⊎ (IsUnopened hash_path fault ⊎ (EndsFormat options fault ⊎ IsLateEnd fault))
+-- one of the two files isn't opened, there are no random bytes, the formatting ends early, or its text can't be written
+abbrev pub IsFormatFilesEnd : List ℕ → List ℕ → ImageOptions → Bool → CommandFault → Type 0
+IsFormatFilesEnd data_path hash_path options failed fault =
+    IsUnopened data_path fault ⊎ (IsUnopened hash_path fault ⊎ ((fault ≡ Random) ⊎ (EndsFormat options fault ⊎ IsUnwritten failed fault)))

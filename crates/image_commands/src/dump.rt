@@ -24,7 +24,7 @@ pub fn dump_file<'a, R: Files<File = File>, W: Write>(
     writer: &mut Counted<W>,
 ) -> Result<(), CommandFault<'a>>
     ensures ok { OnOk result (PrintsSuperblock superblock_text (W.contents writer.old.inner) (W.contents writer.new.inner)) }
-    ensures err { IfErr result (IsSuperblockEnd hash.now) }
+    ensures err { IfErr result (IsSuperblockEnd hash.now writer.new.failed) }
     ensures quiet { IfErr result (λ fault. IsQuiet fault (W.contents writer.old.inner) (W.contents writer.new.inner)) }
 {
     let mut hash_dev = open_file(rt, hash, false)?;
@@ -39,7 +39,7 @@ fn dump<'a, H: BlockDev, W: Write>(
 ) -> Result<(), CommandFault<'a>>
     ensures read { IsOnlyRead (H.state hash_dev.old) (H.state hash_dev.new) }
     ensures ok { OnOk result (SaysSuperblock (H.state hash_dev.old) superblock_text (W.contents writer.old.inner) (W.contents writer.new.inner)) }
-    ensures err { IfErr result (IsVerifyEnd (IsReadCause (H.state hash_dev.old) (H.state hash_dev.new))) }
+    ensures err { IfErr result (IsVerifyEnd (IsReadCause (H.state hash_dev.old) (H.state hash_dev.new)) writer.new.failed) }
     ensures quiet { IfErr result (λ fault. IsQuiet fault (W.contents writer.old.inner) (W.contents writer.new.inner)) }
 {
     let superblock = read_superblock(hash_dev)?;

@@ -45,17 +45,14 @@ pub fn format_files<'a, R: Files<File = File> + AllocGlobal + RandomSource, W: W
     writer: &mut Counted<W>,
 ) -> Result<(), CommandFault<'a>>
     ensures ok { OnOk result (PrintsMade options (W.contents writer.old.inner) (W.contents writer.new.inner)) }
-    ensures err { IfErr result (IsFormatFilesEnd data_path.now hash_path.now options) }
+    ensures err { IfErr result (IsFormatFilesEnd data_path.now hash_path.now options writer.new.failed) }
     ensures quiet { IfErr result (λ fault. IsQuiet fault (W.contents writer.old.inner) (W.contents writer.new.inner)) }
 {
     let mut data_dev = open_file(rt, data_path, false)?;
     let mut hash_dev = open_hash(rt, hash_path, &data_dev)?;
     let options = given_or_drawn(rt, options)?;
     let made = make(rt.alloc(), &mut data_dev, &mut hash_dev, options)?;
-    match hash_dev.sync() {
-        Ok(()) => Ok(say_made(writer, &made)?),
-        Err(_) => Err(CommandFault::Format(FormatFault::Device)),
-    }
+    Ok(say_made(writer, &made)?)
 }
 
 // The hash image, which may not be the data image.
@@ -76,8 +73,8 @@ fn open_hash<'a, R: Files<File = File>>(
     Ok(hash_dev)
 }
 
-// Formats the hash device over the data device.
-fn make<'a, D: BlockDev, H: BlockDev>(
+// Formats the hash device over the data device, and has that put on the medium.
+fn make<'a, D: BlockDev, H: SyncDev>(
     alloc: Global,
     data_dev: &mut D,
     hash_dev: &mut H,
@@ -89,14 +86,15 @@ fn make<'a, D: BlockDev, H: BlockDev>(
     let blocks = given_blocks(options.blocks, options.data_block, data_dev.sectors());
     let salt = options.salt;
     let uuid = options.uuid;
-    match format_with(alloc, data_dev, hash_dev, options) {
-        Ok(root) => Ok(MadeImage {
+    let root = format_with(alloc, data_dev, hash_dev, options)?;
+    match hash_dev.sync() {
+        Ok(()) => Ok(MadeImage {
             root,
             salt,
             uuid,
             blocks,
         }),
-        Err(fault) => Err(CommandFault::Format(fault)),
+        Err(_) => Err(CommandFault::Format(FormatFault::Device)),
     }
 }
 

@@ -33,7 +33,7 @@ pub fn print_table_of_file<'a, R: Files<File = File> + AllocGlobal, W: Write>(
     writer: &mut Counted<W>,
 ) -> Result<(), CommandFault<'a>>
     ensures ok { OnOk result (PrintsSuperblock (λ s. line_text s words.entry.data_name.now words.entry.hash_name.now words.entry.root.now) (W.contents writer.old.inner) (W.contents writer.new.inner)) }
-    ensures err { IfErr result (IsSuperblockEnd hash.now) }
+    ensures err { IfErr result (IsSuperblockEnd hash.now writer.new.failed) }
     ensures quiet { IfErr result (λ fault. IsQuiet fault (W.contents writer.old.inner) (W.contents writer.new.inner)) }
 {
     let mut hash_dev = open_file(rt, hash, false)?;
@@ -50,7 +50,7 @@ fn print_table<'a, H: BlockDev, W: Write>(
 ) -> Result<(), CommandFault<'a>>
     ensures read { IsOnlyRead (H.state hash_dev.old) (H.state hash_dev.new) }
     ensures ok { OnOk result (SaysSuperblock (H.state hash_dev.old) (λ s. line_text s words.entry.data_name.now words.entry.hash_name.now words.entry.root.now) (W.contents writer.old.inner) (W.contents writer.new.inner)) }
-    ensures err { IfErr result (IsVerifyEnd (IsReadCause (H.state hash_dev.old) (H.state hash_dev.new))) }
+    ensures err { IfErr result (IsVerifyEnd (IsReadCause (H.state hash_dev.old) (H.state hash_dev.new)) writer.new.failed) }
     ensures quiet { IfErr result (λ fault. IsQuiet fault (W.contents writer.old.inner) (W.contents writer.new.inner)) }
 {
     let LineWords {

@@ -26,7 +26,7 @@ pub fn verify_files<'a, R: Files<File = File> + AllocGlobal, W: Write>(
     writer: &mut Counted<W>,
 ) -> Result<(), CommandFault<'a>>
     ensures ok { OnOk result (PrintsMatches root.now (W.contents writer.old.inner) (W.contents writer.new.inner)) }
-    ensures err { IfErr result (IsVerifyFilesEnd data_path.now hash_path.now root.now) }
+    ensures err { IfErr result (IsVerifyFilesEnd data_path.now hash_path.now root.now writer.new.failed) }
     ensures quiet { IfErr result (λ fault. IsQuiet fault (W.contents writer.old.inner) (W.contents writer.new.inner)) }
 {
     let mut data_dev = open_file(rt, data_path, false)?;
@@ -47,7 +47,7 @@ fn compare<'a, D: BlockDev, H: BlockDev, W: Write>(
     ensures ok { OnOk result (IsFound (D.state data_dev.old) (H.state hash_dev.old) (D.state data_dev.new) (H.state hash_dev.new) root.now Verdict.Matches
         × Appends (W.contents writer.old.inner) (W.contents writer.new.inner) (codes "matches\n")) }
     ensures err { IfErr result (IsComparisonEnd (IsVerifyCause (D.state data_dev.old) (H.state hash_dev.old) (D.state data_dev.new) (H.state hash_dev.new))
-        (IsFound (D.state data_dev.old) (H.state hash_dev.old) (D.state data_dev.new) (H.state hash_dev.new) root.now)) }
+        (IsFound (D.state data_dev.old) (H.state hash_dev.old) (D.state data_dev.new) (H.state hash_dev.new) root.now) writer.new.failed) }
     ensures quiet { IfErr result (λ fault. IsQuiet fault (W.contents writer.old.inner) (W.contents writer.new.inner)) }
 {
     match verify(alloc, data_dev, hash_dev, root)? {

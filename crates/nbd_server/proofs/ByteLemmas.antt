@@ -13,7 +13,7 @@ use Rattle.nbd_server.specs.declared.request_error.RequestError.TheVariants.{Not
 use Rattle.nbd_server.specs.Exports.{ExportRecord}
 use Rattle.nbd_server.specs.Headers.{command_of, flush_command, payload_len, most_length, read_command, write_command}
 use Rattle.nbd_server.specs.Sectors.{IsStored, FailsToStore}
-use Rattle.nbd_server.specs.Transmission.{Outcome, FailsToReadEnds, IsFramed, ReadsBytes, ReadsEnds, Serves, ServesCommand, WritesBytes, room_behind, touched, written}
+use Rattle.nbd_server.specs.Transmission.{RequestOutcome, FailsToReadEnds, IsFramed, ReadsBytes, ReadsEnds, Serves, ServesCommand, WritesBytes, room_behind, touched, written}
 
 -- ---- what stands around some bytes
 
@@ -97,7 +97,7 @@ write-payload e h offset length is =
     (flush-no-write ((h.offset == 0) && (h.length == 0)) offset length)
     (write-length (nat_lt most_length h.length) (not e.writable) (nat_lt e.size (h.offset + h.length)) h.offset h.length offset length) is
 
-pub served-write : (e : ExportRecord) (w w' : World) (h : Header) (offset length : ℕ) (payload : List ℕ) (result : Result Unit RequestError) (outcome : Outcome) → command_of e h ≡ Ok (Write offset length)
+pub served-write : (e : ExportRecord) (w w' : World) (h : Header) (offset length : ℕ) (payload : List ℕ) (result : Result Unit RequestError) (outcome : RequestOutcome) → command_of e h ≡ Ok (Write offset length)
     → ServesCommand e w (Ok (Write offset length)) payload (written result) w' → written result ≡ outcome → Serves e w h payload outcome w'
 served-write e w w' h offset length payload result outcome command p is =
     subst (λ c. ServesCommand e w c payload outcome w') (sym command) (subst (λ o. ServesCommand e w (Ok (Write offset length)) payload o w') is p)

@@ -75,12 +75,6 @@ fetched-none w d first =
       led = led-none EachPart w;
     }
 
--- memory ran out before the first sector
-pub fetch-stops : (w : World) (d first count : ℕ) (w' : World) → w' ≡ w → FailsToFetch w d first count NoMemory w'
-fetch-stops w d first count w' same =
-    subst (λ (x : World). FailsToFetch w d first count NoMemory x) (sym same)
-    (record { cause = inr (refl, 0, omega arith, [], fetched-none w d first); led = led-none EachPart w })
-
 -- ---- runs one after another
 
 filled-by : (c : Configuration) (lower : Lower) (first n : ℕ) {old new : List Device} {answer : AnswerRecord} (chains : List FoundRecord) → HasMore answer.chains chains

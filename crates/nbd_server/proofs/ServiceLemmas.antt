@@ -15,8 +15,9 @@ use Rattle.nbd_server.specs.declared.request_error.RequestError.{RequestError}
 use Rattle.nbd_server.specs.Exports.{ExportRecord, IsExport}
 use Rattle.nbd_server.specs.Headers.{command_of, header_of}
 use Rattle.nbd_server.specs.Sectors.{FailsToFetch, EndsIn, StopsAfter, EndsPut, StopsPut}
-use Rattle.nbd_server.specs.Transmission.{Outcome, FailsToReadEnds, IsFramed, ReadsBytes, ServesCommand, WritesBytes, WritesSome, room_behind, touched}
+use Rattle.nbd_server.specs.Transmission.{RequestOutcome, FailsToReadEnds, IsFramed, ReadsBytes, ServesCommand, WritesBytes, WritesSome, room_behind, touched}
 use Rattle.nbd_server.specs.Handshake.{greeting}
+use Rattle.nbd_server.specs.Causes.{Breaks}
 use Rattle.nbd_server.specs.Streaming.{Spoken}
 use Rattle.nbd_server.specs.Service.{Conversation, begins, goes_on, Turns, IsService, IsLast, IsServed, TakesMessage}
 
@@ -47,18 +48,6 @@ held-more {old = old} {mid = mid} next now' new h t = record {
   );
 }
 
--- the client has ended the service
-pub held-over : {e : ExportRecord} {first now : World} {old : Streams} (new : Streams) (done : Unit) → Held e first Over now old new → IsService e first now old new (Ok done)
-held-over new done h = record {
-  held = λ other. record {
-    taken = h.taken;
-    written = h.written;
-    consumed = h.consumed;
-    appended = h.appended;
-    holds = record { phase = Over; whole = h.taken; replies = h.holds.0; rest = []; talk = h.holds.1; taken_is = sym (append-nil h.taken); written_is = h.holds.2; ends = (refl, inl refl) };
-  };
-}
-
 -- it went away between two messages
 pub held-none : {e : ExportRecord} {first now : World} {phase : Phase} {old mid : Streams} (now' : World) (new : Streams) (done : Unit) → Held e first phase now old mid → Turns e phase now now' mid new (Ok None) → IsService e first now' old new (Ok done)
 held-none {e = e} {first = first} {now = now} {phase = phase} {old = old} {mid = mid} now' new done h t =
@@ -84,7 +73,7 @@ held-none {e = e} {first = first} {now = now} {phase = phase} {old = old} {mid =
 
 -- the service ends in a message
 ends-in : {e : ExportRecord} {first now : World} {phase : Phase} {old mid : Streams} (now' : World) (new : Streams) (x : ServiceFault) → Held e first phase now old mid
-    → Spoken mid new (λ taken written. (written ≡ []) × (now' ≡ now)) → IsService e first now' old new (Err x)
+    → Spoken mid new (λ taken written. (written ≡ []) × (now' ≡ now) × Breaks e phase taken new.input x) → IsService e first now' old new (Err x)
 ends-in {e = e} {first = first} {now = now} {phase = phase} {old = old} {mid = mid} now' new x h t = record {
   held = λ other. record {
     taken = h.taken ++ t.taken;
@@ -99,7 +88,7 @@ ends-in {e = e} {first = first} {now = now} {phase = phase} {old = old} {mid = m
       talk = subst (λ (y : World). Conversation e first phase y h.taken h.holds.0) (sym t.holds.1) h.holds.1;
       taken_is = refl;
       written_is = ap (λ l. h.written ++ l) t.holds.0 ∙ append-nil h.written ∙ h.holds.2;
-      ends = tt;
+      ends = t.holds.2;
     };
   };
 }
@@ -120,7 +109,7 @@ held-ends now' new fault.NoMemory h t = ends-in now' new fault.NoMemory h t
 -- the reader was called too often
 pub held-stops : {e : ExportRecord} {first now : World} {phase : Phase} {old : Streams} (new : Streams) → Held e first phase now old new → IsService e first now old new (Err fault.ReadFault)
 held-stops {now = now} new h =
-    ends-in {mid = new} now new fault.ReadFault h (record { taken = []; written = []; consumed = Consumes-nil new.input; appended = Appends-nil new.output; holds = (refl, refl) })
+    ends-in {mid = new} now new fault.ReadFault h (record { taken = []; written = []; consumed = Consumes-nil new.input; appended = Appends-nil new.output; holds = (refl, refl, inl refl) })
 
 -- ---- the configuration stays
 
@@ -134,7 +123,7 @@ fetch-config w d first count error w' p = fails-config w d first count error w' 
 same-config : (w w' : World) → w' ≡ w → w'.stack.config ≡ w.stack.config
 same-config w w' same = ap (λ (x : World). x.stack.config) same
 
-read-config : (e : ExportRecord) (w : World) (offset length : ℕ) (outcome : Outcome) (w' : World) → ReadsBytes e w offset length outcome w' → w'.stack.config ≡ w.stack.config
+read-config : (e : ExportRecord) (w : World) (offset length : ℕ) (outcome : RequestOutcome) (w' : World) → ReadsBytes e w offset length outcome w' → w'.stack.config ≡ w.stack.config
 read-config e w offset length (Ok content) w' p = p.1.read.config
 read-config e w offset length (Err error) w' p = fetch-config w e.device (offset / 512) (touched offset length) error w' p
 
@@ -152,16 +141,16 @@ unstored-config : (w : World) (d first : ℕ) (bytes : List ℕ) (error : Reques
 unstored-config w d first bytes error w' (inl p) = p.3.any.config
 unstored-config w d first bytes error w' (inr p) = p.3.put.any.config
 
-bytes-config : (e : ExportRecord) (w : World) (offset : ℕ) (bytes : List ℕ) (outcome : Outcome) (w' : World) → WritesBytes e w offset bytes outcome w' → w'.stack.config ≡ w.stack.config
+bytes-config : (e : ExportRecord) (w : World) (offset : ℕ) (bytes : List ℕ) (outcome : RequestOutcome) (w' : World) → WritesBytes e w offset bytes outcome w' → w'.stack.config ≡ w.stack.config
 bytes-config e w offset bytes (Ok content) w' p = p.4.put.any.config ∙ framed-config e w offset bytes p.1 p.2 p.3
 bytes-config e w offset bytes (Err error) w' (inl p) = ends-config e w offset (length bytes) error w' p
 bytes-config e w offset bytes (Err error) w' (inr p) = unstored-config p.1 e.device (offset / 512) p.0 error w' p.3.cause ∙ framed-config e w offset bytes p.0 p.1 p.2
 
-write-config : (e : ExportRecord) (w : World) (offset : ℕ) (bytes : List ℕ) (outcome : Outcome) (w' : World) → WritesSome e w offset bytes outcome w' → w'.stack.config ≡ w.stack.config
+write-config : (e : ExportRecord) (w : World) (offset : ℕ) (bytes : List ℕ) (outcome : RequestOutcome) (w' : World) → WritesSome e w offset bytes outcome w' → w'.stack.config ≡ w.stack.config
 write-config e w offset [] outcome w' p = same-config w w' p.1
 write-config e w offset (byte ∷ more) outcome w' p = bytes-config e w offset (byte ∷ more) outcome w' p
 
-command-config : (e : ExportRecord) (w : World) (command : Result Command RequestError) (payload : List ℕ) (outcome : Outcome) (w' : World) → ServesCommand e w command payload outcome w' → w'.stack.config ≡ w.stack.config
+command-config : (e : ExportRecord) (w : World) (command : Result Command RequestError) (payload : List ℕ) (outcome : RequestOutcome) (w' : World) → ServesCommand e w command payload outcome w' → w'.stack.config ≡ w.stack.config
 command-config e w (Err error) payload outcome w' p = same-config w w' p.1
 command-config e w (Ok (Read offset length)) payload outcome w' p = read-config e w offset length outcome w' p
 command-config e w (Ok (Write offset length)) payload outcome w' (inl p) = same-config w w' p.1

@@ -5,4 +5,5 @@ pub mod Handshake
 pub mod Sectors
 pub mod Transmission
 pub mod Streaming
+pub mod Causes
 pub mod Service

@@ -1,17 +1,18 @@
 -- The service of a client: its messages one after another, and what is replied to each.
-use Rattle.std.specs.Prelude.{◌≡◌, ◌≢◌, ◌⊎◌, ℕ, ◌<◌, ◌≤◌, nat_le, Bool, true, List, [], ◌++◌, length, take, codes, Option, Some, None, Result, Ok, Err}
+use Rattle.std.specs.Prelude.{◌≡◌, ◌≢◌, ◌⊎◌, ℕ, ◌<◌, ◌≤◌, nat_le, Bool, true, false, List, [], ◌++◌, length, take, codes, Option, Some, None, Result, Ok, Err}
 use Rattle.std.specs.Io.KnownBytes.{Appends, IsAtEnd, Keeps}
 use Rattle.request_queue.specs.World.{World}
 use Rattle.stack_session.specs.Session.{Streams}
 use Rattle.nbd_server.specs.Numbers.{number32}
-use Rattle.nbd_server.specs.Exports.{ExportRecord}
+use Rattle.nbd_server.specs.Exports.{ExportRecord, is_asked}
 use Rattle.nbd_server.specs.Handshake.{greeting, answer_to, phase_after, names_export, most_data, refused}
 use Rattle.nbd_server.specs.declared.option_reply.Refusal.TheVariants.{TooBig}
 use Rattle.nbd_server.specs.Headers.{header_of, payload_len, request_magic}
+use Rattle.nbd_server.specs.Causes.{Breaks}
 use Rattle.nbd_server.specs.Streaming.{Spoken}
-use Rattle.nbd_server.specs.Transmission.{Outcome, Serves, simple_reply}
+use Rattle.nbd_server.specs.Transmission.{RequestOutcome, Serves, simple_reply}
 use Rattle.nbd_server.specs.declared.fault.ServiceFault.{ServiceFault}
-use Rattle.nbd_server.specs.declared.fault.ServiceFault.TheVariants.{WriteFault}
+use Rattle.nbd_server.specs.declared.fault.ServiceFault.TheVariants.{NoSuchExport, WriteFault, NoMemory}
 use Rattle.nbd_server.specs.declared.phase.Phase.{Phase}
 use Rattle.nbd_server.specs.declared.phase.Phase.TheVariants.{Greeted, Haggling, Serving, Over}
 
@@ -29,14 +30,15 @@ pub record IsAnswered (e : ExportRecord) (no_zeroes : Bool) (option : ℕ) (cont
   pub reply_is : reply ≡ answer_to e no_zeroes option content
   pub next_is : next ≡ phase_after e no_zeroes option content
 
--- an option for whose data there is no room: they are too long, or memory ran out
-pub record HasNoRoom (no_zeroes : Bool) (option : ℕ) (reply : List ℕ) (next : Phase) : Type 0 where
+-- an option for whose data, so many bytes, there is no room: they are too long, or memory ran out
+pub record HasNoRoom (no_zeroes : Bool) (option count : ℕ) (reply : List ℕ) (next : Phase) : Type 0 where
+  pub some : 0 < count
   pub other : option ≢ 1
   pub reply_is : reply ≡ refused TooBig option
   pub next_is : next ≡ Haggling no_zeroes
 
 abbrev pub AnswersOption : ExportRecord → Bool → ℕ → List ℕ → List ℕ → Phase → Type 0
-AnswersOption e no_zeroes option content reply next = IsAnswered e no_zeroes option content reply next ⊎ HasNoRoom no_zeroes option reply next
+AnswersOption e no_zeroes option content reply next = IsAnswered e no_zeroes option content reply next ⊎ HasNoRoom no_zeroes option (length content) reply next
 
 -- An option: its magic, its number, the length of its data, and the data.
 pub record TakesOption (e : ExportRecord) (no_zeroes : Bool) (message reply : List ℕ) (next : Phase) : Type 0 where
@@ -50,7 +52,7 @@ pub record TakesOption (e : ExportRecord) (no_zeroes : Bool) (message reply : Li
 
 -- a request that isn't the last: it is served, and has a simple reply
 pub record IsServed (e : ExportRecord) (w : World) (header payload reply : List ℕ) (next : Phase) (w' : World) : Type 0 where
-  pub outcome : Outcome
+  pub outcome : RequestOutcome
   pub serves : Serves e w (header_of header) payload outcome w'
   pub reply_is : reply ≡ simple_reply (header_of header).cookie outcome
   pub next_is : next ≡ Serving
@@ -85,23 +87,34 @@ pub data Conversation (e : ExportRecord) (first : World) : Phase → World → L
   goes_on : {phase next : Phase} {w w' : World} {taken written : List ℕ} (message reply : List ℕ) → Conversation e first phase w taken written → TakesMessage e phase w message reply next w'
       → Conversation e first next w' (taken ++ message) (written ++ reply)
 
--- how a reply ends: it was written and leads to a phase, or there is none
-abbrev pub Answers : (List ℕ → Phase → Type 0) → Option (List ℕ) → Option (List ℕ) → Result Phase ServiceFault → Type 0
-Answers Is old new (Ok next) = (reply : List ℕ) × Is reply next × Appends old new reply
-Answers Is old new (Err WriteFault) = Unit {0}
-Answers Is old new (Err fault) = Keeps old new
+-- an option that has no reply: EXPORT_NAME, whose name is another's
+abbrev pub IsUnnamed : ExportRecord → ℕ → List ℕ → ServiceFault → Type 0
+IsUnnamed e option content fault = (fault ≡ NoSuchExport) × (option ≡ 1) × (is_asked e content ≡ false)
 
--- how a message ends: it was taken, the input ended before it, or the service ends in it; then nothing happened
+-- the same for whose name there is no room: it is too long for the export's, or memory ran out
+abbrev pub IsUnread : ℕ → ℕ → ServiceFault → Type 0
+IsUnread option count NoSuchExport = (option ≡ 1) × (most_data < count)
+IsUnread option count NoMemory = (option ≡ 1) × (0 < count) × (count ≤ most_data)
+IsUnread option count fault = ⊥
+
+-- how a reply ends: it was written and leads to a phase, or there is none, for such a fault
+abbrev pub Answers : (List ℕ → Phase → Type 0) → (ServiceFault → Type 0) → Option (List ℕ) → Option (List ℕ) → Result Phase ServiceFault → Type 0
+Answers Is Ends old new (Ok next) = (reply : List ℕ) × Is reply next × Appends old new reply
+Answers Is Ends old new (Err WriteFault) = Unit {0}
+Answers Is Ends old new (Err fault) = Keeps old new × Ends fault
+
+-- how a message ends: it was taken, the input ended before it, or the service ends in it for its cause; then nothing
+-- happened
 abbrev pub Turns : ExportRecord → Phase → World → World → Streams → Streams → Result (Option Phase) ServiceFault → Type 0
 Turns e phase w w' old new (Ok (Some next)) = Spoken old new (λ message reply. TakesMessage e phase w message reply next w')
 Turns e phase w w' old new (Ok None) = Spoken old new (λ taken written. (taken ≡ []) × (written ≡ []) × (w' ≡ w)) × IsAtEnd new.input
 Turns e phase w w' old new (Err WriteFault) = Unit {0}
-Turns e phase w w' old new (Err fault) = Spoken old new (λ taken written. (written ≡ []) × (w' ≡ w))
+Turns e phase w w' old new (Err fault) = Spoken old new (λ taken written. (written ≡ []) × (w' ≡ w) × Breaks e phase taken new.input fault)
 
--- how the service ends after those messages: the client ended it or went away, or was lost in what is left
-abbrev pub EndsSo : Phase → List ℕ → Option (List ℕ) → Result Unit ServiceFault → Type 0
-EndsSo phase rest input (Ok done) = (rest ≡ []) × ((phase ≡ Over) ⊎ IsAtEnd input)
-EndsSo phase rest input (Err fault) = Unit {0}
+-- how the service ends after those messages: the client ended it or went away, or the fault has its cause in the rest
+abbrev pub EndsSo : ExportRecord → Phase → List ℕ → Option (List ℕ) → Result Unit ServiceFault → Type 0
+EndsSo e phase rest input (Ok done) = (rest ≡ []) × ((phase ≡ Over) ⊎ IsAtEnd input)
+EndsSo e phase rest input (Err fault) = Breaks e phase rest input fault
 
 -- what was taken is whole messages and a rest, and what was written is the greeting and the replies to them
 pub record IsHeld (e : ExportRecord) (first last : World) (input : Option (List ℕ)) (result : Result Unit ServiceFault) (taken written : List ℕ) : Type 0 where
@@ -112,7 +125,7 @@ pub record IsHeld (e : ExportRecord) (first last : World) (input : Option (List 
   pub talk : Conversation e first phase last whole replies
   pub taken_is : taken ≡ whole ++ rest
   pub written_is : written ≡ greeting ++ replies
-  pub ends : EndsSo phase rest input result
+  pub ends : EndsSo e phase rest input result
 
 -- What a service read and wrote, from the first world of its queue to the last.
 pub record IsService (e : ExportRecord) (first last : World) (old new : Streams) (result : Result Unit ServiceFault) : Type 0 where

@@ -1,14 +1,47 @@
 -- What was taken from a client and written to it.
-use Rattle.std.specs.Prelude.{◌≡◌, ℕ, Bool, true, false, List, [], length, Option, IfSome, Result, Ok, Err}
+use Rattle.std.specs.Prelude.{◌≡◌, ◌≢◌, ◌⊎◌, ◌<◌, ◌≤◌, ◌+◌, ◌-◌, ◌^◌, ℕ, Bool, true, false, List, [], length, Option, Some, None, IfSome, Result, Ok, Err}
 use Rattle.std.specs.Io.KnownBytes.{Appends, Consumes, IsAtEnd}
+use Rattle.block_device.specs.Device.{capped}
+use Rattle.stack_session.specs.Counted.{CountedRecord}
 use Rattle.stack_session.specs.Session.{Streams}
 use Rattle.nbd_server.specs.declared.fault.ServiceFault.{ServiceFault}
+use Rattle.nbd_server.specs.declared.fault.ServiceFault.TheVariants.{Lost, ReadFault, WriteFault}
 
--- a buffer was filled, or the input ended before its first byte, or something of it came
+-- the fault of what has one
+abbrev pub fault_of : {T : Type 0} → Result T ServiceFault → Option ServiceFault
+fault_of (Ok value) = None
+fault_of (Err fault) = Some fault
+
+-- A reader that was called at least n times. No call failed, unless the fault says so: then one did, or the reader
+-- was called 2^64 - 1 times.
+pub record HasRead {R : Type 0} (n : ℕ) (old new : CountedRecord R) (fault : Option ServiceFault) : Type 0 where
+  pub calls : capped (old.calls + n) ≤ new.calls
+  pub kept : fault ≢ Some ReadFault → new.failed ≡ old.failed
+  pub failed : fault ≡ Some ReadFault → (new.failed ≡ true) ⊎ (2 ^ 64 - 1 ≤ new.calls)
+
+-- A writer of which no call failed, unless the fault says so.
+pub record HasWritten {W : Type 0} (old new : CountedRecord W) (fault : Option ServiceFault) : Type 0 where
+  pub kept : fault ≢ Some WriteFault → new.failed ≡ old.failed
+  pub failed : fault ≡ Some WriteFault → new.failed ≡ true
+
+-- why no more bytes came: the input is at its end, or the reader ended
+abbrev pub Stops : Option (List ℕ) → ServiceFault → Type 0
+Stops input Lost = IsAtEnd input
+Stops input ReadFault = Unit {0}
+Stops input fault = ⊥
+
+-- fewer than n bytes came
+pub record IsShort (n : ℕ) (old new : Option (List ℕ)) (fault : ServiceFault) : Type 0 where
+  pub part : List ℕ
+  pub few : length part < n
+  pub consumed : Consumes old new part
+  pub cause : Stops new fault
+
+-- a buffer was filled, or the input ended before its first byte, or behind it, or the reader failed
 abbrev pub Fills : Option (List ℕ) → Option (List ℕ) → List ℕ → Result Bool ServiceFault → Type 0
 Fills old new bytes (Ok true) = Consumes old new bytes
 Fills old new bytes (Ok false) = Consumes old new [] × IsAtEnd new
-Fills old new bytes (Err fault) = (part : List ℕ) × Consumes old new part
+Fills old new bytes (Err fault) = (short : IsShort (length bytes) old new fault) × (fault ≡ Lost → 0 < length short.part)
 
 -- n bytes were taken
 pub record Takes (n : ℕ) (old new : Option (List ℕ)) : Type 0 where

@@ -15,11 +15,11 @@ use Rattle.nbd_server.specs.declared.request_error.RequestError.{RequestError}
 use Rattle.nbd_server.specs.declared.request_error.RequestError.TheVariants.{NoMemory, InputOutput}
 
 -- the bytes that a request gives, or why it fails
-abbrev pub Outcome : Type 0
-Outcome = Result (List ℕ) RequestError
+abbrev pub RequestOutcome : Type 0
+RequestOutcome = Result (List ℕ) RequestError
 
 -- a simple reply, under the request's cookie
-abbrev pub simple_reply : ℕ → Outcome → List ℕ
+abbrev pub simple_reply : ℕ → RequestOutcome → List ℕ
 simple_reply cookie (Ok content) = bytes32 0x67446698 ++ (bytes32 0 ++ (bytes64 cookie ++ content))
 simple_reply cookie (Err error) = bytes32 0x67446698 ++ (bytes32 (error_number error) ++ bytes64 cookie)
 
@@ -28,7 +28,7 @@ abbrev pub touched : ℕ → ℕ → ℕ
 touched offset length = (offset % 512 + length + 511) / 512
 
 -- bytes of the export were read: a part of the sectors that they touch
-abbrev pub ReadsBytes : ExportRecord → World → ℕ → ℕ → Outcome → World → Type 0
+abbrev pub ReadsBytes : ExportRecord → World → ℕ → ℕ → RequestOutcome → World → Type 0
 ReadsBytes e w offset length (Ok content) w' = (bytes : List ℕ) × IsFetched w e.device (offset / 512) (touched offset length) bytes w' × (content ≡ take length (drop (offset % 512) bytes))
 ReadsBytes e w offset length (Err error) w' = FailsToFetch w e.device (offset / 512) (touched offset length) error w'
 
@@ -59,7 +59,7 @@ pub record IsFramed (e : ExportRecord) (w : World) (offset : ℕ) (bytes sectors
   pub sectors_are : sectors ≡ before ++ (bytes ++ behind)
 
 -- bytes of the export were written: the sectors that they touch were put
-abbrev pub WritesBytes : ExportRecord → World → ℕ → List ℕ → Outcome → World → Type 0
+abbrev pub WritesBytes : ExportRecord → World → ℕ → List ℕ → RequestOutcome → World → Type 0
 WritesBytes e w offset bytes (Ok content) w' =
     (content ≡ []) × (sectors : List ℕ) × (mid : World) × IsFramed e w offset bytes sectors mid × IsStored mid e.device (offset / 512) sectors w'
 WritesBytes e w offset bytes (Err error) w' =
@@ -67,44 +67,44 @@ WritesBytes e w offset bytes (Err error) w' =
     ⊎ ((sectors : List ℕ) × (mid : World) × IsFramed e w offset bytes sectors mid × FailsToStore mid e.device (offset / 512) sectors error w')
 
 -- a write of no bytes does nothing
-abbrev pub WritesSome : ExportRecord → World → ℕ → List ℕ → Outcome → World → Type 0
+abbrev pub WritesSome : ExportRecord → World → ℕ → List ℕ → RequestOutcome → World → Type 0
 WritesSome e w offset [] outcome w' = (outcome ≡ Ok []) × (w' ≡ w)
 WritesSome e w offset (byte ∷ more) outcome w' = WritesBytes e w offset (byte ∷ more) outcome w'
 
 -- ---- flushes
 
 -- all that was written so far is on the leaves' media, or of a leaf that failed
-abbrev pub Flushes : World → Outcome → World → Type 0
+abbrev pub Flushes : World → RequestOutcome → World → Type 0
 Flushes w (Ok content) w' = (content ≡ []) × Step EachPart w (sync (Ok tt)) w'
 Flushes w (Err error) w' = (error ≡ InputOutput) × (fault : IoFault) × Step EachPart w (sync (Err fault)) w'
 
 -- ---- requests
 
 -- this outcome, and nothing happened
-abbrev pub Refuses : World → RequestError → Outcome → World → Type 0
+abbrev pub Refuses : World → RequestError → RequestOutcome → World → Type 0
 Refuses w error outcome w' = (outcome ≡ Err error) × (w' ≡ w)
 
 -- how a request ends that asks for this, or has that fault; memory may run out for the bytes of a write
-abbrev pub ServesCommand : ExportRecord → World → Result Command RequestError → List ℕ → Outcome → World → Type 0
+abbrev pub ServesCommand : ExportRecord → World → Result Command RequestError → List ℕ → RequestOutcome → World → Type 0
 ServesCommand e w (Err error) payload outcome w' = Refuses w error outcome w'
 ServesCommand e w (Ok (Read offset length)) payload outcome w' = ReadsBytes e w offset length outcome w'
 ServesCommand e w (Ok (Write offset length)) payload outcome w' = Refuses w NoMemory outcome w' ⊎ WritesSome e w offset payload outcome w'
 ServesCommand e w (Ok Flush) payload outcome w' = Flushes w outcome w'
 
 -- how a request ends
-abbrev pub Serves : ExportRecord → World → Header → List ℕ → Outcome → World → Type 0
+abbrev pub Serves : ExportRecord → World → Header → List ℕ → RequestOutcome → World → Type 0
 Serves e w h payload outcome w' = ServesCommand e w (command_of e h) payload outcome w'
 
 -- the part of the bytes that is meant
 abbrev pub data_of : Data → List ℕ
 data_of d = take d.length (drop d.start d.bytes.items)
 
-abbrev pub outcome_of : Result Data RequestError → Outcome
+abbrev pub outcome_of : Result Data RequestError → RequestOutcome
 outcome_of (Ok d) = Ok (data_of d)
 outcome_of (Err error) = Err error
 
 -- a write gives no bytes
-abbrev pub written : Result Unit RequestError → Outcome
+abbrev pub written : Result Unit RequestError → RequestOutcome
 written (Ok done) = Ok []
 written (Err error) = Err error
 

@@ -3,7 +3,6 @@ ghost use Rattle.std.specs.Prelude.{◌≡◌};
 ghost use Rattle.nbd_server.specs.declared.fault.ServiceFault.TheVariants as service_fault;
 
 use stack_session::WriteFault;
-use std::alloc::AllocError;
 use thiserror::Error;
 
 /// Why the service of a client ended early.
@@ -21,13 +20,13 @@ pub enum ServiceFault {
     /// An export of that name isn't there.
     #[error("the client asked for an export that isn't there")]
     NoSuchExport = 4,
-    /// The reader failed.
+    /// The reader failed, or was called 2^64 - 1 times.
     #[error("the reader failed")]
     ReadFault = 5,
     /// The writer failed.
     #[error("the writer failed")]
     WriteFault = 6,
-    /// Memory ran out.
+    /// Memory ran out for the name by which a client asks for an export.
     #[error("out of memory")]
     NoMemory = 7,
 }
@@ -37,13 +36,5 @@ impl From<WriteFault> for ServiceFault {
 
     fn from(_fault: WriteFault) -> ServiceFault {
         ServiceFault::WriteFault
-    }
-}
-
-impl From<AllocError> for ServiceFault {
-    ghost from_gives = { λ _ fault. fault ≡ service_fault.NoMemory };
-
-    fn from(_error: AllocError) -> ServiceFault {
-        ServiceFault::NoMemory
     }
 }

@@ -1,11 +1,10 @@
 // The handshake's messages: the client's flags, and the options that it haggles over.
-ghost use Rattle.std.specs.Prelude.{◌≡◌, ◌<◌, ◌≤◌, ◌^◌, ℕ, List, length, Option, option_map, IfOk, IfSome, OnErr};
-ghost use Rattle.std.specs.Io.KnownBytes.{Consumes};
+ghost use Rattle.std.specs.Prelude.{◌≡◌, ◌≢◌, ◌<◌, ◌≤◌, ◌^◌, ℕ, List, length, MatchOption, Option, option_map, IfOk, IfErr};
 ghost use Rattle.stack_session.specs.Session.{streams};
 ghost use Rattle.request_queue.specs.World.{World};
 ghost use Rattle.nbd_server.specs.Exports.{ExportRecord, export_record};
-ghost use Rattle.nbd_server.specs.Service.{Answers, HasNoRoom, IsAnswered, Turns};
-ghost use Rattle.nbd_server.specs.Streaming.{TakesInto};
+ghost use Rattle.nbd_server.specs.Service.{Answers, HasNoRoom, IsAnswered, IsUnnamed, IsUnread, Turns};
+ghost use Rattle.nbd_server.specs.Streaming.{HasRead, HasWritten, IsShort, TakesInto, fault_of};
 ghost use Rattle.nbd_server.specs.declared.phase.Phase.TheVariants.{Greeted, Haggling};
 
 use crate::export::Export;
@@ -24,7 +23,9 @@ const MOST_DATA: u32 = 65536;
 
 /// Takes the client's flags.
 pub(crate) fn take_flags<R: Read>(reader: &mut Counted<R>) -> Result<Option<Phase>, ServiceFault>
-    ensures { (e : ExportRecord) (w : World) (written : Option (List ℕ)) → Turns e Greeted w w (streams (R.remaining reader.old.inner) written) (streams (R.remaining reader.new.inner) written) result }
+    ensures turn { (e : ExportRecord) (w : World) (written : Option (List ℕ)) → Turns e Greeted w w (streams (R.remaining reader.old.inner) written) (streams (R.remaining reader.new.inner) written) result }
+    ensures reader { HasRead 1 reader.old reader.new (fault_of result) }
+    ensures other { result ≢ Err ServiceFault.WriteFault }
 {
     let mut bytes = [0u8; 4];
     if !fill(reader, &mut bytes)? {
@@ -46,8 +47,9 @@ fn take_content<R: Read>(
     count: u32,
 ) -> Result<Option<Vec<u8>>, ServiceFault>
     ensures ok { IfOk result (λ found. TakesInto (option_map (λ v. v.items) found) count (R.remaining reader.old.inner) (R.remaining reader.new.inner)) }
-    ensures short { IfOk result (λ found. IfSome found (λ v. length v.items ≤ MOST_DATA)) }
-    ensures err { OnErr result ((part : List ℕ) × Consumes (R.remaining reader.old.inner) (R.remaining reader.new.inner) part) }
+    ensures room { IfOk result (λ found. MatchOption found (0 < count) (λ v. length v.items ≤ MOST_DATA)) }
+    ensures err { IfErr result (IsShort count (R.remaining reader.old.inner) (R.remaining reader.new.inner)) }
+    ensures reader { HasRead 0 reader.old reader.new (fault_of result) }
 {
     if count > MOST_DATA {
         skip(reader, count)?;
@@ -56,16 +58,23 @@ fn take_content<R: Read>(
     take_bytes(alloc, reader, count)
 }
 
-// Says that there is no room for the data of an option. `NoSuchExport`: it has no reply.
+// Says that there is no room for the data of an option, so many bytes. A name has no reply: one that is too long is no
+// export's, and for another memory ran out.
 fn refuse_content<W: Write>(
     no_zeroes: bool,
     option: u32,
+    count: u32,
     writer: &mut Counted<W>,
 ) -> Result<Phase, ServiceFault>
-    ensures { Answers (HasNoRoom no_zeroes option) (W.contents writer.old.inner) (W.contents writer.new.inner) result }
+    requires { 0 < count }
+    ensures answer { Answers (HasNoRoom no_zeroes option count) (IsUnread option count) (W.contents writer.old.inner) (W.contents writer.new.inner) result }
+    ensures writer { HasWritten writer.old writer.new (fault_of result) }
 {
-    if option == EXPORT_NAME {
+    if option == EXPORT_NAME && count > MOST_DATA {
         return Err(ServiceFault::NoSuchExport);
+    }
+    if option == EXPORT_NAME {
+        return Err(ServiceFault::NoMemory);
     }
     refuse(writer, option, Refusal::TooBig)?;
     Ok(Phase::Haggling { no_zeroes })
@@ -81,7 +90,8 @@ fn answer_option<W: Write>(
 ) -> Result<Phase, ServiceFault>
     requires name { length export.now.name.now < 2 ^ 16 }
     requires short { length content.now ≤ MOST_DATA }
-    ensures { Answers (IsAnswered (export_record export.now) no_zeroes option content.now) (W.contents writer.old.inner) (W.contents writer.new.inner) result }
+    ensures answer { Answers (IsAnswered (export_record export.now) no_zeroes option content.now) (IsUnnamed (export_record export.now) option content.now) (W.contents writer.old.inner) (W.contents writer.new.inner) result }
+    ensures writer { HasWritten writer.old writer.new (fault_of result) }
 {
     if !names_export(export, option, content) {
         return Err(ServiceFault::NoSuchExport);
@@ -99,8 +109,10 @@ pub(crate) fn take_option<R: Read, W: Write>(
     writer: &mut Counted<W>,
 ) -> Result<Option<Phase>, ServiceFault>
     requires { length export.now.name.now < 2 ^ 16 }
-    ensures { (w : World) → Turns (export_record export.now) (Haggling no_zeroes) w w
+    ensures turn { (w : World) → Turns (export_record export.now) (Haggling no_zeroes) w w
         (streams (R.remaining reader.old.inner) (W.contents writer.old.inner)) (streams (R.remaining reader.new.inner) (W.contents writer.new.inner)) result }
+    ensures reader { HasRead 1 reader.old reader.new (fault_of result) }
+    ensures writer { HasWritten writer.old writer.new (fault_of result) }
 {
     let mut header = [0u8; 16];
     if !fill(reader, &mut header)? {
@@ -110,8 +122,9 @@ pub(crate) fn take_option<R: Read, W: Write>(
         return Err(ServiceFault::Magic);
     }
     let option = number32(&header, 8);
-    let Some(content) = take_content(alloc, reader, number32(&header, 12))? else {
-        return Ok(Some(refuse_content(no_zeroes, option, writer)?));
+    let count = number32(&header, 12);
+    let Some(content) = take_content(alloc, reader, count)? else {
+        return Ok(Some(refuse_content(no_zeroes, option, count, writer)?));
     };
     Ok(Some(answer_option(export, no_zeroes, option, content.as_slice(), writer)?))
 }

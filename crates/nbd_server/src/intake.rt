@@ -1,7 +1,6 @@
 // Takes bytes from a client.
-ghost use Rattle.std.specs.Prelude.{◌≡◌, ℕ, ◌<◌, ◌≤◌, ◌+◌, ◌*◌, ◌^◌, List, drop, length, take, OnOk, OnErr, IfOk, IfSome, option_map};
-ghost use Rattle.std.specs.Io.KnownBytes.{Consumes};
-ghost use Rattle.nbd_server.specs.Streaming.{Fills, Takes, TakesInto};
+ghost use Rattle.std.specs.Prelude.{◌≡◌, ℕ, ◌<◌, ◌≤◌, ◌+◌, ◌*◌, ◌^◌, drop, length, take, OnOk, IfOk, IfErr, IfSome, MatchOption, option_map};
+ghost use Rattle.nbd_server.specs.Streaming.{Fills, HasRead, IsShort, Takes, TakesInto, fault_of};
 
 use crate::fault::ServiceFault;
 use stack_session::Counted;
@@ -16,7 +15,8 @@ pub(crate) fn fill<R: Read>(
     buffer: &mut [u8],
 ) -> Result<bool, ServiceFault>
     requires { 0 < length buffer.old }
-    ensures { Fills (R.remaining reader.old.inner) (R.remaining reader.new.inner) buffer.new result }
+    ensures filled { Fills (R.remaining reader.old.inner) (R.remaining reader.new.inner) buffer.new result }
+    ensures reader { HasRead 1 reader.old reader.new (fault_of result) }
 {
     let mut done = 0;
     for _turn in 0..u64::MAX {
@@ -42,7 +42,8 @@ pub(crate) fn fill<R: Read>(
 /// Takes bytes that nobody wants.
 pub(crate) fn skip<R: Read>(reader: &mut Counted<R>, count: u32) -> Result<(), ServiceFault>
     ensures ok { OnOk result (Takes count (R.remaining reader.old.inner) (R.remaining reader.new.inner)) }
-    ensures err { OnErr result ((part : List ℕ) × Consumes (R.remaining reader.old.inner) (R.remaining reader.new.inner) part) }
+    ensures err { IfErr result (IsShort count (R.remaining reader.old.inner) (R.remaining reader.new.inner)) }
+    ensures reader { HasRead 0 reader.old reader.new (fault_of result) }
 {
     let mut piece = [0u8; PIECE];
     let mut left = count as usize;
@@ -65,7 +66,8 @@ fn fill_part<R: Read>(
 ) -> Result<bool, ServiceFault>
     requires some { 0 < count }
     requires inside { start + count ≤ length buffer.old }
-    ensures { Fills (R.remaining reader.old.inner) (R.remaining reader.new.inner) (take count (drop start buffer.new)) result }
+    ensures filled { Fills (R.remaining reader.old.inner) (R.remaining reader.new.inner) (take count (drop start buffer.new)) result }
+    ensures reader { HasRead 1 reader.old reader.new (fault_of result) }
 {
     fill(reader, &mut buffer[start..start + count])
 }
@@ -83,7 +85,8 @@ pub(crate) fn take_sectors<R: Read>(
     requires inside { start + count ≤ 512 * sectors }
     ensures ok { IfOk result (λ found. TakesInto (option_map (λ v. take count (drop start v.items)) found) count (R.remaining reader.old.inner) (R.remaining reader.new.inner)) }
     ensures room { IfOk result (λ found. IfSome found (λ v. length v.items ≡ 512 * sectors)) }
-    ensures err { OnErr result ((part : List ℕ) × Consumes (R.remaining reader.old.inner) (R.remaining reader.new.inner) part) }
+    ensures err { IfErr result (IsShort count (R.remaining reader.old.inner) (R.remaining reader.new.inner)) }
+    ensures reader { HasRead 0 reader.old reader.new (fault_of result) }
 {
     let Ok(mut bytes) = zeros(alloc, 512 * sectors) else {
         skip(reader, count)?;
@@ -102,7 +105,9 @@ pub(crate) fn take_bytes<R: Read>(
     count: u32,
 ) -> Result<Option<Vec<u8>>, ServiceFault>
     ensures ok { IfOk result (λ found. TakesInto (option_map (λ v. v.items) found) count (R.remaining reader.old.inner) (R.remaining reader.new.inner)) }
-    ensures err { OnErr result ((part : List ℕ) × Consumes (R.remaining reader.old.inner) (R.remaining reader.new.inner) part) }
+    ensures room { IfOk result (λ found. MatchOption found (0 < count) (λ v. length v.items ≡ count)) }
+    ensures err { IfErr result (IsShort count (R.remaining reader.old.inner) (R.remaining reader.new.inner)) }
+    ensures reader { HasRead 0 reader.old reader.new (fault_of result) }
 {
     if count == 0 {
         return Ok(Some(Vec::new(alloc)));

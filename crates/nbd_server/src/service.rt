@@ -3,6 +3,7 @@ ghost use Rattle.std.specs.Prelude.{◌≢◌};
 ghost use Rattle.stack_session.specs.Session.{streams};
 ghost use Rattle.nbd_server.specs.Exports.{IsExport, export_record};
 ghost use Rattle.nbd_server.specs.Service.{IsService, Turns};
+ghost use Rattle.nbd_server.specs.Streaming.{HasRead, HasWritten, fault_of};
 ghost use Rattle.nbd_server.specs.declared.phase.Phase.TheVariants.{Over};
 
 use crate::export::Export;
@@ -29,8 +30,10 @@ fn take_message<D: SyncDev, R: Read, W: Write>(
 ) -> Result<Option<Phase>, ServiceFault>
     requires export { IsExport queue.old.stack.config (export_record export.now) }
     requires going { phase ≢ Over }
-    ensures { Turns (export_record export.now) phase queue.old queue.new
+    ensures turn { Turns (export_record export.now) phase queue.old queue.new
         (streams (R.remaining reader.old.inner) (W.contents writer.old.inner)) (streams (R.remaining reader.new.inner) (W.contents writer.new.inner)) result }
+    ensures reader { HasRead 1 reader.old reader.new (fault_of result) }
+    ensures writer { HasWritten writer.old writer.new (fault_of result) }
 {
     match phase {
         Phase::Greeted => take_flags(reader),
@@ -51,8 +54,10 @@ pub fn serve<D: SyncDev, R: Read, W: Write>(
     writer: &mut Counted<W>,
 ) -> Result<(), ServiceFault>
     requires { IsExport queue.old.stack.config (export_record export.now) }
-    ensures { IsService (export_record export.now) queue.old queue.new
+    ensures service { IsService (export_record export.now) queue.old queue.new
         (streams (R.remaining reader.old.inner) (W.contents writer.old.inner)) (streams (R.remaining reader.new.inner) (W.contents writer.new.inner)) result }
+    ensures reader { HasRead 0 reader.old reader.new (fault_of result) }
+    ensures writer { HasWritten writer.old writer.new (fault_of result) }
 {
     writer.put(&GREETING)?;
     let mut phase = Phase::Greeted;

@@ -1,10 +1,11 @@
 // The requests of the transmission phase.
-ghost use Rattle.std.specs.Prelude.{◌≡◌, ◌<◌, ◌+◌, ◌^◌, ℕ, List, length, Ok, IfOk, OnErr};
+ghost use Rattle.std.specs.Prelude.{◌≡◌, ◌<◌, ◌+◌, ◌^◌, ℕ, List, length, Ok, IfOk, IfErr};
 ghost use Rattle.std.specs.Io.KnownBytes.{Consumes};
 ghost use Rattle.stack_session.specs.Session.{streams};
 ghost use Rattle.nbd_server.specs.Exports.{IsExport, export_record};
 ghost use Rattle.nbd_server.specs.Headers.{payload_len};
 ghost use Rattle.nbd_server.specs.Service.{Turns};
+ghost use Rattle.nbd_server.specs.Streaming.{HasRead, HasWritten, IsShort, fault_of};
 ghost use Rattle.nbd_server.specs.Transmission.{Flushes, IsInside, Serves, ServesCommand, outcome_of, written};
 ghost use Rattle.nbd_server.specs.declared.header.Command.TheVariants.{Write};
 ghost use Rattle.nbd_server.specs.declared.phase.Phase.TheVariants.{Serving};
@@ -39,7 +40,8 @@ fn take_write<D: BlockDev, R: Read>(
     requires within { offset + len < 2 ^ 64 }
     ensures ok { IfOk result (λ outcome. (payload : List ℕ) × (length payload ≡ len) × Consumes (R.remaining reader.old.inner) (R.remaining reader.new.inner) payload
         × ServesCommand (export_record export.now) queue.old (Ok (Write offset len)) payload (written outcome) queue.new) }
-    ensures err { OnErr result ((part : List ℕ) × Consumes (R.remaining reader.old.inner) (R.remaining reader.new.inner) part × (queue.new ≡ queue.old)) }
+    ensures err { IfErr result (λ fault. IsShort len (R.remaining reader.old.inner) (R.remaining reader.new.inner) fault × (queue.new ≡ queue.old)) }
+    ensures reader { HasRead 0 reader.old reader.new (fault_of result) }
 {
     if len == 0 {
         return Ok(Ok(()));
@@ -75,7 +77,8 @@ fn serve_request<D: SyncDev, R: Read>(
     ensures ok { IfOk result (λ outcome. (payload : List ℕ) × (length payload ≡ payload_len header) × Consumes (R.remaining reader.old.inner) (R.remaining reader.new.inner) payload
         × Serves (export_record export.now) queue.old header payload (outcome_of outcome) queue.new) }
     ensures inside { IfOk result IsInside }
-    ensures err { OnErr result ((part : List ℕ) × Consumes (R.remaining reader.old.inner) (R.remaining reader.new.inner) part × (queue.new ≡ queue.old)) }
+    ensures err { IfErr result (λ fault. IsShort (payload_len header) (R.remaining reader.old.inner) (R.remaining reader.new.inner) fault × (queue.new ≡ queue.old)) }
+    ensures reader { HasRead 0 reader.old reader.new (fault_of result) }
 {
     // Bytes follow a write alone.
     match header.command(export) {
@@ -109,8 +112,10 @@ pub(crate) fn take_request<D: SyncDev, R: Read, W: Write>(
     writer: &mut Counted<W>,
 ) -> Result<Option<Phase>, ServiceFault>
     requires { IsExport queue.old.stack.config (export_record export.now) }
-    ensures { Turns (export_record export.now) Serving queue.old queue.new
+    ensures turn { Turns (export_record export.now) Serving queue.old queue.new
         (streams (R.remaining reader.old.inner) (W.contents writer.old.inner)) (streams (R.remaining reader.new.inner) (W.contents writer.new.inner)) result }
+    ensures reader { HasRead 1 reader.old reader.new (fault_of result) }
+    ensures writer { HasWritten writer.old writer.new (fault_of result) }
 {
     let mut bytes = [0u8; 28];
     if !fill(reader, &mut bytes)? {

@@ -136,11 +136,3 @@ pub put_mid-at : (a n : ℕ) (xs ys : List ℕ) (k : ℕ) → a ≤ length xs �
 put_mid-at a n xs ys k fits le lt =
     get_or-append_right (take a xs) (ys ++ post_of a n xs) a k 0 (length-take-le a xs fits) le
     ∙ get_or_append_left ys (post_of a n xs) 0 (k - a) (omega arith)
-
-pub put_mid-after : (a n : ℕ) (xs ys : List ℕ) (k : ℕ) → a ≤ length xs → length ys ≡ n → a + n ≤ k → get_or (put_mid a n xs ys) k 0 ≡ get_or xs k 0
-put_mid-after a n xs ys k fits long le =
-    get_or-append_right (take a xs) (ys ++ post_of a n xs) a k 0 (length-take-le a xs fits) (omega arith)
-    ∙ get_or-append_right ys (post_of a n xs) n (k - a) 0 long (omega arith)
-    ∙ get_or-drop n (drop a xs) (k - a - n) 0
-    ∙ get_or-drop a xs (n + (k - a - n)) 0
-    ∙ ap (λ (i : ℕ). get_or xs i 0) (omega arith)

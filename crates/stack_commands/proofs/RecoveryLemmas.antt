@@ -1,7 +1,7 @@
 -- Commands that go over a device.
-use Rattle.std.proofs.Common.{◌≡◌, ℕ, ◌-◌, ◌≤◌, ◌<◌, ◌^◌, IsTrue, List, [], ◌++◌, length, Option, Some, None, Ok, refl, sym, ap, ◌∙◌, subst, arith, inl, inr}
+use Rattle.std.proofs.Common.{◌≡◌, ◌⊎◌, ℕ, ◌-◌, ◌≤◌, ◌<◌, ◌^◌, Bool, true, IsTrue, List, [], ◌++◌, length, Option, Some, None, Ok, refl, sym, ap, ◌∙◌, subst, arith, inl, inr}
 use Rattle.std.specs.Io.KnownBytes.{Appends}
-use Rattle.std.proofs.lemmas.List.{append-nil, append_assoc}
+use Rattle.std.proofs.lemmas.List.{append_assoc}
 use Rattle.block_device.specs.Device.{Device}
 use Rattle.stack_rules.specs.Records.{LeafRecord}
 use Rattle.stack_engine.specs.Pieces.{stack_over}
@@ -9,16 +9,17 @@ use Rattle.stack_engine.specs.Stacks.{StackRecord}
 use Rattle.command_faults.specs.declared.fault.CommandFault.{CommandFault}
 use Rattle.command_faults.specs.declared.fault.CommandFault.TheVariants.{Usage, NoMemory, TooLong, Open, Leaves, Text, Load, Submit, Io, Format, Verify, Differs, Random, Lost, OutputTooSmall, OutputFailed, Session, Service}
 use Rattle.command_faults.specs.Endings.{counts_text}
+use Rattle.command_faults.specs.Opened.{IsOpened}
 use Rattle.stack_recovery.specs.declared.recovery.Counts.{Counts}
 use Rattle.stack_recovery.specs.LostRuns.{lost_in, lost_runs}
-use Rattle.stack_recovery.specs.Recoveries.{IsBegun, Recovers, Sides}
+use Rattle.stack_recovery.specs.Recoveries.{IsBegun, Recovers, Sides, sides}
 use Rattle.stack_recovery.specs.Surveys.{IsSurvey, PieceRead, State, all_states}
 use Rattle.stack_recovery.specs.Texts.{runs_text}
 use Rattle.stack_commands.specs.Bindings.{AreBound}
 use Rattle.command_line.specs.Bindings.{BindingRecord}
 use Rattle.stack_commands.specs.Recoveries.{AllFound, AreFound, DeviceWords, HasDevice, IsCopyEnd, IsFoundEnd, IsOutputEnd, IsScanEnd, PrintsLost, PrintsRuns, PrintsSome, PrintsStates}
 use Rattle.stack_commands.specs.Recovering.{IsCountsEnd, IsRecoverEnd, TellsCounts}
-use Rattle.stack_commands.specs.StackCommands.{IsLoaded}
+use Rattle.stack_commands.specs.StackCommands.{IsLoadedFrom}
 
 appends-then : (a b c : Option (List ℕ)) (xs ys : List ℕ) → Appends a b xs → Appends b c ys → Appends a c (xs ++ ys)
 appends-then None b c xs ys p q = tt
@@ -36,7 +37,7 @@ pub record IsHad (bindings : List BindingRecord) (name : List ℕ) (stack : Stac
   pub has : HasDevice leaves text name devices stack d
 
 module _ (bindings : List BindingRecord) (name : List ℕ) (stack : StackRecord) (d : ℕ) (had : IsHad bindings name stack d) where
-  pub loaded : IsLoaded bindings stack.config had.devices
+  pub loaded : IsLoadedFrom bindings stack.config had.devices
   loaded = record { leaves = had.leaves; text = had.text; bound = had.bound; short = had.short; makes = had.has.makes }
 
   over : stack ≡ stack_over stack.config had.devices
@@ -71,22 +72,9 @@ module _ (bindings : List BindingRecord) (name : List ℕ) (stack : StackRecord)
     printed = b.printed;
   }
 
-  -- all runs are some of them
-  pub all-printed : (out : Device) (printed : Option (List ℕ)) (counts : Counts) (new : Sides) → Recovers d (record { stack = stack; out = out; printed = printed }) counts new → PrintsSome bindings name printed new.printed
-  all-printed out printed counts new r = record {
-    config = stack.config;
-    d = d;
-    states = all_states r.reads;
-    runs = lost_runs 0 (all_states r.reads);
-    more = [];
-    found = found r.reads new.stack r.survey;
-    first = sym (append-nil (lost_runs 0 (all_states r.reads)));
-    printed = r.printed;
-  }
-
-  module _ (out : Device) (printed : Option (List ℕ)) (new : Sides) where
+  module _ (out : Device) (printed : Option (List ℕ)) (new : Sides) (failed : Bool) where
     -- an end of going over it, where the other device never fails
-    pub scan-ends : IsTrue out.never_fails → (fault : CommandFault) → IsRecoverEnd d (record { stack = stack; out = out; printed = printed }) new fault → IsFoundEnd bindings name printed new.printed fault
+    pub scan-ends : IsTrue out.never_fails → (fault : CommandFault) → IsRecoverEnd d (record { stack = stack; out = out; printed = printed }) new failed fault → IsFoundEnd bindings name printed new.printed failed fault
     scan-ends sure NoMemory e = some-printed out printed new e
     scan-ends sure OutputFailed e = absurd (e.1.1 sure)
     scan-ends sure (Session fault) e = e
@@ -124,8 +112,8 @@ module _ (bindings : List BindingRecord) (name : List ℕ) (old mid new : Option
         printed = appends-then old mid new (runs_text (lost_runs 0 states)) (counts_text (length states) 0) p.printed (subst (λ (n : ℕ). Appends mid new (counts_text n 0)) read t.1);
       }
 
-  pub counts-end : (fault : CommandFault) → IsCountsEnd counts mid new fault → IsFoundEnd bindings name old new fault
-  counts-end (Lost read lost) e =
+  pub counts-end : (failed : Bool) (fault : CommandFault) → IsCountsEnd counts mid new failed fault → IsFoundEnd bindings name old new failed fault
+  counts-end failed (Lost read lost) e =
       let parts = told (length states - lost_in states) (lost_in states) counts is in
       record {
         states = states;
@@ -133,42 +121,43 @@ module _ (bindings : List BindingRecord) (name : List ℕ) (old mid new : Option
         some = omega (arith, e.2, parts.1);
         is = (e.0 ∙ parts.0, e.1 ∙ parts.1);
       }
-  counts-end (Session fault) e = e
-  counts-end NoMemory e = absurd e
-  counts-end OutputFailed e = e
-  counts-end Usage e = e
-  counts-end TooLong e = e
-  counts-end (Open fault path) e = e
-  counts-end (Leaves fault) e = e
-  counts-end (Text fault) e = e
-  counts-end (Load refusal) e = e
-  counts-end (Submit fault) e = e
-  counts-end (Io fault) e = e
-  counts-end (Format fault) e = e
-  counts-end (Verify fault) e = e
-  counts-end (Differs verdict) e = e
-  counts-end Random e = e
-  counts-end (OutputTooSmall needed) e = e
-  counts-end (Service fault) e = absurd e
+  counts-end failed (Session fault) e = e
+  counts-end failed NoMemory e = absurd e
+  counts-end failed OutputFailed e = e
+  counts-end failed Usage e = e
+  counts-end failed TooLong e = e
+  counts-end failed (Open fault path) e = e
+  counts-end failed (Leaves fault) e = e
+  counts-end failed (Text fault) e = e
+  counts-end failed (Load refusal) e = e
+  counts-end failed (Submit fault) e = e
+  counts-end failed (Io fault) e = e
+  counts-end failed (Format fault) e = e
+  counts-end failed (Verify fault) e = e
+  counts-end failed (Differs verdict) e = e
+  counts-end failed Random e = e
+  counts-end failed (OutputTooSmall needed) e = e
+  counts-end failed (Service fault) e = absurd e
 
 -- an end of going over a device to which is copied
-pub copy-ends : (words : DeviceWords) (path : List ℕ) (stack : StackRecord) (d : ℕ) → IsHad words.bindings words.name stack d → (out : Device) (printed : Option (List ℕ)) (new : Sides) (fault : CommandFault)
-    → IsRecoverEnd d (record { stack = stack; out = out; printed = printed }) new fault → IsCopyEnd words path printed new.printed fault
-copy-ends words path stack d had out printed new NoMemory e = inr (inr (inr (some-printed words.bindings words.name stack d had out printed new e)))
-copy-ends words path stack d had out printed new OutputFailed e = inr (inl (some-printed words.bindings words.name stack d had out printed new e.0))
-copy-ends words path stack d had out printed new (Session fault) e = inr (inr (inr e))
-copy-ends words path stack d had out printed new Usage e = absurd e
-copy-ends words path stack d had out printed new (Service fault) e = absurd e
-copy-ends words path stack d had out printed new TooLong e = absurd e
-copy-ends words path stack d had out printed new (Open fault other) e = absurd e
-copy-ends words path stack d had out printed new (Leaves fault) e = absurd e
-copy-ends words path stack d had out printed new (Text fault) e = absurd e
-copy-ends words path stack d had out printed new (Load refusal) e = absurd e
-copy-ends words path stack d had out printed new (Submit fault) e = absurd e
-copy-ends words path stack d had out printed new (Io fault) e = absurd e
-copy-ends words path stack d had out printed new (Format fault) e = absurd e
-copy-ends words path stack d had out printed new (Verify fault) e = absurd e
-copy-ends words path stack d had out printed new (Differs verdict) e = absurd e
-copy-ends words path stack d had out printed new Random e = absurd e
-copy-ends words path stack d had out printed new (Lost read lost) e = absurd e
-copy-ends words path stack d had out printed new (OutputTooSmall needed) e = absurd e
+pub copy-ends : (words : DeviceWords) (path : List ℕ) (stack : StackRecord) (d : ℕ) → IsHad words.bindings words.name stack d → (out : Device) → IsOpened out true
+    → (printed : Option (List ℕ)) (new : Sides) (failed : Bool) (fault : CommandFault) → IsRecoverEnd d (record { stack = stack; out = out; printed = printed }) new failed fault
+    → IsCopyEnd words path printed new.printed failed fault
+copy-ends words path stack d had out opened printed new failed NoMemory e = inr (inr (inr (some-printed words.bindings words.name stack d had out printed new e)))
+copy-ends words path stack d had out opened printed new failed OutputFailed e = inr (inl (some-printed words.bindings words.name stack d had out printed new e.0, (out, new.out, opened, e.1.0)))
+copy-ends words path stack d had out opened printed new failed (Session fault) e = inr (inr (inr e))
+copy-ends words path stack d had out opened printed new failed Usage e = absurd e
+copy-ends words path stack d had out opened printed new failed (Service fault) e = absurd e
+copy-ends words path stack d had out opened printed new failed TooLong e = absurd e
+copy-ends words path stack d had out opened printed new failed (Open fault other) e = absurd e
+copy-ends words path stack d had out opened printed new failed (Leaves fault) e = absurd e
+copy-ends words path stack d had out opened printed new failed (Text fault) e = absurd e
+copy-ends words path stack d had out opened printed new failed (Load refusal) e = absurd e
+copy-ends words path stack d had out opened printed new failed (Submit fault) e = absurd e
+copy-ends words path stack d had out opened printed new failed (Io fault) e = absurd e
+copy-ends words path stack d had out opened printed new failed (Format fault) e = absurd e
+copy-ends words path stack d had out opened printed new failed (Verify fault) e = absurd e
+copy-ends words path stack d had out opened printed new failed (Differs verdict) e = absurd e
+copy-ends words path stack d had out opened printed new failed Random e = absurd e
+copy-ends words path stack d had out opened printed new failed (Lost read lost) e = absurd e
+copy-ends words path stack d had out opened printed new failed (OutputTooSmall needed) e = absurd e

@@ -11,7 +11,7 @@ use Rattle.stack_session.specs.Session.{Streams}
 use Rattle.command_line.specs.CommandWords.{InvocationRecord, copy, dump, format, load, nbd, read, scan, session, table, verify, write}
 use Rattle.command_line.specs.CommandLines.{IsNoCommand, invoked}
 use Rattle.stack_commands.specs.Recoveries.{IsCopyEnd, IsScanEnd, PrintsStates, device_words}
-use Rattle.stack_commands.specs.StackCommands.{FailsToAsk, FailsToList, IsClientEnd, IsServeEnd, IsStackEnd, IsWriteFilesEnd, PrintsDevices, PrintsReply, PrintsWritten, Serves, ServesClient}
+use Rattle.stack_commands.specs.StackCommands.{FailsToList, FailsToShow, IsClientEnd, IsServeEnd, IsStackEnd, IsWriteFilesEnd, PrintsDevices, PrintsReply, PrintsWritten, Serves, ServesClient}
 
 -- the fault is `Usage` with that cause, or memory ran out
 abbrev pub IsUsageEnd : CommandFault → Type 0 → Type 0
@@ -33,39 +33,42 @@ Succeeds (verify image hash root) old new = PrintsMatches root old.output new.ou
 Succeeds (dump hash) old new = PrintsSuperblock superblock_text old.output new.output
 Succeeds (table hash root image_name hash_name) old new = PrintsSuperblock (λ s. line_text s image_name hash_name root) old.output new.output
 
--- why each command ends early
-abbrev pub IsCauseOf : InvocationRecord → CommandFault → Type 0
-IsCauseOf (load stack bindings) fault = IsStackEnd stack bindings FailsToList fault
-IsCauseOf (read cache stack name first count bindings) fault = IsStackEnd stack bindings (FailsToAsk (a_read name first count)) fault
-IsCauseOf (write cache stack name first source bindings) fault = IsWriteFilesEnd stack source bindings (a_write name first) fault
-IsCauseOf (session cache bindings) fault = ⊥
-IsCauseOf (nbd cache stack name bindings) fault = ⊥
-IsCauseOf (scan stack name bindings) fault = ⊥
-IsCauseOf (copy stack name out bindings) fault = ⊥
-IsCauseOf (format image hash) fault = IsUsageEnd fault (Unit {0}) ⊎ ((options : ImageOptions) × IsFormatFilesEnd image hash options fault)
-IsCauseOf (verify image hash root) fault = IsVerifyFilesEnd image hash root fault
-IsCauseOf (dump hash) fault = IsSuperblockEnd hash fault
-IsCauseOf (table hash root image_name hash_name) fault = IsSuperblockEnd hash fault
+-- why each command ends early; of a line that can't be written it says that the writer failed
+abbrev pub IsCauseOf : InvocationRecord → Bool → CommandFault → Type 0
+IsCauseOf (load stack bindings) failed fault = IsStackEnd stack bindings (FailsToList failed) fault
+IsCauseOf (read cache stack name first count bindings) failed fault = IsStackEnd stack bindings (FailsToShow (a_read name first count) failed) fault
+IsCauseOf (write cache stack name first source bindings) failed fault = IsWriteFilesEnd stack source bindings (a_write name first) failed fault
+IsCauseOf (session cache bindings) failed fault = ⊥
+IsCauseOf (nbd cache stack name bindings) failed fault = ⊥
+IsCauseOf (scan stack name bindings) failed fault = ⊥
+IsCauseOf (copy stack name out bindings) failed fault = ⊥
+IsCauseOf (format image hash) failed fault = IsUsageEnd fault (Unit {0}) ⊎ ((options : ImageOptions) × IsFormatFilesEnd image hash options failed fault)
+IsCauseOf (verify image hash root) failed fault = IsVerifyFilesEnd image hash root failed fault
+IsCauseOf (dump hash) failed fault = IsSuperblockEnd hash failed fault
+IsCauseOf (table hash root image_name hash_name) failed fault = IsSuperblockEnd hash failed fault
 
 -- and that nothing is printed before; a session and the service of a client have printed their replies, and what goes over
 -- a device some lost runs
-abbrev pub Fails : InvocationRecord → Streams → Streams → CommandFault → Type 0
-Fails (session cache bindings) old new fault = IsServeEnd bindings old new fault
-Fails (nbd cache stack name bindings) old new fault = IsClientEnd stack bindings name old new fault
-Fails (scan stack name bindings) old new fault = IsScanEnd (device_words stack name bindings) old.output new.output fault
-Fails (copy stack name out bindings) old new fault = IsCopyEnd (device_words stack name bindings) out old.output new.output fault
-Fails invocation old new fault = IsCauseOf invocation fault × IsQuiet fault old.output new.output
+abbrev pub Fails : InvocationRecord → Streams → Streams → Bool → CommandFault → Type 0
+Fails (session cache bindings) old new failed fault = IsServeEnd bindings old new failed fault
+Fails (nbd cache stack name bindings) old new failed fault = IsClientEnd stack bindings name old new failed fault
+Fails (scan stack name bindings) old new failed fault = IsScanEnd (device_words stack name bindings) old.output new.output failed fault
+Fails (copy stack name out bindings) old new failed fault = IsCopyEnd (device_words stack name bindings) out old.output new.output failed fault
+Fails invocation old new failed fault = IsCauseOf invocation failed fault × IsQuiet fault old.output new.output
 
 -- the words are no command, or memory ran out while they were read; or their command ended early
-abbrev pub IsRunEnd : List (List ℕ) → Streams → Streams → CommandFault → Type 0
-IsRunEnd words old new fault =
-    (IsUsageEnd fault (IsNoCommand words) × (new ≡ old)) ⊎ ((invocation : InvocationRecord) × (invoked words ≡ Some invocation) × Fails invocation old new fault)
+abbrev pub IsRunEnd : List (List ℕ) → Streams → Streams → Bool → CommandFault → Type 0
+IsRunEnd words old new failed fault =
+    (IsUsageEnd fault (IsNoCommand words) × (new ≡ old)) ⊎ ((invocation : InvocationRecord) × (invoked words ≡ Some invocation) × Fails invocation old new failed fault)
 
--- A command ended early: its text is printed and its status answered, or that can't be written.
+-- A command ended early: its text is printed and its status answered, or that can't be written. Where the writer had
+-- failed before, that stays known.
 pub record EndsEarly (words : List (List ℕ)) (old new : Streams) (failed : Bool) (status : ℕ) : Type 0 where
   pub fault : CommandFault
   pub before : Streams
-  pub fails : IsRunEnd words old before fault
+  pub unwritten : Bool
+  pub fails : IsRunEnd words old before unwritten fault
+  pub kept : unwritten ≡ true → failed ≡ true
   pub told : IsEnd fault before.output new.output status ⊎ ((status ≡ 1) × (failed ≡ true))
 
 -- the command of some words succeeded

@@ -1,7 +1,7 @@
 -- What the commands that go over a device print, and how they end early.
-use Rattle.std.specs.Prelude.{◌≡◌, ◌⊎◌, ℕ, ◌-◌, ◌<◌, List, ◌++◌, length, Option, Some, None, Ok}
+use Rattle.std.specs.Prelude.{◌≡◌, ◌⊎◌, ℕ, ◌-◌, ◌<◌, Bool, true, List, ◌++◌, length, Option, Some, None, Ok}
 use Rattle.std.specs.Io.KnownBytes.{Appends}
-use Rattle.block_device.specs.Device.{Device}
+use Rattle.block_device.specs.Device.{Device, HasFailed}
 use Rattle.stack_rules.specs.Names.{device_named, mapped, size}
 use Rattle.stack_rules.specs.Records.{Configuration, LeafRecord}
 use Rattle.stack_engine.specs.Pieces.{stack_over}
@@ -11,14 +11,14 @@ use Rattle.stack_session.specs.declared.fault.SessionFault.TheVariants.{WriteFau
 use Rattle.command_faults.specs.declared.fault.CommandFault.{CommandFault}
 use Rattle.command_faults.specs.declared.fault.CommandFault.TheVariants.{Lost, NoMemory, OutputFailed, OutputTooSmall, Session, Submit}
 use Rattle.command_faults.specs.Endings.{counts_text}
-use Rattle.command_faults.specs.Opened.{IsUnopened}
+use Rattle.command_faults.specs.Opened.{IsOpened, IsUnopened}
 use Rattle.stack_recovery.specs.declared.lost_run.LostRun.{LostRun}
 use Rattle.stack_recovery.specs.LostRuns.{lost_in, lost_runs}
 use Rattle.stack_recovery.specs.Surveys.{IsSurvey, PieceRead, State, all_states}
 use Rattle.stack_recovery.specs.Texts.{runs_text}
 use Rattle.command_line.specs.Bindings.{BindingRecord}
 use Rattle.stack_commands.specs.Configuration.{configuration_of}
-use Rattle.stack_commands.specs.StackCommands.{FailsToLoad, Failing, IsLoaded, IsStackEnd}
+use Rattle.stack_commands.specs.StackCommands.{FailsToLoad, Failing, IsLoadedFrom, IsStackEnd}
 
 -- a stack file, the name of one of its devices, and bindings
 pub record DeviceWords : Type 0 where
@@ -46,7 +46,7 @@ pub record AreFound (bindings : List BindingRecord) (name : List ℕ) (d : ℕ) 
   pub devices : List Device
   pub reads : List PieceRead
   pub left : StackRecord
-  pub loaded : IsLoaded bindings config devices
+  pub loaded : IsLoadedFrom bindings config devices
   pub named : device_named config name ≡ Some d
   pub survey : IsSurvey d 0 (stack_over config devices) reads left
   pub is : states ≡ all_states reads
@@ -89,28 +89,29 @@ pub record PrintsSome (bindings : List BindingRecord) (name : List ℕ) (old new
   pub printed : Appends old new (runs_text runs)
 
 -- how it ends once it has begun: with lost sectors, by want of memory, or by a line that can't be written
-abbrev pub IsFoundEnd : List BindingRecord → List ℕ → Option (List ℕ) → Option (List ℕ) → CommandFault → Type 0
-IsFoundEnd bindings name old new (Lost read lost) = PrintsLost bindings name old new read lost
-IsFoundEnd bindings name old new NoMemory = PrintsSome bindings name old new
-IsFoundEnd bindings name old new (Session fault) = fault ≡ WriteFault
-IsFoundEnd bindings name old new fault = ⊥
+abbrev pub IsFoundEnd : List BindingRecord → List ℕ → Option (List ℕ) → Option (List ℕ) → Bool → CommandFault → Type 0
+IsFoundEnd bindings name old new failed (Lost read lost) = PrintsLost bindings name old new read lost
+IsFoundEnd bindings name old new failed NoMemory = PrintsSome bindings name old new
+IsFoundEnd bindings name old new failed (Session fault) = (fault ≡ WriteFault) × (failed ≡ true)
+IsFoundEnd bindings name old new failed fault = ⊥
 
 -- nothing is printed where the stack isn't loaded or has no such device
 abbrev pub IsUnbegun : DeviceWords → Option (List ℕ) → Option (List ℕ) → CommandFault → Type 0
 IsUnbegun words old new fault = (new ≡ old) × IsStackEnd words.stack words.bindings (FailsToFind words.name) fault
 
-abbrev pub IsScanEnd : DeviceWords → Option (List ℕ) → Option (List ℕ) → CommandFault → Type 0
-IsScanEnd words old new fault = IsUnbegun words old new fault ⊎ IsFoundEnd words.bindings words.name old new fault
+abbrev pub IsScanEnd : DeviceWords → Option (List ℕ) → Option (List ℕ) → Bool → CommandFault → Type 0
+IsScanEnd words old new failed fault = IsUnbegun words old new fault ⊎ IsFoundEnd words.bindings words.name old new failed fault
 
 -- the device that has more sectors than the image
 abbrev pub IsOutputEnd : DeviceWords → Option (List ℕ) → Option (List ℕ) → CommandFault → Type 0
 IsOutputEnd words old new (OutputTooSmall needed) =
-    (new ≡ old) × ((config : Configuration) × (devices : List Device) × (d : ℕ) × IsLoaded words.bindings config devices
+    (new ≡ old) × ((config : Configuration) × (devices : List Device) × (d : ℕ) × IsLoadedFrom words.bindings config devices
     × (device_named config words.name ≡ Some d) × (needed ≡ size config (mapped d)))
 -- the image failed: a write, or its sync once all lines were printed
-IsOutputEnd words old new OutputFailed = PrintsSome words.bindings words.name old new
+IsOutputEnd words old new OutputFailed =
+    PrintsSome words.bindings words.name old new × ((image image' : Device) × IsOpened image true × HasFailed image image')
 IsOutputEnd words old new fault = ⊥
 
 -- the image isn't opened, is too small or fails, or another end of going over a device
-abbrev pub IsCopyEnd : DeviceWords → List ℕ → Option (List ℕ) → Option (List ℕ) → CommandFault → Type 0
-IsCopyEnd words out old new fault = ((new ≡ old) × IsUnopened out fault) ⊎ (IsOutputEnd words old new fault ⊎ IsScanEnd words old new fault)
+abbrev pub IsCopyEnd : DeviceWords → List ℕ → Option (List ℕ) → Option (List ℕ) → Bool → CommandFault → Type 0
+IsCopyEnd words out old new failed fault = ((new ≡ old) × IsUnopened out fault) ⊎ (IsOutputEnd words old new fault ⊎ IsScanEnd words old new failed fault)

@@ -3,9 +3,9 @@ ghost use Rattle.std.specs.Prelude.{◌≡◌, ◌⊎◌, ◌≤◌, ◌^◌, le
 ghost use Rattle.stack_commands.specs.Configuration.{configuration_of};
 
 use command_faults::CommandFault;
-use dm_table::parse_stack;
 use stack_loader::{Config, Leaf};
 use std::alloc::Global;
+use table_reader::parse_stack;
 
 /// The configuration that a stack text makes of leaves.
 pub fn configuration_of<'a>(

@@ -1,15 +1,20 @@
 // The command `copy`: copies what can be had of a device.
-ghost use Rattle.std.specs.Prelude.{◌≡◌, false, true, map, OnOk, IfErr};
-ghost use Rattle.block_device.specs.Device.{HasFailed};
+ghost use Rattle.std.specs.Prelude.{◌≡◌, ◌≤◌, ◌<◌, false, true, length, map, IsTrue, OnOk, IfOk, IfErr};
+ghost use Rattle.stack_rules.specs.Names.{mapped, size};
 ghost use Rattle.command_line.specs.Bindings.{binding_record};
+ghost use Rattle.stack_recovery.specs.Recoveries.{Recovers, sides};
 ghost use Rattle.stack_commands.specs.Recoveries.{IsCopyEnd, PrintsStates, device_words};
+ghost use Rattle.stack_commands.specs.Recovering.{IsRecoverEnd};
 
 use crate::device::{load_device, recover_device, tell_counts};
 use crate::file_use::FileUse;
 use crate::opening::{open_all, stack_text};
-use block_device::{BlockDev, SyncDev};
+use block_device::{AnyDev, BlockDev, SyncDev};
 use command_faults::{CommandFault, open_file};
 use command_line::Binding;
+use stack_engine::Stack;
+use stack_loader::DevId;
+use stack_recovery::Counts;
 use stack_session::Counted;
 use std::fs::File;
 use std::io::Write;
@@ -26,7 +31,7 @@ pub fn copy_files<'a, R: Files<File = File> + AllocGlobal, W: Write>(
     writer: &mut Counted<W>,
 ) -> Result<(), CommandFault<'a>>
     ensures ok { OnOk result (PrintsStates (map binding_record bindings.now) name.now (W.contents writer.old.inner) (W.contents writer.new.inner)) }
-    ensures err { IfErr result (IsCopyEnd (device_words stack.now name.now (map binding_record bindings.now)) out.now (W.contents writer.old.inner) (W.contents writer.new.inner)) }
+    ensures err { IfErr result (IsCopyEnd (device_words stack.now name.now (map binding_record bindings.now)) out.now (W.contents writer.old.inner) (W.contents writer.new.inner) writer.new.failed) }
 {
     let text = stack_text(rt, stack)?;
     let mut image = open_file(rt, out, true)?;
@@ -40,9 +45,26 @@ pub fn copy_files<'a, R: Files<File = File> + AllocGlobal, W: Write>(
     if image.sectors() < needed {
         return Err(CommandFault::OutputTooSmall { needed });
     }
-    let counts = recover_device(&mut stack, device, &mut image, writer)?;
-    match image.sync() {
-        Ok(()) => tell_counts(counts, writer),
+    let counts = copy_device(&mut stack, device, &mut image, writer)?;
+    tell_counts(counts, writer)
+}
+
+// Goes over the device, copies what is had to another one, and has that put on the medium.
+fn copy_device<'a, O: SyncDev, W: Write>(
+    stack: &mut Stack<AnyDev>,
+    device: DevId,
+    out: &mut O,
+    writer: &mut Counted<W>,
+) -> Result<Counts, CommandFault<'a>>
+    requires device { device.0 < length stack.old.config.devices }
+    requires room { size stack.old.config (mapped device.0) ≤ (O.state out.old).size }
+    requires allowed { IsTrue (O.state out.old).may_write }
+    ensures ok { IfOk result (λ counts. Recovers device.0 (sides stack.old (O.state out.old) (W.contents writer.old.inner)) counts (sides stack.new (O.state out.new) (W.contents writer.new.inner))) }
+    ensures err { IfErr result (IsRecoverEnd device.0 (sides stack.old (O.state out.old) (W.contents writer.old.inner)) (sides stack.new (O.state out.new) (W.contents writer.new.inner)) writer.new.failed) }
+{
+    let counts = recover_device(stack, device, out, writer)?;
+    match out.sync() {
+        Ok(()) => Ok(counts),
         Err(_) => Err(CommandFault::OutputFailed),
     }
 }

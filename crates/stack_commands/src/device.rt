@@ -59,7 +59,7 @@ pub fn recover_device<'a, O: BlockDev, W: Write>(
     requires room { size stack.old.config (mapped device.0) ≤ (O.state out.old).size }
     requires allowed { IsTrue (O.state out.old).may_write }
     ensures ok { IfOk result (λ counts. Recovers device.0 (sides stack.old (O.state out.old) (W.contents writer.old.inner)) counts (sides stack.new (O.state out.new) (W.contents writer.new.inner))) }
-    ensures err { IfErr result (IsRecoverEnd device.0 (sides stack.old (O.state out.old) (W.contents writer.old.inner)) (sides stack.new (O.state out.new) (W.contents writer.new.inner))) }
+    ensures err { IfErr result (IsRecoverEnd device.0 (sides stack.old (O.state out.old) (W.contents writer.old.inner)) (sides stack.new (O.state out.new) (W.contents writer.new.inner)) writer.new.failed) }
 {
     match recover(stack, device, out, writer) {
         Ok(counts) => Ok(counts),
@@ -75,7 +75,7 @@ pub fn tell_counts<'a, W: Write>(
     writer: &mut Counted<W>,
 ) -> Result<(), CommandFault<'a>>
     ensures ok { OnOk result (TellsCounts counts (W.contents writer.old.inner) (W.contents writer.new.inner)) }
-    ensures err { IfErr result (IsCountsEnd counts (W.contents writer.old.inner) (W.contents writer.new.inner)) }
+    ensures err { IfErr result (IsCountsEnd counts (W.contents writer.old.inner) (W.contents writer.new.inner) writer.new.failed) }
 {
     let Counts { read, lost } = counts;
     if lost > 0 {

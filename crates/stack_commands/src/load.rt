@@ -1,9 +1,9 @@
 // The command `load`: checks a stack, and says what its devices are.
-ghost use Rattle.std.specs.Prelude.{◌≡◌, ◌≤◌, ◌<◌, ◌^◌, codes, if◌then◌else◌, length, map, Ok, IfErr, OnOk};
+ghost use Rattle.std.specs.Prelude.{◌≡◌, ◌⊎◌, ◌≤◌, ◌<◌, ◌^◌, codes, if◌then◌else◌, length, map, Ok, IfErr, OnOk};
 ghost use Rattle.std.specs.Io.KnownBytes.{Appends};
 ghost use Rattle.stack_rules.specs.Records.{Configuration};
 ghost use Rattle.stack_session.specs.Counted.{Writes};
-ghost use Rattle.command_faults.specs.Endings.{IsQuiet};
+ghost use Rattle.command_faults.specs.Endings.{IsQuiet, IsUnwritten};
 ghost use Rattle.command_line.specs.Bindings.{binding_record};
 ghost use Rattle.stack_commands.specs.Configuration.{configuration_of, device_facts, device_line, devices_text};
 ghost use Rattle.stack_commands.specs.StackCommands.{FailsToList, FailsToLoad, IsStackEnd, PrintsDevices};
@@ -28,7 +28,7 @@ pub fn load_files<'a, R: Files<File = File> + AllocGlobal, W: Write>(
     writer: &mut Counted<W>,
 ) -> Result<(), CommandFault<'a>>
     ensures ok { OnOk result (PrintsDevices (map binding_record bindings.now) (W.contents writer.old.inner) (W.contents writer.new.inner)) }
-    ensures err { IfErr result (IsStackEnd stack.now (map binding_record bindings.now) FailsToList) }
+    ensures err { IfErr result (IsStackEnd stack.now (map binding_record bindings.now) (FailsToList writer.new.failed)) }
     ensures quiet { IfErr result (λ fault. IsQuiet fault (W.contents writer.old.inner) (W.contents writer.new.inner)) }
 {
     let text = stack_text(rt, stack)?;
@@ -47,7 +47,7 @@ fn load<'a, W: Write>(
     requires { length text.now ≤ 2 ^ 20 }
     ensures ok { OnOk result ((c : Configuration) × (configuration_of leaves.items text.now ≡ Ok c)
         × Appends (W.contents writer.old.inner) (W.contents writer.new.inner) (devices_text c)) }
-    ensures err { IfErr result (FailsToLoad leaves.items text.now) }
+    ensures err { IfErr result (λ fault. FailsToLoad leaves.items text.now fault ⊎ IsUnwritten writer.new.failed fault) }
     ensures quiet { IfErr result (λ fault. IsQuiet fault (W.contents writer.old.inner) (W.contents writer.new.inner)) }
 {
     match configuration_of(alloc, leaves, text) {

@@ -33,7 +33,7 @@ pub fn serve_client<'a, R: Files<File = File> + AllocGlobal, S: Read, W: Write>(
     writer: &mut Counted<W>,
 ) -> Result<(), CommandFault<'a>>
     ensures ok { OnOk result (ServesClient (map binding_record bindings.now) device.entry.name.now (streams (S.remaining reader.old.inner) (W.contents writer.old.inner)) (streams (S.remaining reader.new.inner) (W.contents writer.new.inner)) (Ok tt)) }
-    ensures err { IfErr result (IsClientEnd device.entry.stack.now (map binding_record bindings.now) device.entry.name.now (streams (S.remaining reader.old.inner) (W.contents writer.old.inner)) (streams (S.remaining reader.new.inner) (W.contents writer.new.inner))) }
+    ensures err { IfErr result (IsClientEnd device.entry.stack.now (map binding_record bindings.now) device.entry.name.now (streams (S.remaining reader.old.inner) (W.contents writer.old.inner)) (streams (S.remaining reader.new.inner) (W.contents writer.new.inner)) writer.new.failed) }
 {
     let text = stack_text(rt, device.stack)?;
     let over = open_all(rt, &[], bindings)?;

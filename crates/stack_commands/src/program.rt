@@ -51,7 +51,7 @@ fn run<'a, R: Files<File = File> + AllocGlobal + RandomSource, S: Read, W: Write
     requires reader { reader.old.failed ≡ false }
     requires writer { writer.old.failed ≡ false }
     ensures ok { OnOk result (IsDone (map string_bytes words.now) (streams (S.remaining reader.old.inner) (W.contents writer.old.inner)) (streams (S.remaining reader.new.inner) (W.contents writer.new.inner))) }
-    ensures err { IfErr result (IsRunEnd (map string_bytes words.now) (streams (S.remaining reader.old.inner) (W.contents writer.old.inner)) (streams (S.remaining reader.new.inner) (W.contents writer.new.inner))) }
+    ensures err { IfErr result (IsRunEnd (map string_bytes words.now) (streams (S.remaining reader.old.inner) (W.contents writer.old.inner)) (streams (S.remaining reader.new.inner) (W.contents writer.new.inner)) writer.new.failed) }
 {
     let CommandLine {
         invocation,
@@ -71,7 +71,7 @@ fn invoke<'a, R: Files<File = File> + AllocGlobal + RandomSource, S: Read, W: Wr
     requires reader { reader.old.failed ≡ false }
     requires writer { writer.old.failed ≡ false }
     ensures ok { OnOk result (Succeeds (invocation_record invocation.entry) (streams (S.remaining reader.old.inner) (W.contents writer.old.inner)) (streams (S.remaining reader.new.inner) (W.contents writer.new.inner))) }
-    ensures err { IfErr result (Fails (invocation_record invocation.entry) (streams (S.remaining reader.old.inner) (W.contents writer.old.inner)) (streams (S.remaining reader.new.inner) (W.contents writer.new.inner))) }
+    ensures err { IfErr result (Fails (invocation_record invocation.entry) (streams (S.remaining reader.old.inner) (W.contents writer.old.inner)) (streams (S.remaining reader.new.inner) (W.contents writer.new.inner)) writer.new.failed) }
 {
     match invocation {
         Invocation::Load { stack, bindings } => load_files(rt, stack, bindings.as_slice(), writer),

@@ -11,7 +11,7 @@ ghost use Rattle.command_line.specs.Bindings.{binding_record};
 ghost use Rattle.stack_commands.specs.Requests.{FailsToServe, IsServed, new_world, read_request};
 ghost use Rattle.stack_commands.specs.Configuration.{configuration_of};
 ghost use Rattle.command_faults.specs.Endings.{IsQuiet};
-ghost use Rattle.stack_commands.specs.StackCommands.{FailsToAsk, IsStackEnd, PrintsReply};
+ghost use Rattle.stack_commands.specs.StackCommands.{FailsToShow, IsStackEnd, PrintsReply};
 
 use crate::configuration::configuration_of;
 use crate::opening::{OpenLeaves, open_all, stack_text};
@@ -38,7 +38,7 @@ pub fn read_files<'a, R: Files<File = File> + AllocGlobal, W: Write>(
     writer: &mut Counted<W>,
 ) -> Result<(), CommandFault<'a>>
     ensures ok { OnOk result (PrintsReply (map binding_record bindings.now) (read_request sectors.entry) (W.contents writer.old.inner) (W.contents writer.new.inner)) }
-    ensures err { IfErr result (IsStackEnd stack.now (map binding_record bindings.now) (FailsToAsk (read_request sectors.entry))) }
+    ensures err { IfErr result (IsStackEnd stack.now (map binding_record bindings.now) (FailsToShow (read_request sectors.entry) writer.new.failed)) }
     ensures quiet { IfErr result (λ fault. IsQuiet fault (W.contents writer.old.inner) (W.contents writer.new.inner)) }
 {
     let text = stack_text(rt, stack)?;
@@ -61,7 +61,7 @@ fn read<'a, W: Write>(
     ensures ok { OnOk result ((c : Configuration) × (reply : Told) × (after : World) × (configuration_of over.leaves.items text.now ≡ Ok c)
         × IsServed (new_world (stack_over c (map ⟦<AnyDev as BlockDev>⟧.state over.devices.items))) (read_request sectors.entry) reply after
         × Appends (W.contents writer.old.inner) (W.contents writer.new.inner) (reply_text sectors.entry.first reply)) }
-    ensures err { IfErr result (FailsToAsk (read_request sectors.entry) over.leaves.items text.now (map ⟦<AnyDev as BlockDev>⟧.state over.devices.items)) }
+    ensures err { IfErr result (FailsToShow (read_request sectors.entry) writer.new.failed over.leaves.items text.now (map ⟦<AnyDev as BlockDev>⟧.state over.devices.items)) }
     ensures quiet { IfErr result (λ fault. IsQuiet fault (W.contents writer.old.inner) (W.contents writer.new.inner)) }
 {
     let OpenLeaves { leaves, devices } = over;

@@ -22,7 +22,7 @@ pub fn scan_files<'a, R: Files<File = File> + AllocGlobal, W: Write>(
     writer: &mut Counted<W>,
 ) -> Result<(), CommandFault<'a>>
     ensures ok { OnOk result (PrintsStates (map binding_record bindings.now) name.now (W.contents writer.old.inner) (W.contents writer.new.inner)) }
-    ensures err { IfErr result (IsScanEnd (device_words stack.now name.now (map binding_record bindings.now)) (W.contents writer.old.inner) (W.contents writer.new.inner)) }
+    ensures err { IfErr result (IsScanEnd (device_words stack.now name.now (map binding_record bindings.now)) (W.contents writer.old.inner) (W.contents writer.new.inner) writer.new.failed) }
 {
     let text = stack_text(rt, stack)?;
     let over = open_all(rt, &[], bindings)?;

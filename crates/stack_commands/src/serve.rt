@@ -26,7 +26,7 @@ pub fn serve_files<'a, R: Files<File = File> + AllocGlobal, S: Read, W: Write>(
     requires reader { reader.old.failed ≡ false }
     requires writer { writer.old.failed ≡ false }
     ensures ok { OnOk result (Serves (map binding_record bindings.now) (streams (S.remaining reader.old.inner) (W.contents writer.old.inner)) (streams (S.remaining reader.new.inner) (W.contents writer.new.inner)) (Ok tt)) }
-    ensures err { IfErr result (IsServeEnd (map binding_record bindings.now) (streams (S.remaining reader.old.inner) (W.contents writer.old.inner)) (streams (S.remaining reader.new.inner) (W.contents writer.new.inner))) }
+    ensures err { IfErr result (IsServeEnd (map binding_record bindings.now) (streams (S.remaining reader.old.inner) (W.contents writer.old.inner)) (streams (S.remaining reader.new.inner) (W.contents writer.new.inner)) writer.new.failed) }
 {
     let OpenLeaves { leaves, devices } = open_all(rt, &[], bindings)?;
     let config = Config::new(rt.alloc(), leaves)?;

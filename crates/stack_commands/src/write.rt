@@ -40,7 +40,7 @@ pub fn write_files<'a, R: Files<File = File> + AllocGlobal, W: Write>(
     writer: &mut Counted<W>,
 ) -> Result<(), CommandFault<'a>>
     ensures ok { OnOk result (PrintsWritten (map binding_record bindings.now) (write_request transfer.entry) (W.contents writer.old.inner) (W.contents writer.new.inner)) }
-    ensures err { IfErr result (IsWriteFilesEnd stack.now transfer.entry.source.now (map binding_record bindings.now) (write_request transfer.entry)) }
+    ensures err { IfErr result (IsWriteFilesEnd stack.now transfer.entry.source.now (map binding_record bindings.now) (write_request transfer.entry) writer.new.failed) }
     ensures quiet { IfErr result (λ fault. IsQuiet fault (W.contents writer.old.inner) (W.contents writer.new.inner)) }
 {
     let text = stack_text(rt, stack)?;

@@ -1,15 +1,13 @@
 -- What the cache keeps stays true.
-use Rattle.std.proofs.Common.{◌≡◌, ℕ, ◌+◌, ◌*◌, ◌<◌, Bool, ◌||◌, true, false, cond, List, [], length, get_or, All, Option, Some, None, Result, Ok, Err, refl, sym, ap, ◌∙◌, subst, arith}
+use Rattle.std.proofs.Common.{◌≡◌, ℕ, ◌*◌, ◌<◌, Bool, ◌||◌, true, false, cond, List, length, get_or, All, Option, Some, None, Result, Ok, Err, refl, sym, ap, ◌∙◌, subst}
 use Rattle.std.specs.Prelude.{option_map, OnOk, OnErr}
 use Rattle.std.specs.Option.{option_map_or}
-use Rattle.std.proofs.lemmas.List.Elements.{All-nil}
 use Rattle.std.specs.declared.alloc.AllocError.{AllocError}
 use Rattle.std.specs.Str.{bytes_eq}
 use Rattle.hash_tree.specs.Digests.{digest}
 use Rattle.block_device.specs.Device.{Device}
 use Rattle.dm_table.specs.declared.verity.Verity.{Verity}
 use Rattle.stack_rules.specs.declared.lower.Lower.TheVariants.{Leaf as leaf}
-use Rattle.stack_rules.specs.Names.{named}
 use Rattle.stack_rules.specs.Rules.{most_leaves}
 use Rattle.stack_rules.specs.Records.{Configuration}
 use Rattle.verified_cache.specs.Cache.{CachedBlock, CacheRecord, block_under, blocks_with, cache_after_find, cache_after_keep}
@@ -18,14 +16,14 @@ use Rattle.verified_cache.proofs.lemmas.AnswerLemmas.{block_under-is, All-block_
 use Rattle.stack_engine.specs.declared.tree.Extent.{Extent}
 use Rattle.stack_engine.specs.Outcomes.{Outcome, Images, mismatch, span, then_outcome}
 use Rattle.stack_engine.specs.Blocks.{checked, hash_sectors, hash_place}
-use Rattle.stack_engine.specs.Caches.{StackCache, IsFresh, IsCached, IsCacheOf, KeepsCache, IsPlaceOf}
+use Rattle.stack_engine.specs.Caches.{StackCache, IsCached, IsCacheOf, KeepsCache, IsPlaceOf}
 use Rattle.stack_engine.specs.Changes.{reached, AreWritten}
 use Rattle.stack_engine.specs.Standing.{contains, stands_on, name_stands_on, key_stands_on, cache_without_leaf, AreLeafSets, CoversBlocks}
 use Rattle.stack_engine.specs.Leaves.{images_of, AllSteady, AreRead}
 use Rattle.stack_engine.specs.Meaning.{said_at, said_by_name}
 use Rattle.stack_engine.specs.Places.{Place, place_of}
 use Rattle.stack_engine.specs.Reading.{Gets}
-use Rattle.stack_engine.specs.Walks.{HasVerity, IsBlock, checked_expected, place_named}
+use Rattle.stack_engine.specs.Walks.{HasVerity, IsBlock, checked_expected}
 use Rattle.stack_engine.proofs.lemmas.LeafListLemmas.{AreRead-none, AllSteady-kept, images-kept}
 use Rattle.stack_engine.proofs.lemmas.WalkLemmas.{checked-same}
 use Rattle.stack_engine.proofs.StandingLemmas.{or-true, name-stands, verity-stands}
@@ -169,16 +167,6 @@ module _ (c : Configuration) where
       kept = All-after_find (IsCached c leaves) key expected cache.blocks all.kept;
     });
   }
-
-  -- no block is kept
-  pub fresh-sound : (leaves : List Device) (capacity : ℕ) (cache : StackCache) → IsFresh c capacity cache → IsCacheOf c leaves cache
-  fresh-sound leaves capacity cache fresh =
-      let none : cache.blocks.blocks ≡ [] = ap (λ (k : CacheRecord). k.blocks) fresh.empty in
-      record {
-        sets = fresh.sets;
-        covers = subst (CoversBlocks c cache.covered) (sym none) (All-nil (λ b. (i : ℕ) → i < most_leaves → key_stands_on c i b.key ≡ true → contains cache.covered i ≡ true));
-        kept = subst (All (IsCached c leaves)) (sym none) (All-nil (IsCached c leaves));
-      }
 
   -- what a write to a leaf leaves, after the lines whose hash device stands on it were forgotten
   pub keeps-written : (i first n most : ℕ) (old new : List Device) (before cache : StackCache) → AreWritten (reached (λ s. (said_at c (leaf i) s).reaches) first n) old most new → IsCacheOf c old before

@@ -1,5 +1,5 @@
 -- Where the puts of runs and of devices may be cut in two.
-use Rattle.std.proofs.Common.{◌≡◌, ℕ, ◌+◌, ◌-◌, ◌*◌, ◌/◌, ◌%◌, ◌<◌, ◌≤◌, ◌⊎◌, Bool, false, List, ◌++◌, length, take, drop, refl, sym, ap, ◌∙◌, inl, inr, arith}
+use Rattle.std.proofs.Common.{◌≡◌, ℕ, ◌+◌, ◌-◌, ◌*◌, ◌/◌, ◌%◌, ◌<◌, ◌≤◌, ◌⊎◌, Bool, false, List, ◌++◌, length, take, drop, sym, ap, ◌∙◌, inl, inr, arith}
 use Rattle.std.specs.Prelude.{slice_get}
 use Rattle.std.proofs.lemmas.Bool.{cases_lt}
 use Rattle.std.proofs.lemmas.List.{length-append, length-take-le, length-drop, take-append-drop, append_assoc, nil_from_length}
@@ -7,7 +7,6 @@ use Rattle.std.proofs.lemmas.Nat.{div-add-mod', mod-mul-add, mod_below}
 use Rattle.std.proofs.Math.Nat.{add-mul, mul_assoc}
 use Rattle.dm_table.specs.declared.crypt.Crypt.{Crypt}
 use Rattle.dm_table.specs.declared.table.Target.TheVariants.{Crypt as crypt_target}
-use Rattle.stack_rules.specs.declared.lower.Lower.{Lower}
 use Rattle.stack_rules.specs.declared.lower.Lower.TheVariants.{Leaf as leaf}
 use Rattle.stack_rules.specs.Descend.{descend}
 use Rattle.stack_rules.specs.Records.{Configuration}
@@ -18,8 +17,8 @@ use Rattle.stack_rules.proofs.lemmas.UnitLemmas.{unit_sectors-some}
 use Rattle.stack_engine.specs.declared.cuts.Steps.{Steps}
 use Rattle.stack_engine.specs.declared.source.BlockPart.{BlockPart}
 use Rattle.stack_engine.specs.declared.source.Source.{Source}
-use Rattle.stack_engine.specs.declared.source.Source.TheVariants.{Below, Units, Zeros, Fails}
-use Rattle.stack_engine.specs.Cuts.{AreSteps, EndsStep, PutsInSteps}
+use Rattle.stack_engine.specs.declared.source.Source.TheVariants.{Units}
+use Rattle.stack_engine.specs.Cuts.{EndsStep, PutsInSteps}
 use Rattle.stack_engine.specs.Outcomes.{Images}
 use Rattle.stack_engine.specs.Meaning.{said_at}
 use Rattle.stack_engine.specs.Puts.{Put, then_put, Putting, runs_from, put_runs, together, in_one_run, unit_put, put_on}
@@ -54,35 +53,11 @@ step-later size a n some ends =
     let split : a + n ≡ (a / size + r / size) * size + r % size = omega (arith, div-add-mod' a size, div-add-mod' r size, add-mul (a / size) (r / size) size) in
     sym (mod-mul-add (a / size + r / size) size (r % size) (mod_below r size some)) ∙ ap (λ (k : ℕ). k % size) (sym split) ∙ ends
 
--- no step ends among few sectors
-pub none-cut : (puts : ℕ → Putting) (first n : ℕ) (steps : Steps) → AreSteps steps → n ≤ steps.size - steps.skip → PutsInSteps puts first n steps
-none-cut puts first n steps are few xs ys images some more fits ends =
-    let j : ℕ = steps.skip + length xs in
-    let low : j < steps.size = omega (arith, are.begins, few, more, fits) in
-    let split : j ≡ 0 * steps.size + j = omega arith in
-    let same : j % steps.size ≡ j = ap (λ (k : ℕ). k % steps.size) split ∙ mod-mul-add 0 steps.size j low in
-    absurd (omega (arith, same, ends, some))
-
 -- ---- runs
 
 pub leaf-cut : (c : Configuration) (i first n : ℕ) (steps : Steps) → PutsInSteps (put_on c (leaf i)) first n steps
 unfolding descend
 leaf-cut c i first n steps xs ys images some more fits ends = leaf-append i first xs ys images
-
-pub below-cut : (c : Configuration) (lower : Lower) (first n : ℕ) (steps : Steps) → PutsInSteps (put_on c lower) first n steps → PutsInSteps (source_put c (Below lower first)) 0 n steps
-below-cut c lower first n steps cut xs ys images some more fits ends =
-    let a : first ≡ first + 0 = omega arith in
-    let b : first + length xs ≡ first + (0 + length xs) = omega arith in
-    ap (λ (k : ℕ). put_on c lower k (xs ++ ys) images) (sym a)
-    ∙ cut xs ys images some more fits ends
-    ∙ ap (λ (k : ℕ). then_put (put_on c lower k xs images) (put_on c lower (first + length xs) ys)) a
-    ∙ ap (λ (k : ℕ). then_put (put_on c lower (first + 0) xs images) (put_on c lower k ys)) b
-
-pub zeros-cut : (c : Configuration) (n : ℕ) (steps : Steps) → PutsInSteps (source_put c Zeros) 0 n steps
-zeros-cut c n steps xs ys images some more fits ends = refl
-
-pub fails-cut : (c : Configuration) (n : ℕ) (steps : Steps) → PutsInSteps (source_put c Fails) 0 n steps
-fails-cut c n steps xs ys images some more fits ends = refl
 
 pub units-cut : (c : Configuration) (b : BlockPart) (n : ℕ) (steps : Steps) (crypt : Crypt) → IsLoaded c → HasCrypt c b.device.0 b.line crypt → AreUnits c b.device.0 b.line b.first n
     → steps.size % unit_sectors crypt ≡ 0 → steps.skip % unit_sectors crypt ≡ 0 → PutsInSteps (source_put c (Units b)) 0 n steps
@@ -113,9 +88,6 @@ units-cut c b n steps crypt loaded has units even begins xs ys images some more 
 module _ (c : Configuration) (d first at n : ℕ) (source : Source) (steps : Steps) (loaded : IsLoaded c) (size : 0 < steps.size) (may : SourceMayWrite c source) (apart : (at ≡ 0) ⊎ (in_one_run c d (first + at - 1) ≡ false))
     (before : PutsInSteps (put_on c (mapped d)) first at steps) (r : IsServed c d (first + at) n source)
     (cut : PutsInSteps (source_put c source) 0 n (record { size = steps.size; skip = (steps.skip + at) % steps.size })) where
-  abbrev puts : ℕ → Putting
-  puts = put_on c (mapped d)
-
   -- sectors are cut where the run begins
   at-run : (xs ys : List (List ℕ)) (images : Images) → length xs ≡ at → put_on c (mapped d) first (xs ++ ys) images ≡ then_put (put_on c (mapped d) first xs images) (put_on c (mapped d) (first + length xs) ys)
   at-run xs ys images is =

@@ -1,9 +1,9 @@
 -- The leaves on which the devices of a loaded configuration stand.
-use Rattle.std.proofs.Common.{◌≡◌, ◌≢◌, ℕ, zero, suc, ◌+◌, ◌*◌, ◌%◌, ◌^◌, ◌-◌, ◌<◌, ◌≤◌, Bool, true, false, not, ◌&&◌, ◌||◌, ◌==◌, ◌⊎◌, List, [], ◌∷◌, ◌++◌, length, get_or, set, map, take, Option, Some, None, refl, sym, ap, ◌∙◌, subst, arith, max, inl, inr}
+use Rattle.std.proofs.Common.{◌≡◌, ◌≢◌, ℕ, ◌+◌, ◌*◌, ◌%◌, ◌^◌, ◌<◌, ◌≤◌, Bool, true, false, not, ◌&&◌, ◌||◌, ◌==◌, ◌⊎◌, List, [], ◌∷◌, ◌++◌, length, get_or, set, take, Option, Some, None, refl, sym, ap, ◌∙◌, subst, arith, max, inl, inr}
 use Rattle.std.specs.Prelude.{filter_map, flat_map, slice_get, option_map, option_and_then, position}
 use Rattle.std.specs.Int.{bit_at, bit_not, w64}
 use Rattle.std.specs.Int.RustNames.{bit_or, bit_and}
-use Rattle.std.specs.List.{AllByRecursion, list_any, cons_option}
+use Rattle.std.specs.List.{list_any, cons_option}
 use Rattle.std.specs.Option.{option_map_or, option_or}
 use Rattle.std.specs.Str.{bytes_eq}
 use Rattle.std.proofs.lemmas.Bool.{cases_lt, cases_eq}
@@ -23,9 +23,9 @@ use Rattle.stack_rules.specs.Records.{Configuration, LeafRecord, DeviceRecord}
 use Rattle.stack_rules.specs.Names.{mapped, named, names, lines_of, lowers, path_of}
 use Rattle.stack_rules.specs.Descend.{descend, depth, depth_rule, known, most_devices}
 use Rattle.stack_rules.specs.Lines.{IsLine, names_at, lower_at}
-use Rattle.stack_rules.specs.Rules.{IsLoaded, IsValid, most_depth, most_leaves}
+use Rattle.stack_rules.specs.Rules.{IsLoaded, most_depth}
 use Rattle.stack_loader.proofs.lemmas.LoadedLineLemmas.{names-shallower}
-use Rattle.stack_rules.proofs.lemmas.UnrollLemmas.{AllOf, all_none, all_and, IsLocal, descend-rule, depth-rule, falls-at}
+use Rattle.stack_rules.proofs.lemmas.UnrollLemmas.{AllOf, all_and, IsLocal, descend-rule, depth-rule, falls-at}
 use Rattle.stack_rules.proofs.lemmas.ValidLemmas.{depth-low}
 use Rattle.stack_rules.proofs.lemmas.ValidLineLemmas.{few, few_lines}
 use Rattle.stack_engine.specs.declared.leaf_set.LeafSet.{LeafSet}
@@ -124,9 +124,6 @@ module _ (c : Configuration) where
     -- a mapped device has at least depth 1, and none is deeper than 8
     pub depth-some : (d : ℕ) → 0 < depth c (mapped d)
     depth-some d = let rule : depth c (mapped d) ≡ depth_rule c (depth c) (mapped d) = depth-rule c low (mapped d) in omega (arith, rule)
-
-    pub sets-none : (sets : List LeafSet) → AreSetsBelow c 1 sets
-    sets-none sets d low deep = absurd (omega (arith, deep, depth-some d))
 
     pub sets-all : (n : ℕ) (sets : List LeafSet) → most_depth < n → AreSetsBelow c n sets → AreLeafSets c sets
     sets-all n sets past all d low = let l : depth c (mapped d) ≤ most_depth = depth-low c loaded.valid (mapped d) in all d low (omega (arith, l, past))

@@ -1,5 +1,5 @@
 -- What is written to part of a unit, which is read, changed and written whole.
-use Rattle.std.proofs.Common.{◌≡◌, ◌≢◌, ℕ, zero, suc, ◌+◌, ◌-◌, ◌*◌, ◌/◌, ◌%◌, ◌<◌, ◌≤◌, IsTrue, List, [], ◌++◌, length, take, drop, Contains, Result, Ok, Err, refl, sym, ap, ◌∙◌, subst, arith}
+use Rattle.std.proofs.Common.{◌≡◌, ◌≢◌, ℕ, ◌+◌, ◌-◌, ◌*◌, ◌/◌, ◌%◌, ◌<◌, ◌≤◌, IsTrue, List, ◌++◌, length, take, drop, Contains, Result, Ok, Err, refl, sym, ap, ◌∙◌, subst, arith}
 use Rattle.std.specs.List.{concat}
 use Rattle.std.specs.Prelude.{slice_get}
 use Rattle.std.proofs.lemmas.List.{take_all, length-append, length-take, length-drop}
@@ -7,10 +7,9 @@ use Rattle.std.proofs.lemmas.Nat.{div-add-mod', div-mul-add}
 use Rattle.std.proofs.Math.Nat.{mul-add, mul-le-mul_right}
 use Rattle.block_device.specs.Device.{Device, sectors_of, spliced}
 use Rattle.block_device.proofs.lemmas.SectorLemmas.{put_at, put_run, concat-sectors_of}
-use Rattle.dm_table.specs.declared.crypt.Crypt.{Crypt}
 use Rattle.stack_rules.specs.declared.lower.Lower.{Lower}
 use Rattle.stack_rules.specs.Records.{Configuration}
-use Rattle.stack_rules.specs.Names.{mapped, named, lines_of, may_write}
+use Rattle.stack_rules.specs.Names.{mapped, lines_of, may_write}
 use Rattle.stack_rules.specs.Descend.{read_cost, write_cost}
 use Rattle.stack_rules.specs.Rules.{IsLoaded}
 use Rattle.stack_engine.specs.declared.fault.IoFault.{IoFault}
@@ -25,9 +24,8 @@ use Rattle.stack_engine.specs.Units.{decrypted_unit, encrypted_unit, unit_first}
 use Rattle.stack_engine.specs.Found.{FoundRecord}
 use Rattle.stack_engine.specs.Meaning.{Said, crypt_said, said_at}
 use Rattle.stack_engine.specs.Puts.{Put, stopped, read_put, encrypted_sectors, changed_unit, put_on}
-use Rattle.stack_engine.specs.Leaves.{images_of, AllSteady, Moves}
+use Rattle.stack_engine.specs.Leaves.{images_of, Moves}
 use Rattle.stack_engine.specs.Changes.{AllWhole, reached, AreWritten}
-use Rattle.stack_engine.specs.Places.{Read}
 use Rattle.stack_engine.specs.Reading.{Ends, Answers, MeetVerity, IsPlain}
 use Rattle.stack_engine.specs.Sources.{LieInUnit, IsWholeOf, cost_beneath, source_said, ReadsSource}
 use Rattle.stack_engine.specs.Writing.{sectors_in, put_on_line, MayEnd, IsPut, Writes, source_destination}
@@ -39,7 +37,7 @@ use Rattle.stack_engine.proofs.UnitSourceLemmas.{lies_in, begin-whole, part-some
 use Rattle.stack_engine.proofs.WritablePlainLemmas.{none-verity}
 use Rattle.stack_engine.proofs.lemmas.ChangeLemmas.{AreWritten-more, AreWritten-then, AreWritten-read}
 use Rattle.stack_engine.proofs.lemmas.LeafListLemmas.{AllSteady-kept, images-kept, failed_later}
-use Rattle.stack_engine.proofs.lemmas.SizeLemmas.{AreSized, span-length, sector-size}
+use Rattle.stack_engine.proofs.lemmas.SizeLemmas.{AreSized, sector-size}
 use Rattle.stack_engine.proofs.lemmas.SpanLemmas.{span_same, span_fails}
 use Rattle.stack_engine.proofs.lemmas.WriteRunLemmas.{length-sectors_in, MayEnd-as}
 
@@ -59,10 +57,6 @@ module _ (c : Configuration) (b : BlockPart) (whole : WholeUnit) (bytes : List �
 
   on : (lower : Lower) × IsUnitLine c b.device.0 of.has.line of.crypt lower
   on = unit-line c b.device.0 b.line 0 of.crypt loaded of.has
-
-  -- the unit's first sector
-  abbrev begin : ℕ
-  begin = b.first - b.first % unit_sectors of.crypt
 
   begin-is : b.first - b.first % unit_sectors of.crypt ≡ b.first / unit_sectors of.crypt * unit_sectors of.crypt
   begin-is = omega (arith, div-add-mod' b.first (unit_sectors of.crypt))
@@ -115,9 +109,6 @@ module _ (c : Configuration) (b : BlockPart) (whole : WholeUnit) (bytes : List �
   -- ---- what the unit means
 
   module _ (leaves : List Device) (all : AllWhole leaves) where
-    f : ℕ → Outcome
-    f t = (said_at c on.0 t).means (images_of leaves)
-
     sized : AreSized (λ t. (said_at c on.0 t).means (images_of leaves))
     sized t = sector-size c (images_of leaves) loaded (images-whole leaves all) on.0 t
 
@@ -211,10 +202,6 @@ module _ (c : Configuration) (b : BlockPart) (whole : WholeUnit) (bytes : List �
   }
 
   -- ---- the write
-
-  -- the bytes of the unit with the others in their place
-  abbrev changed : List ℕ → List ℕ
-  changed plain = put_at plain (512 * (b.first % unit_sectors of.crypt)) bytes
 
   changed-is : (plain : List ℕ) → length plain ≡ 512 * unit_sectors of.crypt
       → put_at plain (512 * (b.first % unit_sectors of.crypt)) bytes ≡ concat (spliced (sectors_of (unit_sectors of.crypt) plain) (b.first % unit_sectors of.crypt) (sectors_in bytes))

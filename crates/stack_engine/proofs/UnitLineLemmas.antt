@@ -1,6 +1,6 @@
 -- What a loaded configuration gives of a `crypt` line and its units.
-use Rattle.std.proofs.Common.{◌≡◌, ◌≢◌, ℕ, ◌+◌, ◌-◌, ◌*◌, ◌/◌, ◌%◌, ◌≤◌, ◌<◌, ◌==◌, Bool, true, false, cond, List, Option, Some, IsTrue, sym, ap, ◌∙◌, subst, refl, arith}
-use Rattle.std.specs.Prelude.{slice_get, is_some}
+use Rattle.std.proofs.Common.{◌≡◌, ◌≢◌, ℕ, ◌+◌, ◌*◌, ◌%◌, ◌≤◌, ◌==◌, Bool, true, false, cond, Option, Some, sym, ap, ◌∙◌, subst, refl, arith}
+use Rattle.std.specs.Prelude.{slice_get}
 use Rattle.std.specs.Option.{option_map_or}
 use Rattle.std.proofs.lemmas.Bool.{eqb-true}
 use Rattle.std.proofs.Math.Nat.{mul-add}
@@ -15,10 +15,9 @@ use Rattle.stack_rules.specs.Descend.{by_name, known, read_cost, write_cost}
 use Rattle.stack_rules.specs.Lines.{lower_at, key_at}
 use Rattle.stack_rules.specs.Rules.{IsLoaded}
 use Rattle.stack_loader.proofs.lemmas.CryptLineLemmas.{IsCryptLine, crypt-line, crypt-key}
-use Rattle.stack_engine.specs.declared.source.BlockPart.{BlockPart}
 use Rattle.stack_rules.specs.Units.{unit_sectors, unit_write_cost, crypt_of}
 use Rattle.stack_engine.specs.Meaning.{Said, none_said, crypt_said, line_said, said_at, said_by_name}
-use Rattle.stack_engine.specs.Sources.{HasTarget, AreUnits, LieInUnit, cost_of_crypt, cost_beneath, said_of_line, part_said}
+use Rattle.stack_engine.specs.Sources.{HasTarget, cost_of_crypt, said_of_line}
 use Rattle.stack_engine.proofs.StripeLemmas.{named-by, target-names}
 
 -- a crypt line of device d, and the leaf or device beneath it

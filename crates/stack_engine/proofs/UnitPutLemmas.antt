@@ -45,10 +45,6 @@ sectors_in-of bytes n len = let count : length bytes / 512 ≡ n = omega (arith,
 -- ---- runs of one unit
 
 module _ (c : Configuration) (d l : ℕ) (crypt : Crypt) (has : HasCrypt c d l crypt) (lower : Lower) (is : named c crypt.base.device ≡ Some lower) where
-  -- what a put of one run of the line does
-  abbrev run_put : ℕ → Putting
-  run_put w sectors images = unit_put (λ i t. (said_at c lower t).means i) (put_on c lower) crypt w sectors images
-
   -- by the device beneath
   pub line-put : (w : ℕ) (sectors : List (List ℕ)) (images : Images) → put_on_line c d l (slice_get (lines_of c d) l) w sectors images
       ≡ put_runs (unit_put (λ i t. (said_at c lower t).means i) (put_on c lower) crypt) (runs_from (together (crypt_target crypt)) w sectors) images
@@ -98,9 +94,6 @@ module _ (c : Configuration) (d l : ℕ) (crypt : Crypt) (has : HasCrypt c d l c
   -- ---- units one after another
 
   module _ (w : ℕ) (bytes : List ℕ) (n : ℕ) (aligned : w % unit_sectors crypt ≡ 0) (len : length bytes ≡ 512 * n) (whole : n % unit_sectors crypt ≡ 0) where
-    abbrev units_put : ℕ → Putting
-    units_put j sectors images = put_on_line c d l (slice_get (lines_of c d) l) (w + j) sectors images
-
     some-unit : 0 < unit_sectors crypt
     some-unit = omega (arith, unit_sectors-some crypt)
 

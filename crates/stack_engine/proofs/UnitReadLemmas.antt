@@ -1,9 +1,9 @@
 -- What is read of the units of a `crypt` line.
-use Rattle.std.proofs.Common.{◌≡◌, ◌++◌, [], ℕ, zero, suc, ◌+◌, ◌-◌, ◌*◌, ◌/◌, ◌%◌, ◌<◌, ◌≤◌, List, length, get_or, Contains, take, drop, Result, Ok, Err, All, refl, sym, ap, ◌∙◌, subst, arith}
+use Rattle.std.proofs.Common.{◌≡◌, ◌++◌, [], ℕ, zero, suc, ◌+◌, ◌-◌, ◌*◌, ◌/◌, ◌%◌, ◌<◌, ◌≤◌, List, length, get_or, Contains, take, drop, Ok, Err, All, refl, sym, ap, ◌∙◌, subst, arith}
 use Rattle.std.proofs.lemmas.List.{length-take-le, length-drop, take-append-drop, drop-drop}
 use Rattle.std.proofs.lemmas.List.Elements.{All-map}
 use Rattle.std.proofs.lemmas.Nat.{div-add-mod', div-mul-add, mod-mul-add, mod_below}
-use Rattle.std.proofs.Math.Nat.{add-mul, mul-le-mul_left}
+use Rattle.std.proofs.Math.Nat.{add-mul}
 use Rattle.xts_sector.specs.Units.{unit}
 use Rattle.block_device.specs.Device.{Device, IsSector}
 use Rattle.dm_table.specs.declared.crypt.Crypt.{Crypt}
@@ -16,7 +16,7 @@ use Rattle.stack_engine.specs.Outcomes.{Fault, Outcome, Images, joint_outcome, c
 use Rattle.dm_table.specs.Crypt.{sector_size}
 use Rattle.stack_rules.specs.Units.{unit_sectors}
 use Rattle.stack_engine.specs.Units.{decrypted_unit, decrypted_units, unit_number, unit_part, unit_first}
-use Rattle.stack_engine.specs.Found.{FoundRecord, entry_of, Grown}
+use Rattle.stack_engine.specs.Found.{entry_of, Grown}
 use Rattle.stack_engine.specs.Meaning.{Said, crypt_said, said_at}
 use Rattle.stack_engine.specs.Laws.{AreWhole}
 use Rattle.stack_engine.specs.Leaves.{images_of}
@@ -27,7 +27,7 @@ use Rattle.stack_rules.proofs.lemmas.UnitLemmas.{unit_sectors-some}
 use Rattle.stack_engine.proofs.lemmas.LeafListLemmas.{AreRead-none, AreRead-more}
 use Rattle.stack_engine.proofs.lemmas.FoundLemmas.{in-gathered}
 use Rattle.stack_engine.proofs.lemmas.RunLemmas.{part_left, fault_passes}
-use Rattle.stack_engine.proofs.lemmas.SizeLemmas.{AreSized, joint-parts, span-length, span-part, sector-size, crypt-size}
+use Rattle.stack_engine.proofs.lemmas.SizeLemmas.{AreSized, span-length, span-part, sector-size, crypt-size}
 use Rattle.stack_engine.proofs.lemmas.SpanLemmas.{span-add, span_same, span_fails}
 use Rattle.stack_engine.proofs.lemmas.UnitLemmas.{span-parts, unit-more, unit-fits, unit-is, unit-length, unit-sector, length-decrypted_units, part-decrypted}
 use Rattle.xts_sector.proofs.lemmas.UnitLemmas as xts

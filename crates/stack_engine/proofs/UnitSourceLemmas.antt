@@ -1,15 +1,13 @@
 -- Units of a `crypt` line, as the engine reads them.
-use Rattle.std.proofs.Common.{◌≡◌, ℕ, ◌+◌, ◌-◌, ◌*◌, ◌/◌, ◌%◌, ◌^◌, ◌<◌, ◌≤◌, List, [], length, take, drop, Contains, Option, Some, Result, Ok, Err, refl, sym, ap, ◌∙◌, subst, arith}
-use Rattle.std.specs.Prelude.{slice_get}
-use Rattle.std.proofs.lemmas.Nat.{div-add-mod', div-mul-add, mod-mul-add, mod_below}
+use Rattle.std.proofs.Common.{◌≡◌, ℕ, ◌+◌, ◌-◌, ◌*◌, ◌/◌, ◌%◌, ◌^◌, ◌<◌, ◌≤◌, List, [], take, drop, Contains, Some, Result, Ok, Err, sym, ap, ◌∙◌, subst, arith}
+use Rattle.std.proofs.lemmas.Nat.{div-add-mod', mod-mul-add}
 use Rattle.std.proofs.Math.Nat.{mul_assoc, mul-le-mul_right}
 use Rattle.block_device.specs.Device.{Device}
 use Rattle.dm_table.specs.declared.crypt.Crypt.{Crypt}
 use Rattle.dm_table.specs.declared.table.Line.{Line}
-use Rattle.dm_table.specs.declared.table.Target.TheVariants.{Crypt as crypt_target}
 use Rattle.stack_rules.specs.declared.lower.Lower.{Lower}
 use Rattle.stack_rules.specs.Records.{Configuration}
-use Rattle.stack_rules.specs.Names.{mapped, named, lines_of, size}
+use Rattle.stack_rules.specs.Names.{mapped, named, size}
 use Rattle.stack_rules.specs.Descend.{read_cost}
 use Rattle.stack_rules.specs.Rules.{IsLoaded}
 use Rattle.stack_engine.specs.declared.fault.IoFault.{IoFault}
@@ -25,7 +23,7 @@ use Rattle.stack_engine.specs.Meaning.{Said, crypt_said, said_at}
 use Rattle.stack_engine.specs.Changes.{AllWhole}
 use Rattle.stack_engine.specs.Places.{Read}
 use Rattle.stack_engine.specs.Reading.{Reads, Finds, IsPlain}
-use Rattle.stack_engine.specs.Sources.{HasCrypt, AreUnits, LieInUnit, IsWholeOf, said_of_line, source_said, source_place, ReadsSource}
+use Rattle.stack_engine.specs.Sources.{HasCrypt, AreUnits, LieInUnit, IsWholeOf, source_said, source_place, ReadsSource}
 use Rattle.stack_rules.proofs.lemmas.UnitLemmas.{unit_sectors-some, unit-bytes}
 use Rattle.stack_engine.proofs.UnitLineLemmas.{unit-line, unit-line-on, cost-beneath, unit-said, same-crypt}
 use Rattle.stack_engine.proofs.UnitReadLemmas.{units_said, units_place, units-some, units-meet, units_ok, units_err, same-first, part_ok, part_err}

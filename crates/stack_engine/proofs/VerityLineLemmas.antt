@@ -3,7 +3,7 @@ use Rattle.std.proofs.Common.{◌≡◌, ℕ, ◌+◌, ◌*◌, ◌/◌, ◌%◌
 use Rattle.std.proofs.lemmas.Bool.{eqb-true}
 use Rattle.std.proofs.Math.Nat.{mul_comm}
 use Rattle.std.proofs.lemmas.Nat.{div_below}
-use Rattle.hash_tree.specs.Shape.{IsShape, is_block_size, area_end}
+use Rattle.hash_tree.specs.Shape.{is_block_size, area_end}
 use Rattle.dm_table.specs.declared.verity.Verity.{Verity}
 use Rattle.dm_table.specs.declared.table.Line.{Line}
 use Rattle.dm_table.specs.declared.table.Target.TheVariants.{Verity as verity_target}
@@ -68,9 +68,6 @@ module _ (c : Configuration) (v : Verity) (tree : Tree) (loaded : IsLoaded c) (i
       let a : all.0 ≡ tree.data = cc in
       let b : all.1 ≡ tree.hash = cc in
       subst (λ (x : Lower). IsVerityLine c tree.device.0 is.is.line v x tree.hash) a (subst (λ (y : Lower). IsVerityLine c tree.device.0 is.is.line v all.0 y) b all.2)
-
-  pub tree-shape : IsShape (tree_of v)
-  tree-shape = facts.shape
 
   pub data-depth : depth c tree.data < depth c (mapped tree.device.0)
   data-depth = facts.below_shallower

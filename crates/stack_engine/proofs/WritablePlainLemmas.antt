@@ -1,6 +1,5 @@
 -- No verity line is on the way of a sector that may be written.
-use Rattle.std.proofs.Common.{◌≡◌, ℕ, zero, suc, ◌+◌, ◌-◌, ◌<◌, ◌≤◌, true, false, IsTrue, List, Option, Some, None, refl, sym, ap, ◌∙◌, subst, arith}
-use Rattle.dm_table.specs.declared.crypt.Crypt.{Crypt}
+use Rattle.std.proofs.Common.{◌≡◌, ℕ, zero, suc, ◌+◌, ◌<◌, true, false, IsTrue, List, Option, Some, None, refl, sym, ap, ◌∙◌, subst, arith}
 use Rattle.dm_table.specs.declared.table.Line.{Line}
 use Rattle.dm_table.specs.declared.table.Target.{Target}
 use Rattle.dm_table.specs.declared.table.Target.TheVariants.{Linear, Striped, Zero, Error, Crypt as crypt_target, Verity as verity_target}
@@ -12,9 +11,8 @@ use Rattle.stack_rules.specs.Descend.{depth, known}
 use Rattle.stack_rules.specs.Lines.{line_at, IsLine}
 use Rattle.stack_rules.specs.Rules.{IsLoaded}
 use Rattle.stack_loader.proofs.lemmas.VerityLineLemmas.{verity-line}
-use Rattle.stack_engine.specs.Sectors.{on_found, SomeOf}
-use Rattle.stack_engine.specs.Outcomes.{Fault, error_target, mismatch}
-use Rattle.stack_rules.specs.Units.{unit_sectors}
+use Rattle.stack_engine.specs.Sectors.{on_found}
+use Rattle.stack_engine.specs.Outcomes.{error_target, mismatch}
 use Rattle.stack_engine.specs.Units.{unit_first}
 use Rattle.stack_engine.specs.Beneath.{beneath, said_or}
 use Rattle.stack_engine.specs.Meaning.{Said, leaf_said, none_said, line_said, said_at, said_by_name}

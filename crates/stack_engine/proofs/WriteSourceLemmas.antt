@@ -124,9 +124,6 @@ below-alike c lower first sectors = record {
   cost = omega arith;
 }
 
-pub zeros-written : (c : Configuration) (sectors : List (List ℕ)) (leaves : List Device) → Writes (source_destination c Zeros) 0 sectors leaves leaves (Ok tt)
-zeros-written c sectors leaves = record { moved = AreWritten-none _ _ leaves; ends = tt; grown = λ e. cc; exact = λ steady. refl }
-
 pub fails-written : (c : Configuration) (sectors : List (List ℕ)) (leaves : List Device) → 0 < length sectors → Writes (source_destination c Fails) 0 sectors leaves leaves (Err io.ErrorTarget)
 fails-written c sectors leaves some = record { moved = AreWritten-none _ _ leaves; ends = (0, some, refl); grown = λ e. cc; exact = λ steady. refl }
 

@@ -17,8 +17,3 @@ survey-push d first w [] mid r s p =
 survey-push d first w (x ∷ more) mid r s p =
     let at : first + length (all_states (x ∷ more)) ≡ first + length (states_of x) + length (all_states more) = omega (arith, length-append (states_of x) (all_states more)) in
     (s.0, survey-push d (first + length (states_of x)) x.after more mid r s.1 (subst (λ (k : ℕ). IsPieceRead d k mid r) at p))
-
--- the configuration stays
-pub survey-config : (d first : ℕ) (w : StackRecord) (reads : List PieceRead) (w' : StackRecord) → IsSurvey d first w reads w' → w'.config ≡ w.config
-survey-config d first w [] w' s = ap (λ (v : StackRecord). v.config) s
-survey-config d first w (x ∷ more) w' s = survey-config d (first + length (states_of x)) x.after more w' s.1 ∙ s.0.answered.any.config

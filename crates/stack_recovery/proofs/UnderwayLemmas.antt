@@ -121,12 +121,13 @@ module _ (d : ℕ) (old now : Sides) (at : ℕ) (tally : Tally) (u : IsUnderway 
 
   -- all sectors
   pub underway-all : (printed : Option (List ℕ)) (sectors : ℕ) (counts : Counts) → at ≡ size old.stack.config (mapped d) → sectors ≡ at → Appends now.printed printed (runs_text (listed tally.last))
-      → counts ≡ record { read = sectors - tally.lost; lost = tally.lost } → Recovers d old counts (sides now.stack now.out printed)
-  underway-all printed sectors counts end all told is = record {
+      → counts ≡ record { read = sectors - tally.lost; lost = tally.lost } → now.out.failures ≡ old.out.failures → Recovers d old counts (sides now.stack now.out printed)
+  underway-all printed sectors counts end all told is unfailed = record {
     reads = u.reads;
     survey = u.survey;
     whole = sym u.here ∙ end;
     copied = u.copied;
+    unfailed = unfailed;
     printed = rw (tallied-all (all_states u.reads) u.closed tally.last u.tallied) (runs-then old.printed now.printed printed u.closed (listed tally.last) u.printed told);
     counted = is ∙ ap (λ (m : ℕ). record { read = m - tally.lost; lost = tally.lost }) (all ∙ u.here) ∙ ap (λ (m : ℕ). record { read = length (all_states u.reads) - m; lost = m }) u.lost;
   }

@@ -1,16 +1,12 @@
 -- Lost sectors of a verity line.
-use Rattle.std.proofs.Common.{◌≡◌, ℕ, ◌+◌, ◌-◌, ◌/◌, ◌<◌, ◌≤◌, List, Ok, Err, Some, refl, sym, ap, ◌∙◌, arith}
-use Rattle.dm_table.specs.declared.table.Line.{Line}
+use Rattle.std.proofs.Common.{◌≡◌, ℕ, ◌+◌, ◌-◌, ◌/◌, ◌<◌, ◌≤◌, List, Ok, Err, sym, ap, ◌∙◌, arith}
 use Rattle.dm_table.specs.declared.table.Target.{Target}
 use Rattle.dm_table.specs.declared.table.Target.TheVariants.{Verity as verity_target}
-use Rattle.dm_table.specs.declared.verity.Verity.{Verity}
 use Rattle.stack_rules.specs.Names.{mapped}
-use Rattle.stack_rules.specs.Records.{Configuration}
-use Rattle.stack_rules.specs.Rules.{IsLoaded}
 use Rattle.stack_rules.specs.Trees.{block_sectors}
 use Rattle.stack_engine.specs.Kept.{block_of}
 use Rattle.stack_engine.specs.Meaning.{Said, content_part, line_said, said_by_name, sector}
-use Rattle.stack_engine.specs.Outcomes.{Fault, Images, Outcome, then_outcome}
+use Rattle.stack_engine.specs.Outcomes.{Fault, Outcome, then_outcome}
 use Rattle.stack_engine.proofs.lemmas.EachLineLemmas.{line_at-end}
 use Rattle.stack_engine.proofs.lemmas.LineLemmas.{line-start}
 use Rattle.stack_engine.proofs.lemmas.SectorLemmas.{said_at-line}

@@ -1,5 +1,5 @@
 -- What going over a mapped device does.
-use Rattle.std.specs.Prelude.{◌≡◌, ℕ, ◌-◌, IsTrue, List, ◌++◌, length, Option}
+use Rattle.std.specs.Prelude.{◌≡◌, ℕ, ◌-◌, Bool, true, IsTrue, List, ◌++◌, length, Option}
 use Rattle.std.specs.Io.KnownBytes.{Appends}
 use Rattle.block_device.specs.Device.{Device, HasFailed}
 use Rattle.stack_rules.specs.Names.{mapped, size}
@@ -29,6 +29,7 @@ pub record Recovers (d : ℕ) (old : Sides) (counts : Counts) (new : Sides) : Ty
   pub survey : IsSurvey d 0 old.stack reads new.stack
   pub whole : length (all_states reads) ≡ size old.stack.config (mapped d)
   pub copied : IsCopied reads old.out new.out
+  pub unfailed : new.out.failures ≡ old.out.failures
   pub printed : Appends old.printed new.printed (runs_text (lost_runs 0 (all_states reads)))
   pub counted : counts ≡ record { read = length (all_states reads) - lost_in (all_states reads); lost = lost_in (all_states reads) }
 
@@ -42,8 +43,8 @@ pub record IsBegun (d : ℕ) (old new : Sides) : Type 0 where
   pub first : lost_runs 0 (all_states reads) ≡ runs ++ more
   pub printed : Appends old.printed new.printed (runs_text runs)
 
--- why it ended early
-abbrev pub IsRecoveryEnd : ℕ → Sides → Sides → RecoveryFault → Type 0
-IsRecoveryEnd d old new NoMemory = IsBegun d old new
-IsRecoveryEnd d old new Output = IsBegun d old new × (((before : Device) × HasFailed before new.out) × (IsTrue old.out.never_fails → ⊥))
-IsRecoveryEnd d old new Write = Unit {0}
+-- why it ended early, where the last says whether the writer failed
+abbrev pub IsRecoveryEnd : ℕ → Sides → Sides → Bool → RecoveryFault → Type 0
+IsRecoveryEnd d old new failed NoMemory = IsBegun d old new
+IsRecoveryEnd d old new failed Output = IsBegun d old new × (HasFailed old.out new.out × (IsTrue old.out.never_fails → ⊥))
+IsRecoveryEnd d old new failed Write = failed ≡ true

@@ -34,7 +34,7 @@ pub fn recover<D: BlockDev, O: BlockDev, W: Write>(
     requires room { size stack.old.config (mapped d.0) ≤ (O.state out.old).size }
     requires allowed { IsTrue (O.state out.old).may_write }
     ensures ok { IfOk result (λ counts. Recovers d.0 (sides stack.old (O.state out.old) (W.contents writer.old.inner)) counts (sides stack.new (O.state out.new) (W.contents writer.new.inner))) }
-    ensures err { IfErr result (IsRecoveryEnd d.0 (sides stack.old (O.state out.old) (W.contents writer.old.inner)) (sides stack.new (O.state out.new) (W.contents writer.new.inner))) }
+    ensures err { IfErr result (IsRecoveryEnd d.0 (sides stack.old (O.state out.old) (W.contents writer.old.inner)) (sides stack.new (O.state out.new) (W.contents writer.new.inner)) writer.new.failed) }
 {
     let sectors = stack.config().sectors(d);
     let mut tally = Tally::new();

@@ -1,13 +1,12 @@
 -- What a line asks for, by its first word.
-use Rattle.std.proofs.Common.{◌≡◌, ◌≤◌, ℕ, List, [], ◌∷◌, length, drop, ap, sym, ◌∙◌, refl, arith, length-drop, Option, Some, None, Result, Ok, Err}
+use Rattle.std.proofs.Common.{◌≡◌, ℕ, List, [], ◌∷◌, ap, sym, ◌∙◌, refl, Option, Some, None, Result, Ok, Err}
 use Rattle.std.specs.Prelude.{option_map, slice_index}
 use Rattle.std.specs.Result.{result_ok, MatchResult}
 use Rattle.hex.specs.Hex.{decode_sized}
 use Rattle.hex.specs.declared.error.FromHexError.{FromHexError}
-use Rattle.std.specs.List.{prefix_len, position_or_len}
-use Rattle.dm_table.specs.Words.{words, is_white}
+use Rattle.dm_table.specs.Words.{words}
 use Rattle.stack_session.specs.declared.verb.Verb.{Verb}
-use Rattle.stack_session.specs.Commands.{command_of, words_command, verb_command, verb_of, after_word, byte_of, nothing}
+use Rattle.stack_session.specs.Commands.{command_of, words_command, verb_command, verb_of, byte_of, nothing}
 
 pub command_of-nothing : (line : List ℕ) → words line ≡ [] → command_of line ≡ nothing
 unfolding command_of
@@ -18,12 +17,6 @@ pub command_of-words : (line word : List ℕ) (more : List (List ℕ)) (verb : O
 unfolding command_of
 command_of-words line word more verb cut is =
     ap (words_command line) cut ∙ ap (λ v. verb_command v line more) (sym is)
-
--- the text of a load is a part of its line
-pub length-after_word : (line : List ℕ) → length (after_word line) ≤ length line
-unfolding after_word
-length-after_word line =
-    omega (arith, length-drop (prefix_len is_white line) line, length-drop (position_or_len is_white (drop (prefix_len is_white line) line)) (drop (prefix_len is_white line) line))
 
 -- what a decoder into one byte answers
 abbrev pub Decodes : List ℕ → List ℕ → Result Unit FromHexError → Type 0

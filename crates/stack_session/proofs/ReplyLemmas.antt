@@ -7,22 +7,16 @@ use Rattle.stack_rules.specs.declared.lower.DevId.{DevId}
 use Rattle.stack_rules.specs.Records.{Configuration}
 use Rattle.stack_rules.specs.Names.{device_named}
 use Rattle.request_queue.specs.declared.fault.SubmitFault.TheVariants.{NoSuchDevice}
-use Rattle.stack_engine.specs.declared.fault.IoFault.{IoFault}
-use Rattle.request_queue.specs.declared.fault.NoSuchTicket.{NoSuchTicket}
 use Rattle.request_queue.specs.declared.fault.SubmitFault.{SubmitFault}
-use Rattle.request_queue.specs.declared.reply.Progress.{Progress}
-use Rattle.request_queue.specs.declared.reply.Reply.{Reply}
 use Rattle.request_queue.specs.Parts.{EachPart}
 use Rattle.request_queue.specs.Requests.{RequestRecord}
-use Rattle.request_queue.specs.WholeRuns.{RunAnswers}
 use Rattle.request_queue.specs.World.{World, Step}
 use Rattle.request_queue.specs.World as event
 use Rattle.stack_session.specs.declared.fault.WriteFault.{WriteFault}
-use Rattle.stack_session.specs.Accesses.{first_of}
-use Rattle.stack_session.specs.Commands.{run, submit, step}
+use Rattle.stack_session.specs.Commands.{submit}
 use Rattle.stack_session.specs.Counted.{CountedRecord, Grows, Writes, WritesSome}
-use Rattle.stack_session.specs.Texts.{submit_text, submission_text, run_text, step_text}
-use Rattle.stack_session.specs.Replies.{device_text, first_sector, RepliesTo, WholeStep}
+use Rattle.stack_session.specs.Texts.{submit_text, submission_text}
+use Rattle.stack_session.specs.Replies.{device_text, RepliesTo, WholeStep}
 use Rattle.stack_session.proofs.lemmas.CountedLemmas.{Writing-as}
 
 named-none : (o : Option ℕ) → None ≡ option_map {U = DevId} (λ d. record { 0 = d }) o → o ≡ None
@@ -54,15 +48,6 @@ writes_some {old = old} {new = new} contents P reply holds writes =
     Writing-as (λ (grown : Appends (contents old.inner) (contents new.inner) reply).
     let grows : Grows (contents old.inner) (contents new.inner) P = record { text = reply; holds = holds; written = grown } in grows) writes
 
--- requests, of which the queue sees the record that the words give
-pub run_replies : (w w' : World) (r s : RequestRecord) (result : Result (Result Reply IoFault) SubmitFault) → s ≡ r → Step EachPart w (event.run s result) w' → RunAnswers w s result w'
-    → RepliesTo WholeStep w (run r) (run_text (first_of r) result) w'
-run_replies w w' r s result same each whole = subst (λ x. RepliesTo WholeStep w (run x) (run_text (first_of x) result) w') same (inl (result, record { each = each; whole = whole }, refl))
-
 pub submit_replies : (w w' : World) (r s : RequestRecord) (result : Result ℕ SubmitFault) → s ≡ r → Step EachPart w (event.submit s result) w'
     → RepliesTo WholeStep w (submit r) (submission_text result) w'
 submit_replies w w' r s result same each = subst (λ x. RepliesTo WholeStep w (submit x) (submission_text result) w') same (inl (result, record { each = each; whole = tt }, refl))
-
-pub step_replies : (w w' : World) (ticket : ℕ) (result : Result Progress NoSuchTicket) → Step EachPart w (event.step ticket result) w'
-    → RepliesTo WholeStep w (step ticket) (step_text (first_sector w ticket) result) w'
-step_replies w w' ticket result each = (result, record { each = each; whole = tt }, refl)

@@ -1,5 +1,5 @@
 -- Sectors that are printed one after another.
-use Rattle.std.proofs.Common.{◌≡◌, ℕ, zero, suc, ◌+◌, ◌-◌, ◌/◌, ◌<◌, ◌≤◌, List, [], ◌++◌, length, take, drop, refl, ap, sym, ◌∙◌, append_assoc, append-nil, arith, subst, length-drop}
+use Rattle.std.proofs.Common.{◌≡◌, ℕ, zero, suc, ◌+◌, ◌-◌, ◌/◌, ◌<◌, ◌≤◌, List, [], ◌++◌, length, take, drop, refl, ap, sym, ◌∙◌, append_assoc, arith, length-drop}
 use Rattle.std.specs.Prelude.{Option}
 use Rattle.std.specs.Io.KnownBytes.{Appends}
 use Rattle.std.proofs.KnownBytes.{Appends-nil, Appends-trans}
@@ -24,10 +24,6 @@ saying_starts first bytes w = record {
   joined = refl;
 }
 
--- a sector is left, so its number is below the last one's
-pub saying_number : {first number : ℕ} {bytes rest : List ℕ} {old new : Option (List ℕ)} → Saying first bytes number rest old new → 512 ≤ length rest → number < first + length bytes / 512
-saying_number s some = omega (arith, s.size, s.numbered, some)
-
 lines_split : (count number : ℕ) (rest : List ℕ) → 0 < count → sector_lines count number rest ≡ sector_line number (take 512 rest) ++ sector_lines (count - 1) (number + 1) (drop 512 rest)
 lines_split zero number rest some = let no : ⊥ = omega (arith, some) in absurd no
 lines_split (suc count) number rest some = let same : suc count - 1 ≡ count = omega arith in rw same refl
@@ -45,15 +41,3 @@ saying_more {first} {number} {bytes} {rest} {old} {mid} new s some line = record
       s.joined ∙ ap (λ t. s.done ++ t) (lines_split s.count number rest more)
       ∙ sym (append_assoc s.done (sector_line number (take 512 rest)) (sector_lines (s.count - 1) (number + 1) (drop 512 rest)));
 }
-
-none_left : (count number : ℕ) (rest : List ℕ) → count ≡ 0 → sector_lines count number rest ≡ []
-none_left zero number rest none = refl
-none_left (suc count) number rest none = let no : ⊥ = omega (arith, none) in absurd no
-
--- no whole sector is left
-pub saying_ends : {first number : ℕ} {bytes rest : List ℕ} {old new : Option (List ℕ)} → Saying first bytes number rest old new → length rest < 512
-    → Appends old new (sector_lines (length bytes / 512) first bytes)
-saying_ends {first} {number} {bytes} {rest} {old} {new} s none =
-    subst (λ t. Appends old new t)
-    (sym (s.joined ∙ ap (λ t. s.done ++ t) (none_left s.count number rest (omega (arith, s.size, none))) ∙ append-nil s.done))
-    s.written

@@ -18,12 +18,13 @@ use crate::reply::{
     say_text_fault, say_ticket, say_usage,
 };
 use block_device::BlockDev;
-use dm_table::{ParseFault, parse_stack};
+use dm_table::ParseFault;
 use request_queue::{Held, NoSuchTicket, Progress, Queue, RunFault, SubmitFault, Ticket};
 use stack_loader::LoadFault;
 use std::alloc::Global;
 use std::io::{Read, Write};
 use table_printer::print_table;
+use table_reader::parse_stack;
 
 // Loads a text, and replies to that. A fault of the text goes before requests in flight.
 fn reply_to_load<D: BlockDev, W: Write>(

@@ -9,10 +9,10 @@ mod replaced;
 mod steps;
 mod trees;
 
-use dm_table::parse_stack;
 use stack_loader::{Config, Leaf, LoadFault, LoadKind, Refusal};
 use std::alloc::Global;
 use std::test::Fail;
+use table_reader::parse_stack;
 
 fn leaf(alloc: Global, name: &[u8], sectors: u64, writable: bool) -> Result<Leaf, Fail> {
     Ok(Leaf {

@@ -11,11 +11,11 @@ mod zero_blocks;
 ghost use Rattle.std.specs.Prelude.{◌≡◌, ◌∷◌, [], IfOk};
 
 use block_device::{BlockDev, FailAt, MemoryDev, ScriptDev};
-use dm_table::parse_stack;
 use stack_engine::{Answer, IoFault, Stack};
 use stack_loader::{Config, Leaf};
 use std::alloc::{AllocError, Global};
 use std::test::Fail;
+use table_reader::parse_stack;
 
 fn pair<T: Drop>(alloc: Global, a: T, b: T) -> Result<Vec<T>, AllocError>
     ensures { IfOk result (λ v. v.items ≡ a ∷ b ∷ []) }

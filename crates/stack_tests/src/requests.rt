@@ -4,7 +4,6 @@ mod failing;
 ghost use Rattle.std.specs.Prelude.{◌≡◌, ◌∷◌, [], IfOk};
 
 use block_device::{BlockDev, FailAt, MemoryDev};
-use dm_table::parse_stack;
 use request_queue::{
     Held, NoSuchTicket, Progress, Queue, Reply, Request, RunFault, SubmitFault, Ticket,
 };
@@ -13,6 +12,7 @@ use stack_loader::{Config, Leaf, RemoveFault};
 use std::alloc::{AllocError, Global};
 use std::rt::HostRuntime;
 use std::test::Fail;
+use table_reader::parse_stack;
 
 fn one<T: Drop>(alloc: Global, a: T) -> Result<Vec<T>, AllocError>
     ensures { IfOk result (λ v. v.items ≡ a ∷ []) }

@@ -1,11 +1,12 @@
 //! What no session shows, which reads stack texts alone: tables as texts of their own, and what a stack text gives.
 mod rows;
 
-use dm_table::{ParseFault, StackText, Target, parse_stack, parse_table};
+use dm_table::{ParseFault, StackText, Target};
 use rows::{CRYPT, EACH_TARGET, HIDDEN, VERITY};
 use std::alloc::Global;
 use std::test::Fail;
 use table_printer::print_table;
+use table_reader::{parse_stack, parse_table};
 
 const SPELLED: &str =
     "0 8 linear D 2\n8 32 striped 2 8 A 0 /dev/mapper/b 16\n40 1 error\n41 18446744073709551615 zero\n";

@@ -25,6 +25,3 @@ pub then_words : (before between after : List ℕ) (words more : List Word) → 
 then_words before between after words more first rest =
     rest ∙ ap (λ t. t ++ flat_map spaced_word more) first ∙ append_assoc before (flat_map spaced_word words) (flat_map spaced_word more)
     ∙ ap (λ t. before ++ t) (sym (spaced-append words more))
-
-pub then_none : (after : List ℕ) → after ≡ after ++ flat_map spaced_word []
-then_none after = sym (append-nil after)

@@ -1,5 +1,5 @@
 -- Printed options read back.
-use Rattle.std.proofs.Common.{◌≡◌, true, not, ◌&&◌, ◌||◌, List, [], ◌∷◌, length, decimal, Ok, refl, ap, sym, subst, ◌∙◌, inl, inr, arith}
+use Rattle.std.proofs.Common.{◌≡◌, true, not, ◌&&◌, ◌||◌, List, [], ◌∷◌, length, decimal, Ok, refl, ap, sym, subst, ◌∙◌, inl, inr}
 use Rattle.std.specs.Str.{bytes_eq}
 use Rattle.std.proofs.lemmas.Bool.{cases_Bool, and_parts}
 use Rattle.std.proofs.lemmas.Slice.Eq.{bytes_eq-Decides}
@@ -33,12 +33,3 @@ known-printed known (word ∷ more) h e =
 pub printed-options : (known options : List Word) → ArePrinted known → AreOptionsOfGrammar known options → ArePrinted (options_words options)
 printed-options known [] h g = tt
 printed-options known (word ∷ more) h g = (printed-decimal (length (word ∷ more)) g.count, known-printed known (word ∷ more) h g.each)
-
--- the count stands before some options
-pub options_words-some : (options : List Word) → (length options ≡ 0 → ⊥) → options_words options ≡ decimal (length options) ∷ options
-options_words-some [] some = absurd (some refl)
-options_words-some (word ∷ more) some = refl
-
-pub options_words-none : (options : List Word) → length options ≡ 0 → options_words options ≡ []
-options_words-none [] none = refl
-options_words-none (word ∷ more) none = absurd (omega arith)

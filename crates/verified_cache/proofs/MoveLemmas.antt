@@ -25,10 +25,6 @@ module _ {X : Type 0} where
   cut_at (x ∷ xs) zero h = ([], x, xs, refl, refl)
   cut_at (x ∷ xs) (suc i) h = let on = cut_at xs i (omega arith) in let long = on.4 in (x ∷ on.0, on.1, on.2, ap (λ l. x ∷ l) on.3, omega arith)
 
-  last_is : (us : List X) (x : X) → slice_get (us ++ x ∷ []) (length us) ≡ Some x
-  last_is [] x = refl
-  last_is (u ∷ us) x = last_is us x
-
   -- the last element, and those before it
   pub last_cut : (xs : List X) (x : X) → Some x ≡ slice_get xs (length xs - 1) → xs ≡ take (length xs - 1) xs ++ x ∷ []
   last_cut xs x h =

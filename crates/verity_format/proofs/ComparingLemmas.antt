@@ -1,7 +1,7 @@
 -- Hash blocks compared one after another.
-use Rattle.std.proofs.Common.{◌≡◌, ◌≢◌, ◌≤◌, ◌<◌, ◌+◌, ◌-◌, ◌*◌, ◌/◌, ◌^◌, ℕ, suc, List, [], ◌∷◌, ◌++◌, All, IsTrue, length, take, get_or, min, refl, sym, ap, ◌∙◌, subst, arith, Option, None, Some, Bool, true, false, not}
+use Rattle.std.proofs.Common.{◌≡◌, ◌≢◌, ◌≤◌, ◌<◌, ◌+◌, ◌-◌, ◌*◌, ◌/◌, ◌^◌, ℕ, List, [], ◌++◌, All, IsTrue, length, take, get_or, min, refl, sym, ap, ◌∙◌, subst, arith, Option, None, Some, Bool, true, false, not}
 use Rattle.std.proofs.Math.Nat.{zero-mul, mul-le-mul_right}
-use Rattle.std.proofs.lemmas.List.{append-nil, append_assoc, length-append, ext_get_or, length-take-le, get_or-take}
+use Rattle.std.proofs.lemmas.List.{length-append, ext_get_or, length-take-le, get_or-take}
 use Rattle.std.proofs.lemmas.List.Elements.{All-nil}
 use Rattle.std.proofs.lemmas.List.FromFn.{get_or-map-range_with_len, length-map-range_with_len}
 use Rattle.std.proofs.lemmas.List.Sorted.{IsPermutation-refl}
@@ -10,7 +10,7 @@ use Rattle.std.proofs.lemmas.Bool.Decides.{not_from_Decides}
 use Rattle.std.specs.Str.{bytes_eq}
 use Rattle.block_device.specs.Device.{Device}
 use Rattle.hash_tree.specs.Difference.{FirstDiffer}
-use Rattle.hash_tree.specs.Shape.{ShapeRecord, IsShape, sectors_of, area_blocks, area_end}
+use Rattle.hash_tree.specs.Shape.{ShapeRecord, IsShape, area_blocks}
 use Rattle.hash_tree.specs.Tree.{area, root}
 use Rattle.hash_tree.specs.Building.{BuilderRecord, PlacedRecord, IsAreaBlock, begun_builder, pushed, completed, last_completed, built_root, numbered}
 use Rattle.hash_tree.specs.Placing.{IsLeastDiffering}
@@ -18,8 +18,8 @@ use Rattle.hash_tree.proofs.lemmas.BuilderLemmas.{completed-none}
 use Rattle.hash_tree.proofs.lemmas.BuildingLemmas.{builds-area}
 use Rattle.hash_tree.proofs.lemmas.PlacingLemmas.{least-permutation, same-inside, least-inside, least-among}
 use Rattle.verity_format.specs.Blocks.{IsFullRead, block_at, blocks_at}
-use Rattle.verity_format.specs.Image.{tree_sectors, digests_of, area_over, root_over}
-use Rattle.verity_format.specs.Growth.{IsRunTaken, IsTaken}
+use Rattle.verity_format.specs.Image.{tree_sectors, area_over}
+use Rattle.verity_format.specs.Growth.{IsRunTaken}
 use Rattle.verity_format.specs.Comparing.{LiesOn, IsLeastWith, IsComparing, IsTreeCompared}
 use Rattle.verity_format.proofs.DeviceLemmas.{full_read-none, full_read-then, steady-then}
 use Rattle.verity_format.proofs.GrowthLemmas.{taken-none, taken-then, out-then, digests-all, read-all, over-all, length-all}

@@ -1,7 +1,7 @@
 -- Calls on a device, one after another.
-use Rattle.std.proofs.Common.{◌≡◌, ◌≤◌, ◌+◌, ◌-◌, ℕ, Bool, true, add-zero, IsTrue, List, drop, refl, sym, ap, ◌∙◌, subst, arith, inl, inr}
+use Rattle.std.proofs.Common.{◌≡◌, ◌≤◌, ◌+◌, ◌-◌, ℕ, Bool, add-zero, IsTrue, List, drop, refl, sym, ap, ◌∙◌, subst, arith, inl, inr}
 use Rattle.std.proofs.lemmas.List.{drop-drop}
-use Rattle.block_device.specs.Device.{Device, IsSameDevice, IsRead, IsWritten, HasFailed}
+use Rattle.block_device.specs.Device.{Device, IsSameDevice, IsWritten, HasFailed}
 use Rattle.verity_format.specs.Blocks.{IsOnlyRead, IsFullRead, IsOnlyWritten}
 
 pub same-none : (d : Device) → IsSameDevice d d
@@ -22,9 +22,6 @@ steady-then p h = subst IsTrue (sym p.steady) h
 pub only_read-none : (d : Device) → IsOnlyRead d d
 only_read-none d = record { same = same-none d; writes = refl; image = λ h. refl }
 
-pub only_read-read : {old new : Device} {n : ℕ} {ok : Bool} → IsRead old n ok new → IsOnlyRead old new
-only_read-read p = record { same = p.same; writes = p.writes; image = p.image }
-
 pub only_read-then : {a b c : Device} → IsOnlyRead a b → IsOnlyRead b c → IsOnlyRead a c
 only_read-then p q = record {
   same = same-then p.same q.same;
@@ -35,9 +32,6 @@ only_read-then p q = record {
 -- full reads, one after another
 pub full_read-none : (d : Device) → IsFullRead d 0 d
 full_read-none d = record { read = only_read-none d; reads = λ h. sym (add-zero d.reads); failures = refl }
-
-pub full_read-read : {old new : Device} {n : ℕ} → IsRead old n true new → IsFullRead old n new
-full_read-read p = record { read = only_read-read p; reads = λ h. omega (arith, p.reads); failures = p.failures }
 
 pub full_read-then : {a b c : Device} (n m k : ℕ) → IsFullRead a n b → IsFullRead b m c → n + m ≡ k → IsFullRead a k c
 full_read-then {a = a} {b = b} {c = c} n m k p q sum = record {

@@ -1,5 +1,5 @@
 -- What formatting leaves on the hash device.
-use Rattle.std.proofs.Common.{◌≡◌, ◌⊎◌, ◌≤◌, ◌+◌, ◌*◌, ◌/◌, ℕ, Bool, true, false, All, IsTrue, List, [], ◌++◌, length, take, drop, refl, sym, ap, subst, ◌∙◌, arith, inl, inr}
+use Rattle.std.proofs.Common.{◌≡◌, ◌≤◌, ◌+◌, ◌*◌, ◌/◌, ℕ, Bool, false, All, IsTrue, List, ◌++◌, length, take, drop, refl, sym, ap, subst, ◌∙◌, arith, inl, inr}
 use Rattle.std.specs.Prelude.{if◌then◌else◌}
 use Rattle.std.specs.List.{concat}
 use Rattle.std.proofs.lemmas.List.{append_assoc, drop-drop, take-append-drop, length-take-le, length-drop}
@@ -17,7 +17,6 @@ use Rattle.verity_format.specs.Writing.{IsPartOfTree, IsTreeWritten, IsWriteCaus
 use Rattle.verity_format.specs.Formatting.{FailsAtFirstBlock, IsFormatCause, format_fault_of}
 use Rattle.verity_format.proofs.SizeLemmas.{block-size}
 use Rattle.verity_format.proofs.RunLemmas.{run-blocks}
-use Rattle.verity_format.proofs.WritingLemmas.{part-none, part-more}
 use Rattle.verity_format.proofs.DeviceLemmas.{same-then, drop-same, steady-then}
 
 -- the tree's blocks are sectors of the image
@@ -29,9 +28,6 @@ pub first-within : (s : ShapeRecord) (k : ℕ) → k ≡ s.hash_block / 512 → 
 first-within s k count =
     let split : (1 + area_blocks s) * (s.hash_block / 512) ≡ s.hash_block / 512 + area_blocks s * (s.hash_block / 512) = grind arith in
     omega (arith, split, count)
-
-pub part-nothing : (s : ShapeRecord) (d : Device) → IsPartOfTree s d d
-part-nothing s d = part-more s.hash_block (image_sectors s) 0 (area_blocks s) d d (omega arith) (part-none s.hash_block (image_sectors s) d)
 
 -- hash block 0 after the tree, whether that write failed or not
 pub first-then : (s : ShapeRecord) (a b c : Device) (k : ℕ) (ok : Bool) → k ≡ s.hash_block / 512 → IsPartOfTree s a b → capped b.writes ≡ capped (a.writes + sectors_of (area_blocks s) s.hash_block)

@@ -1,16 +1,16 @@
 -- A builder that takes the digests of a device's blocks, run by run.
-use Rattle.std.proofs.Common.{◌≡◌, ◌≤◌, ◌<◌, ◌+◌, ◌-◌, ◌*◌, ◌/◌, ℕ, List, [], ◌++◌, All, IsTrue, length, map, refl, sym, ap, ◌∙◌, subst, arith, false, Bool}
+use Rattle.std.proofs.Common.{◌≡◌, ◌+◌, ◌-◌, ◌*◌, ◌/◌, ℕ, List, [], ◌++◌, All, IsTrue, length, map, refl, sym, ap, ◌∙◌, subst, arith, false}
 use Rattle.std.proofs.Math.Nat.{zero-mul}
-use Rattle.std.proofs.lemmas.List.{append-nil, length-append, map-append}
+use Rattle.std.proofs.lemmas.List.{length-append, map-append}
 use Rattle.std.proofs.lemmas.List.Elements.{All-append, All-nil}
 use Rattle.std.proofs.lemmas.List.Sorted.{length_permutation}
 use Rattle.block_device.specs.Device.{Device}
 use Rattle.hash_tree.specs.Digests.{digest}
 use Rattle.hash_tree.specs.Laws.{AreDigests}
-use Rattle.hash_tree.specs.Shape.{ShapeRecord, IsShape, sectors_of, area_blocks}
+use Rattle.hash_tree.specs.Shape.{ShapeRecord, IsShape, area_blocks}
 use Rattle.hash_tree.specs.Tree.{area}
 use Rattle.hash_tree.specs.Building.{BuilderRecord, PlacedRecord, IsAreaBlock, begun_builder, pushed, completed, last_completed, numbered}
-use Rattle.hash_tree.proofs.lemmas.BuilderLemmas.{pushed-none, pushed-append, completed-none, completed-append, left-pushed, left-begun, failed-pushed, failed-begun}
+use Rattle.hash_tree.proofs.lemmas.BuilderLemmas.{pushed-none, pushed-append, completed-append, left-pushed, left-begun, failed-pushed, failed-begun}
 use Rattle.hash_tree.proofs.lemmas.BuildingLemmas.{builds-area}
 use Rattle.hash_tree.proofs.lemmas.AreaBlockLemmas.{next-inside, last-inside}
 use Rattle.hash_tree.proofs.lemmas.LawLemmas.{stands-in_shape}

@@ -3,23 +3,23 @@ use Rattle.std.proofs.Common.{◌≡◌, ◌≢◌, ◌≤◌, ◌<◌, ◌+◌,
 use Rattle.std.specs.List.{concat}
 use Rattle.std.proofs.Math.Nat.{zero-mul, mul-le-mul_right}
 use Rattle.std.proofs.lemmas.Bool.{eqb-false, cases_Bool, cases_lt}
-use Rattle.std.proofs.lemmas.List.{append-nil, length-append, drop-take, take-take, drop_at, take_at, length-take-le, take_all, append_assoc, ext_get_or}
+use Rattle.std.proofs.lemmas.List.{length-append, drop-take, take-take, drop_at, take_at, length-take-le, take_all, append_assoc, ext_get_or}
 use Rattle.std.proofs.lemmas.List.FromFn.{get_or-map-range_with_len, length-map-range_with_len}
 use Rattle.block_device.specs.Device.{Device, IsSameDevice, IsWritten, capped, spliced, sectors_of as cut_into, run_of}
 use Rattle.block_device.specs.Whole.{length-sectors_of}
 use Rattle.block_device.proofs.lemmas.SectorLemmas.{concat-sectors_of, take-spliced, drop-spliced}
-use Rattle.hash_tree.specs.Shape.{ShapeRecord, IsShape, is_block_size, sectors_of, area_blocks}
+use Rattle.hash_tree.specs.Shape.{ShapeRecord, IsShape, is_block_size, area_blocks}
 use Rattle.hash_tree.specs.Tree.{area, root}
-use Rattle.hash_tree.specs.Building.{BuilderRecord, PlacedRecord, IsAreaBlock, begun_builder, pushed, completed, last_completed, built_root, numbered}
+use Rattle.hash_tree.specs.Building.{BuilderRecord, PlacedRecord, IsAreaBlock, begun_builder, pushed, completed, last_completed, built_root}
 use Rattle.hash_tree.specs.Placing.{put, written}
 use Rattle.hash_tree.proofs.lemmas.AreaBlockLemmas.{completed-few}
 use Rattle.hash_tree.proofs.lemmas.BuilderLemmas.{completed-none}
 use Rattle.hash_tree.proofs.lemmas.BuildingLemmas.{builds-area}
 use Rattle.hash_tree.proofs.lemmas.PlacingLemmas.{written-append, written-same, written-inside}
 use Rattle.hash_tree.proofs.lemmas.LawLemmas.{stands-in_shape}
-use Rattle.verity_format.specs.Blocks.{IsFullRead, block_at, blocks_at}
-use Rattle.verity_format.specs.Image.{image_sectors, area_over}
-use Rattle.verity_format.specs.Growth.{IsRunTaken, IsTaken}
+use Rattle.verity_format.specs.Blocks.{block_at, blocks_at}
+use Rattle.verity_format.specs.Image.{image_sectors}
+use Rattle.verity_format.specs.Growth.{IsRunTaken}
 use Rattle.verity_format.specs.Writing.{MayStand, StandsWithin, IsPartWritten, AreWritten, IsPartOfTree, IsWriting, IsTreeWritten}
 use Rattle.verity_format.proofs.DeviceLemmas.{same-none, same-then, drop-same, steady-then}
 use Rattle.verity_format.proofs.GrowthLemmas.{taken-none, taken-then, out-then, digests-all, read-all, over-all, length-all}

@@ -2,6 +2,7 @@
 use Rattle.std.proofs.Common.{◌≡◌, ℕ, zero, suc, ◌+◌, ◌*◌, ◌/◌, ◌%◌, ◌^◌, ◌<◌, List, ◌++◌, length, get_or, replicate, sym, ap, ◌∙◌, refl, arith, bit_xor}
 use Rattle.std.specs.Int.{w64, w128, to_le_bytes, from_le_bytes}
 use Rattle.std.specs.Int.Bits.{xor_zero_l, xor_zero_r}
+use Rattle.std.specs.Simd.Lanes.{digits_l}
 use Rattle.std.proofs.lemmas.Nat.{shr-shr, xor_shr, xor_mod, xor_block}
 use Rattle.std.proofs.lemmas.List.FromFn.{length-map-range_with_len, fill_by_all}
 use Rattle.xts_sector.specs.Tweak.{unit_number, block_of, product_byte, times_alpha, times_alpha_power}
@@ -174,6 +175,22 @@ pub length-block_of : (n : ℕ) → length (block_of n) ≡ 16
 unfolding block_of
 length-block_of n = refl
 
-pub block_of_is : (n : ℕ) → to_le_bytes w128 n ≡ block_of n
+-- the bytes of a number, by divisions one after the other
+pub digits_l-block_of : (n : ℕ) → digits_l 256 16 n ≡ block_of n
 unfolding block_of
-block_of_is n = refl
+digits_l-block_of n =
+    let d2 : n / 256 / 256 ≡ n / 256 ^ 2 = omega arith in
+    let d3 : n / 256 ^ 2 / 256 ≡ n / 256 ^ 3 = omega arith in
+    let d4 : n / 256 ^ 3 / 256 ≡ n / 256 ^ 4 = omega arith in
+    let d5 : n / 256 ^ 4 / 256 ≡ n / 256 ^ 5 = omega arith in
+    let d6 : n / 256 ^ 5 / 256 ≡ n / 256 ^ 6 = omega arith in
+    let d7 : n / 256 ^ 6 / 256 ≡ n / 256 ^ 7 = omega arith in
+    let d8 : n / 256 ^ 7 / 256 ≡ n / 256 ^ 8 = omega arith in
+    let d9 : n / 256 ^ 8 / 256 ≡ n / 256 ^ 9 = omega arith in
+    let d10 : n / 256 ^ 9 / 256 ≡ n / 256 ^ 10 = omega arith in
+    let d11 : n / 256 ^ 10 / 256 ≡ n / 256 ^ 11 = omega arith in
+    let d12 : n / 256 ^ 11 / 256 ≡ n / 256 ^ 12 = omega arith in
+    let d13 : n / 256 ^ 12 / 256 ≡ n / 256 ^ 13 = omega arith in
+    let d14 : n / 256 ^ 13 / 256 ≡ n / 256 ^ 14 = omega arith in
+    let d15 : n / 256 ^ 14 / 256 ≡ n / 256 ^ 15 = omega arith in
+    cc (d2, d3, d4, d5, d6, d7, d8, d9, d10, d11, d12, d13, d14, d15)

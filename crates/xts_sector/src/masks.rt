@@ -8,6 +8,18 @@ ghost use Rattle.xts_sector.specs.Tweak.{block_of, times_alpha_power};
 use crate::tweak::times_alpha;
 use std::simd::prelude::*;
 
+/// Writes a tweak.
+#[inline(always)]
+fn write_tweak(tweak: u128, block: &mut [u8])
+    requires { length block.old ≡ 16 }
+    ensures { block.new ≡ block_of tweak }
+{
+    let low = (tweak % 0x1_0000_0000_0000_0000) as u64;
+    let high = (tweak >> 64) as u64;
+    let halves = u64x2::from_array([low, high]);
+    halves.to_le_bytes().copy_to_slice(block);
+}
+
 /// Writes the tweaks of as many blocks as `masks` holds, from `first` on, and gives the one after them.
 pub fn fill_masks(first: u128, masks: &mut [u8]) -> u128
     requires { length masks.old % 16 ≡ 0 }
@@ -16,7 +28,7 @@ pub fn fill_masks(first: u128, masks: &mut [u8]) -> u128
 {
     let mut tweak = first;
     for j in 0..masks.len() / 16 {
-        masks[16 * j..16 * j + 16].copy_from_slice(&tweak.to_le_bytes());
+        write_tweak(tweak, &mut masks[16 * j..16 * j + 16]);
         tweak = times_alpha(tweak);
     }
     tweak

@@ -64,11 +64,6 @@ module _ (w : List ℕ) (bytes : IsBytes w) where
   IsBlock-round : (s : List ℕ) (r : ℕ) → IsBlock s → IsBlock (inv_mix_columns (add_round_key (back s) (round_key w r)))
   IsBlock-round s r block = IsBlock-inv_mix_columns (add_round_key (back s) (round_key w r)) (IsBlock-keyed (back s) r (IsBlock-back s block))
 
-  IsBlock-inverse_rounds : (n : ℕ) (s : List ℕ) → IsBlock s → IsBlock (inverse_rounds w n s)
-  unfolding back
-  IsBlock-inverse_rounds zero s block = IsBlock-keyed (back s) 0 (IsBlock-back s block)
-  IsBlock-inverse_rounds (suc n) s block = IsBlock-inverse_rounds n (inv_mix_columns (add_round_key (back s) (round_key w (suc n)))) (IsBlock-round s (suc n) block)
-
   -- the inverse of the rounds after n rounds gives the block
   inverse_rounds-state_after : (n : ℕ) (b : List ℕ) → IsBlock b → inverse_rounds w n (forth (state_after w b n)) ≡ b
   unfolding forth back

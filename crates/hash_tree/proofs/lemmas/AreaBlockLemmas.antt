@@ -1,5 +1,5 @@
 -- Each block that a builder puts out, at whatever time, is one of the area's.
-use Rattle.std.proofs.Common.{ap, ◌≡◌, ◌≤◌, ◌<◌, ◌+◌, ◌-◌, ℕ, refl, arith, List, ◌++◌, length, replicate, subst}
+use Rattle.std.proofs.Common.{ap, ◌≡◌, ◌≤◌, ◌-◌, ℕ, refl, arith, List, ◌++◌, length, replicate, subst}
 use Rattle.std.proofs.lemmas.List.{length-append, length-replicate}
 use Rattle.std.proofs.lemmas.List.Elements.{All-append, All-replicate, All-take, All-drop}
 use Rattle.std.proofs.Math.Seq.{take-append_seam, drop-append_seam}

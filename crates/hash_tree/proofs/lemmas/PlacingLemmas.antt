@@ -1,5 +1,5 @@
 -- What stands on a device after all blocks of a list were written in any order, and the least block that differs.
-use Rattle.std.specs.Prelude.{◌≡◌, ◌≢◌, ◌≤◌, ◌<◌, ◌+◌, ℕ, zero, suc, List, [], ◌∷◌, ◌++◌, length, get_or, min, Option, None, Some, ◌⊎◌, ◌==◌, if◌then◌else◌}
+use Rattle.std.specs.Prelude.{◌≡◌, ◌≢◌, ◌≤◌, ◌<◌, ◌+◌, ℕ, zero, suc, List, [], ◌∷◌, ◌++◌, length, get_or, min, Option, None, Some, ◌⊎◌, ◌==◌}
 use Rattle.std.proofs.Common.{refl, sym, ap, ◌∙◌, arith, inl, inr, eqb-true, subst}
 use Rattle.std.proofs.lemmas.Bool.{eqb-false, cases_Bool, cases_lt}
 use Rattle.std.proofs.lemmas.List.Elements.{All-head, All-tail, All-cons, All-nil, All-push, Contains-append_left, Contains-append_right}
@@ -45,18 +45,6 @@ written-is (p ∷ ps) device i bytes all there =
           ])
     ]
 
-pub written-other : (ps : List PlacedRecord) (device : ℕ → List ℕ) (i : ℕ) → All (λ p. p.block ≢ i) ps → written device ps i ≡ device i
-unfolding written
-written-other [] device i all = refl
-written-other (p ∷ ps) device i all =
-    let first : p.block ≢ i = All-head (λ p. p.block ≢ i) p ps all in
-    let kept : put device p i ≡ device i =
-    elim (cases_Bool (i == p.block)) [
-      | inl same ↦ absurd (first (sym (eqb-true i p.block same)))
-      | inr other ↦ rw other refl
-    ] in
-    written-other ps (put device p) i (All-tail (λ p. p.block ≢ i) p ps all) ∙ kept
-
 -- Blocks with their numbers.
 pub numbered-inside : (n : ℕ) (bs : List (List ℕ)) → All (λ p. (n ≤ p.block) × (p.block < n + length bs)) (numbered n bs)
 numbered-inside n [] = All-nil (λ p. (n ≤ p.block) × (p.block < n + 0))
@@ -96,16 +84,6 @@ module _ (n : ℕ) (bs : List (List ℕ)) (ps : List PlacedRecord) (all : IsPerm
       written-is ps device (n + k) (get_or bs k [])
       (All-permutation (λ p. p.block ≡ n + k → p.bytes ≡ get_or bs k []) (numbered n bs) ps back (numbered-is n bs k))
       (inl (Contains-permutation (numbered n bs) ps (record { block = n + k; bytes = get_or bs k [] }) back (numbered-has n bs k inside)))
-
-  -- and nothing else changed
-  pub written-outside : (i : ℕ) → (i < n) ⊎ (n + length bs ≤ i) → written device ps i ≡ device i
-  written-outside i outside =
-      written-other ps device i (λ k d inside. λ same.
-      let one = All-permutation (λ p. (n ≤ p.block) × (p.block < n + length bs)) (numbered n bs) ps back (numbered-inside n bs) k d inside in
-      elim outside [
-        | inl low ↦ omega (arith, one.0, low, same)
-        | inr high ↦ omega (arith, one.1, high, same)
-      ])
 
   -- where none differs, they stand there
   pub same-inside : IsLeastDiffering device ps None → (k : ℕ) → k < length bs → device (n + k) ≡ get_or bs k []

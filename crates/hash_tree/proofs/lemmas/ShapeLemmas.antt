@@ -1,5 +1,5 @@
 -- How the shape over some blocks follows from the shape over the blocks of its level 0.
-use Rattle.std.proofs.Common.{◌≡◌, ◌≤◌, ◌<◌, ◌/◌, ◌%◌, ◌*◌, ◌+◌, ◌-◌, ◌^◌, ℕ, zero, suc, refl, sym, ap, ◌∙◌, subst, arith, min, add-one}
+use Rattle.std.proofs.Common.{◌≡◌, ◌≤◌, ◌<◌, ◌/◌, ◌%◌, ◌*◌, ◌+◌, ◌-◌, ◌^◌, ℕ, zero, suc, refl, sym, ap, ◌∙◌, arith, min, add-one}
 use Rattle.std.proofs.Math.Nat.{div-lt_self, div-div-eq-div-mul, mul-le-mul_left, zero-div, mul-lt-mul_of_pos_right, pow-suc, pow-succ', div-mul-le_self, pow-zero, mod-add-div}
 use Rattle.std.proofs.lemmas.Nat.{div-mul-add, mod_below}
 use Rattle.std.proofs.lemmas.List.Sums.{sum_by-cons}
@@ -164,18 +164,6 @@ module _ (s : ShapeRecord) (two : 2 ≤ per_block s) where
       let most : m / per_block s * 3 ≤ m / per_block s * per_block s = mul-le-mul_left (m / per_block s) three in
       omega (arith, most, div-mul-le_self m (per_block s))
 
-  fewer : (f m : ℕ) → 3 ≤ per_block s → m ≤ f → area_blocks (over s (suc m)) ≤ m
-  fewer f zero three room = omega (arith, area_blocks-one)
-  fewer zero (suc m) three room = absurd (omega arith)
-  fewer (suc f) (suc m) three room =
-      let third : 3 * (suc m / per_block s) ≤ suc m = thrice (suc m) three in
-      let rest : area_blocks (over s (suc (suc m / per_block s))) ≤ suc m / per_block s = fewer f (suc m / per_block s) three (omega arith) in
-      omega (arith, area_blocks-up m, rest, third)
-
-  -- the tree has fewer blocks than the data
-  pub area_blocks-le : (m : ℕ) → 3 ≤ per_block s → area_blocks (over s (suc m)) ≤ m
-  area_blocks-le m three = fewer m m three (omega arith)
-
   few_divisions : (f k m : ℕ) → 16 ≤ per_block s → m < 16 ^ k → divisions f (per_block s) m ≤ k
   few_divisions zero k m wide low = omega arith
   few_divisions (suc f) k zero wide low = omega arith
@@ -203,13 +191,6 @@ area_blocks-step s (suc (suc m)) two more =
 -- no hash block stands over one block
 pub area_blocks-end : (s : ShapeRecord) (n : ℕ) → 2 ≤ per_block s → n ≡ 1 → area_blocks (over s n) ≡ 0
 area_blocks-end s n two one = ap (λ n. area_blocks (over s n)) one ∙ area_blocks-one s two
-
-pub area_blocks-lt : (s : ShapeRecord) → 3 ≤ per_block s → 1 ≤ s.blocks → area_blocks s < s.blocks
-area_blocks-lt s three some =
-    let count : s.blocks ≡ suc (s.blocks - 1) = omega arith in
-    let fewer : area_blocks (over s (suc (s.blocks - 1))) ≤ s.blocks - 1 = area_blocks-le s (omega arith) (s.blocks - 1) three in
-    let here : area_blocks s ≤ s.blocks - 1 = let P : ℕ → Type 0 = λ n. area_blocks (over s n) ≤ s.blocks - 1 in subst P (sym count) fewer in
-    omega (arith, here)
 
 -- which levels a tree has doesn't depend on the data blocks' size, nor on where it begins
 pub area_blocks-fields : (data_block hash_block blocks start : ℕ)

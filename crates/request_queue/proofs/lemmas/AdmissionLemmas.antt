@@ -1,5 +1,5 @@
 -- What an admitted request has.
-use Rattle.std.proofs.Common.{◌≡◌, ◌<◌, ◌==◌, ◌||◌, ℕ, ◌+◌, ◌*◌, ◌/◌, ◌%◌, nat_lt, true, false, Bool, List, length, refl, sym, ap, subst, arith, Option, Some, None, Result, Ok, Err}
+use Rattle.std.proofs.Common.{◌≡◌, ◌==◌, ◌||◌, ℕ, ◌+◌, ◌*◌, ◌/◌, ◌%◌, nat_lt, true, false, Bool, List, length, refl, sym, ap, subst, arith, Option, Some, None, Result, Ok, Err}
 use Rattle.std.specs.Prelude.{not, min, IsTrue, IfOk, if◌then◌else◌}
 use Rattle.stack_rules.specs.Records.{Configuration}
 use Rattle.stack_rules.specs.Names.{mapped, may_write, size, device_named}
@@ -8,7 +8,7 @@ use Rattle.request_queue.specs.declared.fault.SubmitFault.TheVariants.{NoSuchDev
 use Rattle.request_queue.specs.declared.range.SectorRange.{SectorRange}
 use Rattle.request_queue.specs.Ranges.{IsInside, range_at, range_in, range_of}
 use Rattle.request_queue.specs.Flights.{IsAdmissible}
-use Rattle.request_queue.specs.Requests.{RequestRecord, a_read, a_write, sector_count, writable_sectors, sectors_for}
+use Rattle.request_queue.specs.Requests.{a_write, sector_count, writable_sectors, sectors_for}
 use Rattle.request_queue.specs.World.{World, admission, unless_full, is_full}
 
 not-zero : (n : ℕ) → not (n == 0) ≡ false → n ≡ 0
@@ -21,19 +21,10 @@ tests-some false true b x y P p h = let clash : Err Length ≡ Ok y = h in cc
 tests-some false false true x y P p h = let clash : Err Length ≡ Ok y = h in cc
 tests-some false false false x y P p h = let same : Ok x ≡ Ok y = h in let is : x ≡ y = cc in subst P is (p refl)
 
-in-some : (c : Configuration) (o : Option ℕ) (first count : ℕ) (range : SectorRange) → range_in c o first count ≡ Ok range → 0 < range.count
-in-some c None first count range h = let clash : Err NoSuchDevice ≡ Ok range = h in cc
-in-some c (Some d) first count range h =
-    tests-some (nat_lt (size c (mapped d)) (first + count)) (count == 0) (nat_lt 2048 count) (range_at d first count) range (λ x. 0 < x.count) (λ test. grind (arith, test)) h
-
 pub unless-ok : (full : Bool) (r : Result SectorRange SubmitFault) (range : SectorRange) → unless_full full r ≡ Ok range → r ≡ Ok range
 unless-ok true (Ok x) range h = let clash : Err Full ≡ Ok range = h in cc
 unless-ok false (Ok x) range h = h
 unless-ok full (Err fault) range h = let clash : Err fault ≡ Ok range = h in cc
-
-range_of-some : (c : Configuration) (name : List ℕ) (first count : ℕ) (range : SectorRange) → range_of c name first count ≡ Ok range → 0 < range.count
-unfolding range_of
-range_of-some c name first count range h = in-some c (device_named c name) first count range h
 
 may-test : (b : Bool) → not b ≡ false → IsTrue b
 may-test true e = refl
@@ -60,10 +51,6 @@ writable-ok c bytes (Ok x) range h =
     let tests = writable-tests c bytes x range (not (length bytes % 512 == 0)) (not (may_write c (mapped x.device.0))) refl refl h in
     (ap Ok tests.0, tests.1)
 
-sectors-some : (c : Configuration) (r : RequestRecord) (range : SectorRange) → sectors_for c r ≡ Ok range → 0 < range.count
-sectors-some c (a_read name first count) range h = range_of-some c name first count range h
-sectors-some c (a_write name first bytes) range h = range_of-some c name first (sector_count bytes) range (writable-ok c bytes (range_of c name first (sector_count bytes)) range h).0
-
 in-count : (c : Configuration) (o : Option ℕ) (first count : ℕ) (range : SectorRange) → range_in c o first count ≡ Ok range → range.count ≡ count
 in-count c None first count range h = let clash : Err NoSuchDevice ≡ Ok range = h in cc
 in-count c (Some d) first count range h =
@@ -80,10 +67,6 @@ admission-whole w name first bytes range h =
     let ok = writable-ok c bytes (range_of c name first (sector_count bytes)) range (unless-ok (is_full w) (sectors_for c (a_write name first bytes)) range h) in
     let count : range.count ≡ length bytes / 512 + min 1 (length bytes % 512) = range_of-count c name first (sector_count bytes) range ok.0 in
     omega (arith, count, ok.1.whole)
-
--- an admitted request has sectors
-pub admission-some : (w : World) (r : RequestRecord) (range : SectorRange) → admission w r ≡ Ok range → 0 < range.count
-admission-some w r range h = sectors-some w.stack.config r range (unless-ok (is_full w) (sectors_for w.stack.config r) range h)
 
 -- a write that the checks pass on may be begun
 pub admissible-write : (c : Configuration) (name : List ℕ) (first : ℕ) (bytes : List ℕ) (range : SectorRange) (r : Result SectorRange SubmitFault) → r ≡ writable_sectors c bytes (Ok range)

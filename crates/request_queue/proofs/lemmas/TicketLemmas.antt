@@ -118,10 +118,6 @@ others-push u (g ∷ fs) f e = go-on u g fs (fs ++ f ∷ []) (others-push u fs f
 
 -- ---- tickets
 
-pub rise-more : (low high high' : ℕ) (fs : List FlightRecord) → high ≤ high' → Rise low fs high → Rise low fs high'
-rise-more low high high' [] h r = omega (arith, r, h)
-rise-more low high high' (f ∷ fs) h r = (r.0, rise-more f.ticket high high' fs h r.1)
-
 pub rise-less : (low low' high : ℕ) (fs : List FlightRecord) → low ≤ low' → Rise low' fs high → Rise low fs high
 rise-less low low' high [] h r = omega (arith, r, h)
 rise-less low low' high (f ∷ fs) h r = (omega (arith, r.0, h), r.1)

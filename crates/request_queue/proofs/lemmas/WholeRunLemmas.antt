@@ -1,6 +1,6 @@
 -- Steps of one request up to its last, with nothing in between.
 use Rattle.std.proofs.Common.{◌≡◌, ◌<◌, ◌≤◌, ℕ, ◌+◌, ◌-◌, ◌*◌, ◌/◌, ◌%◌, List, [], ◌++◌, length, take, drop, refl, ap, sym, ◌∙◌, subst, arith, Some, Result, Ok, Err}
-use Rattle.std.proofs.lemmas.List.{length-take-le, length-drop, take-append-drop}
+use Rattle.std.proofs.lemmas.List.{length-take-le, take-append-drop}
 use Rattle.std.proofs.Math.Seq.{take-length, take-add}
 use Rattle.stack_rules.specs.Names.{mapped}
 use Rattle.stack_rules.specs.Rules.{IsLoaded}
@@ -12,7 +12,6 @@ use Rattle.stack_engine.specs.Reading.{Gets}
 use Rattle.stack_engine.specs.Stacks.{StackRecord, AnswerRecord}
 use Rattle.stack_engine.proofs.lemmas.PieceLemmas.{piece_expected, pieces_expected, no-pieces, more-pieces, fault-pieces, piece-got}
 use Rattle.stack_engine.proofs.lemmas.WritePieceLemmas.{write-none, write-then, write-ends}
-use Rattle.request_queue.specs.declared.fault.SubmitFault.{SubmitFault}
 use Rattle.request_queue.specs.declared.range.SectorRange.{SectorRange}
 use Rattle.request_queue.specs.declared.reply.Progress.TheVariants.{More, Done}
 use Rattle.request_queue.specs.declared.reply.Reply.{Reply}
@@ -20,7 +19,7 @@ use Rattle.request_queue.specs.declared.reply.Reply.TheVariants.{Sectors, Writte
 use Rattle.request_queue.specs.Requests.{RequestRecord, a_read, a_write}
 use Rattle.request_queue.specs.Flights.{FlightRecord, reads, writes, first_flight, next_flight, next_work, joint_answer, nothing, reply_to}
 use Rattle.request_queue.specs.Parts.{EachPart, Asks, ending, part_of_work, done_of}
-use Rattle.request_queue.specs.World.{World, Serves, Begins, Ends, at_once, later, Runs, next_count}
+use Rattle.request_queue.specs.World.{World, Serves, Begins, Ends, at_once, later, next_count}
 use Rattle.request_queue.specs.Runs.{flight_of}
 use Rattle.request_queue.specs.WholeRuns.{ReadsWhole, WritesWhole, Whole, RunAnswers}
 use Rattle.request_queue.proofs.lemmas.AdmissionLemmas.{admission-whole}
@@ -184,11 +183,6 @@ module _ (base : StackRecord) (loaded : IsLoaded base.config) (range : SectorRan
   front-length : (a : ℕ) → a ≤ range.count → length (take (512 * a) bytes) ≡ 512 * a
   front-length a h = length-take-le (512 * a) bytes (omega (arith, len, h))
 
-  next-length : (a n : ℕ) → a + n ≤ range.count → length (next_bytes bytes a n) ≡ 512 * n
-  next-length a n h =
-      let tail : length (drop (512 * a) bytes) ≡ length bytes - 512 * a = length-drop (512 * a) bytes in
-      length-take-le (512 * n) (drop (512 * a) bytes) (omega (arith, len, tail, h))
-
   -- the next part, behind those before it
   module _ (w w' : World) (u : WriteSoFar base range bytes t w) (n : ℕ) (inside : u.done + n ≤ range.count) where
     front-whole : length (take (512 * u.done) bytes) % 512 ≡ 0
@@ -297,8 +291,3 @@ whole-answers w (a_write name first bytes) t answer v w' loaded order b e = (
   b.admits,
   write-finishes w.stack loaded b.range bytes (admission-whole w name first bytes b.range b.admits) t name first answer v w' (write-begun w name first bytes t v order b) e,
 )
-
--- a run answers for the request as a whole
-pub run-answers : (w : World) (r : RequestRecord) (outcome : Result (Result Reply IoFault) SubmitFault) (w' : World) → IsLoaded w.stack.config → InOrder w → Runs EachPart w r outcome w' → RunAnswers w r outcome w'
-run-answers w r (Ok answer) w' loaded order s = whole-answers w r (w.given + 1) answer s.begun w' loaded order s.begins s.ends
-run-answers w r (Err fault) w' loaded order s = tt

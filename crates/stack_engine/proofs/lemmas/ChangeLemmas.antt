@@ -1,12 +1,12 @@
 -- Writes of the leaves, one after another.
-use Rattle.std.proofs.Common.{◌≡◌, ℕ, ◌+◌, ◌<◌, ◌≤◌, true, List, [], length, get_or, map, All, Contains, refl, sym, ap, ◌∙◌, subst, arith, inl, inr}
+use Rattle.std.proofs.Common.{◌≡◌, ℕ, ◌+◌, ◌<◌, ◌≤◌, true, List, [], length, get_or, map, Contains, refl, sym, ap, ◌∙◌, subst, arith, inl, inr}
 use Rattle.std.proofs.lemmas.List.{get_or-map, get_or_past, length-map}
 use Rattle.std.proofs.lemmas.Bool.{cases_lt}
-use Rattle.block_device.specs.Device.{Device, IsWhole, IsSector, in_memory}
+use Rattle.block_device.specs.Device.{Device, in_memory}
 use Rattle.stack_engine.specs.Outcomes.{LeafSector, zero_sector}
-use Rattle.stack_engine.specs.Leaves.{images_of, Fixed, fixed_part, AllSteady, AreRead}
-use Rattle.stack_engine.specs.Changes.{LeafSectors, reached, KeepsOthers, AreWritten, DifferWithin, AllWhole}
-use Rattle.stack_engine.proofs.lemmas.LeafListLemmas.{Moves-none, Moves-then, Counts-more, same_length, steady_kept}
+use Rattle.stack_engine.specs.Leaves.{images_of, fixed_part, AllSteady, AreRead}
+use Rattle.stack_engine.specs.Changes.{LeafSectors, reached, KeepsOthers, AreWritten, DifferWithin}
+use Rattle.stack_engine.proofs.lemmas.LeafListLemmas.{Moves-none, Moves-then, same_length, steady_kept}
 
 -- ---- some leaf sectors among others
 
@@ -83,17 +83,4 @@ differ-within old new e steady k =
             ∙ ap (λ (l : List (List ℕ)). get_or l t zero_sector) (sym (image old i low))
         | inr high ↦ ap (λ (l : List (List ℕ)). get_or l t zero_sector) (past new i (omega (arith, high, len)) ∙ sym (past old i high))
       ];
-    }
-
--- reads keep the images of steady leaves whole
-pub whole-read : {n : ℕ} (old new : List Device) → AreRead old n new → AllSteady old → AllWhole old → AllWhole new
-whole-read old new a steady whole i d h =
-    let low : i < length old = omega (arith, h, same_length old new a.moved.fixed) in
-    let was : IsWhole (get_or old i d) = whole i d low in
-    let image = a.images.image i d (steady i d low) in
-    let same : fixed_part (get_or new i d) ≡ fixed_part (get_or old i d) =
-    sym (get_or-map fixed_part new i d (fixed_part d) h) ∙ ap (λ (l : List Fixed). get_or l i (fixed_part d)) a.moved.fixed ∙ get_or-map fixed_part old i d (fixed_part d) low in
-    record {
-      length = ap (λ (l : List (List ℕ)). length l) image ∙ was.length ∙ sym (ap (λ (x : Fixed). x.size) same);
-      sectors = subst (λ (l : List (List ℕ)). All IsSector l) (sym image) was.sectors;
     }

@@ -3,7 +3,7 @@ use Rattle.std.proofs.Common.{◌≡◌, ℕ, zero, suc, ◌+◌, ◌-◌, ◌*�
 use Rattle.std.specs.Prelude.{slice_get}
 use Rattle.std.specs.List.{concat}
 use Rattle.std.proofs.lemmas.Bool.{cases_Bool, cond-true, cond-false}
-use Rattle.std.proofs.lemmas.List.{length-append, length-drop, length-map, take-append-le, drop-append-le, drop-drop, take_all, take-replicate, drop-replicate}
+use Rattle.std.proofs.lemmas.List.{length-drop, length-map, take-append-le, drop-append-le, drop-drop, take_all, take-replicate, drop-replicate}
 use Rattle.std.proofs.Math.Seq.{drop-append-add}
 use Rattle.std.proofs.Math.Nat.{mul_comm, mul_assoc, div-add-mod}
 use Rattle.std.proofs.lemmas.List.Elements.{All-head, All-tail, All-get_or, All-map}
@@ -46,14 +46,6 @@ drop-concat size (b ∷ blocks) (suc i) sized low =
     let at : size * suc i ≡ length b + size * i = omega (arith, first) in
     ap (λ (k : ℕ). drop k (b ++ concat blocks)) at ∙ drop-append-add b (concat blocks) (size * i)
     ∙ drop-concat size blocks i (All-tail (λ b. length b ≡ size) b blocks sized) (omega (arith, low))
-
-pub length-concat : (size : ℕ) (blocks : List (List ℕ)) → All (λ b. length b ≡ size) blocks → length (concat blocks) ≡ size * length blocks
-length-concat size [] sized = omega arith
-length-concat size (b ∷ blocks) sized =
-    let first : length b ≡ size = All-head (λ b. length b ≡ size) b blocks sized in
-    let rest = length-concat size blocks (All-tail (λ b. length b ≡ size) b blocks sized) in
-    let more : size * suc (length blocks) ≡ size + size * length blocks = omega arith in
-    omega (arith, first, rest, more, length-append b (concat blocks))
 
 -- block i
 pub block-concat : (size : ℕ) (blocks : List (List ℕ)) (i : ℕ) → All (λ b. length b ≡ size) blocks → i < length blocks → take size (drop (size * i) (concat blocks)) ≡ get_or blocks i []
@@ -147,9 +139,6 @@ module _ (v : Verity) (on_data on_hash : ℕ → Outcome) (data_sized : AreSized
     (even : AreBlocks v.blocks v.data_block blocks)
     (data_read : span on_data 0 (data_sectors v) ≡ Ok (concat blocks))
     (hash_read : span on_hash (hash_sectors v * v.start) (hash_sectors v * area_blocks (tree_of v)) ≡ Ok (concat (area v.hash_block v.salt (map (digest v.salt) blocks)))) where
-  digests : List (List ℕ)
-  digests = map (digest v.salt) blocks
-
   stands : StandsInShape (tree_of v) v.salt (map (digest v.salt) blocks)
   stands = stands-in_shape (tree_of v) shape v.salt (map (digest v.salt) blocks) (record {
     count = length-map blocks (digest v.salt) ∙ even.count;

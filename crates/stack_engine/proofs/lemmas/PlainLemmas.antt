@@ -1,5 +1,5 @@
 -- Reads that take no memory and keep the leaves on which they don't lie.
-use Rattle.std.proofs.Common.{◌≡◌, ℕ, ◌+◌, ◌<◌, ◌≤◌, List, get_or, Contains, Result, Ok, Err, refl, sym, ap, ◌∙◌, subst, arith}
+use Rattle.std.proofs.Common.{◌≡◌, ℕ, ◌+◌, ◌<◌, ◌≤◌, List, Contains, Result, Ok, Err, refl, ◌∙◌, subst, arith}
 use Rattle.block_device.specs.Device.{Device}
 use Rattle.stack_engine.specs.declared.fault.IoFault.{IoFault}
 use Rattle.stack_engine.specs.declared.fault.IoFault.TheVariants as io
@@ -41,7 +41,3 @@ plain-up said said' first first' n n' meets reaches p = record {
   memory = λ is. meets (p.memory is);
   leaf = λ none i d out. p.leaf (λ some. none (meets some)) i d (λ t x. out t (reaches (i, t) x));
 }
-
--- by another answer that isn't for want of memory
-pub plain-answer : (said : ℕ → Said) (first n : ℕ) {old new : List Device} {result result' : Result Unit IoFault} → (result' ≡ Err io.NoMemory → result ≡ Err io.NoMemory) → IsPlain said first n old new result → IsPlain said first n old new result'
-plain-answer said first n same p = record { memory = λ is. p.memory (same is); leaf = p.leaf }

@@ -1,17 +1,16 @@
 -- Units of `crypt` lines: their sectors as bytes and as spans.
-use Rattle.std.proofs.Common.{◌≡◌, ℕ, zero, suc, ◌+◌, ◌-◌, ◌*◌, ◌/◌, ◌%◌, ◌<◌, ◌≤◌, List, [], ◌∷◌, ◌++◌, length, take, drop, Ok, Err, refl, sym, ap, ◌∙◌, subst, arith}
-use Rattle.std.proofs.lemmas.List.{length-drop, length-take-le, take-append-drop, drop-drop, nil_from_length, take_at, drop_at}
+use Rattle.std.proofs.Common.{◌≡◌, ℕ, zero, suc, ◌+◌, ◌*◌, ◌/◌, ◌%◌, ◌<◌, ◌≤◌, List, length, take, drop, Ok, sym, ap, ◌∙◌, subst, arith}
+use Rattle.std.proofs.lemmas.List.{length-drop, length-take-le, take-append-drop, drop-drop, nil_from_length}
 use Rattle.std.proofs.lemmas.Nat.{div-add-mod', div-mul-add, mod-mul-add, mod_below, div_below}
 use Rattle.std.proofs.Math.Nat.{add-mul, mul_comm, mul_assoc, mul-le-mul_right}
 use Rattle.aes_block.proofs.lemmas.PartLemmas.{part-joined, length-joined_parts}
-use Rattle.block_device.specs.Device.{IsSector}
 use Rattle.dm_table.specs.declared.crypt.Crypt.{Crypt}
 use Rattle.xts_sector.specs.Units.{unit}
 use Rattle.xts_sector.proofs.lemmas.UnitLemmas as xts
-use Rattle.stack_engine.specs.Outcomes.{Fault, Outcome, joint_outcome, span, changed_outcome, part}
+use Rattle.stack_engine.specs.Outcomes.{Outcome, joint_outcome, span, part}
 use Rattle.dm_table.specs.Crypt.{sector_size}
 use Rattle.stack_rules.specs.Units.{unit_sectors}
-use Rattle.stack_engine.specs.Units.{unit_number, encrypted_unit, decrypted_unit, encrypted_units, decrypted_units, unit_part, unit_first}
+use Rattle.stack_engine.specs.Units.{unit_number, encrypted_unit, decrypted_unit, encrypted_units, decrypted_units, unit_part}
 use Rattle.stack_rules.proofs.lemmas.UnitLemmas.{unit_sectors-some, unit-bytes}
 use Rattle.stack_engine.proofs.lemmas.RunLemmas.{part_left}
 
@@ -33,30 +32,6 @@ span-parts f first (suc n) bytes len all =
     let rest : span f (suc first) n ≡ Ok (drop 512 bytes) = span-parts f (suc first) n (drop 512 bytes) (omega (arith, len, length-drop 512 bytes))
     (λ j h. let at : suc first + j ≡ first + suc j = omega arith in ap f at ∙ all (suc j) (omega (arith, h)) ∙ ap Ok (sym (part-drop bytes j))) in
     ap (λ (x : Outcome). joint_outcome x (span f (suc first) n)) one ∙ ap (joint_outcome (Ok (take 512 bytes))) rest ∙ ap Ok (take-append-drop 512 bytes)
-
--- each sector's bytes are 512, where it has some
-abbrev pub HasSectors : (ℕ → Outcome) → Type 0
-HasSectors f = (s : ℕ) (bytes : List ℕ) → f s ≡ Ok bytes → IsSector bytes
-
--- the parts of a span are its sectors
-pub part-span : (f : ℕ → Outcome) → HasSectors f → (first n : ℕ) (bytes : List ℕ) → span f first n ≡ Ok bytes → (j : ℕ) → j < n → f (first + j) ≡ Ok (part bytes j)
-part-span f whole first zero bytes is j h = absurd (omega (arith, h))
-part-span f whole first (suc n) bytes is j h = go (f first) (span f (suc first) n) refl (λ y e i low. part-span f whole (suc first) n y e i low) is j h
-  where
-    go : (a b : Outcome) → f first ≡ a → ((y : List ℕ) → b ≡ Ok y → (i : ℕ) → i < n → f (suc first + i) ≡ Ok (part y i)) → joint_outcome a b ≡ Ok bytes
-        → (j : ℕ) → j < suc n → f (first + j) ≡ Ok (part bytes j)
-    go (Err x) b e rest joint j h = cc
-    go (Ok x) (Err y) e rest joint j h = cc
-    go (Ok x) (Ok y) e rest joint zero h =
-        let all : x ++ y ≡ bytes = cc in
-        let here : first + 0 ≡ first = omega arith in
-        ap f here ∙ e ∙ ap Ok (sym (take_at x y 512 (whole first x e))) ∙ ap (λ (l : List ℕ). Ok (take 512 l)) all
-    go (Ok x) (Ok y) e rest joint (suc j) h =
-        let all : x ++ y ≡ bytes = cc in
-        let at : first + suc j ≡ suc first + j = omega arith in
-        ap f at ∙ rest y refl j (omega (arith, h))
-        ∙ ap (λ (l : List ℕ). Ok (part l j)) (sym (drop_at x y 512 (whole first x e)) ∙ ap (drop 512) all)
-        ∙ ap Ok (part-drop bytes j)
 
 -- ---- places in units
 

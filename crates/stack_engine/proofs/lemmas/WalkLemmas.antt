@@ -1,6 +1,5 @@
 -- The walk to a data block of a verity line.
 use Rattle.std.proofs.Common.{◌≡◌, ℕ, suc, ◌+◌, ◌*◌, ◌<◌, ◌≤◌, Bool, true, false, cond, List, [], ◌∷◌, ◌++◌, length, Result, Ok, Err, refl, sym, ap, ◌∙◌, subst, arith, inl, inr}
-use Rattle.std.specs.Str.{bytes_eq}
 use Rattle.std.proofs.lemmas.Bool.{and_parts, cond-true, cond-false}
 use Rattle.std.proofs.lemmas.Slice.Eq.{bytes_eq-Decides}
 use Rattle.std.proofs.lemmas.List.{append_assoc, append-nil, length-append, length-replicate}
@@ -28,9 +27,6 @@ use Rattle.stack_engine.proofs.lemmas.RunLemmas.{fault_passes}
 pub checked-same : (salt expected block : List ℕ) → digest salt block ≡ expected → checked salt expected block ≡ Ok block
 checked-same salt expected block e = ap (λ (b : Bool). cond b (Ok block) (Err mismatch)) ((bytes_eq-Decides (digest salt block) expected).1 e)
 
-checked-other : (salt expected block : List ℕ) → bytes_eq (digest salt block) expected ≡ false → checked salt expected block ≡ Err mismatch
-checked-other salt expected block e = ap (λ (b : Bool). cond b (Ok block) (Err mismatch)) e
-
 module _ {A : Type 0} (bytes_of : A → List ℕ) (place : Place) (first n : ℕ) (salt expected : List ℕ) {old new : List Device} (chains : List FoundRecord) where
   pub checked_ok : (x : A) {bytes : List ℕ} → bytes_of x ≡ bytes → digest salt bytes ≡ expected → Gets (run_expected place chains first n) old new (Ok bytes)
       → Gets (checked_expected bytes_of place first n salt expected) old new (Ok x)
@@ -39,22 +35,6 @@ module _ {A : Type 0} (bytes_of : A → List ℕ) (place : Place) (first n : ℕ
     may = (ap length is ∙ p.may.len, ap (digest salt) is ∙ good);
     exact = λ steady. ap (λ (s : Outcome). then_outcome s (checked salt expected)) (p.exact steady) ∙ checked-same salt expected bytes good ∙ ap Ok (sym is);
   }
-
-  pub checked_differs : {bytes : List ℕ} → bytes_eq (digest salt bytes) expected ≡ false → Gets (run_expected place chains first n) old new (Ok bytes)
-      → Gets (checked_expected bytes_of place first n salt expected) old new (Err io.Mismatch)
-  checked_differs {bytes = bytes} bad p = record {
-    moved = p.moved;
-    may = inl refl;
-    exact = λ steady. ap (λ (s : Outcome). then_outcome s (checked salt expected)) (p.exact steady) ∙ checked-other salt expected bytes bad;
-  }
-
-  pub checked_err : (fault : IoFault) → Gets (run_expected place chains first n) old new (Err fault) → Gets (checked_expected bytes_of place first n salt expected) old new (Err fault)
-  checked_err fault p =
-      fault_passes {wanted = run_expected place chains first n} {wanted' = checked_expected bytes_of place first n salt expected} fault p (AreRead-none 0 old) (omega arith)
-      (λ x meets. inr meets) (λ steady x is. ap (λ (s : Outcome). then_outcome s (checked salt expected)) is)
-
-pub checked_full : {A : Type 0} (bytes_of : A → List ℕ) (place : Place) (first n : ℕ) (salt expected : List ℕ) (leaves : List Device) → Gets (checked_expected bytes_of place first n salt expected) leaves leaves (Err io.NoMemory)
-checked_full bytes_of place first n salt expected leaves = record { moved = AreRead-none _ leaves; may = tt; exact = λ steady. tt }
 
 -- ---- the data block
 
@@ -72,10 +52,6 @@ module _ {A : Type 0} (bytes_of : A → List ℕ) (b : DataBlock) (expected : Li
     exact = λ steady. cond-true _ _ _ zeros ∙ ap Ok (sym is);
   }
 
-  -- and no memory for it
-  pub data_full : (leaves : List Device) → Gets (data_expected bytes_of b expected) leaves leaves (Err io.NoMemory)
-  data_full leaves = record { moved = AreRead-none _ leaves; may = tt; exact = λ steady. tt }
-
   -- one that is read
   pub data_read : {old new : List Device} (result : Result A IoFault) → is_ignored b.verity expected ≡ false
       → Gets (checked_expected bytes_of b.on_data (block_sectors b.verity * b.index) (block_sectors b.verity) b.verity.salt expected) old new result
@@ -87,15 +63,6 @@ module _ {A : Type 0} (bytes_of : A → List ℕ) (b : DataBlock) (expected : Li
   }
 
 -- ---- the walk
-
--- before the first step
-pub walk_starts : (b : DataBlock) (leaves : List Device) → IsWalked b (levels (tree_of b.verity)) b.verity.root [] leaves leaves
-walk_starts b leaves = record {
-  count = omega arith;
-  moved = AreRead-none _ leaves;
-  hangs = λ rest content h hangs. hangs;
-  exact = λ steady. refl;
-}
 
 -- the cost of some hash blocks on the way
 levels_cost : (v hb cost m n : ℕ) → m + n ≤ v → m * (hb * cost) + n * (hb * cost) ≤ v * hb * cost

@@ -5,11 +5,11 @@ use super::leaves::write_to;
 use super::verity::{Row, formatted};
 use super::{cached_stack_of, is_filled, read};
 use block_device::{BlockDev, MemoryDev};
-use dm_table::parse_stack;
 use stack_engine::Stack;
 use stack_loader::{Config, Leaf};
 use std::alloc::{AllocError, Global};
 use std::test::Fail;
+use table_reader::parse_stack;
 
 fn three<T: Drop>(alloc: Global, a: T, b: T, c: T) -> Result<Vec<T>, AllocError>
     ensures { IfOk result (λ v. v.items ≡ a ∷ b ∷ c ∷ []) }

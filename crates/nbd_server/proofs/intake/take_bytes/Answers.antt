@@ -10,7 +10,7 @@ pub returns-clause-ok : goal.returns-clause-ok
 returns-clause-ok g c =
     let input = g.R.Read.remaining c.args.reader.now.inner in
     let input' = g.R.Read.remaining c.fill.new.reader.inner in
-    let filled = subst (λ b. Fills input input' c.fill.new.buffer (Ok b)) c.if-not-branch.false c.in_ok-fill.ensures in
+    let filled = subst (λ b. Fills input input' c.fill.new.buffer (Ok b)) c.if-not-branch.false c.in_ok-fill.ensures.filled in
     let long : length c.as_mut_slice.result.now ≡ length c.in-Ok.bytes.items = ap length c.as_mut_slice.ensures.value in
     let size : length c.fill.new.buffer ≡ c.in-Ok.bytes.len = omega (arith, c.fill.auto.buffer, long, c.as_mut_slice.ensures.len, c.in-Ok.bytes.ok.0) in
     into-front c.fill.new.buffer _ c.in-Ok.bytes.len c.args.count input input' size (omega (arith, c.fill.auto.buffer, long, size, c.in-Ok.ensures)) filled

@@ -1,47 +1,118 @@
-use Rattle.std.proofs.Common.{◌≡◌, ◌≢◌, Ok, ap, sym, ◌∙◌, subst, arith, length}
+use Rattle.std.proofs.Common.{◌≡◌, ◌≢◌, Ok, Some, inl, ap, sym, ◌∙◌, subst, arith, length}
 use Rattle.std.proofs.lemmas.Result.{err_from_is_err_and}
+use Rattle.nbd_server.specs.declared.fault.ServiceFault.TheVariants as fault
 use Rattle.nbd_server.specs.declared.header.Header.{Header}
+use Rattle.nbd_server.specs.declared.phase.Phase.TheVariants.{Serving}
 use Rattle.nbd_server.specs.Exports.{export_record}
 use Rattle.nbd_server.specs.Headers.{header_of, request_magic}
 use Rattle.nbd_server.specs.Numbers.{number32}
 use Rattle.nbd_server.specs.Streaming.{Fills}
 use Rattle.nbd_server.specs.Transmission.{outcome_of}
-use Rattle.nbd_server.proofs.TurnLemmas.{request-last, request-lost, request-served}
+use Rattle.nbd_server.proofs.CountedLemmas.{read-then, read-other, written-same, written-ok, written-failed, stops-reading}
+use Rattle.nbd_server.proofs.TurnLemmas.{header-cut, request-last, request-lost, request-served, request-unlike}
 use Rattle.nbd_server.proofs.transmission.take_request.Goals as goal
 
-pub returns-then-header-eq-DISCONNECT : goal.returns-then-header-eq-DISCONNECT
-returns-then-header-eq-DISCONNECT g c =
+-- ---- the header
+
+pub returns-in_err-fill-clause-turn : goal.returns-in_err-fill-clause-turn
+returns-in_err-fill-clause-turn g c =
+    let input = g.R.Read.remaining c.args.reader.now.inner in
+    let mid = g.R.Read.remaining c.fill.new.reader.inner in
+    let p = err_from_is_err_and c.from_residual.result c.from_residual.ensures.1 in
+    rw (p.1, p.2) (header-cut (export_record c.args.export.now) Serving 28 (λ rest cut. inl cut) c.args.queue.now input mid (g.W.Write.contents c.args.writer.now.inner) c.in_err-fill.field-0.0 (length c.fill.new.buffer)
+    (omega (arith, c.fill.auto.buffer)) c.in_err-fill.ensures.filled)
+
+pub returns-in_err-fill-clause-reader : goal.returns-in_err-fill-clause-reader
+returns-in_err-fill-clause-reader g c =
+    let p = err_from_is_err_and c.from_residual.result c.from_residual.ensures.1 in
+    rw (p.1, p.2) c.in_err-fill.ensures.reader
+
+pub returns-in_err-fill-clause-writer : goal.returns-in_err-fill-clause-writer
+returns-in_err-fill-clause-writer g c =
+    let p = err_from_is_err_and c.from_residual.result c.from_residual.ensures.1 in
+    let x = c.in_err-fill.field-0.0 in
+    rw (p.1, p.2) (written-same c.args.writer.now (Some x) (stops-reading (g.R.Read.remaining c.fill.new.reader.inner) x c.in_err-fill.ensures.filled.0.cause))
+
+pub returns-then-number32-ne-MAGIC-clause-turn : goal.returns-then-number32-ne-MAGIC-clause-turn
+returns-then-number32-ne-MAGIC-clause-turn g c =
     let input = g.R.Read.remaining c.args.reader.now.inner in
     let mid = g.R.Read.remaining c.fill.new.reader.inner in
     let bytes = c.fill.new.buffer in
-    let first = subst (λ b. Fills input mid bytes (Ok b)) c.if-not-branch.false c.in_ok-fill.ensures in
+    let first = subst (λ b. Fills input mid bytes (Ok b)) c.if-not-branch.false c.in_ok-fill.ensures.filled in
+    let size : length bytes ≡ 28 = omega (arith, c.fill.auto.buffer) in
+    let other : number32 bytes 0 ≢ request_magic = λ is. c.if-number32-ne-MAGIC.true (c.number32.ensures ∙ is) in
+    request-unlike (export_record c.args.export.now) c.args.queue.now input mid (g.W.Write.contents c.args.writer.now.inner) bytes first size other
+
+pub returns-then-number32-ne-MAGIC-clause-reader : goal.returns-then-number32-ne-MAGIC-clause-reader
+returns-then-number32-ne-MAGIC-clause-reader g c = read-other fault.Magic c.in_ok-fill.ensures.reader (λ is. (cc))
+
+pub returns-then-number32-ne-MAGIC-clause-writer : goal.returns-then-number32-ne-MAGIC-clause-writer
+returns-then-number32-ne-MAGIC-clause-writer g c = written-same c.args.writer.now (Some fault.Magic) (λ is. (cc))
+
+-- ---- the request
+
+pub returns-then-header-eq-DISCONNECT-clause-turn : goal.returns-then-header-eq-DISCONNECT-clause-turn
+returns-then-header-eq-DISCONNECT-clause-turn g c =
+    let input = g.R.Read.remaining c.args.reader.now.inner in
+    let mid = g.R.Read.remaining c.fill.new.reader.inner in
+    let bytes = c.fill.new.buffer in
+    let first = subst (λ b. Fills input mid bytes (Ok b)) c.if-not-branch.false c.in_ok-fill.ensures.filled in
     let size : length bytes ≡ 28 = omega (arith, c.fill.auto.buffer) in
     let magic : number32 bytes 0 ≡ request_magic = omega (arith, c.number32.ensures, c.if-number32-ne-MAGIC.false) in
     let kind : (header_of bytes).kind ≡ 2 = sym (ap (λ (h : Header). h.kind) c.of-header.ensures) ∙ c.if-header-eq-DISCONNECT.true in
     request-last (export_record c.args.export.now) c.args.queue.now input mid (g.W.Write.contents c.args.writer.now.inner) bytes first size magic kind
 
-pub returns-in_err-outcome : goal.returns-in_err-outcome
-returns-in_err-outcome g c =
+pub returns-in_err-outcome-clause-turn : goal.returns-in_err-outcome-clause-turn
+returns-in_err-outcome-clause-turn g c =
     let input = g.R.Read.remaining c.args.reader.now.inner in
     let mid = g.R.Read.remaining c.fill.new.reader.inner in
     let input' = g.R.Read.remaining c.serve_request.new.reader.inner in
     let bytes = c.fill.new.buffer in
-    let first = subst (λ b. Fills input mid bytes (Ok b)) c.if-not-branch.false c.in_ok-fill.ensures in
+    let first = subst (λ b. Fills input mid bytes (Ok b)) c.if-not-branch.false c.in_ok-fill.ensures.filled in
     let size : length bytes ≡ 28 = omega (arith, c.fill.auto.buffer) in
     let magic : number32 bytes 0 ≡ request_magic = omega (arith, c.number32.ensures, c.if-number32-ne-MAGIC.false) in
     let p = err_from_is_err_and c.from_residual-in_err-outcome.result c.from_residual-in_err-outcome.ensures.1 in
-    rw p.1 (request-lost (export_record c.args.export.now) c.args.queue.now c.serve_request.new.queue input mid input' bytes first size magic (g.W.Write.contents c.args.writer.now.inner) p.0 c.in_err-outcome.ensures.err)
+    rw (p.1, p.2) (request-lost (export_record c.args.export.now) c.args.queue.now c.serve_request.new.queue input mid input' bytes first size magic (g.W.Write.contents c.args.writer.now.inner) c.in_err-outcome.field-0.0 (rw c.of-header.ensures at c.in_err-outcome.ensures.err))
 
-pub returns : goal.returns
-returns g c =
+pub returns-in_err-outcome-clause-reader : goal.returns-in_err-outcome-clause-reader
+returns-in_err-outcome-clause-reader g c =
+    let p = err_from_is_err_and c.from_residual-in_err-outcome.result c.from_residual-in_err-outcome.ensures.1 in
+    rw (p.1, p.2) (read-then c.in_ok-fill.ensures.reader c.in_err-outcome.ensures.reader)
+
+pub returns-in_err-outcome-clause-writer : goal.returns-in_err-outcome-clause-writer
+returns-in_err-outcome-clause-writer g c =
+    let p = err_from_is_err_and c.from_residual-in_err-outcome.result c.from_residual-in_err-outcome.ensures.1 in
+    let x = c.in_err-outcome.field-0.0 in
+    rw (p.1, p.2) (written-same c.args.writer.now (Some x) (stops-reading (g.R.Read.remaining c.serve_request.new.reader.inner) x c.in_err-outcome.ensures.err.0.cause))
+
+-- ---- the reply
+
+pub returns-in_err-say_reply-clause-reader : goal.returns-in_err-say_reply-clause-reader
+returns-in_err-say_reply-clause-reader g c =
+    let p = err_from_is_err_and c.from_residual-in_err-say_reply.result c.from_residual-in_err-say_reply.ensures.1 in
+    rw (p.1, p.2) (read-other fault.WriteFault (read-then c.in_ok-fill.ensures.reader c.in_ok-outcome.ensures.reader) (λ is. (cc)))
+
+pub returns-in_err-say_reply-clause-writer : goal.returns-in_err-say_reply-clause-writer
+returns-in_err-say_reply-clause-writer g c =
+    let p = err_from_is_err_and c.from_residual-in_err-say_reply.result c.from_residual-in_err-say_reply.ensures.1 in
+    rw (p.1, p.2) (written-failed c.in_err-say_reply.ensures.failed)
+
+pub returns-clause-turn : goal.returns-clause-turn
+returns-clause-turn g c =
     let input = g.R.Read.remaining c.args.reader.now.inner in
     let mid = g.R.Read.remaining c.fill.new.reader.inner in
     let input' = g.R.Read.remaining c.serve_request.new.reader.inner in
     let bytes = c.fill.new.buffer in
-    let first = subst (λ b. Fills input mid bytes (Ok b)) c.if-not-branch.false c.in_ok-fill.ensures in
+    let first = subst (λ b. Fills input mid bytes (Ok b)) c.if-not-branch.false c.in_ok-fill.ensures.filled in
     let size : length bytes ≡ 28 = omega (arith, c.fill.auto.buffer) in
     let magic : number32 bytes 0 ≡ request_magic = omega (arith, c.number32.ensures, c.if-number32-ne-MAGIC.false) in
     let other : (header_of bytes).kind ≢ 2 = λ is. c.if-header-eq-DISCONNECT.false (ap (λ (h : Header). h.kind) c.of-header.ensures ∙ is) in
     request-served (export_record c.args.export.now) c.args.queue.now c.serve_request.new.queue input mid input' bytes first size magic
     (g.W.Write.contents c.args.writer.now.inner) (g.W.Write.contents c.say_reply.new.writer.inner) (outcome_of c.in_ok-outcome.outcome) other
     (rw c.of-header.ensures at c.in_ok-outcome.ensures.ok) (rw c.of-header.ensures at c.in_ok-say_reply.ensures.ok)
+
+pub returns-clause-reader : goal.returns-clause-reader
+returns-clause-reader g c = read-then c.in_ok-fill.ensures.reader c.in_ok-outcome.ensures.reader
+
+pub returns-clause-writer : goal.returns-clause-writer
+returns-clause-writer g c = written-ok c.in_ok-say_reply.ensures.kept

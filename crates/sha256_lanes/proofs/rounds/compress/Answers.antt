@@ -12,7 +12,7 @@ schedule-init c = λ j lt.
     let at = c.args.at + j * c.args.stride in
     let b = take 64 (drop at c.args.bytes.now) in
     let h = state_of_lane j c.args.state.now in
-    let window = IsWindow_first b (words_of_lane j c.load.w) refl (λ k in_block. slice_index-words_of_lane c.load.w j k in_block ∙ c.load.invariant.1 j lt k (omega arith)
+    let window = IsWindow_first b (words_of_lane j c.words-w.result) refl (λ k in_block. slice_index-words_of_lane c.words-w.result j k in_block ∙ c.words-w.ensures j lt k in_block
     ∙ sym (word_at-part c.args.bytes.now at (4 * k) _ (omega arith) (omega arith))) in
     let s1 = c.first_four_steps-first.ensures j lt b h window refl in
     let s2 = c.first_four_steps-first-2.ensures j lt b h window s1 in

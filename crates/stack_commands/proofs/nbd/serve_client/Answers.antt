@@ -1,4 +1,4 @@
-use Rattle.std.proofs.Common.{ℕ, List, map, ap, ◌∙◌, subst, inl, inr, refl, Ok, Err}
+use Rattle.std.proofs.Common.{ℕ, List, map, ap, ◌∙◌, subst, inl, inr, refl, Some, Ok, Err}
 use Rattle.std.specs.Borrow.{Bor}
 use Rattle.block_device.specs.contracts.any.AnyDevBlockDev.TheImpl.{ghosts}
 use Rattle.command_faults.specs.declared.fault.CommandFault.TheVariants.{Io, Service}
@@ -8,9 +8,9 @@ use Rattle.request_queue.specs.World.{World}
 use Rattle.stack_session.specs.Session.{streams}
 use Rattle.nbd_server.specs.Exports.{IsExport, export_record}
 use Rattle.command_line.specs.Bindings.{binding_record}
-use Rattle.stack_commands.specs.StackCommands.{ServesClient}
+use Rattle.stack_commands.specs.StackCommands.{IsSyncEnd, ServesClient}
 use Rattle.stack_commands.proofs.OpeningLemmas.{err-from}
-use Rattle.stack_commands.proofs.ServeLemmas.{ServesClient-new}
+use Rattle.stack_commands.proofs.ServeLemmas.{ServesClient-new, ServesClient-unsynced}
 use Rattle.stack_commands.proofs.nbd.serve_client.Goals as goal
 
 pub returns-in_err-text-clause-err : goal.returns-in_err-text-clause-err
@@ -43,7 +43,8 @@ returns-in_err-outcome-clause-err g c =
       refl,
       (subst (λ (n : List ℕ). ServesClient bindings n old new (Err c.in_err-outcome.field-0.0)) named
           (ServesClient-new bindings over.leaves.items c.as_slice.result.now (map ghosts.state over.devices.items) made.0 e c.in_ok-queue.queue c.serve-outcome.new.queue old new (Err c.in_err-outcome.field-0.0)
-          c.in_ok-over.ensures.bound (rw c.as_slice.ensures.value c.in_ok-text.ensures.ok) made.1 made.2 (subst (λ (x : Configuration). IsExport x e) at c.in-Some.ensures.some.0) c.in_err-outcome.ensures)),
+          c.in_ok-over.ensures.bound (rw c.as_slice.ensures.value c.in_ok-text.ensures.ok) made.1 made.2 (subst (λ (x : Configuration). IsExport x e) at c.in-Some.ensures.some.0) c.in_err-outcome.ensures.service)),
+      λ is. c.in_err-outcome.ensures.writer.failed (ap Some is),
     )))
 
 pub returns-in_err-synced-clause-err : goal.returns-in_err-synced-clause-err
@@ -58,10 +59,10 @@ returns-in_err-synced-clause-err g c =
     let new = streams (g.S.Read.remaining c.serve-outcome.new.reader.inner) (g.W.Write.contents c.serve-outcome.new.writer.inner) in
     err-from c.from_residual-in_err-synced.result _ (Io c.in_err-synced.field-0.0) c.from_residual-in_err-synced.ensures.1
     (inr (inr (
-      (subst (λ (n : List ℕ). ServesClient bindings n old new (Ok tt)) named
-          (ServesClient-new bindings over.leaves.items c.as_slice.result.now (map ghosts.state over.devices.items) made.0 e c.in_ok-queue.queue c.serve-outcome.new.queue old new (Ok tt)
-          c.in_ok-over.ensures.bound (rw c.as_slice.ensures.value c.in_ok-text.ensures.ok) made.1 made.2 (subst (λ (x : Configuration). IsExport x e) at c.in-Some.ensures.some.0) c.in_ok-outcome.ensures)),
-      (_, c.in_err-synced.ensures.after, c.in_err-synced.ensures.fails),
+    subst (λ (n : List ℕ). (served : ServesClient bindings n old new (Ok tt)) × IsSyncEnd served.last.stack.leaves (Io c.in_err-synced.field-0.0)) named
+    (ServesClient-unsynced bindings over.leaves.items c.as_slice.result.now (map ghosts.state over.devices.items) made.0 e c.in_ok-queue.queue c.serve-outcome.new.queue old new
+    c.in_ok-over.ensures.bound (rw c.as_slice.ensures.value c.in_ok-text.ensures.ok) made.1 made.2 (subst (λ (x : Configuration). IsExport x e) at c.in-Some.ensures.some.0) c.in_ok-outcome.ensures.service
+    c.in_err-synced.field-0.0 c.in_err-synced.ensures.after c.in_err-synced.ensures.fails)
     )))
 
 pub returns-clause-ok : goal.returns-clause-ok
@@ -76,4 +77,4 @@ returns-clause-ok g c =
     let new = streams (g.S.Read.remaining c.serve-outcome.new.reader.inner) (g.W.Write.contents c.serve-outcome.new.writer.inner) in
     (subst (λ (n : List ℕ). ServesClient bindings n old new (Ok tt)) named
     (ServesClient-new bindings over.leaves.items c.as_slice.result.now (map ghosts.state over.devices.items) made.0 e c.in_ok-queue.queue c.serve-outcome.new.queue old new (Ok tt)
-    c.in_ok-over.ensures.bound (rw c.as_slice.ensures.value c.in_ok-text.ensures.ok) made.1 made.2 (subst (λ (x : Configuration). IsExport x e) at c.in-Some.ensures.some.0) c.in_ok-outcome.ensures))
+    c.in_ok-over.ensures.bound (rw c.as_slice.ensures.value c.in_ok-text.ensures.ok) made.1 made.2 (subst (λ (x : Configuration). IsExport x e) at c.in-Some.ensures.some.0) c.in_ok-outcome.ensures.service))

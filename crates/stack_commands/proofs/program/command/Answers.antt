@@ -9,6 +9,8 @@ pub returns-in-Err : goal.returns-in-Err
 returns-in-Err g c = inr (record {
   fault = c.in-Err.fault;
   before = _;
+  unwritten = c.run.new.writer.failed;
   fails = c.in-Err.ensures.err;
-  told = c.end.ensures;
+  kept = c.end.ensures.failed;
+  told = c.end.ensures.told;
 })

@@ -25,7 +25,7 @@ returns-in_err-counts-clause-err g c =
       has = c.in_ok-stack.ensures.ok;
     } in
     err-from c.from_residual-in_err-counts.result _ c.in_err-counts.field-0.0 c.from_residual-in_err-counts.ensures.1
-    (inr (scan-ends _ _ c.in_ok-stack.stack c.in_ok-stack.device.0 had _ _ _ refl c.in_err-counts.field-0.0 c.in_err-counts.ensures.err))
+    (inr (scan-ends _ _ c.in_ok-stack.stack c.in_ok-stack.device.0 had _ _ _ _ refl c.in_err-counts.field-0.0 c.in_err-counts.ensures.err))
 
 pub returns-clause-ok : goal.returns-clause-ok
 returns-clause-ok g c =
@@ -53,4 +53,4 @@ returns-clause-err g c =
     } in
     let done = c.in_ok-counts.ensures.ok in
     IfErr-weaker c.tell_counts.result _ _
-    (λ fault e. inr (counts-end _ _ _ _ _ _ c.in_ok-counts.counts (runs-printed _ _ c.in_ok-stack.stack c.in_ok-stack.device.0 had _ _ c.in_ok-counts.counts _ done) done.counted fault e)) c.tell_counts.ensures.err
+    (λ fault e. inr (counts-end _ _ _ _ _ _ c.in_ok-counts.counts (runs-printed _ _ c.in_ok-stack.stack c.in_ok-stack.device.0 had _ _ c.in_ok-counts.counts _ done) done.counted _ fault e)) c.tell_counts.ensures.err

@@ -1,4 +1,4 @@
-use Rattle.std.proofs.Common.{◌≡◌, ℕ, ◌+◌, ◌<◌, ◌≤◌, Bool, true, false, ◌&&◌, ◌||◌, ◌==◌, List, length, map, get_or, set, take, Some, refl, sym, ap, ◌∙◌, subst, arith, inl, inr}
+use Rattle.std.proofs.Common.{◌+◌, arith}
 use Rattle.stack_engine.proofs.StandingLemmas.{depth-some, sets-all}
 use Rattle.stack_engine.proofs.leaf_sets.leaf_sets.Goals as goal
 

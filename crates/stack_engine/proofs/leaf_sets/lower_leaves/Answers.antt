@@ -1,4 +1,4 @@
-use Rattle.std.proofs.Common.{◌≡◌, ℕ, ◌+◌, ◌<◌, ◌≤◌, Bool, true, false, ◌&&◌, ◌||◌, ◌==◌, List, length, map, get_or, set, take, Some, refl, sym, ap, ◌∙◌, subst, arith, inl, inr}
+use Rattle.std.proofs.Common.{Bool, ◌||◌, ◌==◌, sym, ap, ◌∙◌}
 use Rattle.stack_engine.specs.Standing.{stands_on}
 use Rattle.stack_engine.proofs.StandingLemmas.{stands-leaf}
 use Rattle.stack_engine.proofs.leaf_sets.lower_leaves.Goals as goal

@@ -42,7 +42,7 @@ use Rattle.stack_engine.proofs.BlockPartLemmas.{kept_length, contains_at, part-r
 use Rattle.stack_engine.specs.declared.source.BlockPart.{BlockPart}
 use Rattle.stack_engine.specs.Sources.{AreUnits}
 use Rattle.stack_engine.proofs.lemmas.BlockLemmas.{length-content}
-use Rattle.stack_engine.proofs.lemmas.WalkLemmas.{checked_ok, data_zeros, data_full, data_read, walk_down, walk_stops, walk_ends, walk_fails, walk_full}
+use Rattle.stack_engine.proofs.lemmas.WalkLemmas.{checked_ok, data_zeros, data_read, walk_down, walk_stops, walk_ends, walk_fails, walk_full}
 use Rattle.stack_engine.proofs.read.+read.Goals.{read_block-in-Err-push, read_block-in-Ok-push}
 use Rattle.stack_engine.proofs.LeafLemmas.{all-whole}
 use Rattle.stack_rules.specs.Units.{unit_sectors}

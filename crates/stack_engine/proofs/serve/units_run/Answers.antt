@@ -1,10 +1,9 @@
-use Rattle.std.proofs.Common.{◌≡◌, ◌+◌, ◌-◌, ◌*◌, ◌/◌, ◌%◌, ◌<◌, ◌≤◌, ℕ, refl, sym, ap, ◌∙◌, inr, arith}
+use Rattle.std.proofs.Common.{◌≡◌, ◌+◌, ◌-◌, ◌*◌, ◌/◌, ◌%◌, ◌<◌, ℕ, refl, ap, ◌∙◌, inr, arith}
 use Rattle.std.proofs.lemmas.Nat.{div-add-mod', mod-mul-add, mod_below}
 use Rattle.stack_rules.specs.Units.{unit_sectors}
 use Rattle.stack_engine.proofs.StripeLemmas.{part-ends}
 use Rattle.stack_rules.proofs.lemmas.UnitLemmas.{unit_sectors-some}
 use Rattle.stack_engine.proofs.lemmas.UnitLemmas.{unit-more}
-use Rattle.stack_engine.proofs.serve.units_run.Given as given
 use Rattle.stack_engine.proofs.serve.units_run.Goals as goal
 
 -- as many sectors as whole units have

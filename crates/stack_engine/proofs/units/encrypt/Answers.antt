@@ -1,4 +1,4 @@
-use Rattle.std.proofs.Common.{◌≡◌, ℕ, List, Option, Some, ◌+◌, ◌*◌, ◌/◌, ◌%◌, ◌<◌, ◌≤◌, IsTrue, sym, ap, ◌∙◌, subst, refl, arith}
+use Rattle.std.proofs.Common.{◌≡◌, ℕ, List, Option, Some, ◌*◌, ◌%◌, IsTrue, sym, ap, ◌∙◌, subst, refl, arith}
 use Rattle.std.specs.Prelude.{is_some}
 use Rattle.dm_table.specs.Crypt.{sector_size}
 use Rattle.stack_rules.specs.Units.{unit_sectors}

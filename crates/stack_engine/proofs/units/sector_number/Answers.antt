@@ -1,4 +1,4 @@
-use Rattle.std.proofs.Common.{◌≡◌, ◌+◌, ◌*◌, ◌%◌, ◌^◌, ℕ, ap, ◌∙◌, arith}
+use Rattle.std.proofs.Common.{◌≡◌, ◌*◌, ℕ, ap, ◌∙◌, arith}
 use Rattle.stack_rules.specs.Units.{unit_sectors}
 use Rattle.stack_engine.proofs.units.sector_number.Goals as goal
 

@@ -1,4 +1,4 @@
-use Rattle.std.proofs.Common.{◌≡◌, ◌+◌, ◌-◌, ◌≤◌, ◌*◌, ◌/◌, ℕ, List, arith, rules, refl, sym, ◌∙◌, ap, ap₂, subst, length, Option, Some, None}
+use Rattle.std.proofs.Common.{◌≡◌, ◌⊎◌, ◌+◌, ◌-◌, ◌≤◌, ◌<◌, ◌*◌, ◌/◌, ◌^◌, ℕ, List, arith, rules, refl, sym, ◌∙◌, ap, ap₂, subst, length, Option, Some, None}
 use Rattle.std.proofs.lemmas.Bool.{false≢true}
 use Rattle.block_device.specs.Device.{sectors_of, spliced}
 use Rattle.stack_rules.specs.Names.{mapped, size}
@@ -27,13 +27,14 @@ pieces-init g c =
       all = c.sectors-sectors.ensures ∙ ap (λ (x : Configuration). size x (mapped c.args.d.0)) c.config.ensures.value;
       pace = c.new-pace.ensures;
       kept = refl;
+      unfailed = refl;
     }
 
 pub returns-in_err-write-in-Ok-clause-err : goal.returns-in_err-write-in-Ok-clause-err
 returns-in_err-write-in-Ok-clause-err g c =
     err-from c.from_residual.result _ Output c.from_residual.ensures.1 (
       begun c.args.d.0 _ _ c.pieces.at c.pieces.tally c.pieces.invariant.so_far c.read_piece.new.self _,
-      ((g.O.BlockDev.state c.pieces.out, c.in_err-write-in-Ok.ensures.fault), λ h. false≢true (c.in_err-write-in-Ok.ensures.sure (c.pieces.invariant.so_far.copied.same.never_fails h))),
+      (subst (λ (n : ℕ). (n < (g.O.BlockDev.state c.write.new.self).failures) ⊎ (n ≡ 2 ^ 64 - 1)) c.pieces.invariant.unfailed c.in_err-write-in-Ok.ensures.fault, λ h. false≢true (c.in_err-write-in-Ok.ensures.sure (c.pieces.invariant.so_far.copied.same.never_fails h))),
     )
 
 pub pieces-preserved-in-Ok : goal.pieces-preserved-in-Ok
@@ -60,6 +61,7 @@ pieces-preserved-in-Ok g c =
       all = before.all;
       pace = c.after_bytes-pace.ensures;
       kept = c.in_ok-close-in-Ok.ensures.text.kept ∙ before.kept;
+      unfailed = c.in_ok-write-in-Ok.ensures.moved.failures ∙ before.unfailed;
     }
 
 pub returns-then-is_same-clause-err : goal.returns-then-is_same-clause-err
@@ -100,6 +102,7 @@ pieces-preserved-then-piece g c =
       all = before.all;
       pace = c.after_loss-pace.ensures;
       kept = c.in_ok-lose-in-Err.ensures.text.kept ∙ before.kept;
+      unfailed = before.unfailed;
     }
 
 pub pieces-preserved : goal.pieces-preserved
@@ -113,6 +116,7 @@ pieces-preserved g c =
       all = before.all;
       pace = c.after_failure-pace.ensures.pace;
       kept = before.kept;
+      unfailed = before.unfailed;
     }
 
 pub overflow_sub-result : goal.overflow_sub-result
@@ -123,4 +127,4 @@ returns-clause-ok g c =
     let before = c.pieces.invariant in
     let all : c.sectors-sectors.result ≡ c.pieces.at = omega (arith, before.within, c.pieces-test.false) in
     underway-all c.args.d.0 _ _ c.pieces.at c.pieces.tally before.so_far (g.W.Write.contents c.close-2.new.writer.inner) c.sectors-sectors.result _ (sym all ∙ before.all) all
-    c.in_ok-close.ensures.text.ok (ap (λ (m : ℕ). record { read = c.sectors-sectors.result - m; lost = m }) c.close-2.ensures.lost)
+    c.in_ok-close.ensures.text.ok (ap (λ (m : ℕ). record { read = c.sectors-sectors.result - m; lost = m }) c.close-2.ensures.lost) before.unfailed

@@ -14,6 +14,7 @@ invariant-pieces g l = record {
   all : l.sectors ≡ size l.fn.stack.config (mapped l.d.0);
   pace : IsPace l.pace.most;
   kept : l.writer.failed ≡ l.fn.writer.failed;
+  unfailed : (g.O.BlockDev.state l.out).failures ≡ (g.O.BlockDev.state l.fn.out).failures;
 }
 
 -- a piece that is lost in part makes the next one shorter

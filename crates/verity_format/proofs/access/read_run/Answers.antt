@@ -1,4 +1,4 @@
-use Rattle.std.proofs.Common.{◌≡◌, ◌*◌, ◌/◌, ◌∙◌, ap, sym, arith, refl, length, map, All, List, ℕ, subst}
+use Rattle.std.proofs.Common.{◌≡◌, ◌*◌, ◌/◌, ◌∙◌, ap, sym, arith, refl, length, map, All, subst}
 use Rattle.std.proofs.lemmas.List.Elements.{All-map}
 use Rattle.hash_tree.specs.Digests.{digest}
 use Rattle.hash_tree.specs.Tree.{cut}

@@ -1,7 +1,5 @@
-use Rattle.std.proofs.Common.{◌++◌, ◌*◌, ◌/◌, List, IsTrue, length, take}
-use Rattle.hash_tree.specs.Building.{PlacedRecord}
-use Rattle.hash_tree.specs.Placing.{IsLeastDiffering}
-use Rattle.verity_format.specs.Blocks.{block_at, IsOnlyRead, IsFullRead}
+use Rattle.std.proofs.Common.{◌*◌, ◌/◌, length, take}
+use Rattle.verity_format.specs.Blocks.{IsOnlyRead, IsFullRead}
 use Rattle.verity_format.specs.Comparing.{IsLeastWith}
 use Rattle.verity_format.proofs.comparing.compare_blocks.Given as goal
 

@@ -1,6 +1,6 @@
-use Rattle.std.proofs.Common.{◌≡◌, ◌≤◌, ◌<◌, ◌+◌, ◌++◌, ◌∙◌, ℕ, List, None, sym, ap, subst, arith, length}
+use Rattle.std.proofs.Common.{◌≡◌, ◌++◌, ◌∙◌, ℕ, List, None, sym, ap, subst, arith, length}
 use Rattle.std.proofs.lemmas.List.{length-replicate}
-use Rattle.hash_tree.specs.Building.{PlacedRecord, BuilderRecord, begun_builder, pushed, last_completed}
+use Rattle.hash_tree.specs.Building.{PlacedRecord, BuilderRecord, pushed, last_completed}
 use Rattle.hash_tree.proofs.lemmas.BuilderLemmas.{left-pushed}
 use Rattle.verity_format.specs.Growth.{IsRunTaken}
 use Rattle.verity_format.specs.Comparing.{IsComparing}

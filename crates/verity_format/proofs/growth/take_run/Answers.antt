@@ -1,5 +1,4 @@
-use Rattle.std.proofs.Common.{◌≡◌, ◌<◌, ◌≤◌, ◌-◌, ◌*◌, ◌/◌, ◌++◌, ◌∙◌, ℕ, List, All, sym, ap, subst, arith, length, drop, map}
-use Rattle.std.proofs.Math.Nat.{div_self}
+use Rattle.std.proofs.Common.{◌≡◌, ◌≤◌, ◌-◌, ◌*◌, ◌/◌, ◌++◌, ◌∙◌, ℕ, List, All, sym, ap, subst, arith, length, drop, map}
 use Rattle.std.proofs.lemmas.List.{take_at}
 use Rattle.hash_tree.specs.Building.{completed}
 use Rattle.hash_tree.specs.Digests.{digest}

@@ -1,14 +1,13 @@
-use Rattle.std.proofs.Common.{◌≡◌, ◌+◌, ◌*◌, ◌/◌, ◌∙◌, ℕ, List, Option, Some, None, Bool, true, false, refl, sym, ap, subst, arith}
+use Rattle.std.proofs.Common.{◌≡◌, ◌∙◌, ℕ, List, Option, Some, None, Bool, true, false, sym, subst}
 use Rattle.std.specs.Str.{bytes_eq}
 use Rattle.std.proofs.lemmas.Result.{err_from_is_err_and}
 use Rattle.std.proofs.lemmas.Slice.Eq.{bytes_eq-Decides}
-use Rattle.hash_tree.specs.Shape.{ShapeRecord}
 use Rattle.verity_format.specs.Superblock.{SuperRecord, shape_of}
 use Rattle.verity_format.specs.Blocks.{IsFullRead}
 use Rattle.verity_format.specs.Image.{data_sectors, root_over}
 use Rattle.verity_format.specs.Comparing.{IsTreeCompared}
 use Rattle.verity_format.specs.Verifying.{AreaStands, IsVerdict, hash_sectors_read}
-use Rattle.verity_format.specs.declared.verifying.Verdict.TheVariants.{Matches, RootDiffers, AreaDiffers}
+use Rattle.verity_format.specs.declared.verifying.Verdict.TheVariants.{AreaDiffers}
 use Rattle.verity_format.proofs.DeviceLemmas.{steady-then}
 use Rattle.verity_format.proofs.VerifyingLemmas.{full_read-compared, super-cause, pair-cause, compared-shape, verdict-area, verdict-stands}
 use Rattle.verity_format.proofs.verifying.verify.Goals as goal

@@ -1,9 +1,9 @@
-use Rattle.std.proofs.Common.{◌≡◌, ◌≤◌, ◌<◌, ◌+◌, ◌*◌, ◌/◌, ◌%◌, ◌^◌, ◌++◌, ◌∷◌, ◌∙◌, [], ℕ, List, Bool, true, false, All, IsTrue, length, min, get_or, take, sym, ap, arith, subst}
+use Rattle.std.proofs.Common.{◌≡◌, ◌≤◌, ◌+◌, ◌*◌, ◌/◌, ◌%◌, ◌^◌, ◌++◌, ◌∷◌, ◌∙◌, [], ℕ, List, true, false, IsTrue, length, min, take, sym, ap, arith, subst}
 use Rattle.std.proofs.lemmas.List.{take_more, take_all}
 use Rattle.std.proofs.lemmas.Result.{err_from_is_err_and}
-use Rattle.block_device.specs.Device.{Device, IsWritten, spliced, sectors_of}
+use Rattle.block_device.specs.Device.{IsWritten, spliced, sectors_of}
 use Rattle.hash_tree.specs.Building.{PlacedRecord}
-use Rattle.verity_format.specs.Writing.{MayStand, StandsWithin, IsPartWritten, AreWritten}
+use Rattle.verity_format.specs.Writing.{MayStand, StandsWithin, AreWritten}
 use Rattle.verity_format.proofs.DeviceLemmas.{same-none, same-then, failed-then}
 use Rattle.verity_format.proofs.SizeLemmas.{block-size}
 use Rattle.verity_format.proofs.WritingLemmas.{part-none, part-one, part-then, part-more, written-none, written-one, written-then}

@@ -1,4 +1,4 @@
-use Rattle.std.proofs.Common.{◌≡◌, ◌/◌, ℕ, All, take, length}
+use Rattle.std.proofs.Common.{ℕ, All, take}
 use Rattle.block_device.specs.Device.{IsSameDevice}
 use Rattle.verity_format.specs.Writing.{StandsWithin, IsPartWritten, AreWritten}
 use Rattle.verity_format.proofs.writing.write_blocks.Given as goal

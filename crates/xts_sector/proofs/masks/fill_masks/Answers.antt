@@ -2,7 +2,7 @@ use Rattle.std.proofs.Common.{◌≡◌, ℕ, ◌/◌, length, sym, ap, ◌∙�
 use Rattle.aes_block.specs.Blocks.{joined}
 use Rattle.aes_block.proofs.lemmas.BlockLemmas.{IsWritten-none, IsWritten-more, IsWritten-all}
 use Rattle.xts_sector.specs.Tweak.{block_of, times_alpha, times_alpha_power}
-use Rattle.xts_sector.proofs.TweakLemmas.{times_alpha_power_more, length-times_alpha_power, length-block_of, block_of_is}
+use Rattle.xts_sector.proofs.TweakLemmas.{times_alpha_power_more, length-times_alpha_power, length-block_of}
 use Rattle.xts_sector.proofs.masks.fill_masks.Goals as goal
 
 pub loop-j-init : goal.loop-j-init
@@ -14,10 +14,10 @@ loop-j-preserved c =
     let tweaks = λ (j : ℕ). times_alpha_power j first in
     let j = c.loop-j.j in
     let so_far = c.loop-j.invariant in
-    let out : c.copy_from_slice.new.self ≡ tweaks j = c.copy_from_slice.ensures.after ∙ c.to_le_bytes.ensures ∙ block_of_is c.loop-j.tweak ∙ so_far.tweak in
+    let out : c.write_tweak.new.block ≡ tweaks j = c.write_tweak.ensures ∙ so_far.tweak in
     record {
       tweak = c.times_alpha-tweak.ensures ∙ ap times_alpha so_far.tweak ∙ sym (times_alpha_power_more j first);
-      written = IsWritten-more tweaks c.args.masks.now c.loop-j.masks c.copy_from_slice.new.self j (omega arith) out
+      written = IsWritten-more tweaks c.args.masks.now c.loop-j.masks c.write_tweak.new.block j (omega arith) out
           (ap length out ∙ length-times_alpha_power j first (length-block_of c.args.first)) so_far.written;
     }
 

@@ -6,7 +6,6 @@ use Rattle.stack_engine.specs.Syncs.{NeverFail}
 use Rattle.stack_engine.proofs.CachedLemmas.{cached-read}
 use Rattle.stack_engine.proofs.lemmas.PieceLemmas.{piece-sound}
 use Rattle.stack_engine.proofs.lemmas.SyncLemmas.{sync-read, sync-sure}
-use Rattle.stack_engine.proofs.stack.Stack.sync.Given as given
 use Rattle.stack_engine.proofs.stack.Stack.sync.Goals as goal
 
 pub invariant_of-self : goal.invariant_of-self

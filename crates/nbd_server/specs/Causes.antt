@@ -1,0 +1,91 @@
+-- Why the service of a client ends early: the phase it was in, and what had come of the client's message.
+use Rattle.std.specs.Prelude.{◌≡◌, ◌≢◌, ◌⊎◌, ◌<◌, ◌≤◌, ℕ, false, List, [], ◌++◌, length, take, codes, Option}
+use Rattle.std.specs.Io.KnownBytes.{IsAtEnd}
+use Rattle.nbd_server.specs.Numbers.{number32}
+use Rattle.nbd_server.specs.Exports.{ExportRecord, is_asked}
+use Rattle.nbd_server.specs.Handshake.{most_data}
+use Rattle.nbd_server.specs.Headers.{header_of, payload_len, request_magic}
+use Rattle.nbd_server.specs.declared.fault.ServiceFault.{ServiceFault}
+use Rattle.nbd_server.specs.declared.fault.ServiceFault.TheVariants.{Lost, Magic, Flags, NoSuchExport, ReadFault, WriteFault, NoMemory}
+use Rattle.nbd_server.specs.declared.phase.Phase.{Phase}
+use Rattle.nbd_server.specs.declared.phase.Phase.TheVariants.{Greeted, Haggling, Serving, Over}
+
+-- ---- messages that were cut
+
+-- the header of an option, and how many bytes of data it says
+pub record IsOptionHeader (header : List ℕ) : Type 0 where
+  pub size : length header ≡ 16
+  pub magic : take 8 header ≡ codes "IHAVEOPT"
+
+abbrev pub data_len : List ℕ → ℕ
+data_len header = number32 header 12
+
+-- the header of a request, and how many bytes follow it
+pub record IsRequestHeader (header : List ℕ) : Type 0 where
+  pub size : length header ≡ 28
+  pub magic : number32 header 0 ≡ request_magic
+
+abbrev pub request_payload_len : List ℕ → ℕ
+request_payload_len header = payload_len (header_of header)
+
+-- some bytes came, but not as many
+abbrev pub IsCutWithin : ℕ → List ℕ → Type 0
+IsCutWithin size rest = (0 < length rest) × (length rest < size)
+
+-- a whole header came, but not all that it says
+pub record IsCutBehind (IsHeader : List ℕ → Type 0) (count : List ℕ → ℕ) (rest : List ℕ) : Type 0 where
+  pub header : List ℕ
+  pub part : List ℕ
+  pub rest_is : rest ≡ header ++ part
+  pub is_header : IsHeader header
+  pub few : length part < count header
+
+-- a message of the client began and didn't end
+abbrev pub IsCut : Phase → List ℕ → Type 0
+IsCut Greeted rest = IsCutWithin 4 rest
+IsCut (Haggling no_zeroes) rest = IsCutWithin 16 rest ⊎ IsCutBehind IsOptionHeader data_len rest
+IsCut Serving rest = IsCutWithin 28 rest ⊎ IsCutBehind IsRequestHeader request_payload_len rest
+IsCut Over rest = ⊥
+
+-- ---- messages that a service doesn't go on from
+
+-- a whole header, of another magic number
+abbrev pub HasOtherMagic : Phase → List ℕ → Type 0
+HasOtherMagic Greeted rest = ⊥
+HasOtherMagic (Haggling no_zeroes) rest = (length rest ≡ 16) × (take 8 rest ≢ codes "IHAVEOPT")
+HasOtherMagic Serving rest = (length rest ≡ 28) × (number32 rest 0 ≢ request_magic)
+HasOtherMagic Over rest = ⊥
+
+-- the client's flags, of others than the two that were offered
+abbrev pub HasOtherFlags : Phase → List ℕ → Type 0
+HasOtherFlags Greeted rest = (length rest ≡ 4) × (4 ≤ number32 rest 0)
+HasOtherFlags phase rest = ⊥
+
+-- the whole option EXPORT_NAME with that name
+pub record IsNaming (rest name : List ℕ) : Type 0 where
+  pub header : List ℕ
+  pub rest_is : rest ≡ header ++ name
+  pub is_header : IsOptionHeader header
+  pub option : number32 header 8 ≡ 1
+  pub count : length name ≡ data_len header
+
+-- it names no export that is there
+abbrev pub NamesOther : ExportRecord → Phase → List ℕ → Type 0
+NamesOther e (Haggling no_zeroes) rest = (name : List ℕ) × IsNaming rest name × (is_asked e name ≡ false)
+NamesOther e phase rest = ⊥
+
+-- its name wants memory
+abbrev pub NamesSome : Phase → List ℕ → Type 0
+NamesSome (Haggling no_zeroes) rest = (name : List ℕ) × IsNaming rest name × (0 < length name) × (length name ≤ most_data)
+NamesSome phase rest = ⊥
+
+-- Why the service ends in that phase, where this came of a message and that is left of the input. `HasRead` says of
+-- ReadFault that the reader failed, and `HasWritten` of WriteFault that the writer did.
+abbrev pub Breaks : ExportRecord → Phase → List ℕ → Option (List ℕ) → ServiceFault → Type 0
+Breaks e phase rest input Lost = IsCut phase rest × IsAtEnd input
+Breaks e phase rest input Magic = HasOtherMagic phase rest
+Breaks e phase rest input Flags = HasOtherFlags phase rest
+Breaks e phase rest input NoSuchExport = NamesOther e phase rest
+Breaks e phase rest input ReadFault = (rest ≡ []) ⊎ IsCut phase rest
+Breaks e phase rest input WriteFault = ⊥
+Breaks e phase rest input NoMemory = NamesSome phase rest

@@ -1,0 +1,17 @@
+//! Bytes as hexadecimal digits.
+ghost use Rattle.std.specs.Prelude.{◌≡◌, length, MatchResult};
+ghost use Rattle.dm_table.specs.Arguments.{bytes_at};
+
+use dm_table::TextKind;
+
+/// Fills the slice with the bytes of twice as many digits, of either case; else that kind of fault.
+pub(crate) fn decode_digits(word: &[u8], out: &mut [u8], kind: TextKind) -> Result<(), TextKind>
+    ensures { MatchResult result
+        (λ _. bytes_at (length out.old) kind word.now ≡ Ok out.new)
+        (λ fault. bytes_at (length out.old) kind word.now ≡ Err fault) }
+{
+    match hex::decode_to_slice(word, out) {
+        Ok(()) => Ok(()),
+        Err(_) => Err(kind),
+    }
+}

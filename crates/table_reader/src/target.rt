@@ -1,0 +1,112 @@
+//! The target of a line.
+ghost use Rattle.std.specs.Prelude.{◌≡◌, length, ◌*◌};
+ghost use Rattle.table_reader.specs.Reading.{IsReading};
+ghost use Rattle.dm_table.specs.Arguments.{base_at};
+ghost use Rattle.dm_table.specs.Lines.{bases_at, chunk_at, linear_at, stripes_at, striped_at, target_at, bare_at};
+
+use crate::crypt_arguments::read_crypt;
+use crate::cut::Words;
+use crate::line_fault::LineFault;
+use crate::numbers::number;
+use crate::verity_arguments::read_verity;
+use dm_table::{Base, Bases, Name, Target, TextKind, is_device};
+use std::alloc::Global;
+
+/// Reads the arguments of that target type.
+pub(crate) fn read_target(
+    alloc: Global,
+    kind: &[u8],
+    arguments: Words<'_>,
+) -> Result<Target, LineFault>
+    ensures { IsReading result (target_at kind.now arguments.entry) }
+{
+    if kind == b"linear".as_slice() {
+        read_linear(alloc, arguments)
+    } else if kind == b"striped".as_slice() {
+        read_striped(alloc, arguments)
+    } else if kind == b"zero".as_slice() {
+        read_bare(Target::Zero, arguments)
+    } else if kind == b"error".as_slice() {
+        read_bare(Target::Error, arguments)
+    } else if kind == b"crypt".as_slice() {
+        Ok(Target::Crypt(read_crypt(alloc, arguments)?))
+    } else if kind == b"verity".as_slice() {
+        Ok(Target::Verity(read_verity(alloc, arguments)?))
+    } else {
+        Err(LineFault::Kind(TextKind::Target))
+    }
+}
+
+fn read_bare(target: Target, mut arguments: Words<'_>) -> Result<Target, LineFault>
+    ensures { IsReading result (bare_at target arguments.entry) }
+{
+    arguments.end()?;
+    Ok(target)
+}
+
+fn read_linear(alloc: Global, mut arguments: Words<'_>) -> Result<Target, LineFault>
+    ensures { IsReading result (linear_at arguments.entry) }
+{
+    let device = arguments.take_word()?;
+    let offset = arguments.take_word()?;
+    arguments.end()?;
+    Ok(Target::Linear(read_base(alloc, device, offset)?))
+}
+
+fn read_striped(alloc: Global, mut arguments: Words<'_>) -> Result<Target, LineFault>
+    ensures { IsReading result (striped_at arguments.entry) }
+{
+    let count = arguments.take_word()?;
+    let size = arguments.take_word()?;
+    let stripes = stripe_count(count)?;
+    let chunk = chunk_size(size)?;
+    if !arguments.are(2 * stripes) {
+        return Err(LineFault::Kind(TextKind::ArgCount));
+    }
+    let bases = read_bases(alloc, arguments, stripes)?;
+    Ok(Target::Striped { chunk, bases })
+}
+
+fn stripe_count(word: &[u8]) -> Result<usize, TextKind>
+    ensures { result ≡ stripes_at word.now }
+{
+    match number(word) {
+        Some(count) if 1 <= count && count <= 16 => Ok(count as usize),
+        _ => Err(TextKind::StripeCount),
+    }
+}
+
+fn chunk_size(word: &[u8]) -> Result<u64, TextKind>
+    ensures { result ≡ chunk_at word.now }
+{
+    match number(word) {
+        Some(chunk) if 1 <= chunk => Ok(chunk),
+        _ => Err(TextKind::ZeroChunk),
+    }
+}
+
+pub(crate) fn read_bases(
+    alloc: Global,
+    mut words: Words<'_>,
+    count: usize,
+) -> Result<Bases, LineFault>
+    ensures { IsReading result (bases_at words.entry) }
+{
+    let mut bases = Bases::with_capacity(alloc, count)?;
+    'pairs: while let Some(device) = words.next_word() {
+        let offset = words.take_word()?;
+        bases.push(read_base(alloc, device, offset)?)?;
+    }
+    Ok(bases)
+}
+
+pub(crate) fn read_base(alloc: Global, device: &[u8], offset: &[u8]) -> Result<Base, LineFault>
+    ensures { IsReading result (base_at device.now offset.now) }
+{
+    if !is_device(device) {
+        return Err(LineFault::Kind(TextKind::Name));
+    }
+    let offset = number(offset).ok_or(TextKind::Number)?;
+    let device = Name::new(alloc, device)?;
+    Ok(Base { device, offset })
+}

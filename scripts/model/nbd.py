@@ -1,0 +1,229 @@
+"""The service of a client of the NBD protocol: its messages in, the replies out."""
+
+import struct
+
+from stack import SECTOR, Fault
+
+OLD_MAGIC, OPTION_MAGIC, OPTION_REPLY_MAGIC = b"NBDMAGIC", b"IHAVEOPT", 0x3E889045565A9
+REQUEST_MAGIC, SIMPLE_REPLY_MAGIC = 0x25609513, 0x67446698
+FIXED_NEWSTYLE, NO_ZEROES = 1, 2
+EXPORT_NAME, ABORT, LIST, INFO, GO = 1, 2, 3, 6, 7
+ACK, SERVER, INFORMATION = 1, 2, 3
+UNSUPPORTED, INVALID, UNKNOWN, TOO_BIG = (2**31 + kind for kind in (1, 3, 6, 9))
+EXPORT, BLOCK_SIZE = 0, 3
+HAS_FLAGS, READ_ONLY, SEND_FLUSH = 1, 2, 4
+READ, WRITE, DISCONNECT, FLUSH = 0, 1, 2, 3
+EPERM, EIO, EINVAL, ENOSPC = 1, 5, 22, 28
+MOST_OF_AN_OPTION, MOST_OF_A_REQUEST = 65536, 32 * 1024 * 1024
+DONE, BROKEN = 0, 4
+
+
+class Ended(Exception):
+    """The end of the service, with its status."""
+
+    def __init__(self, status):
+        super().__init__(status)
+        self.status = status
+
+
+class Refused(Exception):
+    """A request that isn't done, with the number of its error."""
+
+    def __init__(self, error):
+        super().__init__(error)
+        self.error = error
+
+
+class Replies:
+    """What is written to a client: each reply with what it answers."""
+
+    def __init__(self):
+        self.parts = []
+
+    def add(self, answered, octets):
+        self.parts.append((answered, octets))
+
+    def octets(self):
+        return b"".join(octets for _, octets in self.parts)
+
+    def part_at(self, at):
+        """What the byte at a place answers, and its place within that."""
+        for answered, octets in self.parts:
+            if at < len(octets):
+                return answered, at
+            at -= len(octets)
+        return "what comes behind the last reply", at
+
+
+class Service:
+    """Serves a device of a stack as a run of bytes."""
+
+    def __init__(self, stack, device):
+        self.stack, self.device = stack, device
+        self.size = device.sectors * SECTOR
+        self.replies = Replies()
+
+    def serve(self, given):
+        """The replies to a whole input, and the status."""
+        self.given, self.at = given, 0
+        self.replies.add("the greeting", OLD_MAGIC + OPTION_MAGIC + struct.pack(">H", FIXED_NEWSTYLE | NO_ZEROES))
+        try:
+            self.no_zeroes = self.client_flags()
+            while not self.option():
+                pass
+            while True:
+                self.request()
+        except Ended as end:
+            return self.replies, end.status
+
+    def begin(self):
+        """A message begins: where the input has ended, the client went away between two of them."""
+        if self.at == len(self.given):
+            raise Ended(DONE)
+
+    def take(self, count):
+        """So many bytes of a message; a client that goes away in it is lost."""
+        if len(self.given) - self.at < count:
+            raise Ended(BROKEN)
+        self.at += count
+        return self.given[self.at - count:self.at]
+
+    def client_flags(self):
+        self.begin()
+        flags, = struct.unpack(">I", self.take(4))
+        if flags & ~(FIXED_NEWSTYLE | NO_ZEROES):
+            raise Ended(BROKEN)
+        return bool(flags & NO_ZEROES)
+
+    # The handshake
+
+    def option(self):
+        """Answers an option; whether the transmission begins behind it."""
+        self.begin()
+        magic, option, length = struct.unpack(">8sII", self.take(16))
+        if magic != OPTION_MAGIC:
+            raise Ended(BROKEN)
+        data = self.take(length)
+        if option == EXPORT_NAME:
+            return self.export_name(data)
+        if length > MOST_OF_AN_OPTION:
+            return self.tell(option, TOO_BIG)
+        if option == ABORT:
+            self.tell(option, ACK)
+            raise Ended(DONE)
+        if option == LIST:
+            return self.list(data)
+        if option in (INFO, GO):
+            return self.info(option, data)
+        return self.tell(option, UNSUPPORTED)
+
+    def tell(self, option, kind, data=b""):
+        head = struct.pack(">QIII", OPTION_REPLY_MAGIC, option, kind, len(data))
+        self.replies.add("option %d with reply %d" % (option, kind), head + data)
+        return False
+
+    def is_named(self, name):
+        return name in (b"", self.device.name)
+
+    def fields(self):
+        flags = HAS_FLAGS | SEND_FLUSH | (0 if self.device.writable else READ_ONLY)
+        return struct.pack(">QH", self.size, flags)
+
+    def export_name(self, name):
+        if not self.is_named(name):
+            raise Ended(BROKEN)
+        self.replies.add("EXPORT_NAME", self.fields() + (b"" if self.no_zeroes else bytes(124)))
+        return True
+
+    def list(self, data):
+        if data:
+            return self.tell(LIST, INVALID)
+        self.tell(LIST, SERVER, struct.pack(">I", len(self.device.name)) + self.device.name)
+        return self.tell(LIST, ACK)
+
+    def info(self, option, data):
+        asked = asked_for(data)
+        if asked is None:
+            return self.tell(option, INVALID)
+        name, facts = asked
+        if not self.is_named(name):
+            return self.tell(option, UNKNOWN)
+        self.tell(option, INFORMATION, struct.pack(">H", EXPORT) + self.fields())
+        if BLOCK_SIZE in facts:
+            sizes = struct.pack(">HIII", BLOCK_SIZE, SECTOR, 4096, MOST_OF_A_REQUEST)
+            self.tell(option, INFORMATION, sizes)
+        self.tell(option, ACK)
+        return option == GO
+
+    # The transmission
+
+    def request(self):
+        self.begin()
+        head = self.take(28)
+        magic, flags, command, cookie, offset, length = struct.unpack(">IHHQQI", head)
+        if magic != REQUEST_MAGIC:
+            raise Ended(BROKEN)
+        if command == DISCONNECT:
+            raise Ended(DONE)
+        data = self.take(length) if command == WRITE else b""
+        try:
+            self.check(flags, command, offset, length)
+            error, answer = 0, self.done(command, offset, length, data)
+        except Refused as refused:
+            error, answer = refused.error, b""
+        except Fault:
+            error, answer = EIO, b""
+        asked = "command %d at %d of %d bytes" % (command, offset, length)
+        self.replies.add(asked, struct.pack(">IIQ", SIMPLE_REPLY_MAGIC, error, cookie) + answer)
+
+    def check(self, flags, command, offset, length):
+        """The first fault of a request, in the documents' order."""
+        if flags or command not in (READ, WRITE, FLUSH):
+            raise Refused(EINVAL)
+        if command == FLUSH:
+            if offset or length:
+                raise Refused(EINVAL)
+            return
+        if length > MOST_OF_A_REQUEST:
+            raise Refused(EINVAL)
+        if command == WRITE and not self.device.writable:
+            raise Refused(EPERM)
+        if offset + length > self.size:
+            raise Refused(EINVAL if command == READ else ENOSPC)
+
+    def done(self, command, offset, length, data):
+        """The bytes that a request gives."""
+        if command == READ:
+            return self.read(offset, length)
+        if command == WRITE and data:
+            self.write(offset, data)
+        return b""
+
+    def read(self, offset, length):
+        first, before = divmod(offset, SECTOR)
+        sectors = self.stack.read_run(self.device, first, -(-(before + length) // SECTOR))
+        return sectors[before:before + length]
+
+    def write(self, offset, data):
+        """Puts whole sectors: what stands around the bytes is read first."""
+        before, behind = offset % SECTOR, -(offset + len(data)) % SECTOR
+        sectors = self.read(offset - before, before) + data + self.read(offset + len(data), behind)
+        at, end = offset // SECTOR, (offset + len(data) - 1) // SECTOR + 1
+        while at < end:
+            place = (at - offset // SECTOR) * SECTOR
+            count = self.stack.piece(self.device, at, end - at)
+            self.stack.write_run(self.device, at, sectors[place:place + count * SECTOR])
+            at += count
+
+
+def asked_for(data):
+    """The name and the facts that INFO and GO ask for, or None where their length is wrong."""
+    if len(data) < 6:
+        return None
+    size, = struct.unpack(">I", data[:4])
+    if len(data) < 6 + size:
+        return None
+    count, = struct.unpack(">H", data[4 + size:6 + size])
+    if len(data) != 6 + size + 2 * count:
+        return None
+    return data[4:4 + size], struct.unpack(">%dH" % count, data[6 + size:])
