@@ -6,7 +6,8 @@
 
 Each public call has a row, and each row a call: a row names the call's file, its refusals as the signature has them, and the
 clauses and tests that say when each comes and what it leaves. The files, clauses and tests stand there. A function of a
-module `laws` does nothing, and has no row. No call has a handle by which it might not return.
+module `laws` does nothing, and has no row; nor have those of `stack_fixtures`, which tests alone call, in public modules
+too. No call has a handle by which it might not return.
 """
 import glob
 import os

@@ -1,7 +1,7 @@
 #!/usr/bin/env python3
 """What stands in leaves after writes through `crypt` lines, by AES-XTS of python's `cryptography`.
 
-Prints the constants of crates/stack_tests/src/pieces/crypt.rt: of each leaf's sectors from 0 on the first and the
+Prints the constants of crates/piece_tests/src/crypt.rt: of each leaf's sectors from 0 on the first and the
 last block of 16 bytes, in hexadecimal digits. A sector that wasn't written is zeros."""
 from cryptography.hazmat.primitives.ciphers import Cipher, algorithms, modes
 

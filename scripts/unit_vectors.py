@@ -1,7 +1,7 @@
 #!/usr/bin/env python3
 """What stands in two leaves when a call of a write through units fails, by a model of its own and OpenSSL's AES-XTS.
 
-Prints the rows of crates/stack_tests/src/pieces/units.rs's table: for each call of a write in turn, and for none, which
+Prints the rows of crates/piece_tests/src/units.rt's tables: for each call of a write in turn, and for none, which
 call of A and of B fails, the leaf that is named, the sectors read and written by then, and the sums of A and of B.
 A unit that is covered whole is encrypted and put; of one that is covered in part, all is read, changed and put. Units
 go down one by one, and those of which no end lies within a unit beneath in one call of a leaf.

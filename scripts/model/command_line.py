@@ -96,12 +96,13 @@ class Files:
         return node
 
     def content(self, path):
-        """What a file holds that is read as it is opened."""
+        """What a file holds that is read as it is opened, and is only read."""
         node = self.find(path)
         if node == "character":
             return bytearray()
         if not isinstance(node, bytearray):
             raise not_opened("OtherFault", path)
+        self.opened.append((node, False))
         return node
 
 
@@ -294,7 +295,6 @@ def run_write(options, words, files, _given, features):
     bindings = [binding(word) for word in rest]
     text = stack_text(path, files)
     node = files.content(source)
-    files.opened.append((node, False))
     data = bytes(node[:(MOST_SECTORS + 1) * SECTOR])
     stack = loaded(text, bindings, files, features)
     count = -(-len(data) // SECTOR)

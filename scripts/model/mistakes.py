@@ -55,7 +55,7 @@ MISTAKES = [
      "            raise broken(\"TooMany\")\n"),
     ("a replaced device moves to the end", "configuration.py", "        for entry in entries:\n            devices[",
      "        for entry in entries:\n            devices.pop(entry.name, None)\n            devices["),
-    ("StandsOnItself of what leads to a circle", "configuration.py", "            if one is device:",
+    ("StandsOnItself of what leads to a cycle", "configuration.py", "            if one is device:",
      "            if one is device or isinstance(one, Device) and one.name in seen:"),
     ("a depth of 0", "configuration.py", "default=0)\n        return heights", "default=-1)\n        return heights"),
     ("chunks from the stripes in another order", "stack.py", "row, place = divmod(chunk, len(target.stripes))",

@@ -17,9 +17,20 @@ use xts_sector::XtsKey;
 /// The sectors of a piece, and how many pieces there are.
 const PIECE: u32 = 128;
 
+const SECTORS: usize = 128;
+
 const PIECES: u32 = 256;
 
 const BLOCK: usize = 4096;
+
+/// The numbers of the units of a piece.
+fn numbers_from(first: u64) -> [u64; SECTORS] {
+    let mut numbers = [0; SECTORS];
+    for i in 0..SECTORS {
+        numbers[i] = first.wrapping_add(i as u64);
+    }
+    numbers
+}
 
 fn pair<T: Drop>(alloc: Global, a: T, b: T) -> Result<Vec<T>, AllocError>
     ensures { IfOk result (λ v. v.items ≡ a ∷ b ∷ []) }
@@ -155,11 +166,11 @@ impl Compared for CryptReads {
     fn least(&mut self, _alloc: Global) -> Result<u8> {
         let Encrypted { key, bytes, .. } = &mut self.0;
         let bytes = bytes.as_mut_slice();
-        if !bytes.len().is_multiple_of(512) {
-            bail!("the sectors are not whole");
+        if bytes.len() != 512 * SECTORS {
+            bail!("the sectors are not those of a piece");
         }
         for piece in 0..PIECES {
-            key.decrypt_units(u64::from(piece * PIECE), 512, bytes);
+            key.decrypt_units(&numbers_from(u64::from(piece * PIECE)), 512, bytes);
         }
         Ok(0)
     }
@@ -188,11 +199,11 @@ impl Compared for CryptWrites {
         let pieces = u64::from(PIECES) * u64::from(self.0.times);
         let Encrypted { key, bytes, .. } = &mut self.0;
         let bytes = bytes.as_mut_slice();
-        if !bytes.len().is_multiple_of(512) {
-            bail!("the sectors are not whole");
+        if bytes.len() != 512 * SECTORS {
+            bail!("the sectors are not those of a piece");
         }
         for piece in 0..pieces {
-            key.encrypt_units(piece, 512, bytes);
+            key.encrypt_units(&numbers_from(piece), 512, bytes);
         }
         Ok(0)
     }

@@ -27,16 +27,20 @@ fn measure_units<R: CpuClock + Print + AllocGlobal>(
 ) -> Result<()>
     requires { (0 < size) × (size % 16 ≡ 0) }
 {
-    if units.len() % size != 0 {
+    let mut numbers = Vec::new(rt.alloc());
+    for i in 0..units.len() / size {
+        numbers.push(i as u64)?;
+    }
+    if numbers.len() > BYTES / size || units.len() != size * numbers.len() {
         bail!("the units are not whole");
     }
     let mut encrypted = Vec::new(rt.alloc());
     let mut decrypted = Vec::new(rt.alloc());
     for _ in 0..RUNS {
         let start = rt.process_cpu_time()?;
-        key.encrypt_units(0, size, units);
+        key.encrypt_units(&numbers, size, units);
         let between = rt.process_cpu_time()?;
-        key.decrypt_units(0, size, units);
+        key.decrypt_units(&numbers, size, units);
         let end = rt.process_cpu_time()?;
         encrypted.push(between.saturating_sub(start).as_micros())?;
         decrypted.push(end.saturating_sub(between).as_micros())?;

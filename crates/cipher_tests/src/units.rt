@@ -130,20 +130,25 @@ fn some_key(step: u8) -> [u8; 32] {
     key
 }
 
-#[test]
-fn units_as_the_plain_code(rt: HostRuntime) -> Result<(), Fail> {
+/// A key, and the same for the plain code.
+fn keys() -> Result<(XtsKey, PlainXts), Fail> {
     let data_key = some_key(3);
     let tweak_key = some_key(5);
-    let plain = PlainXts {
-        data_key: PlainKey::new(&data_key),
-        tweak_key: PlainKey::new(&tweak_key),
-    };
     let mut bytes = [0; 64];
     for k in 0..32_usize {
         bytes[k] = data_key[k];
         bytes[k + 32] = tweak_key[k];
     }
-    let key = XtsKey::new(&bytes).ok_or("a key was refused")?;
+    let plain = PlainXts {
+        data_key: PlainKey::new(&data_key),
+        tweak_key: PlainKey::new(&tweak_key),
+    };
+    Ok((XtsKey::new(&bytes).ok_or("a key was refused")?, plain))
+}
+
+#[test]
+fn units_as_the_plain_code(rt: HostRuntime) -> Result<(), Fail> {
+    let (key, plain) = keys()?;
     for size in SIZES {
         for number in NUMBERS {
             let mut expected = Vec::new(rt.alloc());
@@ -173,19 +178,58 @@ fn units_as_the_plain_code(rt: HostRuntime) -> Result<(), Fail> {
     Ok(())
 }
 
-#[test]
-fn units_count_past_the_last_number(rt: HostRuntime) -> Result<(), Fail> {
-    let key = XtsKey::new(&[9; 64]).ok_or("a key was refused")?;
-    let mut units = vec![in rt.alloc(); 5u8; 1536]?;
-    assert_eq!(rt; units.len(), 1536);
-    key.encrypt_units(u64::MAX - 1, 512, &mut units);
-    assert_eq!(rt; units.len(), 1536);
-    for (i, number) in [u64::MAX - 1, u64::MAX, 0].iter().enumerate() {
-        let mut unit = [5; 512];
-        key.encrypt(*number, &mut unit);
-        assert_eq!(rt; &units[512 * i..512 * i + 512], unit.as_slice(), "unit {i}");
+const COUNTS: [usize; 9] = [0, 1, 2, 7, 8, 15, 16, 17, 33];
+
+/// From the number of one unit to that of the next, up or down.
+const STEPS: [u64; 3] = [1, 8, u64::MAX - 6];
+
+/// Encrypts and decrypts so many units in one call. Their numbers, `step` apart, pass 2^64 - 1.
+fn many_units(
+    rt: &(impl Abort + AllocGlobal),
+    key: &XtsKey,
+    plain: &PlainXts,
+    count: usize,
+    step: u64,
+) -> Result<(), Fail> {
+    let mut number = 0_u64.wrapping_sub(step.wrapping_mul(count as u64 / 2));
+    let mut numbers = Vec::new(rt.alloc());
+    let mut units = Vec::new(rt.alloc());
+    let mut expected = Vec::new(rt.alloc());
+    for i in 0..count {
+        let mut unit = [(i % 251) as u8; 512];
+        for (k, byte) in unit.iter_mut().enumerate() {
+            *byte ^= (k % 253) as u8;
+        }
+        numbers.push(number)?;
+        units.extend_from_slice(&unit)?;
+        plain.apply(number, &mut unit, true);
+        expected.extend_from_slice(&unit)?;
+        number = number.wrapping_add(step);
     }
-    key.decrypt_units(u64::MAX - 1, 512, &mut units);
-    assert!(rt; units.iter().all(|byte| *byte == 5));
+    let plaintext = units.clone()?;
+    assert!(rt; numbers.len() < 100 && units.len() == 512 * numbers.len());
+    key.encrypt_units(&numbers, 512, &mut units);
+    assert_eq!(rt;
+        units.as_slice(),
+        expected.as_slice(),
+        "encrypt {count} units, {step} apart"
+    );
+    key.decrypt_units(&numbers, 512, &mut units);
+    assert_eq!(rt;
+        units.as_slice(),
+        plaintext.as_slice(),
+        "decrypt {count} units, {step} apart"
+    );
+    Ok(())
+}
+
+#[test]
+fn many_units_as_the_plain_code(rt: HostRuntime) -> Result<(), Fail> {
+    let (key, plain) = keys()?;
+    for count in COUNTS {
+        for step in STEPS {
+            many_units(&rt, &key, &plain, count, step)?;
+        }
+    }
     Ok(())
 }

@@ -22,7 +22,7 @@ use Rattle.verity_format.specs.declared.verifying.Verdict.TheVariants as verdict
 use Rattle.command_faults.specs.VerityTexts.{format_text, verify_text, verdict_text}
 use Rattle.block_device.specs.OpenFault.{open_number, open_name}
 use Rattle.stack_rules.specs.FaultKinds.{config_number, config_name}
-use Rattle.stack_session.specs.Texts.{usage_text, no_memory, fault_text, refusal_text, submit_text, io_text}
+use Rattle.stack_session.specs.Texts.{kind_then, usage_text, no_memory, fault_text, refusal_text, refused_text, submit_text, io_text}
 
 -- how a command ends where the words are none, where a text has a fault, and where a load is refused
 abbrev pub words_ending : WordsFault → CommandFault
@@ -40,12 +40,12 @@ load_ending load.NoMemory = NoMemory
 -- a file that isn't opened, with its path
 abbrev pub open_text : OpenFault → List ℕ → List ℕ
 open_text opening.NoMemory path = no_memory
-open_text fault path = codes "refused " ++ (decimal (open_number fault) ++ (codes " " ++ (open_name fault ++ (codes " " ++ (path ++ codes "\n")))))
+open_text fault path = codes "refused " ++ kind_then (open_number fault) (open_name fault) (codes " " ++ (path ++ codes "\n"))
 
 -- leaves that aren't taken
 abbrev pub config_text : ConfigFault → List ℕ
 config_text config.NoMemory = no_memory
-config_text fault = codes "refused " ++ (decimal (config_number fault) ++ (codes " " ++ (config_name fault ++ codes "\n")))
+config_text fault = refused_text (config_number fault) (config_name fault)
 
 -- how many sectors of a device were had, and how many are lost
 abbrev pub counts_text : ℕ → ℕ → List ℕ

@@ -2,7 +2,7 @@
 ghost use Rattle.std.specs.Prelude.{true, ◌≡◌, ◌⊎◌};
 ghost use Rattle.stack_session.specs.Counted.{Writes};
 ghost use Rattle.command_faults.specs.Endings.{IsEnd, config_text, counts_text, ending_status, ending_text, open_text, too_small_text};
-ghost use Rattle.command_faults.specs.VerityTexts.{format_text, super_text, verdict_text, verify_text};
+ghost use Rattle.command_faults.specs.VerityTexts.{format_text, verdict_text, verify_text};
 
 use crate::fault::CommandFault;
 use block_device::OpenFault;
@@ -10,11 +10,11 @@ use nbd_server::ServiceFault;
 use stack_engine::IoFault;
 use stack_loader::ConfigFault;
 use stack_session::{
-    Counted, WriteFault, say_io_fault, say_no_memory, say_refusal, say_submit_fault,
+    Counted, WriteFault, say_io_fault, say_no_memory, say_refusal, say_refused, say_submit_fault,
     say_text_fault, say_usage,
 };
 use std::io::Write;
-use verity_format::{FormatFault, SuperFault, Verdict, VerifyFault};
+use verity_format::{FormatFault, Verdict, VerifyFault};
 
 const REFUSED: u8 = 1;
 
@@ -104,24 +104,23 @@ fn say_config_fault<W: Write>(writer: &mut Counted<W>, fault: ConfigFault) -> Re
     if fault == ConfigFault::NoMemory {
         return say_no_memory(writer);
     }
-    let number = fault.number();
-    let name = fault.name();
-    writer.print(format_args!("refused {number} {name}\n"))
+    say_refused(writer, fault.number(), fault.name())
 }
 
 // `refused K NAME`, and what a hash image needs.
 fn say_format_fault<W: Write>(writer: &mut Counted<W>, fault: FormatFault) -> Result<(), WriteFault>
     ensures { Writes W.contents writer.old writer.new (format_text fault) result }
 {
+    let (number, name) = (fault.number(), fault.name());
     match fault {
-        FormatFault::Shape => writer.put(b"refused 1 Shape\n"),
-        FormatFault::DataTooSmall => writer.put(b"refused 2 DataTooSmall\n"),
         FormatFault::HashTooSmall { needed } => {
-            writer.print(format_args!("refused 3 HashTooSmall needed {needed}\n"))
+            writer.print(format_args!("refused {number} {name} needed {needed}\n"))
         }
-        FormatFault::HashReadOnly => writer.put(b"refused 4 HashReadOnly\n"),
-        FormatFault::Device => writer.put(b"refused 5 Device\n"),
         FormatFault::NoMemory => say_no_memory(writer),
+        FormatFault::Shape
+        | FormatFault::DataTooSmall
+        | FormatFault::HashReadOnly
+        | FormatFault::Device => say_refused(writer, number, name),
     }
 }
 
@@ -129,28 +128,10 @@ fn say_format_fault<W: Write>(writer: &mut Counted<W>, fault: FormatFault) -> Re
 fn say_verify_fault<W: Write>(writer: &mut Counted<W>, fault: VerifyFault) -> Result<(), WriteFault>
     ensures { Writes W.contents writer.old writer.new (verify_text fault) result }
 {
-    match fault {
-        VerifyFault::Super(fault) => say_super_fault(writer, fault),
-        VerifyFault::TooSmall => writer.put(b"refused 9 TooSmall\n"),
-        VerifyFault::Device => writer.put(b"refused 10 Device\n"),
-        VerifyFault::NoMemory => say_no_memory(writer),
+    if fault == VerifyFault::NoMemory {
+        return say_no_memory(writer);
     }
-}
-
-// `refused K NAME`
-fn say_super_fault<W: Write>(writer: &mut Counted<W>, fault: SuperFault) -> Result<(), WriteFault>
-    ensures { Writes W.contents writer.old writer.new (super_text fault) result }
-{
-    match fault {
-        SuperFault::Signature => writer.put(b"refused 1 Signature\n"),
-        SuperFault::Version => writer.put(b"refused 2 Version\n"),
-        SuperFault::HashType => writer.put(b"refused 3 HashType\n"),
-        SuperFault::Algorithm => writer.put(b"refused 4 Algorithm\n"),
-        SuperFault::DataBlockSize => writer.put(b"refused 5 DataBlockSize\n"),
-        SuperFault::HashBlockSize => writer.put(b"refused 6 HashBlockSize\n"),
-        SuperFault::DataBlocks => writer.put(b"refused 7 DataBlocks\n"),
-        SuperFault::SaltSize => writer.put(b"refused 8 SaltSize\n"),
-    }
+    say_refused(writer, fault.number(), fault.name())
 }
 
 // `refused 1 TooSmall needed N`

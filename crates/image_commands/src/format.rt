@@ -2,7 +2,6 @@
 ghost use Rattle.std.specs.Prelude.{false, true, ◌≡◌, IfErr, IfOk, OnOk};
 ghost use Rattle.block_device.specs.FileId.{file_id};
 ghost use Rattle.command_faults.specs.OneFile.{is_one_file};
-ghost use Rattle.verity_format.specs.Formatting.{given_blocks, whole_blocks};
 ghost use Rattle.stack_session.specs.Counted.{Writes};
 ghost use Rattle.command_faults.specs.Endings.{IsQuiet};
 ghost use Rattle.command_faults.specs.Opened.{IsOpened, IsUnopened};
@@ -23,7 +22,7 @@ use std::fs::File;
 use std::io::Write;
 use std::random::RandomSource;
 use std::rt::Files;
-use verity_format::{FormatFault, FormatOptions, format_with};
+use verity_format::{FormatFault, FormatOptions, format_with, given_blocks};
 
 /// What was made: the root digest, and what else is printed of the image.
 #[derive(Clone, Copy)]
@@ -96,26 +95,6 @@ fn make<'a, D: BlockDev, H: SyncDev>(
         }),
         Err(_) => Err(CommandFault::Format(FormatFault::Device)),
     }
-}
-
-// The number of blocks that is given, or all whole blocks of that size in so many sectors.
-fn given_blocks(blocks: Option<u64>, size: u32, sectors: u64) -> u64
-    ensures { result ≡ given_blocks blocks size sectors }
-{
-    match blocks {
-        Some(count) => count,
-        None => whole_blocks(sectors, size),
-    }
-}
-
-// How many blocks of that size there are in so many sectors.
-fn whole_blocks(sectors: u64, size: u32) -> u64
-    ensures { result ≡ whole_blocks sectors size }
-{
-    if size < 512 {
-        return 0;
-    }
-    sectors / u64::from(size / 512)
 }
 
 #[tactic(auto, unfolding(crate::specs::Formats::made_text))]

@@ -8,7 +8,7 @@ use Rattle.std.proofs.Math.Seq.{drop-append_seam, take-append-add, take-append_s
 use borrow.Rule.Slice.PartMut.{put_mid, post_of}
 use Rattle.nbd_server.specs.declared.fault.ServiceFault.{ServiceFault}
 use Rattle.nbd_server.specs.declared.fault.ServiceFault.TheVariants as fault
-use Rattle.nbd_server.specs.Streaming.{IsShort, Stops, Takes, TakesInto}
+use Rattle.nbd_server.specs.Streaming.{IsShort, Stops, TakesInto}
 
 -- a buffer whose front was filled, and then more of it
 filled-seam : (a k n : ℕ) (xs ys : List ℕ) → a ≤ length xs → n ≤ length ys → take (a + n) (put_mid a k xs ys) ≡ take a xs ++ take n ys

@@ -5,4 +5,4 @@ pub mod IntakeLemmas
 pub mod LedLemmas
 pub mod ServiceLemmas
 pub mod StoreLemmas
-pub mod TurnLemmas
+pub mod MessageLemmas

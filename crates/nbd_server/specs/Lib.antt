@@ -7,3 +7,4 @@ pub mod Transmission
 pub mod Streaming
 pub mod Causes
 pub mod Service
+pub mod Premises

@@ -1,5 +1,6 @@
 -- What was taken from a client and written to it.
-use Rattle.std.specs.Prelude.{◌≡◌, ◌≢◌, ◌⊎◌, ◌<◌, ◌≤◌, ◌+◌, ◌-◌, ◌^◌, ℕ, Bool, true, false, List, [], length, Option, Some, None, IfSome, Result, Ok, Err}
+use Rattle.std.specs.Prelude.{◌≡◌, ◌≢◌, ◌⊎◌, ◌<◌, ◌≤◌, ◌+◌, ◌-◌, ◌*◌, ◌^◌, ℕ, Bool, true, false, List, Vec, [], length, take, drop, Option, Some, None, IfSome, option_map, Result, Ok, Err}
+use Rattle.std.specs.Global.{Global}
 use Rattle.std.specs.Io.KnownBytes.{Appends, Consumes, IsAtEnd}
 use Rattle.block_device.specs.Device.{capped}
 use Rattle.stack_session.specs.Counted.{CountedRecord}
@@ -53,6 +54,11 @@ pub record Takes (n : ℕ) (old new : Option (List ℕ)) : Type 0 where
 pub record TakesInto (found : Option (List ℕ)) (n : ℕ) (old new : Option (List ℕ)) : Type 0 where
   pub takes : Takes n old new
   pub kept : IfSome found (λ bytes. bytes ≡ takes.bytes)
+
+-- n bytes were taken, and stand at their place in so many sectors where there was room for these
+pub record TakesToPlace (found : Option (Vec ℕ Global)) (sectors start n : ℕ) (old new : Option (List ℕ)) : Type 0 where
+  pub taken : TakesInto (option_map (λ v. take n (drop start v.items)) found) n old new
+  pub room : IfSome found (λ v. length v.items ≡ 512 * sectors)
 
 -- what was taken and what was written are so
 pub record Spoken (old new : Streams) (Is : List ℕ → List ℕ → Type 0) : Type 0 where

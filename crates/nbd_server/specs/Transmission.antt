@@ -1,11 +1,12 @@
 -- The transmission phase: what a request is answered.
-use Rattle.std.specs.Prelude.{◌≡◌, ◌⊎◌, ◌≤◌, ℕ, ◌+◌, ◌-◌, ◌*◌, ◌/◌, ◌%◌, List, [], ◌∷◌, ◌++◌, length, take, drop, Result, Ok, Err, IfOk}
+use Rattle.std.specs.Prelude.{◌≡◌, ◌⊎◌, ◌≤◌, ℕ, ◌+◌, ◌-◌, ◌*◌, ◌/◌, ◌%◌, List, [], ◌∷◌, ◌++◌, length, take, drop, Result, Ok, Err, IfOk, Option}
+use Rattle.std.specs.Io.KnownBytes.{Consumes}
 use Rattle.stack_engine.specs.declared.fault.IoFault.{IoFault}
 use Rattle.request_queue.specs.Parts.{EachPart}
 use Rattle.request_queue.specs.World.{World, Step, sync}
 use Rattle.nbd_server.specs.Numbers.{bytes32, bytes64}
 use Rattle.nbd_server.specs.Exports.{ExportRecord}
-use Rattle.nbd_server.specs.Headers.{command_of, error_number}
+use Rattle.nbd_server.specs.Headers.{command_of, error_number, payload_len}
 use Rattle.nbd_server.specs.Sectors.{IsFetched, FailsToFetch, IsStored, FailsToStore}
 use Rattle.nbd_server.specs.declared.header.Header.{Header}
 use Rattle.nbd_server.specs.declared.header.Command.{Command}
@@ -111,3 +112,11 @@ written (Err error) = Err error
 -- the part lies within the bytes
 abbrev pub IsInside : Result Data RequestError → Type 0
 IsInside outcome = IfOk outcome (λ d. d.start + d.length ≤ length d.bytes.items)
+
+-- the bytes that follow a request were taken, and it was served
+pub record IsServed (e : ExportRecord) (w : World) (h : Header) (old new : Option (List ℕ)) (outcome : Result Data RequestError) (w' : World) : Type 0 where
+  pub payload : List ℕ
+  pub size : length payload ≡ payload_len h
+  pub consumed : Consumes old new payload
+  pub serves : Serves e w h payload (outcome_of outcome) w'
+  pub inside : IsInside outcome

@@ -1,6 +1,7 @@
 // Bytes of the export, read and written by the sectors that they touch.
 ghost use Rattle.std.specs.Prelude.{◌≡◌, ◌<◌, ◌≤◌, ◌+◌, ◌*◌, ◌%◌, ◌^◌, [], drop, length, take, Ok, IfErr, IfOk, OnOk};
 ghost use Rattle.nbd_server.specs.Exports.{IsExport, export_record};
+ghost use Rattle.nbd_server.specs.Premises.{AreBytesOf};
 ghost use Rattle.nbd_server.specs.Transmission.{FailsToReadEnds, IsFramed, IsInside, ReadsBytes, WritesBytes, outcome_of, touched, written};
 
 use crate::export::Export;
@@ -50,8 +51,7 @@ fn read_ends<D: BlockDev>(
     len: u32,
     bytes: &mut [u8],
 ) -> Result<(), RequestError>
-    requires export { IsExport queue.old.stack.config (export_record export.now) }
-    requires within { offset + len < 2 ^ 64 }
+    requires bytes { AreBytesOf queue.old.stack.config (export_record export.now) offset len }
     requires room { length bytes.old ≡ 512 * touched offset len }
     ensures ok { OnOk result (IsFramed (export_record export.now) queue.old offset (take len (drop (offset % 512) bytes.old)) bytes.new queue.new) }
     ensures err { IfErr result (λ error. FailsToReadEnds (export_record export.now) queue.old offset len error queue.new) }
@@ -75,8 +75,7 @@ pub(crate) fn write_bytes<D: BlockDev>(
     len: u32,
     bytes: &mut [u8],
 ) -> Result<(), RequestError>
-    requires export { IsExport queue.old.stack.config (export_record export.now) }
-    requires within { offset + len < 2 ^ 64 }
+    requires bytes { AreBytesOf queue.old.stack.config (export_record export.now) offset len }
     requires room { length bytes.old ≡ 512 * touched offset len }
     ensures { WritesBytes (export_record export.now) queue.old offset (take len (drop (offset % 512) bytes.old)) (written result) queue.new }
 {

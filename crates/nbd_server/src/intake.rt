@@ -1,6 +1,7 @@
 // Takes bytes from a client.
 ghost use Rattle.std.specs.Prelude.{◌≡◌, ℕ, ◌<◌, ◌≤◌, ◌+◌, ◌*◌, ◌^◌, drop, length, take, OnOk, IfOk, IfErr, IfSome, MatchOption, option_map};
-ghost use Rattle.nbd_server.specs.Streaming.{Fills, HasRead, IsShort, Takes, TakesInto, fault_of};
+ghost use Rattle.nbd_server.specs.Premises.{HavePlace};
+ghost use Rattle.nbd_server.specs.Streaming.{Fills, HasRead, IsShort, Takes, TakesInto, TakesToPlace, fault_of};
 
 use crate::fault::ServiceFault;
 use stack_session::Counted;
@@ -80,11 +81,8 @@ pub(crate) fn take_sectors<R: Read>(
     start: usize,
     count: u32,
 ) -> Result<Option<Vec<u8>>, ServiceFault>
-    requires some { 0 < count }
-    requires few { sectors < 2 ^ 32 }
-    requires inside { start + count ≤ 512 * sectors }
-    ensures ok { IfOk result (λ found. TakesInto (option_map (λ v. take count (drop start v.items)) found) count (R.remaining reader.old.inner) (R.remaining reader.new.inner)) }
-    ensures room { IfOk result (λ found. IfSome found (λ v. length v.items ≡ 512 * sectors)) }
+    requires { HavePlace sectors start count }
+    ensures ok { IfOk result (λ found. TakesToPlace found sectors start count (R.remaining reader.old.inner) (R.remaining reader.new.inner)) }
     ensures err { IfErr result (IsShort count (R.remaining reader.old.inner) (R.remaining reader.new.inner)) }
     ensures reader { HasRead 0 reader.old reader.new (fault_of result) }
 {

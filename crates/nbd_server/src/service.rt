@@ -2,6 +2,7 @@
 ghost use Rattle.std.specs.Prelude.{◌≢◌};
 ghost use Rattle.stack_session.specs.Session.{streams};
 ghost use Rattle.nbd_server.specs.Exports.{IsExport, export_record};
+ghost use Rattle.nbd_server.specs.Premises.{IsGoing};
 ghost use Rattle.nbd_server.specs.Service.{IsService, Turns};
 ghost use Rattle.nbd_server.specs.Streaming.{HasRead, HasWritten, fault_of};
 ghost use Rattle.nbd_server.specs.declared.phase.Phase.TheVariants.{Over};
@@ -28,8 +29,7 @@ fn take_message<D: SyncDev, R: Read, W: Write>(
     reader: &mut Counted<R>,
     writer: &mut Counted<W>,
 ) -> Result<Option<Phase>, ServiceFault>
-    requires export { IsExport queue.old.stack.config (export_record export.now) }
-    requires going { phase ≢ Over }
+    requires { IsGoing queue.old.stack.config (export_record export.now) phase }
     ensures turn { Turns (export_record export.now) phase queue.old queue.new
         (streams (R.remaining reader.old.inner) (W.contents writer.old.inner)) (streams (R.remaining reader.new.inner) (W.contents writer.new.inner)) result }
     ensures reader { HasRead 1 reader.old reader.new (fault_of result) }

@@ -3,6 +3,7 @@ ghost use Rattle.std.specs.Prelude.{◌≡◌, ◌≤◌, ◌+◌, ◌/◌, ◌%
 ghost use Rattle.stack_rules.specs.Names.{device_named};
 ghost use Rattle.nbd_server.specs.Sectors.{FailsToStore, IsStored};
 ghost use Rattle.nbd_server.specs.Exports.{IsExport, export_record};
+ghost use Rattle.nbd_server.specs.Premises.{AreSectors};
 
 use crate::export::Export;
 use crate::request_error::RequestError;
@@ -52,8 +53,7 @@ pub(crate) fn store<D: BlockDev>(
     bytes: &[u8],
 ) -> Result<(), RequestError>
     requires export { IsExport queue.old.stack.config (export_record export.now) }
-    requires whole { length bytes.now % 512 ≡ 0 }
-    requires small { first + length bytes.now / 512 ≤ 2 ^ 60 }
+    requires sectors { AreSectors first bytes.now }
     ensures ok { OnOk result (IsStored queue.old export.now.device.0 first bytes.now queue.new) }
     ensures err { IfErr result (λ error. FailsToStore queue.old export.now.device.0 first bytes.now error queue.new) }
 {

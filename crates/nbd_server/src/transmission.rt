@@ -4,9 +4,10 @@ ghost use Rattle.std.specs.Io.KnownBytes.{Consumes};
 ghost use Rattle.stack_session.specs.Session.{streams};
 ghost use Rattle.nbd_server.specs.Exports.{IsExport, export_record};
 ghost use Rattle.nbd_server.specs.Headers.{payload_len};
+ghost use Rattle.nbd_server.specs.Premises.{AreBytesOf};
 ghost use Rattle.nbd_server.specs.Service.{Turns};
 ghost use Rattle.nbd_server.specs.Streaming.{HasRead, HasWritten, IsShort, fault_of};
-ghost use Rattle.nbd_server.specs.Transmission.{Flushes, IsInside, Serves, ServesCommand, outcome_of, written};
+ghost use Rattle.nbd_server.specs.Transmission.{Flushes, IsInside, IsServed, ServesCommand, outcome_of, written};
 ghost use Rattle.nbd_server.specs.declared.header.Command.TheVariants.{Write};
 ghost use Rattle.nbd_server.specs.declared.phase.Phase.TheVariants.{Serving};
 
@@ -36,8 +37,7 @@ fn take_write<D: BlockDev, R: Read>(
     len: u32,
     reader: &mut Counted<R>,
 ) -> Result<Result<(), RequestError>, ServiceFault>
-    requires export { IsExport queue.old.stack.config (export_record export.now) }
-    requires within { offset + len < 2 ^ 64 }
+    requires { AreBytesOf queue.old.stack.config (export_record export.now) offset len }
     ensures ok { IfOk result (λ outcome. (payload : List ℕ) × (length payload ≡ len) × Consumes (R.remaining reader.old.inner) (R.remaining reader.new.inner) payload
         × ServesCommand (export_record export.now) queue.old (Ok (Write offset len)) payload (written outcome) queue.new) }
     ensures err { IfErr result (λ fault. IsShort len (R.remaining reader.old.inner) (R.remaining reader.new.inner) fault × (queue.new ≡ queue.old)) }
@@ -74,9 +74,7 @@ fn serve_request<D: SyncDev, R: Read>(
     reader: &mut Counted<R>,
 ) -> Result<Result<Data, RequestError>, ServiceFault>
     requires { IsExport queue.old.stack.config (export_record export.now) }
-    ensures ok { IfOk result (λ outcome. (payload : List ℕ) × (length payload ≡ payload_len header) × Consumes (R.remaining reader.old.inner) (R.remaining reader.new.inner) payload
-        × Serves (export_record export.now) queue.old header payload (outcome_of outcome) queue.new) }
-    ensures inside { IfOk result IsInside }
+    ensures ok { IfOk result (λ outcome. IsServed (export_record export.now) queue.old header (R.remaining reader.old.inner) (R.remaining reader.new.inner) outcome queue.new) }
     ensures err { IfErr result (λ fault. IsShort (payload_len header) (R.remaining reader.old.inner) (R.remaining reader.new.inner) fault × (queue.new ≡ queue.old)) }
     ensures reader { HasRead 0 reader.old reader.new (fault_of result) }
 {

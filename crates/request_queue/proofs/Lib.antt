@@ -1,6 +1,6 @@
 pub mod lemmas
 pub mod RangeLemmas
 pub mod FlightLemmas
-pub mod StepLemmas
+pub mod RequestPieceLemmas
 pub mod WriteLemmas
 pub mod FinishLemmas

@@ -1,3 +1,3 @@
 pub mod PlaceLemmas
 pub mod TableLemmas
-pub mod BeyondLemmas
+pub mod LineRuleLemmas

@@ -1,28 +1,17 @@
 // The rules on leaves.
 ghost use Rattle.std.specs.Prelude.{◌≡◌, ◌==◌, not, nat_lt};
-ghost use Rattle.std.specs.List.{list_all, list_any, starts_with};
+ghost use Rattle.std.specs.List.{list_any, starts_with};
 ghost use Rattle.std.specs.Str.{bytes_eq};
-ghost use Rattle.dm_table.specs.Names.{is_leaf_byte, mapper};
+ghost use Rattle.dm_table.specs.Names.{mapper};
 ghost use Rattle.stack_rules.specs.Rules.{is_leaf_name, most_sectors};
 ghost use Rattle.stack_rules.specs.Leaves.{first_fault, has_duplicate};
 
+use dm_table::is_device;
 use stack_rules::{ConfigFault, Leaf};
 
 const MOST_LEAVES: usize = 64;
 
 pub(crate) const MOST_SECTORS: u64 = 1 << 54;
-
-fn is_leaf_byte(byte: u8) -> bool
-    ensures { result ≡ is_leaf_byte byte }
-{
-    0x21 <= byte && byte <= 0x7e && byte != b'\\' && byte != b',' && byte != b';'
-}
-
-fn are_leaf_bytes(name: &[u8]) -> bool
-    ensures { result ≡ list_all is_leaf_byte name.now }
-{
-    name.iter().all(|byte| is_leaf_byte(*byte))
-}
 
 fn begins_as_path(name: &[u8]) -> bool
     ensures { result ≡ starts_with ◌==◌ name.now mapper }
@@ -30,14 +19,14 @@ fn begins_as_path(name: &[u8]) -> bool
     name.starts_with(b"/dev/mapper/")
 }
 
-#[tactic(auto, unfolding(stack_rules::specs::Rules::is_leaf_name))]
+// Whether the name is a device argument, and not the path of a mapped device.
 fn is_leaf_name(name: &[u8]) -> bool
     ensures { result ≡ is_leaf_name name.now }
 {
-    if name.is_empty() || name.len() > 255 {
+    if begins_as_path(name) {
         return false;
     }
-    are_leaf_bytes(name) && !begins_as_path(name)
+    is_device(name)
 }
 
 fn has_name(leaves: &[Leaf], name: &[u8]) -> bool

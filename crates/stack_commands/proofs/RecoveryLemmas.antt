@@ -1,5 +1,5 @@
 -- Commands that go over a device.
-use Rattle.std.proofs.Common.{◌≡◌, ◌⊎◌, ℕ, ◌-◌, ◌≤◌, ◌<◌, ◌^◌, Bool, true, IsTrue, List, [], ◌++◌, length, Option, Some, None, Ok, refl, sym, ap, ◌∙◌, subst, arith, inl, inr}
+use Rattle.std.proofs.Common.{◌≡◌, ℕ, ◌-◌, ◌≤◌, ◌^◌, Bool, true, IsTrue, List, ◌++◌, length, Option, Some, None, refl, sym, ap, ◌∙◌, subst, arith, inl, inr}
 use Rattle.std.specs.Io.KnownBytes.{Appends}
 use Rattle.std.proofs.lemmas.List.{append_assoc}
 use Rattle.block_device.specs.Device.{Device}
@@ -12,12 +12,12 @@ use Rattle.command_faults.specs.Endings.{counts_text}
 use Rattle.command_faults.specs.Opened.{IsOpened}
 use Rattle.stack_recovery.specs.declared.recovery.Counts.{Counts}
 use Rattle.stack_recovery.specs.LostRuns.{lost_in, lost_runs}
-use Rattle.stack_recovery.specs.Recoveries.{IsBegun, Recovers, Sides, sides}
+use Rattle.stack_recovery.specs.Recoveries.{IsBegun, Recovers, Sides}
 use Rattle.stack_recovery.specs.Surveys.{IsSurvey, PieceRead, State, all_states}
 use Rattle.stack_recovery.specs.Texts.{runs_text}
 use Rattle.stack_commands.specs.Bindings.{AreBound}
 use Rattle.command_line.specs.Bindings.{BindingRecord}
-use Rattle.stack_commands.specs.Recoveries.{AllFound, AreFound, DeviceWords, HasDevice, IsCopyEnd, IsFoundEnd, IsOutputEnd, IsScanEnd, PrintsLost, PrintsRuns, PrintsSome, PrintsStates}
+use Rattle.stack_commands.specs.Recoveries.{AreFound, DeviceWords, HasDevice, IsCopyEnd, IsFoundEnd, PrintsRuns, PrintsSome, PrintsStates}
 use Rattle.stack_commands.specs.Recovering.{IsCountsEnd, IsRecoverEnd, TellsCounts}
 use Rattle.stack_commands.specs.StackCommands.{IsLoadedFrom}
 

@@ -1,5 +1,5 @@
 -- The leaves and devices to which names are bound.
-use Rattle.std.specs.Prelude.{◌≡◌, ℕ, true, Bool, List, [], ◌∷◌, map}
+use Rattle.std.specs.Prelude.{◌≡◌, true, List, [], ◌∷◌, map}
 use Rattle.block_device.specs.Device.{Device, in_memory, zeros_image, ramp_image}
 use Rattle.block_device.specs.File.{opened}
 use Rattle.stack_rules.specs.Records.{LeafRecord}

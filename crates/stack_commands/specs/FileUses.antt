@@ -1,9 +1,11 @@
 -- Which files are open, and how: one file may not be open twice where one of the two may write.
-use Rattle.std.specs.Prelude.{◌≡◌, ◌&&◌, ◌||◌, Bool, false, List, [], ◌∷◌, ◌++◌, map}
+use Rattle.std.specs.Prelude.{◌≡◌, ◌&&◌, ◌||◌, Bool, false, true, List, [], ◌∷◌, ◌++◌, map}
 use Rattle.std.specs.List.{list_any}
 use Rattle.block_device.specs.Any.{any_id}
 use Rattle.block_device.specs.contracts.any.AnyDevBlockDev.TheImpl.{ghosts}
 use Rattle.block_device.specs.declared.any.AnyDev.{AnyDev}
+use Rattle.block_device.specs.declared.file.FileDev.{FileDev}
+use Rattle.block_device.specs.FileId.{file_id}
 use Rattle.command_faults.specs.OneFile.{is_one_file}
 use Rattle.stack_commands.specs.declared.file_use.FileUse.{FileUse}
 
@@ -14,6 +16,10 @@ is_clash a b = is_one_file a.id b.id && (a.writable || b.writable)
 -- how a device uses its file
 abbrev pub use_of : AnyDev → FileUse
 use_of device = record { id = any_id device; writable = (ghosts.state device).may_write }
+
+-- how an image uses its file that something is copied to
+abbrev pub output_use : FileDev → FileUse
+output_use image = record { id = file_id image; writable = true }
 
 -- no two of the uses clash: none with a later one
 abbrev pub AreApart : List FileUse → Type 0

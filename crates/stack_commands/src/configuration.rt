@@ -1,8 +1,15 @@
-// Configurations from stack texts over leaves.
-ghost use Rattle.std.specs.Prelude.{◌≡◌, ◌⊎◌, ◌≤◌, ◌^◌, length, Ok, Err, IfOk, IfErr};
+// Configurations and stacks from stack texts over leaves.
+ghost use Rattle.std.specs.Prelude.{◌≡◌, ◌⊎◌, ◌≤◌, ◌^◌, length, map, Ok, Err, IfOk, IfErr};
+ghost use Rattle.stack_rules.specs.Records.{Configuration};
+ghost use Rattle.stack_engine.specs.Leaves.{ServeLeaves};
+ghost use Rattle.stack_engine.specs.Pieces.{stack_over};
 ghost use Rattle.stack_commands.specs.Configuration.{configuration_of};
+ghost use Rattle.stack_commands.specs.StackCommands.{FailsToLoad};
 
+use crate::opening::OpenLeaves;
+use block_device::{AnyDev, BlockDev};
 use command_faults::CommandFault;
+use stack_engine::Stack;
 use stack_loader::{Config, Leaf};
 use std::alloc::Global;
 use table_reader::parse_stack;
@@ -22,4 +29,28 @@ pub fn configuration_of<'a>(
     let entries = parse_stack(alloc, text)?;
     config.load(&entries)?;
     Ok(config)
+}
+
+/// The stack that a text makes of open leaves, with a cache of so many hash blocks.
+pub fn load_stack<'a>(
+    alloc: Global,
+    over: OpenLeaves,
+    cache: u32,
+    text: &[u8],
+) -> Result<Stack<AnyDev>, CommandFault<'a>>
+    requires text { length text.now ≤ 2 ^ 20 }
+    requires served { ServeLeaves over.leaves.items (map ⟦<AnyDev as BlockDev>⟧.state over.devices.items) }
+    ensures ok { IfOk result (λ stack. (c : Configuration) × (configuration_of over.leaves.items text.now ≡ Ok c)
+        × (stack ≡ stack_over c (map ⟦<AnyDev as BlockDev>⟧.state over.devices.items))) }
+    ensures err { IfErr result (FailsToLoad over.leaves.items text.now) }
+{
+    let OpenLeaves { leaves, devices } = over;
+    let config = match configuration_of(alloc, leaves, text) {
+        Ok(config) => config,
+        Err(fault) => return Err(fault),
+    };
+    match Stack::new(alloc, config, devices, cache) {
+        Ok(stack) => Ok(stack),
+        Err(_) => Err(CommandFault::NoMemory),
+    }
 }

@@ -2,14 +2,17 @@
 ghost use Rattle.std.specs.Prelude.{◌≡◌, ◌≤◌, ◌<◌, false, true, length, map, IsTrue, OnOk, IfOk, IfErr};
 ghost use Rattle.stack_rules.specs.Names.{mapped, size};
 ghost use Rattle.command_line.specs.Bindings.{binding_record};
+ghost use Rattle.command_faults.specs.Opened.{IsOpened, IsUnopened};
 ghost use Rattle.stack_recovery.specs.Recoveries.{Recovers, sides};
+ghost use Rattle.stack_commands.specs.FileUses.{is_clash, output_use};
 ghost use Rattle.stack_commands.specs.Recoveries.{IsCopyEnd, PrintsStates, device_words};
 ghost use Rattle.stack_commands.specs.Recovering.{IsRecoverEnd};
 
 use crate::device::{load_device, recover_device, tell_counts};
-use crate::file_use::FileUse;
-use crate::opening::{open_all, stack_text};
-use block_device::{AnyDev, BlockDev, SyncDev};
+use crate::file_use::{FileUse, is_clash, output_use};
+use crate::opening::open_all;
+use crate::source::read_stack;
+use block_device::{AnyDev, BlockDev, FileDev, OpenFault, SyncDev};
 use command_faults::{CommandFault, open_file};
 use command_line::Binding;
 use stack_engine::Stack;
@@ -33,20 +36,34 @@ pub fn copy_files<'a, R: Files<File = File> + AllocGlobal, W: Write>(
     ensures ok { OnOk result (PrintsStates (map binding_record bindings.now) name.now (W.contents writer.old.inner) (W.contents writer.new.inner)) }
     ensures err { IfErr result (IsCopyEnd (device_words stack.now name.now (map binding_record bindings.now)) out.now (W.contents writer.old.inner) (W.contents writer.new.inner) writer.new.failed) }
 {
-    let text = stack_text(rt, stack)?;
-    let mut image = open_file(rt, out, true)?;
-    let file = FileUse {
-        id: image.id(),
-        writable: true,
-    };
-    let over = open_all(rt, &[file], bindings)?;
-    let (mut stack, device) = load_device(rt.alloc(), over, text.as_slice(), name)?;
+    let text = read_stack(rt, stack)?;
+    let mut image = open_output(rt, out, text.file)?;
+    let over = open_all(rt, &[text.file, output_use(&image)], bindings)?;
+    let (mut stack, device) = load_device(rt.alloc(), over, text.bytes.as_slice(), name)?;
     let needed = stack.config().sectors(device);
     if image.sectors() < needed {
         return Err(CommandFault::OutputTooSmall { needed });
     }
     let counts = copy_device(&mut stack, device, &mut image, writer)?;
     tell_counts(counts, writer)
+}
+
+// The image that is copied to, which may not be the stack file.
+fn open_output<'a, R: Files<File = File>>(
+    rt: &R,
+    path: &'a str,
+    stack: FileUse,
+) -> Result<FileDev, CommandFault<'a>>
+    ensures opened { IfOk result (λ image. IsOpened (⟦<FileDev as BlockDev>⟧.state image) true) }
+    ensures apart { IfOk result (λ image. is_clash stack (output_use image) ≡ false) }
+    ensures err { IfErr result (IsUnopened path.now) }
+{
+    let image = open_file(rt, path, true)?;
+    if is_clash(stack, output_use(&image)) {
+        let fault = OpenFault::SameFile;
+        return Err(CommandFault::Open { fault, path });
+    }
+    Ok(image)
 }
 
 // Goes over the device, copies what is had to another one, and has that put on the medium.

@@ -6,7 +6,7 @@ ghost use Rattle.stack_recovery.specs.Recoveries.{Recovers, sides};
 ghost use Rattle.stack_commands.specs.Recoveries.{FailsToFind, HasDevice};
 ghost use Rattle.stack_commands.specs.Recovering.{IsCountsEnd, IsRecoverEnd, TellsCounts};
 
-use crate::configuration::configuration_of;
+use crate::configuration::load_stack;
 use crate::opening::OpenLeaves;
 use block_device::{AnyDev, BlockDev};
 use command_faults::{CommandFault, say_counts};
@@ -34,18 +34,11 @@ pub fn load_device<'a>(
     ensures there { IfOk result (λ found. found.1.0 < length found.0.config.devices) }
     ensures err { IfErr result (FailsToFind name.now over.leaves.items text.now (map ⟦<AnyDev as BlockDev>⟧.state over.devices.items)) }
 {
-    let OpenLeaves { leaves, devices } = over;
-    let config = match configuration_of(alloc, leaves, text) {
-        Ok(config) => config,
-        Err(fault) => return Err(fault),
-    };
-    let Some(device) = config.device(name.as_bytes()) else {
-        return Err(CommandFault::Submit(SubmitFault::NoSuchDevice));
-    };
-    let Ok(stack) = Stack::new(alloc, config, devices, CACHED_BLOCKS) else {
-        return Err(CommandFault::NoMemory);
-    };
-    Ok((stack, device))
+    let stack = load_stack(alloc, over, CACHED_BLOCKS, text)?;
+    match stack.config().device(name.as_bytes()) {
+        Some(device) => Ok((stack, device)),
+        None => Err(CommandFault::Submit(SubmitFault::NoSuchDevice)),
+    }
 }
 
 /// Goes over the device, and copies what is had to another one.

@@ -1,9 +1,9 @@
 // Which files are open, and how.
 ghost use Rattle.std.specs.Prelude.{◌≡◌};
 ghost use Rattle.std.specs.List.{list_any};
-ghost use Rattle.stack_commands.specs.FileUses.{has_clash, is_clash, use_of};
+ghost use Rattle.stack_commands.specs.FileUses.{has_clash, is_clash, output_use, use_of};
 
-use block_device::{AnyDev, BlockDev, FileId};
+use block_device::{AnyDev, BlockDev, FileDev, FileId};
 use command_faults::is_one_file;
 
 /// Which file is open, where the system tells it, and whether it may be written.
@@ -20,6 +20,16 @@ fn use_of(device: &AnyDev) -> FileUse
     FileUse {
         id: device.id(),
         writable: device.writable(),
+    }
+}
+
+/// How an image uses its file that something is copied to.
+pub fn output_use(image: &FileDev) -> FileUse
+    ensures { result ≡ output_use image.now }
+{
+    FileUse {
+        id: image.id(),
+        writable: true,
     }
 }
 
@@ -54,8 +64,8 @@ fn is_bound(devices: &[AnyDev], file: FileUse) -> bool
     devices.iter().any(|other| is_clash(use_of(other), file))
 }
 
-// Whether both are one file, of which one may be written.
-fn is_clash(a: FileUse, b: FileUse) -> bool
+/// Whether both are one file, of which one may be written.
+pub fn is_clash(a: FileUse, b: FileUse) -> bool
     ensures { result ≡ is_clash a b }
 {
     is_one_file(a.id, b.id) && (a.writable || b.writable)

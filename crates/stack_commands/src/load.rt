@@ -9,7 +9,8 @@ ghost use Rattle.stack_commands.specs.Configuration.{configuration_of, device_fa
 ghost use Rattle.stack_commands.specs.StackCommands.{FailsToList, FailsToLoad, IsStackEnd, PrintsDevices};
 
 use crate::configuration::configuration_of;
-use crate::opening::{OpenLeaves, open_all, stack_text};
+use crate::opening::{OpenLeaves, open_all};
+use crate::source::read_stack;
 use command_faults::CommandFault;
 use command_line::Binding;
 use stack_loader::{Config, DevId, Leaf};
@@ -31,9 +32,9 @@ pub fn load_files<'a, R: Files<File = File> + AllocGlobal, W: Write>(
     ensures err { IfErr result (IsStackEnd stack.now (map binding_record bindings.now) (FailsToList writer.new.failed)) }
     ensures quiet { IfErr result (λ fault. IsQuiet fault (W.contents writer.old.inner) (W.contents writer.new.inner)) }
 {
-    let text = stack_text(rt, stack)?;
-    let OpenLeaves { leaves, devices: _ } = open_all(rt, &[], bindings)?;
-    load(rt.alloc(), leaves, text.as_slice(), writer)
+    let text = read_stack(rt, stack)?;
+    let OpenLeaves { leaves, devices: _ } = open_all(rt, &[text.file], bindings)?;
+    load(rt.alloc(), leaves, text.bytes.as_slice(), writer)
 }
 
 // Loads a text over the leaves, and writes a line for each mapped device.

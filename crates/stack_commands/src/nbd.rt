@@ -9,14 +9,14 @@ ghost use Rattle.stack_commands.specs.Configuration.{configuration_of};
 ghost use Rattle.stack_commands.specs.Requests.{new_world};
 ghost use Rattle.stack_commands.specs.StackCommands.{FailsToLoad, IsClientEnd, ServesClient};
 
-use crate::configuration::configuration_of;
-use crate::opening::{OpenLeaves, open_all, stack_text};
+use crate::configuration::load_stack;
+use crate::opening::{OpenLeaves, open_all};
+use crate::source::read_stack;
 use block_device::{AnyDev, BlockDev};
 use command_faults::CommandFault;
 use command_line::{Binding, ServedDevice};
 use nbd_server::{Export, serve};
 use request_queue::{Queue, SubmitFault};
-use stack_engine::Stack;
 use stack_session::Counted;
 use std::alloc::Global;
 use std::fs::File;
@@ -35,9 +35,9 @@ pub fn serve_client<'a, R: Files<File = File> + AllocGlobal, S: Read, W: Write>(
     ensures ok { OnOk result (ServesClient (map binding_record bindings.now) device.entry.name.now (streams (S.remaining reader.old.inner) (W.contents writer.old.inner)) (streams (S.remaining reader.new.inner) (W.contents writer.new.inner)) (Ok tt)) }
     ensures err { IfErr result (IsClientEnd device.entry.stack.now (map binding_record bindings.now) device.entry.name.now (streams (S.remaining reader.old.inner) (W.contents writer.old.inner)) (streams (S.remaining reader.new.inner) (W.contents writer.new.inner)) writer.new.failed) }
 {
-    let text = stack_text(rt, device.stack)?;
-    let over = open_all(rt, &[], bindings)?;
-    let mut queue = queue_over(rt.alloc(), over, device.cache, text.as_slice())?;
+    let text = read_stack(rt, device.stack)?;
+    let over = open_all(rt, &[text.file], bindings)?;
+    let mut queue = queue_over(rt.alloc(), over, device.cache, text.bytes.as_slice())?;
     let Some(export) = Export::of(queue.stack().config(), device.name.as_bytes()) else {
         return Err(CommandFault::Submit(SubmitFault::NoSuchDevice));
     };
@@ -60,13 +60,6 @@ fn queue_over<'a>(
         × (queue ≡ new_world (stack_over c (map ⟦<AnyDev as BlockDev>⟧.state over.devices.items)))) }
     ensures err { IfErr result (FailsToLoad over.leaves.items text.now) }
 {
-    let OpenLeaves { leaves, devices } = over;
-    let config = match configuration_of(alloc, leaves, text) {
-        Ok(config) => config,
-        Err(fault) => return Err(fault),
-    };
-    let Ok(stack) = Stack::new(alloc, config, devices, cache) else {
-        return Err(CommandFault::NoMemory);
-    };
+    let stack = load_stack(alloc, over, cache, text)?;
     Ok(Queue::new(alloc, stack))
 }

@@ -1,10 +1,10 @@
 // Opens what a command line names.
-ghost use Rattle.std.specs.Prelude.{false, ◌≡◌, ◌≤◌, ◌^◌, ◌++◌, [], ◌∷◌, length, map, IfOk, IfErr, OnOk};
+ghost use Rattle.std.specs.Prelude.{false, ◌≡◌, ◌++◌, [], ◌∷◌, map, IfOk, IfErr, OnOk};
 ghost use Rattle.stack_engine.specs.Leaves.{ServeLeaves};
 ghost use Rattle.stack_commands.specs.Bindings.{AreBound, IsDeviceOf};
 ghost use Rattle.command_line.specs.Bindings.{backing_record, binding_record};
 ghost use Rattle.stack_commands.specs.FileUses.{AreApart, AreApartBeside, has_clash, use_of};
-ghost use Rattle.stack_commands.specs.Openings.{IsBackingEnd, IsBindingEnd, IsTextEnd};
+ghost use Rattle.stack_commands.specs.Openings.{IsBackingEnd, IsBindingEnd};
 
 use crate::file_use::{FileUse, has_clash};
 use block_device::{AnyDev, BlockDev, MemoryDev, OpenFault};
@@ -12,39 +12,8 @@ use command_faults::{CommandFault, open_file};
 use command_line::{Backing, Binding};
 use stack_loader::Leaf;
 use std::alloc::{AllocError, Global};
-use std::fs;
 use std::fs::File;
-use std::io::{ErrorKind, Read};
 use std::rt::Files;
-
-const MOST_TEXT: u64 = 1 << 20;
-
-/// The text of a stack file. The fault tells whether it can't be opened, can't be read or is too long.
-pub fn stack_text<'a, R: Files<File = File> + AllocGlobal>(
-    rt: &R,
-    path: &'a str,
-) -> Result<Vec<u8>, CommandFault<'a>>
-    ensures ok { IfOk result (λ text. length text.items ≤ 2 ^ 20) }
-    ensures err { IfErr result (IsTextEnd path.now) }
-{
-    let file = match fs::open(rt, path) {
-        Ok(file) => file,
-        Err(error) => {
-            let fault = OpenFault::from(error.kind());
-            return Err(CommandFault::Open { fault, path });
-        }
-    };
-    let mut text = Vec::new(rt.alloc());
-    match file.take(MOST_TEXT + 1).read_to_end(&mut text) {
-        Ok(_) if text.len() as u64 <= MOST_TEXT => Ok(text),
-        Ok(_) => Err(CommandFault::TooLong),
-        Err(error) if error.kind() == ErrorKind::OutOfMemory => Err(CommandFault::NoMemory),
-        Err(_) => Err(CommandFault::Open {
-            fault: OpenFault::OtherFault,
-            path,
-        }),
-    }
-}
 
 /// Leaves, and their devices in the same order.
 #[derive(Drop)]

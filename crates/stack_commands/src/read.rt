@@ -13,14 +13,14 @@ ghost use Rattle.stack_commands.specs.Configuration.{configuration_of};
 ghost use Rattle.command_faults.specs.Endings.{IsQuiet};
 ghost use Rattle.stack_commands.specs.StackCommands.{FailsToShow, IsStackEnd, PrintsReply};
 
-use crate::configuration::configuration_of;
-use crate::opening::{OpenLeaves, open_all, stack_text};
+use crate::configuration::load_stack;
+use crate::opening::{OpenLeaves, open_all};
 use crate::request::serve_request;
+use crate::source::read_stack;
 use block_device::{AnyDev, BlockDev};
 use command_faults::CommandFault;
 use command_line::{Binding, Sectors};
 use request_queue::{Queue, Reply, Request};
-use stack_engine::Stack;
 use stack_session::{Counted, say_reply};
 use std::alloc::Global;
 use std::fs::File;
@@ -41,9 +41,16 @@ pub fn read_files<'a, R: Files<File = File> + AllocGlobal, W: Write>(
     ensures err { IfErr result (IsStackEnd stack.now (map binding_record bindings.now) (FailsToShow (read_request sectors.entry) writer.new.failed)) }
     ensures quiet { IfErr result (λ fault. IsQuiet fault (W.contents writer.old.inner) (W.contents writer.new.inner)) }
 {
-    let text = stack_text(rt, stack)?;
-    let over = open_all(rt, &[], bindings)?;
-    read(rt.alloc(), over, cache, text.as_slice(), sectors, writer)
+    let text = read_stack(rt, stack)?;
+    let over = open_all(rt, &[text.file], bindings)?;
+    read(
+        rt.alloc(),
+        over,
+        cache,
+        text.bytes.as_slice(),
+        sectors,
+        writer,
+    )
 }
 
 // Loads a text over the leaves, and writes the sectors as a session does.
@@ -64,14 +71,7 @@ fn read<'a, W: Write>(
     ensures err { IfErr result (FailsToShow (read_request sectors.entry) writer.new.failed over.leaves.items text.now (map ⟦<AnyDev as BlockDev>⟧.state over.devices.items)) }
     ensures quiet { IfErr result (λ fault. IsQuiet fault (W.contents writer.old.inner) (W.contents writer.new.inner)) }
 {
-    let OpenLeaves { leaves, devices } = over;
-    let config = match configuration_of(alloc, leaves, text) {
-        Ok(config) => config,
-        Err(fault) => return Err(fault),
-    };
-    let Ok(stack) = Stack::new(alloc, config, devices, cache) else {
-        return Err(CommandFault::NoMemory);
-    };
+    let stack = load_stack(alloc, over, cache, text)?;
     let mut queue = Queue::new(alloc, stack);
     match fetch(alloc, &mut queue, sectors) {
         Ok(reply) => Ok(say_reply(writer, sectors.first, reply)?),

@@ -4,7 +4,8 @@ ghost use Rattle.command_line.specs.Bindings.{binding_record};
 ghost use Rattle.stack_commands.specs.Recoveries.{IsScanEnd, PrintsStates, device_words};
 
 use crate::device::{load_device, recover_device, tell_counts};
-use crate::opening::{open_all, stack_text};
+use crate::opening::open_all;
+use crate::source::read_stack;
 use command_faults::CommandFault;
 use command_line::Binding;
 use stack_recovery::Discard;
@@ -24,9 +25,9 @@ pub fn scan_files<'a, R: Files<File = File> + AllocGlobal, W: Write>(
     ensures ok { OnOk result (PrintsStates (map binding_record bindings.now) name.now (W.contents writer.old.inner) (W.contents writer.new.inner)) }
     ensures err { IfErr result (IsScanEnd (device_words stack.now name.now (map binding_record bindings.now)) (W.contents writer.old.inner) (W.contents writer.new.inner) writer.new.failed) }
 {
-    let text = stack_text(rt, stack)?;
-    let over = open_all(rt, &[], bindings)?;
-    let (mut stack, device) = load_device(rt.alloc(), over, text.as_slice(), name)?;
+    let text = read_stack(rt, stack)?;
+    let over = open_all(rt, &[text.file], bindings)?;
+    let (mut stack, device) = load_device(rt.alloc(), over, text.bytes.as_slice(), name)?;
     let mut out = Discard::new(stack.config().sectors(device));
     let counts = recover_device(&mut stack, device, &mut out, writer)?;
     tell_counts(counts, writer)

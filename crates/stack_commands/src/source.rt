@@ -1,6 +1,6 @@
-// The file whose bytes are written.
-ghost use Rattle.std.specs.Prelude.{false, ◌≡◌, IfOk, IfErr};
-ghost use Rattle.stack_commands.specs.Openings.{IsReadEnd};
+// Files of which the first bytes are taken: stack texts, and what is written.
+ghost use Rattle.std.specs.Prelude.{false, ◌≡◌, ◌≤◌, ◌^◌, length, IfOk, IfErr};
+ghost use Rattle.stack_commands.specs.Openings.{IsReadEnd, IsTextEnd};
 
 use crate::file_use::FileUse;
 use block_device::{FileId, OpenFault};
@@ -9,21 +9,52 @@ use std::fs;
 use std::io::{ErrorKind, Read};
 use std::rt::Files;
 
+const MOST_TEXT: u64 = 1 << 20;
+
 // One sector more than a write may have, so that this is refused.
 const MOST_BYTES: u64 = 2049 * 512;
 
-/// The first bytes of a file, and how it is open while they are written.
+/// The first bytes of a file, and how it is open.
 #[derive(Drop)]
-pub struct Source {
+pub struct FileStart {
     pub file: FileUse,
     pub bytes: Vec<u8>,
 }
 
-/// At most 2,049 sectors of a file, which may be one of any kind that can be read.
+/// The text of a stack file. The fault tells whether it can't be opened, can't be read or is too long.
+pub fn read_stack<'a, R: Files<File = fs::File> + AllocGlobal>(
+    rt: &R,
+    path: &'a str,
+) -> Result<FileStart, CommandFault<'a>>
+    ensures ok { IfOk result (λ text. length text.bytes.items ≤ 2 ^ 20) }
+    ensures only_read { IfOk result (λ text. text.file.writable ≡ false) }
+    ensures err { IfErr result (IsTextEnd path.now) }
+{
+    let text = read_file(rt, path, MOST_TEXT + 1)?;
+    if text.bytes.len() as u64 <= MOST_TEXT {
+        Ok(text)
+    } else {
+        Err(CommandFault::TooLong)
+    }
+}
+
+/// At most 2,049 sectors of a file that is written to a device.
 pub fn read_source<'a, R: Files<File = fs::File> + AllocGlobal>(
     rt: &R,
     path: &'a str,
-) -> Result<Source, CommandFault<'a>>
+) -> Result<FileStart, CommandFault<'a>>
+    ensures ok { IfOk result (λ source. source.file.writable ≡ false) }
+    ensures err { IfErr result (IsReadEnd path.now) }
+{
+    read_file(rt, path, MOST_BYTES)
+}
+
+// So many bytes of a file, which may be one of any kind that can be read.
+fn read_file<'a, R: Files<File = fs::File> + AllocGlobal>(
+    rt: &R,
+    path: &'a str,
+    most: u64,
+) -> Result<FileStart, CommandFault<'a>>
     ensures ok { IfOk result (λ source. source.file.writable ≡ false) }
     ensures err { IfErr result (IsReadEnd path.now) }
 {
@@ -36,8 +67,8 @@ pub fn read_source<'a, R: Files<File = fs::File> + AllocGlobal>(
         Err(error) => return Err(not_read(error.kind(), path)),
     };
     let mut bytes = Vec::new(rt.alloc());
-    match file.take(MOST_BYTES).read_to_end(&mut bytes) {
-        Ok(_) => Ok(Source {
+    match file.take(most).read_to_end(&mut bytes) {
+        Ok(_) => Ok(FileStart {
             file: FileUse {
                 id,
                 writable: false,

@@ -13,10 +13,10 @@ ghost use Rattle.stack_commands.specs.Requests.{FailsToServe, IsServed, new_worl
 ghost use Rattle.stack_commands.specs.Configuration.{configuration_of};
 ghost use Rattle.stack_commands.specs.StackCommands.{FailsToAsk, IsWriteFilesEnd, PrintsWritten};
 
-use crate::configuration::configuration_of;
-use crate::opening::{OpenLeaves, open_all, stack_text};
+use crate::configuration::load_stack;
+use crate::opening::{OpenLeaves, open_all};
 use crate::request::serve_request;
-use crate::source::{Source, read_source};
+use crate::source::{FileStart, read_source, read_stack};
 use block_device::{AnyDev, BlockDev};
 use command_faults::CommandFault;
 use command_line::{Binding, Transfer};
@@ -43,10 +43,17 @@ pub fn write_files<'a, R: Files<File = File> + AllocGlobal, W: Write>(
     ensures err { IfErr result (IsWriteFilesEnd stack.now transfer.entry.source.now (map binding_record bindings.now) (write_request transfer.entry) writer.new.failed) }
     ensures quiet { IfErr result (λ fault. IsQuiet fault (W.contents writer.old.inner) (W.contents writer.new.inner)) }
 {
-    let text = stack_text(rt, stack)?;
-    let Source { file, bytes } = read_source(rt, transfer.source)?;
-    let over = open_all(rt, &[file], bindings)?;
-    let stack = write(rt.alloc(), over, cache, text.as_slice(), transfer, bytes)?;
+    let text = read_stack(rt, stack)?;
+    let FileStart { file, bytes } = read_source(rt, transfer.source)?;
+    let over = open_all(rt, &[text.file, file], bindings)?;
+    let stack = write(
+        rt.alloc(),
+        over,
+        cache,
+        text.bytes.as_slice(),
+        transfer,
+        bytes,
+    )?;
     sync_stack(stack)?;
     Ok(say_written(writer)?)
 }
@@ -74,14 +81,7 @@ fn write<'a>(
         × (stack ≡ after.stack)) }
     ensures err { IfErr result (FailsToAsk (write_request transfer.entry bytes.items) over.leaves.items text.now (map ⟦<AnyDev as BlockDev>⟧.state over.devices.items)) }
 {
-    let OpenLeaves { leaves, devices } = over;
-    let config = match configuration_of(alloc, leaves, text) {
-        Ok(config) => config,
-        Err(fault) => return Err(fault),
-    };
-    let Ok(stack) = Stack::new(alloc, config, devices, cache) else {
-        return Err(CommandFault::NoMemory);
-    };
+    let stack = load_stack(alloc, over, cache, text)?;
     let mut queue = Queue::new(alloc, stack);
     match store(alloc, &mut queue, transfer, bytes) {
         Ok(_) => Ok(queue.into_stack()),

@@ -11,7 +11,7 @@ use Rattle.stack_rules.specs.Records.{Configuration, DeviceRecord}
 use Rattle.stack_rules.specs.Cycles.{names_device, leads_below, is_on_cycle}
 use Rattle.stack_costs.specs.DeviceSet.{contains, set_at, AreSets, AreLowerSets}
 use Rattle.stack_rules.specs.Rules.{first, refuse, cycles}
-use Rattle.stack_rules.proofs.lemmas.ScanLemmas.{scan, scan_found, scan_more, scan_end}
+use Rattle.stack_rules.proofs.lemmas.FirstRefusalLemmas.{scan, scan_found, scan_more, scan_end}
 
 -- ---- one place
 

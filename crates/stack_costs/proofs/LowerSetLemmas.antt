@@ -11,7 +11,7 @@ use Rattle.stack_rules.specs.Descend.{most_devices}
 use Rattle.stack_rules.specs.Cycles.{is_mapped}
 use Rattle.stack_costs.specs.DeviceSet.{contains, set_at, AreLowerSets}
 use Rattle.stack_rules.specs.Kept.{AreLowers}
-use Rattle.stack_rules.proofs.lemmas.BeneathLemmas.{names_device-rows}
+use Rattle.stack_rules.proofs.lemmas.LowerLemmas.{names_device-rows}
 use Rattle.stack_rules.proofs.lemmas.KeptLemmas.{length-lowers}
 
 -- the sets of the first n devices

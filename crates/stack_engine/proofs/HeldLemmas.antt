@@ -8,11 +8,14 @@ use borrow.Rule.Slice.PartMut.{put_mid}
 use Rattle.stack_rules.specs.Records.{Configuration}
 use Rattle.stack_rules.specs.Names.{mapped}
 use Rattle.stack_rules.specs.Rules.{IsLoaded}
+use Rattle.stack_engine.specs.declared.source.BlockPart.{BlockPart}
 use Rattle.stack_engine.specs.declared.source.Source.{Source}
+use Rattle.stack_engine.specs.declared.source.Source.TheVariants.{Units, UnitPart}
 use Rattle.stack_engine.specs.Meaning.{Said, said_at}
-use Rattle.stack_engine.specs.Sources.{IsServed, source_said}
+use Rattle.stack_engine.specs.Sources.{IsServed, SourceHolds, source_said}
 use Rattle.stack_engine.specs.Writing.{AreSectors, SomeEncrypt, AreHeld}
-use Rattle.stack_engine.proofs.EncryptLemmas.{run-some}
+use Rattle.stack_engine.specs.Premises.{FitsIn}
+use Rattle.stack_engine.proofs.EncryptLemmas.{units-some, unit_part-some, run-some}
 
 -- ---- parts of lists
 
@@ -68,39 +71,47 @@ part-held plain buffer at n one = elim one [
 ]
 
 pub one-none : (said : ℕ → Said) (first : ℕ) (plain buffer : List ℕ) → AreHeld said first plain buffer → OneIsNone plain buffer
-one-none said first plain buffer held = elim held.one [ inl none ↦ inl none | inr other ↦ inr other.0 ]
+one-none said first plain buffer held = elim held [ inl none ↦ inl none | inr other ↦ inr other.0 ]
 
 -- the caller's are none where a line encrypts
-pub none-plain : (said : ℕ → Said) (plain buffer : List ℕ) → AreHeld said 0 plain buffer → ((n : ℕ) → n ≡ length (plain ++ buffer) / 512 → 0 < n → SomeEncrypt said 0 n) → plain ≡ []
-none-plain said plain buffer held some = elim held.one [
+pub none-plain : (said : ℕ → Said) (plain buffer : List ℕ) → AreSectors (plain ++ buffer) → AreHeld said 0 plain buffer → ((n : ℕ) → n ≡ length (plain ++ buffer) / 512 → 0 < n → SomeEncrypt said 0 n) → plain ≡ []
+none-plain said plain buffer sectors held some = elim held [
   | inl none ↦ none
   | inr other ↦
       let long = ap (λ (b : List ℕ). length (plain ++ b)) other.0 in
       let same : length plain / 512 ≡ length (plain ++ buffer) / 512 = omega (arith, long, length-append plain []) in
-      absurd (other.1 (some (length plain / 512) same (omega (arith, held.sectors.some, held.sectors.whole, long, length-append plain []))))
+      absurd (other.1 (some (length plain / 512) same (omega (arith, sectors.some, sectors.whole, long, length-append plain []))))
 ]
+
+-- the bytes of a run through a crypt line are a buffer's
+module _ (c : Configuration) (b : BlockPart) (source : Source) (plain buffer : List ℕ) (fits : FitsIn c source (plain ++ buffer)) (held : AreHeld (source_said c source) 0 plain buffer) where
+  abbrev Encrypts : Source → Type 0
+  Encrypts from = (n : ℕ) → 0 < n → SourceHolds c from n → SomeEncrypt (source_said c from) 0 n
+
+  none-of : (from : Source) → source ≡ from → Encrypts from → plain ≡ []
+  none-of from is some =
+      none-plain (source_said c source) plain buffer fits.sectors held
+      (λ n same more. subst (λ (s : Source). SomeEncrypt (source_said c s) 0 n) (sym is) (some n more (subst (SourceHolds c from) (sym same) (subst (λ (s : Source). SourceHolds c s (length (plain ++ buffer) / 512)) is fits.holds))))
+
+  pub none-of_units : source ≡ Units b → plain ≡ []
+  none-of_units is = none-of (Units b) is (λ n more holds. units-some c b n holds more)
+
+  pub none-of_part : source ≡ UnitPart b → plain ≡ []
+  none-of_part is = none-of (UnitPart b) is (λ n more holds. unit_part-some c b n holds more)
 
 -- the bytes of one run of a device
 module _ (c : Configuration) (d first at count : ℕ) (plain buffer : List ℕ) (source : Source) (loaded : IsLoaded c) (some : 0 < count) (whole : at % 512 ≡ 0) (fits : at + count * 512 ≤ length (plain ++ buffer)) where
-  run-sectors : OneIsNone plain buffer → AreSectors (take (count * 512) (drop at plain) ++ take (count * 512) (drop at buffer))
-  run-sectors one =
-      let len : length (take (count * 512) (drop at (plain ++ buffer))) ≡ count * 512 = omega (arith, fits, length-take (count * 512) (drop at (plain ++ buffer)), length-drop at (plain ++ buffer)) in
-      subst AreSectors (sym (part-held plain buffer at (count * 512) one)) (record { some = omega (arith, len, some); whole = omega (arith, len) })
-
   pub run-held : IsServed c d (first + at / 512) count source → AreHeld (said_at c (mapped d)) first plain buffer → AreHeld (source_said c source) 0 (take (count * 512) (drop at plain)) (take (count * 512) (drop at buffer))
-  run-held served held = record {
-    sectors = run-sectors (one-none (said_at c (mapped d)) first plain buffer held);
-    one = elim held.one [
-      | inl none ↦ inl (ap (λ (l : List ℕ). take (count * 512) (drop at l)) none ∙ part-none at (count * 512))
-      | inr other ↦ inr (
-        ap (λ (l : List ℕ). take (count * 512) (drop at l)) other.0 ∙ part-none at (count * 512),
-        λ encrypted.
-            let long : at + count * 512 ≤ length plain = omega (arith, fits, ap (λ (l : List ℕ). length (plain ++ l)) other.0, length-append plain []) in
-            other.1 (run-some c d first (at / 512) count source loaded served (length (take (count * 512) (drop at plain)) / 512) (length plain / 512) (omega (arith, length-take (count * 512) (drop at plain)))
-            (omega (arith, long, whole, length-take (count * 512) (drop at plain))) encrypted),
-      )
-    ];
-  }
+  run-held served held = elim held [
+    | inl none ↦ inl (ap (λ (l : List ℕ). take (count * 512) (drop at l)) none ∙ part-none at (count * 512))
+    | inr other ↦ inr (
+      ap (λ (l : List ℕ). take (count * 512) (drop at l)) other.0 ∙ part-none at (count * 512),
+      λ encrypted.
+          let long : at + count * 512 ≤ length plain = omega (arith, fits, ap (λ (l : List ℕ). length (plain ++ l)) other.0, length-append plain []) in
+          other.1 (run-some c d first (at / 512) count source loaded served (length (take (count * 512) (drop at plain)) / 512) (length plain / 512) (omega (arith, length-take (count * 512) (drop at plain)))
+          (omega (arith, long, whole, length-take (count * 512) (drop at plain))) encrypted),
+    )
+  ]
 
 -- how a run's part of a buffer is cut, where the buffer's front was changed
 pub record IsCut (plain buffer now part : List ℕ) (at end from to : ℕ) : Type 0 where

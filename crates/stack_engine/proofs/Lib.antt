@@ -8,7 +8,9 @@ pub mod StripeLemmas
 pub mod VerityLineLemmas
 pub mod StandingLemmas
 pub mod ForgetLemmas
+pub mod PathBlockLemmas
 pub mod CachedLemmas
+pub mod StackLemmas
 pub mod BlockPartLemmas
 pub mod UnitLineLemmas
 pub mod UnitReadLemmas
@@ -19,9 +21,12 @@ pub mod RunEndLemmas
 pub mod UnitPutLemmas
 pub mod WritablePlainLemmas
 pub mod UnitWriteLemmas
+pub mod UnitStepLemmas
 pub mod UnitChangeLemmas
 pub mod WriteSourceLemmas
 pub mod CutLemmas
 pub mod HeldLemmas
+pub mod RunBytesLemmas
 pub mod ExampleLemmas
 pub mod TableLineLemmas
+pub mod UnitsAtOnceLemmas

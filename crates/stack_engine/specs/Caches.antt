@@ -8,6 +8,7 @@ use Rattle.verified_cache.specs.Cache.{CachedBlock, CacheRecord}
 use Rattle.verified_cache.specs.declared.key.Key.{Key}
 use Rattle.stack_engine.specs.declared.tree.Extent.{Extent}
 use Rattle.stack_engine.specs.declared.leaf_set.LeafSet.{LeafSet}
+use Rattle.stack_engine.specs.Extents.{LiesInside}
 use Rattle.stack_engine.specs.Standing.{AreLeafSets, CoversBlocks}
 use Rattle.stack_engine.specs.Outcomes.{span}
 use Rattle.stack_engine.specs.Blocks.{hash_sectors, hash_place}
@@ -46,7 +47,7 @@ pub record KeepsCache (c : Configuration) (leaves : List Device) (before after :
   pub capacity : after.blocks.capacity ≡ before.blocks.capacity
   pub sound : IsCacheOf c leaves after
 
--- the key is that of a hash block of a verity line with that salt, which stands in the extent
+-- the key is that of a hash block of a verity line with that salt, which stands in the extent, inside its device
 pub record IsPlaceOf (c : Configuration) (salt : List ℕ) (key : Key) (extent : Extent) : Type 0 where
   pub verity : Verity
   pub line : HasVerity c key.device key.line verity
@@ -54,3 +55,4 @@ pub record IsPlaceOf (c : Configuration) (salt : List ℕ) (key : Key) (extent :
   pub hash : named c verity.hash ≡ Some extent.lower
   pub first : extent.first ≡ hash_place verity key.level key.block
   pub sectors : extent.sectors ≡ hash_sectors verity
+  pub lies : LiesInside c extent

@@ -14,11 +14,14 @@ pub mod Kept
 pub mod Places
 pub mod Reading
 pub mod Sources
+pub mod Runs
 pub mod Walks
+pub mod Extents
 pub mod Standing
 pub mod Caches
 pub mod Writing
 pub mod Stacks
+pub mod Premises
 pub mod Pieces
 pub mod WritePieces
 pub mod IoFaults

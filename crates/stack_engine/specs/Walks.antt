@@ -1,5 +1,5 @@
 -- Contracts of reads of data blocks, from the root down.
-use Rattle.std.specs.Prelude.{◌≡◌, ◌⊎◌, ℕ, ◌+◌, ◌*◌, List, ◌++◌, length, Some, Result}
+use Rattle.std.specs.Prelude.{◌≡◌, ◌⊎◌, ℕ, ◌+◌, ◌*◌, ◌<◌, List, ◌++◌, length, Some, Result}
 use Rattle.hash_tree.specs.Chain.{ChainRecord, HangsFrom, IsGood}
 use Rattle.hash_tree.specs.Digests.{digest}
 use Rattle.hash_tree.specs.Shape.{levels}
@@ -36,6 +36,11 @@ pub record IsTreeOf (c : Configuration) (v : Verity) (tree : Tree) : Type 0 wher
   pub on_data : named c v.data ≡ Some tree.data
   pub on_hash : named c v.hash ≡ Some tree.hash
   pub shape_is : tree.shape ≡ tree_of v
+
+-- it has a data block of that number
+pub record HasDataBlock (c : Configuration) (v : Verity) (tree : Tree) (index : ℕ) : Type 0 where
+  pub lies : IsTreeOf c v tree
+  pub there : index < v.blocks
 
 -- ---- one block
 

@@ -62,9 +62,8 @@ SomeEncrypt said first n = SomeOf (λ s. (said s).encrypts) first n
 
 -- The bytes of a write: a buffer's, where they may be encrypted on the way, or the caller's, where none is. The
 -- other ones are none.
-pub record AreHeld (said : ℕ → Said) (first : ℕ) (plain buffer : List ℕ) : Type 0 where
-  pub sectors : AreSectors (plain ++ buffer)
-  pub one : (plain ≡ []) ⊎ ((buffer ≡ []) × (SomeEncrypt said first (length plain / 512) → ⊥))
+abbrev pub AreHeld : (ℕ → Said) → ℕ → List ℕ → List ℕ → Type 0
+AreHeld said first plain buffer = (plain ≡ []) ⊎ ((buffer ≡ []) × (SomeEncrypt said first (length plain / 512) → ⊥))
 
 -- a buffer for a write of some bytes: it has all of them where some may be encrypted, and else none
 pub record IsBufferFor (said : ℕ → Said) (first : ℕ) (bytes buffer : List ℕ) : Type 0 where

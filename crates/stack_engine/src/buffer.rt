@@ -3,7 +3,7 @@ ghost use Rattle.std.specs.Prelude.{◌≡◌, ◌≤◌, ◌+◌, ◌*◌, ◌/
 ghost use Rattle.stack_rules.specs.Names.{mapped, size};
 ghost use Rattle.stack_rules.specs.Rules.{IsLoaded};
 ghost use Rattle.stack_engine.specs.Meaning.{said_at};
-ghost use Rattle.stack_engine.specs.Writing.{AreSectors, SomeEncrypt, IsBufferFor};
+ghost use Rattle.stack_engine.specs.Writing.{SomeEncrypt, IsBufferFor};
 
 use crate::encrypts::device_encrypts;
 use stack_loader::{Config, DevId};
@@ -45,7 +45,6 @@ pub(crate) fn bytes_to_encrypt(
     bytes: &[u8],
 ) -> Result<Vec<u8>, AllocError>
     requires loaded { IsLoaded config.now }
-    requires sectors { AreSectors bytes.now }
     requires inside { first + length bytes.now / 512 ≤ size config.now (mapped d.0) }
     ensures ok { IfOk result (λ buffer. IsBufferFor (said_at config.now (mapped d.0)) first bytes.now buffer.items) }
     ensures err { OnErr result (SomeEncrypt (said_at config.now (mapped d.0)) first (length bytes.now / 512)) }

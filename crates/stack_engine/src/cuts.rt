@@ -1,11 +1,13 @@
 // Whether a write may be cut in two, which asks no device.
-ghost use Rattle.std.specs.Prelude.{◌≡◌, ◌<◌, ◌≤◌, ◌+◌, IsTrue};
-ghost use Rattle.stack_rules.specs.Names.{mapped, size, may_write};
+ghost use Rattle.std.specs.Prelude.{IsTrue};
+ghost use Rattle.stack_rules.specs.Names.{mapped};
 ghost use Rattle.stack_rules.specs.Rules.{IsLoaded};
+ghost use Rattle.stack_engine.specs.declared.source.Source.TheVariants.{Below};
 ghost use Rattle.stack_engine.specs.Puts.{put_on};
 ghost use Rattle.stack_engine.specs.Cuts.{AreSteps, PutsInSteps};
-ghost use Rattle.stack_engine.specs.Sources.{AreUnits, SourceHolds};
-ghost use Rattle.stack_engine.specs.Writing.{SourceMayWrite, source_put};
+ghost use Rattle.stack_engine.specs.Sources.{AreUnits};
+ghost use Rattle.stack_engine.specs.Writing.{source_put};
+ghost use Rattle.stack_engine.specs.Premises.{AreInSteps};
 
 use crate::serve::run_at;
 use crate::source::{BlockPart, Source};
@@ -46,9 +48,7 @@ pub(crate) fn lower_cuts(
     steps: Steps,
 ) -> bool
     requires loaded { IsLoaded config.now }
-    requires allowed { IsTrue (may_write config.now lower) }
-    requires inside { first + count ≤ size config.now lower }
-    requires steps { AreSteps steps }
+    requires sectors { AreInSteps config.now (Below lower first) count steps }
     ensures { IsTrue result → PutsInSteps (put_on config.now lower) first count steps }
 {
     match lower {
@@ -61,9 +61,7 @@ pub(crate) fn lower_cuts(
 #[cycle(cuts)]
 fn run_cuts(config: &Config, source: Source, count: u64, steps: Steps) -> bool
     requires loaded { IsLoaded config.now }
-    requires allowed { SourceMayWrite config.now source }
-    requires inside { SourceHolds config.now source count }
-    requires steps { AreSteps steps }
+    requires sectors { AreInSteps config.now source count steps }
     ensures { IsTrue result → PutsInSteps (source_put config.now source) 0 count steps }
 {
     if count <= steps.size - steps.skip {
@@ -82,9 +80,7 @@ fn run_cuts(config: &Config, source: Source, count: u64, steps: Steps) -> bool
 #[cycle(cuts)]
 fn device_cuts(config: &Config, d: DevId, first: u64, count: u64, steps: Steps) -> bool
     requires loaded { IsLoaded config.now }
-    requires allowed { IsTrue (may_write config.now (mapped d.0)) }
-    requires inside { first + count ≤ size config.now (mapped d.0) }
-    requires steps { AreSteps steps }
+    requires sectors { AreInSteps config.now (Below (mapped d.0) first) count steps }
     ensures { IsTrue result → PutsInSteps (put_on config.now (mapped d.0)) first count steps }
 {
     let mut at = 0;

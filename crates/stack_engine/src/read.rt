@@ -1,16 +1,17 @@
 // Reads through the lines of a stack, down to its leaves.
-ghost use Rattle.std.specs.Prelude.{◌≡◌, ◌<◌, ◌≤◌, ◌+◌, ◌*◌, ◌/◌, ◌%◌, List, length, map};
-ghost use Rattle.stack_rules.specs.Names.{mapped, size};
-ghost use Rattle.stack_rules.specs.Rules.{IsLoaded};
-ghost use Rattle.stack_engine.specs.Leaves.{ServeLeaves};
+ghost use Rattle.std.specs.Prelude.{◌≡◌, ◌/◌, List, length, map};
+ghost use Rattle.stack_rules.specs.Names.{mapped};
+ghost use Rattle.stack_engine.specs.declared.source.Source.TheVariants.{Below};
 ghost use Rattle.stack_engine.specs.Found.{FoundRecord};
-ghost use Rattle.stack_engine.specs.Kept.{AllKept};
 ghost use Rattle.stack_engine.specs.Places.{place_of, run_expected};
 ghost use Rattle.stack_engine.specs.Meaning.{said_at};
 ghost use Rattle.stack_engine.specs.Reading.{Gets, Reads, IsPlain, buffer_answer};
-ghost use Rattle.stack_engine.specs.Sources.{AreUnits, LieInBlock, LieInUnit, SourceHolds, ReadsSource, source_said};
-ghost use Rattle.stack_engine.specs.Walks.{IsTreeOf, block_in, checked_expected, data_expected, GetsChain};
-ghost use Rattle.stack_engine.specs.Caches.{IsCacheOf, KeepsCache, IsPlaceOf};
+ghost use Rattle.stack_engine.specs.Sources.{ReadsSource, source_said};
+ghost use Rattle.stack_engine.specs.Extents.{LiesInside};
+ghost use Rattle.stack_engine.specs.Walks.{HasDataBlock, block_in, checked_expected, data_expected, GetsChain};
+ghost use Rattle.stack_engine.specs.Caches.{KeepsCache, IsPlaceOf};
+ghost use Rattle.stack_engine.specs.Stacks.{IsSound, IsStack};
+ghost use Rattle.stack_engine.specs.Premises.{FitsIn, CanRead};
 
 use crate::buffer::{fill_zeros, zero_block, zero_sectors};
 use crate::fault::IoFault;
@@ -37,12 +38,8 @@ fn read_leaf<D: BlockDev>(
     first: u64,
     out: &mut [u8],
 ) -> Result<(), IoFault>
-    requires loaded { IsLoaded config.now }
-    requires serve { ServeLeaves config.now.leaves (map D.state devices.old) }
-    requires there { leaf < length devices.old }
-    requires some { 0 < length out.old }
-    requires whole { length out.old % 512 ≡ 0 }
-    requires inside { first + length out.old / 512 ≤ size config.now (Lower.Leaf leaf) }
+    requires sound { IsSound config.now (map D.state devices.old) }
+    requires fits { FitsIn config.now (Below (Lower.Leaf leaf) first) out.old }
     ensures got { (chains : List FoundRecord) → Gets (run_expected (place_of config.now (Lower.Leaf leaf)) chains first (length out.old / 512))
         (map D.state devices.old) (map D.state devices.new) (buffer_answer result out.new) }
     ensures plain { IsPlain (said_at config.now (Lower.Leaf leaf)) first (length out.old / 512) (map D.state devices.old) (map D.state devices.new) result }
@@ -63,13 +60,7 @@ fn read_lower<D: BlockDev>(
     out: &mut [u8],
     found: &mut Vec<Found>,
 ) -> Result<(), IoFault>
-    requires loaded { IsLoaded config.now }
-    requires serve { ServeLeaves config.now.leaves (map D.state reader.old.devices.items) }
-    requires some { 0 < length out.old }
-    requires whole { length out.old % 512 ≡ 0 }
-    requires inside { first + length out.old / 512 ≤ size config.now lower }
-    requires kept { AllKept config.now (map D.state reader.old.devices.items) found.old.items }
-    requires cache { IsCacheOf config.now (map D.state reader.old.devices.items) reader.old.cache }
+    requires { CanRead config.now (map D.state reader.old.devices.items) reader.old.cache found.old.items (Below lower first) out.old }
     ensures reads { Reads config.now lower first (length out.old / 512)
         (record { old = map D.state reader.old.devices.items; new = map D.state reader.new.devices.items; before = found.old.items; after = found.new.items })
         (buffer_answer result out.new) }
@@ -91,13 +82,7 @@ fn read_run<D: BlockDev>(
     out: &mut [u8],
     found: &mut Vec<Found>,
 ) -> Result<(), IoFault>
-    requires loaded { IsLoaded config.now }
-    requires serve { ServeLeaves config.now.leaves (map D.state reader.old.devices.items) }
-    requires some { 0 < length out.old }
-    requires whole { length out.old % 512 ≡ 0 }
-    requires inside { SourceHolds config.now source (length out.old / 512) }
-    requires kept { AllKept config.now (map D.state reader.old.devices.items) found.old.items }
-    requires cache { IsCacheOf config.now (map D.state reader.old.devices.items) reader.old.cache }
+    requires { CanRead config.now (map D.state reader.old.devices.items) reader.old.cache found.old.items source out.old }
     ensures reads { ReadsSource config.now source (length out.old / 512)
         (record { old = map D.state reader.old.devices.items; new = map D.state reader.new.devices.items; before = found.old.items; after = found.new.items })
         (buffer_answer result out.new) }
@@ -126,13 +111,7 @@ pub(crate) fn read_units<D: BlockDev>(
     out: &mut [u8],
     found: &mut Vec<Found>,
 ) -> Result<(), IoFault>
-    requires loaded { IsLoaded config.now }
-    requires serve { ServeLeaves config.now.leaves (map D.state reader.old.devices.items) }
-    requires some { 0 < length out.old }
-    requires whole { length out.old % 512 ≡ 0 }
-    requires inside { AreUnits config.now part.device.0 part.line part.first (length out.old / 512) }
-    requires kept { AllKept config.now (map D.state reader.old.devices.items) found.old.items }
-    requires cache { IsCacheOf config.now (map D.state reader.old.devices.items) reader.old.cache }
+    requires { CanRead config.now (map D.state reader.old.devices.items) reader.old.cache found.old.items (Source.Units part) out.old }
     ensures reads { ReadsSource config.now (Source.Units part) (length out.old / 512)
         (record { old = map D.state reader.old.devices.items; new = map D.state reader.new.devices.items; before = found.old.items; after = found.new.items })
         (buffer_answer result out.new) }
@@ -159,13 +138,7 @@ fn read_unit_part<D: BlockDev>(
     out: &mut [u8],
     found: &mut Vec<Found>,
 ) -> Result<(), IoFault>
-    requires loaded { IsLoaded config.now }
-    requires serve { ServeLeaves config.now.leaves (map D.state reader.old.devices.items) }
-    requires some { 0 < length out.old }
-    requires whole { length out.old % 512 ≡ 0 }
-    requires inside { LieInUnit config.now part.device.0 part.line part.first (length out.old / 512) }
-    requires kept { AllKept config.now (map D.state reader.old.devices.items) found.old.items }
-    requires cache { IsCacheOf config.now (map D.state reader.old.devices.items) reader.old.cache }
+    requires { CanRead config.now (map D.state reader.old.devices.items) reader.old.cache found.old.items (Source.UnitPart part) out.old }
     ensures reads { ReadsSource config.now (Source.UnitPart part) (length out.old / 512)
         (record { old = map D.state reader.old.devices.items; new = map D.state reader.new.devices.items; before = found.old.items; after = found.new.items })
         (buffer_answer result out.new) }
@@ -194,13 +167,7 @@ fn read_block<D: BlockDev>(
     out: &mut [u8],
     found: &mut Vec<Found>,
 ) -> Result<(), IoFault>
-    requires loaded { IsLoaded config.now }
-    requires serve { ServeLeaves config.now.leaves (map D.state reader.old.devices.items) }
-    requires some { 0 < length out.old }
-    requires whole { length out.old % 512 ≡ 0 }
-    requires inside { LieInBlock config.now part.device.0 part.line part.first (length out.old / 512) }
-    requires kept { AllKept config.now (map D.state reader.old.devices.items) found.old.items }
-    requires cache { IsCacheOf config.now (map D.state reader.old.devices.items) reader.old.cache }
+    requires { CanRead config.now (map D.state reader.old.devices.items) reader.old.cache found.old.items (Source.Block part) out.old }
     ensures reads { ReadsSource config.now (Source.Block part) (length out.old / 512)
         (record { old = map D.state reader.old.devices.items; new = map D.state reader.new.devices.items; before = found.old.items; after = found.new.items })
         (buffer_answer result out.new) }
@@ -249,11 +216,8 @@ fn walk<D: BlockDev>(
     tree: &Tree,
     index: u64,
 ) -> Result<Chain, IoFault>
-    requires loaded { IsLoaded config.now }
-    requires serve { ServeLeaves config.now.leaves (map D.state reader.old.devices.items) }
-    requires tree { IsTreeOf config.now verity.now tree.now }
-    requires index { index < verity.now.blocks }
-    requires cache { IsCacheOf config.now (map D.state reader.old.devices.items) reader.old.cache }
+    requires stack { IsStack config.now (map D.state reader.old.devices.items) reader.old.cache }
+    requires block { HasDataBlock config.now verity.now tree.now index }
     ensures reads { GetsChain (block_in config.now verity.now index)
         (map D.state reader.old.devices.items) (map D.state reader.new.devices.items) result }
     ensures cached { KeepsCache config.now (map D.state reader.new.devices.items) reader.old.cache reader.new.cache }
@@ -296,11 +260,8 @@ fn read_data<D: BlockDev>(
     index: u64,
     expected: &[u8; 32],
 ) -> Result<Vec<u8>, IoFault>
-    requires loaded { IsLoaded config.now }
-    requires serve { ServeLeaves config.now.leaves (map D.state reader.old.devices.items) }
-    requires tree { IsTreeOf config.now verity.now tree.now }
-    requires index { index < verity.now.blocks }
-    requires cache { IsCacheOf config.now (map D.state reader.old.devices.items) reader.old.cache }
+    requires stack { IsStack config.now (map D.state reader.old.devices.items) reader.old.cache }
+    requires block { HasDataBlock config.now verity.now tree.now index }
     ensures reads { Gets (data_expected (λ block. block.items) (block_in config.now verity.now index) expected.now)
         (map D.state reader.old.devices.items) (map D.state reader.new.devices.items) result }
     ensures cached { KeepsCache config.now (map D.state reader.new.devices.items) reader.old.cache reader.new.cache }
@@ -325,12 +286,8 @@ fn hash_block<D: BlockDev>(
     salt: &Salt,
     expected: &[u8; 32],
 ) -> Result<Vec<u8>, IoFault>
-    requires loaded { IsLoaded config.now }
-    requires serve { ServeLeaves config.now.leaves (map D.state reader.old.devices.items) }
-    requires some { 0 < extent.sectors }
-    requires inside { extent.first + extent.sectors ≤ size config.now extent.lower }
+    requires stack { IsStack config.now (map D.state reader.old.devices.items) reader.old.cache }
     requires key { IsPlaceOf config.now salt.now key extent }
-    requires cache { IsCacheOf config.now (map D.state reader.old.devices.items) reader.old.cache }
     ensures reads { Gets (checked_expected (λ block. block.items) (place_of config.now extent.lower) extent.first extent.sectors salt.now expected.now)
         (map D.state reader.old.devices.items) (map D.state reader.new.devices.items) result }
     ensures cached { KeepsCache config.now (map D.state reader.new.devices.items) reader.old.cache reader.new.cache }
@@ -361,11 +318,8 @@ fn read_checked<D: BlockDev>(
     salt: &Salt,
     expected: &[u8; 32],
 ) -> Result<Vec<u8>, IoFault>
-    requires loaded { IsLoaded config.now }
-    requires serve { ServeLeaves config.now.leaves (map D.state reader.old.devices.items) }
-    requires some { 0 < extent.sectors }
-    requires inside { extent.first + extent.sectors ≤ size config.now extent.lower }
-    requires cache { IsCacheOf config.now (map D.state reader.old.devices.items) reader.old.cache }
+    requires stack { IsStack config.now (map D.state reader.old.devices.items) reader.old.cache }
+    requires lies { LiesInside config.now extent }
     ensures reads { Gets (checked_expected (λ block. block.items) (place_of config.now extent.lower) extent.first extent.sectors salt.now expected.now)
         (map D.state reader.old.devices.items) (map D.state reader.new.devices.items) result }
     ensures cached { KeepsCache config.now (map D.state reader.new.devices.items) reader.old.cache reader.new.cache }
@@ -403,13 +357,7 @@ pub(crate) fn read_device<D: BlockDev>(
     out: &mut [u8],
     found: &mut Vec<Found>,
 ) -> Result<(), IoFault>
-    requires loaded { IsLoaded config.now }
-    requires serve { ServeLeaves config.now.leaves (map D.state reader.old.devices.items) }
-    requires some { 0 < length out.old }
-    requires whole { length out.old % 512 ≡ 0 }
-    requires inside { first + length out.old / 512 ≤ size config.now (mapped d.0) }
-    requires kept { AllKept config.now (map D.state reader.old.devices.items) found.old.items }
-    requires cache { IsCacheOf config.now (map D.state reader.old.devices.items) reader.old.cache }
+    requires { CanRead config.now (map D.state reader.old.devices.items) reader.old.cache found.old.items (Below (mapped d.0) first) out.old }
     ensures reads { Reads config.now (mapped d.0) first (length out.old / 512)
         (record { old = map D.state reader.old.devices.items; new = map D.state reader.new.devices.items; before = found.old.items; after = found.new.items })
         (buffer_answer result out.new) }

@@ -1,11 +1,11 @@
 // The run of sectors at a place of a device.
 ghost use Rattle.std.specs.Prelude.{◌≡◌, ◌<◌, ◌≤◌, ◌+◌, ◌%◌};
-ghost use Rattle.dm_table.specs.Grammar.{IsBaseOfGrammar, IsStripedOfGrammar, IsTargetOfGrammar, IsVerityOfGrammar};
+ghost use Rattle.dm_table.specs.Grammar.{IsStripedOfGrammar, IsTargetOfGrammar, IsVerityOfGrammar};
 ghost use Rattle.stack_rules.specs.Names.{mapped, size};
 ghost use Rattle.stack_rules.specs.Rules.{IsLoaded};
 ghost use Rattle.stack_rules.specs.Units.{unit_sectors};
-ghost use Rattle.stack_engine.specs.Puts.{together, in_one_run};
-ghost use Rattle.stack_engine.specs.Sources.{ComeFrom, HasTarget, EndsRun, IsServed};
+ghost use Rattle.stack_engine.specs.Sources.{ComeFrom, HasTarget};
+ghost use Rattle.stack_engine.specs.Runs.{HasSectors, IsRunOfLine, IsRunAt};
 
 use crate::source::{BlockPart, Run, Source};
 use dm_table::{Base, Crypt, Line, Target, Verity};
@@ -30,10 +30,7 @@ fn units_run(config: &Config, d: DevId, line: u32, crypt: &Crypt, within: u64, c
     requires line { HasTarget config.now d.0 line (Target.Crypt crypt.now) (within + count) }
     requires aligned { within % unit_sectors crypt.now ≡ 0 }
     requires enough { unit_sectors crypt.now ≤ count }
-    ensures come { ComeFrom config.now (d.0, line) (Target.Crypt crypt.now) within result.count result.source }
-    ensures some { 0 < result.count }
-    ensures most { result.count ≤ count }
-    ensures longest { EndsRun (together (Target.Crypt crypt.now)) within count result.count }
+    ensures { IsRunOfLine config.now (d.0, line) (Target.Crypt crypt.now) within count result }
 {
     let _config = config;
     let few = unit_sectors(crypt);
@@ -52,13 +49,9 @@ fn units_run(config: &Config, d: DevId, line: u32, crypt: &Crypt, within: u64, c
 
 /// The sectors that lie in one unit and aren't all of it.
 fn unit_run(config: &Config, d: DevId, line: u32, crypt: &Crypt, within: u64, count: u64) -> Run
-    requires line { HasTarget config.now d.0 line (Target.Crypt crypt.now) (within + count) }
-    requires some { 0 < count }
+    requires line { HasSectors config.now d.0 line (Target.Crypt crypt.now) within count }
     requires part { within % unit_sectors crypt.now ≡ 0 → count < unit_sectors crypt.now }
-    ensures come { ComeFrom config.now (d.0, line) (Target.Crypt crypt.now) within result.count result.source }
-    ensures some { 0 < result.count }
-    ensures most { result.count ≤ count }
-    ensures longest { EndsRun (together (Target.Crypt crypt.now)) within count result.count }
+    ensures { IsRunOfLine config.now (d.0, line) (Target.Crypt crypt.now) within count result }
 {
     let _config = config;
     let few = unit_sectors(crypt);
@@ -77,12 +70,8 @@ fn unit_run(config: &Config, d: DevId, line: u32, crypt: &Crypt, within: u64, co
 
 /// Whole units, or sectors of one unit.
 fn crypt_run(config: &Config, d: DevId, line: u32, crypt: &Crypt, within: u64, count: u64) -> Run
-    requires line { HasTarget config.now d.0 line (Target.Crypt crypt.now) (within + count) }
-    requires some { 0 < count }
-    ensures come { ComeFrom config.now (d.0, line) (Target.Crypt crypt.now) within result.count result.source }
-    ensures some { 0 < result.count }
-    ensures most { result.count ≤ count }
-    ensures longest { EndsRun (together (Target.Crypt crypt.now)) within count result.count }
+    requires line { HasSectors config.now d.0 line (Target.Crypt crypt.now) within count }
+    ensures { IsRunOfLine config.now (d.0, line) (Target.Crypt crypt.now) within count result }
 {
     let few = unit_sectors(crypt);
     let sectors = u64::from(few);
@@ -99,12 +88,8 @@ fn crypt_run(config: &Config, d: DevId, line: u32, crypt: &Crypt, within: u64, c
 fn striped_run(config: &Config, from: BlockPart, chunk: u64, bases: &[Base], count: u64) -> Run
     requires loaded { IsLoaded config.now }
     requires grammar { IsStripedOfGrammar chunk bases.now }
-    requires line { HasTarget config.now from.device.0 from.line (Target.Striped chunk bases.now) (from.first + count) }
-    requires some { 0 < count }
-    ensures come { ComeFrom config.now (from.device.0, from.line) (Target.Striped chunk bases.now) from.first result.count result.source }
-    ensures some { 0 < result.count }
-    ensures most { result.count ≤ count }
-    ensures longest { EndsRun (together (Target.Striped chunk bases.now)) from.first count result.count }
+    requires line { HasSectors config.now from.device.0 from.line (Target.Striped chunk bases.now) from.first count }
+    ensures { IsRunOfLine config.now (from.device.0, from.line) (Target.Striped chunk bases.now) from.first count result }
 {
     let number = from.first / chunk;
     let part = from.first % chunk;
@@ -124,12 +109,8 @@ fn striped_run(config: &Config, from: BlockPart, chunk: u64, bases: &[Base], cou
 fn verity_run(config: &Config, d: DevId, line: u32, verity: &Verity, within: u64, count: u64) -> Run
     requires loaded { IsLoaded config.now }
     requires grammar { IsVerityOfGrammar verity.now }
-    requires line { HasTarget config.now d.0 line (Target.Verity verity.now) (within + count) }
-    requires some { 0 < count }
-    ensures come { ComeFrom config.now (d.0, line) (Target.Verity verity.now) within result.count result.source }
-    ensures some { 0 < result.count }
-    ensures most { result.count ≤ count }
-    ensures longest { EndsRun (together (Target.Verity verity.now)) within count result.count }
+    requires line { HasSectors config.now d.0 line (Target.Verity verity.now) within count }
+    ensures { IsRunOfLine config.now (d.0, line) (Target.Verity verity.now) within count result }
 {
     let sectors = u64::from(verity.data_block / 512);
     let count = count.min(sectors - within % sectors);
@@ -148,12 +129,8 @@ fn verity_run(config: &Config, d: DevId, line: u32, verity: &Verity, within: u64
 fn line_run(config: &Config, d: DevId, number: u32, line: &Line, within: u64, count: u64) -> Run
     requires loaded { IsLoaded config.now }
     requires grammar { IsTargetOfGrammar line.now.target }
-    requires line { HasTarget config.now d.0 number line.now.target (within + count) }
-    requires some { 0 < count }
-    ensures come { ComeFrom config.now (d.0, number) line.now.target within result.count result.source }
-    ensures some { 0 < result.count }
-    ensures most { result.count ≤ count }
-    ensures longest { EndsRun (together line.now.target) within count result.count }
+    requires line { HasSectors config.now d.0 number line.now.target within count }
+    ensures { IsRunOfLine config.now (d.0, number) line.now.target within count result }
 {
     match &line.target {
         Target::Linear(base) => linear_run(config, d, number, base, within, count),
@@ -183,10 +160,7 @@ pub(crate) fn run_at(config: &Config, d: DevId, sector: u64, most: u64) -> Run
     requires loaded { IsLoaded config.now }
     requires some { 0 < most }
     requires inside { sector + most ≤ size config.now (mapped d.0) }
-    ensures served { IsServed config.now d.0 sector result.count result.source }
-    ensures some { 0 < result.count }
-    ensures most { result.count ≤ most }
-    ensures longest { EndsRun (in_one_run config.now d.0) sector most result.count }
+    ensures { IsRunAt config.now d.0 sector most result }
 {
     let place = config.line_at(d, sector);
     let number = place.0;

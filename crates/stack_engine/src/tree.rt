@@ -1,12 +1,12 @@
 // What a read of a verity line's blocks uses.
 ghost use Rattle.std.specs.Prelude.{◌≡◌, ◌<◌, ◌≤◌, ◌+◌, ◌*◌, ℕ, length, take, drop, get_or, IfSome, IfNone};
 ghost use Rattle.hash_tree.specs.Shape.{ancestor, levels};
-ghost use Rattle.stack_rules.specs.Names.{size};
 ghost use Rattle.stack_rules.specs.Rules.{IsLoaded};
 ghost use Rattle.stack_rules.specs.Trees.{tree_of, block_sectors};
 ghost use Rattle.stack_engine.specs.Blocks.{hash_sectors, hash_start, is_ignored};
 ghost use Rattle.stack_engine.specs.Found.{FoundRecord, entry_of};
-ghost use Rattle.stack_engine.specs.Walks.{HasVerity, IsOnVerity, IsTreeOf};
+ghost use Rattle.stack_engine.specs.Extents.{IsExtent};
+ghost use Rattle.stack_engine.specs.Walks.{HasVerity, HasDataBlock, IsOnVerity, IsTreeOf};
 
 use crate::found::Found;
 use dm_table::{Target, Verity};
@@ -84,12 +84,9 @@ pub(crate) fn hash_extent(
     index: u64,
 ) -> Extent
     requires loaded { IsLoaded config.now }
-    requires tree { IsTreeOf config.now verity.now tree.now }
+    requires block { HasDataBlock config.now verity.now tree.now index }
     requires level { level < levels (tree_of verity.now) }
-    requires index { index < verity.now.blocks }
-    ensures value { result ≡ record { lower = tree.now.hash; first = hash_start verity.now level index; sectors = hash_sectors verity.now } }
-    ensures some { 0 < result.sectors }
-    ensures inside { result.first + result.sectors ≤ size config.now result.lower }
+    ensures { IsExtent config.now tree.now.hash (hash_start verity.now level index) (hash_sectors verity.now) result }
 {
     let place = tree
         .shape
@@ -118,11 +115,8 @@ pub(crate) fn hash_key(tree: &Tree, level: u32, index: u64) -> Key
 /// Where a data block stands.
 pub(crate) fn data_extent(config: &Config, verity: &Verity, tree: &Tree, index: u64) -> Extent
     requires loaded { IsLoaded config.now }
-    requires tree { IsTreeOf config.now verity.now tree.now }
-    requires index { index < verity.now.blocks }
-    ensures value { result ≡ record { lower = tree.now.data; first = block_sectors verity.now * index; sectors = block_sectors verity.now } }
-    ensures some { 0 < result.sectors }
-    ensures inside { result.first + result.sectors ≤ size config.now result.lower }
+    requires block { HasDataBlock config.now verity.now tree.now index }
+    ensures { IsExtent config.now tree.now.data (block_sectors verity.now * index) (block_sectors verity.now) result }
 {
     let sectors = verity.data_block / 512;
     Extent {

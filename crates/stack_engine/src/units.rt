@@ -1,5 +1,5 @@
 // The units of `crypt` lines.
-ghost use Rattle.std.specs.Prelude.{◌≡◌, ◌<◌, ◌≤◌, ◌+◌, ◌*◌, ◌%◌, ◌^◌, ◌++◌, length, take, drop};
+ghost use Rattle.std.specs.Prelude.{◌≡◌, ℕ, ◌<◌, ◌≤◌, ◌+◌, ◌*◌, ◌%◌, ◌^◌, ◌++◌, length, slice_index, take, drop};
 ghost use Rattle.stack_rules.specs.Rules.{IsLoaded};
 ghost use Rattle.dm_table.specs.Crypt.{sector_size};
 ghost use Rattle.stack_rules.specs.Units.{unit_sectors};
@@ -13,6 +13,9 @@ use xts_sector::XtsKey;
 
 /// The most bytes of a unit.
 pub(crate) const MOST: usize = 4096;
+
+/// The most units that the cipher is handed in one call: as many as it makes ready at once.
+const AT_ONCE: usize = 16;
 
 /// Where units lie: on a lower device from its sector `first` on. The first of them is unit `index` of its line.
 #[derive(Clone, Copy)]
@@ -113,17 +116,33 @@ fn unit_number(crypt: &Crypt, k: u64) -> u64
     }
 }
 
+/// The numbers of so many units from unit `k` on.
+fn unit_numbers(crypt: &Crypt, k: u64, count: usize) -> [u64; AT_ONCE]
+    requires few { count ≤ AT_ONCE }
+    requires fits { k + count < 2 ^ 64 }
+    ensures { (j : ℕ) → j < count → slice_index result j ≡ unit_number crypt.now (k + j) }
+{
+    let mut numbers = [0; AT_ONCE];
+    for j in 0..count {
+        numbers[j] = unit_number(crypt, k + j as u64);
+    }
+    numbers
+}
+
 /// Decrypts units of that many bytes in place, from unit `k` on.
 fn decrypt_each(key: &XtsKey, crypt: &Crypt, k: u64, size: usize, units: &mut [u8])
     requires size { (size ≡ sector_size crypt.now) × (0 < size) × (size % 16 ≡ 0) }
     requires key { key.now ≡ crypt.now.key }
-    requires whole { length units.old % size ≡ 0 }
-    requires fits { k + length units.old < 2 ^ 64 }
+    requires units { (length units.old % size ≡ 0) × (k + length units.old < 2 ^ 64) }
     ensures { units.new ≡ decrypted_units crypt.now k units.old }
 {
-    for i in 0..units.len() / size {
-        let number = unit_number(crypt, k + i as u64);
-        key.decrypt(number, &mut units[size * i..size * i + size]);
+    let count = units.len() / size;
+    for i in 0..count.div_ceil(AT_ONCE) {
+        let from = AT_ONCE * i;
+        let few = AT_ONCE.min(count - from);
+        let numbers = unit_numbers(crypt, k + from as u64, few);
+        let part = &mut units[size * from..size * from + size * few];
+        key.decrypt_units(&numbers[..few], size, part);
     }
 }
 
@@ -131,13 +150,16 @@ fn decrypt_each(key: &XtsKey, crypt: &Crypt, k: u64, size: usize, units: &mut [u
 fn encrypt_each(key: &XtsKey, crypt: &Crypt, k: u64, size: usize, units: &mut [u8])
     requires size { (size ≡ sector_size crypt.now) × (0 < size) × (size % 16 ≡ 0) }
     requires key { key.now ≡ crypt.now.key }
-    requires whole { length units.old % size ≡ 0 }
-    requires fits { k + length units.old < 2 ^ 64 }
+    requires units { (length units.old % size ≡ 0) × (k + length units.old < 2 ^ 64) }
     ensures { units.new ≡ encrypted_units crypt.now k units.old }
 {
-    for i in 0..units.len() / size {
-        let number = unit_number(crypt, k + i as u64);
-        key.encrypt(number, &mut units[size * i..size * i + size]);
+    let count = units.len() / size;
+    for i in 0..count.div_ceil(AT_ONCE) {
+        let from = AT_ONCE * i;
+        let few = AT_ONCE.min(count - from);
+        let numbers = unit_numbers(crypt, k + from as u64, few);
+        let part = &mut units[size * from..size * from + size * few];
+        key.encrypt_units(&numbers[..few], size, part);
     }
 }
 

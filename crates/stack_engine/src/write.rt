@@ -1,12 +1,13 @@
 // Writes through the lines of a stack, down to its leaves.
-ghost use Rattle.std.specs.Prelude.{◌≡◌, ◌<◌, ◌≤◌, ◌+◌, ◌-◌, ◌/◌, ◌⊎◌, ◌++◌, [], IsTrue, length, map, take, drop};
-ghost use Rattle.stack_rules.specs.Names.{mapped, size, may_write};
-ghost use Rattle.stack_rules.specs.Rules.{IsLoaded};
-ghost use Rattle.stack_engine.specs.Leaves.{ServeLeaves};
+ghost use Rattle.std.specs.Prelude.{◌≡◌, ◌≤◌, ◌-◌, ◌⊎◌, ◌++◌, [], IsTrue, map, take, drop};
+ghost use Rattle.stack_rules.specs.Names.{mapped, may_write};
+ghost use Rattle.stack_engine.specs.declared.source.Source.TheVariants.{Below};
 ghost use Rattle.stack_engine.specs.Meaning.{said_at};
-ghost use Rattle.stack_engine.specs.Sources.{AreUnits, LieInUnit, SourceHolds, source_said};
-ghost use Rattle.stack_engine.specs.Writing.{AreSectors, AreHeld, sectors_in, destination_of, Writes, SourceMayWrite, source_destination};
-ghost use Rattle.stack_engine.specs.Caches.{IsCacheOf, KeepsCache};
+ghost use Rattle.stack_engine.specs.Sources.{source_said};
+ghost use Rattle.stack_engine.specs.Writing.{AreHeld, sectors_in, destination_of, Writes, source_destination};
+ghost use Rattle.stack_engine.specs.Caches.{KeepsCache};
+ghost use Rattle.stack_engine.specs.Stacks.{IsSound};
+ghost use Rattle.stack_engine.specs.Premises.{FitsIn, CanWrite};
 
 use crate::cuts::{Steps, lower_cuts};
 use crate::fault::IoFault;
@@ -26,12 +27,9 @@ fn write_sectors<D: BlockDev>(
     first: u64,
     bytes: &[u8],
 ) -> Result<(), IoFault>
-    requires loaded { IsLoaded config.now }
-    requires serve { ServeLeaves config.now.leaves (map D.state devices.old) }
-    requires there { leaf < length devices.old }
+    requires sound { IsSound config.now (map D.state devices.old) }
     requires allowed { IsTrue (may_write config.now (Lower.Leaf leaf)) }
-    requires sectors { AreSectors bytes.now }
-    requires inside { first + length bytes.now / 512 ≤ size config.now (Lower.Leaf leaf) }
+    requires fits { FitsIn config.now (Below (Lower.Leaf leaf) first) bytes.now }
     ensures { Writes (destination_of config.now (Lower.Leaf leaf)) first (sectors_in bytes.now)
         (map D.state devices.old) (map D.state devices.new) result }
 {
@@ -49,12 +47,7 @@ fn write_leaf<D: BlockDev>(
     first: u64,
     bytes: &[u8],
 ) -> Result<(), IoFault>
-    requires loaded { IsLoaded config.now }
-    requires serve { ServeLeaves config.now.leaves (map D.state reader.old.devices.items) }
-    requires allowed { IsTrue (may_write config.now (Lower.Leaf leaf)) }
-    requires sectors { AreSectors bytes.now }
-    requires inside { first + length bytes.now / 512 ≤ size config.now (Lower.Leaf leaf) }
-    requires cache { IsCacheOf config.now (map D.state reader.old.devices.items) reader.old.cache }
+    requires { CanWrite config.now (map D.state reader.old.devices.items) reader.old.cache (Below (Lower.Leaf leaf) first) bytes.now }
     ensures writes { Writes (destination_of config.now (Lower.Leaf leaf)) first (sectors_in bytes.now)
         (map D.state reader.old.devices.items) (map D.state reader.new.devices.items) result }
     ensures cached { KeepsCache config.now (map D.state reader.new.devices.items) reader.old.cache reader.new.cache }
@@ -92,12 +85,8 @@ fn write_lower<D: BlockDev>(
     plain: &[u8],
     buffer: &mut [u8],
 ) -> Result<(), IoFault>
-    requires loaded { IsLoaded config.now }
-    requires serve { ServeLeaves config.now.leaves (map D.state reader.old.devices.items) }
-    requires allowed { IsTrue (may_write config.now lower) }
+    requires can { CanWrite config.now (map D.state reader.old.devices.items) reader.old.cache (Below lower first) (plain.now ++ buffer.old) }
     requires bytes { AreHeld (said_at config.now lower) first plain.now buffer.old }
-    requires inside { first + length (plain.now ++ buffer.old) / 512 ≤ size config.now lower }
-    requires cache { IsCacheOf config.now (map D.state reader.old.devices.items) reader.old.cache }
     ensures writes { Writes (destination_of config.now lower) first (sectors_in (plain.now ++ buffer.old))
         (map D.state reader.old.devices.items) (map D.state reader.new.devices.items) result }
     ensures cached { KeepsCache config.now (map D.state reader.new.devices.items) reader.old.cache reader.new.cache }
@@ -117,12 +106,8 @@ fn write_run<D: BlockDev>(
     plain: &[u8],
     buffer: &mut [u8],
 ) -> Result<(), IoFault>
-    requires loaded { IsLoaded config.now }
-    requires serve { ServeLeaves config.now.leaves (map D.state reader.old.devices.items) }
-    requires allowed { SourceMayWrite config.now source }
+    requires can { CanWrite config.now (map D.state reader.old.devices.items) reader.old.cache source (plain.now ++ buffer.old) }
     requires bytes { AreHeld (source_said config.now source) 0 plain.now buffer.old }
-    requires inside { SourceHolds config.now source (length (plain.now ++ buffer.old) / 512) }
-    requires cache { IsCacheOf config.now (map D.state reader.old.devices.items) reader.old.cache }
     ensures writes { Writes (source_destination config.now source) 0 (sectors_in (plain.now ++ buffer.old))
         (map D.state reader.old.devices.items) (map D.state reader.new.devices.items) result }
     ensures cached { KeepsCache config.now (map D.state reader.new.devices.items) reader.old.cache reader.new.cache }
@@ -146,12 +131,7 @@ fn write_units<D: BlockDev>(
     part: BlockPart,
     units: &mut [u8],
 ) -> Result<(), IoFault>
-    requires loaded { IsLoaded config.now }
-    requires serve { ServeLeaves config.now.leaves (map D.state reader.old.devices.items) }
-    requires allowed { IsTrue (may_write config.now (mapped part.device.0)) }
-    requires sectors { AreSectors units.old }
-    requires inside { AreUnits config.now part.device.0 part.line part.first (length units.old / 512) }
-    requires cache { IsCacheOf config.now (map D.state reader.old.devices.items) reader.old.cache }
+    requires { CanWrite config.now (map D.state reader.old.devices.items) reader.old.cache (Source.Units part) units.old }
     ensures writes { Writes (source_destination config.now (Source.Units part)) 0 (sectors_in units.old)
         (map D.state reader.old.devices.items) (map D.state reader.new.devices.items) result }
     ensures cached { KeepsCache config.now (map D.state reader.new.devices.items) reader.old.cache reader.new.cache }
@@ -190,12 +170,7 @@ fn write_unit_part<D: BlockDev>(
     part: BlockPart,
     bytes: &[u8],
 ) -> Result<(), IoFault>
-    requires loaded { IsLoaded config.now }
-    requires serve { ServeLeaves config.now.leaves (map D.state reader.old.devices.items) }
-    requires allowed { IsTrue (may_write config.now (mapped part.device.0)) }
-    requires sectors { AreSectors bytes.now }
-    requires inside { LieInUnit config.now part.device.0 part.line part.first (length bytes.now / 512) }
-    requires cache { IsCacheOf config.now (map D.state reader.old.devices.items) reader.old.cache }
+    requires { CanWrite config.now (map D.state reader.old.devices.items) reader.old.cache (Source.UnitPart part) bytes.now }
     ensures writes { Writes (source_destination config.now (Source.UnitPart part)) 0 (sectors_in bytes.now)
         (map D.state reader.old.devices.items) (map D.state reader.new.devices.items) result }
     ensures cached { KeepsCache config.now (map D.state reader.new.devices.items) reader.old.cache reader.new.cache }
@@ -223,12 +198,8 @@ pub(crate) fn write_device<D: BlockDev>(
     plain: &[u8],
     buffer: &mut [u8],
 ) -> Result<(), IoFault>
-    requires loaded { IsLoaded config.now }
-    requires serve { ServeLeaves config.now.leaves (map D.state reader.old.devices.items) }
-    requires allowed { IsTrue (may_write config.now (mapped d.0)) }
+    requires can { CanWrite config.now (map D.state reader.old.devices.items) reader.old.cache (Below (mapped d.0) first) (plain.now ++ buffer.old) }
     requires bytes { AreHeld (said_at config.now (mapped d.0)) first plain.now buffer.old }
-    requires inside { first + length (plain.now ++ buffer.old) / 512 ≤ size config.now (mapped d.0) }
-    requires cache { IsCacheOf config.now (map D.state reader.old.devices.items) reader.old.cache }
     ensures writes { Writes (destination_of config.now (mapped d.0)) first (sectors_in (plain.now ++ buffer.old))
         (map D.state reader.old.devices.items) (map D.state reader.new.devices.items) result }
     ensures cached { KeepsCache config.now (map D.state reader.new.devices.items) reader.old.cache reader.new.cache }

@@ -10,7 +10,7 @@ use Rattle.stack_rules.specs.declared.refusal.ConfigFault.TheVariants.{Duplicate
 use Rattle.stack_rules.specs.Records.{LeafRecord, DeviceRecord}
 use Rattle.stack_rules.specs.Leaves.{has_duplicate, first_fault}
 use Rattle.stack_loader.specs.declared.facts.Facts.{Facts}
-use Rattle.stack_loader.specs.Facts.{IsKept}
+use Rattle.stack_loader.specs.Facts.{IsLoadedWith}
 use Rattle.stack_rules.proofs.lemmas.CycleLemmas.{acyclic}
 use Rattle.stack_rules.specs.Rules.{AreLeaves, IsValid, is_leaf_name, most_leaves, most_sectors}
 
@@ -73,7 +73,7 @@ unfolding IsDistinct
 empty-distinct = tt
 
 pub kept-empty : (leaves : List LeafRecord) (facts : Facts) → first_fault leaves ≡ None → facts.depths.items ≡ [] → facts.read_costs.items ≡ [] → facts.write_costs.items ≡ [] → facts.lowers.items ≡ [] → facts.keys.items ≡ [] → facts.zero_digests.items ≡ []
-    → IsKept (record { leaves = leaves; devices = [] }) facts
+    → IsLoadedWith (record { leaves = leaves; devices = [] }) facts
 kept-empty leaves facts h no_depth no_read no_write no_name no_key no_digest = record {
   loaded = record {
     leaves = leaves-sound leaves h;

@@ -4,7 +4,7 @@ pub mod LineOfLemmas
 pub mod LeafLemmas
 pub mod CycleRefusalLemmas
 pub mod DuplicateNameLemmas
-pub mod StageLemmas
+pub mod RuleOrderLemmas
 pub mod AfterLoadLemmas
 pub mod LoadLemmas
 pub mod RemoveLemmas

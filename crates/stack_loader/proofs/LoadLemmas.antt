@@ -8,7 +8,7 @@ use Rattle.stack_rules.specs.declared.refusal.LoadFault.{LoadFault}
 use Rattle.stack_rules.specs.declared.refusal.LoadFault.TheVariants.{Refused}
 use Rattle.stack_rules.specs.declared.refusal.Refusal.{Refusal}
 use Rattle.stack_rules.specs.Records.{Configuration, DeviceRecord, LeafRecord, configuration}
-use Rattle.stack_loader.specs.Facts.{AreFacts, IsKept}
+use Rattle.stack_loader.specs.Facts.{AreFacts, IsLoadedWith}
 use Rattle.stack_loader.specs.Next.{IsNext}
 use Rattle.stack_rules.specs.Passing.{IsFirst}
 use Rattle.stack_rules.specs.Rules.{first, rules, after_load, IsLoaded}
@@ -29,10 +29,10 @@ checked-moved c devices now facts same h =
 pub fault-moved : (c : Configuration) (devices now : List DeviceRecord) (fault : LoadFault) → devices ≡ now → IsFirst fault (rules (configuration c.leaves devices)) → IsFirst fault (rules (configuration c.leaves now))
 fault-moved c devices now fault same h = let P : List DeviceRecord → Type 0 = λ ds. IsFirst fault (rules (configuration c.leaves ds)) in subst P same h
 
-pub kept-next : (c : Configuration) (text : List Entry) (next : Next) → IsLoaded c → IsStackOfGrammar text → IsNext c text next → IsKept (configuration c.leaves next.devices.items) next.facts
+pub kept-next : (c : Configuration) (text : List Entry) (next : Next) → IsLoaded c → IsStackOfGrammar text → IsNext c text next → IsLoadedWith (configuration c.leaves next.devices.items) next.facts
 kept-next c text next loaded grammar is =
-    let P : List DeviceRecord → Type 0 = λ ds. IsKept (configuration c.leaves ds) next.facts in
-    let kept : IsKept (after_load c text) next.facts = record { loaded = loaded-after c text loaded grammar is.fresh is.valid; facts = is.facts } in
+    let P : List DeviceRecord → Type 0 = λ ds. IsLoadedWith (configuration c.leaves ds) next.facts in
+    let kept : IsLoadedWith (after_load c text) next.facts = record { loaded = loaded-after c text loaded grammar is.fresh is.valid; facts = is.facts } in
     subst P (sym is.devices) kept
 
 pub refused-first : (fault : LoadFault) (rules : List (Option Refusal)) (r : Refusal) → fault ≡ Refused r → IsFirst fault rules → first rules ≡ Some r

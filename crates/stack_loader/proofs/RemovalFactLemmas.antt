@@ -19,13 +19,13 @@ use Rattle.stack_rules.specs.Records.{Configuration, DeviceRecord}
 use Rattle.stack_rules.specs.Names.{mapped, named, names, device_named}
 use Rattle.stack_rules.specs.Descend.{depth, read_cost, write_cost}
 use Rattle.stack_rules.specs.Cycles.{is_mapped, names_device}
-use Rattle.stack_loader.specs.Facts.{AreFacts, IsKept, AreWithout}
+use Rattle.stack_loader.specs.Facts.{AreFacts, IsLoadedWith, AreWithout}
 use Rattle.stack_rules.specs.Kept.{AreLowers, meanings, each_mapped}
 use Rattle.stack_loader.specs.Keys.{keys_from, zero_digests_of}
 use Rattle.stack_rules.specs.Removal.{is_in_use, removal_fault, after_removal, lower_after}
 use Rattle.stack_rules.specs.Rules.{IsLoaded}
 use Rattle.stack_rules.proofs.lemmas.KeptLemmas.{length-each_mapped, length-lowers, lines_of-read}
-use Rattle.stack_rules.proofs.lemmas.BeneathLemmas.{names_device-rows}
+use Rattle.stack_rules.proofs.lemmas.LowerLemmas.{names_device-rows}
 use Rattle.stack_loader.proofs.RemoveLemmas.{map-remove, all-remove, filter-remove, place_before, place_before-same, place_before-later, place_before-earlier}
 use Rattle.stack_loader.proofs.RemovalRuleLemmas.{valid-after}
 use Rattle.stack_rules.proofs.lemmas.CycleLemmas.{acyclic, names_device-inside}
@@ -190,7 +190,7 @@ facts-after c d unused old new are without-it = record {
     count : length (remove c.devices d) + 1 ≡ length c.devices
     count = length-remove c.devices d unused.inside
 
-pub kept-after : (c : Configuration) (d : ℕ) → IsUnused c d → (old new : Facts) → IsKept c old → AreWithout d old new → IsKept (without c d) new
+pub kept-after : (c : Configuration) (d : ℕ) → IsUnused c d → (old new : Facts) → IsLoadedWith c old → AreWithout d old new → IsLoadedWith (without c d) new
 kept-after c d unused old new kept without-it = record {
   loaded = record {
     leaves = kept.loaded.leaves;

@@ -17,10 +17,10 @@ pub record AreFacts (c : Configuration) (facts : Facts) : Type 0 where
   pub keys : AreKeys c.devices facts.keys.items
   pub zero_digests : AreZeroDigests c.devices facts.zero_digests.items
 
--- what a configuration keeps, as loads have made it
-pub record IsKept (c : Configuration) (kept : Facts) : Type 0 where
+-- a loaded configuration, with what is computed of it
+pub record IsLoadedWith (c : Configuration) (made : Facts) : Type 0 where
   pub loaded : IsLoaded c
-  pub facts : AreFacts c kept
+  pub facts : AreFacts c made
 
 -- there are facts of device d
 pub record HaveDevice (facts : Facts) (d : ℕ) : Type 0 where

@@ -30,13 +30,13 @@ pub struct Config {
 
 impl Model for Config {
     ghost use Rattle.stack_rules.specs.Records.{Configuration};
-    ghost use Rattle.stack_loader.specs.Facts.{IsKept};
+    ghost use Rattle.stack_loader.specs.Facts.{IsLoadedWith};
 
     ghost Value = { Configuration };
 
     ghost view = { λ c. record { leaves = c.leaves.items; devices = c.devices.items } };
 
-    ghost invariant = { λ c. IsKept (record { leaves = c.leaves.items; devices = c.devices.items }) c.facts };
+    ghost invariant = { λ c. IsLoadedWith (record { leaves = c.leaves.items; devices = c.devices.items }) c.facts };
 }
 
 impl Config {

@@ -2,10 +2,10 @@
 ghost use Rattle.std.specs.Prelude.{◌≡◌};
 ghost use Rattle.stack_session.specs.Counted.{Writes};
 ghost use Rattle.stack_recovery.specs.LostRuns.{is_same};
-ghost use Rattle.stack_recovery.specs.Texts.{loss_text, run_text};
+ghost use Rattle.stack_recovery.specs.Texts.{run_text};
 
 use stack_engine::IoFault;
-use stack_session::{Counted, WriteFault};
+use stack_session::{Counted, WriteFault, say_io_words};
 use std::io::Write;
 
 /// So many sectors from one on, counted from 0, and the fault in which a read of them ends.
@@ -40,17 +40,5 @@ pub(crate) fn say_run<W: Write>(writer: &mut Counted<W>, run: LostRun) -> Result
         fault,
     } = run;
     writer.print(format_args!("lost {first} {count} "))?;
-    say_loss(writer, fault)
-}
-
-// The fault's number and name, and of a device the leaf's number.
-fn say_loss<W: Write>(writer: &mut Counted<W>, fault: IoFault) -> Result<(), WriteFault>
-    ensures { Writes W.contents writer.old writer.new (loss_text fault) result }
-{
-    match fault {
-        IoFault::ErrorTarget => writer.put(b"1 ErrorTarget\n"),
-        IoFault::Mismatch => writer.put(b"2 Mismatch\n"),
-        IoFault::Device(leaf) => writer.print(format_args!("3 Device {leaf}\n")),
-        IoFault::NoMemory => writer.put(b"0 NoMemory\n"),
-    }
+    say_io_words(writer, fault)
 }

@@ -8,8 +8,8 @@ pub mod ValidLineLemmas
 pub mod RangeLemmas
 pub mod ListLemmas
 pub mod KeptLemmas
-pub mod ScanLemmas
-pub mod MeaningLemmas
+pub mod FirstRefusalLemmas
+pub mod NameMeaningLemmas
 pub mod UnknownNameLemmas
-pub mod BeneathLemmas
+pub mod LowerLemmas
 pub mod PassingLemmas

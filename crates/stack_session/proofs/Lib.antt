@@ -1,6 +1,7 @@
 pub mod lemmas
 pub mod IntakeLemmas
 pub mod CommandLemmas
+pub mod FilledLemmas
 pub mod ReplyLemmas
 pub mod ReplyingLemmas
 pub mod SectorTextLemmas

@@ -18,7 +18,7 @@ use Rattle.stack_session.specs.Commands.{CommandRecord, nothing, load, run, subm
 use Rattle.stack_session.specs.Replies.{Stepping, WholeStep, RepliesToText, RepliesTo, Replies}
 use Rattle.stack_session.proofs.IntakeLemmas.{if_some_map}
 use Rattle.stack_session.proofs.ReplyingLemmas.{IsSession-as}
-use Rattle.stack_session.proofs.lemmas.TurnLemmas.{lines-led}
+use Rattle.stack_session.proofs.lemmas.QueueRunLemmas.{lines-led}
 
 -- each step of one relation is one of the other, and a fact about the leaves goes on
 abbrev Yields : Stepping → Stepping → (List Device → Type 0) → Type 0

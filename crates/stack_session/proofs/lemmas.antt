@@ -1,3 +1,3 @@
 -- What callers may cite.
 pub mod CountedLemmas
-pub mod TurnLemmas
+pub mod QueueRunLemmas

@@ -9,6 +9,7 @@ use Rattle.stack_rules.specs.declared.refusal.Refusal.{Refusal}
 use Rattle.stack_rules.specs.declared.refusal.RemoveFault.{RemoveFault}
 use Rattle.stack_engine.specs.declared.fault.IoFault.{IoFault}
 use Rattle.stack_engine.specs.declared.fault.IoFault.TheVariants as io
+use Rattle.stack_engine.specs.IoFaults.{io_number, io_name}
 use Rattle.dm_table.specs.TextKinds.{text_number, text_name}
 use Rattle.stack_rules.specs.FaultKinds.{load_number, load_name, removal_number, removal_name}
 use Rattle.request_queue.specs.declared.fault.Held.{Held}
@@ -43,6 +44,10 @@ sector_lines (suc count) n bytes = sector_line n (take 512 bytes) ++ sector_line
 abbrev pub kind_then : ℕ → List ℕ → List ℕ → List ℕ
 kind_then number name rest = decimal number ++ (codes " " ++ (name ++ rest))
 
+-- what is refused, with a number and a name
+abbrev pub refused_text : ℕ → List ℕ → List ℕ
+refused_text number name = codes "refused " ++ kind_then number name (codes "\n")
+
 -- ---- loads and removals
 
 -- requests are in flight
@@ -72,7 +77,7 @@ removed_text = codes "removed\n"
 
 -- a removal that is refused
 abbrev pub removal_text : RemoveFault → List ℕ
-removal_text fault = codes "refused " ++ kind_then (removal_number fault) (removal_name fault) (codes "\n")
+removal_text fault = refused_text (removal_number fault) (removal_name fault)
 
 abbrev pub remove_text : Result Unit (Held RemoveFault) → List ℕ
 remove_text (Ok done) = removed_text
@@ -84,7 +89,7 @@ remove_text (Err (Fault fault)) = removal_text fault
 -- a request that isn't begun
 abbrev pub submit_text : SubmitFault → List ℕ
 submit_text submit.NoMemory = no_memory
-submit_text fault = codes "refused " ++ kind_then (submit_number fault) (submit_name fault) (codes "\n")
+submit_text fault = refused_text (submit_number fault) (submit_name fault)
 
 -- one that is begun, and its ticket
 abbrev pub ticket_text : ℕ → List ℕ
@@ -94,11 +99,14 @@ abbrev pub submission_text : Result ℕ SubmitFault → List ℕ
 submission_text (Ok ticket) = ticket_text ticket
 submission_text (Err fault) = submit_text fault
 
+-- a fault's number and name, and of a device the leaf's number
+abbrev pub io_words : IoFault → List ℕ
+io_words (io.Device leaf) = kind_then (io_number (io.Device leaf)) (io_name (io.Device leaf)) (codes " " ++ (decimal leaf ++ codes "\n"))
+io_words fault = kind_then (io_number fault) (io_name fault) (codes "\n")
+
 abbrev pub io_text : IoFault → List ℕ
-io_text io.ErrorTarget = codes "fault 1 ErrorTarget\n"
-io_text io.Mismatch = codes "fault 2 Mismatch\n"
-io_text (io.Device leaf) = codes "fault 3 Device " ++ (decimal leaf ++ codes "\n")
 io_text io.NoMemory = no_memory
+io_text fault = codes "fault " ++ io_words fault
 
 abbrev pub written_text : List ℕ
 written_text = codes "written\n"

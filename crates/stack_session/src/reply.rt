@@ -2,7 +2,7 @@
 ghost use Rattle.std.specs.Prelude.{◌≡◌, ◌+◌, ◌*◌, ◌/◌, ◌%◌, ◌<◌, decimal, ◌^◌, ◌==◌, ◌++◌, codes, length, slice_index};
 ghost use Rattle.std.specs.List.{list_all};
 ghost use Rattle.stack_session.specs.Counted.{Writes};
-ghost use Rattle.stack_session.specs.Texts.{usage_text, no_memory, busy_text, loaded_text, fault_text, refusal_text, removed_text, removal_text, ticket_text, more_text, no_ticket_text, written_text, submit_text, io_text, reply_text, sector_line, sector_lines, moved_text};
+ghost use Rattle.stack_session.specs.Texts.{usage_text, no_memory, busy_text, loaded_text, fault_text, refusal_text, refused_text, removed_text, removal_text, ticket_text, more_text, no_ticket_text, written_text, submit_text, io_text, io_words, reply_text, sector_line, sector_lines, moved_text};
 ghost use Rattle.stack_session.specs.Replies.{cost_of};
 
 use crate::counted::Counted;
@@ -83,6 +83,17 @@ pub fn say_no_ticket<W: Write>(writer: &mut Counted<W>) -> Result<(), WriteFault
     writer.put(b"refused 1 NoSuchTicket\n")
 }
 
+/// `refused K NAME`
+pub fn say_refused<W: Write>(
+    writer: &mut Counted<W>,
+    number: u8,
+    name: &str,
+) -> Result<(), WriteFault>
+    ensures { Writes W.contents writer.old writer.new (refused_text number name.now) result }
+{
+    writer.print(format_args!("refused {number} {name}\n"))
+}
+
 /// `refused K NAME`, or `no memory`.
 pub fn say_submit_fault<W: Write>(
     writer: &mut Counted<W>,
@@ -93,8 +104,7 @@ pub fn say_submit_fault<W: Write>(
     if fault == SubmitFault::NoMemory {
         return say_no_memory(writer);
     }
-    let (number, name) = (fault.number(), fault.name());
-    writer.print(format_args!("refused {number} {name}\n"))
+    say_refused(writer, fault.number(), fault.name())
 }
 
 /// `removed`
@@ -111,8 +121,7 @@ pub fn say_removal_fault<W: Write>(
 ) -> Result<(), WriteFault>
     ensures { Writes W.contents writer.old writer.new (removal_text fault) result }
 {
-    let (number, name) = (fault.number(), fault.name());
-    writer.print(format_args!("refused {number} {name}\n"))
+    say_refused(writer, fault.number(), fault.name())
 }
 
 /// `written`
@@ -127,10 +136,24 @@ pub fn say_io_fault<W: Write>(writer: &mut Counted<W>, fault: IoFault) -> Result
     ensures { Writes W.contents writer.old writer.new (io_text fault) result }
 {
     match fault {
-        IoFault::ErrorTarget => writer.put(b"fault 1 ErrorTarget\n"),
-        IoFault::Mismatch => writer.put(b"fault 2 Mismatch\n"),
-        IoFault::Device(leaf) => writer.print(format_args!("fault 3 Device {leaf}\n")),
         IoFault::NoMemory => say_no_memory(writer),
+        IoFault::ErrorTarget | IoFault::Mismatch | IoFault::Device(_) => {
+            writer.put(b"fault ")?;
+            say_io_words(writer, fault)
+        }
+    }
+}
+
+/// `K NAME`, and for a device its number.
+pub fn say_io_words<W: Write>(writer: &mut Counted<W>, fault: IoFault) -> Result<(), WriteFault>
+    ensures { Writes W.contents writer.old writer.new (io_words fault) result }
+{
+    let (number, name) = (fault.number(), fault.name());
+    match fault {
+        IoFault::Device(leaf) => writer.print(format_args!("{number} {name} {leaf}\n")),
+        IoFault::ErrorTarget | IoFault::Mismatch | IoFault::NoMemory => {
+            writer.print(format_args!("{number} {name}\n"))
+        }
     }
 }
 
@@ -141,13 +164,12 @@ fn say_number<W: Write>(writer: &mut Counted<W>, number: u128) -> Result<(), Wri
     writer.print(number)
 }
 
-// Whether every byte is the first one.
+// Whether every byte is the first one: each is the one before it, which two slices are compared for by lanes.
 fn is_filled(bytes: &[u8]) -> bool
     requires { 0 < length bytes.now }
     ensures { result ≡ list_all (λ b. b == slice_index bytes.now 0) bytes.now }
 {
-    let first = bytes[0];
-    bytes.iter().all(|byte| *byte == first)
+    bytes[1..] == bytes[..bytes.len() - 1]
 }
 
 // Writes one line: a number, a text and digits.

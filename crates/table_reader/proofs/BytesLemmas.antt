@@ -7,7 +7,7 @@ use Rattle.hex.proofs.HexLemmas.{decode_of-ok, decode_sized-ok, decode_sized-twi
 use Rattle.dm_table.specs.declared.fault.TextKind.{TextKind}
 use Rattle.dm_table.specs.Words.{Word}
 use Rattle.dm_table.specs.Arguments.{bytes_at}
-use Rattle.table_reader.proofs.StepLemmas.{ok_or_ok}
+use Rattle.table_reader.proofs.ReadValueLemmas.{ok_or_ok}
 
 -- what a decoder into room for n bytes answers
 abbrev pub Decodes : ℕ → Word → List ℕ → Result Unit FromHexError → Type 0

@@ -12,7 +12,7 @@ use Rattle.dm_table.specs.Arguments.{number_at, base_at, bytes_at}
 use Rattle.dm_table.specs.Options.{options_at}
 use Rattle.dm_table.specs.Crypt.{crypt_options, cipher_at, key_at, crypt_at}
 use Rattle.dm_table.specs.Grammar.{IsCryptOfGrammar}
-use Rattle.table_reader.proofs.StepLemmas.{bind_ok, ok_same, number_at-fits, base-grammar}
+use Rattle.table_reader.proofs.ReadValueLemmas.{bind_ok, ok_same, number_at-fits, base-grammar}
 use Rattle.table_reader.proofs.BytesLemmas.{bytes_at-grammar}
 use Rattle.table_reader.proofs.OptionLemmas.{options-grammar}
 

@@ -21,7 +21,7 @@ use Rattle.dm_table.specs.Verity.{verity_at}
 use Rattle.dm_table.specs.Grammar.{IsBaseOfGrammar, IsTargetOfGrammar, IsLineOfGrammar, IsTableOfGrammar}
 use Rattle.dm_table.specs.TableText.{is_skipped, table_lines, some_lines, table_of}
 use Rattle.dm_table.specs.StackText.{name_at, minor_at, flags_at, entry_lines, Head, head_of, entry_of, entries_from, stack_of, IsEntryOfGrammar, IsStackOfGrammar}
-use Rattle.table_reader.proofs.StepLemmas.{bind_ok, ok_same, ok_or_ok, chosen, number-fits, number_at-fits, number_if-some, base-grammar}
+use Rattle.table_reader.proofs.ReadValueLemmas.{bind_ok, ok_same, ok_or_ok, chosen, number-fits, number_at-fits, number_if-some, base-grammar}
 use Rattle.table_reader.proofs.CryptLemmas.{crypt-grammar}
 use Rattle.table_reader.proofs.VerityLemmas.{verity-grammar}
 

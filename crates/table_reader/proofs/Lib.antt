@@ -2,7 +2,7 @@ pub mod CutLemmas
 pub mod NumberLemmas
 pub mod LineLemmas
 pub mod ReadLemmas
-pub mod StepLemmas
+pub mod ReadValueLemmas
 pub mod GrammarLemmas
 pub mod StackLemmas
 pub mod BytesLemmas

@@ -10,7 +10,7 @@ use Rattle.dm_table.specs.Words.{Word}
 use Rattle.dm_table.specs.Reading.{◌>>=◌}
 use Rattle.dm_table.specs.Arguments.{number_at}
 use Rattle.dm_table.specs.Options.{is_one_of, option_name, has_name_of, are_options, known_at, counted_at, options_at, AreOptionsOfGrammar}
-use Rattle.table_reader.proofs.StepLemmas.{bind_ok, ok_same, chosen, number_at-fits}
+use Rattle.table_reader.proofs.ReadValueLemmas.{bind_ok, ok_same, chosen, number_at-fits}
 
 pub list_any-map : {X Y : Type 0} (p : Y → Bool) (f : X → Y) (xs : List X) → list_any p (map f xs) ≡ list_any (λ x. p (f x)) xs
 list_any-map p f [] = refl

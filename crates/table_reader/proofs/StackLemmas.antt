@@ -13,7 +13,7 @@ use Rattle.dm_table.specs.Names.{is_mapped_name}
 use Rattle.dm_table.specs.Reading.{Read, ◌>>=◌, at_place}
 use Rattle.dm_table.specs.TableText.{some_lines, table_of}
 use Rattle.dm_table.specs.StackText.{name_at, minor_at, is_minor, flags_at, entry_lines, Head, head_of, entry_of, entries_from, stack_of}
-use Rattle.table_reader.proofs.StepLemmas.{bind_ok}
+use Rattle.table_reader.proofs.ReadValueLemmas.{bind_ok}
 
 -- a list that begins with one element, and then as another list
 pub onto : {A : Type 0} {xs : List A} {x : A} {ys zs : List A} → xs ≡ x ∷ ys → ys ≡ zs → xs ≡ x ∷ zs

@@ -14,7 +14,7 @@ use Rattle.dm_table.specs.Arguments.{device_at, number_at, bytes_at}
 use Rattle.dm_table.specs.Options.{options_at}
 use Rattle.dm_table.specs.Verity.{version_at, block_size_at, algorithm_at, digest_at, salt_at, verity_options, verity_at}
 use Rattle.dm_table.specs.Grammar.{IsVerityOfGrammar}
-use Rattle.table_reader.proofs.StepLemmas.{bind_ok, ok_same, ok_or_ok, chosen, number_if-some, number_at-fits}
+use Rattle.table_reader.proofs.ReadValueLemmas.{bind_ok, ok_same, ok_or_ok, chosen, number_if-some, number_at-fits}
 use Rattle.table_reader.proofs.BytesLemmas.{bytes_at-grammar}
 
 and-false : (a : Bool) → (a && false) ≡ false

@@ -1,10 +1,10 @@
 -- Digests of a device's blocks, and why they were not taken.
-use Rattle.std.specs.Prelude.{◌≡◌, ℕ, IsTrue, List, length, map, All}
+use Rattle.std.specs.Prelude.{◌≡◌, ℕ, ◌*◌, ◌/◌, IsTrue, List, length, map, All}
 use Rattle.block_device.specs.Device.{Device, HasFailed}
 use Rattle.hash_tree.specs.Digests.{digest}
 use Rattle.verity_format.specs.declared.access.TreeFault.{TreeFault}
 use Rattle.verity_format.specs.declared.access.TreeFault.TheVariants.{Device as DeviceFailed, NoMemory}
-use Rattle.verity_format.specs.Blocks.{blocks_at}
+use Rattle.verity_format.specs.Blocks.{IsFullRead, blocks_at}
 
 -- the device failed in the call; where memory ran out it didn't
 abbrev pub IsTreeCause : Device → Device → TreeFault → Type 0
@@ -15,3 +15,8 @@ IsTreeCause old new NoMemory = new.failures ≡ old.failures
 pub record AreDigestsOf (device : Device) (salt : List ℕ) (size first : ℕ) (digests : List (List ℕ)) : Type 0 where
   pub sized : All (λ d. length d ≡ 32) digests
   pub over : IsTrue device.steady → digests ≡ map (digest salt) (blocks_at device.image size first (length digests))
+
+-- blocks of that size were read once, from block first on, and these are their digests
+pub record IsRunRead (old : Device) (salt : List ℕ) (size first : ℕ) (taken : List (List ℕ)) (new : Device) : Type 0 where
+  pub digests : AreDigestsOf old salt size first taken
+  pub full : IsFullRead old (length taken * (size / 512)) new

@@ -28,3 +28,13 @@ pub record IsOnlyWritten (old : Device) (n : ℕ) (new : Device) : Type 0 where
   pub same : IsSameDevice old new
   pub reads : new.reads ≡ old.reads
   pub after : IsTrue old.steady → drop n new.image ≡ drop n old.image
+
+-- calls of read alone on two devices
+pub record AreOnlyRead (data_dev hash_dev data_dev' hash_dev' : Device) : Type 0 where
+  pub data_read : IsOnlyRead data_dev data_dev'
+  pub hash_read : IsOnlyRead hash_dev hash_dev'
+
+-- block i of that size was read once, over a steady device as it stands there
+pub record IsBlockRead (old : Device) (size i : ℕ) (block : List ℕ) (new : Device) : Type 0 where
+  pub bytes : IsTrue old.steady → block ≡ block_at old.image size i
+  pub full : IsFullRead old (size / 512) new

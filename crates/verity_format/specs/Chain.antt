@@ -1,5 +1,5 @@
 -- The chain of a data block as it stands on two devices.
-use Rattle.std.specs.Prelude.{◌≡◌, ◌⊎◌, ℕ, zero, suc, ◌+◌, ◌*◌, ◌/◌, List, [], ◌∷◌}
+use Rattle.std.specs.Prelude.{◌≡◌, ◌⊎◌, ℕ, zero, suc, ◌+◌, ◌*◌, ◌/◌, IsTrue, List, [], ◌∷◌}
 use Rattle.block_device.specs.Device.{Device, HasFailed}
 use Rattle.hash_tree.specs.Shape.{ShapeRecord, levels, position, ancestor}
 use Rattle.hash_tree.specs.Chain.{ChainRecord}
@@ -29,3 +29,8 @@ pub record IsChainRead (shape : ShapeRecord) (data_dev hash_dev data_dev' hash_d
 abbrev pub IsChainCause : Device → Device → Device → Device → ChainFault → Type 0
 IsChainCause data_dev hash_dev data_dev' hash_dev' DeviceFailed = HasFailed data_dev data_dev' ⊎ HasFailed hash_dev hash_dev'
 IsChainCause data_dev hash_dev data_dev' hash_dev' NoMemory = (data_dev' ≡ data_dev) × (hash_dev' ≡ hash_dev)
+
+-- the hash blocks above data block i were read, each once, over a steady device as they stand there
+pub record IsPathRead (shape : ShapeRecord) (i : ℕ) (old : Device) (blocks : List (List ℕ)) (new : Device) : Type 0 where
+  pub path : IsTrue old.steady → blocks ≡ stored_path shape old.image (levels shape) i
+  pub full : IsFullRead old (levels shape * (shape.hash_block / 512)) new

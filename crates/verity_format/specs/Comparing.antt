@@ -17,6 +17,11 @@ abbrev pub IsLeastWith : Device → ℕ → List PlacedRecord → Option ℕ →
 IsLeastWith device size out before least =
     IsTrue device.steady → (ps : List PlacedRecord) → IsLeastDiffering (block_at device.image size) ps before → IsLeastDiffering (block_at device.image size) (ps ++ out) least
 
+-- these blocks were read, each once, and of those compared before and them that is the least that differs
+pub record AreCompared (old : Device) (size : ℕ) (blocks : List PlacedRecord) (before after : Option ℕ) (new : Device) : Type 0 where
+  pub least : IsLeastWith old size blocks before after
+  pub full : IsFullRead old (length blocks * (size / 512)) new
+
 -- the blocks that the first data blocks completed were read, each once, and the least of them that differs is known
 pub record IsComparing (shape : ShapeRecord) (salt : List ℕ) (data_dev hash_dev data_dev' hash_dev' : Device) (b : BuilderRecord) (least : Option ℕ) : Type 0 where
   pub taken : IsTaken shape salt data_dev data_dev' b

@@ -12,3 +12,4 @@ pub mod FaultNames
 pub mod Growth
 pub mod Comparing
 pub mod Writing
+pub mod Premises

@@ -6,7 +6,7 @@ use Rattle.hash_tree.specs.Building.{BuilderRecord, PlacedRecord, begun_builder,
 use Rattle.hash_tree.specs.Placing.{written}
 use Rattle.verity_format.specs.declared.access.TreeFault.{TreeFault}
 use Rattle.verity_format.specs.declared.access.TreeFault.TheVariants.{Device as DeviceFailed, NoMemory}
-use Rattle.verity_format.specs.Blocks.{IsFullRead, block_at, blocks_at}
+use Rattle.verity_format.specs.Blocks.{IsOnlyRead, IsFullRead, block_at, blocks_at}
 use Rattle.verity_format.specs.Comparing.{LiesOn}
 use Rattle.verity_format.specs.Growth.{IsTaken}
 use Rattle.verity_format.specs.Image.{data_sectors, image_sectors, area_over, root_over}
@@ -36,6 +36,11 @@ pub record AreWritten (size : ℕ) (old : Device) (ps : List PlacedRecord) (new 
 -- at most the tree's blocks were written, whether that failed or not
 abbrev pub IsPartOfTree : ShapeRecord → Device → Device → Type 0
 IsPartOfTree shape old new = IsPartWritten shape.hash_block (image_sectors shape) (area_blocks shape) old new
+
+-- the data device was only read, and of the other at most the tree's blocks were written
+pub record IsTreeMoved (shape : ShapeRecord) (data_dev hash_dev data_dev' hash_dev' : Device) : Type 0 where
+  pub read : IsOnlyRead data_dev data_dev'
+  pub part : IsPartOfTree shape hash_dev hash_dev'
 
 -- the blocks that the first data blocks completed were written, each once
 pub record IsWriting (shape : ShapeRecord) (salt : List ℕ) (data_dev hash_dev data_dev' hash_dev' : Device) (b : BuilderRecord) : Type 0 where

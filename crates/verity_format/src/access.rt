@@ -1,10 +1,10 @@
 // Blocks read from a device, and the tree over a device's blocks.
-ghost use Rattle.std.specs.Prelude.{◌≡◌, ◌+◌, ◌*◌, ◌/◌, ◌%◌, ◌^◌, ◌<◌, ◌≤◌, IsTrue, OnOk, OnErr, IfOk, length, min, replicate};
+ghost use Rattle.std.specs.Prelude.{◌≡◌, ◌^◌, ◌≤◌, OnOk, OnErr, IfOk, length, replicate};
 ghost use Rattle.block_device.specs.Device.{HasFailed};
-ghost use Rattle.hash_tree.specs.Shape.{is_block_size};
-ghost use Rattle.verity_format.specs.Blocks.{block_at, IsOnlyRead, IsFullRead};
+ghost use Rattle.verity_format.specs.Blocks.{IsBlockRead, IsOnlyRead};
 ghost use Rattle.verity_format.specs.Image.{data_sectors, tree_sectors, image_sectors};
-ghost use Rattle.verity_format.specs.Access.{AreDigestsOf};
+ghost use Rattle.verity_format.specs.Access.{IsRunRead};
+ghost use Rattle.verity_format.specs.Premises.{IsBlockOn, IsRunOn};
 
 use block_device::{BlockDev, DeviceFault};
 use hash_tree::{Salt, Shape};
@@ -77,13 +77,9 @@ pub(crate) fn read_block<D: BlockDev>(
     index: u64,
     block: &mut [u8],
 ) -> Result<(), DeviceFault>
-    requires some { 0 < length block.old }
-    requires whole { length block.old % 512 ≡ 0 }
-    requires inside { index * (length block.old / 512) + length block.old / 512 ≤ (D.state device.old).size }
-    requires few { index * (length block.old / 512) ≤ 2 ^ 54 }
+    requires { IsBlockOn (D.state device.old) (length block.old) index }
     ensures read { IsOnlyRead (D.state device.old) (D.state device.new) }
-    ensures bytes { OnOk result (IsTrue (D.state device.old).steady → block.new ≡ block_at (D.state device.old).image (length block.old) index) }
-    ensures full { OnOk result (IsFullRead (D.state device.old) (length block.old / 512) (D.state device.new)) }
+    ensures ok { OnOk result (IsBlockRead (D.state device.old) (length block.old) index block.new (D.state device.new)) }
     ensures fault { OnErr result (HasFailed (D.state device.old) (D.state device.new)) }
 {
     let sectors = (block.len() / 512) as u64;
@@ -100,13 +96,9 @@ pub(crate) fn read_run<D: BlockDev>(
     run: &mut [u8],
     digests: &mut [[u8; 32]],
 ) -> Result<(), DeviceFault>
-    requires size { IsTrue (is_block_size size) }
-    requires some { 0 < length digests.old }
-    requires run { length run.old ≡ length digests.old * size }
-    requires inside { (index + length digests.old) * (size / 512) ≤ min (D.state device.old).size (2 ^ 54) }
+    requires { IsRunOn (D.state device.old) size index (length digests.old) (length run.old) }
     ensures read { IsOnlyRead (D.state device.old) (D.state device.new) }
-    ensures digests { OnOk result (AreDigestsOf (D.state device.old) salt.now size index digests.new) }
-    ensures full { OnOk result (IsFullRead (D.state device.old) (length digests.old * (size / 512)) (D.state device.new)) }
+    ensures ok { OnOk result (IsRunRead (D.state device.old) salt.now size index digests.new (D.state device.new)) }
     ensures fault { OnErr result (HasFailed (D.state device.old) (D.state device.new)) }
 {
     device.read(index * (size / 512) as u64, run)?;

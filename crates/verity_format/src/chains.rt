@@ -1,10 +1,10 @@
 // Reading a data block with the hash blocks on the way to it.
-ghost use Rattle.std.specs.Prelude.{◌≡◌, ◌*◌, ◌/◌, ◌<◌, ◌≤◌, IsTrue, OnOk, OnErr, IfOk, IfErr, All, length, map};
+ghost use Rattle.std.specs.Prelude.{◌≡◌, ◌<◌, ◌≤◌, IsTrue, OnOk, OnErr, IfOk, IfErr, All, length, map};
 ghost use Rattle.block_device.specs.Device.{HasFailed};
-ghost use Rattle.hash_tree.specs.Shape.{IsShape, levels};
-ghost use Rattle.verity_format.specs.Blocks.{IsOnlyRead, IsFullRead};
+ghost use Rattle.verity_format.specs.Blocks.{IsOnlyRead};
 ghost use Rattle.verity_format.specs.Image.{data_sectors, tree_sectors};
-ghost use Rattle.verity_format.specs.Chain.{stored_chain, stored_path, IsChainRead, IsChainCause};
+ghost use Rattle.verity_format.specs.Chain.{stored_chain, IsChainRead, IsChainCause, IsPathRead};
+ghost use Rattle.verity_format.specs.Premises.{IsPathOn};
 
 use crate::access::{read_block, zeros};
 use block_device::{BlockDev, DeviceFault};
@@ -92,14 +92,9 @@ fn read_path<H: BlockDev>(
     index: u64,
     path: &mut [Vec<u8>],
 ) -> Result<(), DeviceFault>
-    requires index { index < shape.now.blocks }
-    requires fits { tree_sectors shape.now ≤ (H.state hash_dev.old).size }
-    requires valid { IsShape shape.now }
-    requires count { length path.old ≡ levels shape.now }
-    requires sized { All (λ b. length b.items ≡ shape.now.hash_block) path.old }
+    requires { IsPathOn shape.now (H.state hash_dev.old) index path.old }
     ensures read { IsOnlyRead (H.state hash_dev.old) (H.state hash_dev.new) }
-    ensures path { OnOk result (IsTrue (H.state hash_dev.old).steady → map (λ b. b.items) path.new ≡ stored_path shape.now (H.state hash_dev.old).image (levels shape.now) index) }
-    ensures full { OnOk result (IsFullRead (H.state hash_dev.old) (levels shape.now * (shape.now.hash_block / 512)) (H.state hash_dev.new)) }
+    ensures ok { OnOk result (IsPathRead shape.now index (H.state hash_dev.old) (map (λ b. b.items) path.new) (H.state hash_dev.new)) }
     ensures fault { OnErr result (HasFailed (H.state hash_dev.old) (H.state hash_dev.new)) }
 {
     let mut level = shape.levels();

@@ -1,12 +1,11 @@
 // Hash blocks compared with those that stand on a device.
-ghost use Rattle.std.specs.Prelude.{◌≡◌, ◌+◌, ◌*◌, ◌/◌, ◌<◌, ◌≤◌, All, IsTrue, OnOk, OnErr, IfOk, IfErr, length};
+ghost use Rattle.std.specs.Prelude.{◌≡◌, OnErr, IfOk, IfErr, length};
 ghost use Rattle.block_device.specs.Device.{HasFailed};
 ghost use Rattle.hash_tree.specs.Placing.{lesser};
-ghost use Rattle.hash_tree.specs.Shape.{is_block_size};
-ghost use Rattle.verity_format.specs.Blocks.{IsOnlyRead, IsFullRead};
-ghost use Rattle.verity_format.specs.Comparing.{LiesOn, IsLeastWith, IsTreeCompared};
+ghost use Rattle.verity_format.specs.Blocks.{AreOnlyRead, IsOnlyRead};
+ghost use Rattle.verity_format.specs.Comparing.{AreCompared, IsTreeCompared};
 ghost use Rattle.verity_format.specs.Growth.{IsPairCause};
-ghost use Rattle.verity_format.specs.Image.{data_sectors, tree_sectors};
+ghost use Rattle.verity_format.specs.Premises.{AreBlocksOn, HaveTree};
 
 use crate::access::{TreeFault, read_block, zeros};
 use crate::growth::{RUN, take_run};
@@ -31,11 +30,9 @@ fn compare_blocks<H: BlockDev>(
     block: &mut [u8],
     least: Option<u64>,
 ) -> Result<Option<u64>, DeviceFault>
-    requires size { IsTrue (is_block_size (length block.old)) }
-    requires inside { All (LiesOn (H.state hash_dev.old) (length block.old)) blocks.now }
+    requires { AreBlocksOn (H.state hash_dev.old) (length block.old) blocks.now }
     ensures read { IsOnlyRead (H.state hash_dev.old) (H.state hash_dev.new) }
-    ensures least { IfOk result (λ r. IsLeastWith (H.state hash_dev.old) (length block.old) blocks.now least r) }
-    ensures full { OnOk result (IsFullRead (H.state hash_dev.old) (length blocks.now * (length block.old / 512)) (H.state hash_dev.new)) }
+    ensures ok { IfOk result (λ r. AreCompared (H.state hash_dev.old) (length block.old) blocks.now least r (H.state hash_dev.new)) }
     ensures fault { OnErr result (HasFailed (H.state hash_dev.old) (H.state hash_dev.new)) }
 {
     let mut least = least;
@@ -57,11 +54,8 @@ pub(crate) fn compare_tree<D: BlockDev, H: BlockDev>(
     shape: &Shape,
     salt: &Salt,
 ) -> Result<(Option<u64>, [u8; 32]), TreeFault>
-    requires start { shape.now.start ≡ 1 }
-    requires data_room { data_sectors shape.now ≤ (D.state data_dev.old).size }
-    requires tree_room { tree_sectors shape.now ≤ (H.state hash_dev.old).size }
-    ensures data_read { IsOnlyRead (D.state data_dev.old) (D.state data_dev.new) }
-    ensures hash_read { IsOnlyRead (H.state hash_dev.old) (H.state hash_dev.new) }
+    requires { HaveTree shape.now (D.state data_dev.old) (H.state hash_dev.old) }
+    ensures read { AreOnlyRead (D.state data_dev.old) (H.state hash_dev.old) (D.state data_dev.new) (H.state hash_dev.new) }
     ensures compared { IfOk result (λ r. IsTreeCompared shape.now salt.now (D.state data_dev.old) (H.state hash_dev.old) (D.state data_dev.new) (H.state hash_dev.new) r.0 r.1) }
     ensures fault { IfErr result (λ f. IsPairCause (D.state data_dev.old) (H.state hash_dev.old) (D.state data_dev.new) (H.state hash_dev.new) f) }
 {

@@ -169,8 +169,8 @@ pub fn format_with<D: BlockDev, H: BlockDev>(
     }
 }
 
-// The number of blocks that is given, or all whole blocks of that size in so many sectors.
-fn given_blocks(blocks: Option<u64>, size: u32, sectors: u64) -> u64
+/// The number of data blocks that is given, or that of all whole blocks of that size, in bytes, in so many sectors.
+pub fn given_blocks(blocks: Option<u64>, size: u32, sectors: u64) -> u64
     ensures { result ≡ given_blocks blocks size sectors }
 {
     match blocks {

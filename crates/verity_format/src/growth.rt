@@ -1,9 +1,9 @@
 // A tree made of a device's data blocks, run by run.
-ghost use Rattle.std.specs.Prelude.{false, ◌≡◌, ◌<◌, ◌≤◌, IfOk, IfErr, length};
+ghost use Rattle.std.specs.Prelude.{IfOk, IfErr, length};
 ghost use Rattle.verity_format.specs.Access.{IsTreeCause};
 ghost use Rattle.verity_format.specs.Blocks.{IsOnlyRead};
 ghost use Rattle.verity_format.specs.Growth.{IsRunTaken};
-ghost use Rattle.verity_format.specs.Image.{data_sectors};
+ghost use Rattle.verity_format.specs.Premises.{CanTake};
 
 use crate::access::{TreeFault, read_run};
 use block_device::BlockDev;
@@ -22,10 +22,7 @@ pub(crate) fn take_run<D: BlockDev>(
     run: &mut [u8],
     builder: &mut LevelBuilder,
 ) -> Result<Vec<Placed>, TreeFault>
-    requires ready { builder.old.failed ≡ false }
-    requires left { (0 < builder.old.left) × (builder.old.left ≤ shape.now.blocks) }
-    requires run { shape.now.data_block ≤ length run.old }
-    requires room { data_sectors shape.now ≤ (D.state device.old).size }
+    requires { CanTake shape.now (D.state device.old) builder.old (length run.old) }
     ensures read { IsOnlyRead (D.state device.old) (D.state device.new) }
     ensures taken { IfOk result (λ out. IsRunTaken shape.now salt.now (D.state device.old) (D.state device.new) builder.old builder.new out.items) }
     ensures fault { IfErr result (λ f. IsTreeCause (D.state device.old) (D.state device.new) f) }

@@ -1,10 +1,8 @@
 // A tree written as it grows.
-ghost use Rattle.std.specs.Prelude.{◌≡◌, ℕ, ◌≤◌, All, IsTrue, OnOk, OnErr, IfOk, IfErr, length};
+ghost use Rattle.std.specs.Prelude.{ℕ, All, OnOk, OnErr, IfOk, IfErr, length};
 ghost use Rattle.block_device.specs.Device.{HasFailed};
-ghost use Rattle.hash_tree.specs.Shape.{is_block_size};
-ghost use Rattle.verity_format.specs.Blocks.{IsOnlyRead};
-ghost use Rattle.verity_format.specs.Image.{data_sectors, image_sectors};
-ghost use Rattle.verity_format.specs.Writing.{MayStand, StandsWithin, IsPartWritten, AreWritten, IsPartOfTree, IsTreeWritten, IsWriteCause};
+ghost use Rattle.verity_format.specs.Premises.{CanPutBlocks, CanWriteTree};
+ghost use Rattle.verity_format.specs.Writing.{StandsWithin, IsPartWritten, AreWritten, IsTreeMoved, IsTreeWritten, IsWriteCause};
 
 use crate::access::{TreeFault, zeros};
 use crate::growth::{RUN, take_run};
@@ -18,9 +16,7 @@ fn write_blocks<H: BlockDev>(
     size: usize,
     blocks: &[Placed],
 ) -> Result<(), DeviceFault>
-    requires size { IsTrue (is_block_size size) }
-    requires inside { All (MayStand (H.state hash_dev.old) size) blocks.now }
-    requires allowed { IsTrue (H.state hash_dev.old).may_write }
+    requires { CanPutBlocks (H.state hash_dev.old) size blocks.now }
     ensures part { (last : ℕ) → All (StandsWithin size last) blocks.now → IsPartWritten size last (length blocks.now) (H.state hash_dev.old) (H.state hash_dev.new) }
     ensures ok { OnOk result (AreWritten size (H.state hash_dev.old) blocks.now (H.state hash_dev.new)) }
     ensures fault { OnErr result (HasFailed (H.state hash_dev.old) (H.state hash_dev.new)) }
@@ -40,12 +36,8 @@ pub(crate) fn write_tree<D: BlockDev, H: BlockDev>(
     shape: &Shape,
     salt: &Salt,
 ) -> Result<[u8; 32], TreeFault>
-    requires start { shape.now.start ≡ 1 }
-    requires data_room { data_sectors shape.now ≤ (D.state data_dev.old).size }
-    requires tree_room { image_sectors shape.now ≤ (H.state hash_dev.old).size }
-    requires allowed { IsTrue (H.state hash_dev.old).may_write }
-    ensures read { IsOnlyRead (D.state data_dev.old) (D.state data_dev.new) }
-    ensures part { IsPartOfTree shape.now (H.state hash_dev.old) (H.state hash_dev.new) }
+    requires { CanWriteTree shape.now (D.state data_dev.old) (H.state hash_dev.old) }
+    ensures devices { IsTreeMoved shape.now (D.state data_dev.old) (H.state hash_dev.old) (D.state data_dev.new) (H.state hash_dev.new) }
     ensures written { IfOk result (λ r. IsTreeWritten shape.now salt.now (D.state data_dev.old) (H.state hash_dev.old) (D.state data_dev.new) (H.state hash_dev.new) r) }
     ensures fault { IfErr result (λ f. IsWriteCause (D.state data_dev.old) (H.state hash_dev.old) (D.state data_dev.new) (H.state hash_dev.new) f) }
 {

@@ -4,3 +4,4 @@ pub mod BlockLemmas
 pub mod TweakLemmas
 pub mod XtsLemmas
 pub mod XtsKeyLemmas
+pub mod FirstTweakLemmas

@@ -26,6 +26,11 @@ module _ (k : Inside) (holds : HoldsKeys k) where
   tweak_key-key_of : tweak_key (key_of k) ≡ k.tweak_key
   tweak_key-key_of = drop_at k.data_key k.tweak_key (length (key_of k) / 2) (sym half)
 
+  -- the tweak of a unit's first block is its number enciphered under the second key
+  pub tweak-key_of : (n : ℕ) → tweak (key_of k) n 0 ≡ cipher k.tweak_key (unit_number n)
+  unfolding tweak
+  tweak-key_of n = ap (λ t. cipher t (unit_number n)) tweak_key-key_of
+
   pub encrypted-key_of : (n : ℕ) (unit first : List ℕ) → first ≡ cipher k.tweak_key (unit_number n)
       → encrypted_blocks k.data_key (λ j. times_alpha_power j first) unit ≡ encrypted (key_of k) n unit
   unfolding encrypted tweak

@@ -1,5 +1,5 @@
--- Units of one size, one after the other, whose numbers count up modulo 2^64.
-use Rattle.std.specs.Prelude.{ℕ, ◌+◌, ◌*◌, ◌/◌, ◌%◌, ◌^◌, List, length, take, drop}
+-- Units of one size, one after the other, each with a number of its own.
+use Rattle.std.specs.Prelude.{ℕ, ◌*◌, List, length, take, drop, slice_index}
 use Rattle.aes_block.specs.Blocks.{joined}
 use Rattle.xts_sector.specs.Xts.{encrypted, decrypted}
 
@@ -7,10 +7,10 @@ use Rattle.xts_sector.specs.Xts.{encrypted, decrypted}
 abbrev pub unit : ℕ → List ℕ → ℕ → List ℕ
 unit size bytes i = take size (drop (size * i) bytes)
 
--- units of `size` bytes enciphered, numbered from n on modulo 2^64
-unfoldable pub encrypted_units : List ℕ → ℕ → ℕ → List ℕ → List ℕ
-encrypted_units key n size bytes = joined (λ i. encrypted key ((n + i) % 2 ^ 64) (unit size bytes i)) (length bytes / size)
+-- units of `size` bytes with these numbers, enciphered
+unfoldable pub encrypted_units : List ℕ → List ℕ → ℕ → List ℕ → List ℕ
+encrypted_units key numbers size bytes = joined (λ i. encrypted key (slice_index numbers i) (unit size bytes i)) (length numbers)
 
--- units of `size` bytes deciphered, numbered from n on modulo 2^64
-unfoldable pub decrypted_units : List ℕ → ℕ → ℕ → List ℕ → List ℕ
-decrypted_units key n size bytes = joined (λ i. decrypted key ((n + i) % 2 ^ 64) (unit size bytes i)) (length bytes / size)
+-- units of `size` bytes with these numbers, deciphered
+unfoldable pub decrypted_units : List ℕ → List ℕ → ℕ → List ℕ → List ℕ
+decrypted_units key numbers size bytes = joined (λ i. decrypted key (slice_index numbers i) (unit size bytes i)) (length numbers)

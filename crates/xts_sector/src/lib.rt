@@ -3,6 +3,7 @@
 
 mod decryption;
 mod encryption;
+mod first_tweaks;
 mod masks;
 mod tweak;
 mod xts_key;

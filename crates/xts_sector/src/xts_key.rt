@@ -1,13 +1,14 @@
 //! An XTS-AES key.
 
-ghost use Rattle.std.specs.Prelude.{◌≡◌, ◌↔◌, ◌%◌, ◌<◌, length, IsSome, IfSome};
-ghost use Rattle.xts_sector.specs.Xts.{IsKeyLength, encrypted, decrypted};
+ghost use Rattle.std.specs.Prelude.{◌≡◌, ◌≢◌, ◌↔◌, ℕ, ◌-◌, ◌*◌, ◌%◌, ◌<◌, length, IsSome, IfSome};
+ghost use Rattle.xts_sector.specs.FirstTweaks.{HoldTweaks};
+ghost use Rattle.xts_sector.specs.Xts.{IsKeyLength, tweak, encrypted, decrypted};
 ghost use Rattle.xts_sector.specs.Units.{encrypted_units, decrypted_units};
 
 use crate::decryption::decrypt_blocks;
 use crate::encryption::encrypt_blocks;
-use crate::tweak::unit_number;
-use aes_block::AesKey;
+use crate::first_tweaks::{AT_ONCE, FirstTweaks, first_tweak, make_first_tweaks, tweak_at};
+use crate::tweak::Block;
 use aes_lanes::LanesKey;
 use std::marker::Model;
 
@@ -15,7 +16,7 @@ use std::marker::Model;
 #[derive(Drop)]
 pub struct XtsKey {
     data_key: LanesKey,
-    tweak_key: AesKey,
+    tweak_key: LanesKey,
 }
 
 impl Model for XtsKey {
@@ -39,7 +40,7 @@ impl XtsKey {
         let (data_key, tweak_key) = key.split_at(key.len() / 2);
         Some(XtsKey {
             data_key: LanesKey::new(data_key)?,
-            tweak_key: AesKey::new(tweak_key)?,
+            tweak_key: LanesKey::new(tweak_key)?,
         })
     }
 
@@ -49,7 +50,7 @@ impl XtsKey {
         ensures value { unit.new ≡ encrypted self.now number unit.old }
         ensures inverse { decrypted self.now number unit.new ≡ unit.old }
     {
-        let first = self.tweak_key.encrypt(&unit_number(number));
+        let first = first_tweak(&self.tweak_key, number);
         encrypt_blocks(&self.data_key, &first, unit);
     }
 
@@ -59,33 +60,66 @@ impl XtsKey {
         ensures value { unit.new ≡ decrypted self.now number unit.old }
         ensures inverse { encrypted self.now number unit.new ≡ unit.old }
     {
-        let first = self.tweak_key.encrypt(&unit_number(number));
+        let first = first_tweak(&self.tweak_key, number);
         decrypt_blocks(&self.data_key, &first, unit);
     }
 
-    /// Encrypts units of `size` bytes in place, whose numbers count up from `first` modulo 2^64.
-    pub fn encrypt_units(&self, first: u64, size: usize, units: &mut [u8])
-        requires size { (0 < size) × (size % 16 ≡ 0) }
-        requires whole { length units.old % size ≡ 0 }
-        ensures value { units.new ≡ encrypted_units self.now first size units.old }
-        ensures inverse { decrypted_units self.now first size units.new ≡ units.old }
+    /// Encrypts units of `size` bytes in place, each under its number.
+    pub fn encrypt_units(&self, numbers: &[u64], size: usize, units: &mut [u8])
+        requires size { size % 16 ≡ 0 }
+        requires whole { length units.old ≡ size * length numbers.now }
+        ensures value { units.new ≡ encrypted_units self.now numbers.now size units.old }
+        ensures inverse { decrypted_units self.now numbers.now size units.new ≡ units.old }
     {
-        for i in 0..units.len() / size {
-            let number = first.wrapping_add(i as u64);
-            self.encrypt(number, &mut units[size * i..size * i + size]);
+        let mut tweaks = [0; 256];
+        for i in 0..numbers.len() {
+            self.make_ready(numbers, i, &mut tweaks);
+            let first = tweak_at(&tweaks, i % AT_ONCE);
+            self.encrypt_from(&first, &mut units[size * i..size * i + size]);
         }
     }
 
-    /// Decrypts units of `size` bytes in place, whose numbers count up from `first` modulo 2^64.
-    pub fn decrypt_units(&self, first: u64, size: usize, units: &mut [u8])
-        requires size { (0 < size) × (size % 16 ≡ 0) }
-        requires whole { length units.old % size ≡ 0 }
-        ensures value { units.new ≡ decrypted_units self.now first size units.old }
-        ensures inverse { encrypted_units self.now first size units.new ≡ units.old }
+    /// Decrypts units of `size` bytes in place, each under its number.
+    pub fn decrypt_units(&self, numbers: &[u64], size: usize, units: &mut [u8])
+        requires size { size % 16 ≡ 0 }
+        requires whole { length units.old ≡ size * length numbers.now }
+        ensures value { units.new ≡ decrypted_units self.now numbers.now size units.old }
+        ensures inverse { encrypted_units self.now numbers.now size units.new ≡ units.old }
     {
-        for i in 0..units.len() / size {
-            let number = first.wrapping_add(i as u64);
-            self.decrypt(number, &mut units[size * i..size * i + size]);
+        let mut tweaks = [0; 256];
+        for i in 0..numbers.len() {
+            self.make_ready(numbers, i, &mut tweaks);
+            let first = tweak_at(&tweaks, i % AT_ONCE);
+            self.decrypt_from(&first, &mut units[size * i..size * i + size]);
         }
+    }
+
+    /// Where sixteen units begin with unit `i`, makes the tweaks of their first blocks.
+    fn make_ready(&self, numbers: &[u64], i: usize, tweaks: &mut FirstTweaks)
+        requires { i < length numbers.now }
+        ensures { (i % 16 ≢ 0 → HoldTweaks self.now numbers.now (i - 1) tweaks.old) → HoldTweaks self.now numbers.now i tweaks.new }
+    {
+        if i % AT_ONCE == 0 {
+            let end = numbers.len().min(i + AT_ONCE);
+            make_first_tweaks(&self.tweak_key, &numbers[i..end], tweaks);
+        }
+    }
+
+    /// Encrypts a unit in place, whose first block has this tweak.
+    fn encrypt_from(&self, first: &Block, unit: &mut [u8])
+        requires { length unit.old % 16 ≡ 0 }
+        ensures value { (n : ℕ) → first.now ≡ tweak self.now n 0 → unit.new ≡ encrypted self.now n unit.old }
+        ensures inverse { (n : ℕ) → first.now ≡ tweak self.now n 0 → decrypted self.now n unit.new ≡ unit.old }
+    {
+        encrypt_blocks(&self.data_key, first, unit);
+    }
+
+    /// Decrypts a unit in place, whose first block has this tweak.
+    fn decrypt_from(&self, first: &Block, unit: &mut [u8])
+        requires { length unit.old % 16 ≡ 0 }
+        ensures value { (n : ℕ) → first.now ≡ tweak self.now n 0 → unit.new ≡ decrypted self.now n unit.old }
+        ensures inverse { (n : ℕ) → first.now ≡ tweak self.now n 0 → encrypted self.now n unit.new ≡ unit.old }
+    {
+        decrypt_blocks(&self.data_key, first, unit);
     }
 }

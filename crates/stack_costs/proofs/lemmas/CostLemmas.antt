@@ -33,8 +33,8 @@ use Rattle.stack_rules.proofs.lemmas.CostRuleLemmas.{IsLineLocal, line_read_cost
 use Rattle.stack_costs.proofs.lemmas.CappedLemmas.{rule-capped}
 use Rattle.stack_rules.proofs.lemmas.KeptLemmas.{lines_of-read}
 use Rattle.stack_rules.proofs.lemmas.ListLemmas.{slice_get-read}
-use Rattle.stack_rules.proofs.lemmas.MeaningLemmas.{table-at}
-use Rattle.stack_rules.proofs.lemmas.BeneathLemmas.{IsInside, lowers-inside, named-inside}
+use Rattle.stack_rules.proofs.lemmas.NameMeaningLemmas.{table-at}
+use Rattle.stack_rules.proofs.lemmas.LowerLemmas.{IsInside, lowers-inside, named-inside}
 use Rattle.stack_rules.proofs.lemmas.ValidLemmas.{read_cost-leaf}
 
 -- ---- one line

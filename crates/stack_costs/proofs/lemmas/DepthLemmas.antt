@@ -15,7 +15,7 @@ use Rattle.stack_rules.specs.Descend.{greatest, after_steps, descend, most_devic
 use Rattle.stack_costs.specs.DeviceSet.{contains, set_at, AreLowerSets}
 use Rattle.stack_costs.specs.Depths.{value_in, greatest_in, round, rounds}
 use Rattle.stack_rules.specs.Kept.{each_mapped}
-use Rattle.stack_rules.proofs.lemmas.BeneathLemmas.{IsInside, lowers-inside}
+use Rattle.stack_rules.proofs.lemmas.LowerLemmas.{IsInside, lowers-inside}
 use Rattle.stack_costs.proofs.GreatestLemmas.{greatest-zero, map-low}
 
 or-cases : (a b : Bool) → (a || b) ≡ true → (a ≡ true) ⊎ (b ≡ true)

@@ -5,7 +5,7 @@ use Rattle.stack_rules.specs.declared.refusal.LoadFault.TheVariants.{Refused, No
 use Rattle.stack_rules.specs.declared.refusal.Refusal.{Refusal}
 use Rattle.stack_rules.specs.Passing.{IsPassed, IsFirst}
 use Rattle.stack_rules.specs.Rules.{first}
-use Rattle.stack_rules.proofs.lemmas.ScanLemmas.{scan, scan_found}
+use Rattle.stack_rules.proofs.lemmas.FirstRefusalLemmas.{scan, scan_found}
 
 pub IsFirst-passed : {A : Type 0} (P : A → Type 0) (fault : LoadFault) (rules : List (Option Refusal)) → IsPassed {A = A} (Err fault) rules P → IsFirst fault rules
 IsFirst-passed P (Refused r) rules h = h

@@ -1,6 +1,6 @@
 -- Units of one size: each unit of what is enciphered or deciphered, and the step of a loop over units.
-use Rattle.std.proofs.Common.{◌≡◌, ℕ, ◌+◌, ◌*◌, ◌/◌, ◌%◌, ◌^◌, ◌<◌, ◌≤◌, List, length, drop, sym, ap, ◌∙◌, refl, arith}
-use Rattle.std.proofs.lemmas.List.{length-take-le, length-drop}
+use Rattle.std.proofs.Common.{◌≡◌, ℕ, ◌+◌, ◌-◌, ◌*◌, ◌/◌, ◌%◌, ◌<◌, ◌≤◌, List, length, take, drop, get_or, sym, ap, ◌∙◌, refl, arith}
+use Rattle.std.proofs.lemmas.List.{length-take-le, length-drop, drop-drop, drop-take, take-take}
 use Rattle.std.proofs.Math.Nat.{mul-le-mul_left, div-add-mod}
 use borrow.Rule.Slice.PartMut.{put_mid}
 use Rattle.aes_block.specs.Blocks.{block, joined}
@@ -29,60 +29,62 @@ unfolding decrypted decrypted_blocks
 length-decrypted key n bytes whole =
     omega (arith, whole, length-joined (λ j. decrypted_block (data_key key) (tweak key n j) (block bytes j)) (length bytes / 16) (λ j h. length-decrypted_block (data_key key) (tweak key n j) (block bytes j)))
 
-module _ (key : List ℕ) (n size : ℕ) (bytes : List ℕ) (blocks : size % 16 ≡ 0) (whole : length bytes % size ≡ 0) where
-  pub length-encrypted_unit : (i : ℕ) → i < length bytes / size → length (encrypted key ((n + i) % 2 ^ 64) (unit size bytes i)) ≡ size
+module _ (key numbers : List ℕ) (size : ℕ) (bytes : List ℕ) (blocks : size % 16 ≡ 0) (whole : length bytes ≡ size * length numbers) where
+  pub length-encrypted_unit : (i : ℕ) → i < length numbers → length (encrypted key (get_or numbers i 0) (unit size bytes i)) ≡ size
   length-encrypted_unit i h =
-      let long = length-unit size bytes (length bytes / size) i (length-units size bytes whole) h in
-      length-encrypted key ((n + i) % 2 ^ 64) (unit size bytes i) (rw long blocks) ∙ long
+      let long = length-unit size bytes (length numbers) i whole h in
+      length-encrypted key (get_or numbers i 0) (unit size bytes i) (rw long blocks) ∙ long
 
-  pub length-decrypted_unit : (i : ℕ) → i < length bytes / size → length (decrypted key ((n + i) % 2 ^ 64) (unit size bytes i)) ≡ size
+  pub length-decrypted_unit : (i : ℕ) → i < length numbers → length (decrypted key (get_or numbers i 0) (unit size bytes i)) ≡ size
   length-decrypted_unit i h =
-      let long = length-unit size bytes (length bytes / size) i (length-units size bytes whole) h in
-      length-decrypted key ((n + i) % 2 ^ 64) (unit size bytes i) (rw long blocks) ∙ long
+      let long = length-unit size bytes (length numbers) i whole h in
+      length-decrypted key (get_or numbers i 0) (unit size bytes i) (rw long blocks) ∙ long
 
   -- a unit of enciphered units is the unit enciphered
-  pub unit-encrypted_units : (i : ℕ) → i < length bytes / size → unit size (encrypted_units key n size bytes) i ≡ encrypted key ((n + i) % 2 ^ 64) (unit size bytes i)
+  pub unit-encrypted_units : (i : ℕ) → i < length numbers → unit size (encrypted_units key numbers size bytes) i ≡ encrypted key (get_or numbers i 0) (unit size bytes i)
   unfolding encrypted_units
-  unit-encrypted_units i h = part-joined size (λ i. encrypted key ((n + i) % 2 ^ 64) (unit size bytes i)) (length bytes / size) i length-encrypted_unit h
+  unit-encrypted_units i h = part-joined size (λ i. encrypted key (get_or numbers i 0) (unit size bytes i)) (length numbers) i length-encrypted_unit h
 
-  pub unit-decrypted_units : (i : ℕ) → i < length bytes / size → unit size (decrypted_units key n size bytes) i ≡ decrypted key ((n + i) % 2 ^ 64) (unit size bytes i)
+  pub unit-decrypted_units : (i : ℕ) → i < length numbers → unit size (decrypted_units key numbers size bytes) i ≡ decrypted key (get_or numbers i 0) (unit size bytes i)
   unfolding decrypted_units
-  unit-decrypted_units i h = part-joined size (λ i. decrypted key ((n + i) % 2 ^ 64) (unit size bytes i)) (length bytes / size) i length-decrypted_unit h
+  unit-decrypted_units i h = part-joined size (λ i. decrypted key (get_or numbers i 0) (unit size bytes i)) (length numbers) i length-decrypted_unit h
 
-  pub length-encrypted_units : length (encrypted_units key n size bytes) ≡ length bytes
+  pub length-encrypted_units : length (encrypted_units key numbers size bytes) ≡ length bytes
   unfolding encrypted_units
-  length-encrypted_units = length-joined_parts size (λ i. encrypted key ((n + i) % 2 ^ 64) (unit size bytes i)) (length bytes / size) length-encrypted_unit ∙ sym (length-units size bytes whole)
+  length-encrypted_units = length-joined_parts size (λ i. encrypted key (get_or numbers i 0) (unit size bytes i)) (length numbers) length-encrypted_unit ∙ sym whole
 
-  pub length-decrypted_units : length (decrypted_units key n size bytes) ≡ length bytes
+  pub length-decrypted_units : length (decrypted_units key numbers size bytes) ≡ length bytes
   unfolding decrypted_units
-  length-decrypted_units = length-joined_parts size (λ i. decrypted key ((n + i) % 2 ^ 64) (unit size bytes i)) (length bytes / size) length-decrypted_unit ∙ sym (length-units size bytes whole)
-
-  encrypted_all : ((i : ℕ) → i < length bytes / size → decrypted key ((n + i) % 2 ^ 64) (encrypted key ((n + i) % 2 ^ 64) (unit size bytes i)) ≡ unit size bytes i)
-      → joined (λ i. decrypted key ((n + i) % 2 ^ 64) (unit size (encrypted_units key n size bytes) i)) (length bytes / size) ≡ bytes
-  unfolding encrypted_units
-  encrypted_all undone =
-      parts_undone size (λ i x. encrypted key ((n + i) % 2 ^ 64) x) (λ i x. decrypted key ((n + i) % 2 ^ 64) x) bytes (length bytes / size) (length-units size bytes whole) length-encrypted_unit undone
+  length-decrypted_units = length-joined_parts size (λ i. decrypted key (get_or numbers i 0) (unit size bytes i)) (length numbers) length-decrypted_unit ∙ sym whole
 
   -- deciphering undoes enciphering where it does so on each unit
-  pub encrypted_units_undone : ((i : ℕ) → i < length bytes / size → decrypted key ((n + i) % 2 ^ 64) (encrypted key ((n + i) % 2 ^ 64) (unit size bytes i)) ≡ unit size bytes i) → decrypted_units key n size (encrypted_units key n size bytes) ≡ bytes
-  unfolding decrypted_units
+  pub encrypted_units_undone : ((i : ℕ) → i < length numbers → decrypted key (get_or numbers i 0) (encrypted key (get_or numbers i 0) (unit size bytes i)) ≡ unit size bytes i) → decrypted_units key numbers size (encrypted_units key numbers size bytes) ≡ bytes
+  unfolding encrypted_units decrypted_units
   encrypted_units_undone undone =
-      let out = encrypted_units key n size bytes in
-      let same : length out / size ≡ length bytes / size = ap (λ x. x / size) length-encrypted_units in
-      ap (joined (λ i. decrypted key ((n + i) % 2 ^ 64) (unit size out i))) same ∙ encrypted_all undone
+      parts_undone size (λ i x. encrypted key (get_or numbers i 0) x) (λ i x. decrypted key (get_or numbers i 0) x) bytes (length numbers) whole length-encrypted_unit undone
 
-  decrypted_all : ((i : ℕ) → i < length bytes / size → encrypted key ((n + i) % 2 ^ 64) (decrypted key ((n + i) % 2 ^ 64) (unit size bytes i)) ≡ unit size bytes i)
-      → joined (λ i. encrypted key ((n + i) % 2 ^ 64) (unit size (decrypted_units key n size bytes) i)) (length bytes / size) ≡ bytes
-  unfolding decrypted_units
-  decrypted_all undone =
-      parts_undone size (λ i x. decrypted key ((n + i) % 2 ^ 64) x) (λ i x. encrypted key ((n + i) % 2 ^ 64) x) bytes (length bytes / size) (length-units size bytes whole) length-decrypted_unit undone
-
-  pub decrypted_units_undone : ((i : ℕ) → i < length bytes / size → encrypted key ((n + i) % 2 ^ 64) (decrypted key ((n + i) % 2 ^ 64) (unit size bytes i)) ≡ unit size bytes i) → encrypted_units key n size (decrypted_units key n size bytes) ≡ bytes
-  unfolding encrypted_units
+  pub decrypted_units_undone : ((i : ℕ) → i < length numbers → encrypted key (get_or numbers i 0) (decrypted key (get_or numbers i 0) (unit size bytes i)) ≡ unit size bytes i) → encrypted_units key numbers size (decrypted_units key numbers size bytes) ≡ bytes
+  unfolding encrypted_units decrypted_units
   decrypted_units_undone undone =
-      let out = decrypted_units key n size bytes in
-      let same : length out / size ≡ length bytes / size = ap (λ x. x / size) length-decrypted_units in
-      ap (joined (λ i. encrypted key ((n + i) % 2 ^ 64) (unit size out i))) same ∙ decrypted_all undone
+      parts_undone size (λ i x. decrypted key (get_or numbers i 0) x) (λ i x. encrypted key (get_or numbers i 0) x) bytes (length numbers) whole length-decrypted_unit undone
+
+-- ---- units more are written
+
+pub length-part : (size n a k : ℕ) (now : List ℕ) → k ≡ size * n → a + k ≤ length now → length (take k (drop a now)) ≡ size * n
+length-part size n a k now wide fits = length-take-le k (drop a now) (omega (arith, fits, length-drop a now)) ∙ wide
+
+-- the n units from unit m on of bytes that are still as they were there
+pub unit-part : (size : ℕ) (old now : List ℕ) (m n a k : ℕ) → a ≡ size * m → k ≡ size * n → drop (size * m) now ≡ drop (size * m) old → (j : ℕ) → j < n
+    → unit size (take k (drop a now)) j ≡ unit size old (m + j)
+unit-part size old now m n a k at wide rest j h =
+    let here = drop a now in
+    let room : size * (j + 1) ≤ size * n = mul-le-mul_left size (omega (arith, h)) in
+    let more : size * j + (k - size * j) ≡ k = omega (arith, room, wide) in
+    let front : drop (size * j) (take k here) ≡ take (k - size * j) (drop (size * j) here) = rw more at (drop-take (size * j) (k - size * j) here) in
+    let from : here ≡ drop (size * m) old = ap (λ x. drop x now) at ∙ rest in
+    let to : size * m + size * j ≡ size * (m + j) = omega arith in
+    ap (take size) front ∙ take-take size (k - size * j) (drop (size * j) here) (omega (arith, room, wide))
+    ∙ ap (λ xs. take size (drop (size * j) xs)) from ∙ ap (take size) (drop-drop (size * j) (size * m) old ∙ ap (λ x. drop x old) to)
 
 -- a unit more is written
 pub unit_written : (size : ℕ) (parts : ℕ → List ℕ) (old now out : List ℕ) (i k : ℕ) → k ≡ size → size * i + k ≤ length now → out ≡ parts i → length out ≡ k

@@ -1,10 +1,10 @@
-use Rattle.std.proofs.Common.{◌≡◌, ◌∙◌, Some, refl, sym}
+use Rattle.std.proofs.Common.{◌∙◌, Some, refl, sym}
 use Rattle.std.proofs.KnownBytes.{Keeps-refl}
 use Rattle.std.proofs.lemmas.Result.{err_from_is_err_and}
 use Rattle.nbd_server.specs.declared.fault.ServiceFault.TheVariants as fault
 use Rattle.nbd_server.specs.Exports.{export_record}
 use Rattle.nbd_server.proofs.CountedLemmas.{written-same, written-ok, written-failed}
-use Rattle.nbd_server.proofs.TurnLemmas.{names-other}
+use Rattle.nbd_server.proofs.MessageLemmas.{names-other}
 use Rattle.nbd_server.proofs.haggling.answer_option.Goals as goal
 
 pub returns-then-not-names_export-clause-answer : goal.returns-then-not-names_export-clause-answer

@@ -1,4 +1,4 @@
-use Rattle.std.proofs.Common.{◌≡◌, Some}
+use Rattle.std.proofs.Common.{Some}
 use Rattle.std.proofs.lemmas.Result.{err_from_is_err_and}
 use Rattle.nbd_server.specs.declared.fault.ServiceFault.TheVariants as fault
 use Rattle.nbd_server.proofs.CountedLemmas.{written-same, written-ok, written-failed}

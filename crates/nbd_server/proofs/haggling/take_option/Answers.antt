@@ -9,7 +9,7 @@ use Rattle.nbd_server.specs.Exports.{export_record}
 use Rattle.nbd_server.specs.Service.{HasNoRoom, IsAnswered, IsUnnamed, IsUnread}
 use Rattle.nbd_server.specs.Streaming.{Fills}
 use Rattle.nbd_server.proofs.CountedLemmas.{read-then, read-other, written-same, stops-reading}
-use Rattle.nbd_server.proofs.TurnLemmas.{header-cut, option-unlike, option-lost, option-ends, option-told, option-refused, unnamed-breaks, unread-breaks, unnamed-writing, unread-writing}
+use Rattle.nbd_server.proofs.MessageLemmas.{header-cut, option-unlike, option-lost, option-ends, option-told, option-refused, unnamed-breaks, unread-breaks, unnamed-writing, unread-writing}
 use Rattle.nbd_server.proofs.haggling.take_option.Goals as goal
 
 -- ---- the header

@@ -1,4 +1,4 @@
-use Rattle.std.proofs.Common.{◌≡◌, arith}
+use Rattle.std.proofs.Common.{arith}
 use Rattle.std.proofs.lemmas.Result.{err_from_is_err_and}
 use Rattle.stack_session.specs.Session.{streams}
 use Rattle.nbd_server.specs.declared.fault.ServiceFault.TheVariants as fault

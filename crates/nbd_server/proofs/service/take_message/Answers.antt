@@ -1,4 +1,3 @@
-use Rattle.std.proofs.Common.{Some, ap}
 use Rattle.nbd_server.specs.Exports.{export_record}
 use Rattle.nbd_server.specs.Streaming.{fault_of}
 use Rattle.nbd_server.proofs.CountedLemmas.{written-same, of-fault}

@@ -26,5 +26,5 @@ runs-preserved g c =
       stored = stored;
       export = subst (λ x. IsExport x (export_record c.args.export.now)) (sym c.in_ok-write_run.ensures.ok.put.any.config) c.runs.invariant.export;
       within = omega (arith, c.min-part.ensures, c.runs-test.true);
-      whole = omega (arith, c.min-part.ensures, c.runs.invariant.whole, c.requires.whole, c.runs-test.true);
+      whole = omega (arith, c.min-part.ensures, c.runs.invariant.whole, c.requires.sectors.whole, c.runs-test.true);
     }

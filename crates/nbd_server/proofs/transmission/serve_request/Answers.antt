@@ -1,4 +1,4 @@
-use Rattle.std.proofs.Common.{◌≡◌, ℕ, Ok, Err, ap, sym, subst, ◌∙◌}
+use Rattle.std.proofs.Common.{◌≡◌, ℕ, rules, Ok, Err, ap, sym, subst, ◌∙◌}
 use Rattle.std.proofs.lemmas.Result.{err_from_is_err_and}
 use Rattle.nbd_server.specs.declared.header.Command.TheVariants.{Write}
 use Rattle.nbd_server.specs.Exports.{export_record}
@@ -13,25 +13,29 @@ returns-in-Ok-clause-ok g c =
     let e = export_record c.args.export.now in
     let h = c.args.header in
     let p = c.in_ok-take_write-in-Ok-Write.ensures.ok in
-    let command : command_of e h ≡ Ok (Write c.in-Ok-Write.offset c.in-Ok-Write.length) = sym c.command.ensures.value ∙ c.in-Ok-Write.is ∙ ap Ok c.in-Ok-Write.field-0-is in (
-      p.0,
-      p.1 ∙ sym (write-payload e h c.in-Ok-Write.offset c.in-Ok-Write.length command),
-      p.2,
-      served-write e c.args.queue.now c.take_write.new.queue h c.in-Ok-Write.offset c.in-Ok-Write.length p.0 c.in_ok-take_write-in-Ok-Write.field-0 (Ok (data_of c.none.result)) command p.3
-          (ap written c.in-Ok.is ∙ ap Ok (sym c.none.ensures.value)),
-    )
+    let command : command_of e h ≡ Ok (Write c.in-Ok-Write.offset c.in-Ok-Write.length) = sym c.command.ensures.value ∙ c.in-Ok-Write.is ∙ ap Ok c.in-Ok-Write.field-0-is in
+    record {
+      payload = p.0;
+      size = p.1 ∙ sym (write-payload e h c.in-Ok-Write.offset c.in-Ok-Write.length command);
+      consumed = p.2;
+      serves = served-write e c.args.queue.now c.take_write.new.queue h c.in-Ok-Write.offset c.in-Ok-Write.length p.0 c.in_ok-take_write-in-Ok-Write.field-0 (Ok (data_of c.none.result)) command p.3
+          (ap written c.in-Ok.is ∙ ap Ok (sym c.none.ensures.value));
+      inside = search rules;
+    }
 
 pub returns-in-Err-2-clause-ok : goal.returns-in-Err-2-clause-ok
 returns-in-Err-2-clause-ok g c =
     let e = export_record c.args.export.now in
     let h = c.args.header in
     let p = c.in_ok-take_write-in-Ok-Write.ensures.ok in
-    let command : command_of e h ≡ Ok (Write c.in-Ok-Write.offset c.in-Ok-Write.length) = sym c.command.ensures.value ∙ c.in-Ok-Write.is ∙ ap Ok c.in-Ok-Write.field-0-is in (
-      p.0,
-      p.1 ∙ sym (write-payload e h c.in-Ok-Write.offset c.in-Ok-Write.length command),
-      p.2,
-      served-write e c.args.queue.now c.take_write.new.queue h c.in-Ok-Write.offset c.in-Ok-Write.length p.0 c.in_ok-take_write-in-Ok-Write.field-0 (Err c.in-Err-2.error) command p.3 (ap written c.in-Err-2.is),
-    )
+    let command : command_of e h ≡ Ok (Write c.in-Ok-Write.offset c.in-Ok-Write.length) = sym c.command.ensures.value ∙ c.in-Ok-Write.is ∙ ap Ok c.in-Ok-Write.field-0-is in
+    record {
+      payload = p.0;
+      size = p.1 ∙ sym (write-payload e h c.in-Ok-Write.offset c.in-Ok-Write.length command);
+      consumed = p.2;
+      serves = served-write e c.args.queue.now c.take_write.new.queue h c.in-Ok-Write.offset c.in-Ok-Write.length p.0 c.in_ok-take_write-in-Ok-Write.field-0 (Err c.in-Err-2.error) command p.3 (ap written c.in-Err-2.is);
+      inside = tt;
+    }
 
 pub returns-in_err-take_write-in-Ok-Write-clause-err : goal.returns-in_err-take_write-in-Ok-Write-clause-err
 returns-in_err-take_write-in-Ok-Write-clause-err g c =

@@ -9,7 +9,7 @@ use Rattle.nbd_server.specs.Numbers.{number32}
 use Rattle.nbd_server.specs.Streaming.{Fills}
 use Rattle.nbd_server.specs.Transmission.{outcome_of}
 use Rattle.nbd_server.proofs.CountedLemmas.{read-then, read-other, written-same, written-ok, written-failed, stops-reading}
-use Rattle.nbd_server.proofs.TurnLemmas.{header-cut, request-last, request-lost, request-served, request-unlike}
+use Rattle.nbd_server.proofs.MessageLemmas.{header-cut, request-last, request-lost, request-served, request-unlike}
 use Rattle.nbd_server.proofs.transmission.take_request.Goals as goal
 
 -- ---- the header
@@ -109,7 +109,7 @@ returns-clause-turn g c =
     let other : (header_of bytes).kind ≢ 2 = λ is. c.if-header-eq-DISCONNECT.false (ap (λ (h : Header). h.kind) c.of-header.ensures ∙ is) in
     request-served (export_record c.args.export.now) c.args.queue.now c.serve_request.new.queue input mid input' bytes first size magic
     (g.W.Write.contents c.args.writer.now.inner) (g.W.Write.contents c.say_reply.new.writer.inner) (outcome_of c.in_ok-outcome.outcome) other
-    (rw c.of-header.ensures at c.in_ok-outcome.ensures.ok) (rw c.of-header.ensures at c.in_ok-say_reply.ensures.ok)
+    (let p = rw c.of-header.ensures at c.in_ok-outcome.ensures.ok in (p.payload, p.size, p.consumed, p.serves)) (rw c.of-header.ensures at c.in_ok-say_reply.ensures.ok)
 
 pub returns-clause-reader : goal.returns-clause-reader
 returns-clause-reader g c = read-then c.in_ok-fill.ensures.reader c.in_ok-outcome.ensures.reader

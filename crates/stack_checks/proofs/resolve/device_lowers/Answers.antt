@@ -2,8 +2,8 @@ use Rattle.std.proofs.Common.{◌≡◌, ◌+◌, take, refl}
 use Rattle.std.proofs.lemmas.List.{take_all}
 use Rattle.stack_rules.specs.declared.refusal.LoadKind.TheVariants.{NoSuchDevice}
 use Rattle.stack_rules.specs.Rules.{first, unknown_in}
-use Rattle.stack_rules.proofs.lemmas.MeaningLemmas.{found-none, found-some, rows_more}
-use Rattle.stack_rules.proofs.lemmas.ScanLemmas.{scan_found, scan_more, scan_end}
+use Rattle.stack_rules.proofs.lemmas.NameMeaningLemmas.{found-none, found-some, rows_more}
+use Rattle.stack_rules.proofs.lemmas.FirstRefusalLemmas.{scan_found, scan_more, scan_end}
 use Rattle.stack_rules.proofs.lemmas.UnknownNameLemmas.{unknown_line}
 use Rattle.stack_checks.proofs.resolve.device_lowers.Goals as goal
 

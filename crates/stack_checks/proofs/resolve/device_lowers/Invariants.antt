@@ -3,7 +3,7 @@ use Rattle.stack_rules.specs.Records.{Configuration}
 use Rattle.stack_checks.specs.Index.{IsIndex}
 use Rattle.stack_rules.specs.Passing.{RowsMean}
 use Rattle.stack_rules.specs.Rules.{first, unknown_in}
-use Rattle.stack_rules.proofs.lemmas.ScanLemmas.{scan}
+use Rattle.stack_rules.proofs.lemmas.FirstRefusalLemmas.{scan}
 use Rattle.stack_rules.proofs.lemmas.UnknownNameLemmas.{unknown_line}
 use Rattle.stack_checks.proofs.resolve.device_lowers.Given as goal
 

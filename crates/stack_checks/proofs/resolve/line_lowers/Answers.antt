@@ -1,7 +1,7 @@
 use Rattle.std.proofs.Common.{◌≡◌, ◌<◌, ◌≤◌, length, take, arith}
 use Rattle.std.proofs.lemmas.List.{take_all}
 use Rattle.stack_rules.specs.Names.{names}
-use Rattle.stack_rules.proofs.lemmas.MeaningLemmas.{mean_more, mean_none}
+use Rattle.stack_rules.proofs.lemmas.NameMeaningLemmas.{mean_more, mean_none}
 use Rattle.stack_checks.proofs.resolve.line_lowers.Goals as goal
 
 pub returns-in-None : goal.returns-in-None

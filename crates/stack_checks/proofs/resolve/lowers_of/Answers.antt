@@ -5,9 +5,9 @@ use Rattle.stack_rules.specs.Records.{Configuration, configuration}
 use Rattle.stack_rules.specs.Kept.{AreLowers}
 use Rattle.stack_rules.specs.Passing.{RowsMean}
 use Rattle.stack_rules.specs.Rules.{first, unknown_in, unknown_names}
-use Rattle.stack_rules.proofs.lemmas.MeaningLemmas.{tables_more}
+use Rattle.stack_rules.proofs.lemmas.NameMeaningLemmas.{tables_more}
 use Rattle.stack_rules.proofs.lemmas.PassingLemmas.{passed_found}
-use Rattle.stack_rules.proofs.lemmas.ScanLemmas.{scan_more, scan_end}
+use Rattle.stack_rules.proofs.lemmas.FirstRefusalLemmas.{scan_more, scan_end}
 use Rattle.stack_checks.proofs.resolve.lowers_of.Goals as goal
 
 pub returns-in_err-device_lowers : goal.returns-in_err-device_lowers

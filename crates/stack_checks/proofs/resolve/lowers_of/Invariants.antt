@@ -2,7 +2,7 @@ use Rattle.std.proofs.Common.{◌≡◌, ◌+◌, Some, map, drop, take}
 use Rattle.stack_rules.specs.Records.{configuration}
 use Rattle.stack_rules.specs.Kept.{meanings}
 use Rattle.stack_rules.specs.Rules.{first, unknown_in, unknown_names}
-use Rattle.stack_rules.proofs.lemmas.ScanLemmas.{scan}
+use Rattle.stack_rules.proofs.lemmas.FirstRefusalLemmas.{scan}
 use Rattle.stack_checks.proofs.resolve.lowers_of.Given as goal
 
 abbrev pub invariant-loop-i : goal.invariant-loop-i

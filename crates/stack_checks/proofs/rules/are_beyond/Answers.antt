@@ -1,7 +1,7 @@
 use Rattle.std.proofs.Common.{◌+◌, arith}
 use Rattle.stack_rules.specs.declared.lower.Lower.TheVariants.{Leaf as leaf}
 use Rattle.stack_rules.specs.Records.{configuration}
-use Rattle.stack_checks.proofs.BeyondLemmas.{length-bases, beyond-here, beyond-step, beyond-none}
+use Rattle.stack_checks.proofs.LineRuleLemmas.{length-bases, beyond-here, beyond-step, beyond-none}
 use Rattle.stack_checks.proofs.rules.are_beyond.Goals as goal
 
 pub bounds-lowers-i : goal.bounds-lowers-i

@@ -3,7 +3,7 @@ use Rattle.std.specs.Prelude.{option_map}
 use Rattle.stack_rules.specs.Records.{Configuration, configuration}
 use Rattle.stack_rules.specs.Passing.{refusal_at}
 use Rattle.stack_rules.specs.Rules.{cuts_unit, is_off_unit, is_undivided}
-use Rattle.stack_checks.proofs.BeyondLemmas.{IsPassedLine, line-last, line-parts, parts-none}
+use Rattle.stack_checks.proofs.LineRuleLemmas.{IsPassedLine, line-last, line-parts, parts-none}
 use Rattle.stack_checks.proofs.rules.line_fault.Goals as goal
 
 pub returns-in-Some : goal.returns-in-Some

@@ -1,8 +1,8 @@
 use Rattle.std.proofs.Common.{◌+◌, sym, refl}
 use Rattle.stack_rules.specs.Records.{Configuration, configuration}
 use Rattle.stack_rules.specs.Rules.{first, each_device, table_rules}
-use Rattle.stack_rules.proofs.lemmas.MeaningLemmas.{table-at}
-use Rattle.stack_rules.proofs.lemmas.ScanLemmas.{scan_found, scan_more, scan_end}
+use Rattle.stack_rules.proofs.lemmas.NameMeaningLemmas.{table-at}
+use Rattle.stack_rules.proofs.lemmas.FirstRefusalLemmas.{scan_found, scan_more, scan_end}
 use Rattle.stack_checks.proofs.rules.lines_refusal.Goals as goal
 
 pub table_refusal-requires-clause-rows : goal.table_refusal-requires-clause-rows

@@ -1,7 +1,7 @@
 use Rattle.std.proofs.Common.{◌≡◌, ◌+◌, drop}
 use Rattle.stack_rules.specs.Records.{configuration}
 use Rattle.stack_rules.specs.Rules.{first, table_rules, each_device}
-use Rattle.stack_rules.proofs.lemmas.ScanLemmas.{scan}
+use Rattle.stack_rules.proofs.lemmas.FirstRefusalLemmas.{scan}
 use Rattle.stack_checks.proofs.rules.lines_refusal.Given as goal
 
 abbrev pub invariant-loop-i : goal.invariant-loop-i

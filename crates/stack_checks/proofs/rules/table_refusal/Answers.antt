@@ -5,8 +5,8 @@ use Rattle.dm_table.specs.Grammar.{IsLineOfGrammar}
 use Rattle.stack_rules.specs.Records.{Configuration, configuration}
 use Rattle.stack_rules.specs.Names.{sectors_of}
 use Rattle.stack_rules.specs.Rules.{first, line_rules}
-use Rattle.stack_rules.proofs.lemmas.MeaningLemmas.{row-at, length-rows}
-use Rattle.stack_rules.proofs.lemmas.ScanLemmas.{scan, scan_found, scan_more, scan_end}
+use Rattle.stack_rules.proofs.lemmas.NameMeaningLemmas.{row-at, length-rows}
+use Rattle.stack_rules.proofs.lemmas.FirstRefusalLemmas.{scan, scan_found, scan_more, scan_end}
 use Rattle.stack_checks.proofs.TableLemmas.{line_of_table}
 use Rattle.stack_checks.proofs.rules.table_refusal.Goals as goal
 

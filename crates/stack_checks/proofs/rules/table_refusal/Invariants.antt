@@ -1,7 +1,7 @@
 use Rattle.std.proofs.Common.{◌≡◌, ◌≤◌, ◌*◌, ◌^◌, ◌+◌, drop, take}
 use Rattle.stack_rules.specs.Records.{configuration}
 use Rattle.stack_rules.specs.Names.{sectors_of}
-use Rattle.stack_rules.proofs.lemmas.ScanLemmas.{scan}
+use Rattle.stack_rules.proofs.lemmas.FirstRefusalLemmas.{scan}
 use Rattle.stack_checks.proofs.TableLemmas.{line_of_table}
 use Rattle.stack_checks.proofs.rules.table_refusal.Given as goal
 

@@ -1,4 +1,4 @@
-use Rattle.std.proofs.Common.{map, inl, inr}
+use Rattle.std.proofs.Common.{map, inr}
 use Rattle.std.proofs.lemmas.Result.{IfErr-weaker, on_ok_weaker}
 use Rattle.command_line.specs.Bindings.{binding_record}
 use Rattle.stack_commands.specs.Recoveries.{device_words}
@@ -17,7 +17,7 @@ returns-in_err-counts-clause-err g c =
       has = c.in_ok-stack.ensures.ok;
     } in
     err-from c.from_residual-in_err-counts.result _ c.in_err-counts.field-0.0 c.from_residual-in_err-counts.ensures.1
-    (copy-ends (device_words c.args.stack.now c.args.name.now (map binding_record c.args.bindings.now)) c.args.out.now c.in_ok-stack.stack c.in_ok-stack.device.0 had _ c.in_ok-image.ensures.ok _ _ _ c.in_err-counts.field-0.0 c.in_err-counts.ensures.err)
+    (copy-ends (device_words c.args.stack.now c.args.name.now (map binding_record c.args.bindings.now)) c.args.out.now c.in_ok-stack.stack c.in_ok-stack.device.0 had _ c.in_ok-image.ensures.opened _ _ _ c.in_err-counts.field-0.0 c.in_err-counts.ensures.err)
 
 pub returns-clause-ok : goal.returns-clause-ok
 returns-clause-ok g c =

@@ -1,4 +1,4 @@
-use Rattle.std.proofs.Common.{arith, sym, subst}
+use Rattle.std.proofs.Common.{sym, subst}
 use Rattle.block_device.specs.contracts.any.AnyDevBlockDev.TheImpl.{ghosts}
 use Rattle.command_faults.specs.declared.fault.CommandFault.TheVariants.{NoMemory}
 use Rattle.stack_commands.specs.FileUses.{AreApartBeside}

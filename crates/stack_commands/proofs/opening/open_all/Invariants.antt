@@ -1,4 +1,4 @@
-use Rattle.std.proofs.Common.{◌≡◌, map, take}
+use Rattle.std.proofs.Common.{map, take}
 use Rattle.block_device.specs.contracts.any.AnyDevBlockDev.TheImpl.{ghosts}
 use Rattle.stack_commands.specs.Bindings.{AreBound}
 use Rattle.command_line.specs.Bindings.{binding_record}

@@ -1,5 +1,4 @@
 use Rattle.std.proofs.Common.{inl, inr, refl}
-use Rattle.stack_session.specs.Session.{streams}
 use Rattle.stack_commands.proofs.program.command.Goals as goal
 
 pub returns-in-Ok : goal.returns-in-Ok

@@ -4,7 +4,7 @@ use Rattle.stack_rules.specs.declared.lower.Lower.{Lower}
 use Rattle.stack_rules.specs.Descend.{by_name}
 use Rattle.stack_costs.specs.Costs.{cost_in, line_cost, dearest}
 use Rattle.stack_costs.proofs.GreatestLemmas.{greatest_more, greatest_all, ord_max-nat}
-use Rattle.stack_rules.proofs.lemmas.MeaningLemmas.{row-at}
+use Rattle.stack_rules.proofs.lemmas.NameMeaningLemmas.{row-at}
 use Rattle.stack_costs.proofs.cost.dearest.Goals as goal
 
 pub loop-i-preserved : goal.loop-i-preserved

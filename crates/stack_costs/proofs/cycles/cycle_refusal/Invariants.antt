@@ -3,7 +3,7 @@ use Rattle.stack_rules.specs.Records.{Configuration}
 use Rattle.stack_costs.specs.DeviceSet.{AreLowerSets}
 use Rattle.stack_rules.specs.Rules.{first, cycles}
 use Rattle.stack_costs.proofs.ClosureLemmas.{cycle_at}
-use Rattle.stack_rules.proofs.lemmas.ScanLemmas.{scan}
+use Rattle.stack_rules.proofs.lemmas.FirstRefusalLemmas.{scan}
 use Rattle.stack_costs.proofs.cycles.cycle_refusal.Given as goal
 
 abbrev pub invariant-loop-d : goal.invariant-loop-d

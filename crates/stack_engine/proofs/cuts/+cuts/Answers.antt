@@ -15,11 +15,11 @@ lower_cuts-returns-in-Leaf t c sure =
     subst (λ (x : Lower). PutsInSteps (put_on c.args.config.now x) c.args.first c.args.count c.args.steps) (sym c.in-Leaf.is) (leaf-cut c.args.config.now c.in-Leaf.field-0 c.args.first c.args.count c.args.steps)
 
 pub device_cuts-overflow_add-first : goal.device_cuts-overflow_add-first
-device_cuts-overflow_add-first t c = let small = size-small c.args.config.now (mapped c.args.d.0) c.requires.loaded in omega (arith, small, c.requires.inside, c.loop-at-test.true)
+device_cuts-overflow_add-first t c = let small = size-small c.args.config.now (mapped c.args.d.0) c.requires.loaded in omega (arith, small, c.requires.sectors.holds, c.loop-at-test.true)
 
 pub device_cuts-overflow_add-skip : goal.device_cuts-overflow_add-skip
 device_cuts-overflow_add-skip t c =
-    let small = size-small c.args.config.now (mapped c.args.d.0) c.requires.loaded in omega (arith, small, c.requires.inside, c.loop-at-test.true, c.requires.steps.begins, c.requires.steps.few)
+    let small = size-small c.args.config.now (mapped c.args.d.0) c.requires.loaded in omega (arith, small, c.requires.sectors.holds, c.loop-at-test.true, c.requires.sectors.steps.begins, c.requires.sectors.steps.few)
 
 pub device_cuts-run_cuts-requires : goal.device_cuts-run_cuts-requires
 device_cuts-run_cuts-requires t c =
@@ -32,13 +32,11 @@ device_cuts-run_cuts-requires t c =
       omega (arith, deep),
       (
         c.requires.loaded,
-        (
-          served-may_write config c.args.d.0 at run.count run.source c.requires.loaded some c.requires.allowed served,
-          (
-            served-holds config c.args.d.0 at run.count run.source served,
-            record { begins = mod_below (c.args.steps.skip + c.loop-at.at) c.args.steps.size (omega (arith, c.requires.steps.begins)); few = c.requires.steps.few },
-          ),
-        ),
+        record {
+          allowed = served-may_write config c.args.d.0 at run.count run.source c.requires.loaded some c.requires.sectors.allowed served;
+          holds = served-holds config c.args.d.0 at run.count run.source served;
+          steps = record { begins = mod_below (c.args.steps.skip + c.loop-at.at) c.args.steps.size (omega (arith, c.requires.sectors.steps.begins)); few = c.requires.sectors.steps.few };
+        },
       ),
     )
 
@@ -51,7 +49,7 @@ device_cuts-loop-at-preserved t c =
     let run = c.run_at-run.result in
     let some = c.run_at-run.ensures.some in
     let served = c.run_at-run.ensures.served in
-    let may = served-may_write config d (first + at) run.count run.source c.requires.loaded some c.requires.allowed served in
+    let may = served-may_write config d (first + at) run.count run.source c.requires.loaded some c.requires.sectors.allowed served in
     let low = c.loop-at-test.true in
     let apart : (at ≡ 0) ⊎ (in_one_run config d (first + at - 1) ≡ false) = elim c.loop-at.invariant.apart [
       | inl none ↦ inl none
@@ -66,5 +64,5 @@ device_cuts-loop-at-preserved t c =
         | inl all ↦ inr (inl (omega (arith, all, low)))
         | inr cut ↦ let e : first + (at + run.count) - 1 ≡ first + at + run.count - 1 = omega arith in inr (inr (ap (in_one_run config d) e ∙ cut))
       ];
-      so_far = device-cut config d first at run.count run.source c.args.steps c.requires.loaded (omega (arith, c.requires.steps.begins)) may apart c.loop-at.invariant.so_far served (c.if-not-run_cuts.ensures refl);
+      so_far = device-cut config d first at run.count run.source c.args.steps c.requires.loaded (omega (arith, c.requires.sectors.steps.begins)) may apart c.loop-at.invariant.so_far served (c.if-not-run_cuts.ensures refl);
     }

@@ -1,5 +1,5 @@
-use Rattle.std.proofs.Common.{◌≡◌, ◌<◌, ◌≤◌, ◌+◌, ◌/◌, ◌*◌, ◌-◌, ◌%◌, suc, length, take, drop, map, replicate, get_or, ℕ, List, [], ◌∷◌, ◌++◌, Vec, Global, Option, Some, Result, Ok, Err, refl, sym, ap, ◌∙◌, subst, arith}
-use Rattle.std.proofs.lemmas.List.{length-take, length-drop, length-append, map-append}
+use Rattle.std.proofs.Common.{◌≡◌, ◌<◌, ◌≤◌, ◌+◌, ◌/◌, ◌*◌, ◌-◌, ◌%◌, length, take, drop, map, replicate, get_or, ℕ, List, [], ◌∷◌, ◌++◌, Vec, Global, Option, Result, Ok, Err, refl, sym, ap, ◌∙◌, subst, arith}
+use Rattle.std.proofs.lemmas.List.{length-take, length-append, map-append}
 use Rattle.std.proofs.Math.Seq.{get_or-append_seam}
 use Rattle.std.proofs.lemmas.Slice.Eq.{bytes_eq-Decides}
 use Rattle.std.proofs.lemmas.Slice.{take-put_mid}
@@ -9,9 +9,7 @@ use Rattle.std.specs.Vec.{with_items}
 use borrow.Rule.Slice.PartMut.{put_mid}
 use Rattle.hash_tree.specs.Digests.{digest, digest_in}
 use Rattle.hash_tree.specs.Shape.{ShapeRecord, slot, ancestor}
-use Rattle.block_device.specs.Device.{Device}
-use Rattle.stack_rules.specs.Records.{Configuration}
-use Rattle.stack_rules.specs.Names.{mapped, named}
+use Rattle.stack_rules.specs.Names.{mapped}
 use Rattle.stack_rules.specs.Descend.{depth}
 use Rattle.stack_rules.specs.Trees.{block_sectors}
 use Rattle.stack_rules.specs.declared.lower.DevId.{DevId}
@@ -22,27 +20,26 @@ use Rattle.stack_engine.specs.declared.source.Source.{Source}
 use Rattle.stack_engine.specs.declared.source.Source.TheVariants.{Units, UnitPart, Block}
 use Rattle.stack_engine.specs.Found.{FoundRecord, entry_of}
 use Rattle.stack_engine.specs.declared.tree.Extent.{Extent}
-use Rattle.dm_table.specs.declared.verity.Verity.{Verity}
-use Rattle.verified_cache.specs.declared.key.Key.{Key}
-use Rattle.stack_engine.specs.declared.tree.Tree.{Tree}
-use Rattle.stack_engine.specs.Caches.{IsCacheOf, IsPlaceOf}
-use Rattle.stack_engine.specs.Blocks.{hash_sectors, hash_place, hash_start, next_digest}
-use Rattle.stack_engine.specs.Walks.{checked_expected, place_named, block_in, GetsChain, IsTreeOf, IsWalked}
+use Rattle.stack_engine.specs.Caches.{IsCacheOf}
+use Rattle.stack_engine.specs.Blocks.{hash_sectors, next_digest}
+use Rattle.stack_engine.specs.Walks.{block_in, GetsChain, IsWalked}
 use Rattle.stack_engine.specs.declared.fault.IoFault.{IoFault}
-use Rattle.stack_engine.specs.Places.{Place, place_of, run_expected, Read}
+use Rattle.stack_engine.specs.Places.{place_of, run_expected, Read}
 use Rattle.stack_engine.specs.Reading.{Gets, Reads, IsPlain, buffer_answer}
 use Rattle.stack_engine.specs.Sources.{SourceHolds, ReadsSource, source_said}
-use Rattle.stack_engine.proofs.lemmas.LeafListLemmas.{leaves_kept}
+use Rattle.stack_engine.proofs.RunBytesLemmas.{room_sectors, run_length}
+use Rattle.stack_engine.proofs.StackLemmas.{stack-later}
 use Rattle.stack_engine.proofs.LoadedLemmas.{size-small}
 use Rattle.stack_engine.proofs.SourceLemmas.{served-depth, served-holds, below_of, leaf_of, empty_read, zeros_of, fails_of, device_ok, device_err, device_plain, below_plain, same_reads}
-use Rattle.stack_engine.proofs.VerityLineLemmas.{data-whole, hash-whole, part-within, part-index, place-named, hash-depth, data-depth}
+use Rattle.stack_engine.proofs.VerityLineLemmas.{data-whole, hash-whole, part-within, part-index, hash-depth, data-depth}
+use Rattle.stack_engine.proofs.PathBlockLemmas.{bytes, checked_as, place_key, hash_read, hash_failed, data_had, data_failed}
 use Rattle.stack_engine.proofs.CachedLemmas.{cached-read, cached-hit, keeps-noted, noted_key, keeps-kept, keeps-found}
 use Rattle.stack_engine.proofs.StandingLemmas.{named-inside, knows-all}
 use Rattle.stack_engine.proofs.BlockPartLemmas.{kept_length, contains_at, part-room, part_found, part_walked, part_err, part_full, block_plain}
 use Rattle.stack_engine.specs.declared.source.BlockPart.{BlockPart}
 use Rattle.stack_engine.specs.Sources.{AreUnits}
 use Rattle.stack_engine.proofs.lemmas.BlockLemmas.{length-content}
-use Rattle.stack_engine.proofs.lemmas.WalkLemmas.{checked_ok, data_zeros, data_read, walk_down, walk_stops, walk_ends, walk_fails, walk_full}
+use Rattle.stack_engine.proofs.lemmas.WalkLemmas.{checked_ok, data_zeros, data_read, walk_full}
 use Rattle.stack_engine.proofs.read.+read.Goals.{read_block-in-Err-push, read_block-in-Ok-push}
 use Rattle.stack_engine.proofs.LeafLemmas.{all-whole}
 use Rattle.stack_rules.specs.Units.{unit_sectors}
@@ -55,11 +52,7 @@ use Rattle.stack_engine.proofs.read.+read.Goals as goal
 
 pub read_device-overflow_add-first : goal.read_device-overflow_add-first
 read_device-overflow_add-first g t c =
-    let small = size-small c.args.config.now (mapped c.args.d.0) c.requires.loaded in omega (arith, small, c.requires.inside)
-
--- the part of the buffer that a run fills
-part_length : (out : List ℕ) (at count : ℕ) → at + count * 512 ≤ length out → length (take (at + count * 512 - at) (drop at out)) ≡ count * 512
-part_length out at count h = omega (arith, h, length-take (at + count * 512 - at) (drop at out), length-drop at out)
+    let small = size-small c.args.config.now (mapped c.args.d.0) c.requires.stack.sound.loaded in omega (arith, small, c.requires.fits.holds)
 
 pub read_device-read_run-requires : goal.read_device-read_run-requires
 read_device-read_run-requires g t c κs within =
@@ -69,28 +62,20 @@ read_device-read_run-requires g t c κs within =
     let count = c.run_at-run.result.count in
     let served = c.run_at-run.ensures.served in
     let fits : at + count * 512 ≤ length c.loop-at.out = omega (arith, c.run_at-run.ensures.most, c.loop-at-test.true) in
-    let len = part_length c.loop-at.out at count fits in
+    let len = run_length c.loop-at.out at count fits in
     let number : count ≡ length (take (at + count * 512 - at) (drop at c.loop-at.out)) / 512 = omega (arith, len) in
-    let deep = served-depth config c.args.d.0 (c.args.first + at / 512) count source c.requires.loaded c.run_at-run.ensures.some served in (
+    let deep = served-depth config c.args.d.0 (c.args.first + at / 512) count source c.requires.stack.sound.loaded c.run_at-run.ensures.some served in (
       omega (arith, deep),
       (
         within,
-        (
-          c.requires.loaded,
-          (
-            leaves_kept config.leaves _ _ c.loop-at.invariant.so_far.got.moved.moved.fixed c.requires.serve,
-            (
-              omega (arith, len, c.run_at-run.ensures.some),
-              (
-                omega (arith, len),
-                (
-                  subst (SourceHolds config source) number (served-holds config c.args.d.0 (c.args.first + at / 512) count source served),
-                  (c.loop-at.invariant.so_far.kept, c.loop-at.invariant.cached.sound),
-                ),
-              ),
-            ),
-          ),
-        ),
+        record {
+          stack = stack-later config c.loop-at.invariant.so_far.got.moved.moved.fixed c.requires.stack c.loop-at.invariant.cached;
+          kept = c.loop-at.invariant.so_far.kept;
+          fits = record {
+            sectors = record { some = omega (arith, len, c.run_at-run.ensures.some); whole = omega (arith, len) };
+            holds = subst (SourceHolds config source) number (served-holds config c.args.d.0 (c.args.first + at / 512) count source served);
+          };
+        },
       ),
     )
 
@@ -104,7 +89,7 @@ read_device-loop-at-preserved g t c =
     let count = c.run_at-run.result.count in
     let end : ℕ = at + count * 512 in
     let fits : at + count * 512 ≤ length out = omega (arith, c.run_at-run.ensures.most, c.loop-at-test.true) in
-    let len = part_length out at count fits in
+    let len = run_length out at count fits in
     let number : length (take (at + count * 512 - at) (drop at out)) / 512 ≡ count = omega (arith, len) in
     let front : take end (put_mid at (end - at) out c.read_run.new.out) ≡ take at out ++ c.read_run.new.out = take-put_mid at (end - at) out c.read_run.new.out end (omega (arith, c.read_run.auto.out, len)) c.loop-at.invariant.within in
     let did : Read = record { old = map state c.loop-at.reader.devices.items; new = map state c.read_run.new.reader.devices.items; before = c.loop-at.found.items; after = c.read_run.new.found.items } in
@@ -113,10 +98,10 @@ read_device-loop-at-preserved g t c =
       whole = omega (arith, c.loop-at.invariant.whole);
       within = omega (arith, length-take end (put_mid at (end - at) out c.read_run.new.out), ap length front, length-append (take at out) c.read_run.new.out, length-take at out, c.read_run.auto.out, len, c.loop-at.invariant.within);
       so_far = same_reads config (mapped c.args.d.0) c.args.first _ (omega (arith, c.loop-at.invariant.whole)) (sym front)
-          (device_ok config c.args.d.0 c.args.first (at / 512) count source c.requires.loaded c.run_at-run.ensures.some c.run_at-run.ensures.served c.loop-at.invariant.so_far more);
+          (device_ok config c.args.d.0 c.args.first (at / 512) count source c.requires.stack.sound.loaded c.run_at-run.ensures.some c.run_at-run.ensures.served c.loop-at.invariant.so_far more);
       cached = record { capacity = c.in-Ok.ensures.cached.capacity ∙ c.loop-at.invariant.cached.capacity; sound = c.in-Ok.ensures.cached.sound };
       plain = subst (λ (n : ℕ). IsPlain (said_at config (mapped c.args.d.0)) c.args.first n (map state c.args.reader.now.devices.items) (map state c.read_run.new.reader.devices.items) (Ok tt)) (omega (arith, c.loop-at.invariant.whole))
-          (device_plain config c.args.d.0 c.args.first (at / 512) count (at / 512 + count) source c.requires.loaded (omega arith) c.run_at-run.ensures.served c.loop-at.invariant.plain
+          (device_plain config c.args.d.0 c.args.first (at / 512) count (at / 512 + count) source c.requires.stack.sound.loaded (omega arith) c.run_at-run.ensures.served c.loop-at.invariant.plain
           (subst (λ (n : ℕ). IsPlain (source_said config source) 0 n (map state c.loop-at.reader.devices.items) (map state c.read_run.new.reader.devices.items) (Ok tt)) number c.in-Ok.ensures.plain));
     }
 
@@ -128,11 +113,17 @@ read_device-returns-in-Err-clause-reads g t c =
     let source = c.run_at-run.result.source in
     let count = c.run_at-run.result.count in
     let fits : at + count * 512 ≤ length c.loop-at.out = omega (arith, c.run_at-run.ensures.most, c.loop-at-test.true) in
-    let len = part_length c.loop-at.out at count fits in
+    let len = run_length c.loop-at.out at count fits in
     let number : length (take (at + count * 512 - at) (drop at c.loop-at.out)) / 512 ≡ count = omega (arith, len) in
     let did : Read = record { old = map state c.loop-at.reader.devices.items; new = map state c.read_run.new.reader.devices.items; before = c.loop-at.found.items; after = c.read_run.new.found.items } in
     let more = subst (λ (n : ℕ). ReadsSource config source n did (Err c.in-Err.fault)) number c.in-Err.ensures.reads in
-    device_err config c.args.d.0 c.args.first (at / 512) count source c.requires.loaded c.run_at-run.ensures.some c.run_at-run.ensures.served c.loop-at.invariant.so_far _ c.in-Err.fault (omega (arith, fits, c.loop-at.auto.out)) more
+    device_err config c.args.d.0 c.args.first (at / 512) count source c.requires.stack.sound.loaded c.run_at-run.ensures.some c.run_at-run.ensures.served c.loop-at.invariant.so_far _ c.in-Err.fault (omega (arith, fits, c.loop-at.auto.out)) more
+
+pub read_device-returns-clause-plain : goal.read_device-returns-clause-plain
+read_device-returns-clause-plain g t c =
+    let state = g.D.BlockDev.state in
+    let all : c.loop-at.at / 512 ≡ length c.args.out.now / 512 = omega (arith, c.loop-at.invariant.within, c.loop-at-test.false, c.loop-at.auto.out) in
+    subst (λ (n : ℕ). IsPlain (said_at c.args.config.now (mapped c.args.d.0)) c.args.first n (map state c.args.reader.now.devices.items) (map state c.loop-at.reader.devices.items) (Ok tt)) all c.loop-at.invariant.plain
 
 pub read_lower-returns-in-Leaf-clause-reads : goal.read_lower-returns-in-Leaf-clause-reads
 read_lower-returns-in-Leaf-clause-reads g t c =
@@ -161,54 +152,37 @@ read_lower-returns-in-Leaf-clause-cached g t c =
     let stands : (with_items devices c.read_leaf.new.devices).items ≡ c.read_leaf.new.devices =
     with_items_is devices c.read_leaf.new.devices (c.read_leaf.auto.devices ∙ ap (λ l. length l) c.as_mut_slice.ensures.value ∙ sym devices.ok.0) in
     let one = subst (λ ds. Gets (run_expected (place_of config (Leaf c.in-Leaf.leaf)) found c.args.first n) (map state ds) (map state c.read_leaf.new.devices) answer) c.as_mut_slice.ensures.value (c.read_leaf.ensures.got found) in
-    record { capacity = refl; sound = subst (λ ds. IsCacheOf config (map state ds) cache) (sym stands) (cached-read config cache one.moved c.requires.cache) }
+    record { capacity = refl; sound = subst (λ ds. IsCacheOf config (map state ds) cache) (sym stands) (cached-read config cache one.moved c.requires.stack.cached) }
 
 pub read_lower-returns-in-Device-clause-reads : goal.read_lower-returns-in-Device-clause-reads
-read_lower-returns-in-Device-clause-reads g t c =
-    let state = g.D.BlockDev.state in
-    let did : Read = record { old = map state c.args.reader.now.devices.items; new = map state c.read_device.new.reader.devices.items; before = c.args.found.now.items; after = c.read_device.new.found.items } in
-    let answer : Result (List ℕ) IoFault = buffer_answer c.read_device.result c.read_device.new.out in
-    subst (λ (x : Lower). Reads c.args.config.now x c.args.first (length c.args.out.now / 512) did answer) (sym c.in-Device.is) c.read_device.ensures.reads
+read_lower-returns-in-Device-clause-reads g t c = rw c.in-Device.is c.read_device.ensures.reads
 
 pub read_run-returns-in-Below-clause-reads : goal.read_run-returns-in-Below-clause-reads
 read_run-returns-in-Below-clause-reads g t c =
-    let config = c.args.config.now in
     let state = g.D.BlockDev.state in
-    let n : ℕ = length c.args.out.now / 512 in
     let did : Read = record { old = map state c.args.reader.now.devices.items; new = map state c.read_lower.new.reader.devices.items; before = c.args.found.now.items; after = c.read_lower.new.found.items } in
-    let answer : Result (List ℕ) IoFault = buffer_answer c.read_lower.result c.read_lower.new.out in
-    subst (λ (s : Source). ReadsSource config s n did answer) (sym c.in-Below.is) (below_of config c.in-Below.lower c.in-Below.first n did answer c.read_lower.ensures.reads)
+    rw c.in-Below.is (below_of c.args.config.now c.in-Below.lower c.in-Below.first (length c.args.out.now / 512) did (buffer_answer c.read_lower.result c.read_lower.new.out) c.read_lower.ensures.reads)
 
 pub read_run-returns-in-Fails-clause-reads : goal.read_run-returns-in-Fails-clause-reads
 read_run-returns-in-Fails-clause-reads g t c =
     let old = map g.D.BlockDev.state c.args.reader.now.devices.items in
     let n : ℕ = length c.args.out.now / 512 in
     subst (λ (s : Source). ReadsSource c.args.config.now s n (empty_read old c.args.found.now.items) (Err ErrorTarget)) (sym c.in-Fails.is)
-    (fails_of c.args.config.now n old c.args.found.now.items c.requires.kept (omega (arith, c.requires.some, c.requires.whole)))
+    (fails_of c.args.config.now n old c.args.found.now.items c.requires.kept (omega (arith, c.requires.fits.sectors.some, c.requires.fits.sectors.whole)))
 
 pub read_run-returns-in-Zeros-clause-reads : goal.read_run-returns-in-Zeros-clause-reads
 read_run-returns-in-Zeros-clause-reads g t c =
     let old = map g.D.BlockDev.state c.args.reader.now.devices.items in
     let n : ℕ = length c.args.out.now / 512 in
-    let whole : length c.args.out.now ≡ 512 * n = omega (arith, c.requires.whole) in
+    let whole : length c.args.out.now ≡ 512 * n = omega (arith, c.requires.fits.sectors.whole) in
     subst (λ (s : Source). ReadsSource c.args.config.now s n (empty_read old c.args.found.now.items) (Ok c.fill_zeros.new.out)) (sym c.in-Zeros.is)
     (zeros_of c.args.config.now n old c.args.found.now.items c.fill_zeros.new.out c.requires.kept (c.fill_zeros.ensures ∙ ap (λ (k : ℕ). replicate k 0) whole))
 
 pub read_run-returns-in-Units-clause-reads : goal.read_run-returns-in-Units-clause-reads
-read_run-returns-in-Units-clause-reads g t c =
-    let state = g.D.BlockDev.state in
-    let n : ℕ = length c.args.out.now / 512 in
-    let did : Read = record { old = map state c.args.reader.now.devices.items; new = map state c.read_units.new.reader.devices.items; before = c.args.found.now.items; after = c.read_units.new.found.items } in
-    let answer : Result (List ℕ) IoFault = buffer_answer c.read_units.result c.read_units.new.out in
-    subst (λ (s : Source). ReadsSource c.args.config.now s n did answer) (sym c.in-Units.is) c.read_units.ensures.reads
+read_run-returns-in-Units-clause-reads g t c = rw c.in-Units.is c.read_units.ensures.reads
 
 pub read_run-returns-in-UnitPart-clause-reads : goal.read_run-returns-in-UnitPart-clause-reads
-read_run-returns-in-UnitPart-clause-reads g t c =
-    let state = g.D.BlockDev.state in
-    let n : ℕ = length c.args.out.now / 512 in
-    let did : Read = record { old = map state c.args.reader.now.devices.items; new = map state c.read_unit_part.new.reader.devices.items; before = c.args.found.now.items; after = c.read_unit_part.new.found.items } in
-    let answer : Result (List ℕ) IoFault = buffer_answer c.read_unit_part.result c.read_unit_part.new.out in
-    subst (λ (s : Source). ReadsSource c.args.config.now s n did answer) (sym c.in-UnitPart.is) c.read_unit_part.ensures.reads
+read_run-returns-in-UnitPart-clause-reads g t c = rw c.in-UnitPart.is c.read_unit_part.ensures.reads
 
 -- ---- reads that are plain
 
@@ -221,16 +195,10 @@ read_run-returns-in-Below-clause-plain g t c =
     (below_plain config c.in-Below.lower c.in-Below.first n c.read_lower.ensures.plain)
 
 pub read_run-returns-in-Units-clause-plain : goal.read_run-returns-in-Units-clause-plain
-read_run-returns-in-Units-clause-plain g t c =
-    let state = g.D.BlockDev.state in
-    subst (λ (s : Source). IsPlain (source_said c.args.config.now s) 0 (length c.args.out.now / 512) (map state c.args.reader.now.devices.items) (map state c.read_units.new.reader.devices.items) c.read_units.result) (sym c.in-Units.is)
-    c.read_units.ensures.plain
+read_run-returns-in-Units-clause-plain g t c = rw c.in-Units.is c.read_units.ensures.plain
 
 pub read_run-returns-in-UnitPart-clause-plain : goal.read_run-returns-in-UnitPart-clause-plain
-read_run-returns-in-UnitPart-clause-plain g t c =
-    let state = g.D.BlockDev.state in
-    subst (λ (s : Source). IsPlain (source_said c.args.config.now s) 0 (length c.args.out.now / 512) (map state c.args.reader.now.devices.items) (map state c.read_unit_part.new.reader.devices.items) c.read_unit_part.result) (sym c.in-UnitPart.is)
-    c.read_unit_part.ensures.plain
+read_run-returns-in-UnitPart-clause-plain g t c = rw c.in-UnitPart.is c.read_unit_part.ensures.plain
 
 pub read_run-returns-in-Zeros-clause-plain : goal.read_run-returns-in-Zeros-clause-plain
 read_run-returns-in-Zeros-clause-plain g t c = plain-none _ 0 (length c.args.out.now / 512) (map g.D.BlockDev.state c.args.reader.now.devices.items) _ (λ e. cc)
@@ -239,10 +207,7 @@ pub read_run-returns-in-Fails-clause-plain : goal.read_run-returns-in-Fails-clau
 read_run-returns-in-Fails-clause-plain g t c = plain-none _ 0 (length c.args.out.now / 512) (map g.D.BlockDev.state c.args.reader.now.devices.items) _ (λ e. cc)
 
 pub read_run-returns-in-Block-clause-plain : goal.read_run-returns-in-Block-clause-plain
-read_run-returns-in-Block-clause-plain g t c =
-    let state = g.D.BlockDev.state in
-    subst (λ (s : Source). IsPlain (source_said c.args.config.now s) 0 (length c.args.out.now / 512) (map state c.args.reader.now.devices.items) (map state c.read_block.new.reader.devices.items) c.read_block.result) (sym c.in-Block.is)
-    c.read_block.ensures.plain
+read_run-returns-in-Block-clause-plain g t c = rw c.in-Block.is c.read_block.ensures.plain
 
 pub read_lower-returns-in-Leaf-clause-plain : goal.read_lower-returns-in-Leaf-clause-plain
 read_lower-returns-in-Leaf-clause-plain g t c =
@@ -257,10 +222,7 @@ read_lower-returns-in-Leaf-clause-plain g t c =
     (subst (λ (x : Lower). IsPlain (said_at config x) c.args.first n (map state devices.items) (map state c.read_leaf.new.devices) c.read_leaf.result) (sym c.in-Leaf.is) one)
 
 pub read_lower-returns-in-Device-clause-plain : goal.read_lower-returns-in-Device-clause-plain
-read_lower-returns-in-Device-clause-plain g t c =
-    let state = g.D.BlockDev.state in
-    subst (λ (x : Lower). IsPlain (said_at c.args.config.now x) c.args.first (length c.args.out.now / 512) (map state c.args.reader.now.devices.items) (map state c.read_device.new.reader.devices.items) c.read_device.result) (sym c.in-Device.is)
-    c.read_device.ensures.plain
+read_lower-returns-in-Device-clause-plain g t c = rw c.in-Device.is c.read_device.ensures.plain
 
 pub read_device-returns-in-Err-clause-plain : goal.read_device-returns-in-Err-clause-plain
 read_device-returns-in-Err-clause-plain g t c =
@@ -270,9 +232,9 @@ read_device-returns-in-Err-clause-plain g t c =
     let source = c.run_at-run.result.source in
     let count = c.run_at-run.result.count in
     let fits : at + count * 512 ≤ length c.loop-at.out = omega (arith, c.run_at-run.ensures.most, c.loop-at-test.true) in
-    let len = part_length c.loop-at.out at count fits in
+    let len = run_length c.loop-at.out at count fits in
     let number : length (take (at + count * 512 - at) (drop at c.loop-at.out)) / 512 ≡ count = omega (arith, len) in
-    device_plain config c.args.d.0 c.args.first (at / 512) count (length c.args.out.now / 512) source c.requires.loaded (omega (arith, fits, c.loop-at.auto.out)) c.run_at-run.ensures.served c.loop-at.invariant.plain
+    device_plain config c.args.d.0 c.args.first (at / 512) count (length c.args.out.now / 512) source c.requires.stack.sound.loaded (omega (arith, fits, c.loop-at.auto.out)) c.run_at-run.ensures.served c.loop-at.invariant.plain
     (subst (λ (n : ℕ). IsPlain (source_said config source) 0 n (map state c.loop-at.reader.devices.items) (map state c.read_run.new.reader.devices.items) (Err c.in-Err.fault)) number c.in-Err.ensures.plain)
 
 -- ---- units of crypt lines
@@ -284,10 +246,10 @@ read_units-read_lower-requires g t c κs within =
     let n : ℕ = length c.args.out.now / 512 in
     let crypt = c.crypt_at-crypt.result.now in
     let unit = c.unit_at-unit in
-    let line = unit-line-on config p.device.0 p.line 0 crypt c.requires.loaded c.crypt_at-crypt.ensures unit.result.lower unit.ensures.lower in
-    let inside = units-inside config p.device.0 p.line p.first n crypt c.requires.loaded c.crypt_at-crypt.ensures c.requires.inside unit.result.lower unit.ensures.lower in (
+    let line = unit-line-on config p.device.0 p.line 0 crypt c.requires.stack.sound.loaded c.crypt_at-crypt.ensures unit.result.lower unit.ensures.lower in
+    let inside = units-inside config p.device.0 p.line p.first n crypt c.requires.stack.sound.loaded c.crypt_at-crypt.ensures c.requires.fits.holds unit.result.lower unit.ensures.lower in (
       omega (arith, line.crypt_line.shallower),
-      (within, (c.requires.loaded, (c.requires.serve, (c.requires.some, (c.requires.whole, (omega (arith, inside, unit.ensures.first), (c.requires.kept, c.requires.cache))))))),
+      (within, record { stack = c.requires.stack; kept = c.requires.kept; fits = record { sectors = c.requires.fits.sectors; holds = omega (arith, inside, unit.ensures.first) } }),
     )
 
 pub read_units-decrypt-requires-clause-fits : goal.read_units-decrypt-requires-clause-fits
@@ -296,12 +258,12 @@ read_units-decrypt-requires-clause-fits g t c =
     let p = c.args.part in
     let n : ℕ = length c.args.out.now / 512 in
     let crypt = c.crypt_at-crypt.result.now in
-    let small = units-small config p.device.0 p.line p.first n crypt c.requires.loaded c.crypt_at-crypt.ensures c.requires.inside in
-    omega (arith, small, c.unit_at-unit.ensures.index, c.requires.whole, c.read_lower.auto.out)
+    let small = units-small config p.device.0 p.line p.first n crypt c.requires.stack.sound.loaded c.crypt_at-crypt.ensures c.requires.fits.holds in
+    omega (arith, small, c.unit_at-unit.ensures.index, c.requires.fits.sectors.whole, c.read_lower.auto.out)
 
 pub read_units-decrypt-requires-clause-whole : goal.read_units-decrypt-requires-clause-whole
 read_units-decrypt-requires-clause-whole g t c =
-    units-bytes c.args.config.now c.args.part.device.0 c.args.part.line c.args.part.first _ c.crypt_at-crypt.result.now c.crypt_at-crypt.ensures c.requires.inside _ (omega (arith, c.read_lower.auto.out, c.requires.whole))
+    units-bytes c.args.config.now c.args.part.device.0 c.args.part.line c.args.part.first _ c.crypt_at-crypt.result.now c.crypt_at-crypt.ensures c.requires.fits.holds _ (omega (arith, c.read_lower.auto.out, c.requires.fits.sectors.whole))
 
 pub read_units-returns-in-Ok-clause-reads : goal.read_units-returns-in-Ok-clause-reads
 read_units-returns-in-Ok-clause-reads g t c =
@@ -313,7 +275,7 @@ read_units-returns-in-Ok-clause-reads g t c =
     let unit = c.unit_at-unit in
     let did : Read = record { old = map state c.args.reader.now.devices.items; new = map state c.read_lower.new.reader.devices.items; before = c.args.found.now.items; after = c.read_lower.new.found.items } in
     subst (λ (b : List ℕ). ReadsSource config (Units p) n did (Ok b)) (sym (c.decrypt.ensures ∙ ap (λ (k : ℕ). decrypted_units crypt k c.read_lower.new.out) unit.ensures.index))
-    (units-read config p n crypt c.requires.loaded c.crypt_at-crypt.ensures c.requires.inside unit.result.lower unit.ensures.lower did (all-whole state g.met.D.BlockDev.whole c.args.reader.now.devices.items) c.read_lower.new.out
+    (units-read config p n crypt c.requires.stack.sound.loaded c.crypt_at-crypt.ensures c.requires.fits.holds unit.result.lower unit.ensures.lower did (all-whole state g.met.D.BlockDev.whole c.args.reader.now.devices.items) c.read_lower.new.out
     (subst (λ (k : ℕ). Reads config unit.result.lower k n did (Ok c.read_lower.new.out)) unit.ensures.first c.in-Ok.ensures.reads))
 
 pub read_units-returns-in-Err-clause-reads : goal.read_units-returns-in-Err-clause-reads
@@ -325,7 +287,7 @@ read_units-returns-in-Err-clause-reads g t c =
     let crypt = c.crypt_at-crypt.result.now in
     let unit = c.unit_at-unit in
     let did : Read = record { old = map state c.args.reader.now.devices.items; new = map state c.read_lower.new.reader.devices.items; before = c.args.found.now.items; after = c.read_lower.new.found.items } in
-    units-failed config p n crypt c.requires.loaded c.crypt_at-crypt.ensures c.requires.inside unit.result.lower unit.ensures.lower did (all-whole state g.met.D.BlockDev.whole c.args.reader.now.devices.items) c.in-Err.fault
+    units-failed config p n crypt c.requires.stack.sound.loaded c.crypt_at-crypt.ensures c.requires.fits.holds unit.result.lower unit.ensures.lower did (all-whole state g.met.D.BlockDev.whole c.args.reader.now.devices.items) c.in-Err.fault
     (subst (λ (k : ℕ). Reads config unit.result.lower k n did (Err c.in-Err.fault)) unit.ensures.first c.in-Err.ensures.reads)
 
 pub read_units-returns-in-Ok-clause-plain : goal.read_units-returns-in-Ok-clause-plain
@@ -333,7 +295,7 @@ read_units-returns-in-Ok-clause-plain g t c =
     let unit = c.unit_at-unit in
     let n : ℕ = length c.args.out.now / 512 in
     let state = g.D.BlockDev.state in
-    units-plain c.args.config.now c.args.part n c.crypt_at-crypt.result.now c.requires.loaded c.crypt_at-crypt.ensures c.requires.inside unit.result.lower unit.ensures.lower
+    units-plain c.args.config.now c.args.part n c.crypt_at-crypt.result.now c.requires.stack.sound.loaded c.crypt_at-crypt.ensures c.requires.fits.holds unit.result.lower unit.ensures.lower
     (subst (λ (k : ℕ). IsPlain (said_at c.args.config.now unit.result.lower) k n (map state c.args.reader.now.devices.items) (map state c.read_lower.new.reader.devices.items) (Ok tt)) unit.ensures.first c.in-Ok.ensures.plain)
 
 pub read_units-returns-in-Err-clause-plain : goal.read_units-returns-in-Err-clause-plain
@@ -341,7 +303,7 @@ read_units-returns-in-Err-clause-plain g t c =
     let unit = c.unit_at-unit in
     let n : ℕ = length c.args.out.now / 512 in
     let state = g.D.BlockDev.state in
-    units-plain c.args.config.now c.args.part n c.crypt_at-crypt.result.now c.requires.loaded c.crypt_at-crypt.ensures c.requires.inside unit.result.lower unit.ensures.lower
+    units-plain c.args.config.now c.args.part n c.crypt_at-crypt.result.now c.requires.stack.sound.loaded c.crypt_at-crypt.ensures c.requires.fits.holds unit.result.lower unit.ensures.lower
     (subst (λ (k : ℕ). IsPlain (said_at c.args.config.now unit.result.lower) k n (map state c.args.reader.now.devices.items) (map state c.read_lower.new.reader.devices.items) (Err c.in-Err.fault)) unit.ensures.first c.in-Err.ensures.plain)
 
 -- ---- part of a unit
@@ -351,9 +313,9 @@ read_unit_part-read_units-requires g t c κs within =
     let config = c.args.config.now in
     let p = c.args.part in
     let n : ℕ = length c.args.out.now / 512 in
-    let some : 0 < n = omega (arith, c.requires.some, c.requires.whole) in
+    let some : 0 < n = omega (arith, c.requires.fits.sectors.some, c.requires.fits.sectors.whole) in
     let whole = c.whole_unit-whole in
-    let units = whole-units config p whole.result n c.requires.loaded whole.ensures.whole c.requires.inside some in
+    let units = whole-units config p whole.result n c.requires.stack.sound.loaded whole.ensures.whole c.requires.fits.holds some in
     let same : depth config (mapped whole.result.from.device.0) ≡ depth config (mapped p.device.0) = ap (λ (b : BlockPart). depth config (mapped b.device.0)) whole.ensures.whole.from in
     let room : length c.as_mut_slice-all.result.now ≡ 4096 = ap (λ (l : List ℕ). length l) c.as_mut_slice-all.ensures.value in
     let size : length (take (whole.result.sectors * 512) c.as_mut_slice-all.result.now) ≡ whole.result.sectors * 512 = omega (arith, room, whole.ensures.few, length-take (whole.result.sectors * 512) c.as_mut_slice-all.result.now) in
@@ -361,19 +323,14 @@ read_unit_part-read_units-requires g t c κs within =
       omega (arith, same),
       (
         within,
-        (
-          c.requires.loaded,
-          (
-            c.requires.serve,
-            (
-              omega (arith, size, whole.ensures.some),
-              (
-                omega (arith, size),
-                (subst (λ (k : ℕ). AreUnits config whole.result.from.device.0 whole.result.from.line whole.result.from.first k) (sym count) units, (c.requires.kept, c.requires.cache)),
-              ),
-            ),
-          ),
-        ),
+        record {
+          stack = c.requires.stack;
+          kept = c.requires.kept;
+          fits = record {
+            sectors = record { some = omega (arith, size, whole.ensures.some); whole = omega (arith, size) };
+            holds = subst (λ (k : ℕ). AreUnits config whole.result.from.device.0 whole.result.from.line whole.result.from.first k) (sym count) units;
+          };
+        },
       ),
     )
 
@@ -383,9 +340,9 @@ read_unit_part-take_sectors-requires g t c =
     let n : ℕ = length c.args.out.now / 512 in
     let whole = c.whole_unit-whole in
     let of = whole.ensures.whole in
-    let lies = lies_in c.args.config.now p whole.result n c.requires.loaded of c.requires.inside (omega (arith, c.requires.some, c.requires.whole)) in
+    let lies = lies_in c.args.config.now p whole.result n c.requires.stack.sound.loaded of c.requires.fits.holds (omega (arith, c.requires.fits.sectors.some, c.requires.fits.sectors.whole)) in
     let room : length c.as_mut_slice-all.result.now ≡ 4096 = ap (λ (l : List ℕ). length l) c.as_mut_slice-all.ensures.value in
-    omega (arith, lies.0, of.within, of.sectors, c.requires.whole, room, whole.ensures.few, c.read_units.auto.out, length-take (whole.result.sectors * 512) c.as_mut_slice-all.result.now)
+    omega (arith, lies.0, of.within, of.sectors, c.requires.fits.sectors.whole, room, whole.ensures.few, c.read_units.auto.out, length-take (whole.result.sectors * 512) c.as_mut_slice-all.result.now)
 
 pub read_unit_part-returns-in-Ok-clause-reads : goal.read_unit_part-returns-in-Ok-clause-reads
 read_unit_part-returns-in-Ok-clause-reads g t c =
@@ -393,18 +350,17 @@ read_unit_part-returns-in-Ok-clause-reads g t c =
     let state = g.D.BlockDev.state in
     let p = c.args.part in
     let n : ℕ = length c.args.out.now / 512 in
-    let some : 0 < n = omega (arith, c.requires.some, c.requires.whole) in
+    let some : 0 < n = omega (arith, c.requires.fits.sectors.some, c.requires.fits.sectors.whole) in
     let whole = c.whole_unit-whole in
     let of = whole.ensures.whole in
-    let room : length c.as_mut_slice-all.result.now ≡ 4096 = ap (λ (l : List ℕ). length l) c.as_mut_slice-all.ensures.value in
-    let count : length (take (whole.result.sectors * 512) c.as_mut_slice-all.result.now) / 512 ≡ whole.result.sectors = omega (arith, room, whole.ensures.few, length-take (whole.result.sectors * 512) c.as_mut_slice-all.result.now) in
+    let count = room_sectors c.as_mut_slice-all.result.now whole.result.sectors (ap (λ (l : List ℕ). length l) c.as_mut_slice-all.ensures.value) whole.ensures.few in
     let did : Read = record { old = map state c.args.reader.now.devices.items; new = map state c.read_units.new.reader.devices.items; before = c.args.found.now.items; after = c.read_units.new.found.items } in
     let one = subst (λ (k : ℕ). ReadsSource config (Units whole.result.from) k did (Ok c.read_units.new.out)) count c.in-Ok.ensures.reads in
-    let len : length c.args.out.now ≡ 512 * n = omega (arith, c.requires.whole) in
+    let len : length c.args.out.now ≡ 512 * n = omega (arith, c.requires.fits.sectors.whole) in
     let is : c.take_sectors.new.out ≡ take (512 * n) (drop (512 * (p.first % unit_sectors of.crypt)) c.read_units.new.out) =
     c.take_sectors.ensures ∙ ap (λ (k : ℕ). take k (drop (512 * whole.result.within) c.read_units.new.out)) len ∙ ap (λ (k : ℕ). take (512 * n) (drop (512 * k) c.read_units.new.out)) of.within in
     subst (λ (b : List ℕ). ReadsSource config (UnitPart p) n did (Ok b)) (sym is)
-    (part-read config p whole.result n c.requires.loaded of c.requires.inside some did (all-whole state g.met.D.BlockDev.whole c.args.reader.now.devices.items) c.read_units.new.out one)
+    (part-read config p whole.result n c.requires.stack.sound.loaded of c.requires.fits.holds some did (all-whole state g.met.D.BlockDev.whole c.args.reader.now.devices.items) c.read_units.new.out one)
 
 pub read_unit_part-returns-in-Err-clause-reads : goal.read_unit_part-returns-in-Err-clause-reads
 read_unit_part-returns-in-Err-clause-reads g t c =
@@ -412,12 +368,11 @@ read_unit_part-returns-in-Err-clause-reads g t c =
     let state = g.D.BlockDev.state in
     let p = c.args.part in
     let n : ℕ = length c.args.out.now / 512 in
-    let some : 0 < n = omega (arith, c.requires.some, c.requires.whole) in
+    let some : 0 < n = omega (arith, c.requires.fits.sectors.some, c.requires.fits.sectors.whole) in
     let whole = c.whole_unit-whole in
-    let room : length c.as_mut_slice-all.result.now ≡ 4096 = ap (λ (l : List ℕ). length l) c.as_mut_slice-all.ensures.value in
-    let count : length (take (whole.result.sectors * 512) c.as_mut_slice-all.result.now) / 512 ≡ whole.result.sectors = omega (arith, room, whole.ensures.few, length-take (whole.result.sectors * 512) c.as_mut_slice-all.result.now) in
+    let count = room_sectors c.as_mut_slice-all.result.now whole.result.sectors (ap (λ (l : List ℕ). length l) c.as_mut_slice-all.ensures.value) whole.ensures.few in
     let did : Read = record { old = map state c.args.reader.now.devices.items; new = map state c.read_units.new.reader.devices.items; before = c.args.found.now.items; after = c.read_units.new.found.items } in
-    part-failed config p whole.result n c.requires.loaded whole.ensures.whole c.requires.inside some did (all-whole state g.met.D.BlockDev.whole c.args.reader.now.devices.items) c.in-Err.fault
+    part-failed config p whole.result n c.requires.stack.sound.loaded whole.ensures.whole c.requires.fits.holds some did (all-whole state g.met.D.BlockDev.whole c.args.reader.now.devices.items) c.in-Err.fault
     (subst (λ (k : ℕ). ReadsSource config (Units whole.result.from) k did (Err c.in-Err.fault)) count c.in-Err.ensures.reads)
 
 pub read_unit_part-returns-in-Ok-clause-plain : goal.read_unit_part-returns-in-Ok-clause-plain
@@ -426,9 +381,8 @@ read_unit_part-returns-in-Ok-clause-plain g t c =
     let state = g.D.BlockDev.state in
     let n : ℕ = length c.args.out.now / 512 in
     let whole = c.whole_unit-whole in
-    let room : length c.as_mut_slice-all.result.now ≡ 4096 = ap (λ (l : List ℕ). length l) c.as_mut_slice-all.ensures.value in
-    let count : length (take (whole.result.sectors * 512) c.as_mut_slice-all.result.now) / 512 ≡ whole.result.sectors = omega (arith, room, whole.ensures.few, length-take (whole.result.sectors * 512) c.as_mut_slice-all.result.now) in
-    part-plain config c.args.part whole.result n c.requires.loaded whole.ensures.whole c.requires.inside (omega (arith, c.requires.some, c.requires.whole))
+    let count = room_sectors c.as_mut_slice-all.result.now whole.result.sectors (ap (λ (l : List ℕ). length l) c.as_mut_slice-all.ensures.value) whole.ensures.few in
+    part-plain config c.args.part whole.result n c.requires.stack.sound.loaded whole.ensures.whole c.requires.fits.holds (omega (arith, c.requires.fits.sectors.some, c.requires.fits.sectors.whole))
     (subst (λ (k : ℕ). IsPlain (source_said config (Units whole.result.from)) 0 k (map state c.args.reader.now.devices.items) (map state c.read_units.new.reader.devices.items) (Ok tt)) count c.in-Ok.ensures.plain)
 
 pub read_unit_part-returns-in-Err-clause-plain : goal.read_unit_part-returns-in-Err-clause-plain
@@ -437,26 +391,17 @@ read_unit_part-returns-in-Err-clause-plain g t c =
     let state = g.D.BlockDev.state in
     let n : ℕ = length c.args.out.now / 512 in
     let whole = c.whole_unit-whole in
-    let room : length c.as_mut_slice-all.result.now ≡ 4096 = ap (λ (l : List ℕ). length l) c.as_mut_slice-all.ensures.value in
-    let count : length (take (whole.result.sectors * 512) c.as_mut_slice-all.result.now) / 512 ≡ whole.result.sectors = omega (arith, room, whole.ensures.few, length-take (whole.result.sectors * 512) c.as_mut_slice-all.result.now) in
-    part-plain config c.args.part whole.result n c.requires.loaded whole.ensures.whole c.requires.inside (omega (arith, c.requires.some, c.requires.whole))
+    let count = room_sectors c.as_mut_slice-all.result.now whole.result.sectors (ap (λ (l : List ℕ). length l) c.as_mut_slice-all.ensures.value) whole.ensures.few in
+    part-plain config c.args.part whole.result n c.requires.stack.sound.loaded whole.ensures.whole c.requires.fits.holds (omega (arith, c.requires.fits.sectors.some, c.requires.fits.sectors.whole))
     (subst (λ (k : ℕ). IsPlain (source_said config (Units whole.result.from)) 0 k (map state c.args.reader.now.devices.items) (map state c.read_units.new.reader.devices.items) (Err c.in-Err.fault)) count c.in-Err.ensures.plain)
 
 -- ---- data blocks of verity lines
-
-abbrev bytes : Vec ℕ Global → List ℕ
-bytes = λ v. v.items
 
 abbrev any_found : FoundRecord
 any_found = record { device = 0; line = 0; chain = record { index = 0; content = []; path = [] } }
 
 pub read_run-returns-in-Block-clause-reads : goal.read_run-returns-in-Block-clause-reads
-read_run-returns-in-Block-clause-reads g t c =
-    let state = g.D.BlockDev.state in
-    let n : ℕ = length c.args.out.now / 512 in
-    let did : Read = record { old = map state c.args.reader.now.devices.items; new = map state c.read_block.new.reader.devices.items; before = c.args.found.now.items; after = c.read_block.new.found.items } in
-    let answer : Result (List ℕ) IoFault = buffer_answer c.read_block.result c.read_block.new.out in
-    subst (λ (s : Source). ReadsSource c.args.config.now s n did answer) (sym c.in-Block.is) c.read_block.ensures.reads
+read_run-returns-in-Block-clause-reads g t c = rw c.in-Block.is c.read_block.ensures.reads
 
 pub read_block-copy_part-requires-clause-inside : goal.read_block-copy_part-requires-clause-inside
 read_block-copy_part-requires-clause-inside g t c =
@@ -465,14 +410,14 @@ read_block-copy_part-requires-clause-inside g t c =
     let p = c.args.part in
     let found = c.args.found.now.items in
     let sectors : c.from-sectors.result ≡ block_sectors v = c.from-sectors.ensures in
-    let whole = data-whole c.args.config.now p.device.0 p.line p.first (length c.args.out.now / 512) v c.requires.loaded c.verity_at-verity.ensures in
-    let within = part-within c.args.config.now p.device.0 p.line p.first (length c.args.out.now / 512) v c.requires.loaded c.verity_at-verity.ensures c.requires.inside in
+    let whole = data-whole c.args.config.now p.device.0 p.line p.first (length c.args.out.now / 512) v c.requires.stack.sound.loaded c.verity_at-verity.ensures in
+    let within = part-within c.args.config.now p.device.0 p.line p.first (length c.args.out.now / 512) v c.requires.stack.sound.loaded c.verity_at-verity.ensures c.requires.fits.holds in
     let there : c.in-Some.at < length found = omega (arith, c.in-Some.ensures.some.0, ap (λ (l : List FoundRecord). length l) c.as_slice.ensures.value) in
     let at : entry_of (get_or found c.in-Some.at x) ≡ (p.device.0, p.line, p.first / block_sectors v) =
     ap (λ (l : List FoundRecord). entry_of (get_or l c.in-Some.at x)) (sym c.as_slice.ensures.value) ∙ c.in-Some.ensures.some.1 x ∙ ap (λ (k : ℕ). (p.device.0, p.line, p.first / k)) sectors in
     let len = kept_length c.args.config.now (map g.D.BlockDev.state c.args.reader.now.devices.items) p.device.0 p.line (p.first / block_sectors v) v found c.in-Some.at x c.verity_at-verity.ensures c.requires.kept there at in
     let same : length ((get_or c.as_slice-in-Some.result.now c.in-Some.at x).chain.content) ≡ v.data_block = ap (λ (l : List FoundRecord). length ((get_or l c.in-Some.at x).chain.content)) c.as_slice-in-Some.ensures.value ∙ len in
-    let room = part-room v p.first c.from-sectors.result (length c.args.out.now) sectors whole.whole within c.requires.whole in
+    let room = part-room v p.first c.from-sectors.result (length c.args.out.now) sectors whole.whole within c.requires.fits.sectors.whole in
     omega (arith, same, room)
 
 pub read_block-walk-requires : goal.read_block-walk-requires
@@ -484,8 +429,8 @@ read_block-walk-requires g t c κs within =
     let depths : depth config (mapped c.tree_at-tree.result.device.0) ≡ depth config (mapped p.device.0) = ap (λ (x : DevId). depth config (mapped x.0)) c.tree_at-tree.ensures.at in
     let sectors : c.from-sectors.result ≡ block_sectors v = c.from-sectors.ensures in
     let index : p.first / c.from-sectors.result < v.blocks =
-    subst (λ (k : ℕ). p.first / k < v.blocks) (sym sectors) (part-index config p.device.0 p.line p.first n v c.requires.loaded c.verity_at-verity.ensures c.requires.inside (omega (arith, c.requires.some, c.requires.whole))) in
-    (omega (arith, depths), (within, (c.requires.loaded, (c.requires.serve, (c.tree_at-tree.ensures.tree, (index, c.requires.cache))))))
+    subst (λ (k : ℕ). p.first / k < v.blocks) (sym sectors) (part-index config p.device.0 p.line p.first n v c.requires.stack.sound.loaded c.verity_at-verity.ensures c.requires.fits.holds (omega (arith, c.requires.fits.sectors.some, c.requires.fits.sectors.whole))) in
+    (omega (arith, depths), (within, (c.requires.stack, record { lies = c.tree_at-tree.ensures.tree; there = index })))
 
 pub read_block-copy_part-requires-in-Ok-push-clause-inside : goal.read_block-copy_part-requires-in-Ok-push-clause-inside
 read_block-copy_part-requires-in-Ok-push-clause-inside g t c =
@@ -494,14 +439,14 @@ read_block-copy_part-requires-in-Ok-push-clause-inside g t c =
     let p = c.args.part in
     let found = c.args.found.now.items in
     let sectors : c.from-sectors.result ≡ block_sectors v = c.from-sectors.ensures in
-    let whole = data-whole c.args.config.now p.device.0 p.line p.first (length c.args.out.now / 512) v c.requires.loaded c.verity_at-verity.ensures in
-    let within = part-within c.args.config.now p.device.0 p.line p.first (length c.args.out.now / 512) v c.requires.loaded c.verity_at-verity.ensures c.requires.inside in
+    let whole = data-whole c.args.config.now p.device.0 p.line p.first (length c.args.out.now / 512) v c.requires.stack.sound.loaded c.verity_at-verity.ensures in
+    let within = part-within c.args.config.now p.device.0 p.line p.first (length c.args.out.now / 512) v c.requires.stack.sound.loaded c.verity_at-verity.ensures c.requires.fits.holds in
     let one : FoundRecord = record { device = p.device.0; line = p.line; chain = c.in-Ok.chain } in
     let value : c.as_slice-in-Ok-push.result.now ≡ found ++ (one ∷ []) = c.as_slice-in-Ok-push.ensures.value ∙ c.in-Ok-push.ensures.items in
     let at : c.len-at.result ≡ length found = c.len-at.ensures ∙ c.args.found.now.ok.0 in
     let here : get_or c.as_slice-in-Ok-push.result.now c.len-at.result x ≡ one = ap (λ (l : List FoundRecord). get_or l c.len-at.result x) value ∙ ap (λ (k : ℕ). get_or (found ++ (one ∷ [])) k x) at ∙ get_or-append_seam found one [] x in
     let len : length ((get_or c.as_slice-in-Ok-push.result.now c.len-at.result x).chain.content) ≡ v.data_block = ap (λ (y : FoundRecord). length y.chain.content) here ∙ length-content v one.chain c.in-Ok.ensures.reads.may.1 in
-    let room = part-room v p.first c.from-sectors.result (length c.args.out.now) sectors whole.whole within c.requires.whole in
+    let room = part-room v p.first c.from-sectors.result (length c.args.out.now) sectors whole.whole within c.requires.fits.sectors.whole in
     omega (arith, len, room)
 
 pub read_block-returns-in-Some-clause-reads : goal.read_block-returns-in-Some-clause-reads
@@ -511,19 +456,19 @@ read_block-returns-in-Some-clause-reads g t c =
     let n : ℕ = length c.args.out.now / 512 in
     let found = c.args.found.now.items in
     let sectors : c.from-sectors.result ≡ block_sectors v = c.from-sectors.ensures in
-    let whole = data-whole c.args.config.now p.device.0 p.line p.first n v c.requires.loaded c.verity_at-verity.ensures in
-    let within = part-within c.args.config.now p.device.0 p.line p.first n v c.requires.loaded c.verity_at-verity.ensures c.requires.inside in
+    let whole = data-whole c.args.config.now p.device.0 p.line p.first n v c.requires.stack.sound.loaded c.verity_at-verity.ensures in
+    let within = part-within c.args.config.now p.device.0 p.line p.first n v c.requires.stack.sound.loaded c.verity_at-verity.ensures c.requires.fits.holds in
     let x = get_or found c.in-Some.at any_found in
     let there : c.in-Some.at < length found = omega (arith, c.in-Some.ensures.some.0, ap (λ (l : List FoundRecord). length l) c.as_slice.ensures.value) in
     let at : entry_of x ≡ (p.device.0, p.line, p.first / block_sectors v) =
     ap (λ (l : List FoundRecord). entry_of (get_or l c.in-Some.at any_found)) (sym c.as_slice.ensures.value) ∙ c.in-Some.ensures.some.1 any_found ∙ ap (λ (k : ℕ). (p.device.0, p.line, p.first / k)) sectors in
-    let len : length c.args.out.now ≡ 512 * n = omega (arith, c.requires.whole) in
+    let len : length c.args.out.now ≡ 512 * n = omega (arith, c.requires.fits.sectors.whole) in
     let is : c.copy_part.new.out ≡ take (512 * n) (drop (512 * (p.first % block_sectors v)) x.chain.content) =
     c.copy_part.ensures any_found
     ∙ ap (λ (l : List FoundRecord). take (length c.args.out.now) (drop (512 * (p.first % c.from-sectors.result)) ((get_or l c.in-Some.at any_found).chain.content))) c.as_slice-in-Some.ensures.value
     ∙ ap (λ (k : ℕ). take k (drop (512 * (p.first % c.from-sectors.result)) x.chain.content)) len
     ∙ ap (λ (k : ℕ). take (512 * n) (drop (512 * (p.first % k)) x.chain.content)) sectors in
-    part_found c.args.config.now v p n c.requires.loaded c.verity_at-verity.ensures (omega (arith, c.requires.some, c.requires.whole)) within whole.whole _ found x at (contains_at found c.in-Some.at any_found there) c.requires.kept is
+    part_found c.args.config.now v p n c.requires.stack.sound.loaded c.verity_at-verity.ensures (omega (arith, c.requires.fits.sectors.some, c.requires.fits.sectors.whole)) within whole.whole _ found x at (contains_at found c.in-Some.at any_found there) c.requires.kept is
 
 pub read_block-returns-in-Err-clause-reads : goal.read_block-returns-in-Err-clause-reads
 read_block-returns-in-Err-clause-reads g t c =
@@ -531,10 +476,10 @@ read_block-returns-in-Err-clause-reads g t c =
     let p = c.args.part in
     let n : ℕ = length c.args.out.now / 512 in
     let sectors : c.from-sectors.result ≡ block_sectors v = c.from-sectors.ensures in
-    let whole = data-whole c.args.config.now p.device.0 p.line p.first n v c.requires.loaded c.verity_at-verity.ensures in
-    let within = part-within c.args.config.now p.device.0 p.line p.first n v c.requires.loaded c.verity_at-verity.ensures c.requires.inside in
+    let whole = data-whole c.args.config.now p.device.0 p.line p.first n v c.requires.stack.sound.loaded c.verity_at-verity.ensures in
+    let within = part-within c.args.config.now p.device.0 p.line p.first n v c.requires.stack.sound.loaded c.verity_at-verity.ensures c.requires.fits.holds in
     let q = subst (λ (k : ℕ). GetsChain (block_in c.args.config.now v (p.first / k)) (map g.D.BlockDev.state c.args.reader.now.devices.items) (map g.D.BlockDev.state c.walk.new.reader.devices.items) (Err c.in-Err.fault)) sectors c.in-Err.ensures.reads in
-    part_err c.args.config.now v p n c.requires.loaded c.verity_at-verity.ensures (omega (arith, c.requires.some, c.requires.whole)) within whole.whole c.args.found.now.items c.in-Err.fault c.requires.kept q
+    part_err c.args.config.now v p n c.requires.stack.sound.loaded c.verity_at-verity.ensures (omega (arith, c.requires.fits.sectors.some, c.requires.fits.sectors.whole)) within whole.whole c.args.found.now.items c.in-Err.fault c.requires.kept q
 
 pub read_block-returns-after-push-clause-reads : goal.read_block-returns-after-push-clause-reads
 read_block-returns-after-push-clause-reads g t c =
@@ -545,17 +490,17 @@ read_block-returns-after-push-clause-reads g t c =
     let old = map g.D.BlockDev.state c.args.reader.now.devices.items in
     let new = map g.D.BlockDev.state c.walk.new.reader.devices.items in
     let found = c.args.found.now.items in
-    let some : 0 < n = omega (arith, c.requires.some, c.requires.whole) in
+    let some : 0 < n = omega (arith, c.requires.fits.sectors.some, c.requires.fits.sectors.whole) in
     let sectors : c.from-sectors.result ≡ block_sectors v = c.from-sectors.ensures in
-    let whole = data-whole config p.device.0 p.line p.first n v c.requires.loaded c.verity_at-verity.ensures in
-    let within = part-within config p.device.0 p.line p.first n v c.requires.loaded c.verity_at-verity.ensures c.requires.inside in
+    let whole = data-whole config p.device.0 p.line p.first n v c.requires.stack.sound.loaded c.verity_at-verity.ensures in
+    let within = part-within config p.device.0 p.line p.first n v c.requires.stack.sound.loaded c.verity_at-verity.ensures c.requires.fits.holds in
     let q = subst (λ (k : ℕ). GetsChain (block_in config v (p.first / k)) old new (Ok c.in-Ok.chain)) sectors c.in-Ok.ensures.reads in
     let Does : List FoundRecord → Result (List ℕ) IoFault → Type 0 = λ u r. ReadsSource config (Block p) n (record { old = old; new = new; before = found; after = u }) r in
     elim c.match-push.branch [
       | read_block-in-Err-push w ↦
           subst (λ (u : List FoundRecord). Does u (buffer_answer c.match-push.result c.match-push.out)) (sym w.in-Err-push.ensures.items)
           (subst (λ (r : Result Unit IoFault). Does found (buffer_answer r c.match-push.out)) (sym w.result-is)
-          (part_full config v p n c.requires.loaded c.verity_at-verity.ensures some within whole.whole found c.in-Ok.chain c.requires.kept q))
+          (part_full config v p n c.requires.stack.sound.loaded c.verity_at-verity.ensures some within whole.whole found c.in-Ok.chain c.requires.kept q))
       | read_block-in-Ok-push w ↦
           let one : FoundRecord = record { device = p.device.0; line = p.line; chain = c.in-Ok.chain } in
           let items : c.push.new.self.items ≡ found ++ (one ∷ []) = w.in-Ok-push.ensures.items in
@@ -563,7 +508,7 @@ read_block-returns-after-push-clause-reads g t c =
           let at : c.len-at.result ≡ length found = c.len-at.ensures ∙ c.args.found.now.ok.0 in
           let here : get_or w.as_slice-in-Ok-push.result.now c.len-at.result any_found ≡ one =
           ap (λ (l : List FoundRecord). get_or l c.len-at.result any_found) value ∙ ap (λ (k : ℕ). get_or (found ++ (one ∷ [])) k any_found) at ∙ get_or-append_seam found one [] any_found in
-          let len : length c.args.out.now ≡ 512 * n = omega (arith, c.requires.whole) in
+          let len : length c.args.out.now ≡ 512 * n = omega (arith, c.requires.fits.sectors.whole) in
           let is : c.match-push.out ≡ take (512 * n) (drop (512 * (p.first % block_sectors v)) c.in-Ok.chain.content) =
           w.out-is ∙ w.copy_part-in-Ok-push.ensures any_found
           ∙ ap (λ (y : FoundRecord). take (length c.args.out.now) (drop (512 * (p.first % c.from-sectors.result)) y.chain.content)) here
@@ -571,17 +516,17 @@ read_block-returns-after-push-clause-reads g t c =
           ∙ ap (λ (k : ℕ). take (512 * n) (drop (512 * (p.first % k)) c.in-Ok.chain.content)) sectors in
           subst (λ (u : List FoundRecord). Does u (buffer_answer c.match-push.result c.match-push.out)) (sym items)
           (subst (λ (r : Result Unit IoFault). Does (found ++ (one ∷ [])) (buffer_answer r c.match-push.out)) (sym w.result-is)
-          (part_walked config v p n c.requires.loaded c.verity_at-verity.ensures some within whole.whole found c.in-Ok.chain c.requires.kept
+          (part_walked config v p n c.requires.stack.sound.loaded c.verity_at-verity.ensures some within whole.whole found c.in-Ok.chain c.requires.kept
           (λ k h y same. c.in-None.ensures.none k (omega (arith, h, ap (λ (l : List FoundRecord). length l) c.as_slice.ensures.value)) y
           (ap (λ (l : List FoundRecord). entry_of (get_or l k y)) c.as_slice.ensures.value ∙ same ∙ ap (λ (k : ℕ). (p.device.0, p.line, p.first / k)) (sym sectors)))
           q is))
     ]
 
 pub read_block-returns-in-Err-clause-plain : goal.read_block-returns-in-Err-clause-plain
-read_block-returns-in-Err-clause-plain g t c = block_plain c.args.config.now c.args.part (length c.args.out.now / 512) (omega (arith, c.requires.some, c.requires.whole)) c.requires.inside
+read_block-returns-in-Err-clause-plain g t c = block_plain c.args.config.now c.args.part (length c.args.out.now / 512) (omega (arith, c.requires.fits.sectors.some, c.requires.fits.sectors.whole)) c.requires.fits.holds
 
 pub read_block-returns-after-push-clause-plain : goal.read_block-returns-after-push-clause-plain
-read_block-returns-after-push-clause-plain g t c = block_plain c.args.config.now c.args.part (length c.args.out.now / 512) (omega (arith, c.requires.some, c.requires.whole)) c.requires.inside
+read_block-returns-after-push-clause-plain g t c = block_plain c.args.config.now c.args.part (length c.args.out.now / 512) (omega (arith, c.requires.fits.sectors.some, c.requires.fits.sectors.whole)) c.requires.fits.holds
 
 -- ---- one block that is checked
 
@@ -603,61 +548,28 @@ read_checked-returns-then-eq-clause-reads g t c =
 
 -- ---- the walk
 
--- a block that was read where it stands, as one of the place that a name means
-checked_as : {old new : List Device} (c : Configuration) (name : List ℕ) (lower : Lower) (first n : ℕ) (salt expected : List ℕ) (result : Result (Vec ℕ Global) IoFault) (e : Extent) → named c name ≡ Some lower
-    → e ≡ record { lower = lower; first = first; sectors = n } → Gets (checked_expected bytes (place_of c e.lower) e.first e.sectors salt expected) old new result
-    → Gets (checked_expected bytes (place_named c name) first n salt expected) old new result
-checked_as {old = old} {new = new} c name lower first n salt expected result e is at q =
-    subst (λ (x : Place). Gets (checked_expected bytes x first n salt expected) old new result) (sym (place-named c name lower is))
-    (subst (λ (x : Extent). Gets (checked_expected bytes (place_of c x.lower) x.first x.sectors salt expected) old new result) at q)
-
 pub walk-hash_key-key-requires : goal.walk-hash_key-key-requires
-walk-hash_key-key-requires g t c = subst (λ (k : ℕ). c.args.index < k) (sym (ap (λ (s : ShapeRecord). s.blocks) c.requires.tree.shape_is)) c.requires.index
-
--- the key of a hash block names its place
-place_key : (c : Configuration) (v : Verity) (tree : Tree) (level index : ℕ) (key : Key) (e : Extent) → IsTreeOf c v tree
-    → key ≡ record { device = tree.device.0; line = tree.line; level = level; block = ancestor tree.shape (level + 1) index }
-    → e ≡ record { lower = tree.hash; first = hash_start v level index; sectors = hash_sectors v } → IsPlaceOf c v.salt key e
-place_key c v tree level index key e is named_so at =
-    let own : Key = record { device = tree.device.0; line = tree.line; level = level; block = ancestor tree.shape (level + 1) index } in
-    let there : Extent = record { lower = tree.hash; first = hash_start v level index; sectors = hash_sectors v } in
-    subst (λ (k : Key). IsPlaceOf c v.salt k e) (sym named_so)
-    (subst (IsPlaceOf c v.salt own) (sym at)
-    (record { verity = v; line = is.is; salt_is = refl; hash = is.on_hash; first = ap (λ (s : ShapeRecord). hash_place v level (ancestor s (level + 1) index)) (sym is.shape_is); sectors = refl }))
+walk-hash_key-key-requires g t c = subst (λ (k : ℕ). c.args.index < k) (sym (ap (λ (s : ShapeRecord). s.blocks) c.requires.block.lies.shape_is)) c.requires.block.there
 
 pub walk-hash_block-requires : goal.walk-hash_block-requires
 walk-hash_block-requires g t c κs within =
     let config = c.args.config.now in
     let extent = c.hash_extent-extent in
-    let deep = hash-depth config c.args.verity.now c.args.tree.now c.requires.loaded c.requires.tree in
+    let deep = hash-depth config c.args.verity.now c.args.tree.now c.requires.stack.sound.loaded c.requires.block.lies in
     let same : depth config extent.result.lower ≡ depth config c.args.tree.now.hash = ap (λ (e : Extent). depth config e.lower) extent.ensures.value in
-    let key = place_key config c.args.verity.now c.args.tree.now _ c.args.index c.hash_key-key.result extent.result c.requires.tree c.hash_key-key.ensures extent.ensures.value in
-    (omega (arith, deep, same), (within, (c.requires.loaded, (leaves_kept config.leaves _ _ c.loop-level.invariant.walked.moved.moved.fixed c.requires.serve, (extent.ensures.some, (extent.ensures.inside, (key, c.loop-level.invariant.cached.sound)))))))
+    let key = place_key config c.args.verity.now c.args.tree.now _ c.args.index c.hash_key-key.result extent.result c.requires.block.lies c.hash_key-key.ensures extent.ensures in
+    (omega (arith, deep, same), (within, (stack-later config c.loop-level.invariant.walked.moved.moved.fixed c.requires.stack c.loop-level.invariant.cached, key)))
 
 pub walk-returns-in-Err-clause-reads : goal.walk-returns-in-Err-clause-reads
 walk-returns-in-Err-clause-reads g t c =
-    let v = c.args.verity.now in
-    let config = c.args.config.now in
-    let tree = c.args.tree.now in
-    let is = c.requires.tree in
-    let state = g.D.BlockDev.state in
-    let b = block_in config v c.args.index in
-    let level : ℕ = c.loop-level.level - 1 in
-    let above : c.loop-level.level ≡ suc level = omega (arith, c.loop-level-test.true) in
-    let path = map bytes c.loop-level.path.items in
-    let old = map state c.args.reader.now.devices.items in
-    let mid = map state c.loop-level.reader.devices.items in
-    let walked : IsWalked b (suc level) c.loop-level.expected path old mid = subst (λ (k : ℕ). IsWalked b k c.loop-level.expected path old mid) above c.loop-level.invariant.walked in
-    let size = hash-whole config tree.device.0 tree.line 0 0 v c.requires.loaded is.is in
-    walk_stops bytes b level size.whole walked c.in-Err.first
-    (checked_as config v.hash tree.hash (hash_start v level c.args.index) (hash_sectors v) v.salt c.loop-level.expected (Err c.in-Err.first) c.hash_extent-extent.result is.on_hash c.hash_extent-extent.ensures.value c.in-Err.ensures.reads)
+    hash_failed c.args.config.now c.args.verity.now c.args.tree.now c.args.index c.requires.stack.sound.loaded c.requires.block.lies c.loop-level.level (c.loop-level.level - 1) (omega (arith, c.loop-level-test.true)) c.loop-level.invariant.walked c.hash_extent-extent.result c.hash_extent-extent.ensures c.in-Err.first c.in-Err.ensures.reads
 
 pub walk-digest_in-expected-requires : goal.walk-digest_in-expected-requires
 walk-digest_in-expected-requires g t c =
     let v = c.args.verity.now in
     let tree = c.args.tree.now in
-    let is = c.requires.tree in
-    let size = hash-whole c.args.config.now tree.device.0 tree.line 0 0 v c.requires.loaded is.is in
+    let is = c.requires.block.lies in
+    let size = hash-whole c.args.config.now tree.device.0 tree.line 0 0 v c.requires.stack.sound.loaded is.is in
     let sectors : c.hash_extent-extent.result.sectors ≡ hash_sectors v = ap (λ (e : Extent). e.sectors) c.hash_extent-extent.ensures.value in
     let len : length c.as_slice.result.now ≡ 512 * c.hash_extent-extent.result.sectors = ap (λ (l : List ℕ). length l) c.as_slice.ensures.value ∙ c.in-Ok.ensures.reads.may.0 in
     let block : tree.shape.hash_block ≡ v.hash_block = ap (λ (t : ShapeRecord). t.hash_block) is.shape_is in
@@ -665,46 +577,25 @@ walk-digest_in-expected-requires g t c =
 
 pub walk-returns-in-Err-push-clause-reads : goal.walk-returns-in-Err-push-clause-reads
 walk-returns-in-Err-push-clause-reads g t c =
-    let v = c.args.verity.now in
-    let config = c.args.config.now in
-    let tree = c.args.tree.now in
-    let is = c.requires.tree in
-    let state = g.D.BlockDev.state in
-    let b = block_in config v c.args.index in
-    let level : ℕ = c.loop-level.level - 1 in
-    let above : c.loop-level.level ≡ suc level = omega (arith, c.loop-level-test.true) in
-    let path = map bytes c.loop-level.path.items in
-    let old = map state c.args.reader.now.devices.items in
-    let mid = map state c.loop-level.reader.devices.items in
-    let walked : IsWalked b (suc level) c.loop-level.expected path old mid = subst (λ (k : ℕ). IsWalked b k c.loop-level.expected path old mid) above c.loop-level.invariant.walked in
-    let size = hash-whole config tree.device.0 tree.line 0 0 v c.requires.loaded is.is in
-    let block = c.in-Ok.block in
-    let down = walk_down bytes b level size.whole walked block
-    (checked_as config v.hash tree.hash (hash_start v level c.args.index) (hash_sectors v) v.salt c.loop-level.expected (Ok block) c.hash_extent-extent.result is.on_hash c.hash_extent-extent.ensures.value c.in-Ok.ensures.reads) in
-    walk_full b level down
+    walk_full (block_in c.args.config.now c.args.verity.now c.args.index) (c.loop-level.level - 1)
+    (hash_read c.args.config.now c.args.verity.now c.args.tree.now c.args.index c.requires.stack.sound.loaded c.requires.block.lies c.loop-level.level (c.loop-level.level - 1) (omega (arith, c.loop-level-test.true)) c.loop-level.invariant.walked c.hash_extent-extent.result c.hash_extent-extent.ensures c.in-Ok.block c.in-Ok.ensures.reads)
 
 pub walk-loop-level-preserved : goal.walk-loop-level-preserved
 walk-loop-level-preserved g t c =
     let v = c.args.verity.now in
-    let config = c.args.config.now in
     let tree = c.args.tree.now in
-    let is = c.requires.tree in
+    let index : ℕ = c.args.index in
     let state = g.D.BlockDev.state in
-    let b = block_in config v c.args.index in
+    let b = block_in c.args.config.now v index in
     let level : ℕ = c.loop-level.level - 1 in
-    let above : c.loop-level.level ≡ suc level = omega (arith, c.loop-level-test.true) in
     let path = map bytes c.loop-level.path.items in
     let old = map state c.args.reader.now.devices.items in
-    let mid = map state c.loop-level.reader.devices.items in
-    let walked : IsWalked b (suc level) c.loop-level.expected path old mid = subst (λ (k : ℕ). IsWalked b k c.loop-level.expected path old mid) above c.loop-level.invariant.walked in
-    let size = hash-whole config tree.device.0 tree.line 0 0 v c.requires.loaded is.is in
-    let block = c.in-Ok.block in
-    let down = walk_down bytes b level size.whole walked block
-    (checked_as config v.hash tree.hash (hash_start v level c.args.index) (hash_sectors v) v.salt c.loop-level.expected (Ok block) c.hash_extent-extent.result is.on_hash c.hash_extent-extent.ensures.value c.in-Ok.ensures.reads) in
     let new = map state c.hash_block.new.reader.devices.items in
-    let expected : c.digest_in-expected.result ≡ next_digest v level c.args.index block.items =
+    let block = c.in-Ok.block in
+    let down = hash_read c.args.config.now c.args.verity.now c.args.tree.now c.args.index c.requires.stack.sound.loaded c.requires.block.lies c.loop-level.level (c.loop-level.level - 1) (omega (arith, c.loop-level-test.true)) c.loop-level.invariant.walked c.hash_extent-extent.result c.hash_extent-extent.ensures block c.in-Ok.ensures.reads in
+    let expected : c.digest_in-expected.result ≡ next_digest v level index block.items =
     c.digest_in-expected.ensures ∙ ap (λ (b : List ℕ). digest_in b c.slot_on_path.result) c.as_slice.ensures.value
-    ∙ ap (digest_in block.items) (c.slot_on_path.ensures.value ∙ ap (λ (t : ShapeRecord). slot t (ancestor t level c.args.index)) is.shape_is) in
+    ∙ ap (digest_in block.items) (c.slot_on_path.ensures.value ∙ ap (λ (t : ShapeRecord). slot t (ancestor t level index)) c.requires.block.lies.shape_is) in
     let longer : map bytes c.push.new.self.items ≡ path ++ (block.items ∷ []) = ap (map bytes) c.in-Ok-push.ensures.items ∙ map-append bytes c.loop-level.path.items (block ∷ []) in
     record {
       walked = subst (λ (p : List (List ℕ)). IsWalked b level c.digest_in-expected.result p old new) (sym longer)
@@ -714,46 +605,22 @@ walk-loop-level-preserved g t c =
 
 pub walk-read_data-requires : goal.walk-read_data-requires
 walk-read_data-requires g t c κs within =
-    (omega arith, (within, (c.requires.loaded, (leaves_kept c.args.config.now.leaves _ _ c.loop-level.invariant.walked.moved.moved.fixed c.requires.serve, (c.requires.tree, (c.requires.index, c.loop-level.invariant.cached.sound))))))
+    (omega arith, (within, (stack-later c.args.config.now c.loop-level.invariant.walked.moved.moved.fixed c.requires.stack c.loop-level.invariant.cached, c.requires.block)))
 
 pub walk-returns-in-Err-read_data-clause-reads : goal.walk-returns-in-Err-read_data-clause-reads
 walk-returns-in-Err-read_data-clause-reads g t c =
-    let v = c.args.verity.now in
-    let config = c.args.config.now in
-    let tree = c.args.tree.now in
-    let is = c.requires.tree in
-    let state = g.D.BlockDev.state in
-    let b = block_in config v c.args.index in
-    let none : c.loop-level.level ≡ 0 = omega (arith, c.loop-level-test.false) in
-    let path = map bytes c.loop-level.path.items in
-    let old = map state c.args.reader.now.devices.items in
-    let mid = map state c.loop-level.reader.devices.items in
-    let walked : IsWalked b 0 c.loop-level.expected path old mid = subst (λ (k : ℕ). IsWalked b k c.loop-level.expected path old mid) none c.loop-level.invariant.walked in
-    let size = data-whole config tree.device.0 tree.line 0 0 v c.requires.loaded is.is in
-    walk_fails bytes b size.whole walked c.in-Err-read_data.fault c.in-Err-read_data.ensures.reads
+    data_failed c.args.config.now c.args.verity.now c.args.tree.now c.args.index c.requires.stack.sound.loaded c.requires.block.lies c.loop-level.level (omega (arith, c.loop-level-test.false)) c.loop-level.invariant.walked c.in-Err-read_data.fault c.in-Err-read_data.ensures.reads
 
 pub walk-returns-in-Ok-read_data-clause-reads : goal.walk-returns-in-Ok-read_data-clause-reads
 walk-returns-in-Ok-read_data-clause-reads g t c =
-    let v = c.args.verity.now in
-    let config = c.args.config.now in
-    let tree = c.args.tree.now in
-    let is = c.requires.tree in
-    let state = g.D.BlockDev.state in
-    let b = block_in config v c.args.index in
-    let none : c.loop-level.level ≡ 0 = omega (arith, c.loop-level-test.false) in
-    let path = map bytes c.loop-level.path.items in
-    let old = map state c.args.reader.now.devices.items in
-    let mid = map state c.loop-level.reader.devices.items in
-    let walked : IsWalked b 0 c.loop-level.expected path old mid = subst (λ (k : ℕ). IsWalked b k c.loop-level.expected path old mid) none c.loop-level.invariant.walked in
-    let size = data-whole config tree.device.0 tree.line 0 0 v c.requires.loaded is.is in
-    walk_ends bytes b size.whole walked c.in-Ok-read_data.content c.requires.index c.in-Ok-read_data.ensures.reads
+    data_had c.args.config.now c.args.verity.now c.args.tree.now c.args.index c.requires.stack.sound.loaded c.requires.block.lies c.loop-level.level (omega (arith, c.loop-level-test.false)) c.loop-level.invariant.walked c.in-Ok-read_data.content c.requires.block.there c.in-Ok-read_data.ensures.reads
 
 -- ---- the data block
 
 pub read_data-zero_block-requires : goal.read_data-zero_block-requires
 read_data-zero_block-requires g t c =
     let tree = c.args.tree.now in
-    let size = data-whole c.args.config.now tree.device.0 tree.line 0 0 c.args.verity.now c.requires.loaded c.requires.tree.is in
+    let size = data-whole c.args.config.now tree.device.0 tree.line 0 0 c.args.verity.now c.requires.stack.sound.loaded c.requires.block.lies.is in
     omega (arith, size.whole, size.most)
 
 pub read_data-returns-in-Ok-clause-reads : goal.read_data-returns-in-Ok-clause-reads
@@ -761,23 +628,23 @@ read_data-returns-in-Ok-clause-reads g t c =
     let v = c.args.verity.now in
     let config = c.args.config.now in
     let tree = c.args.tree.now in
-    let size = data-whole config tree.device.0 tree.line 0 0 v c.requires.loaded c.requires.tree.is in
+    let size = data-whole config tree.device.0 tree.line 0 0 v c.requires.stack.sound.loaded c.requires.block.lies.is in
     data_zeros bytes (block_in config v c.args.index) c.args.expected.now (map g.D.BlockDev.state c.args.reader.now.devices.items) c.in-Ok.block size.whole (sym c.is_ignored.ensures ∙ c.if-is_ignored.true) c.in-Ok.ensures
 
 pub read_data-read_checked-requires : goal.read_data-read_checked-requires
 read_data-read_checked-requires g t c κs within =
     let config = c.args.config.now in
     let extent = c.data_extent-extent in
-    let deep = data-depth config c.args.verity.now c.args.tree.now c.requires.loaded c.requires.tree in
+    let deep = data-depth config c.args.verity.now c.args.tree.now c.requires.stack.sound.loaded c.requires.block.lies in
     let same : depth config extent.result.lower ≡ depth config c.args.tree.now.data = ap (λ (e : Extent). depth config e.lower) extent.ensures.value in
-    (omega (arith, deep, same), (within, (c.requires.loaded, (c.requires.serve, (extent.ensures.some, (extent.ensures.inside, c.requires.cache))))))
+    (omega (arith, deep, same), (within, (c.requires.stack, extent.ensures.lies)))
 
 pub read_data-returns-clause-reads : goal.read_data-returns-clause-reads
 read_data-returns-clause-reads g t c =
     let v = c.args.verity.now in
     let config = c.args.config.now in
     let tree = c.args.tree.now in
-    let is = c.requires.tree in
+    let is = c.requires.block.lies in
     data_read bytes (block_in config v c.args.index) c.args.expected.now c.read_checked.result (sym c.is_ignored.ensures ∙ c.if-is_ignored.false)
     (checked_as config v.data tree.data (block_sectors v * c.args.index) (block_sectors v) v.salt c.args.expected.now c.read_checked.result c.data_extent-extent.result is.on_data c.data_extent-extent.ensures.value c.read_checked.ensures.reads)
 
@@ -785,29 +652,29 @@ read_data-returns-clause-reads g t c =
 
 pub hash_block-returns-in-Err-clause-cached : goal.hash_block-returns-in-Err-clause-cached
 hash_block-returns-in-Err-clause-cached g t c =
-    keeps-found c.args.config.now (map g.D.BlockDev.state c.args.reader.now.devices.items) c.args.key c.args.expected.now c.args.reader.now.cache _ c.copy_of.ensures.leaves c.requires.cache
+    keeps-found c.args.config.now (map g.D.BlockDev.state c.args.reader.now.devices.items) c.args.key c.args.expected.now c.args.reader.now.cache _ c.copy_of.ensures.leaves c.requires.stack.cached
 
 pub hash_block-returns-in-Ok-Some-clause-reads : goal.hash_block-returns-in-Ok-Some-clause-reads
 hash_block-returns-in-Ok-Some-clause-reads g t c =
-    cached-hit c.args.config.now c.requires.key bytes c.in-Ok-Some.block c.args.expected.now (map g.D.BlockDev.state c.args.reader.now.devices.items) c.args.reader.now.cache c.requires.cache
+    cached-hit c.args.config.now c.requires.key bytes c.in-Ok-Some.block c.args.expected.now (map g.D.BlockDev.state c.args.reader.now.devices.items) c.args.reader.now.cache c.requires.stack.cached
     (sym (ap (λ (o : Option (Vec ℕ Global)). option_map bytes o) c.in-Ok-Some.field-0-is) ∙ c.in-Ok-Some.ensures.answer)
 
 pub hash_block-returns-in-Ok-Some-clause-cached : goal.hash_block-returns-in-Ok-Some-clause-cached
 hash_block-returns-in-Ok-Some-clause-cached g t c =
-    keeps-found c.args.config.now (map g.D.BlockDev.state c.args.reader.now.devices.items) c.args.key c.args.expected.now c.args.reader.now.cache _ c.copy_of.ensures.leaves c.requires.cache
+    keeps-found c.args.config.now (map g.D.BlockDev.state c.args.reader.now.devices.items) c.args.key c.args.expected.now c.args.reader.now.cache _ c.copy_of.ensures.leaves c.requires.stack.cached
 
 pub hash_block-cover-requires : goal.hash_block-cover-requires
-hash_block-cover-requires g t c = named-inside c.args.config.now c.requires.loaded c.requires.key.verity.hash c.args.extent.lower c.requires.key.hash
+hash_block-cover-requires g t c = named-inside c.args.config.now c.requires.stack.sound.loaded c.requires.key.verity.hash c.args.extent.lower c.requires.key.hash
 
 pub hash_block-returns-in-Ok-clause-cached : goal.hash_block-returns-in-Ok-clause-cached
 hash_block-returns-in-Ok-clause-cached g t c =
     let config = c.args.config.now in
     let at = c.requires.key in
-    let found = keeps-found config (map g.D.BlockDev.state c.args.reader.now.devices.items) c.args.key c.args.expected.now c.args.reader.now.cache _ c.copy_of.ensures.leaves c.requires.cache in
+    let found = keeps-found config (map g.D.BlockDev.state c.args.reader.now.devices.items) c.args.key c.args.expected.now c.args.reader.now.cache _ c.copy_of.ensures.leaves c.requires.stack.cached in
     let read = c.in-Ok.ensures.cached in
     let mid = c.read_checked.new.reader.cache in
     let noted = c.cover.new.self in
-    let is = c.cover.ensures.covered config c.requires.loaded (knows-all config c.requires.loaded mid.beneath read.sound.sets at.verity.hash c.args.extent.lower at.hash) in
+    let is = c.cover.ensures.covered config c.requires.stack.sound.loaded (knows-all config c.requires.stack.sound.loaded mid.beneath read.sound.sets at.verity.hash c.args.extent.lower at.hash) in
     let kept = keeps-noted config at (map g.D.BlockDev.state c.read_checked.new.reader.devices.items) c.args.reader.now.cache mid noted c.cover.ensures.rest is (record { capacity = read.capacity ∙ found.capacity; sound = read.sound }) in
     keeps-kept config at bytes c.in-Ok.block c.args.expected.now c.args.reader.now.cache noted _ c.in-Ok.ensures.reads (noted_key config at mid noted is) kept
     c.keep_copy-kept.result c.as_slice.result.now c.as_slice.ensures.value c.keep_copy-kept.ensures.ok c.keep_copy-kept.ensures.err

@@ -8,6 +8,7 @@ use Rattle.stack_engine.specs.Meaning.{Said, said_at}
 use Rattle.stack_engine.specs.Leaves.{images_of, LeafFailed}
 use Rattle.stack_engine.proofs.WriteLeafLemmas.{leaf-plain}
 use Rattle.stack_engine.proofs.LeafLemmas.{leaf-size, leaves-few, AreRead-device, image_at, steady_at, LeafFailed-device}
+use Rattle.stack_engine.proofs.StackLemmas.{leaf-there}
 use Rattle.stack_engine.proofs.lemmas.LeafListLemmas.{AreRead-more}
 use Rattle.stack_engine.proofs.lemmas.SpanLemmas.{span_image}
 use Rattle.stack_engine.proofs.lemmas.SectorLemmas.{said_at-leaf}
@@ -15,14 +16,20 @@ use Rattle.stack_engine.proofs.CostLemmas.{cost-leaf}
 use Rattle.stack_engine.proofs.lemmas.RunLemmas.{leaf-run}
 use Rattle.stack_engine.proofs.read.read_leaf.Goals as goal
 
+pub bounds-devices-leaf : goal.bounds-devices-leaf
+bounds-devices-leaf g c = leaf-there g.D.BlockDev.state c.args.devices.now c.args.config.now c.args.leaf c.args.first c.args.out.now c.requires.sound c.requires.fits
+
+pub offset_bounds-devices-leaf : goal.offset_bounds-devices-leaf
+offset_bounds-devices-leaf g c = let there = leaf-there g.D.BlockDev.state c.args.devices.now c.args.config.now c.args.leaf c.args.first c.args.out.now c.requires.sound c.requires.fits in grind (arith, there)
+
 pub read-requires : goal.read-requires
 read-requires g c =
-    let size = leaf-size g.D.BlockDev.state c.args.devices.now _ c.requires.serve c.args.leaf c.index-devices-leaf.result c.requires.there in
-    record { some = c.requires.some; whole = c.requires.whole; inside = omega (arith, size, c.requires.inside) }
+    let size = leaf-size g.D.BlockDev.state c.args.devices.now _ c.requires.sound.serve c.args.leaf c.index-devices-leaf.result (leaf-there g.D.BlockDev.state c.args.devices.now c.args.config.now c.args.leaf c.args.first c.args.out.now c.requires.sound c.requires.fits) in
+    record { some = c.requires.fits.sectors.some; whole = c.requires.fits.sectors.whole; inside = omega (arith, size, c.requires.fits.holds) }
 
 pub overflow_add-result : goal.overflow_add-result
 overflow_add-result g c =
-    let few = leaves-few g.D.BlockDev.state c.args.devices.now _ c.requires.serve c.args.leaf c.requires.there c.requires.loaded.leaves.count in omega (arith, few)
+    let few = leaves-few g.D.BlockDev.state c.args.devices.now _ c.requires.sound.serve c.args.leaf (leaf-there g.D.BlockDev.state c.args.devices.now c.args.config.now c.args.leaf c.args.first c.args.out.now c.requires.sound c.requires.fits) c.requires.sound.loaded.leaves.count in omega (arith, few)
 
 leaf_cost : (c : Configuration) (i n : ℕ) → n ≤ n * read_cost c (Leaf i)
 leaf_cost c i n = let one : n * read_cost c (Leaf i) ≡ n * 1 = ap (λ (k : ℕ). n * k) (cost-leaf c i) in omega (arith, one)
@@ -38,18 +45,18 @@ returns-in-Ok-clause-got g c =
     let n = length c.args.out.now / 512 in
     let old : Device = state (get_or devices c.args.leaf x) in
     let whole = g.met.D.BlockDev.whole (get_or devices c.args.leaf x) in
-    let size = leaf-size state devices _ c.requires.serve c.args.leaf x c.requires.there in
+    let size = leaf-size state devices _ c.requires.sound.serve c.args.leaf x (leaf-there g.D.BlockDev.state c.args.devices.now c.args.config.now c.args.leaf c.args.first c.args.out.now c.requires.sound c.requires.fits) in
     let kept = c.in-Ok.ensures.moved in
-    let moved = AreRead-more (leaf_cost c.args.config.now c.args.leaf n) (AreRead-device state devices c.args.leaf x c.requires.there _ _ c.read.new.self (omega (arith, c.requires.some, c.requires.whole)) (omega (arith, kept.failures)) kept) in
+    let moved = AreRead-more (leaf_cost c.args.config.now c.args.leaf n) (AreRead-device state devices c.args.leaf x (leaf-there g.D.BlockDev.state c.args.devices.now c.args.config.now c.args.leaf c.args.first c.args.out.now c.requires.sound c.requires.fits) _ _ c.read.new.self (omega (arith, c.requires.fits.sectors.some, c.requires.fits.sectors.whole)) (omega (arith, kept.failures)) kept) in
     λ found. record {
       moved = moved;
-      may = leaf-run (λ s. (said_at c.args.config.now (Leaf c.args.leaf) s).may found) c.args.first n c.read.new.out (omega (arith, c.read.auto.out, c.requires.whole))
+      may = leaf-run (λ s. (said_at c.args.config.now (Leaf c.args.leaf) s).may found) c.args.first n c.read.new.out (omega (arith, c.read.auto.out, c.requires.fits.sectors.whole))
           (λ s bytes h. subst (λ (x : Said). x.may found bytes) (sym (said_at-leaf c.args.config.now c.args.leaf s)) h);
       exact = λ steady.
           span_image _ old.image c.args.first n
-          (λ s. ap (λ (x : Said). x.means (images_of (map state devices))) (said_at-leaf c.args.config.now c.args.leaf s) ∙ ap (λ (l : List (List ℕ)). Ok (get_or l s zero_sector)) (image_at state devices c.args.leaf x c.requires.there))
-          (omega (arith, size, whole.length, c.requires.inside))
-          ∙ ap Ok (sym (c.in-Ok.ensures.bytes (steady_at state devices c.args.leaf x c.requires.there steady)));
+          (λ s. ap (λ (x : Said). x.means (images_of (map state devices))) (said_at-leaf c.args.config.now c.args.leaf s) ∙ ap (λ (l : List (List ℕ)). Ok (get_or l s zero_sector)) (image_at state devices c.args.leaf x (leaf-there g.D.BlockDev.state c.args.devices.now c.args.config.now c.args.leaf c.args.first c.args.out.now c.requires.sound c.requires.fits)))
+          (omega (arith, size, whole.length, c.requires.fits.holds))
+          ∙ ap Ok (sym (c.in-Ok.ensures.bytes (steady_at state devices c.args.leaf x (leaf-there g.D.BlockDev.state c.args.devices.now c.args.config.now c.args.leaf c.args.first c.args.out.now c.requires.sound c.requires.fits) steady)));
     }
 
 pub returns-in-Err-clause-got : goal.returns-in-Err-clause-got
@@ -59,10 +66,10 @@ returns-in-Err-clause-got g c =
     let x = c.index-devices-leaf.result in
     let n = length c.args.out.now / 512 in
     let kept = c.in-Err.ensures.moved in
-    let failed = LeafFailed-device state devices c.args.leaf x c.requires.there c.read.new.self c.in-Err.ensures.fault (λ never. let clash = c.in-Err.ensures.sure never in cc) in
+    let failed = LeafFailed-device state devices c.args.leaf x (leaf-there g.D.BlockDev.state c.args.devices.now c.args.config.now c.args.leaf c.args.first c.args.out.now c.requires.sound c.requires.fits) c.read.new.self c.in-Err.ensures.fault (λ never. let clash = c.in-Err.ensures.sure never in cc) in
     let number : c.args.leaf ≡ c.args.leaf + 1 - 1 = omega arith in
     λ found. record {
-      moved = AreRead-more (leaf_cost c.args.config.now c.args.leaf n) (AreRead-device state devices c.args.leaf x c.requires.there _ _ c.read.new.self (omega (arith, c.requires.some, c.requires.whole)) (grows _ _ n kept c.in-Err.ensures.fault) kept);
+      moved = AreRead-more (leaf_cost c.args.config.now c.args.leaf n) (AreRead-device state devices c.args.leaf x (leaf-there g.D.BlockDev.state c.args.devices.now c.args.config.now c.args.leaf c.args.first c.args.out.now c.requires.sound c.requires.fits) _ _ c.read.new.self (omega (arith, c.requires.fits.sectors.some, c.requires.fits.sectors.whole)) (grows _ _ n kept c.in-Err.ensures.fault) kept);
       may = (omega arith, subst (λ (i : ℕ). LeafFailed i (map state devices) (map state (set devices c.args.leaf c.read.new.self))) number failed);
       exact = λ steady. tt;
     }
@@ -71,9 +78,9 @@ returns-in-Err-clause-got g c =
 pub returns-in-Ok-clause-plain : goal.returns-in-Ok-clause-plain
 returns-in-Ok-clause-plain g c =
     let n : ℕ = length c.args.out.now / 512 in
-    leaf-plain g.D.BlockDev.state c.args.devices.now c.args.leaf c.args.config.now c.args.first n (omega (arith, c.requires.some, c.requires.whole)) c.read.new.self _ (λ e. cc)
+    leaf-plain g.D.BlockDev.state c.args.devices.now c.args.leaf c.args.config.now c.args.first n (omega (arith, c.requires.fits.sectors.some, c.requires.fits.sectors.whole)) c.read.new.self _ (λ e. cc)
 
 pub returns-in-Err-clause-plain : goal.returns-in-Err-clause-plain
 returns-in-Err-clause-plain g c =
     let n : ℕ = length c.args.out.now / 512 in
-    leaf-plain g.D.BlockDev.state c.args.devices.now c.args.leaf c.args.config.now c.args.first n (omega (arith, c.requires.some, c.requires.whole)) c.read.new.self _ (λ e. cc)
+    leaf-plain g.D.BlockDev.state c.args.devices.now c.args.leaf c.args.config.now c.args.first n (omega (arith, c.requires.fits.sectors.some, c.requires.fits.sectors.whole)) c.read.new.self _ (λ e. cc)

@@ -16,18 +16,16 @@ line_is lines all n line on same is at =
     let both : Some line ≡ Some on = sym there ∙ ap (λ (l : List Line). slice_get l n) same ∙ at in
     cc
 
-pub returns-clause-served : goal.returns-clause-served
-returns-clause-served c =
+pub returns : goal.returns
+returns c =
     let on = c.line_at-place.ensures in
     let run = c.line_run in
     let same : c.index-lines-number.result ≡ on.line = line_is c.lines-lines.result.now (lines_of c.args.config.now c.args.d.0) c.line_at-place.result.0 c.index-lines-number.result on.line (c.lines-lines.ensures.value ∙ c.table.ensures) c.index-lines-number.is on.at in
-    run-served c.args.config.now c.args.d.0 c.args.sector c.line_at-place.result.0 c.line_at-place.result.1 on run.result.count run.result.source (omega (arith, run.ensures.most, c.min-count.ensures))
-    (subst (λ (line : Line). ComeFrom c.args.config.now (c.args.d.0, c.line_at-place.result.0) line.target (c.args.sector - line.start) run.result.count run.result.source) same run.ensures.come)
-
-pub returns-clause-longest : goal.returns-clause-longest
-returns-clause-longest c =
-    let on = c.line_at-place.ensures in
-    let run = c.line_run in
-    let same : c.index-lines-number.result ≡ on.line = line_is c.lines-lines.result.now (lines_of c.args.config.now c.args.d.0) c.line_at-place.result.0 c.index-lines-number.result on.line (c.lines-lines.ensures.value ∙ c.table.ensures) c.index-lines-number.is on.at in
-    run-longest c.args.config.now c.args.d.0 c.args.sector c.line_at-place.result.0 c.line_at-place.result.1 on c.args.most c.min-count.result run.result.count c.min-count.ensures run.ensures.some run.ensures.most
-    (subst (λ (line : Line). EndsRun (together line.target) (c.args.sector - line.start) c.min-count.result run.result.count) same run.ensures.longest)
+    record {
+      served = run-served c.args.config.now c.args.d.0 c.args.sector c.line_at-place.result.0 c.line_at-place.result.1 on run.result.count run.result.source (omega (arith, run.ensures.most, c.min-count.ensures))
+          (subst (λ (line : Line). ComeFrom c.args.config.now (c.args.d.0, c.line_at-place.result.0) line.target (c.args.sector - line.start) run.result.count run.result.source) same run.ensures.come);
+      some = run.ensures.some;
+      most = omega (arith, run.ensures.most, c.min-count.ensures);
+      longest = run-longest c.args.config.now c.args.d.0 c.args.sector c.line_at-place.result.0 c.line_at-place.result.1 on c.args.most c.min-count.result run.result.count c.min-count.ensures run.ensures.some run.ensures.most
+          (subst (λ (line : Line). EndsRun (together line.target) (c.args.sector - line.start) c.min-count.result run.result.count) same run.ensures.longest);
+    }

@@ -24,28 +24,30 @@ small c d l chunk bases w n base loaded g t some is =
 
 pub overflow_add-first : goal.overflow_add-first
 overflow_add-first c =
-    let all = small c.args.config.now c.args.from.device.0 c.args.from.line c.args.chunk c.args.bases.now c.args.from.first c.args.count c.index-bases-stripe.result c.requires.loaded c.requires.grammar c.requires.line c.requires.some c.index-bases-stripe.is in
+    let all = small c.args.config.now c.args.from.device.0 c.args.from.line c.args.chunk c.args.bases.now c.args.from.first c.args.count c.index-bases-stripe.result c.requires.loaded c.requires.grammar c.requires.line.has c.requires.line.some c.index-bases-stripe.is in
     omega (arith, all)
 
 pub overflow_add-first-2 : goal.overflow_add-first-2
 overflow_add-first-2 c =
-    let all = small c.args.config.now c.args.from.device.0 c.args.from.line c.args.chunk c.args.bases.now c.args.from.first c.args.count c.index-bases-stripe.result c.requires.loaded c.requires.grammar c.requires.line c.requires.some c.index-bases-stripe.is in
+    let all = small c.args.config.now c.args.from.device.0 c.args.from.line c.args.chunk c.args.bases.now c.args.from.first c.args.count c.index-bases-stripe.result c.requires.loaded c.requires.grammar c.requires.line.has c.requires.line.some c.index-bases-stripe.is in
     omega (arith, all)
 
 pub lower-lower-requires-clause-device : goal.lower-lower-requires-clause-device
 lower-lower-requires-clause-device c =
-    let line = c.requires.line in device-there c.args.config.now c.args.from.device.0 c.args.from.line line.line line.is
+    let line = c.requires.line.has in device-there c.args.config.now c.args.from.device.0 c.args.from.line line.line line.is
 
-pub returns-clause-come : goal.returns-clause-come
-returns-clause-come c =
-    let part : c.args.from.first % c.args.chunk < c.args.chunk = mod_below c.args.from.first c.args.chunk (omega (arith, c.requires.grammar.chunk_some)) in
-    let count = c.min-count.ensures in (
-      tt,
-      striped-lies c.args.config.now c.args.from.device.0 c.args.from.line c.args.chunk c.args.bases.now c.args.from.first c.args.count c.requires.loaded c.requires.grammar c.requires.line c.index-bases-stripe.result
-          (base_at c.args.bases.now (c.args.from.first / c.args.chunk) c.index-bases-stripe.result c.requires.grammar.some c.index-bases-stripe.is)
-          c.min-count.result (omega (arith, count, part, c.requires.some)) (omega (arith, count)) (omega (arith, count, part)) c.lower-lower.result c.lower-lower.ensures,
-      λ j h. part-more c.args.chunk c.args.from.first j (omega (arith, h, count, part)),
-    )
-
-pub returns-clause-longest : goal.returns-clause-longest
-returns-clause-longest c = part-longest c.args.chunk c.args.from.first c.args.count c.min-count.result (omega (arith, c.requires.grammar.chunk_some)) c.requires.some c.min-count.ensures
+pub returns : goal.returns
+returns c = record {
+  come =
+      let part : c.args.from.first % c.args.chunk < c.args.chunk = mod_below c.args.from.first c.args.chunk (omega (arith, c.requires.grammar.chunk_some)) in
+      let count = c.min-count.ensures in (
+        tt,
+        striped-lies c.args.config.now c.args.from.device.0 c.args.from.line c.args.chunk c.args.bases.now c.args.from.first c.args.count c.requires.loaded c.requires.grammar c.requires.line.has c.index-bases-stripe.result
+            (base_at c.args.bases.now (c.args.from.first / c.args.chunk) c.index-bases-stripe.result c.requires.grammar.some c.index-bases-stripe.is)
+            c.min-count.result (omega (arith, count, part, c.requires.line.some)) (omega (arith, count)) (omega (arith, count, part)) c.lower-lower.result c.lower-lower.ensures,
+        λ j h. part-more c.args.chunk c.args.from.first j (omega (arith, h, count, part)),
+      );
+  some = omega (arith, c.min-count.ensures, c.requires.line.some, mod_below c.args.from.first c.args.chunk (omega (arith, c.requires.grammar.chunk_some)));
+  most = omega (arith, c.min-count.ensures);
+  longest = part-longest c.args.chunk c.args.from.first c.args.count c.min-count.result (omega (arith, c.requires.grammar.chunk_some)) c.requires.line.some c.min-count.ensures;
+}

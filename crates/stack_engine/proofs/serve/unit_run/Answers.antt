@@ -17,33 +17,32 @@ less u w count n is low part = elim (cases_eq (w % u) 0) [
     go zero e some = absurd (some e)
     go (suc r) e some = omega (arith, is, low, e)
 
-pub returns-clause-come : goal.returns-clause-come
-returns-clause-come c =
-    let crypt = c.args.crypt.now in
-    let u : ℕ = unit_sectors crypt in
-    let w : ℕ = c.args.within in
-    let few : c.from-sectors.result ≡ u = c.from-sectors.ensures ∙ c.unit_sectors-few.ensures.value in
-    let is : c.min-count.result ≡ min c.args.count (u - w % u) = c.min-count.ensures ∙ ap (λ (k : ℕ). min c.args.count (k - w % k)) few in
-    let low = mod_below w u (omega (arith, unit_sectors-some crypt)) in
-    let line = c.requires.line in (
-      (refl, refl, refl),
-      record {
-        crypt = crypt;
-        has = record { line = line.line; is = line.is; has = line.has; fits = omega (arith, line.fits, is) };
-        within = omega (arith, is, low);
-        part = less u w c.args.count c.min-count.result is low c.requires.part;
-      },
-    )
-
-pub returns-clause-some : goal.returns-clause-some
-returns-clause-some c =
-    let few : c.from-sectors.result ≡ unit_sectors c.args.crypt.now = c.from-sectors.ensures ∙ c.unit_sectors-few.ensures.value in
-    omega (arith, c.min-count.ensures, c.requires.some, mod_below c.args.within c.from-sectors.result (omega (arith, few, unit_sectors-some c.args.crypt.now)))
-
-pub returns-clause-longest : goal.returns-clause-longest
-returns-clause-longest c =
-    let crypt = c.args.crypt.now in
-    let u : ℕ = unit_sectors crypt in
-    let w : ℕ = c.args.within in
-    let few : c.from-sectors.result ≡ u = c.from-sectors.ensures ∙ c.unit_sectors-few.ensures.value in
-    part-longest u w c.args.count c.min-count.result (omega (arith, unit_sectors-some crypt)) c.requires.some (c.min-count.ensures ∙ ap (λ (k : ℕ). min c.args.count (k - w % k)) few)
+pub returns : goal.returns
+returns c = record {
+  come =
+      let crypt = c.args.crypt.now in
+      let u : ℕ = unit_sectors crypt in
+      let w : ℕ = c.args.within in
+      let few : c.from-sectors.result ≡ u = c.from-sectors.ensures ∙ c.unit_sectors-few.ensures.value in
+      let is : c.min-count.result ≡ min c.args.count (u - w % u) = c.min-count.ensures ∙ ap (λ (k : ℕ). min c.args.count (k - w % k)) few in
+      let low = mod_below w u (omega (arith, unit_sectors-some crypt)) in
+      let line = c.requires.line.has in (
+        (refl, refl, refl),
+        record {
+          crypt = crypt;
+          has = record { line = line.line; is = line.is; has = line.has; fits = omega (arith, line.fits, is) };
+          within = omega (arith, is, low);
+          part = less u w c.args.count c.min-count.result is low c.requires.part;
+        },
+      );
+  some =
+      let few : c.from-sectors.result ≡ unit_sectors c.args.crypt.now = c.from-sectors.ensures ∙ c.unit_sectors-few.ensures.value in
+      omega (arith, c.min-count.ensures, c.requires.line.some, mod_below c.args.within c.from-sectors.result (omega (arith, few, unit_sectors-some c.args.crypt.now)));
+  most = omega (arith, c.min-count.ensures);
+  longest =
+      let crypt = c.args.crypt.now in
+      let u : ℕ = unit_sectors crypt in
+      let w : ℕ = c.args.within in
+      let few : c.from-sectors.result ≡ u = c.from-sectors.ensures ∙ c.unit_sectors-few.ensures.value in
+      part-longest u w c.args.count c.min-count.result (omega (arith, unit_sectors-some crypt)) c.requires.line.some (c.min-count.ensures ∙ ap (λ (k : ℕ). min c.args.count (k - w % k)) few);
+}

@@ -12,34 +12,33 @@ whole-count u count some =
     let all : count - count % u ≡ count / u * u + 0 = omega (arith, div-add-mod' count u) in
     ap (λ (k : ℕ). k % u) all ∙ mod-mul-add (count / u) u 0 some
 
-pub returns-clause-come : goal.returns-clause-come
-returns-clause-come c =
-    let crypt = c.args.crypt.now in
-    let u : ℕ = unit_sectors crypt in
-    let few : c.from-sectors.result ≡ u = c.from-sectors.ensures ∙ c.unit_sectors-few.ensures.value in
-    let line = c.requires.line in (
-      (refl, refl, refl),
-      record {
-        crypt = crypt;
-        has = record { line = line.line; is = line.is; has = line.has; fits = omega (arith, line.fits) };
-        aligned = c.requires.aligned;
-        whole = ap (λ (k : ℕ). (c.args.count - c.args.count % k) % u) few ∙ whole-count u c.args.count (omega (arith, unit_sectors-some crypt));
-      },
-    )
-
-pub returns-clause-some : goal.returns-clause-some
-returns-clause-some c =
-    let few : c.from-sectors.result ≡ unit_sectors c.args.crypt.now = c.from-sectors.ensures ∙ c.unit_sectors-few.ensures.value in
-    omega (arith, few, c.requires.enough, mod_below c.args.count c.from-sectors.result (omega (arith, few, unit_sectors-some c.args.crypt.now)))
-
-pub returns-clause-longest : goal.returns-clause-longest
-returns-clause-longest c =
-    let crypt = c.args.crypt.now in
-    let u : ℕ = unit_sectors crypt in
-    let w : ℕ = c.args.within in
-    let few : c.from-sectors.result ≡ u = c.from-sectors.ensures ∙ c.unit_sectors-few.ensures.value in
-    let some : 0 < u = omega (arith, unit_sectors-some crypt) in
-    let n : ℕ = c.args.count - c.args.count % c.from-sectors.result in
-    let whole : n % u ≡ 0 = ap (λ (k : ℕ). (c.args.count - c.args.count % k) % u) few ∙ whole-count u c.args.count some in
-    let low = mod_below c.args.count c.from-sectors.result (omega (arith, few, some)) in
-    inr (part-ends u (w + n) some (omega (arith, few, c.requires.enough, low)) ((unit-more u w n some c.requires.aligned).1 ∙ whole))
+pub returns : goal.returns
+returns c = record {
+  come =
+      let crypt = c.args.crypt.now in
+      let u : ℕ = unit_sectors crypt in
+      let few : c.from-sectors.result ≡ u = c.from-sectors.ensures ∙ c.unit_sectors-few.ensures.value in
+      let line = c.requires.line in (
+        (refl, refl, refl),
+        record {
+          crypt = crypt;
+          has = record { line = line.line; is = line.is; has = line.has; fits = omega (arith, line.fits) };
+          aligned = c.requires.aligned;
+          whole = ap (λ (k : ℕ). (c.args.count - c.args.count % k) % u) few ∙ whole-count u c.args.count (omega (arith, unit_sectors-some crypt));
+        },
+      );
+  some =
+      let few : c.from-sectors.result ≡ unit_sectors c.args.crypt.now = c.from-sectors.ensures ∙ c.unit_sectors-few.ensures.value in
+      omega (arith, few, c.requires.enough, mod_below c.args.count c.from-sectors.result (omega (arith, few, unit_sectors-some c.args.crypt.now)));
+  most = omega (arith);
+  longest =
+      let crypt = c.args.crypt.now in
+      let u : ℕ = unit_sectors crypt in
+      let w : ℕ = c.args.within in
+      let few : c.from-sectors.result ≡ u = c.from-sectors.ensures ∙ c.unit_sectors-few.ensures.value in
+      let some : 0 < u = omega (arith, unit_sectors-some crypt) in
+      let n : ℕ = c.args.count - c.args.count % c.from-sectors.result in
+      let whole : n % u ≡ 0 = ap (λ (k : ℕ). (c.args.count - c.args.count % k) % u) few ∙ whole-count u c.args.count some in
+      let low = mod_below c.args.count c.from-sectors.result (omega (arith, few, some)) in
+      inr (part-ends u (w + n) some (omega (arith, few, c.requires.enough, low)) ((unit-more u w n some c.requires.aligned).1 ∙ whole));
+}

@@ -1,5 +1,6 @@
 use Rattle.std.proofs.Common.{◌≡◌, ◌*◌, ℕ, ap, arith}
 use Rattle.stack_rules.specs.Trees.{block_sectors}
+use Rattle.stack_engine.specs.declared.tree.Extent.{Extent}
 use Rattle.stack_engine.proofs.LoadedLemmas.{size-small}
 use Rattle.stack_engine.proofs.VerityLineLemmas.{data-whole, data-inside}
 use Rattle.stack_engine.proofs.tree.data_extent.Goals as goal
@@ -8,18 +9,16 @@ pub overflow_mul-result : goal.overflow_mul-result
 overflow_mul-result c =
     let v = c.args.verity.now in
     let tree = c.args.tree.now in
-    let room = data-inside c.args.config.now v tree c.requires.loaded c.requires.tree c.args.index c.requires.index in
+    let room = data-inside c.args.config.now v tree c.requires.loaded c.requires.block.lies c.args.index c.requires.block.there in
     let same : c.from.result * c.args.index ≡ block_sectors v * c.args.index = ap (λ (k : ℕ). k * c.args.index) c.from.ensures in
     omega (arith, same, room, size-small c.args.config.now tree.data c.requires.loaded)
 
-pub returns-clause-some : goal.returns-clause-some
-returns-clause-some c =
-    let tree = c.args.tree.now in
-    let size = data-whole c.args.config.now tree.device.0 tree.line 0 0 c.args.verity.now c.requires.loaded c.requires.tree.is in size.some
-
-pub returns-clause-inside : goal.returns-clause-inside
-returns-clause-inside c =
+pub returns : goal.returns
+returns c =
     let v = c.args.verity.now in
-    let room = data-inside c.args.config.now v c.args.tree.now c.requires.loaded c.requires.tree c.args.index c.requires.index in
+    let tree = c.args.tree.now in
+    let size = data-whole c.args.config.now tree.device.0 tree.line 0 0 v c.requires.loaded c.requires.block.lies.is in
+    let room = data-inside c.args.config.now v tree c.requires.loaded c.requires.block.lies c.args.index c.requires.block.there in
     let same : c.from.result * c.args.index ≡ block_sectors v * c.args.index = ap (λ (k : ℕ). k * c.args.index) c.from.ensures in
-    omega (arith, same, room)
+    let at : ℕ → Extent = λ k. record { lower = tree.data; first = k; sectors = block_sectors v } in
+    record { value = ap at same; lies = record { some = size.some; inside = omega (arith, same, room) } }

@@ -25,8 +25,8 @@ decrypt_each-requires-clause-key c =
     let both : Some c.key-key.result.now ≡ Some c.args.crypt.now.key = sym c.key-key.ensures ∙ unit-key c.args.config.now c.args.part.device.0 c.args.part.line 0 c.args.crypt.now c.requires.loaded c.requires.line in
     cc
 
-pub decrypt_each-requires-clause-whole : goal.decrypt_each-requires-clause-whole
-decrypt_each-requires-clause-whole c =
+pub decrypt_each-requires-clause-units : goal.decrypt_each-requires-clause-units
+decrypt_each-requires-clause-units c =
     let few : c.unit_sectors-sectors.result ≡ unit_sectors c.args.crypt.now = c.unit_sectors-sectors.ensures.value in
     let same : c.unit_sectors-sectors.result * 512 ≡ sector_size c.args.crypt.now = omega (arith, few, unit-bytes c.args.crypt.now) in
-    ap (λ (k : ℕ). Rattle.std.proofs.Common.length c.args.units.now % k) same ∙ c.requires.whole
+    (ap (λ (k : ℕ). Rattle.std.proofs.Common.length c.args.units.now % k) same ∙ c.requires.whole, c.requires.fits)

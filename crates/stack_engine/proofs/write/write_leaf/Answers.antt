@@ -17,4 +17,4 @@ returns-clause-cached g c =
     let stands : (with_items devices new).items ≡ new = with_items_is devices new (c.write_sectors.auto.devices ∙ ap (λ l. length l) c.as_mut_slice.ensures.value ∙ sym devices.ok.0) in
     let wrote = subst (λ ds. Writes (destination_of config (Leaf c.args.leaf)) c.args.first (sectors_in c.args.bytes.now) (map state ds) (map state new) c.write_sectors.result) c.as_mut_slice.ensures.value c.write_sectors.ensures in
     subst (λ ds. KeepsCache config (map state ds) cache c.forget_leaf.new.self) (sym stands)
-    (keeps-written config c.args.leaf c.args.first _ _ (map state devices.items) (map state new) cache c.forget_leaf.new.self wrote.moved c.requires.cache c.forget_leaf.ensures.blocks c.forget_leaf.ensures.sets c.forget_leaf.ensures.covers)
+    (keeps-written config c.args.leaf c.args.first _ _ (map state devices.items) (map state new) cache c.forget_leaf.new.self wrote.moved c.requires.stack.cached c.forget_leaf.ensures.blocks c.forget_leaf.ensures.sets c.forget_leaf.ensures.covers)

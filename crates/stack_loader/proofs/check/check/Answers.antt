@@ -20,7 +20,7 @@ use Rattle.stack_loader.proofs.lemmas.WriteCostLemmas.{write_cost-low}
 use Rattle.stack_costs.proofs.lemmas.CostLemmas.{lowers-rows, write_cost-given}
 use Rattle.stack_costs.specs.declared.cost.Direction.TheVariants.{Read, Write}
 use Rattle.stack_rules.proofs.lemmas.PassingLemmas.{IsFirst-passed, passed-IsFirst}
-use Rattle.stack_loader.proofs.StageLemmas.{Known, unknown-first, cycles-first, lines-first, depths-first, costs-first, none-first, depths-above, costs-above, length-values}
+use Rattle.stack_loader.proofs.RuleOrderLemmas.{Known, unknown-first, cycles-first, lines-first, depths-first, costs-first, none-first, depths-above, costs-above, length-values}
 use Rattle.stack_loader.proofs.check.check.Goals as goal
 
 pub returns-in_err-lowers : goal.returns-in_err-lowers

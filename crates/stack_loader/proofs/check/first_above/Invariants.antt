@@ -1,7 +1,7 @@
 use Rattle.std.proofs.Common.{◌≡◌, ◌+◌, nat_lt, drop, ◌∷◌, []}
 use Rattle.stack_rules.specs.Passing.{above}
 use Rattle.stack_rules.specs.Rules.{first, refuse}
-use Rattle.stack_rules.proofs.lemmas.ScanLemmas.{scan}
+use Rattle.stack_rules.proofs.lemmas.FirstRefusalLemmas.{scan}
 use Rattle.stack_loader.proofs.check.first_above.Given as goal
 
 abbrev pub invariant-loop-i : goal.invariant-loop-i

@@ -6,8 +6,8 @@ use Rattle.stack_loader.specs.Next.{IsNext}
 use Rattle.stack_rules.specs.Rules.{rules, duplicate_names, after_load}
 use Rattle.stack_loader.proofs.LoadLemmas.{checked-moved, fault-moved}
 use Rattle.stack_rules.proofs.lemmas.PassingLemmas.{IsFirst-passed, passed-IsFirst}
-use Rattle.stack_rules.proofs.lemmas.ScanLemmas.{first-none, first-some}
-use Rattle.stack_loader.proofs.StageLemmas.{right}
+use Rattle.stack_rules.proofs.lemmas.FirstRefusalLemmas.{first-none, first-some}
+use Rattle.stack_loader.proofs.RuleOrderLemmas.{right}
 use Rattle.stack_loader.proofs.check.next_load.Goals as goal
 
 pub returns-in-Some : goal.returns-in-Some

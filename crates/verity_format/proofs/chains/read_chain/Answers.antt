@@ -20,9 +20,9 @@ returns-clause-ok g c = λ data_steady hash_steady.
     c.deref_mut-2.ensures.len ∙ c.in_ok-content.content.ok.0 ∙ ap length c.in_ok-content.ensures ∙ length-replicate {A = ℕ} c.data_block.result 0 ∙ c.data_block.ensures.value in
     let content : (with_items c.in_ok-content.content c.read_block.new.block).items ≡ block_at data_image shape.data_block c.args.index =
     with_items_is c.in_ok-content.content c.read_block.new.block (c.read_block.auto.block ∙ c.deref_mut-2.ensures.len)
-    ∙ c.in_ok-read_block.ensures.bytes data_steady
+    ∙ c.in_ok-read_block.ensures.ok.bytes data_steady
     ∙ ap (λ n. block_at data_image n c.args.index) size in
     let path : map (λ b. b.items) (with_items c.in_ok-path.path c.read_path.new.path).items ≡ stored_path shape hash_image (levels shape) c.args.index =
-    ap (map (λ b. b.items)) (with_items_is c.in_ok-path.path c.read_path.new.path (c.read_path.auto.path ∙ c.deref_mut.ensures.len)) ∙ c.in_ok-read_path.ensures.path hash_steady in
+    ap (map (λ b. b.items)) (with_items_is c.in_ok-path.path c.read_path.new.path (c.read_path.auto.path ∙ c.deref_mut.ensures.len)) ∙ c.in_ok-read_path.ensures.ok.path hash_steady in
     ap (λ xs. chain_of c.args.index xs (map (λ b. b.items) (with_items c.in_ok-path.path c.read_path.new.path).items)) content
     ∙ ap (chain_of c.args.index (block_at data_image shape.data_block c.args.index)) path

@@ -2,7 +2,7 @@ use Rattle.std.proofs.Common.{◌≡◌, ◌+◌, ◌-◌, ◌*◌, ◌/◌, ◌
 use Rattle.std.specs.Vec.{with_items}
 use Rattle.std.proofs.lemmas.List.{with_items_is, take_all, append-nil}
 use Rattle.std.proofs.lemmas.List.Elements.{All-set}
-use Rattle.hash_tree.specs.Shape.{position, ancestor, area_end}
+use Rattle.hash_tree.specs.Shape.{position, ancestor, area_end, levels}
 use Rattle.verity_format.specs.Blocks.{block_at, IsFullRead}
 use Rattle.verity_format.specs.Chain.{stored_path}
 use Rattle.verity_format.proofs.DeviceLemmas.{only_read-then, full_read-then, steady-then}
@@ -14,27 +14,17 @@ use Rattle.verity_format.proofs.chains.read_path.Goals as goal
 memory-size : (v : Vec ℕ Global) (size n : ℕ) → length v.items ≡ size → n ≡ v.len → n ≡ size
 memory-size v size n sized long = long ∙ v.ok.0 ∙ sized
 
-pub read_block-requires-clause-some : goal.read_block-requires-clause-some
-read_block-requires-clause-some g c =
+pub read_block-requires : goal.read_block-requires
+read_block-requires g c =
     let size = memory-size (get_or c.loop-i.path c.loop-i.i c.index-path-i.result) c.args.shape.now.hash_block (length c.deref_mut.result.now) (c.loop-i.invariant.sized c.loop-i.i c.index-path-i.result (omega arith)) c.deref_mut.ensures.len in
-    omega (arith, size, (block-size c.args.shape.now.hash_block c.requires.valid.hash_size).some)
-
-pub read_block-requires-clause-whole : goal.read_block-requires-clause-whole
-read_block-requires-clause-whole g c =
-    let size = memory-size (get_or c.loop-i.path c.loop-i.i c.index-path-i.result) c.args.shape.now.hash_block (length c.deref_mut.result.now) (c.loop-i.invariant.sized c.loop-i.i c.index-path-i.result (omega arith)) c.deref_mut.ensures.len in
-    rw size (block-size c.args.shape.now.hash_block c.requires.valid.hash_size).whole
-
-pub read_block-requires-clause-inside : goal.read_block-requires-clause-inside
-read_block-requires-clause-inside g c =
-    let size = memory-size (get_or c.loop-i.path c.loop-i.i c.index-path-i.result) c.args.shape.now.hash_block (length c.deref_mut.result.now) (c.loop-i.invariant.sized c.loop-i.i c.index-path-i.result (omega arith)) c.deref_mut.ensures.len in
+    let block = block-size c.args.shape.now.hash_block c.requires.valid.hash_size in
     let room = block-inside c.position-place.result (area_end c.args.shape.now) (c.args.shape.now.hash_block / 512) c.position-place.ensures.inside in
-    rw size (omega (arith, room, c.requires.fits, c.loop-i.invariant.read.same.size))
-
-pub read_block-requires-clause-few : goal.read_block-requires-clause-few
-read_block-requires-clause-few g c =
-    let size = memory-size (get_or c.loop-i.path c.loop-i.i c.index-path-i.result) c.args.shape.now.hash_block (length c.deref_mut.result.now) (c.loop-i.invariant.sized c.loop-i.i c.index-path-i.result (omega arith)) c.deref_mut.ensures.len in
-    let room = block-inside c.position-place.result (area_end c.args.shape.now) (c.args.shape.now.hash_block / 512) c.position-place.ensures.inside in
-    rw size (omega (arith, room, c.requires.valid.tree_fits))
+    record {
+      some = omega (arith, size, block.some);
+      whole = rw size block.whole;
+      inside = rw size (omega (arith, room, c.requires.fits, c.loop-i.invariant.read.same.size));
+      few = rw size (omega (arith, room, c.requires.valid.tree_fits));
+    }
 
 pub loop-i-preserved : goal.loop-i-preserved
 loop-i-preserved g c =
@@ -49,26 +39,31 @@ loop-i-preserved g c =
       read = only_read-then c.loop-i.invariant.read c.read_block.ensures.read;
       full =
           full_read-then _ _ _ c.loop-i.invariant.full
-          (subst (λ (n : ℕ). IsFullRead (g.H.BlockDev.state c.loop-i.hash_dev) (n / 512) (g.H.BlockDev.state c.read_block.new.device)) size c.in_ok-read_block.ensures.full)
+          (subst (λ (n : ℕ). IsFullRead (g.H.BlockDev.state c.loop-i.hash_dev) (n / 512) (g.H.BlockDev.state c.read_block.new.device)) size c.in_ok-read_block.ensures.ok.full)
           (let e : i * (shape.hash_block / 512) + shape.hash_block / 512 ≡ (i + 1) * (shape.hash_block / 512) = grind arith in e);
       left = omega (arith, c.loop-i.invariant.left);
       sized = All-set (λ (b : Vec ℕ Global). length b.items ≡ shape.hash_block) c.loop-i.path i (with_items old c.read_block.new.block) (ap length (with_items_is old c.read_block.new.block long) ∙ c.read_block.auto.block ∙ size) c.loop-i.invariant.sized;
       so_far = λ steady.
           let here : c.read_block.new.block ≡ block_at image shape.hash_block (position shape (c.loop-i.level - 1) (ancestor shape (c.loop-i.level - 1 + 1) c.args.index)) =
-          c.in_ok-read_block.ensures.bytes (steady-then c.loop-i.invariant.read.same steady)
+          c.in_ok-read_block.ensures.ok.bytes (steady-then c.loop-i.invariant.read.same steady)
           ∙ ap (λ im. block_at im (length c.deref_mut.result.now) c.position-place.result) (c.loop-i.invariant.read.image steady)
           ∙ ap (λ n. block_at image n c.position-place.result) size
           ∙ ap (block_at image shape.hash_block) (c.position-place.ensures.value ∙ ap (position shape (c.loop-i.level - 1)) c.block_on_path.ensures.value) in
           path-more shape image c.loop-i.level c.args.index i c.loop-i.path old c.read_block.new.block _ (omega arith) long (omega (arith, c.loop-i.invariant.left, c.requires.count)) here (c.loop-i.invariant.so_far steady);
     }
 
-pub returns-clause-path : goal.returns-clause-path
-returns-clause-path g c = λ steady.
+pub returns-clause-ok : goal.returns-clause-ok
+returns-clause-ok g c =
     let shape = c.args.shape.now in
     let image = (g.H.BlockDev.state c.args.hash_dev.now).image in
     let low : c.loop-i.level ≡ 0 = omega (arith, c.loop-i.invariant.left, c.requires.count, c.loop-i.auto.path) in
     let all : take c.loop-i.i c.loop-i.path ≡ c.loop-i.path = take_all c.loop-i.i c.loop-i.path (omega (arith, c.loop-i.auto.path)) in
-    sym (append-nil (map (λ b. b.items) c.loop-i.path))
-    ∙ ap (λ xs. map (λ b. b.items) xs ++ []) (sym all)
-    ∙ ap (λ n. map (λ b. b.items) (take c.loop-i.i c.loop-i.path) ++ stored_path shape image n c.args.index) (sym low)
-    ∙ c.loop-i.invariant.so_far steady
+    let count : c.loop-i.i ≡ levels shape = omega (arith, c.loop-i.invariant.left, low) in
+    record {
+      path = λ steady.
+          sym (append-nil (map (λ b. b.items) c.loop-i.path))
+          ∙ ap (λ xs. map (λ b. b.items) xs ++ []) (sym all)
+          ∙ ap (λ n. map (λ b. b.items) (take c.loop-i.i c.loop-i.path) ++ stored_path shape image n c.args.index) (sym low)
+          ∙ c.loop-i.invariant.so_far steady;
+      full = subst (λ (n : ℕ). IsFullRead (g.H.BlockDev.state c.args.hash_dev.now) (n * (shape.hash_block / 512)) (g.H.BlockDev.state c.loop-i.hash_dev)) count c.loop-i.invariant.full;
+    }

@@ -1,4 +1,4 @@
-use Rattle.std.proofs.Common.{◌≡◌, ◌≢◌, ◌+◌, ◌++◌, ◌∷◌, ◌∙◌, [], ℕ, List, length, take, sym, ap, subst, append_assoc}
+use Rattle.std.proofs.Common.{◌≡◌, ◌≢◌, ◌+◌, ◌++◌, ◌∷◌, ◌∙◌, [], ℕ, List, length, take, sym, ap, subst, append_assoc, rules}
 use Rattle.std.proofs.lemmas.List.{take_more, take_all}
 use Rattle.hash_tree.specs.Building.{PlacedRecord}
 use Rattle.hash_tree.specs.Placing.{IsLeastDiffering}
@@ -23,7 +23,7 @@ loop-placed-preserved g c =
     let now : length c.read_block.new.block ≡ size = c.read_block.auto.block ∙ c.loop-placed.auto.block in
     record {
       read = only_read-then here.read c.read_block.ensures.read;
-      full = full_read-then _ _ _ here.full c.in_ok-read_block.ensures.full (sectors-step i (length c.loop-placed.block) (length c.read_block.new.block) c.read_block.auto.block);
+      full = full_read-then _ _ _ here.full c.in_ok-read_block.ensures.ok.full (sectors-step i (length c.loop-placed.block) (length c.read_block.new.block) c.read_block.auto.block);
       least = subst (λ (n : ℕ). IsLeastWith old n (take (i + 1) out) c.args.least c.if-ne.least) (sym now) (λ steady ps so.
           let more : ps ++ take (i + 1) out ≡ (ps ++ take i out) ++ p ∷ [] =
           ap (λ xs. ps ++ xs) (take_more out i p c.loop-placed-test.true ∙ ap (λ q. take i out ++ q ∷ []) (sym c.placed-item.is)) ∙ sym (append_assoc ps (take i out) (p ∷ [])) in
@@ -33,7 +33,7 @@ loop-placed-preserved g c =
           let bytes : c.as_slice.result.now ≡ p.bytes = c.as_slice.ensures.value ∙ ap (λ (p : PlacedRecord). p.bytes) c.placed.view_is in
           let stands : device p.block ≡ c.read_block.new.block =
           ap device number
-          ∙ sym (c.in_ok-read_block.ensures.bytes (steady-then here.read.same steady)
+          ∙ sym (c.in_ok-read_block.ensures.ok.bytes (steady-then here.read.same steady)
           ∙ ap (λ image. block_at image (length c.loop-placed.block) c.placed.inside.block) (here.read.image steady)
           ∙ ap (λ n. block_at old.image n c.placed.inside.block) c.loop-placed.auto.block) in
           subst (λ qs. IsLeastDiffering device qs c.if-ne.least) (sym more) (elim c.if-ne.branch [
@@ -46,10 +46,13 @@ loop-placed-preserved g c =
           ]));
     }
 
-pub returns-clause-least : goal.returns-clause-least
-returns-clause-least g c =
+pub returns-clause-ok : goal.returns-clause-ok
+returns-clause-ok g c =
     let out = c.args.blocks.now in
     let old = g.H.BlockDev.state c.args.hash_dev.now in
     let all : take c.loop-placed.placed-index out ≡ out = take_all c.loop-placed.placed-index out c.loop-placed-test.false in
-    subst (λ xs. IsLeastWith old (length c.args.block.now) xs c.args.least c.loop-placed.least) all
-    (subst (λ (n : ℕ). IsLeastWith old n (take c.loop-placed.placed-index out) c.args.least c.loop-placed.least) c.loop-placed.auto.block c.loop-placed.invariant.least)
+    record {
+      least = subst (λ xs. IsLeastWith old (length c.args.block.now) xs c.args.least c.loop-placed.least) all
+          (subst (λ (n : ℕ). IsLeastWith old n (take c.loop-placed.placed-index out) c.args.least c.loop-placed.least) c.loop-placed.auto.block c.loop-placed.invariant.least);
+      full = search rules;
+    }

@@ -1,4 +1,4 @@
-use Rattle.std.proofs.Common.{◌≡◌, ◌++◌, ◌∙◌, ℕ, List, None, sym, ap, subst, arith, length}
+use Rattle.std.proofs.Common.{◌≡◌, ◌++◌, ◌∙◌, ℕ, List, None, sym, ap, subst, arith, length, rules}
 use Rattle.std.proofs.lemmas.List.{length-replicate}
 use Rattle.hash_tree.specs.Building.{PlacedRecord, BuilderRecord, pushed, last_completed}
 use Rattle.hash_tree.proofs.lemmas.BuilderLemmas.{left-pushed}
@@ -15,23 +15,29 @@ loop-run-init g c =
     let hash_dev = g.H.BlockDev.state c.args.hash_dev.now in
     subst (λ (b : BuilderRecord). IsComparing s c.args.salt.now data_dev hash_dev data_dev hash_dev b None) (sym c.in_ok-builder.ensures.value) (comparing-none s c.args.salt.now data_dev hash_dev)
 
-pub take_run-requires-clause-ready : goal.take_run-requires-clause-ready
-take_run-requires-clause-ready g c = ready-taken c.args.shape.now c.args.salt.now _ _ c.loop-run.builder c.loop-run.invariant.taken
+pub take_run-requires : goal.take_run-requires
+take_run-requires g c =
+    let taken = c.loop-run.invariant.taken in
+    let left = left-taken c.args.shape.now c.args.salt.now _ _ c.loop-run.builder taken in
+    record {
+      ready = ready-taken c.args.shape.now c.args.salt.now _ _ c.loop-run.builder taken;
+      left = (omega (arith, c.left.ensures, c.loop-run-test.true), omega (arith, left));
+      run = search rules;
+      room = search rules;
+    }
 
-pub take_run-requires-clause-left : goal.take_run-requires-clause-left
-take_run-requires-clause-left g c =
-    let left = left-taken c.args.shape.now c.args.salt.now _ _ c.loop-run.builder c.loop-run.invariant.taken in
-    (omega (arith, c.left.ensures, c.loop-run-test.true), omega (arith, left))
-
-pub compare_blocks-requires-clause-inside : goal.compare_blocks-requires-clause-inside
-compare_blocks-requires-clause-inside g c =
+pub compare_blocks-requires : goal.compare_blocks-requires
+compare_blocks-requires g c =
     let s = c.args.shape.now in
     let here = c.loop-run.invariant in
     let size : length c.loop-run.block ≡ s.hash_block =
     c.loop-run.auto.block ∙ ap length (c.as_mut_slice-block.ensures.value ∙ c.in_ok-block_memory.ensures) ∙ length-replicate {A = ℕ} c.hash_block.result 0 ∙ c.hash_block.ensures.value in
-    lies-on s c.hash_block.ensures.valid c.requires.start (g.H.BlockDev.state c.loop-run.hash_dev) (omega (arith, c.requires.tree_room, here.read.read.same.size)) (length c.loop-run.block) size
-    c.deref.result.now c.in_ok-out.out.items c.deref.ensures.value
-    (out-inside s c.args.salt.now _ _ c.loop-run.builder here.taken _ _ c.in_ok-out.out.items c.in_ok-out.ensures.taken c.hash_block.ensures.valid)
+    record {
+      size = rw size c.hash_block.ensures.valid.hash_size;
+      inside = lies-on s c.hash_block.ensures.valid c.requires.start (g.H.BlockDev.state c.loop-run.hash_dev) (omega (arith, c.requires.tree_room, here.read.read.same.size)) (length c.loop-run.block) size
+          c.deref.result.now c.in_ok-out.out.items c.deref.ensures.value
+          (out-inside s c.args.salt.now _ _ c.loop-run.builder here.taken _ _ c.in_ok-out.out.items c.in_ok-out.ensures.taken c.hash_block.ensures.valid);
+    }
 
 pub loop-run-smaller : goal.loop-run-smaller
 loop-run-smaller g c =
@@ -48,19 +54,22 @@ loop-run-preserved g c =
     let data' = g.D.BlockDev.state c.loop-run.data_dev in
     let data'' = g.D.BlockDev.state c.take_run.new.device in
     comparing-then s c.args.salt.now (g.D.BlockDev.state c.args.data_dev.now) (g.H.BlockDev.state c.args.hash_dev.now) data' (g.H.BlockDev.state c.loop-run.hash_dev) c.loop-run.builder c.loop-run.least here
-    (g.H.BlockDev.state c.compare_blocks.new.hash_dev) (length c.loop-run.block) size c.deref.result.now c.in_ok-least.least c.in_ok-least.ensures.full c.in_ok-least.ensures.least data'' c.take_run.new.builder
+    (g.H.BlockDev.state c.compare_blocks.new.hash_dev) (length c.loop-run.block) size c.deref.result.now c.in_ok-least.least c.in_ok-least.ensures.ok.full c.in_ok-least.ensures.ok.least data'' c.take_run.new.builder
     (subst (λ (ps : List PlacedRecord). IsRunTaken s c.args.salt.now data' data'' c.loop-run.builder c.take_run.new.builder ps) (sym c.deref.ensures.value) c.in_ok-out.ensures.taken)
 
-pub compare_blocks-requires-2-clause-inside : goal.compare_blocks-requires-2-clause-inside
-compare_blocks-requires-2-clause-inside g c =
+pub compare_blocks-requires-2 : goal.compare_blocks-requires-2
+compare_blocks-requires-2 g c =
     let s = c.args.shape.now in
     let here = c.loop-run.invariant in
     let size : length c.loop-run.block ≡ s.hash_block =
     c.loop-run.auto.block ∙ ap length (c.as_mut_slice-block.ensures.value ∙ c.in_ok-block_memory.ensures) ∙ length-replicate {A = ℕ} c.hash_block.result 0 ∙ c.hash_block.ensures.value in
     let last : c.deref-2.result.now ≡ last_completed c.loop-run.builder = c.deref-2.ensures.value ∙ c.in_ok-root.ensures.out ∙ ap (λ xs. xs ++ last_completed c.loop-run.builder) c.new-out.ensures.items in
-    lies-on s c.hash_block.ensures.valid c.requires.start (g.H.BlockDev.state c.loop-run.hash_dev) (omega (arith, c.requires.tree_room, here.read.read.same.size)) (length c.loop-run.block) size
-    c.deref-2.result.now (last_completed c.loop-run.builder) last
-    (last-all s c.args.salt.now _ _ c.loop-run.builder here.taken c.hash_block.ensures.valid (omega (arith, c.left.ensures, c.loop-run-test.false)))
+    record {
+      size = rw size c.hash_block.ensures.valid.hash_size;
+      inside = lies-on s c.hash_block.ensures.valid c.requires.start (g.H.BlockDev.state c.loop-run.hash_dev) (omega (arith, c.requires.tree_room, here.read.read.same.size)) (length c.loop-run.block) size
+          c.deref-2.result.now (last_completed c.loop-run.builder) last
+          (last-all s c.args.salt.now _ _ c.loop-run.builder here.taken c.hash_block.ensures.valid (omega (arith, c.left.ensures, c.loop-run-test.false)));
+    }
 
 pub returns-clause-compared : goal.returns-clause-compared
 returns-clause-compared g c =
@@ -70,5 +79,5 @@ returns-clause-compared g c =
     c.loop-run.auto.block ∙ ap length (c.as_mut_slice-block.ensures.value ∙ c.in_ok-block_memory.ensures) ∙ length-replicate {A = ℕ} c.hash_block.result 0 ∙ c.hash_block.ensures.value in
     let last : c.deref-2.result.now ≡ last_completed c.loop-run.builder = c.deref-2.ensures.value ∙ c.in_ok-root.ensures.out ∙ ap (λ xs. xs ++ last_completed c.loop-run.builder) c.new-out.ensures.items in
     compared-all s c.args.salt.now (g.D.BlockDev.state c.args.data_dev.now) (g.H.BlockDev.state c.args.hash_dev.now) (g.D.BlockDev.state c.loop-run.data_dev) (g.H.BlockDev.state c.loop-run.hash_dev) c.loop-run.builder c.loop-run.least here
-    (g.H.BlockDev.state c.compare_blocks-2.new.hash_dev) (length c.loop-run.block) size c.deref-2.result.now c.in_ok-least-2.least c.in_ok-least-2.ensures.full c.in_ok-least-2.ensures.least
+    (g.H.BlockDev.state c.compare_blocks-2.new.hash_dev) (length c.loop-run.block) size c.deref-2.result.now c.in_ok-least-2.least c.in_ok-least-2.ensures.ok.full c.in_ok-least-2.ensures.ok.least
     c.hash_block.ensures.valid c.requires.start (omega (arith, c.left.ensures, c.loop-run-test.false)) last c.in_ok-root.root c.in_ok-root.ensures.root

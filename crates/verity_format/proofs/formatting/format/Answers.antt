@@ -16,32 +16,18 @@ returns-in_err-check_devices-clause-err g c =
     let p = err_from_is_err_and c.from_residual.result c.from_residual.ensures.1 in
     rw (p.1, p.2) (refusal-cause c.args.params (g.D.BlockDev.state c.args.data_dev.now) (g.H.BlockDev.state c.args.hash_dev.now) (g.D.BlockDev.state c.args.data_dev.now) (g.H.BlockDev.state c.args.hash_dev.now) _ (sym c.in_err-check_devices.ensures))
 
-pub write_tree-requires-clause-start : goal.write_tree-requires-clause-start
-write_tree-requires-clause-start g c = ap (λ (t : ShapeRecord). t.start) c.shape-shape.ensures.value
-
-pub write_tree-requires-clause-data_room : goal.write_tree-requires-clause-data_room
-write_tree-requires-clause-data_room g c =
+pub write_tree-requires : goal.write_tree-requires
+write_tree-requires g c =
     let s : SuperRecord = c.args.params in
     let data_dev = g.D.BlockDev.state c.args.data_dev.now in
     let hash_dev = g.H.BlockDev.state c.args.hash_dev.now in
     let fits = fits-from_none s data_dev hash_dev (sym c.in_ok-check_devices.ensures) in
-    omega (arith, fits.0, ap data_sectors c.shape-shape.ensures.value)
-
-pub write_tree-requires-clause-tree_room : goal.write_tree-requires-clause-tree_room
-write_tree-requires-clause-tree_room g c =
-    let s : SuperRecord = c.args.params in
-    let data_dev = g.D.BlockDev.state c.args.data_dev.now in
-    let hash_dev = g.H.BlockDev.state c.args.hash_dev.now in
-    let fits = fits-from_none s data_dev hash_dev (sym c.in_ok-check_devices.ensures) in
-    omega (arith, fits.1, ap image_sectors c.shape-shape.ensures.value)
-
-pub write_tree-requires-clause-allowed : goal.write_tree-requires-clause-allowed
-write_tree-requires-clause-allowed g c =
-    let s : SuperRecord = c.args.params in
-    let data_dev = g.D.BlockDev.state c.args.data_dev.now in
-    let hash_dev = g.H.BlockDev.state c.args.hash_dev.now in
-    let fits = fits-from_none s data_dev hash_dev (sym c.in_ok-check_devices.ensures) in
-    rw fits.2 refl
+    record {
+      start = ap (λ (t : ShapeRecord). t.start) c.shape-shape.ensures.value;
+      data_room = omega (arith, fits.0, ap data_sectors c.shape-shape.ensures.value);
+      tree_room = omega (arith, fits.1, ap image_sectors c.shape-shape.ensures.value);
+      allowed = rw fits.2 refl;
+    }
 
 pub returns-in_err-root-clause-devices : goal.returns-in_err-root-clause-devices
 returns-in_err-root-clause-devices g c =
@@ -51,8 +37,8 @@ returns-in_err-root-clause-devices g c =
     let fits = fits-from_none s data_dev hash_dev (sym c.in_ok-check_devices.ensures) in
     let data_dev' = g.D.BlockDev.state c.write_tree.new.data_dev in
     let mid = g.H.BlockDev.state c.write_tree.new.hash_dev in
-    let part : IsPartOfTree (shape_of s) hash_dev mid = subst (λ (t : ShapeRecord). IsPartOfTree t hash_dev mid) c.shape-shape.ensures.value c.write_tree.ensures.part in
-    (c.write_tree.ensures.read, part-only_written (shape_of s) hash_dev mid part)
+    let part : IsPartOfTree (shape_of s) hash_dev mid = subst (λ (t : ShapeRecord). IsPartOfTree t hash_dev mid) c.shape-shape.ensures.value c.write_tree.ensures.devices.part in
+    (c.write_tree.ensures.devices.read, part-only_written (shape_of s) hash_dev mid part)
 
 pub returns-in_err-root-clause-err : goal.returns-in_err-root-clause-err
 returns-in_err-root-clause-err g c =
@@ -63,7 +49,7 @@ returns-in_err-root-clause-err g c =
     let fits = fits-from_none s data_dev hash_dev (sym c.in_ok-check_devices.ensures) in
     let data_dev' = g.D.BlockDev.state c.write_tree.new.data_dev in
     let mid = g.H.BlockDev.state c.write_tree.new.hash_dev in
-    let part : IsPartOfTree (shape_of s) hash_dev mid = subst (λ (t : ShapeRecord). IsPartOfTree t hash_dev mid) c.shape-shape.ensures.value c.write_tree.ensures.part in
+    let part : IsPartOfTree (shape_of s) hash_dev mid = subst (λ (t : ShapeRecord). IsPartOfTree t hash_dev mid) c.shape-shape.ensures.value c.write_tree.ensures.devices.part in
     rw (p.1, p.2) (tree-cause s data_dev hash_dev data_dev' mid _ part c.in_err-root.ensures.fault)
 
 pub write-requires-clause-range : goal.write-requires-clause-range
@@ -74,7 +60,7 @@ write-requires-clause-range g c =
     let fits = fits-from_none s data_dev hash_dev (sym c.in_ok-check_devices.ensures) in
     let data_dev' = g.D.BlockDev.state c.write_tree.new.data_dev in
     let mid = g.H.BlockDev.state c.write_tree.new.hash_dev in
-    let part : IsPartOfTree (shape_of s) hash_dev mid = subst (λ (t : ShapeRecord). IsPartOfTree t hash_dev mid) c.shape-shape.ensures.value c.write_tree.ensures.part in
+    let part : IsPartOfTree (shape_of s) hash_dev mid = subst (λ (t : ShapeRecord). IsPartOfTree t hash_dev mid) c.shape-shape.ensures.value c.write_tree.ensures.devices.part in
     let block = block-size s.hash_block c.shape-shape.ensures.valid.hash_size in
     let size : length c.deref.result.now ≡ s.hash_block = ap length c.deref.ensures.value ∙ c.in_ok-first.ensures.size in
     let k : ℕ = length c.deref.result.now / 512 in
@@ -94,7 +80,7 @@ write-requires-clause-allowed g c =
     let fits = fits-from_none s data_dev hash_dev (sym c.in_ok-check_devices.ensures) in
     let data_dev' = g.D.BlockDev.state c.write_tree.new.data_dev in
     let mid = g.H.BlockDev.state c.write_tree.new.hash_dev in
-    let part : IsPartOfTree (shape_of s) hash_dev mid = subst (λ (t : ShapeRecord). IsPartOfTree t hash_dev mid) c.shape-shape.ensures.value c.write_tree.ensures.part in
+    let part : IsPartOfTree (shape_of s) hash_dev mid = subst (λ (t : ShapeRecord). IsPartOfTree t hash_dev mid) c.shape-shape.ensures.value c.write_tree.ensures.devices.part in
     let allowed : IsTrue hash_dev.may_write = rw fits.2 refl in
     subst IsTrue (sym part.same.may_write) allowed
 
@@ -106,14 +92,14 @@ returns-in_err-write-clause-devices g c =
     let fits = fits-from_none s data_dev hash_dev (sym c.in_ok-check_devices.ensures) in
     let data_dev' = g.D.BlockDev.state c.write_tree.new.data_dev in
     let mid = g.H.BlockDev.state c.write_tree.new.hash_dev in
-    let part : IsPartOfTree (shape_of s) hash_dev mid = subst (λ (t : ShapeRecord). IsPartOfTree t hash_dev mid) c.shape-shape.ensures.value c.write_tree.ensures.part in
+    let part : IsPartOfTree (shape_of s) hash_dev mid = subst (λ (t : ShapeRecord). IsPartOfTree t hash_dev mid) c.shape-shape.ensures.value c.write_tree.ensures.devices.part in
     let block = block-size s.hash_block c.shape-shape.ensures.valid.hash_size in
     let size : length c.deref.result.now ≡ s.hash_block = ap length c.deref.ensures.value ∙ c.in_ok-first.ensures.size in
     let k : ℕ = length c.deref.result.now / 512 in
     let count : k ≡ s.hash_block / 512 = ap (λ n. n / 512) size in
     let low : 0 + k ≤ image_sectors (shape_of s) = first-within (shape_of s) k count in
     let hash_dev' = g.H.BlockDev.state c.write.new.self in (
-      c.write_tree.ensures.read,
+      c.write_tree.ensures.devices.read,
       only_written-then (image_sectors (shape_of s)) (part-only_written (shape_of s) hash_dev mid part) (only_written-write 0 k (image_sectors (shape_of s)) c.in_err-write.ensures.moved low),
     )
 
@@ -126,7 +112,7 @@ returns-in_err-write-clause-err g c =
     let fits = fits-from_none s data_dev hash_dev (sym c.in_ok-check_devices.ensures) in
     let data_dev' = g.D.BlockDev.state c.write_tree.new.data_dev in
     let mid = g.H.BlockDev.state c.write_tree.new.hash_dev in
-    let part : IsPartOfTree (shape_of s) hash_dev mid = subst (λ (t : ShapeRecord). IsPartOfTree t hash_dev mid) c.shape-shape.ensures.value c.write_tree.ensures.part in
+    let part : IsPartOfTree (shape_of s) hash_dev mid = subst (λ (t : ShapeRecord). IsPartOfTree t hash_dev mid) c.shape-shape.ensures.value c.write_tree.ensures.devices.part in
     let block = block-size s.hash_block c.shape-shape.ensures.valid.hash_size in
     let size : length c.deref.result.now ≡ s.hash_block = ap length c.deref.ensures.value ∙ c.in_ok-first.ensures.size in
     let k : ℕ = length c.deref.result.now / 512 in
@@ -151,14 +137,14 @@ returns-clause-devices g c =
     let fits = fits-from_none s data_dev hash_dev (sym c.in_ok-check_devices.ensures) in
     let data_dev' = g.D.BlockDev.state c.write_tree.new.data_dev in
     let mid = g.H.BlockDev.state c.write_tree.new.hash_dev in
-    let part : IsPartOfTree (shape_of s) hash_dev mid = subst (λ (t : ShapeRecord). IsPartOfTree t hash_dev mid) c.shape-shape.ensures.value c.write_tree.ensures.part in
+    let part : IsPartOfTree (shape_of s) hash_dev mid = subst (λ (t : ShapeRecord). IsPartOfTree t hash_dev mid) c.shape-shape.ensures.value c.write_tree.ensures.devices.part in
     let block = block-size s.hash_block c.shape-shape.ensures.valid.hash_size in
     let size : length c.deref.result.now ≡ s.hash_block = ap length c.deref.ensures.value ∙ c.in_ok-first.ensures.size in
     let k : ℕ = length c.deref.result.now / 512 in
     let count : k ≡ s.hash_block / 512 = ap (λ n. n / 512) size in
     let low : 0 + k ≤ image_sectors (shape_of s) = first-within (shape_of s) k count in
     let hash_dev' = g.H.BlockDev.state c.write.new.self in (
-      c.write_tree.ensures.read,
+      c.write_tree.ensures.devices.read,
       only_written-then (image_sectors (shape_of s)) (part-only_written (shape_of s) hash_dev mid part) (only_written-write 0 k (image_sectors (shape_of s)) c.in_ok-write.ensures.moved low),
     )
 
@@ -170,7 +156,7 @@ returns-clause-ok g c =
     let fits = fits-from_none s data_dev hash_dev (sym c.in_ok-check_devices.ensures) in
     let data_dev' = g.D.BlockDev.state c.write_tree.new.data_dev in
     let mid = g.H.BlockDev.state c.write_tree.new.hash_dev in
-    let part : IsPartOfTree (shape_of s) hash_dev mid = subst (λ (t : ShapeRecord). IsPartOfTree t hash_dev mid) c.shape-shape.ensures.value c.write_tree.ensures.part in
+    let part : IsPartOfTree (shape_of s) hash_dev mid = subst (λ (t : ShapeRecord). IsPartOfTree t hash_dev mid) c.shape-shape.ensures.value c.write_tree.ensures.devices.part in
     let block = block-size s.hash_block c.shape-shape.ensures.valid.hash_size in
     let size : length c.deref.result.now ≡ s.hash_block = ap length c.deref.ensures.value ∙ c.in_ok-first.ensures.size in
     let k : ℕ = length c.deref.result.now / 512 in

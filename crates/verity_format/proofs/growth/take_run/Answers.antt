@@ -22,7 +22,7 @@ returns-clause-taken g c =
     let size : c.data_block-size.result ≡ s.data_block = c.data_block-size.ensures.value in
     let block = block-size s.data_block c.data_block-size.ensures.valid.data_size in
     let one : 1 ≤ length c.args.run.now / c.data_block-size.result = quotient-some _ _ (omega (arith, size, block.some)) (omega (arith, size, c.requires.run)) in
-    let are = c.in_ok-read_run.ensures.digests in
+    let are = c.in_ok-read_run.ensures.ok.digests in
     record {
       digests = ds;
       sized = subst (All IsDigest) (sym items) are.sized;
@@ -32,7 +32,7 @@ returns-clause-taken g c =
       placed = c.in_ok-push_many.ensures.ok.1 ∙ ap (λ xs. xs ++ completed c.args.builder.now ds) c.new-out.ensures.items;
       read =
           subst (λ (n : ℕ). IsFullRead old (length ds * (n / 512)) new) size
-          (subst (λ (n : ℕ). IsFullRead old (n * (c.data_block-size.result / 512)) new) (c.deref_mut.ensures.len ∙ c.in_ok-digests.ensures.len ∙ sym count) c.in_ok-read_run.ensures.full);
+          (subst (λ (n : ℕ). IsFullRead old (n * (c.data_block-size.result / 512)) new) (kept ∙ c.in_ok-digests.ensures.len ∙ sym count) c.in_ok-read_run.ensures.ok.full);
       over = λ steady.
           items
           ∙ are.over steady

@@ -1,9 +1,10 @@
-use Rattle.std.proofs.Common.{◌≡◌, ◌++◌, ◌∙◌, ℕ, List, sym, ap, subst, arith, length}
+use Rattle.std.proofs.Common.{◌≡◌, ◌++◌, ◌∙◌, ℕ, List, sym, ap, subst, arith, length, rules, IsTrue}
 use Rattle.hash_tree.specs.Building.{PlacedRecord, BuilderRecord, pushed, last_completed}
 use Rattle.hash_tree.proofs.lemmas.BuilderLemmas.{left-pushed}
 use Rattle.verity_format.specs.Growth.{IsRunTaken}
 use Rattle.verity_format.specs.Image.{image_sectors}
 use Rattle.verity_format.specs.Writing.{IsWriting, IsPartWritten, AreWritten}
+use Rattle.verity_format.proofs.DeviceLemmas.{only_read-then}
 use Rattle.verity_format.proofs.GrowthLemmas.{left-taken, ready-taken, out-inside, last-all}
 use Rattle.verity_format.proofs.WritingLemmas.{may-stand, writing-none, part-taken, part-run, part-last, writing-then, written-all}
 use Rattle.verity_format.proofs.writing.write_tree.Goals as goal
@@ -15,20 +16,26 @@ loop-run-init g c =
     let hash_dev = g.H.BlockDev.state c.args.hash_dev.now in
     subst (λ (b : BuilderRecord). IsWriting s c.args.salt.now data_dev hash_dev data_dev hash_dev b) (sym c.in_ok-builder.ensures.value) (writing-none s c.args.salt.now data_dev hash_dev)
 
-pub take_run-requires-clause-ready : goal.take_run-requires-clause-ready
-take_run-requires-clause-ready g c = ready-taken c.args.shape.now c.args.salt.now _ _ c.loop-run.builder c.loop-run.invariant.taken
+pub take_run-requires : goal.take_run-requires
+take_run-requires g c =
+    let taken = c.loop-run.invariant.taken in
+    let left = left-taken c.args.shape.now c.args.salt.now _ _ c.loop-run.builder taken in
+    record {
+      ready = ready-taken c.args.shape.now c.args.salt.now _ _ c.loop-run.builder taken;
+      left = (omega (arith, c.left.ensures, c.loop-run-test.true), omega (arith, left));
+      run = search rules;
+      room = search rules;
+    }
 
-pub take_run-requires-clause-left : goal.take_run-requires-clause-left
-take_run-requires-clause-left g c =
-    let left = left-taken c.args.shape.now c.args.salt.now _ _ c.loop-run.builder c.loop-run.invariant.taken in
-    (omega (arith, c.left.ensures, c.loop-run-test.true), omega (arith, left))
+pub returns-in_err-out-clause-devices : goal.returns-in_err-out-clause-devices
+returns-in_err-out-clause-devices g c =
+    record {
+      read = only_read-then c.loop-run.invariant.taken.read.read c.take_run.ensures.read;
+      part = part-taken c.args.shape.now c.args.salt.now (g.D.BlockDev.state c.args.data_dev.now) (g.H.BlockDev.state c.args.hash_dev.now) (g.D.BlockDev.state c.loop-run.data_dev) (g.H.BlockDev.state c.loop-run.hash_dev) c.loop-run.builder c.loop-run.invariant c.hash_block-size.ensures.valid;
+    }
 
-pub returns-in_err-out-clause-part : goal.returns-in_err-out-clause-part
-returns-in_err-out-clause-part g c =
-    part-taken c.args.shape.now c.args.salt.now (g.D.BlockDev.state c.args.data_dev.now) (g.H.BlockDev.state c.args.hash_dev.now) (g.D.BlockDev.state c.loop-run.data_dev) (g.H.BlockDev.state c.loop-run.hash_dev) c.loop-run.builder c.loop-run.invariant c.hash_block-size.ensures.valid
-
-pub write_blocks-requires-clause-inside : goal.write_blocks-requires-clause-inside
-write_blocks-requires-clause-inside g c =
+pub write_blocks-requires : goal.write_blocks-requires
+write_blocks-requires g c =
     let s = c.args.shape.now in
     let here = c.loop-run.invariant in
     let valid = c.hash_block-size.ensures.valid in
@@ -37,10 +44,14 @@ write_blocks-requires-clause-inside g c =
     let stand = may-stand s valid c.requires.start hash' (omega (arith, c.requires.tree_room, here.part.same.size)) c.hash_block-size.result size
     c.deref.result.now c.in_ok-out.out.items c.deref.ensures.value
     (out-inside s c.args.salt.now _ _ c.loop-run.builder here.taken _ _ c.in_ok-out.out.items c.in_ok-out.ensures.taken valid) in
-    stand.0
+    record {
+      size = rw size valid.hash_size;
+      inside = stand.0;
+      allowed = subst IsTrue (sym here.part.same.may_write) c.requires.allowed;
+    }
 
-pub returns-in_err-write_blocks-clause-part : goal.returns-in_err-write_blocks-clause-part
-returns-in_err-write_blocks-clause-part g c =
+pub returns-in_err-write_blocks-clause-devices : goal.returns-in_err-write_blocks-clause-devices
+returns-in_err-write_blocks-clause-devices g c =
     let s = c.args.shape.now in
     let here = c.loop-run.invariant in
     let valid = c.hash_block-size.ensures.valid in
@@ -56,7 +67,10 @@ returns-in_err-write_blocks-clause-part g c =
     subst (λ (n : ℕ). IsPartWritten n (image_sectors s) (length out) hash' hash'') size (c.write_blocks.ensures.part (image_sectors s) stand.1) in
     let run : IsRunTaken s c.args.salt.now (g.D.BlockDev.state c.loop-run.data_dev) data'' c.loop-run.builder c.take_run.new.builder out =
     subst (λ (ps : List PlacedRecord). IsRunTaken s c.args.salt.now (g.D.BlockDev.state c.loop-run.data_dev) data'' c.loop-run.builder c.take_run.new.builder ps) (sym c.deref.ensures.value) c.in_ok-out.ensures.taken in
-    part-run s c.args.salt.now (g.D.BlockDev.state c.args.data_dev.now) (g.H.BlockDev.state c.args.hash_dev.now) (g.D.BlockDev.state c.loop-run.data_dev) (g.H.BlockDev.state c.loop-run.hash_dev) c.loop-run.builder c.loop-run.invariant hash'' out part valid data'' c.take_run.new.builder run
+    record {
+      read = only_read-then c.loop-run.invariant.taken.read.read c.take_run.ensures.read;
+      part = part-run s c.args.salt.now (g.D.BlockDev.state c.args.data_dev.now) (g.H.BlockDev.state c.args.hash_dev.now) (g.D.BlockDev.state c.loop-run.data_dev) (g.H.BlockDev.state c.loop-run.hash_dev) c.loop-run.builder c.loop-run.invariant hash'' out part valid data'' c.take_run.new.builder run;
+    }
 
 pub loop-run-smaller : goal.loop-run-smaller
 loop-run-smaller g c =
@@ -84,12 +98,15 @@ loop-run-preserved g c =
     let done : AreWritten s.hash_block hash' out hash'' = subst (λ (n : ℕ). AreWritten n hash' out hash'') size c.in_ok-write_blocks.ensures.ok in
     writing-then s c.args.salt.now (g.D.BlockDev.state c.args.data_dev.now) (g.H.BlockDev.state c.args.hash_dev.now) (g.D.BlockDev.state c.loop-run.data_dev) (g.H.BlockDev.state c.loop-run.hash_dev) c.loop-run.builder c.loop-run.invariant hash'' out part done data'' c.take_run.new.builder run
 
-pub returns-in_err-root-clause-part : goal.returns-in_err-root-clause-part
-returns-in_err-root-clause-part g c =
-    part-taken c.args.shape.now c.args.salt.now (g.D.BlockDev.state c.args.data_dev.now) (g.H.BlockDev.state c.args.hash_dev.now) (g.D.BlockDev.state c.loop-run.data_dev) (g.H.BlockDev.state c.loop-run.hash_dev) c.loop-run.builder c.loop-run.invariant c.hash_block-size.ensures.valid
+pub returns-in_err-root-clause-devices : goal.returns-in_err-root-clause-devices
+returns-in_err-root-clause-devices g c =
+    record {
+      read = c.loop-run.invariant.taken.read.read;
+      part = part-taken c.args.shape.now c.args.salt.now (g.D.BlockDev.state c.args.data_dev.now) (g.H.BlockDev.state c.args.hash_dev.now) (g.D.BlockDev.state c.loop-run.data_dev) (g.H.BlockDev.state c.loop-run.hash_dev) c.loop-run.builder c.loop-run.invariant c.hash_block-size.ensures.valid;
+    }
 
-pub write_blocks-requires-2-clause-inside : goal.write_blocks-requires-2-clause-inside
-write_blocks-requires-2-clause-inside g c =
+pub write_blocks-requires-2 : goal.write_blocks-requires-2
+write_blocks-requires-2 g c =
     let s = c.args.shape.now in
     let here = c.loop-run.invariant in
     let valid = c.hash_block-size.ensures.valid in
@@ -100,28 +117,14 @@ write_blocks-requires-2-clause-inside g c =
     let stand = may-stand s valid c.requires.start hash' (omega (arith, c.requires.tree_room, here.part.same.size)) c.hash_block-size.result size
     c.deref-2.result.now (last_completed c.loop-run.builder) last
     (last-all s c.args.salt.now _ _ c.loop-run.builder here.taken valid none) in
-    stand.0
+    record {
+      size = rw size valid.hash_size;
+      inside = stand.0;
+      allowed = subst IsTrue (sym here.part.same.may_write) c.requires.allowed;
+    }
 
-pub returns-in_err-write_blocks-2-clause-part : goal.returns-in_err-write_blocks-2-clause-part
-returns-in_err-write_blocks-2-clause-part g c =
-    let s = c.args.shape.now in
-    let here = c.loop-run.invariant in
-    let valid = c.hash_block-size.ensures.valid in
-    let size : c.hash_block-size.result ≡ s.hash_block = c.hash_block-size.ensures.value in
-    let hash' = g.H.BlockDev.state c.loop-run.hash_dev in
-    let last : c.deref-2.result.now ≡ last_completed c.loop-run.builder = c.deref-2.ensures.value ∙ c.in_ok-root.ensures.out ∙ ap (λ xs. xs ++ last_completed c.loop-run.builder) c.new-out.ensures.items in
-    let none : c.loop-run.builder.left ≡ 0 = omega (arith, c.left.ensures, c.loop-run-test.false) in
-    let stand = may-stand s valid c.requires.start hash' (omega (arith, c.requires.tree_room, here.part.same.size)) c.hash_block-size.result size
-    c.deref-2.result.now (last_completed c.loop-run.builder) last
-    (last-all s c.args.salt.now _ _ c.loop-run.builder here.taken valid none) in
-    let out : List PlacedRecord = c.deref-2.result.now in
-    let hash'' = g.H.BlockDev.state c.write_blocks-2.new.hash_dev in
-    let part : IsPartWritten s.hash_block (image_sectors s) (length out) hash' hash'' =
-    subst (λ (n : ℕ). IsPartWritten n (image_sectors s) (length out) hash' hash'') size (c.write_blocks-2.ensures.part (image_sectors s) stand.1) in
-    part-last s c.args.salt.now (g.D.BlockDev.state c.args.data_dev.now) (g.H.BlockDev.state c.args.hash_dev.now) (g.D.BlockDev.state c.loop-run.data_dev) (g.H.BlockDev.state c.loop-run.hash_dev) c.loop-run.builder c.loop-run.invariant hash'' out part valid none last
-
-pub returns-clause-part : goal.returns-clause-part
-returns-clause-part g c =
+pub returns-in_err-write_blocks-2-clause-devices : goal.returns-in_err-write_blocks-2-clause-devices
+returns-in_err-write_blocks-2-clause-devices g c =
     let s = c.args.shape.now in
     let here = c.loop-run.invariant in
     let valid = c.hash_block-size.ensures.valid in
@@ -136,7 +139,31 @@ returns-clause-part g c =
     let hash'' = g.H.BlockDev.state c.write_blocks-2.new.hash_dev in
     let part : IsPartWritten s.hash_block (image_sectors s) (length out) hash' hash'' =
     subst (λ (n : ℕ). IsPartWritten n (image_sectors s) (length out) hash' hash'') size (c.write_blocks-2.ensures.part (image_sectors s) stand.1) in
-    part-last s c.args.salt.now (g.D.BlockDev.state c.args.data_dev.now) (g.H.BlockDev.state c.args.hash_dev.now) (g.D.BlockDev.state c.loop-run.data_dev) (g.H.BlockDev.state c.loop-run.hash_dev) c.loop-run.builder c.loop-run.invariant hash'' out part valid none last
+    record {
+      read = c.loop-run.invariant.taken.read.read;
+      part = part-last s c.args.salt.now (g.D.BlockDev.state c.args.data_dev.now) (g.H.BlockDev.state c.args.hash_dev.now) (g.D.BlockDev.state c.loop-run.data_dev) (g.H.BlockDev.state c.loop-run.hash_dev) c.loop-run.builder c.loop-run.invariant hash'' out part valid none last;
+    }
+
+pub returns-clause-devices : goal.returns-clause-devices
+returns-clause-devices g c =
+    let s = c.args.shape.now in
+    let here = c.loop-run.invariant in
+    let valid = c.hash_block-size.ensures.valid in
+    let size : c.hash_block-size.result ≡ s.hash_block = c.hash_block-size.ensures.value in
+    let hash' = g.H.BlockDev.state c.loop-run.hash_dev in
+    let last : c.deref-2.result.now ≡ last_completed c.loop-run.builder = c.deref-2.ensures.value ∙ c.in_ok-root.ensures.out ∙ ap (λ xs. xs ++ last_completed c.loop-run.builder) c.new-out.ensures.items in
+    let none : c.loop-run.builder.left ≡ 0 = omega (arith, c.left.ensures, c.loop-run-test.false) in
+    let stand = may-stand s valid c.requires.start hash' (omega (arith, c.requires.tree_room, here.part.same.size)) c.hash_block-size.result size
+    c.deref-2.result.now (last_completed c.loop-run.builder) last
+    (last-all s c.args.salt.now _ _ c.loop-run.builder here.taken valid none) in
+    let out : List PlacedRecord = c.deref-2.result.now in
+    let hash'' = g.H.BlockDev.state c.write_blocks-2.new.hash_dev in
+    let part : IsPartWritten s.hash_block (image_sectors s) (length out) hash' hash'' =
+    subst (λ (n : ℕ). IsPartWritten n (image_sectors s) (length out) hash' hash'') size (c.write_blocks-2.ensures.part (image_sectors s) stand.1) in
+    record {
+      read = c.loop-run.invariant.taken.read.read;
+      part = part-last s c.args.salt.now (g.D.BlockDev.state c.args.data_dev.now) (g.H.BlockDev.state c.args.hash_dev.now) (g.D.BlockDev.state c.loop-run.data_dev) (g.H.BlockDev.state c.loop-run.hash_dev) c.loop-run.builder c.loop-run.invariant hash'' out part valid none last;
+    }
 
 pub returns-clause-written : goal.returns-clause-written
 returns-clause-written g c =

@@ -4,7 +4,7 @@ use Rattle.request_queue.specs.Flights.{reply_to}
 use Rattle.request_queue.specs.Parts.{EachPart}
 use Rattle.request_queue.specs.World.{world, Serves}
 use Rattle.request_queue.proofs.FlightLemmas.{read-set}
-use Rattle.request_queue.proofs.StepLemmas.{step-fails, step-more, step-done, sound-fails, sound-more, sound-done}
+use Rattle.request_queue.proofs.RequestPieceLemmas.{step-fails, step-more, step-done, sound-fails, sound-more, sound-done}
 use Rattle.request_queue.proofs.queue.Queue.step.Goals as goal
 
 still : {n a b : ℕ} → a ≡ b → n ≡ a → 0 < n → 0 < b

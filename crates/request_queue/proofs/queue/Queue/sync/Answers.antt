@@ -1,6 +1,6 @@
 use Rattle.std.proofs.Common.{subst}
 use Rattle.request_queue.specs.World.{world, Syncs}
-use Rattle.request_queue.proofs.StepLemmas.{synced}
+use Rattle.request_queue.proofs.RequestPieceLemmas.{synced}
 use Rattle.request_queue.proofs.queue.Queue.sync.Goals as goal
 
 pub returns : goal.returns

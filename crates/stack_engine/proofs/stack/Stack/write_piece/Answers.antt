@@ -47,6 +47,9 @@ pub returns-clause-steady : goal.returns-clause-steady
 returns-clause-steady g c = (whole g c).steady
 
 -- nothing was written, for want of memory
+pub returns-in-Err-clause-any : goal.returns-in-Err-clause-any
+returns-in-Err-clause-any g c = record { config = refl; whole = λ h. h; moved = AreWritten-none _ _ c.args.self.now.leaves; ends = refl }
+
 pub returns-in-Err-clause-steady : goal.returns-in-Err-clause-steady
 returns-in-Err-clause-steady g c = λ steady. record {
   any = record { config = refl; whole = λ h. h; moved = AreWritten-none _ _ c.args.self.now.leaves; ends = refl };

@@ -1,55 +1,62 @@
-use Rattle.std.proofs.Common.{◌≡◌, ℕ, ◌+◌, ◌-◌, ◌*◌, ◌/◌, ◌%◌, ◌^◌, ◌≤◌, length, take, drop, sym, ap, ◌∙◌, arith}
+use Rattle.std.proofs.Common.{◌≡◌, ℕ, ◌+◌, ◌-◌, ◌*◌, ◌≤◌, length, take, drop, get_or, sym, ap, ◌∙◌, refl, arith}
 use Rattle.std.proofs.Math.Nat.{mul-le-mul_left}
 use borrow.Author.Count.{below_more}
 use Rattle.aes_block.specs.Blocks.{joined}
 use Rattle.aes_block.proofs.lemmas.PartLemmas.{IsWrittenTo-none, IsWrittenTo-all}
 use Rattle.xts_sector.specs.Xts.{encrypted, decrypted}
 use Rattle.xts_sector.specs.Units.{unit, encrypted_units, decrypted_units}
-use Rattle.xts_sector.proofs.lemmas.UnitLemmas.{length-units, length-encrypted_unit, encrypted_units_undone, unit_written}
+use Rattle.xts_sector.proofs.FirstTweakLemmas.{HoldTweaks-none, HoldTweaks-next}
+use Rattle.xts_sector.proofs.lemmas.UnitLemmas.{length-encrypted_unit, encrypted_units_undone, unit_written}
 use Rattle.xts_sector.proofs.xts_key.XtsKey.encrypt_units.Goals as goal
 use Rattle.xts_sector.proofs.xts_key.XtsKey.encrypt_units.Goals.{After-loop-i}
 
 pub loop-i-init : goal.loop-i-init
 loop-i-init c = record {
-  written = IsWrittenTo-none c.args.size (λ k. encrypted c.args.self.now ((c.args.first + k) % 2 ^ 64) (unit c.args.size c.args.units.now k)) c.args.units.now;
+  ready = HoldTweaks-none c.args.self.now c.args.numbers.now _;
+  written = IsWrittenTo-none c.args.size (λ k. encrypted c.args.self.now (get_or c.args.numbers.now k 0) (unit c.args.size c.args.units.now k)) c.args.units.now;
   undone = λ k h. absurd (omega arith);
 }
 
 pub loop-i-preserved : goal.loop-i-preserved
 loop-i-preserved c =
     let key = c.args.self.now in
+    let numbers = c.args.numbers.now in
     let size = c.args.size in
     let old = c.args.units.now in
     let now = c.loop-i.units in
     let i = c.loop-i.i in
     let so_far = c.loop-i.invariant in
-    let number = (c.args.first + i) % 2 ^ 64 in
-    let parts = λ (k : ℕ). encrypted key ((c.args.first + k) % 2 ^ 64) (unit size old k) in
+    let number = get_or numbers i 0 in
+    let parts = λ (k : ℕ). encrypted key (get_or numbers k 0) (unit size old k) in
+    let ready = c.make_ready.ensures so_far.ready in
+    let first = c.tweak_at-first.ensures ∙ ready i refl (omega (arith, c.loop-i-test.true)) in
     let wide : size * i + size - size * i ≡ size = omega arith in
-    let room : size * (i + 1) ≤ size * (length old / size) = mul-le-mul_left size (omega (arith, c.loop-i-test.true)) in
-    let fits : size * i + (size * i + size - size * i) ≤ length now = omega (arith, room, length-units size old c.requires.whole, c.loop-i.auto.units) in
+    let room : size * (i + 1) ≤ size * length numbers = mul-le-mul_left size (omega (arith, c.loop-i-test.true)) in
+    let fits : size * i + (size * i + size - size * i) ≤ length now = omega (arith, room, c.requires.whole, c.loop-i.auto.units) in
     let read : take (size * i + size - size * i) (drop (size * i) now) ≡ unit size old i = ap (λ n. take n (drop (size * i) now)) wide ∙ ap (take size) so_far.written.rest in
-    let is : c.encrypt.new.unit ≡ parts i = c.encrypt.ensures.value ∙ ap (encrypted key number) read in
-    let long = ap length is ∙ length-encrypted_unit key c.args.first size old c.requires.size.1 c.requires.whole i (omega (arith, c.loop-i-test.true)) ∙ sym wide in
-    let undone : decrypted key number (parts i) ≡ unit size old i = ap (decrypted key number) (sym is) ∙ c.encrypt.ensures.inverse ∙ read in
+    let is : c.encrypt_from.new.unit ≡ parts i = c.encrypt_from.ensures.value number first ∙ ap (encrypted key number) read in
+    let long = ap length is ∙ length-encrypted_unit key numbers size old c.requires.size c.requires.whole i (omega (arith, c.loop-i-test.true)) ∙ sym wide in
+    let undone : decrypted key number (parts i) ≡ unit size old i = ap (decrypted key number) (sym is) ∙ c.encrypt_from.ensures.inverse number first ∙ read in
     record {
-      written = unit_written size parts old now c.encrypt.new.unit i (size * i + size - size * i) wide fits is long so_far.written;
-      undone = below_more (λ k. decrypted key ((c.args.first + k) % 2 ^ 64) (parts k) ≡ unit size old k) i so_far.undone undone;
+      ready = λ _. HoldTweaks-next key numbers c.make_ready.new.tweaks i ready;
+      written = unit_written size parts old now c.encrypt_from.new.unit i (size * i + size - size * i) wide fits is long so_far.written;
+      undone = below_more (λ k. decrypted key (get_or numbers k 0) (parts k) ≡ unit size old k) i so_far.undone undone;
     }
 
 -- the units that are left
-units_are : (c : After-loop-i) → c.loop-i.units ≡ encrypted_units c.args.self.now c.args.first c.args.size c.args.units.now
+units_are : (c : After-loop-i) → c.loop-i.units ≡ encrypted_units c.args.self.now c.args.numbers.now c.args.size c.args.units.now
 unfolding encrypted_units
 units_are c =
+    let numbers = c.args.numbers.now in
     let old = c.args.units.now in
-    let parts = λ (k : ℕ). encrypted c.args.self.now ((c.args.first + k) % 2 ^ 64) (unit c.args.size old k) in
-    let done : c.loop-i.i ≡ length old / c.args.size = omega arith in
-    IsWrittenTo-all c.args.size parts old c.loop-i.units c.loop-i.i (c.loop-i.auto.units ∙ length-units c.args.size old c.requires.whole ∙ ap (λ n. c.args.size * n) (sym done)) c.loop-i.invariant.written ∙ ap (joined parts) done
+    let parts = λ (k : ℕ). encrypted c.args.self.now (get_or numbers k 0) (unit c.args.size old k) in
+    let done : c.loop-i.i ≡ length numbers = omega arith in
+    IsWrittenTo-all c.args.size parts old c.loop-i.units c.loop-i.i (c.loop-i.auto.units ∙ c.requires.whole ∙ ap (λ n. c.args.size * n) (sym done)) c.loop-i.invariant.written ∙ ap (joined parts) done
 
 pub returns-clause-value : goal.returns-clause-value
 returns-clause-value c = units_are c
 
 pub returns-clause-inverse : goal.returns-clause-inverse
 returns-clause-inverse c =
-    ap (decrypted_units c.args.self.now c.args.first c.args.size) (units_are c)
-    ∙ encrypted_units_undone c.args.self.now c.args.first c.args.size c.args.units.now c.requires.size.1 c.requires.whole (λ k h. c.loop-i.invariant.undone k (omega arith))
+    ap (decrypted_units c.args.self.now c.args.numbers.now c.args.size) (units_are c)
+    ∙ encrypted_units_undone c.args.self.now c.args.numbers.now c.args.size c.args.units.now c.requires.size c.requires.whole (λ k h. c.loop-i.invariant.undone k (omega arith))

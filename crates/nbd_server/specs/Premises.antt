@@ -1,0 +1,27 @@
+-- What the calls on a client's messages stand on.
+use Rattle.std.specs.Prelude.{◌≡◌, ◌≢◌, ◌<◌, ◌≤◌, ℕ, ◌+◌, ◌*◌, ◌/◌, ◌%◌, ◌^◌, List, length}
+use Rattle.stack_rules.specs.Records.{Configuration}
+use Rattle.nbd_server.specs.Exports.{ExportRecord, IsExport}
+use Rattle.nbd_server.specs.declared.phase.Phase.{Phase}
+use Rattle.nbd_server.specs.declared.phase.Phase.TheVariants.{Over}
+
+-- a message of the export's client may still come
+pub record IsGoing (c : Configuration) (e : ExportRecord) (phase : Phase) : Type 0 where
+  pub export : IsExport c e
+  pub going : phase ≢ Over
+
+-- bytes of the export, whose end has 64 bits
+pub record AreBytesOf (c : Configuration) (e : ExportRecord) (offset count : ℕ) : Type 0 where
+  pub export : IsExport c e
+  pub within : offset + count < 2 ^ 64
+
+-- the bytes of whole sectors, whose numbers are small
+pub record AreSectors (first : ℕ) (bytes : List ℕ) : Type 0 where
+  pub whole : length bytes % 512 ≡ 0
+  pub small : first + length bytes / 512 ≤ 2 ^ 60
+
+-- some bytes have their place in so many sectors
+pub record HavePlace (sectors start count : ℕ) : Type 0 where
+  pub some : 0 < count
+  pub few : sectors < 2 ^ 32
+  pub inside : start + count ≤ 512 * sectors

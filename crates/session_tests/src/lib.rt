@@ -1,0 +1,8 @@
+//! Tests of tables and sessions, over public calls. They stand in a crate of their own, since a crate with tests is proved
+//! twice.
+#![tactic(auto)]
+
+#[cfg(test)]
+mod sessions;
+#[cfg(test)]
+mod tables;

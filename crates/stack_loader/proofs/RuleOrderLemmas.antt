@@ -1,0 +1,97 @@
+-- The rules in their order: the first part that refuses decides.
+use Rattle.std.proofs.Common.{◌≡◌, ◌+◌, ◌-◌, ℕ, List, [], ◌∷◌, ◌++◌, refl, ap, ◌∙◌, false, Option, None, length, map, nat_lt, arith}
+use Rattle.std.specs.Prelude.{flat_map}
+use Rattle.std.specs.List.{enumerate_from, range_with_len}
+use Rattle.std.proofs.lemmas.List.FromFn.{length-map-range_with_len}
+use Rattle.stack_costs.specs.declared.cost.Direction.TheVariants.{Read}
+use Rattle.stack_rules.specs.declared.lower.Lower.{Lower}
+use Rattle.stack_rules.specs.declared.refusal.LoadFault.{LoadFault}
+use Rattle.stack_rules.specs.declared.refusal.LoadFault.TheVariants.{Refused, NoMemory}
+use Rattle.stack_rules.specs.declared.refusal.LoadKind.{LoadKind}
+use Rattle.stack_rules.specs.declared.refusal.LoadKind.TheVariants.{TooMany, TooDeep, CostTooLarge}
+use Rattle.stack_rules.specs.declared.refusal.Refusal.{Refusal}
+use Rattle.stack_rules.specs.Records.{Configuration}
+use Rattle.stack_rules.specs.Names.{mapped}
+use Rattle.stack_rules.specs.Descend.{depth, read_cost}
+use Rattle.stack_rules.specs.Kept.{each_mapped}
+use Rattle.stack_rules.specs.Passing.{IsFirst, above}
+use Rattle.stack_rules.specs.Rules.{first, refuse, rules, is_too_many, unknown_names, cycles, each_device, table_rules, device_rules, depth_rules, cost_rules, most_depth, most_cost}
+use Rattle.stack_costs.specs.Costs.{capped}
+use Rattle.stack_costs.proofs.lemmas.CappedLemmas.{above-capped}
+use Rattle.stack_rules.proofs.lemmas.FirstRefusalLemmas.{first-none, first-some}
+
+pub left : (fault : LoadFault) (xs ys : List (Option Refusal)) → IsFirst fault xs → IsFirst fault (xs ++ ys)
+left (Refused r) xs ys h = first-some xs ys r h
+left NoMemory xs ys h = tt
+
+pub right : (fault : LoadFault) (xs ys : List (Option Refusal)) → first xs ≡ None → IsFirst fault ys → IsFirst fault (xs ++ ys)
+right (Refused r) xs ys none h = first-none xs ys none ∙ h
+right NoMemory xs ys none h = tt
+
+abbrev many_rule : Configuration → List (Option Refusal)
+many_rule c = refuse TooMany 0 0 (is_too_many c.devices) ∷ []
+
+many-none : (c : Configuration) → is_too_many c.devices ≡ false → first (many_rule c) ≡ None
+many-none c few = rw few refl
+
+-- the parts that have passed
+pub record Known (c : Configuration) : Type 0 where
+  pub few : is_too_many c.devices ≡ false
+  pub known : first (unknown_names c) ≡ None
+
+names-none : (c : Configuration) → Known c → first (many_rule c ++ unknown_names c) ≡ None
+names-none c k = first-none (many_rule c) (unknown_names c) (many-none c k.few) ∙ k.known
+
+around-none : (c : Configuration) → Known c → first (cycles c) ≡ None → first (many_rule c ++ unknown_names c ++ cycles c) ≡ None
+around-none c k around = first-none (many_rule c ++ unknown_names c) (cycles c) (names-none c k) ∙ around
+
+lines-none : (c : Configuration) → Known c → first (cycles c) ≡ None → first (each_device c (table_rules c)) ≡ None → first (device_rules c) ≡ None
+lines-none c k around lines = first-none (many_rule c ++ unknown_names c ++ cycles c) (each_device c (table_rules c)) (around-none c k around) ∙ lines
+
+deep-none : (c : Configuration) → Known c → first (cycles c) ≡ None → first (each_device c (table_rules c)) ≡ None → first (depth_rules c) ≡ None → first (device_rules c ++ depth_rules c) ≡ None
+deep-none c k around lines deep = first-none (device_rules c) (depth_rules c) (lines-none c k around lines) ∙ deep
+
+pub unknown-first : (c : Configuration) (fault : LoadFault) → is_too_many c.devices ≡ false → IsFirst fault (unknown_names c) → IsFirst fault (rules c)
+unknown-first c fault few h =
+    left fault (device_rules c ++ depth_rules c) (cost_rules c) (left fault (device_rules c) (depth_rules c)
+    (left fault (many_rule c ++ unknown_names c ++ cycles c) (each_device c (table_rules c)) (left fault (many_rule c ++ unknown_names c) (cycles c) (right fault (many_rule c) (unknown_names c) (many-none c few) h))))
+
+pub cycles-first : (c : Configuration) (fault : LoadFault) → Known c → IsFirst fault (cycles c) → IsFirst fault (rules c)
+cycles-first c fault k h =
+    left fault (device_rules c ++ depth_rules c) (cost_rules c) (left fault (device_rules c) (depth_rules c)
+    (left fault (many_rule c ++ unknown_names c ++ cycles c) (each_device c (table_rules c)) (right fault (many_rule c ++ unknown_names c) (cycles c) (names-none c k) h)))
+
+pub lines-first : (c : Configuration) (fault : LoadFault) → Known c → first (cycles c) ≡ None → IsFirst fault (each_device c (table_rules c)) → IsFirst fault (rules c)
+lines-first c fault k around h =
+    left fault (device_rules c ++ depth_rules c) (cost_rules c) (left fault (device_rules c) (depth_rules c)
+    (right fault (many_rule c ++ unknown_names c ++ cycles c) (each_device c (table_rules c)) (around-none c k around) h))
+
+pub depths-first : (c : Configuration) (fault : LoadFault) → Known c → first (cycles c) ≡ None → first (each_device c (table_rules c)) ≡ None → IsFirst fault (depth_rules c) → IsFirst fault (rules c)
+depths-first c fault k around lines h =
+    left fault (device_rules c ++ depth_rules c) (cost_rules c) (right fault (device_rules c) (depth_rules c) (lines-none c k around lines) h)
+
+pub costs-first : (c : Configuration) (fault : LoadFault) → Known c → first (cycles c) ≡ None → first (each_device c (table_rules c)) ≡ None → first (depth_rules c) ≡ None → IsFirst fault (cost_rules c) → IsFirst fault (rules c)
+costs-first c fault k around lines deep h = right fault (device_rules c ++ depth_rules c) (cost_rules c) (deep-none c k around lines deep) h
+
+pub none-first : (c : Configuration) → Known c → first (cycles c) ≡ None → first (each_device c (table_rules c)) ≡ None → first (depth_rules c) ≡ None → first (cost_rules c) ≡ None → first (rules c) ≡ None
+none-first c k around lines deep cost = first-none (device_rules c ++ depth_rules c) (cost_rules c) (deep-none c k around lines deep) ∙ cost
+
+-- ---- rules on one number for each device
+
+above-from : {X : Type 0} (kind : LoadKind) (most : ℕ) (f : Lower → ℕ) (k : ℕ) (xs : List X)
+    → flat_map (λ p. refuse kind p.0 0 (nat_lt most p.1) ∷ []) (enumerate_from (k + 1) (map (λ d. f (mapped d)) (range_with_len k (length xs))))
+    ≡ flat_map (λ (p : ℕ × X). refuse kind p.0 0 (nat_lt most (f (mapped (p.0 - 1)))) ∷ []) (enumerate_from (k + 1) xs)
+above-from kind most f k [] = refl
+above-from kind most f k (x ∷ xs) =
+    let here : k ≡ (k + 1) - 1 = omega arith in
+    ap (λ n. refuse kind (k + 1) 0 (nat_lt most (f (mapped n))) ∷ flat_map (λ p. refuse kind p.0 0 (nat_lt most p.1) ∷ []) (enumerate_from ((k + 1) + 1) (map (λ d. f (mapped d)) (range_with_len (k + 1) (length xs))))) here
+    ∙ ap (λ rest. refuse kind (k + 1) 0 (nat_lt most (f (mapped ((k + 1) - 1)))) ∷ rest) (above-from kind most f (k + 1) xs)
+
+pub depths-above : (c : Configuration) (values : List ℕ) → values ≡ each_mapped (depth c) (length c.devices) → above TooDeep most_depth values ≡ depth_rules c
+depths-above c values is = ap (above TooDeep most_depth) is ∙ above-from TooDeep most_depth (depth c) 0 c.devices
+
+pub costs-above : (c : Configuration) (values : List ℕ) → values ≡ each_mapped (λ x. capped Read (read_cost c x)) (length c.devices) → above CostTooLarge most_cost values ≡ cost_rules c
+costs-above c values is = ap (above CostTooLarge most_cost) is ∙ above-from CostTooLarge most_cost (λ x. capped Read (read_cost c x)) 0 c.devices ∙ above-capped (read_cost c) (enumerate_from 1 c.devices)
+
+pub length-values : (f : Lower → ℕ) (n : ℕ) (values : List ℕ) → values ≡ each_mapped f n → length values ≡ n
+length-values f n values is = ap length is ∙ length-map-range_with_len (λ d. f (mapped d)) 0 n
