@@ -6,8 +6,8 @@
 
 Each public call has a row, and each row a call: a row names the call's file, its refusals as the signature has them, and the
 clauses and tests that say when each comes and what it leaves. The files, clauses and tests stand there. A function of a
-module `laws` does nothing, and has no row; nor have those of `stack_fixtures`, which tests alone call, in public modules
-too. No call has a handle by which it might not return.
+public module is named behind the module. One of a module `laws` does nothing, and has no row; nor have those of
+`stack_fixtures`, which tests alone call. No call has a handle by which it might not return.
 """
 import glob
 import os
@@ -73,6 +73,13 @@ def exported(crate):
     return found
 
 
+def open_modules(crate):
+    """The modules whose public functions are called by the module's name."""
+    if os.path.basename(crate) == "stack_fixtures":
+        return set()
+    return set(re.findall(r"^pub mod (\w+);", text_of(f"{crate}/src/lib.rt"), re.M)) - {"laws"}
+
+
 def functions(path):
     """The functions of a file that may be public: their owner's kind and name, whether they are `pub`, and the call."""
     kind, owner, call, is_head = "", "", None, False
@@ -108,7 +115,7 @@ def functions(path):
 
 def calls_of(crate):
     """The public calls of a crate, by their names."""
-    names, found = exported(crate), {}
+    names, modules, found = exported(crate), open_modules(crate), {}
     for file in sorted(glob.glob(f"{TOP}/{crate}/src/**/*.rt", recursive=True)):
         path = os.path.relpath(file, TOP)
         module = re.sub(r".*/src/|\.rt$", "", path)
@@ -117,6 +124,8 @@ def calls_of(crate):
                 found[f"{owner}::{call.name}"] = call
             elif not owner and is_public and names.get(call.name) == module:
                 found[call.name] = call
+            elif not owner and is_public and module in modules:
+                found[f"{module}::{call.name}"] = call
     return found
 
 

@@ -1,10 +1,10 @@
 -- What a gate carries, by what its inputs carry.
-use Rattle.std.proofs.Common.{ℕ, ◌+◌, ◌-◌, ◌%◌, ◌^◌, ◌<◌, List, slice_index, min, bit_and, bit_xor, sym, ap, ◌∙◌}
+use Rattle.std.proofs.Common.{ℕ, ◌+◌, ◌-◌, ◌%◌, ◌^◌, ◌<◌, List, slice_index, min, max, bit_and, bit_or, bit_xor, sym, ap, ◌∙◌}
 use Rattle.std.specs.Int.{bit_at}
 use Rattle.std.specs.Prelude.{replicate}
 use Rattle.std.specs.Simd.Lanes.{zip2}
 use Rattle.std.proofs.lemmas.Simd.{length-replicate, get_or-replicate}
-use Rattle.std.proofs.lemmas.Nat.Bits.{bit_at_and, bit_at_xor, bit_at_ones}
+use Rattle.std.proofs.lemmas.Nat.Bits.{bit_at_and, bit_at_or, bit_at_xor, bit_at_ones}
 use Rattle.aes_lanes.specs.Circuit.{Carries}
 use Rattle.aes_lanes.proofs.LaneLemmas.{length-zipped, slice_index-zipped}
 
@@ -29,6 +29,17 @@ module _ {p b v : ℕ} (lane : p < 32) where
         ∙ ap (λ n. min n (bit_at (slice_index y p) b)) left.bit
         ∙ ap (λ n. min (bit_at s v) n) right.bit
         ∙ sym (bit_at_and s t v);
+  }
+
+  pub Carries-or : {x y : List ℕ} {s t : ℕ} → Carries p b v x s → Carries p b v y t → Carries p b v (zip2 bit_or x y) (bit_or s t)
+  Carries-or {x} {y} {s} {t} left right = record {
+    len = length-zipped bit_or x y left.len right.len;
+    bit =
+        ap (λ n. bit_at n b) (slice_index-zipped bit_or x y left.len right.len p lane)
+        ∙ bit_at_or (slice_index x p) (slice_index y p) b
+        ∙ ap (λ n. max n (bit_at (slice_index y p) b)) left.bit
+        ∙ ap (λ n. max (bit_at s v) n) right.bit
+        ∙ sym (bit_at_or s t v);
   }
 
   -- all bits set

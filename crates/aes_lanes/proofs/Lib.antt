@@ -2,8 +2,11 @@ mod LaneLemmas
 mod GateLemmas
 mod ExchangeLemmas
 mod PlaneLemmas
+mod ShiftLemmas
+mod ConstantLemmas
 mod CircuitLemmas
 mod MoveLemmas
 mod VectorLemmas
 mod BlocksLemmas
 mod UnmixLemmas
+mod KeyLemmas

@@ -6,8 +6,9 @@ use Rattle.aes_block.specs.State.{byte_at}
 use Rattle.aes_block.proofs.lemmas.ByteLemmas.{all_below, same_below}
 use Rattle.aes_block.proofs.lemmas.FieldLemmas.{xtimes-xor}
 use Rattle.std.specs.Int.Bits.{xor_assoc}
-use Rattle.aes_lanes.specs.Planes.{byte_of, block_of, AreMoved, AreSums, lane_below, lane_shifted, lane_unshifted}
+use Rattle.aes_lanes.specs.Planes.{byte_of, block_of, shifted, AreMoved, AreSums, lane_below, lane_shifted, lane_unshifted}
 use Rattle.aes_lanes.specs.Keys.{AreCopies}
+use Rattle.aes_lanes.proofs.ShiftLemmas.{below_four, lane_ahead, lane_ahead_lt, byte_at-ahead, ahead-is}
 use Rattle.aes_lanes.proofs.PlaneLemmas.{byte_of_lt, byte_of-moved, byte_of-sums, lane_lt, byte_at-block_of, block_of-is}
 
 -- ---- ShiftRows
@@ -54,30 +55,38 @@ mixed_byte-is a b c d ha hb =
     ap (λ x. bit_xor (bit_xor x b) (bit_xor c d)) linear
     ∙ ap (λ x. bit_xor x (bit_xor c d)) (assoc ∙ ap (λ x. bit_xor (xtimes a) x) three ∙ ap (λ x. bit_xor x (product b 3)) two)
 
--- the byte n rows below
-pub below-at : (q : List (List ℕ)) (n m j r c : ℕ) → r < 4 → c < 4 → m ≡ (r + n) % 4 → byte_of q (lane_below n (16 * (j % 2) + (4 * c + r))) (j / 2) ≡ byte_at (block_of q j) m c
-below-at q n m j r c hr hc row =
-    let at : lane_below n (16 * (j % 2) + (4 * c + r)) ≡ 16 * (j % 2) + (4 * c + m) = omega (arith, row) in
-    ap (λ x. byte_of q x (j / 2)) at ∙ sym (byte_at-block_of q j m c (omega (arith, row)) hc)
+-- the byte n rows below, in a block that is s ShiftRows ahead
+below-lane : (s n m j r c : ℕ) → r < 4 → n < 4 → m ≡ (r + n) % 4 → lane_below n s (lane_ahead s j r c) ≡ lane_ahead s j m c
+below-lane s n m j r c hr hn row =
+    below_four (λ n. m ≡ (r + n) % 4 → lane_below n s (lane_ahead s j r c) ≡ lane_ahead s j m c)
+    (λ row. rw row (below_four (λ r. lane_below 0 s (lane_ahead s j r c) ≡ lane_ahead s j ((r + 0) % 4) c) (omega arith) (omega arith) (omega arith) (omega arith) r hr))
+    (λ row. rw row (below_four (λ r. lane_below 1 s (lane_ahead s j r c) ≡ lane_ahead s j ((r + 1) % 4) c) (omega arith) (omega arith) (omega arith) (omega arith) r hr))
+    (λ row. rw row (below_four (λ r. lane_below 2 s (lane_ahead s j r c) ≡ lane_ahead s j ((r + 2) % 4) c) (omega arith) (omega arith) (omega arith) (omega arith) r hr))
+    (λ row. rw row (below_four (λ r. lane_below 3 s (lane_ahead s j r c) ≡ lane_ahead s j ((r + 3) % 4) c) (omega arith) (omega arith) (omega arith) (omega arith) r hr))
+    n hn row
 
-module _ (q next pairs doubled three others mixed : List (List ℕ)) (moved_1 : AreMoved (lane_below 1) q next) (paired : AreSums q next pairs)
+pub below-at : (q : List (List ℕ)) (s n m j r c : ℕ) → r < 4 → c < 4 → n < 4 → m ≡ (r + n) % 4 → byte_of q (lane_below n s (lane_ahead s j r c)) (j / 2) ≡ byte_at (shifted s (block_of q j)) m c
+below-at q s n m j r c hr hc hn row = ap (λ x. byte_of q x (j / 2)) (below-lane s n m j r c hr hn row) ∙ sym (byte_at-ahead q s j m c (omega (arith, row)) hc)
+
+module _ (s : ℕ) (q next pairs doubled three others mixed : List (List ℕ)) (moved_1 : AreMoved (lane_below 1 s) q next) (paired : AreSums q next pairs)
     (twice : (p b : ℕ) → p < 32 → b < 8 → byte_of doubled p b ≡ xtimes (byte_of pairs p b)) (thrice : AreSums doubled next three)
-    (moved_2 : AreMoved (lane_below 2) pairs others) (summed : AreSums three others mixed) where
-  pub block_of-mixed : (j : ℕ) → j < 16 → block_of mixed j ≡ mix_columns (block_of q j)
+    (moved_2 : AreMoved (lane_below 2 s) pairs others) (summed : AreSums three others mixed) where
+  pub block_of-mixed : (j : ℕ) → j < 16 → shifted s (block_of mixed j) ≡ mix_columns (shifted s (block_of q j))
   unfolding mix_columns
   block_of-mixed j h =
-      let s = block_of q j in
-      block_of-is mixed (λ r c. mixed_byte (byte_at s r c) (byte_at s ((r + 1) % 4) c) (byte_at s ((r + 2) % 4) c) (byte_at s ((r + 3) % 4) c)) j (λ r c hr hc.
-      let p = 16 * (j % 2) + (4 * c + r) in
+      let x = shifted s (block_of q j) in
+      ahead-is mixed (λ r c. mixed_byte (byte_at x r c) (byte_at x ((r + 1) % 4) c) (byte_at x ((r + 2) % 4) c) (byte_at x ((r + 3) % 4) c)) s j (λ r c hr hc.
+      let p = lane_ahead s j r c in
       let b = j / 2 in
-      let p2 = lane_below 2 p in
-      let hp : p < 32 = lane_lt j r c hr hc in
-      let hp2 : p2 < 32 = omega arith in
-      let e0 = sym (byte_at-block_of q j r c hr hc) in
-      let e1 = byte_of-moved q next p (lane_below 1 p) b (λ k hk. moved_1.lanes k p hk hp) ∙ below-at q 1 ((r + 1) % 4) j r c hr hc refl in
-      let e2 = below-at q 2 ((r + 2) % 4) j r c hr hc refl in
-      let further : lane_below 1 p2 ≡ lane_below 3 p = omega arith in
-      let e3 = byte_of-moved q next p2 (lane_below 1 p2) b (λ k hk. moved_1.lanes k p2 hk hp2) ∙ ap (λ x. byte_of q x b) further ∙ below-at q 3 ((r + 3) % 4) j r c hr hc refl in
+      let p2 = lane_below 2 s p in
+      let hp : p < 32 = lane_ahead_lt s j r c hr in
+      let two = below-lane s 2 ((r + 2) % 4) j r c hr (omega arith) refl in
+      let hp2 : p2 < 32 = rw two (lane_ahead_lt s j ((r + 2) % 4) c (omega arith)) in
+      let e0 = sym (byte_at-ahead q s j r c hr hc) in
+      let e1 = byte_of-moved q next p (lane_below 1 s p) b (λ k hk. moved_1.lanes k p hk hp) ∙ below-at q s 1 ((r + 1) % 4) j r c hr hc (omega arith) refl in
+      let e2 = below-at q s 2 ((r + 2) % 4) j r c hr hc (omega arith) refl in
+      let third : (r + 3) % 4 ≡ ((r + 2) % 4 + 1) % 4 = omega arith in
+      let e3 = byte_of-moved q next p2 (lane_below 1 s p2) b (λ k hk. moved_1.lanes k p2 hk hp2) ∙ ap (λ l. byte_of q (lane_below 1 s l) b) two ∙ below-at q s 1 ((r + 3) % 4) j ((r + 2) % 4) c (omega arith) hc (omega arith) third in
       let s1 = byte_of-sums three others mixed p b hp summed in
       let s2 = byte_of-sums doubled next three p b hp thrice in
       let s3 = twice p b hp (omega arith) in
@@ -92,11 +101,11 @@ module _ (q next pairs doubled three others mixed : List (List ℕ)) (moved_1 : 
 
 -- ---- AddRoundKey
 
-pub block_of-added : (q key r : List (List ℕ)) (k : List ℕ) → AreSums q key r → AreCopies k key → (j : ℕ) → j < 16 → block_of r j ≡ add_round_key (block_of q j) k
+pub block_of-added : (q key r : List (List ℕ)) (s : ℕ) (k : List ℕ) → AreSums q key r → AreCopies s k key → (j : ℕ) → j < 16 → shifted s (block_of r j) ≡ add_round_key (shifted s (block_of q j)) k
 unfolding add_round_key
-block_of-added q key r k sums copies j h =
-    block_of-is r (λ r c. bit_xor (byte_at (block_of q j) r c) (byte_at k r c)) j (λ row c hr hc.
-    let p = 16 * (j % 2) + (4 * c + row) in
-    byte_of-sums q key r p (j / 2) (lane_lt j row c hr hc) sums
-    ∙ ap (λ x. bit_xor x (byte_of key p (j / 2))) (sym (byte_at-block_of q j row c hr hc))
-    ∙ ap (bit_xor (byte_at (block_of q j) row c)) (sym (byte_at-block_of key j row c hr hc) ∙ ap (λ s. byte_at s row c) (copies.blocks j h)))
+block_of-added q key r s k sums copies j h =
+    ahead-is r (λ r c. bit_xor (byte_at (shifted s (block_of q j)) r c) (byte_at k r c)) s j (λ row c hr hc.
+    let p = lane_ahead s j row c in
+    byte_of-sums q key r p (j / 2) (lane_ahead_lt s j row c hr) sums
+    ∙ ap (λ x. bit_xor x (byte_of key p (j / 2))) (sym (byte_at-ahead q s j row c hr hc))
+    ∙ ap (bit_xor (byte_at (shifted s (block_of q j)) row c)) (sym (byte_at-ahead key s j row c hr hc) ∙ ap (λ b. byte_at b row c) (copies.blocks j h)))

@@ -1,5 +1,5 @@
 -- InvMixColumns by MixColumns of sums.
-use Rattle.std.proofs.Common.{◌≡◌, ℕ, ◌+◌, ◌*◌, ◌/◌, ◌%◌, ◌<◌, true, List, nat_eq, bit_xor, refl, sym, ap, ◌∙◌, arith}
+use Rattle.std.proofs.Common.{◌≡◌, ℕ, ◌+◌, ◌/◌, ◌%◌, ◌<◌, true, List, nat_eq, bit_xor, refl, sym, ap, ◌∙◌, arith}
 use Rattle.std.specs.Int.Bits.{xor_zero_l, xor_zero_r}
 use Rattle.aes_block.specs.Field.{xtimes, product_low, product}
 use Rattle.aes_block.specs.Rounds.{mix_columns, inv_mix_columns, unmixed_byte}
@@ -8,8 +8,9 @@ use Rattle.aes_block.proofs.lemmas.ByteLemmas.{all_below, same_below}
 use Rattle.aes_block.proofs.lemmas.ColumnLemmas.{combined, combined-xor, mixed_is}
 use Rattle.aes_block.proofs.lemmas.FieldLemmas.{xtimes-xor, xtimes_lt, xor_swap, xor_byte}
 use Rattle.aes_block.proofs.lemmas.StateLemmas.{state_of-same}
-use Rattle.aes_lanes.specs.Planes.{byte_of, block_of, AreMoved, AreSums, lane_below}
-use Rattle.aes_lanes.proofs.PlaneLemmas.{byte_of_lt, byte_of-moved, byte_of-sums, lane_lt, byte_at-block_of}
+use Rattle.aes_lanes.specs.Planes.{byte_of, block_of, shifted, AreMoved, AreSums, lane_below}
+use Rattle.aes_lanes.proofs.PlaneLemmas.{byte_of-moved, byte_of-sums}
+use Rattle.aes_lanes.proofs.ShiftLemmas.{lane_ahead, lane_ahead_lt, ahead_lt, byte_at-ahead}
 use Rattle.aes_lanes.proofs.MoveLemmas.{below-at}
 
 -- four times a sum
@@ -96,45 +97,42 @@ unmixed-same : (w x y z a b c d : ℕ) → w ≡ prepared a c → x ≡ prepared
 unfolding unmixed
 unmixed-same w x y z a b c d e0 e1 e2 e3 = cc (e0, e1, e2, e3)
 
-lt_byte : (q : List (List ℕ)) (j r c : ℕ) → r < 4 → c < 4 → byte_at (block_of q j) r c < 256
-lt_byte q j r c hr hc = rw (byte_at-block_of q j r c hr hc) (byte_of_lt q (16 * (j % 2) + (4 * c + r)) (j / 2))
-
-module _ (q others pairs twice four sums mixed : List (List ℕ)) (moved : AreMoved (lane_below 2) q others) (paired : AreSums q others pairs)
+module _ (s : ℕ) (q others pairs twice four sums mixed : List (List ℕ)) (moved : AreMoved (lane_below 2 s) q others) (paired : AreSums q others pairs)
     (doubled : (p b : ℕ) → p < 32 → b < 8 → byte_of twice p b ≡ xtimes (byte_of pairs p b)) (again : (p b : ℕ) → p < 32 → b < 8 → byte_of four p b ≡ xtimes (byte_of twice p b))
-    (summed : AreSums q four sums) (columns : (j : ℕ) → j < 16 → block_of mixed j ≡ mix_columns (block_of sums j)) where
+    (summed : AreSums q four sums) (columns : (j : ℕ) → j < 16 → shifted s (block_of mixed j) ≡ mix_columns (shifted s (block_of sums j))) where
   -- a byte after the first step, where the one two rows below is in row m
-  prepared-at : (j r m c : ℕ) → j < 16 → r < 4 → c < 4 → m ≡ (r + 2) % 4 → byte_at (block_of sums j) r c ≡ prepared (byte_at (block_of q j) r c) (byte_at (block_of q j) m c)
+  prepared-at : (j r m c : ℕ) → j < 16 → r < 4 → c < 4 → m ≡ (r + 2) % 4 → byte_at (shifted s (block_of sums j)) r c ≡ prepared (byte_at (shifted s (block_of q j)) r c) (byte_at (shifted s (block_of q j)) m c)
   unfolding prepared fourfold
   prepared-at j r m c h hr hc row =
-      let p = 16 * (j % 2) + (4 * c + r) in
+      let p = lane_ahead s j r c in
       let b = j / 2 in
-      let hp = lane_lt j r c hr hc in
+      let hp = lane_ahead_lt s j r c hr in
       let hb : b < 8 = omega arith in
-      let here = sym (byte_at-block_of q j r c hr hc) in
-      let there = byte_of-moved q others p (lane_below 2 p) b (λ k hk. moved.lanes k p hk hp) ∙ below-at q 2 m j r c hr hc row in
+      let here = sym (byte_at-ahead q s j r c hr hc) in
+      let there = byte_of-moved q others p (lane_below 2 s p) b (λ k hk. moved.lanes k p hk hp) ∙ below-at q s 2 m j r c hr hc (omega arith) row in
       let pair = byte_of-sums q others pairs p b hp paired in
-      byte_at-block_of sums j r c hr hc
+      byte_at-ahead sums s j r c hr hc
       ∙ byte_of-sums q four sums p b hp summed
       ∙ ap (bit_xor (byte_of q p b)) (again p b hp hb ∙ ap xtimes (doubled p b hp hb ∙ ap xtimes pair))
       ∙ cc (here, there)
 
-  pub block_of-unmixed : (j : ℕ) → j < 16 → block_of mixed j ≡ inv_mix_columns (block_of q j)
+  pub block_of-unmixed : (j : ℕ) → j < 16 → shifted s (block_of mixed j) ≡ inv_mix_columns (shifted s (block_of q j))
   unfolding mix_columns inv_mix_columns
   block_of-unmixed j h =
-      let s = block_of sums j in
-      let t = block_of q j in
+      let x = shifted s (block_of sums j) in
+      let t = shifted s (block_of q j) in
       columns j h
       ∙ state_of-same _ _ (λ r c hr hc.
       let r1 = (r + 1) % 4 in
       let r2 = (r + 2) % 4 in
       let r3 = (r + 3) % 4 in
-      let h0 = lt_byte q j r c hr hc in
-      let h1 = lt_byte q j r1 c (omega arith) hc in
-      let h2 = lt_byte q j r2 c (omega arith) hc in
-      let h3 = lt_byte q j r3 c (omega arith) hc in
+      let h0 = ahead_lt q s j r c hr hc in
+      let h1 = ahead_lt q s j r1 c (omega arith) hc in
+      let h2 = ahead_lt q s j r2 c (omega arith) hc in
+      let h3 = ahead_lt q s j r3 c (omega arith) hc in
       let e0 = prepared-at j r r2 c h hr hc refl in
       let e1 = prepared-at j r1 r3 c h (omega arith) hc (omega arith) in
       let e2 = prepared-at j r2 r c h (omega arith) hc (omega arith) in
       let e3 = prepared-at j r3 r1 c h (omega arith) hc (omega arith) in
-      let m = mixed_is (byte_at s r c) (byte_at s r1 c) (byte_at s r2 c) (byte_at s r3 c) (lt_byte sums j r2 c (omega arith) hc) (lt_byte sums j r3 c (omega arith) hc) in
-      m ∙ unmixed-same (byte_at s r c) (byte_at s r1 c) (byte_at s r2 c) (byte_at s r3 c) (byte_at t r c) (byte_at t r1 c) (byte_at t r2 c) (byte_at t r3 c) e0 e1 e2 e3 ∙ unmixed-is (byte_at t r c) (byte_at t r1 c) (byte_at t r2 c) (byte_at t r3 c) h0 h1 h2 h3)
+      let m = mixed_is (byte_at x r c) (byte_at x r1 c) (byte_at x r2 c) (byte_at x r3 c) (ahead_lt sums s j r2 c (omega arith) hc) (ahead_lt sums s j r3 c (omega arith) hc) in
+      m ∙ unmixed-same (byte_at x r c) (byte_at x r1 c) (byte_at x r2 c) (byte_at x r3 c) (byte_at t r c) (byte_at t r1 c) (byte_at t r2 c) (byte_at t r3 c) e0 e1 e2 e3 ∙ unmixed-is (byte_at t r c) (byte_at t r1 c) (byte_at t r2 c) (byte_at t r3 c) h0 h1 h2 h3)

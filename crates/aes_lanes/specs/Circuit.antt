@@ -1,5 +1,5 @@
 -- The circuit of SubBytes on numbers, bit by bit: five parts, each of the wires before it.
-use Rattle.std.specs.Prelude.{◌≡◌, ℕ, zero, suc, ◌-◌, ◌^◌, List, [], ◌∷◌, length, slice_index, bit_xor, bit_and}
+use Rattle.std.specs.Prelude.{◌≡◌, ℕ, zero, suc, List, [], ◌∷◌, length, slice_index, bit_xor, bit_and, bit_or}
 use Rattle.std.specs.Int.{bit_at}
 use Rattle.aes_lanes.specs.Planes.{plane}
 
@@ -43,11 +43,9 @@ sums t =
     let y11 = bit_xor y20 y9 in
     let y7 = bit_xor x7 y11 in
     let y17 = bit_xor y10 y11 in
-    let y19 = bit_xor y10 y8 in
     let y16 = bit_xor t0 y11 in
-    let y21 = bit_xor y13 y16 in
-    let y18 = bit_xor x0 y16 in
-    x7 ∷ y1 ∷ y2 ∷ y3 ∷ y4 ∷ y5 ∷ y6 ∷ y7 ∷ y8 ∷ y9 ∷ y10 ∷ y11 ∷ y12 ∷ y13 ∷ y14 ∷ y15 ∷ y16 ∷ y17 ∷ y18 ∷ y19 ∷ y20 ∷ y21 ∷ []
+    let y18 = bit_xor y3 y6 in
+    x7 ∷ y1 ∷ y2 ∷ y3 ∷ y4 ∷ y5 ∷ y6 ∷ y7 ∷ y8 ∷ y9 ∷ y10 ∷ y11 ∷ y12 ∷ y13 ∷ y14 ∷ y15 ∷ y16 ∷ y17 ∷ y18 ∷ y20 ∷ []
 
 -- the element of the subfield whose inverse gives the byte's: two products and sums
 unfoldable pub combined : List ℕ → List ℕ
@@ -71,15 +69,13 @@ combined y =
     let y16 = slice_index y 16 in
     let y17 = slice_index y 17 in
     let y18 = slice_index y 18 in
-    let y19 = slice_index y 19 in
-    let y20 = slice_index y 20 in
-    let y21 = slice_index y 21 in
+    let y20 = slice_index y 19 in
     let t2 = bit_and y12 y15 in
     let t3 = bit_and y3 y6 in
     let t4 = bit_xor t3 t2 in
     let t5 = bit_and y4 x7 in
     let t6 = bit_xor t5 t2 in
-    let t7 = bit_and y13 y16 in
+    let t7 = bit_or y13 y16 in
     let t8 = bit_and y5 y1 in
     let t9 = bit_xor t8 t7 in
     let t10 = bit_and y2 y7 in
@@ -87,17 +83,15 @@ combined y =
     let t12 = bit_and y9 y11 in
     let t13 = bit_and y14 y17 in
     let t14 = bit_xor t13 t12 in
-    let t15 = bit_and y8 y10 in
+    let t15 = bit_or y8 y10 in
     let t16 = bit_xor t15 t12 in
     let t17 = bit_xor t4 t14 in
     let t18 = bit_xor t6 t16 in
     let t19 = bit_xor t9 t14 in
     let t20 = bit_xor t11 t16 in
     let t21 = bit_xor t17 y20 in
-    let t22 = bit_xor t18 y19 in
-    let t23 = bit_xor t19 y21 in
     let t24 = bit_xor t20 y18 in
-    t21 ∷ t22 ∷ t23 ∷ t24 ∷ []
+    t21 ∷ t18 ∷ t19 ∷ t24 ∷ []
 
 -- the inverse in the subfield of 16 elements, and the sums of its bits
 unfoldable pub inverse : List ℕ → List ℕ
@@ -106,27 +100,25 @@ inverse t =
     let t22 = slice_index t 1 in
     let t23 = slice_index t 2 in
     let t24 = slice_index t 3 in
-    let t25 = bit_xor t21 t22 in
-    let t26 = bit_and t21 t23 in
-    let t27 = bit_xor t24 t26 in
-    let t28 = bit_and t25 t27 in
-    let t29 = bit_xor t28 t22 in
-    let t30 = bit_xor t23 t24 in
-    let t31 = bit_xor t22 t26 in
-    let t32 = bit_and t31 t30 in
-    let t33 = bit_xor t32 t24 in
-    let t34 = bit_xor t23 t33 in
-    let t35 = bit_xor t27 t33 in
-    let t36 = bit_and t24 t35 in
-    let t37 = bit_xor t36 t34 in
-    let t38 = bit_xor t27 t36 in
-    let t39 = bit_and t29 t38 in
-    let t40 = bit_xor t25 t39 in
-    let t41 = bit_xor t40 t37 in
-    let t42 = bit_xor t29 t33 in
-    let t43 = bit_xor t29 t40 in
+    let t25 = bit_xor t23 t24 in
+    let t26 = bit_and t21 t25 in
+    let t27 = bit_and t22 t25 in
+    let t28 = bit_or t24 t26 in
+    let t33 = bit_xor t27 t28 in
+    let t30 = bit_or t21 t27 in
+    let t31 = bit_and t22 t23 in
+    let t43 = bit_xor t30 t31 in
+    let t32 = bit_xor t23 t33 in
+    let t34 = bit_and t24 t30 in
+    let t37 = bit_or t32 t34 in
     let t44 = bit_xor t33 t37 in
-    let t45 = bit_xor t42 t41 in
+    let t45 = bit_xor t43 t44 in
+    let t35 = bit_and t21 t43 in
+    let t36 = bit_or t22 t26 in
+    let t40 = bit_xor t35 t36 in
+    let t41 = bit_xor t37 t40 in
+    let t29 = bit_xor t43 t40 in
+    let t42 = bit_xor t45 t41 in
     t29 ∷ t33 ∷ t37 ∷ t40 ∷ t41 ∷ t42 ∷ t43 ∷ t44 ∷ t45 ∷ []
 
 -- the products of the inverse's bits and the byte's sums
@@ -179,7 +171,7 @@ products y i =
     let z17 = bit_and t41 y8 in
     z0 ∷ z1 ∷ z2 ∷ z3 ∷ z4 ∷ z5 ∷ z6 ∷ z7 ∷ z8 ∷ z9 ∷ z10 ∷ z11 ∷ z12 ∷ z13 ∷ z14 ∷ z15 ∷ z16 ∷ z17 ∷ []
 
--- the bits of the sums of the products, with those of the constant 0x63
+-- the bits of the sums of the products, without those of the constant 0x63
 unfoldable pub substituted : List ℕ → List ℕ
 substituted z =
     let z0 = slice_index z 0 in
@@ -230,5 +222,4 @@ substituted z =
     let s5 = bit_xor t47 t65 in
     let s1 = bit_xor t64 s3 in
     let s2 = bit_xor t55 t67 in
-    let ones = 2 ^ 256 - 1 in
-    bit_xor s7 ones ∷ bit_xor s6 ones ∷ s5 ∷ s4 ∷ s3 ∷ bit_xor s2 ones ∷ bit_xor s1 ones ∷ s0 ∷ []
+    s7 ∷ s6 ∷ s5 ∷ s4 ∷ s3 ∷ s2 ∷ s1 ∷ s0 ∷ []

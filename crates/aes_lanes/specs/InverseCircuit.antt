@@ -1,21 +1,19 @@
 -- The circuit of InvSubBytes on numbers, bit by bit: its first and its last part.
-use Rattle.std.specs.Prelude.{ℕ, ◌-◌, ◌^◌, List, [], ◌∷◌, slice_index, bit_xor}
+use Rattle.std.specs.Prelude.{ℕ, List, [], ◌∷◌, slice_index, bit_xor}
 
--- the sums that the rest needs, of the bits to which those of the constant 0x63 are added
+-- the sums that the rest needs, of the bits with those of the constant 0x63
 unfoldable pub inverse_sums : List ℕ → List ℕ
 inverse_sums t =
-    let ones = 2 ^ 256 - 1 in
-    let b0 = bit_xor (slice_index t 0) ones in
-    let b1 = bit_xor (slice_index t 1) ones in
+    let b0 = slice_index t 0 in
+    let b1 = slice_index t 1 in
     let b2 = slice_index t 2 in
     let b3 = slice_index t 3 in
     let b4 = slice_index t 4 in
-    let b5 = bit_xor (slice_index t 5) ones in
-    let b6 = bit_xor (slice_index t 6) ones in
+    let b5 = slice_index t 5 in
+    let b6 = slice_index t 6 in
     let b7 = slice_index t 7 in
     let y9 = bit_xor b3 b4 in
     let y5 = bit_xor b4 b6 in
-    let y18 = bit_xor b5 y9 in
     let y8 = bit_xor b6 b7 in
     let y1 = bit_xor b0 y9 in
     let y6 = bit_xor b4 y8 in
@@ -29,14 +27,13 @@ inverse_sums t =
     let y12 = bit_xor y3 y4 in
     let y7 = bit_xor b5 y4 in
     let y16 = bit_xor y1 y7 in
-    let y21 = bit_xor b1 y7 in
     let a0 = bit_xor b2 b7 in
     let y20 = bit_xor y2 a0 in
     let y0 = bit_xor b5 a0 in
     let y11 = bit_xor y9 y20 in
     let y17 = bit_xor y10 y11 in
     let y15 = bit_xor y6 y0 in
-    y0 ∷ y1 ∷ y2 ∷ y3 ∷ y4 ∷ y5 ∷ y6 ∷ y7 ∷ y8 ∷ y9 ∷ y10 ∷ y11 ∷ y12 ∷ y13 ∷ y14 ∷ y15 ∷ y16 ∷ y17 ∷ y18 ∷ y19 ∷ y20 ∷ y21 ∷ []
+    y0 ∷ y1 ∷ y2 ∷ y3 ∷ y4 ∷ y5 ∷ y6 ∷ y7 ∷ y8 ∷ y9 ∷ y10 ∷ y11 ∷ y12 ∷ y13 ∷ y14 ∷ y15 ∷ y16 ∷ y17 ∷ b6 ∷ y20 ∷ []
 
 -- the bits of the sums of the products
 unfoldable pub inverse_substituted : List ℕ → List ℕ

@@ -1,13 +1,14 @@
 -- Round keys as planes.
-use Rattle.std.specs.Prelude.{◌≡◌, ℕ, ◌<◌, ◌≤◌, List, [], ◌∷◌, slice_index_or}
+use Rattle.std.specs.Prelude.{◌≡◌, ℕ, zero, suc, ◌%◌, ◌<◌, ◌≤◌, List, [], ◌∷◌, slice_index_or}
 use Rattle.aes_block.specs.KeyExpansion.{round_key}
 use Rattle.aes_lanes.specs.declared.keys.KeyPlanes.{KeyPlanes}
-use Rattle.aes_lanes.specs.Planes.{ArePlanes, block_of}
+use Rattle.aes_lanes.specs.Constant.{add_constant}
+use Rattle.aes_lanes.specs.Planes.{ArePlanes, block_of, shifted}
 
--- each of the sixteen blocks of these planes is this one
-pub record AreCopies (key : List ℕ) (q : List (List ℕ)) : Type 0 where
+-- each of the sixteen blocks of these planes is this one, s ShiftRows ahead of how it stands
+pub record AreCopies (s : ℕ) (key : List ℕ) (q : List (List ℕ)) : Type 0 where
   pub planes : ArePlanes q
-  pub blocks : (j : ℕ) → j < 16 → block_of q j ≡ key
+  pub blocks : (j : ℕ) → j < 16 → shifted s (block_of q j) ≡ key
 
 -- the planes of a round key's record
 abbrev pub planes_in : KeyPlanes → List (List ℕ)
@@ -20,6 +21,11 @@ no_planes = record { p0 = []; p1 = []; p2 = []; p3 = []; p4 = []; p5 = []; p6 = 
 abbrev pub key_planes : List KeyPlanes → ℕ → List (List ℕ)
 key_planes keys r = planes_in (slice_index_or keys r no_planes)
 
--- the round keys 0 to n of the key schedule w
+-- the round key r as it is kept: with the constant of SubBytes, but for the first
+abbrev pub kept_key : List ℕ → ℕ → List ℕ
+kept_key w zero = round_key w 0
+kept_key w (suc r) = add_constant (round_key w (suc r))
+
+-- the round keys 0 to n of the key schedule w, each as many ShiftRows ahead as the state where it is added; four are none
 abbrev pub HoldKeys : ℕ → List ℕ → List KeyPlanes → Type 0
-HoldKeys n w keys = (r : ℕ) → r ≤ n → AreCopies (round_key w r) (key_planes keys r)
+HoldKeys n w keys = (r : ℕ) → r ≤ n → AreCopies (r % 4) (kept_key w r) (key_planes keys r)

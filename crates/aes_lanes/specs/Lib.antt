@@ -1,5 +1,6 @@
 pub mod Planes
 pub mod Circuit
+pub mod Constant
 pub mod InverseCircuit
 pub mod Keys
 pub mod LanesKey

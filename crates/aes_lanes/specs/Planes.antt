@@ -1,8 +1,9 @@
 -- Sixteen blocks as eight planes of 32 lanes: plane k has bit k of each byte. Byte i of block j stands in lane
 -- 16 * (j % 2) + i, in bit j / 2.
-use Rattle.std.specs.Prelude.{◌≡◌, ℕ, ◌+◌, ◌-◌, ◌*◌, ◌/◌, ◌%◌, ◌^◌, ◌<◌, List, [], length, slice_index, slice_index_or, bit_xor, bit_and}
+use Rattle.std.specs.Prelude.{◌≡◌, ℕ, zero, suc, ◌+◌, ◌-◌, ◌*◌, ◌/◌, ◌%◌, ◌^◌, ◌<◌, List, [], length, slice_index, slice_index_or, bit_xor, bit_and}
 use Rattle.std.specs.Int.{bit_at}
 use Rattle.aes_block.specs.Field.{parities}
+use Rattle.aes_block.specs.Rounds.{shift_rows}
 use Rattle.aes_block.specs.State.{state_of}
 
 abbrev pub plane : List (List ℕ) → ℕ → List ℕ
@@ -28,6 +29,11 @@ byte_of planes p b = parities (λ k. bit_at (lane planes k p) b) 8
 -- block j
 unfoldable pub block_of : List (List ℕ) → ℕ → List ℕ
 block_of planes j = state_of (λ r c. byte_of planes (16 * (j % 2) + (4 * c + r)) (j / 2))
+
+-- a block after n ShiftRows (FIPS 197, 5.1.2)
+unfoldable pub shifted : ℕ → List ℕ → List ℕ
+shifted zero s = s
+shifted (suc n) s = shift_rows (shifted n s)
 
 -- ---- from vectors of bytes to planes and back
 
@@ -67,9 +73,9 @@ pub record AreMoved (from : ℕ → ℕ) (old new : List (List ℕ)) : Type 0 wh
   pub planes : ArePlanes new
   pub lanes : (k p : ℕ) → k < 8 → p < 32 → lane new k p ≡ lane old k (from p)
 
--- the lane of the byte n rows below, in its column
-abbrev pub lane_below : ℕ → ℕ → ℕ
-lane_below n p = 4 * (p / 4) + (p + n) % 4
+-- the lane of the byte that is n rows below in its column, where the block is s ShiftRows ahead of how it stands
+abbrev pub lane_below : ℕ → ℕ → ℕ → ℕ
+lane_below n s p = 16 * (p / 16) + (4 * ((p / 4 + s * n) % 4) + (p + n) % 4)
 
 -- the lane from which ShiftRows takes the byte
 abbrev pub lane_shifted : ℕ → ℕ

@@ -1,23 +1,26 @@
-//! The cipher (FIPS 197, 5.1) of sixteen blocks.
+//! The cipher (FIPS 197, 5.1) of sixteen blocks, and its inverse (5.3).
+//!
+//! After 10 or 14 rounds, two more than a multiple of four, the last two ShiftRows are still to be done.
 
-ghost use Rattle.std.specs.Prelude.{◌≡◌, ℕ, ◌+◌, ◌<◌, ◌≤◌, List, length};
+ghost use Rattle.std.specs.Prelude.{◌≡◌, ℕ, ◌+◌, ◌%◌, ◌≤◌, List, length};
 ghost use Rattle.aes_block.specs.Blocks.{block, joined};
 ghost use Rattle.aes_block.specs.Cipher.{cipher_with, inverse_cipher_with};
 ghost use Rattle.aes_lanes.specs.Keys.{HoldKeys};
 
 use crate::keys::{KeyPlanes, MAX_KEYS};
 use crate::planes::{planes_of, write_blocks};
-use crate::rounds::{add_round_key, inverse_round, last_inverse_round, last_round, round};
+use crate::rounds::{first_inverse_key, inverse_round, last_inverse_round, last_round, round};
+use crate::sums::add_round_key;
 
 /// Enciphers sixteen blocks in place, with round keys 0 to `rounds` as planes.
 pub(crate) fn encrypt_sixteen(keys: &[KeyPlanes; MAX_KEYS], rounds: usize, blocks: &mut [u8])
     requires blocks { length blocks.old ≡ 256 }
-    requires rounds { (0 < rounds) × (rounds + 1 ≤ MAX_KEYS) }
+    requires rounds { (rounds % 4 ≡ 2) × (rounds + 1 ≤ MAX_KEYS) }
     ensures { (w : List ℕ) → HoldKeys rounds w keys.now → blocks.new ≡ joined (λ j. cipher_with rounds w (block blocks.old j)) 16 }
 {
     let mut state = add_round_key(&planes_of(blocks), &keys[0].planes());
     for i in 1..rounds {
-        state = round(&state, &keys[i].planes());
+        state = round(&state, &keys[i].planes(), i % 4);
     }
     let last = last_round(&state, &keys[rounds].planes());
     write_blocks(&last, blocks);
@@ -26,12 +29,12 @@ pub(crate) fn encrypt_sixteen(keys: &[KeyPlanes; MAX_KEYS], rounds: usize, block
 /// Deciphers sixteen blocks in place, with round keys 0 to `rounds` as planes.
 pub(crate) fn decrypt_sixteen(keys: &[KeyPlanes; MAX_KEYS], rounds: usize, blocks: &mut [u8])
     requires blocks { length blocks.old ≡ 256 }
-    requires rounds { (0 < rounds) × (rounds + 1 ≤ MAX_KEYS) }
+    requires rounds { (rounds % 4 ≡ 2) × (rounds + 1 ≤ MAX_KEYS) }
     ensures { (w : List ℕ) → HoldKeys rounds w keys.now → blocks.new ≡ joined (λ j. inverse_cipher_with rounds w (block blocks.old j)) 16 }
 {
-    let mut state = add_round_key(&planes_of(blocks), &keys[rounds].planes());
+    let mut state = first_inverse_key(&planes_of(blocks), &keys[rounds].planes());
     for i in (1..rounds).rev() {
-        state = inverse_round(&state, &keys[i].planes());
+        state = inverse_round(&state, &keys[i].planes(), i % 4);
     }
     let last = last_inverse_round(&state, &keys[0].planes());
     write_blocks(&last, blocks);

@@ -1,19 +1,19 @@
-//! The map of SubBytes (FIPS 197, 5.1.1) as a circuit, that of Boyar and Peralta: the inverse is taken in the subfield of
-//! 16 elements, and the affine map is part of the last sums. A gate works on 256 bytes at once.
+//! The map of SubBytes (FIPS 197, 5.1.1) as a circuit, that of Boyar and Peralta with two ors: the inverse is taken in the subfield of
+//! 16 elements, and the affine map but for its constant is part of the last sums. A gate works on 256 bytes at once.
 
 ghost use Rattle.std.specs.Prelude.{◌≡◌, ℕ, ◌<◌, List};
-ghost use Rattle.aes_lanes.specs.Planes.{ArePlanes, byte_of, block_of};
+ghost use Rattle.aes_lanes.specs.Planes.{ArePlanes, block_of};
 ghost use Rattle.aes_lanes.specs.Circuit.{CarryEach, sums, combined, inverse, products, substituted};
 ghost use Rattle.aes_block.specs.Rounds.{sub_bytes};
-ghost use Rattle.aes_block.specs.Field.{sub_byte};
+ghost use Rattle.aes_lanes.specs.Constant.{add_constant};
 
 use crate::planes::Planes;
 use std::simd::prelude::*;
 
 // The sums of the byte's bits that the rest needs.
 #[inline(always)]
-fn sums(x: &Planes) -> [u8x32; 22]
-    ensures { (p b v : ℕ) (bits : List ℕ) → p < 32 → b < 8 → v < 256 → CarryEach 8 p b v x.now bits → CarryEach 22 p b v result (sums bits) }
+fn sums(x: &Planes) -> [u8x32; 20]
+    ensures { (p b v : ℕ) (bits : List ℕ) → p < 32 → b < 8 → v < 256 → CarryEach 8 p b v x.now bits → CarryEach 20 p b v result (sums bits) }
 {
     let [x7, x6, x5, x4, x3, x2, x1, x0] = *x;
     let y14 = x3 ^ x5;
@@ -35,27 +35,25 @@ fn sums(x: &Planes) -> [u8x32; 22]
     let y11 = y20 ^ y9;
     let y7 = x7 ^ y11;
     let y17 = y10 ^ y11;
-    let y19 = y10 ^ y8;
     let y16 = t0 ^ y11;
-    let y21 = y13 ^ y16;
-    let y18 = x0 ^ y16;
+    let y18 = y3 ^ y6;
     [
-        x7, y1, y2, y3, y4, y5, y6, y7, y8, y9, y10, y11, y12, y13, y14, y15, y16, y17, y18, y19,
-        y20, y21,
+        x7, y1, y2, y3, y4, y5, y6, y7, y8, y9, y10, y11, y12, y13, y14, y15, y16, y17, y18, y20,
     ]
 }
 
-// The element of the subfield whose inverse gives the byte's: two products and sums.
+// The element of the subfield whose inverse gives the byte's: two products and sums. Where a product has the sum of its two
+// factors added, both are one gate, an or.
 #[inline(always)]
-pub(crate) fn combined(sums: &[u8x32; 22]) -> [u8x32; 4]
-    ensures { (p b v : ℕ) (sums_bits : List ℕ) → p < 32 → b < 8 → v < 256 → CarryEach 22 p b v sums.now sums_bits → CarryEach 4 p b v result (combined sums_bits) }
+pub(crate) fn combined(sums: &[u8x32; 20]) -> [u8x32; 4]
+    ensures { (p b v : ℕ) (sums_bits : List ℕ) → p < 32 → b < 8 → v < 256 → CarryEach 20 p b v sums.now sums_bits → CarryEach 4 p b v result (combined sums_bits) }
 {
     let t2 = sums[12] & sums[15];
     let t3 = sums[3] & sums[6];
     let t4 = t3 ^ t2;
     let t5 = sums[4] & sums[0];
     let t6 = t5 ^ t2;
-    let t7 = sums[13] & sums[16];
+    let t7 = sums[13] | sums[16];
     let t8 = sums[5] & sums[1];
     let t9 = t8 ^ t7;
     let t10 = sums[2] & sums[7];
@@ -63,53 +61,49 @@ pub(crate) fn combined(sums: &[u8x32; 22]) -> [u8x32; 4]
     let t12 = sums[9] & sums[11];
     let t13 = sums[14] & sums[17];
     let t14 = t13 ^ t12;
-    let t15 = sums[8] & sums[10];
+    let t15 = sums[8] | sums[10];
     let t16 = t15 ^ t12;
     let t17 = t4 ^ t14;
     let t18 = t6 ^ t16;
     let t19 = t9 ^ t14;
     let t20 = t11 ^ t16;
-    let t21 = t17 ^ sums[20];
-    let t22 = t18 ^ sums[19];
-    let t23 = t19 ^ sums[21];
+    let t21 = t17 ^ sums[19];
     let t24 = t20 ^ sums[18];
-    [t21, t22, t23, t24]
+    [t21, t18, t19, t24]
 }
 
-// The inverse in the subfield of 16 elements, and the sums of its bits.
+// The inverse in the subfield of 16 elements, and the sums of its bits: 19 gates, found by a search.
 #[inline(always)]
 pub(crate) fn inverse(combined: &[u8x32; 4]) -> [u8x32; 9]
     ensures { (p b v : ℕ) (combined_bits : List ℕ) → p < 32 → b < 8 → v < 256 → CarryEach 4 p b v combined.now combined_bits → CarryEach 9 p b v result (inverse combined_bits) }
 {
     let [t21, t22, t23, t24] = *combined;
-    let t25 = t21 ^ t22;
-    let t26 = t21 & t23;
-    let t27 = t24 ^ t26;
-    let t28 = t25 & t27;
-    let t29 = t28 ^ t22;
-    let t30 = t23 ^ t24;
-    let t31 = t22 ^ t26;
-    let t32 = t31 & t30;
-    let t33 = t32 ^ t24;
-    let t34 = t23 ^ t33;
-    let t35 = t27 ^ t33;
-    let t36 = t24 & t35;
-    let t37 = t36 ^ t34;
-    let t38 = t27 ^ t36;
-    let t39 = t29 & t38;
-    let t40 = t25 ^ t39;
-    let t41 = t40 ^ t37;
-    let t42 = t29 ^ t33;
-    let t43 = t29 ^ t40;
+    let t25 = t23 ^ t24;
+    let t26 = t21 & t25;
+    let t27 = t22 & t25;
+    let t28 = t24 | t26;
+    let t33 = t27 ^ t28;
+    let t30 = t21 | t27;
+    let t31 = t22 & t23;
+    let t43 = t30 ^ t31;
+    let t32 = t23 ^ t33;
+    let t34 = t24 & t30;
+    let t37 = t32 | t34;
     let t44 = t33 ^ t37;
-    let t45 = t42 ^ t41;
+    let t45 = t43 ^ t44;
+    let t35 = t21 & t43;
+    let t36 = t22 | t26;
+    let t40 = t35 ^ t36;
+    let t41 = t37 ^ t40;
+    let t29 = t43 ^ t40;
+    let t42 = t45 ^ t41;
     [t29, t33, t37, t40, t41, t42, t43, t44, t45]
 }
 
 // The products of the inverse's bits and the byte's sums.
 #[inline(always)]
-pub(crate) fn products(sums: &[u8x32; 22], inverse: &[u8x32; 9]) -> [u8x32; 18]
-    ensures { (p b v : ℕ) (sums_bits inverse_bits : List ℕ) → p < 32 → b < 8 → v < 256 → CarryEach 22 p b v sums.now sums_bits → CarryEach 9 p b v inverse.now inverse_bits → CarryEach 18 p b v result (products sums_bits inverse_bits) }
+pub(crate) fn products(sums: &[u8x32; 20], inverse: &[u8x32; 9]) -> [u8x32; 18]
+    ensures { (p b v : ℕ) (sums_bits inverse_bits : List ℕ) → p < 32 → b < 8 → v < 256 → CarryEach 20 p b v sums.now sums_bits → CarryEach 9 p b v inverse.now inverse_bits → CarryEach 18 p b v result (products sums_bits inverse_bits) }
 {
     let [t29, t33, t37, t40, t41, t42, t43, t44, t45] = *inverse;
     let z0 = t44 & sums[15];
@@ -135,7 +129,7 @@ pub(crate) fn products(sums: &[u8x32; 22], inverse: &[u8x32; 9]) -> [u8x32; 18]
     ]
 }
 
-// The bits of the sums of the products, with those of the constant 0x63.
+// The bits of the sums of the products, without those of the constant 0x63.
 #[inline(always)]
 fn substituted(products: &[u8x32; 18]) -> Planes
     ensures { (p b v : ℕ) (products_bits : List ℕ) → p < 32 → b < 8 → v < 256 → CarryEach 18 p b v products.now products_bits → CarryEach 8 p b v result (substituted products_bits) }
@@ -170,17 +164,15 @@ fn substituted(products: &[u8x32; 18]) -> Planes
     let s5 = t47 ^ t65;
     let s1 = t64 ^ s3;
     let s2 = t55 ^ t67;
-    let ones = u8x32::splat(0xff);
-    [s7 ^ ones, s6 ^ ones, s5, s4, s3, s2 ^ ones, s1 ^ ones, s0]
+    [s7, s6, s5, s4, s3, s2, s1, s0]
 }
 
-// SubBytes (5.1.1).
+// SubBytes (5.1.1) without its constant, which is added with the round key.
 #[inline(always)]
-pub(crate) fn sub_bytes(q: &Planes) -> Planes
+pub(crate) fn sub_bytes_without_constant(q: &Planes) -> Planes
     requires { ArePlanes q.now }
     ensures planes { ArePlanes result }
-    ensures bytes { (p b : ℕ) → p < 32 → b < 8 → byte_of result p b ≡ sub_byte (byte_of q.now p b) }
-    ensures blocks { (j : ℕ) → j < 16 → block_of result j ≡ sub_bytes (block_of q.now j) }
+    ensures blocks { (j : ℕ) → j < 16 → block_of result j ≡ add_constant (sub_bytes (block_of q.now j)) }
 {
     let sums = sums(q);
     let combined = combined(&sums);

@@ -4,6 +4,7 @@
 ghost use Rattle.std.specs.Prelude.{◌≡◌, ℕ, ◌<◌, List};
 ghost use Rattle.aes_lanes.specs.Planes.{ArePlanes, block_of};
 ghost use Rattle.aes_lanes.specs.Circuit.{CarryEach};
+ghost use Rattle.aes_lanes.specs.Constant.{add_constant};
 ghost use Rattle.aes_lanes.specs.InverseCircuit.{inverse_sums, inverse_substituted};
 ghost use Rattle.aes_block.specs.Rounds.{inv_sub_bytes};
 
@@ -11,20 +12,14 @@ use crate::circuit::{combined, inverse, products};
 use crate::planes::Planes;
 use std::simd::prelude::*;
 
-// The sums that the rest needs, of the bits to which those of the constant 0x63 are added.
+// The sums that the rest needs, of the bits with those of the constant 0x63.
 #[inline(always)]
-fn inverse_sums(x: &Planes) -> [u8x32; 22]
-    ensures { (p b v : ℕ) (bits : List ℕ) → p < 32 → b < 8 → v < 256 → CarryEach 8 p b v x.now bits → CarryEach 22 p b v result (inverse_sums bits) }
+fn inverse_sums(x: &Planes) -> [u8x32; 20]
+    ensures { (p b v : ℕ) (bits : List ℕ) → p < 32 → b < 8 → v < 256 → CarryEach 8 p b v x.now bits → CarryEach 20 p b v result (inverse_sums bits) }
 {
-    let [x0, x1, b2, b3, b4, x5, x6, b7] = *x;
-    let ones = u8x32::splat(0xff);
-    let b0 = x0 ^ ones;
-    let b1 = x1 ^ ones;
-    let b5 = x5 ^ ones;
-    let b6 = x6 ^ ones;
+    let [b0, b1, b2, b3, b4, b5, b6, b7] = *x;
     let y9 = b3 ^ b4;
     let y5 = b4 ^ b6;
-    let y18 = b5 ^ y9;
     let y8 = b6 ^ b7;
     let y1 = b0 ^ y9;
     let y6 = b4 ^ y8;
@@ -38,7 +33,6 @@ fn inverse_sums(x: &Planes) -> [u8x32; 22]
     let y12 = y3 ^ y4;
     let y7 = b5 ^ y4;
     let y16 = y1 ^ y7;
-    let y21 = b1 ^ y7;
     let a0 = b2 ^ b7;
     let y20 = y2 ^ a0;
     let y0 = b5 ^ a0;
@@ -46,8 +40,7 @@ fn inverse_sums(x: &Planes) -> [u8x32; 22]
     let y17 = y10 ^ y11;
     let y15 = y6 ^ y0;
     [
-        y0, y1, y2, y3, y4, y5, y6, y7, y8, y9, y10, y11, y12, y13, y14, y15, y16, y17, y18, y19,
-        y20, y21,
+        y0, y1, y2, y3, y4, y5, y6, y7, y8, y9, y10, y11, y12, y13, y14, y15, y16, y17, b6, y20,
     ]
 }
 
@@ -94,12 +87,12 @@ fn inverse_substituted(products: &[u8x32; 18]) -> Planes
     [s0, s1, s2, s3, s4, s5, s6, s7]
 }
 
-// InvSubBytes (5.3.2).
+// InvSubBytes (5.3.2) of what the constant of SubBytes is added to: here it is added already.
 #[inline(always)]
-pub(crate) fn inv_sub_bytes(q: &Planes) -> Planes
+pub(crate) fn inv_sub_bytes_with_constant(q: &Planes) -> Planes
     requires { ArePlanes q.now }
     ensures planes { ArePlanes result }
-    ensures blocks { (j : ℕ) → j < 16 → block_of result j ≡ inv_sub_bytes (block_of q.now j) }
+    ensures blocks { (j : ℕ) → j < 16 → block_of result j ≡ inv_sub_bytes (add_constant (block_of q.now j)) }
 {
     let sums = inverse_sums(q);
     let combined = combined(&sums);

@@ -1,10 +1,12 @@
 //! Round keys as planes.
 
-ghost use Rattle.std.specs.Prelude.{◌≡◌, ◌+◌, ◌*◌, ◌≤◌, length};
+ghost use Rattle.std.specs.Prelude.{◌≡◌, ◌+◌, ◌*◌, ◌%◌, ◌≤◌, length};
 ghost use Rattle.aes_block.specs.KeyExpansion.{rounds, key_schedule, round_key};
-ghost use Rattle.aes_lanes.specs.Keys.{AreCopies, HoldKeys, planes_in};
+ghost use Rattle.aes_lanes.specs.Keys.{AreCopies, HoldKeys, kept_key, planes_in};
 
 use crate::planes::{Planes, turn};
+use crate::rows::inv_shift_rows;
+use crate::sums::add_constant;
 use aes_block::AesKey;
 use std::simd::prelude::*;
 
@@ -55,7 +57,7 @@ impl KeyPlanes {
 // Sixteen copies of a round key.
 fn copies(schedule: &[u8], round: usize) -> Planes
     requires { 16 * round + 16 ≤ length schedule.now }
-    ensures { AreCopies (round_key schedule.now round) result }
+    ensures { AreCopies 0 (round_key schedule.now round) result }
 {
     let key = u8x16::from_slice(&schedule[16 * round..16 * round + 16]);
     let twice = key.shuffle(
@@ -68,6 +70,24 @@ fn copies(schedule: &[u8], round: usize) -> Planes
     turn(&[twice; 8])
 }
 
+// Those of a round key as it is kept: with the constant of SubBytes, but for the first, and with its rows where a round finds
+// those of its state.
+fn kept_planes(schedule: &[u8], round: usize) -> Planes
+    requires { 16 * round + 16 ≤ length schedule.now }
+    ensures { AreCopies (round % 4) (kept_key schedule.now round) result }
+{
+    let plain = copies(schedule, round);
+    let mut planes = if round == 0 {
+        plain
+    } else {
+        add_constant(&plain)
+    };
+    for _row in 0..round % 4 {
+        planes = inv_shift_rows(&planes);
+    }
+    planes
+}
+
 /// The planes of the round keys 0 to `rounds`.
 pub(crate) fn key_planes(schedule: &[u8], rounds: usize) -> [KeyPlanes; MAX_KEYS]
     requires few { rounds + 1 ≤ MAX_KEYS }
@@ -76,7 +96,7 @@ pub(crate) fn key_planes(schedule: &[u8], rounds: usize) -> [KeyPlanes; MAX_KEYS
 {
     let mut keys = [KeyPlanes::new(&[u8x32::splat(0); 8]); MAX_KEYS];
     for round in 0..rounds + 1 {
-        let planes = copies(schedule, round);
+        let planes = kept_planes(schedule, round);
         keys[round] = KeyPlanes::new(&planes);
     }
     keys

@@ -11,7 +11,7 @@ use Rattle.stack_rules.specs.declared.refusal.ConfigFault.{ConfigFault}
 use Rattle.stack_rules.specs.declared.refusal.ConfigFault.TheVariants as config
 use Rattle.stack_rules.specs.declared.refusal.LoadFault.{LoadFault}
 use Rattle.stack_rules.specs.declared.refusal.LoadFault.TheVariants as load
-use Rattle.stack_engine.specs.declared.fault.IoFault.TheVariants as io
+use Rattle.stack_meaning.specs.declared.fault.IoFault.TheVariants as io
 use Rattle.command_faults.specs.declared.fault.CommandFault.{CommandFault}
 use Rattle.command_faults.specs.declared.fault.CommandFault.TheVariants.{Usage, NoMemory, TooLong, Open, Leaves, Text, Load, Submit, Io, Format, Verify, Differs, Random, Lost, OutputTooSmall, OutputFailed, Session, Service}
 use Rattle.nbd_server.specs.declared.fault.ServiceFault.TheVariants as service

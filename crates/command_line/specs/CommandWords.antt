@@ -9,8 +9,10 @@ use Rattle.dm_table.specs.Names.{is_device}
 use Rattle.dm_table.specs.Numbers.{number, number_if}
 use Rattle.command_line.specs.declared.fault.WordsFault.{WordsFault}
 use Rattle.command_line.specs.declared.fault.WordsFault.TheVariants.{Usage, NoMemory}
-use Rattle.command_line.specs.declared.command_words.Invocation.{Invocation}
-use Rattle.command_line.specs.declared.command_words.Invocation.TheVariants.{Load, Read, Write, Session, Nbd, Scan, Copy, Format, Verify, Dump, Table}
+use Rattle.command_line.specs.declared.invocation.Invocation.{Invocation}
+use Rattle.command_line.specs.declared.invocation.Invocation.TheVariants.{Load, Read, Write, Session, Nbd, Scan, Copy, Image}
+use Rattle.command_line.specs.declared.invocation.ImageInvocation.{ImageInvocation}
+use Rattle.command_line.specs.declared.invocation.ImageInvocation.TheVariants.{Format, Verify, Dump, Table}
 use Rattle.command_line.specs.Bindings.{BindingRecord, binding_of, binding_record}
 
 pub data InvocationRecord : Type 0 where
@@ -150,6 +152,13 @@ invocation_of name cache words =
     if list_any is_option (drop 1 words) then None
     else option_and_then (λ blocks. invocation_at name blocks words) (cache_of cache)
 
+-- what the program's own value says of a command on images
+abbrev pub image_record : ImageInvocation → InvocationRecord
+image_record (Format image hash) = format image.now hash.now
+image_record (Verify image hash root) = verify image.now hash.now root
+image_record (Dump hash) = dump hash.now
+image_record (Table hash root image_name hash_name) = table hash.now root image_name.now hash_name.now
+
 -- what the program's own value says
 abbrev pub invocation_record : Invocation → InvocationRecord
 invocation_record (Load stack bindings) = load stack.now (map binding_record bindings.items)
@@ -159,10 +168,7 @@ invocation_record (Session cache bindings) = session cache (map binding_record b
 invocation_record (Nbd device bindings) = nbd device.cache device.stack.now device.name.now (map binding_record bindings.items)
 invocation_record (Scan stack name bindings) = scan stack.now name.now (map binding_record bindings.items)
 invocation_record (Copy stack name out bindings) = copy stack.now name.now out.now (map binding_record bindings.items)
-invocation_record (Format image hash) = format image.now hash.now
-invocation_record (Verify image hash root) = verify image.now hash.now root
-invocation_record (Dump hash) = dump hash.now
-invocation_record (Table hash root image_name hash_name) = table hash.now root image_name.now hash_name.now
+invocation_record (Image invocation) = image_record invocation
 
 -- the fault is `Usage` with that cause, or memory ran out
 abbrev pub IsUsage : WordsFault → Type 0 → Type 0

@@ -2,110 +2,18 @@
 ghost use Rattle.std.specs.Prelude.{◌≡◌, map, drop, Some, None, IfOk, IfErr, option_map};
 ghost use Rattle.std.specs.List.{list_any};
 ghost use Rattle.command_line.specs.Bindings.{binding_record};
-ghost use Rattle.command_line.specs.CommandWords.{IsUsage, bindings_of, cache_of, copy_of, dump_of, format_of, invocation_at, invocation_of, invocation_record, is_option, load_of, nbd_of, read_of, root_of, scan_of, session_of, table_of, verify_of, write_of};
+ghost use Rattle.command_line.specs.CommandWords.{IsUsage, bindings_of, cache_of, copy_of, invocation_at, invocation_of, invocation_record, is_option, load_of, nbd_of, read_of, scan_of, session_of, write_of};
 
 use crate::bindings::{Binding, binding_of};
 use crate::fault::WordsFault;
-use dm_table::is_device;
+use crate::image_words::{dump_of, format_of, table_of, verify_of};
+use crate::invocation::{Invocation, Sectors, ServedDevice, Transfer};
 use std::alloc::Global;
 use table_reader::number;
 
 const CACHED_BLOCKS: u32 = 64;
 
 const MOST_CACHED_BLOCKS: u64 = 65536;
-
-/// Sectors of a mapped device.
-#[derive(Clone, Copy, Debug, PartialEq, Eq)]
-pub struct Sectors<'a> {
-    pub name: &'a str,
-    pub first: u64,
-    pub count: u64,
-}
-
-/// A file whose bytes are written, and the mapped device to which they go from its sector `first` on.
-#[derive(Clone, Copy, Debug, PartialEq, Eq)]
-pub struct Transfer<'a> {
-    pub name: &'a str,
-    pub first: u64,
-    pub source: &'a str,
-}
-
-/// A mapped device of a stack file, and how many blocks are cached.
-#[derive(Clone, Copy, Debug, PartialEq, Eq)]
-pub struct ServedDevice<'a> {
-    pub cache: u32,
-    pub stack: &'a str,
-    pub name: &'a str,
-}
-
-/// A command with its positional words, and how many blocks are cached.
-#[derive(Debug, Drop)]
-pub enum Invocation<'a> {
-    /// `load STACK BINDING...`
-    Load {
-        stack: &'a str,
-        bindings: Vec<Binding<'a>>,
-    },
-    /// `read [--cache N] STACK NAME FIRST COUNT BINDING...`
-    Read {
-        cache: u32,
-        stack: &'a str,
-        sectors: Sectors<'a>,
-        bindings: Vec<Binding<'a>>,
-    },
-    /// `write [--cache N] STACK NAME FIRST SOURCE BINDING...`
-    Write {
-        cache: u32,
-        stack: &'a str,
-        transfer: Transfer<'a>,
-        bindings: Vec<Binding<'a>>,
-    },
-    /// `session [--cache N] BINDING...`
-    Session {
-        cache: u32,
-        bindings: Vec<Binding<'a>>,
-    },
-    /// `nbd [--cache N] STACK NAME BINDING...`
-    Nbd {
-        device: ServedDevice<'a>,
-        bindings: Vec<Binding<'a>>,
-    },
-    /// `scan STACK NAME BINDING...`
-    Scan {
-        stack: &'a str,
-        name: &'a str,
-        bindings: Vec<Binding<'a>>,
-    },
-    /// `copy STACK NAME OUT BINDING...`
-    Copy {
-        stack: &'a str,
-        name: &'a str,
-        out: &'a str,
-        bindings: Vec<Binding<'a>>,
-    },
-    /// `format [OPTIONS] DATA HASH`
-    Format {
-        data: &'a str,
-        hash: &'a str,
-    },
-    /// `verify DATA HASH ROOT`
-    Verify {
-        data: &'a str,
-        hash: &'a str,
-        root: [u8; 32],
-    },
-    /// `dump HASH`
-    Dump {
-        hash: &'a str,
-    },
-    /// `table HASH ROOT DATANAME HASHNAME`
-    Table {
-        hash: &'a str,
-        root: [u8; 32],
-        data_name: &'a str,
-        hash_name: &'a str,
-    },
-}
 
 /// What a command invokes, by the value of its option `--cache` and its positional words, of which none
 /// behind the first may have the form of an option.
@@ -294,64 +202,6 @@ fn copy_of<'a>(alloc: Global, words: &[&'a str]) -> Result<Invocation<'a>, Words
     }
 }
 
-// `DATA HASH`
-fn format_of<'a>(words: &[&'a str]) -> Result<Invocation<'a>, WordsFault>
-    ensures ok { IfOk result (λ got. format_of (map (λ word. word.now) words.now) ≡ Some (invocation_record got)) }
-    ensures err { IfErr result (λ fault. IsUsage fault (format_of (map (λ word. word.now) words.now) ≡ None)) }
-{
-    match words {
-        [data, hash] => Ok(Invocation::Format { data, hash }),
-        _ => Err(WordsFault::Usage),
-    }
-}
-
-// `DATA HASH ROOT`
-fn verify_of<'a>(words: &[&'a str]) -> Result<Invocation<'a>, WordsFault>
-    ensures ok { IfOk result (λ got. verify_of (map (λ word. word.now) words.now) ≡ Some (invocation_record got)) }
-    ensures err { IfErr result (λ fault. IsUsage fault (verify_of (map (λ word. word.now) words.now) ≡ None)) }
-{
-    let [data, hash, root] = words else {
-        return Err(WordsFault::Usage);
-    };
-    match root_of(root) {
-        Some(root) => Ok(Invocation::Verify { data, hash, root }),
-        None => Err(WordsFault::Usage),
-    }
-}
-
-// `HASH`
-fn dump_of<'a>(words: &[&'a str]) -> Result<Invocation<'a>, WordsFault>
-    ensures ok { IfOk result (λ got. dump_of (map (λ word. word.now) words.now) ≡ Some (invocation_record got)) }
-    ensures err { IfErr result (λ fault. IsUsage fault (dump_of (map (λ word. word.now) words.now) ≡ None)) }
-{
-    match words {
-        [hash] => Ok(Invocation::Dump { hash }),
-        _ => Err(WordsFault::Usage),
-    }
-}
-
-// `HASH ROOT DATANAME HASHNAME`, of which the last two are device arguments of a table line.
-fn table_of<'a>(words: &[&'a str]) -> Result<Invocation<'a>, WordsFault>
-    ensures ok { IfOk result (λ got. table_of (map (λ word. word.now) words.now) ≡ Some (invocation_record got)) }
-    ensures err { IfErr result (λ fault. IsUsage fault (table_of (map (λ word. word.now) words.now) ≡ None)) }
-{
-    let [hash, root, data_name, hash_name] = words else {
-        return Err(WordsFault::Usage);
-    };
-    if !is_device(data_name.as_bytes()) || !is_device(hash_name.as_bytes()) {
-        return Err(WordsFault::Usage);
-    }
-    match root_of(root) {
-        Some(root) => Ok(Invocation::Table {
-            hash,
-            root,
-            data_name,
-            hash_name,
-        }),
-        None => Err(WordsFault::Usage),
-    }
-}
-
 // Whether a word has the form of an option, as `-x`; `-` alone has not.
 fn is_option(word: &str) -> bool
     ensures { result ≡ is_option word.now }
@@ -379,17 +229,6 @@ fn cache_of(word: Option<&str>) -> Option<u32>
         return None;
     }
     Some(blocks as u32)
-}
-
-// A root digest of 64 hexadecimal digits.
-fn root_of(word: &str) -> Option<[u8; 32]>
-    ensures { result ≡ root_of word.now }
-{
-    let mut root = [0u8; 32];
-    match hex::decode_to_slice(word, &mut root) {
-        Ok(()) => Some(root),
-        Err(_) => None,
-    }
 }
 
 // The bindings, if all words are bindings.

@@ -3,10 +3,11 @@ ghost use Rattle.std.specs.Prelude.{◌≡◌, map, string_bytes, Some, IfOk, If
 ghost use Rattle.command_line.specs.CommandLines.{IsNoCommand, invoked};
 ghost use Rattle.command_line.specs.CommandWords.{IsUsage, invocation_record};
 
-use crate::command_words::{Invocation, invocation_of};
+use crate::command_words::invocation_of;
 use crate::fault::WordsFault;
 use crate::grammar::matches_of;
 use crate::image_options::{OptionWords, option_words};
+use crate::invocation::Invocation;
 use std::alloc::Global;
 
 /// A command, and the values of its options on images.

@@ -6,16 +6,16 @@ use Rattle.block_device.specs.Device.{Device}
 use Rattle.stack_rules.specs.declared.lower.Lower.{Lower}
 use Rattle.stack_rules.specs.Names.{device_named, mapped, size}
 use Rattle.stack_rules.specs.Records.{Configuration}
-use Rattle.stack_engine.specs.declared.fault.IoFault.{IoFault}
-use Rattle.stack_engine.specs.declared.fault.IoFault.TheVariants as io
-use Rattle.stack_engine.specs.Found.{FoundRecord}
-use Rattle.stack_engine.specs.Meaning.{said_at}
-use Rattle.stack_engine.specs.Places.{place_of, run_expected}
-use Rattle.stack_engine.specs.Reading.{Gets}
+use Rattle.stack_meaning.specs.declared.fault.IoFault.{IoFault}
+use Rattle.stack_meaning.specs.declared.fault.IoFault.TheVariants as io
+use Rattle.stack_meaning.specs.Found.{FoundRecord}
+use Rattle.stack_meaning.specs.Meaning.{said_at}
+use Rattle.stack_meaning.specs.Places.{place_of, run_expected}
+use Rattle.stack_meaning.specs.Reading.{Gets}
 use Rattle.stack_engine.specs.Stacks.{StackRecord, AnswerRecord}
-use Rattle.stack_engine.proofs.lemmas.FoundLemmas.{HasMore, used-append, said_at-mono}
+use Rattle.stack_meaning.proofs.lemmas.FoundLemmas.{HasMore, used-append, said_at-mono}
 use Rattle.stack_engine.proofs.lemmas.PieceLemmas.{piece_expected, pieces_expected, joined_answers, no-pieces, fault-pieces}
-use Rattle.stack_engine.proofs.lemmas.RunLemmas.{fill_ok, fill_more}
+use Rattle.stack_meaning.proofs.lemmas.RunLemmas.{fill_ok, fill_more}
 use Rattle.request_queue.specs.declared.fault.SubmitFault.TheVariants.{OutOfRange, Length}
 use Rattle.request_queue.specs.declared.range.SectorRange.{SectorRange}
 use Rattle.request_queue.specs.declared.reply.Reply.TheVariants.{Sectors}

@@ -7,18 +7,18 @@ use Rattle.std.proofs.Math.Seq.{take-append-add, take-add}
 use Rattle.stack_rules.specs.Names.{device_named, mapped}
 use Rattle.stack_rules.specs.Descend.{write_cost}
 use Rattle.stack_rules.specs.Records.{Configuration}
-use Rattle.stack_engine.specs.declared.fault.IoFault.{IoFault}
-use Rattle.stack_engine.specs.declared.fault.IoFault.TheVariants as io
-use Rattle.stack_engine.specs.Changes.{reached, AreWritten}
-use Rattle.stack_engine.specs.May.{MayFault}
-use Rattle.stack_engine.specs.Meaning.{said_at}
-use Rattle.stack_engine.specs.Outcomes.{Fault, error_target, LeafSector}
+use Rattle.stack_meaning.specs.declared.fault.IoFault.{IoFault}
+use Rattle.stack_meaning.specs.declared.fault.IoFault.TheVariants as io
+use Rattle.stack_meaning.specs.Changes.{reached, AreWritten}
+use Rattle.stack_meaning.specs.May.{MayFault}
+use Rattle.stack_meaning.specs.Meaning.{said_at}
+use Rattle.stack_meaning.specs.Outcomes.{Fault, error_target, LeafSector}
 use Rattle.stack_engine.specs.Stacks.{StackRecord}
 use Rattle.stack_engine.specs.WritePieces.{piece_reached, AnyWrite, EachWrite, InTurn, WritesInPieces, nothing, next, ends}
-use Rattle.stack_engine.specs.Writing.{MayEnd}
-use Rattle.stack_engine.proofs.lemmas.ChangeLemmas.{reached-first, reached-later, AreWritten-then, AreWritten-more}
-use Rattle.stack_engine.proofs.lemmas.FoundLemmas.{SomeOf-more}
-use Rattle.stack_engine.proofs.lemmas.LeafListLemmas.{failed_later}
+use Rattle.stack_lines.specs.Writing.{MayEnd}
+use Rattle.stack_meaning.proofs.lemmas.ChangeLemmas.{reached-first, reached-later, AreWritten-then, AreWritten-more}
+use Rattle.stack_meaning.proofs.lemmas.FoundLemmas.{SomeOf-more}
+use Rattle.stack_meaning.proofs.lemmas.LeafListLemmas.{failed_later}
 use Rattle.stack_engine.proofs.lemmas.WritePieceLemmas.{write-none}
 use Rattle.request_queue.specs.declared.range.SectorRange.{SectorRange}
 use Rattle.request_queue.specs.declared.reply.Reply.TheVariants.{Written}

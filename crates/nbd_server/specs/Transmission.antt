@@ -1,7 +1,7 @@
 -- The transmission phase: what a request is answered.
 use Rattle.std.specs.Prelude.{◌≡◌, ◌⊎◌, ◌≤◌, ℕ, ◌+◌, ◌-◌, ◌*◌, ◌/◌, ◌%◌, List, [], ◌∷◌, ◌++◌, length, take, drop, Result, Ok, Err, IfOk, Option}
 use Rattle.std.specs.Io.KnownBytes.{Consumes}
-use Rattle.stack_engine.specs.declared.fault.IoFault.{IoFault}
+use Rattle.stack_meaning.specs.declared.fault.IoFault.{IoFault}
 use Rattle.request_queue.specs.Parts.{EachPart}
 use Rattle.request_queue.specs.World.{World, Step, sync}
 use Rattle.nbd_server.specs.Numbers.{bytes32, bytes64}

@@ -1,6 +1,6 @@
 -- Steps of one request up to its last.
 use Rattle.std.proofs.Common.{◌≡◌, ◌≢◌, ◌<◌, ◌≤◌, ℕ, ◌+◌, None, Result, ap, arith}
-use Rattle.stack_engine.specs.declared.fault.IoFault.{IoFault}
+use Rattle.stack_meaning.specs.declared.fault.IoFault.{IoFault}
 use Rattle.request_queue.specs.declared.reply.Progress.TheVariants.{More}
 use Rattle.request_queue.specs.declared.reply.Reply.{Reply}
 use Rattle.request_queue.specs.Parts.{EachPart}

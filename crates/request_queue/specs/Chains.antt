@@ -9,10 +9,10 @@ use Rattle.hash_tree.specs.Tree.{root}
 use Rattle.dm_table.specs.declared.verity.Verity.{Verity}
 use Rattle.stack_rules.specs.Records.{Configuration}
 use Rattle.stack_rules.specs.Trees.{tree_of}
-use Rattle.stack_engine.specs.declared.fault.IoFault.{IoFault}
-use Rattle.stack_engine.specs.Found.{FoundRecord}
+use Rattle.stack_meaning.specs.declared.fault.IoFault.{IoFault}
+use Rattle.stack_meaning.specs.Found.{FoundRecord}
 use Rattle.stack_engine.specs.Laws.{digests_of, IsSha256Collision}
-use Rattle.stack_engine.specs.Walks.{HasVerity}
+use Rattle.stack_lines.specs.Walks.{HasVerity}
 use Rattle.request_queue.specs.declared.reply.Progress.{Progress}
 use Rattle.request_queue.specs.declared.reply.Progress.TheVariants.{More, Done}
 use Rattle.request_queue.specs.declared.reply.Reply.{Reply}

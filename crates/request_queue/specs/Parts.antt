@@ -1,6 +1,6 @@
 -- Parts of requests, each of which one call of the engine answers.
 use Rattle.std.specs.Prelude.{ℕ, ◌-◌, ◌*◌, List, take, drop, Result, Ok, Err}
-use Rattle.stack_engine.specs.declared.fault.IoFault.{IoFault}
+use Rattle.stack_meaning.specs.declared.fault.IoFault.{IoFault}
 use Rattle.stack_engine.specs.Pieces.{AnyPiece, SteadyPiece, EachPiece}
 use Rattle.stack_engine.specs.WritePieces.{AnyWrite, SteadyWrite, EachWrite}
 use Rattle.stack_engine.specs.Stacks.{StackRecord, AnswerRecord}

@@ -1,7 +1,7 @@
 -- Runs: one event after another, each with the world that it leaves.
 use Rattle.std.specs.Prelude.{ℕ, ◌+◌, ◌-◌, ◌*◌, ◌==◌, Bool, false, List, [], ◌∷◌, find, Option, Some, None, Ok, Err, if◌then◌else◌}
 use Rattle.stack_rules.specs.Records.{Configuration}
-use Rattle.stack_engine.specs.Leaves.{reads_of, writes_of}
+use Rattle.stack_meaning.specs.Leaves.{reads_of, writes_of}
 use Rattle.stack_engine.specs.Stacks.{StackRecord}
 use Rattle.request_queue.specs.Flights.{FlightRecord, has_ticket, work_cost}
 use Rattle.request_queue.specs.Parts.{PartRelation}

@@ -2,13 +2,13 @@
 use Rattle.std.specs.Prelude.{◌≡◌, ◌<◌, ℕ, ◌*◌, List, take, Result, Ok, Err}
 use Rattle.stack_rules.specs.Names.{mapped}
 use Rattle.stack_rules.specs.Descend.{read_cost}
-use Rattle.stack_engine.specs.declared.fault.IoFault.{IoFault}
-use Rattle.stack_engine.specs.declared.fault.IoFault.TheVariants as io
-use Rattle.stack_engine.specs.Outcomes.{span}
-use Rattle.stack_engine.specs.Meaning.{sector}
-use Rattle.stack_engine.specs.May.{MayRead, MayFault}
-use Rattle.stack_engine.specs.Leaves.{images_of, AllSteady, AreRead}
-use Rattle.stack_engine.specs.Reading.{Ends, Answers}
+use Rattle.stack_meaning.specs.declared.fault.IoFault.{IoFault}
+use Rattle.stack_meaning.specs.declared.fault.IoFault.TheVariants as io
+use Rattle.stack_meaning.specs.Outcomes.{span}
+use Rattle.stack_meaning.specs.Meaning.{sector}
+use Rattle.stack_meaning.specs.May.{MayRead, MayFault}
+use Rattle.stack_meaning.specs.Leaves.{images_of, AllSteady, AreRead}
+use Rattle.stack_meaning.specs.Reading.{Ends, Answers}
 use Rattle.stack_engine.specs.WritePieces.{WritesInPieces}
 use Rattle.stack_engine.specs.Stacks.{StackRecord, AnswerRecord}
 use Rattle.request_queue.specs.declared.fault.SubmitFault.{SubmitFault}

@@ -8,7 +8,7 @@ use Rattle.stack_rules.specs.declared.refusal.RemoveFault.{RemoveFault}
 use Rattle.stack_rules.specs.Removal.{removal_fault, after_removal}
 use Rattle.stack_rules.specs.Records.{Configuration}
 use Rattle.stack_rules.specs.Rules.{first_refusal, IsLoaded, IsRefusal, after_load}
-use Rattle.stack_engine.specs.declared.fault.IoFault.{IoFault}
+use Rattle.stack_meaning.specs.declared.fault.IoFault.{IoFault}
 use Rattle.stack_engine.specs.Stacks.{StackRecord, AnswerRecord}
 use Rattle.stack_engine.specs.Syncs.{FailsToSync}
 use Rattle.request_queue.specs.declared.fault.Held.{Held}

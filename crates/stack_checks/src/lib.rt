@@ -3,8 +3,10 @@
 
 mod index;
 mod leaves;
+mod ranges;
 mod resolve;
 mod rules;
+mod units;
 
 pub use leaves::leaves_fault;
 pub use resolve::lowers_of;

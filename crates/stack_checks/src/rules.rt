@@ -1,37 +1,20 @@
 // The rules on each line.
-ghost use Rattle.std.specs.Prelude.{◌≡◌, ◌≤◌, ◌∷◌, [], not, ℕ, map, option_map, length, All};
+ghost use Rattle.std.specs.Prelude.{◌≡◌, ◌≤◌, ◌∷◌, [], not, ℕ, option_map, length, All};
 ghost use Rattle.std.specs.List.{list_any};
 ghost use Rattle.dm_table.specs.Grammar.{IsTargetOfGrammar};
 ghost use Rattle.stack_rules.specs.Records.{configuration};
-ghost use Rattle.stack_rules.specs.Names.{size, may_write, names};
+ghost use Rattle.stack_rules.specs.Names.{may_write, names};
 ghost use Rattle.stack_rules.specs.Descend.{most_devices};
 ghost use Rattle.stack_rules.specs.Kept.{AreLowers};
 ghost use Rattle.stack_rules.specs.Passing.{Mean, RowsMean, refusal_at};
 ghost use Rattle.stack_rules.specs.declared.refusal.LoadKind.TheVariants as kinds;
-ghost use Rattle.stack_rules.specs.Rules.{first, refuse, line_rules, cuts_unit, ends_beyond, is_beyond, is_off_unit, is_undivided, is_uncovered, is_tree_beyond, needs_read_only, each_device, table_rules, most_lines};
+ghost use Rattle.stack_rules.specs.Rules.{first, refuse, line_rules, needs_read_only, each_device, table_rules, most_lines};
 
 use crate::leaves::MOST_SECTORS;
-use dm_table::{Base, Line, Target};
-use stack_rules::{
-    DeviceLowers, Leaf, LineLowers, LoadKind, Lower, Planned, Refusal, data_sectors, tree_sectors,
-    unit_sectors,
-};
-use std::slice;
-
-fn size_of(leaves: &[Leaf], devices: &[Planned<'_>], lower: Lower) -> u128
-    ensures { result ≡ size (configuration leaves.now devices.now) lower }
-{
-    match lower {
-        Lower::Leaf(i) => match leaves.get(i as usize) {
-            Some(leaf) => u128::from(leaf.sectors()),
-            None => 0,
-        },
-        Lower::Device(d) => match devices.get(d.0 as usize) {
-            Some(device) => device.size(),
-            None => 0,
-        },
-    }
-}
+use crate::ranges::{is_beyond, is_tree_beyond, is_uncovered};
+use crate::units::part_fault;
+use dm_table::{Line, Target};
+use stack_rules::{DeviceLowers, Leaf, LineLowers, LoadKind, Lower, Planned, Refusal};
 
 fn may_write(leaves: &[Leaf], devices: &[Planned<'_>], lower: Lower) -> bool
     ensures { result ≡ may_write (configuration leaves.now devices.now) lower }
@@ -45,145 +28,6 @@ fn may_write(leaves: &[Leaf], devices: &[Planned<'_>], lower: Lower) -> bool
             Some(device) => device.writable(),
             None => false,
         },
-    }
-}
-
-/// Whether a striped line's length is no multiple of stripes times chunk.
-fn is_undivided(line: &Line) -> bool
-    requires { IsTargetOfGrammar line.now.target }
-    ensures { result ≡ is_undivided line.now.length line.now.target }
-{
-    match &line.target {
-        Target::Striped { chunk, bases } => {
-            let width = bases.as_slice().len() as u128 * u128::from(*chunk);
-            u128::from(line.length) % width != 0
-        }
-        Target::Linear(_) | Target::Zero | Target::Error | Target::Crypt(_) | Target::Verity(_) =>
-            false,
-    }
-}
-
-/// Whether a crypt line's length is no multiple of its unit.
-fn cuts_unit(line: &Line) -> bool
-    ensures { result ≡ cuts_unit line.now.length line.now.target }
-{
-    match &line.target {
-        Target::Crypt(crypt) => line.length % u64::from(unit_sectors(crypt)) != 0,
-        Target::Linear(_)
-        | Target::Striped { .. }
-        | Target::Zero
-        | Target::Error
-        | Target::Verity(_) => false,
-    }
-}
-
-/// Whether the `iv_offset` of a crypt line is no multiple of its unit's sectors.
-fn is_off_unit(target: &Target) -> bool
-    ensures { result ≡ is_off_unit target.now }
-{
-    match target {
-        Target::Crypt(crypt) => crypt.iv_offset % u64::from(unit_sectors(crypt)) != 0,
-        Target::Linear(_)
-        | Target::Striped { .. }
-        | Target::Zero
-        | Target::Error
-        | Target::Verity(_) => false,
-    }
-}
-
-/// The first rule by which a line isn't whole stripes or units.
-fn part_fault(line: &Line) -> Option<LoadKind>
-    requires { IsTargetOfGrammar line.now.target }
-    ensures { (d l : ℕ) → option_map (refusal_at d l) result ≡ first (refuse kinds.StripesDontDivide d l (is_undivided line.now.length line.now.target) ∷ refuse kinds.UnitDoesntDivide d l (cuts_unit line.now.length line.now.target) ∷ refuse kinds.IvOffset d l (is_off_unit line.now.target) ∷ []) }
-{
-    if is_undivided(line) {
-        return Some(LoadKind::StripesDontDivide);
-    }
-    if cuts_unit(line) {
-        return Some(LoadKind::UnitDoesntDivide);
-    }
-    if is_off_unit(&line.target) {
-        return Some(LoadKind::IvOffset);
-    }
-    None
-}
-
-/// Whether so many sectors from one of the bases end past its device.
-fn are_beyond(
-    leaves: &[Leaf],
-    devices: &[Planned<'_>],
-    lowers: &[Lower],
-    bases: &[Base],
-    sectors: u64,
-) -> bool
-    requires { Mean (configuration leaves.now devices.now) lowers.now (map (λ b. b.device) bases.now) }
-    ensures { result ≡ list_any (ends_beyond (configuration leaves.now devices.now) sectors) bases.now }
-{
-    for (i, base) in bases.iter().enumerate() {
-        let end = u128::from(base.offset) + u128::from(sectors);
-        if size_of(leaves, devices, lowers[i]) < end {
-            return true;
-        }
-    }
-    false
-}
-
-/// Whether a range, a stripe's share or all data blocks of a verity line end past the device that is named.
-fn is_beyond(leaves: &[Leaf], devices: &[Planned<'_>], lowers: &[Lower], line: &Line) -> bool
-    requires grammar { IsTargetOfGrammar line.now.target }
-    requires lowers { Mean (configuration leaves.now devices.now) lowers.now (names line.now.target) }
-    ensures { result ≡ is_beyond (configuration leaves.now devices.now) line.now.length line.now.target }
-{
-    match &line.target {
-        Target::Linear(base) => {
-            are_beyond(leaves, devices, lowers, slice::from_ref(base), line.length)
-        }
-        Target::Striped { bases, .. } => {
-            let bases = bases.as_slice();
-            let share = line.length / bases.len() as u64;
-            are_beyond(leaves, devices, lowers, bases, share)
-        }
-        Target::Zero | Target::Error => false,
-        Target::Crypt(crypt) => {
-            let base = slice::from_ref(&crypt.base);
-            are_beyond(leaves, devices, lowers, base, line.length)
-        }
-        Target::Verity(verity) => size_of(leaves, devices, lowers[0]) < data_sectors(verity),
-    }
-}
-
-/// Whether the line has more sectors than its data blocks.
-fn is_uncovered(line: &Line) -> bool
-    ensures { result ≡ is_uncovered line.now.length line.now.target }
-{
-    match &line.target {
-        Target::Verity(verity) => data_sectors(verity) < u128::from(line.length),
-        Target::Linear(_)
-        | Target::Striped { .. }
-        | Target::Zero
-        | Target::Error
-        | Target::Crypt(_) => false,
-    }
-}
-
-/// Whether the tree ends past the hash device.
-fn is_tree_beyond(
-    leaves: &[Leaf],
-    devices: &[Planned<'_>],
-    lowers: &[Lower],
-    target: &Target,
-) -> bool
-    requires grammar { IsTargetOfGrammar target.now }
-    requires lowers { Mean (configuration leaves.now devices.now) lowers.now (names target.now) }
-    ensures { result ≡ is_tree_beyond (configuration leaves.now devices.now) target.now }
-{
-    match target {
-        Target::Verity(verity) => size_of(leaves, devices, lowers[1]) < tree_sectors(verity),
-        Target::Linear(_)
-        | Target::Striped { .. }
-        | Target::Zero
-        | Target::Error
-        | Target::Crypt(_) => false,
     }
 }
 

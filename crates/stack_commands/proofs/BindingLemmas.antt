@@ -4,7 +4,7 @@ use Rattle.std.proofs.lemmas.List.{map-append, take_more}
 use Rattle.block_device.specs.Device.{Device}
 use Rattle.block_device.specs.declared.any.AnyDev.{AnyDev}
 use Rattle.stack_rules.specs.Records.{LeafRecord}
-use Rattle.stack_engine.specs.Leaves.{ServeLeaves}
+use Rattle.stack_meaning.specs.Leaves.{ServeLeaves}
 use Rattle.command_line.specs.declared.bindings.Binding.{Binding}
 use Rattle.command_line.specs.Bindings.{BackingRecord, BindingRecord, backing_record, binding_record}
 use Rattle.stack_commands.specs.Bindings.{AreBound, AreDevicesOf, IsDeviceOf}

@@ -5,7 +5,7 @@ use Rattle.nbd_server.specs.declared.fault.ServiceFault.{ServiceFault}
 use Rattle.nbd_server.specs.Exports.{ExportRecord, IsExport}
 use Rattle.nbd_server.specs.Service.{IsService}
 use Rattle.stack_rules.specs.Records.{Configuration, LeafRecord}
-use Rattle.stack_engine.specs.declared.fault.IoFault.{IoFault}
+use Rattle.stack_meaning.specs.declared.fault.IoFault.{IoFault}
 use Rattle.stack_engine.specs.Pieces.{stack_over}
 use Rattle.stack_engine.specs.Syncs.{FailsToSync}
 use Rattle.request_queue.specs.World.{World}

@@ -3,7 +3,7 @@ use Rattle.std.specs.Prelude.{◌≡◌, true, List, [], ◌∷◌, map}
 use Rattle.block_device.specs.Device.{Device, in_memory, zeros_image, ramp_image}
 use Rattle.block_device.specs.File.{opened}
 use Rattle.stack_rules.specs.Records.{LeafRecord}
-use Rattle.stack_engine.specs.Leaves.{ServeLeaves}
+use Rattle.stack_meaning.specs.Leaves.{ServeLeaves}
 use Rattle.command_line.specs.Bindings.{BackingRecord, BindingRecord, file, ramp, zeros}
 
 -- the device is the one that stands behind the name; a file has its own size

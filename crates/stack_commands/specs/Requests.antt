@@ -7,8 +7,8 @@ use Rattle.request_queue.specs.World.{World, world, run}
 use Rattle.stack_session.specs.Replies.{WholeStep}
 use Rattle.command_faults.specs.declared.fault.CommandFault.{CommandFault}
 use Rattle.command_faults.specs.declared.fault.CommandFault.TheVariants.{NoMemory, Submit, Io}
-use Rattle.command_line.specs.declared.command_words.Sectors.{Sectors}
-use Rattle.command_line.specs.declared.command_words.Transfer.{Transfer}
+use Rattle.command_line.specs.declared.invocation.Sectors.{Sectors}
+use Rattle.command_line.specs.declared.invocation.Transfer.{Transfer}
 
 -- a stack of which nothing was asked yet
 abbrev pub new_world : StackRecord → World

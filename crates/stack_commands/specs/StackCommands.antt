@@ -8,7 +8,7 @@ use Rattle.stack_engine.specs.Pieces.{stack_over}
 use Rattle.stack_engine.specs.Syncs.{FailsToSync}
 use Rattle.nbd_server.specs.declared.fault.ServiceFault.{ServiceFault}
 use Rattle.nbd_server.specs.declared.fault.ServiceFault.TheVariants as service_fault
-use Rattle.nbd_server.specs.Exports.{ExportRecord, IsExport}
+use Rattle.nbd_server.specs.Exports.{ExportRecord, HasNoExport, IsExport}
 use Rattle.nbd_server.specs.Service.{IsService}
 use Rattle.request_queue.specs.declared.fault.SubmitFault.TheVariants.{NoSuchDevice}
 use Rattle.request_queue.specs.declared.reply.Reply.{Reply}
@@ -146,14 +146,16 @@ IsServeEnd bindings old new failed (Io fault) = (served : Serves bindings old ne
 IsServeEnd bindings old new failed fault =
     (new ≡ old) × (IsBindingEnd bindings fault ⊎ IsLeavesEnd bindings fault)
 
--- the stack isn't loaded, or has no such device
-abbrev pub FailsToExport : Failing
-FailsToExport leaves text devices fault = FailsToLoad leaves text fault ⊎ (fault ≡ Submit NoSuchDevice)
+-- the stack isn't loaded, or has no device of that name that a client can be told of
+abbrev pub FailsToExport : List ℕ → Failing
+FailsToExport name leaves text devices fault =
+    FailsToLoad leaves text fault
+    ⊎ ((c : Configuration) × (configuration_of leaves text ≡ Ok c) × HasNoExport c name × (fault ≡ Submit NoSuchDevice))
 
 -- The service of a client ends early: nothing was served; or by the service's own fault, as a failure of the writer; or
 -- all was served, and then an image isn't synced.
 abbrev pub IsClientEnd : List ℕ → List BindingRecord → List ℕ → Streams → Streams → Bool → CommandFault → Type 0
 IsClientEnd path bindings name old new failed fault =
-    ((new ≡ old) × IsStackEnd path bindings FailsToExport fault)
+    ((new ≡ old) × IsStackEnd path bindings (FailsToExport name) fault)
     ⊎ (((x : ServiceFault) × (fault ≡ Service x) × ServesClient bindings name old new (Err x) × (x ≡ service_fault.WriteFault → failed ≡ true))
     ⊎ ((served : ServesClient bindings name old new (Ok tt)) × IsSyncEnd served.last.stack.leaves fault))

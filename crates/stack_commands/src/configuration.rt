@@ -1,7 +1,7 @@
 // Configurations and stacks from stack texts over leaves.
 ghost use Rattle.std.specs.Prelude.{◌≡◌, ◌⊎◌, ◌≤◌, ◌^◌, length, map, Ok, Err, IfOk, IfErr};
 ghost use Rattle.stack_rules.specs.Records.{Configuration};
-ghost use Rattle.stack_engine.specs.Leaves.{ServeLeaves};
+ghost use Rattle.stack_meaning.specs.Leaves.{ServeLeaves};
 ghost use Rattle.stack_engine.specs.Pieces.{stack_over};
 ghost use Rattle.stack_commands.specs.Configuration.{configuration_of};
 ghost use Rattle.stack_commands.specs.StackCommands.{FailsToLoad};

@@ -1,12 +1,12 @@
 // The mapped device that a command goes over.
 ghost use Rattle.std.specs.Prelude.{◌≡◌, ◌≤◌, ◌<◌, ◌^◌, length, map, IsTrue, IfOk, IfErr, OnOk};
 ghost use Rattle.stack_rules.specs.Names.{mapped, size};
-ghost use Rattle.stack_engine.specs.Leaves.{ServeLeaves};
+ghost use Rattle.stack_meaning.specs.Leaves.{ServeLeaves};
 ghost use Rattle.stack_recovery.specs.Recoveries.{Recovers, sides};
 ghost use Rattle.stack_commands.specs.Recoveries.{FailsToFind, HasDevice};
 ghost use Rattle.stack_commands.specs.Recovering.{IsCountsEnd, IsRecoverEnd, TellsCounts};
 
-use crate::configuration::load_stack;
+use crate::configuration::configuration_of;
 use crate::opening::OpenLeaves;
 use block_device::{AnyDev, BlockDev};
 use command_faults::{CommandFault, say_counts};
@@ -34,9 +34,20 @@ pub fn load_device<'a>(
     ensures there { IfOk result (λ found. found.1.0 < length found.0.config.devices) }
     ensures err { IfErr result (FailsToFind name.now over.leaves.items text.now (map ⟦<AnyDev as BlockDev>⟧.state over.devices.items)) }
 {
-    let stack = load_stack(alloc, over, CACHED_BLOCKS, text)?;
-    match stack.config().device(name.as_bytes()) {
-        Some(device) => Ok((stack, device)),
+    let OpenLeaves { leaves, devices } = over;
+    let config = match configuration_of(alloc, leaves, text) {
+        Ok(config) => config,
+        Err(fault) => return Err(fault),
+    };
+    // A name that isn't there is told before any room is asked for the stack's cache.
+    match config.device(name.as_bytes()) {
+        Some(device) => match Stack::new(alloc, config, devices, CACHED_BLOCKS) {
+            Ok(stack) => Ok((stack, device)),
+            Err(parts) => {
+                drop(parts);
+                Err(CommandFault::NoMemory)
+            }
+        },
         None => Err(CommandFault::Submit(SubmitFault::NoSuchDevice)),
     }
 }

@@ -1,7 +1,7 @@
 // The command `nbd`: serves a device to a client of the NBD protocol.
 ghost use Rattle.std.specs.Prelude.{◌≡◌, ◌≤◌, ◌^◌, length, map, Ok, OnOk, IfOk, IfErr};
 ghost use Rattle.stack_rules.specs.Records.{Configuration};
-ghost use Rattle.stack_engine.specs.Leaves.{ServeLeaves};
+ghost use Rattle.stack_meaning.specs.Leaves.{ServeLeaves};
 ghost use Rattle.stack_engine.specs.Pieces.{stack_over};
 ghost use Rattle.stack_session.specs.Session.{streams};
 ghost use Rattle.command_line.specs.Bindings.{binding_record};

@@ -1,6 +1,6 @@
 // Opens what a command line names.
 ghost use Rattle.std.specs.Prelude.{false, ◌≡◌, ◌++◌, [], ◌∷◌, map, IfOk, IfErr, OnOk};
-ghost use Rattle.stack_engine.specs.Leaves.{ServeLeaves};
+ghost use Rattle.stack_meaning.specs.Leaves.{ServeLeaves};
 ghost use Rattle.stack_commands.specs.Bindings.{AreBound, IsDeviceOf};
 ghost use Rattle.command_line.specs.Bindings.{backing_record, binding_record};
 ghost use Rattle.stack_commands.specs.FileUses.{AreApart, AreApartBeside, has_clash, use_of};

@@ -1,7 +1,7 @@
 // The whole program: its words, a reader and a writer in, the status out.
-ghost use Rattle.std.specs.Prelude.{false, ◌≡◌, ◌⊎◌, map, string_bytes, OnOk, IfErr};
+ghost use Rattle.std.specs.Prelude.{false, ◌≡◌, ◌⊎◌, ℕ, List, Option, map, string_bytes, OnOk, IfErr};
 ghost use Rattle.stack_session.specs.Session.{streams};
-ghost use Rattle.command_line.specs.CommandWords.{invocation_record};
+ghost use Rattle.command_line.specs.CommandWords.{image_record, invocation_record};
 ghost use Rattle.stack_commands.specs.Commands.{EndsEarly, Fails, IsDone, IsRunEnd, Succeeds};
 
 use crate::copy::copy_files;
@@ -12,7 +12,7 @@ use crate::scan::scan_files;
 use crate::serve::serve_files;
 use crate::write::write_files;
 use command_faults::{CommandFault, end};
-use command_line::{CommandLine, Invocation, OptionWords, options_of, parse};
+use command_line::{CommandLine, ImageInvocation, Invocation, OptionWords, options_of, parse};
 use image_commands::{LineWords, dump_file, format_files, print_table_of_file, verify_files};
 use stack_session::Counted;
 use std::fs::File;
@@ -104,13 +104,30 @@ fn invoke<'a, R: Files<File = File> + AllocGlobal + RandomSource, S: Read, W: Wr
         Invocation::Nbd { device, bindings } => {
             serve_client(rt, device, bindings.as_slice(), reader, writer)
         }
-        Invocation::Format { data, hash } => {
+        Invocation::Image(invocation) => invoke_on_images(rt, invocation, options, writer),
+    }
+}
+
+// Runs a command on images, which reads no input.
+fn invoke_on_images<'a, R: Files<File = File> + AllocGlobal + RandomSource, W: Write>(
+    rt: &R,
+    invocation: ImageInvocation<'a>,
+    options: &OptionWords<'a>,
+    writer: &mut Counted<W>,
+) -> Result<(), CommandFault<'a>>
+    ensures ok { (input input' : Option (List ℕ)) → OnOk result (Succeeds (image_record invocation.entry) (streams input (W.contents writer.old.inner)) (streams input' (W.contents writer.new.inner))) }
+    ensures err { (input input' : Option (List ℕ)) → IfErr result (Fails (image_record invocation.entry) (streams input (W.contents writer.old.inner)) (streams input' (W.contents writer.new.inner)) writer.new.failed) }
+{
+    match invocation {
+        ImageInvocation::Format { data, hash } => {
             let options = options_of(rt.alloc(), options)?;
             format_files(rt, options, data, hash, writer)
         }
-        Invocation::Verify { data, hash, root } => verify_files(rt, data, hash, &root, writer),
-        Invocation::Dump { hash } => dump_file(rt, hash, writer),
-        Invocation::Table {
+        ImageInvocation::Verify { data, hash, root } => {
+            verify_files(rt, data, hash, &root, writer)
+        }
+        ImageInvocation::Dump { hash } => dump_file(rt, hash, writer),
+        ImageInvocation::Table {
             hash,
             root,
             data_name,

@@ -16,21 +16,21 @@ use Rattle.stack_rules.specs.Descend.{by_name, read_cost, line_read_cost}
 use Rattle.stack_rules.specs.Rules.{IsLoaded}
 use Rattle.stack_rules.specs.Trees.{block_sectors}
 use Rattle.stack_loader.proofs.lemmas.LoadedLineLemmas.{line-read-cost}
-use Rattle.stack_engine.specs.declared.fault.IoFault.{IoFault}
-use Rattle.stack_engine.specs.declared.fault.IoFault.TheVariants as io
-use Rattle.stack_engine.specs.declared.source.BlockPart.{BlockPart}
-use Rattle.stack_engine.specs.declared.source.Source.TheVariants.{Block}
-use Rattle.stack_engine.specs.Outcomes.{Images, mismatch}
-use Rattle.stack_engine.specs.Found.{FoundRecord, Entry, entry_of}
-use Rattle.stack_engine.specs.Meaning.{Said, line_said, said_by_name}
-use Rattle.stack_engine.specs.Reading.{MeetVerity, IsPlain}
-use Rattle.stack_engine.specs.Kept.{block_of, LineKeeps, IsOfVerity, IsKept, AllKept}
-use Rattle.stack_engine.specs.Leaves.{images_of, AllSteady}
-use Rattle.stack_engine.specs.Sources.{LieInBlock, said_of_line, source_said, source_place, ReadsSource}
-use Rattle.stack_engine.specs.Walks.{HasVerity, block_in, chain_expected, GetsChain}
-use Rattle.stack_engine.proofs.lemmas.LeafListLemmas.{AreRead-none, AreRead-more, AllSteady-kept, images-kept}
-use Rattle.stack_engine.proofs.lemmas.FoundLemmas.{Grown-none, kept-later}
-use Rattle.stack_engine.proofs.lemmas.RunLemmas.{Passes, pass}
+use Rattle.stack_meaning.specs.declared.fault.IoFault.{IoFault}
+use Rattle.stack_meaning.specs.declared.fault.IoFault.TheVariants as io
+use Rattle.stack_lines.specs.declared.source.BlockPart.{BlockPart}
+use Rattle.stack_lines.specs.declared.source.Source.TheVariants.{Block}
+use Rattle.stack_meaning.specs.Outcomes.{Images, mismatch}
+use Rattle.stack_meaning.specs.Found.{FoundRecord, Entry, entry_of}
+use Rattle.stack_meaning.specs.Meaning.{Said, line_said, said_by_name}
+use Rattle.stack_meaning.specs.Reading.{MeetVerity, IsPlain}
+use Rattle.stack_meaning.specs.Kept.{block_of, LineKeeps, IsOfVerity, IsKept, AllKept}
+use Rattle.stack_meaning.specs.Leaves.{images_of, AllSteady}
+use Rattle.stack_lines.specs.Sources.{LieInBlock, said_of_line, source_said, source_place, ReadsSource}
+use Rattle.stack_lines.specs.Walks.{HasVerity, block_in, chain_expected, GetsChain}
+use Rattle.stack_meaning.proofs.lemmas.LeafListLemmas.{AreRead-none, AreRead-more, AllSteady-kept, images-kept}
+use Rattle.stack_meaning.proofs.lemmas.FoundLemmas.{Grown-none, kept-later}
+use Rattle.stack_meaning.proofs.lemmas.RunLemmas.{Passes, pass}
 use Rattle.stack_engine.proofs.lemmas.BlockLemmas.{block_place, chain_fills, block_fails, length-content, AllKept-push, Grown-push}
 
 -- what was found for an entry of a verity line

@@ -13,22 +13,22 @@ use Rattle.stack_rules.specs.Records.{Configuration}
 use Rattle.verified_cache.specs.Cache.{CachedBlock, CacheRecord, block_under, blocks_with, cache_after_find, cache_after_keep}
 use Rattle.verified_cache.specs.declared.key.Key.{Key}
 use Rattle.verified_cache.proofs.lemmas.AnswerLemmas.{block_under-is, All-block_under, All-after_find, All-after_keep}
-use Rattle.stack_engine.specs.declared.tree.Extent.{Extent}
-use Rattle.stack_engine.specs.Outcomes.{Outcome, Images, mismatch, span, then_outcome}
-use Rattle.stack_engine.specs.Blocks.{checked, hash_sectors, hash_place}
-use Rattle.stack_engine.specs.Caches.{StackCache, IsCached, IsCacheOf, KeepsCache, IsPlaceOf}
-use Rattle.stack_engine.specs.Changes.{reached, AreWritten}
-use Rattle.stack_engine.specs.Standing.{contains, stands_on, name_stands_on, key_stands_on, cache_without_leaf, AreLeafSets, CoversBlocks}
-use Rattle.stack_engine.specs.Leaves.{images_of, AllSteady, AreRead}
-use Rattle.stack_engine.specs.Meaning.{said_at, said_by_name}
-use Rattle.stack_engine.specs.Places.{Place, place_of}
-use Rattle.stack_engine.specs.Reading.{Gets}
-use Rattle.stack_engine.specs.Walks.{HasVerity, IsBlock, checked_expected}
-use Rattle.stack_engine.proofs.lemmas.LeafListLemmas.{AreRead-none, AllSteady-kept, images-kept}
+use Rattle.stack_lines.specs.declared.tree.Extent.{Extent}
+use Rattle.stack_meaning.specs.Outcomes.{Outcome, Images, mismatch, span, then_outcome}
+use Rattle.stack_meaning.specs.Blocks.{checked, hash_sectors, hash_place}
+use Rattle.stack_lines.specs.Caches.{StackCache, IsCached, IsCacheOf, KeepsCache, IsPlaceOf}
+use Rattle.stack_meaning.specs.Changes.{reached, AreWritten}
+use Rattle.stack_lines.specs.Standing.{contains, stands_on, name_stands_on, key_stands_on, cache_without_leaf, AreLeafSets, CoversBlocks}
+use Rattle.stack_meaning.specs.Leaves.{images_of, AllSteady, AreRead}
+use Rattle.stack_meaning.specs.Meaning.{said_at, said_by_name}
+use Rattle.stack_meaning.specs.Places.{Place, place_of}
+use Rattle.stack_meaning.specs.Reading.{Gets}
+use Rattle.stack_lines.specs.Walks.{HasVerity, IsBlock, checked_expected}
+use Rattle.stack_meaning.proofs.lemmas.LeafListLemmas.{AreRead-none, AllSteady-kept, images-kept}
 use Rattle.stack_engine.proofs.lemmas.WalkLemmas.{checked-same}
-use Rattle.stack_engine.proofs.StandingLemmas.{or-true, name-stands, verity-stands}
-use Rattle.stack_engine.proofs.ForgetLemmas.{kept-written, others-alone}
-use Rattle.stack_engine.proofs.VerityLineLemmas.{same-verity, place-named}
+use Rattle.stack_lines.proofs.lemmas.StandingLemmas.{or-true, name-stands, verity-stands}
+use Rattle.stack_lines.proofs.lemmas.ForgetLemmas.{kept-written, others-alone}
+use Rattle.stack_lines.proofs.lemmas.VerityLineLemmas.{same-verity, place-named}
 
 -- what passed the check is what was read
 chosen : (b : Bool) (x y : List ℕ) → cond b (Ok x) (Err mismatch) ≡ Ok y → x ≡ y

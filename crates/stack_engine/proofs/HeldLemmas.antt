@@ -8,14 +8,14 @@ use borrow.Rule.Slice.PartMut.{put_mid}
 use Rattle.stack_rules.specs.Records.{Configuration}
 use Rattle.stack_rules.specs.Names.{mapped}
 use Rattle.stack_rules.specs.Rules.{IsLoaded}
-use Rattle.stack_engine.specs.declared.source.BlockPart.{BlockPart}
-use Rattle.stack_engine.specs.declared.source.Source.{Source}
-use Rattle.stack_engine.specs.declared.source.Source.TheVariants.{Units, UnitPart}
-use Rattle.stack_engine.specs.Meaning.{Said, said_at}
-use Rattle.stack_engine.specs.Sources.{IsServed, SourceHolds, source_said}
-use Rattle.stack_engine.specs.Writing.{AreSectors, SomeEncrypt, AreHeld}
+use Rattle.stack_lines.specs.declared.source.BlockPart.{BlockPart}
+use Rattle.stack_lines.specs.declared.source.Source.{Source}
+use Rattle.stack_lines.specs.declared.source.Source.TheVariants.{Units, UnitPart}
+use Rattle.stack_meaning.specs.Meaning.{Said, said_at}
+use Rattle.stack_lines.specs.Sources.{IsServed, SourceHolds, source_said}
+use Rattle.stack_lines.specs.Writing.{AreSectors, SomeEncrypt, AreHeld}
 use Rattle.stack_engine.specs.Premises.{FitsIn}
-use Rattle.stack_engine.proofs.EncryptLemmas.{units-some, unit_part-some, run-some}
+use Rattle.stack_lines.proofs.lemmas.EncryptLemmas.{units-some, unit_part-some, run-some}
 
 -- ---- parts of lists
 

@@ -8,16 +8,16 @@ use Rattle.stack_rules.specs.Names.{named}
 use Rattle.stack_rules.specs.Records.{Configuration}
 use Rattle.stack_rules.specs.Rules.{IsLoaded}
 use Rattle.verified_cache.specs.declared.key.Key.{Key}
-use Rattle.stack_engine.specs.declared.fault.IoFault.{IoFault}
-use Rattle.stack_engine.specs.declared.tree.Extent.{Extent}
-use Rattle.stack_engine.specs.declared.tree.Tree.{Tree}
-use Rattle.stack_engine.specs.Blocks.{hash_sectors, hash_place, hash_start, next_digest}
-use Rattle.stack_engine.specs.Caches.{IsPlaceOf}
-use Rattle.stack_engine.specs.Extents.{LiesInside, IsExtent}
-use Rattle.stack_engine.specs.Places.{Place, place_of}
-use Rattle.stack_engine.specs.Reading.{Gets}
-use Rattle.stack_engine.specs.Walks.{checked_expected, data_expected, place_named, block_in, GetsChain, IsTreeOf, IsWalked}
-use Rattle.stack_engine.proofs.VerityLineLemmas.{data-whole, hash-whole, place-named}
+use Rattle.stack_meaning.specs.declared.fault.IoFault.{IoFault}
+use Rattle.stack_lines.specs.declared.tree.Extent.{Extent}
+use Rattle.stack_lines.specs.declared.tree.Tree.{Tree}
+use Rattle.stack_meaning.specs.Blocks.{hash_sectors, hash_place, hash_start, next_digest}
+use Rattle.stack_lines.specs.Caches.{IsPlaceOf}
+use Rattle.stack_lines.specs.Extents.{LiesInside, IsExtent}
+use Rattle.stack_meaning.specs.Places.{Place, place_of}
+use Rattle.stack_meaning.specs.Reading.{Gets}
+use Rattle.stack_lines.specs.Walks.{checked_expected, data_expected, place_named, block_in, GetsChain, IsTreeOf, IsWalked}
+use Rattle.stack_lines.proofs.lemmas.VerityLineLemmas.{data-whole, hash-whole, place-named}
 use Rattle.stack_engine.proofs.lemmas.WalkLemmas.{walk_down, walk_stops, walk_ends, walk_fails}
 
 abbrev pub bytes : Vec ℕ Global → List ℕ

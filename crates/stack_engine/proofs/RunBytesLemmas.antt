@@ -3,10 +3,10 @@ use Rattle.std.proofs.Common.{◌≡◌, ◌⊎◌, inl, inr, false, ◌<◌, �
 use Rattle.std.proofs.lemmas.List.{length-take, length-drop, take-append-drop, nil_from_length}
 use Rattle.std.proofs.Math.Seq.{take-add}
 use Rattle.stack_rules.specs.Records.{Configuration}
-use Rattle.stack_engine.specs.declared.source.Source.{Source}
-use Rattle.stack_engine.specs.Puts.{in_one_run}
-use Rattle.stack_engine.specs.Sources.{IsServed, EndsRun}
-use Rattle.stack_engine.proofs.WriteSourceLemmas.{EndsBefore}
+use Rattle.stack_lines.specs.declared.source.Source.{Source}
+use Rattle.stack_meaning.specs.Puts.{in_one_run}
+use Rattle.stack_lines.specs.Sources.{IsServed, EndsRun}
+use Rattle.stack_lines.proofs.lemmas.WriteSourceLemmas.{EndsBefore}
 
 -- the front of a room for the sectors of one unit
 module _ (room : List ℕ) (sectors : ℕ) (size : length room ≡ 4096) (few : sectors ≤ 8) where

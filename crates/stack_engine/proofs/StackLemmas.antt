@@ -7,12 +7,12 @@ use Rattle.std.proofs.lemmas.Option.{slice_get_within}
 use Rattle.block_device.specs.Device.{Device}
 use Rattle.stack_rules.specs.declared.lower.Lower.TheVariants.{Leaf}
 use Rattle.stack_rules.specs.Records.{Configuration, LeafRecord}
-use Rattle.stack_engine.specs.declared.source.Source.TheVariants.{Below}
-use Rattle.stack_engine.specs.Leaves.{fixed_part}
-use Rattle.stack_engine.specs.Caches.{StackCache, KeepsCache}
+use Rattle.stack_lines.specs.declared.source.Source.TheVariants.{Below}
+use Rattle.stack_meaning.specs.Leaves.{fixed_part}
+use Rattle.stack_lines.specs.Caches.{StackCache, KeepsCache}
 use Rattle.stack_engine.specs.Stacks.{IsSound, IsStack}
 use Rattle.stack_engine.specs.Premises.{FitsIn}
-use Rattle.stack_engine.proofs.lemmas.LeafListLemmas.{leaves_kept}
+use Rattle.stack_meaning.proofs.lemmas.LeafListLemmas.{leaves_kept}
 
 -- what holds of a stack still holds once its leaves were read or written
 pub stack-later : (c : Configuration) {old new : List Device} {before first after : StackCache} → map fixed_part new ≡ map fixed_part old → IsStack c old before → KeepsCache c new first after → IsStack c new after

@@ -12,34 +12,34 @@ use Rattle.stack_rules.specs.Records.{Configuration}
 use Rattle.stack_rules.specs.Names.{mapped, lines_of, may_write}
 use Rattle.stack_rules.specs.Descend.{read_cost, write_cost}
 use Rattle.stack_rules.specs.Rules.{IsLoaded}
-use Rattle.stack_engine.specs.declared.fault.IoFault.{IoFault}
-use Rattle.stack_engine.specs.declared.fault.IoFault.TheVariants as io
-use Rattle.stack_engine.specs.declared.source.BlockPart.{BlockPart}
-use Rattle.stack_engine.specs.declared.units.WholeUnit.{WholeUnit}
-use Rattle.stack_engine.specs.declared.source.Source.TheVariants.{Units, UnitPart}
-use Rattle.stack_engine.specs.Sectors.{SomeOf, IsRun, gathered}
-use Rattle.stack_engine.specs.Outcomes.{Fault, error_target, mismatch, Images, Outcome, LeafSector, span}
+use Rattle.stack_meaning.specs.declared.fault.IoFault.{IoFault}
+use Rattle.stack_meaning.specs.declared.fault.IoFault.TheVariants as io
+use Rattle.stack_lines.specs.declared.source.BlockPart.{BlockPart}
+use Rattle.stack_lines.specs.declared.units.WholeUnit.{WholeUnit}
+use Rattle.stack_lines.specs.declared.source.Source.TheVariants.{Units, UnitPart}
+use Rattle.stack_meaning.specs.Sectors.{SomeOf, IsRun, gathered}
+use Rattle.stack_meaning.specs.Outcomes.{Fault, error_target, mismatch, Images, Outcome, LeafSector, span}
 use Rattle.stack_rules.specs.Units.{unit_sectors}
-use Rattle.stack_engine.specs.Units.{decrypted_unit, encrypted_unit, unit_first}
-use Rattle.stack_engine.specs.Found.{FoundRecord}
-use Rattle.stack_engine.specs.Meaning.{Said, crypt_said, said_at}
-use Rattle.stack_engine.specs.Puts.{Put, stopped, read_put, encrypted_sectors, changed_unit, put_on}
-use Rattle.stack_engine.specs.Leaves.{images_of, Moves}
-use Rattle.stack_engine.specs.Changes.{AllWhole, reached, AreWritten}
-use Rattle.stack_engine.specs.Reading.{Ends, Answers, MeetVerity, IsPlain}
-use Rattle.stack_engine.specs.Sources.{LieInUnit, IsWholeOf, cost_beneath, source_said, ReadsSource}
-use Rattle.stack_engine.specs.Writing.{sectors_in, put_on_line, MayEnd, IsPut, Writes, source_destination}
+use Rattle.stack_meaning.specs.Units.{decrypted_unit, encrypted_unit, unit_first}
+use Rattle.stack_meaning.specs.Found.{FoundRecord}
+use Rattle.stack_meaning.specs.Meaning.{Said, crypt_said, said_at}
+use Rattle.stack_meaning.specs.Puts.{Put, stopped, read_put, encrypted_sectors, changed_unit, put_on}
+use Rattle.stack_meaning.specs.Leaves.{images_of, Moves}
+use Rattle.stack_meaning.specs.Changes.{AllWhole, reached, AreWritten}
+use Rattle.stack_meaning.specs.Reading.{Ends, Answers, MeetVerity, IsPlain}
+use Rattle.stack_lines.specs.Sources.{LieInUnit, IsWholeOf, cost_beneath, source_said, ReadsSource}
+use Rattle.stack_lines.specs.Writing.{sectors_in, put_on_line, MayEnd, IsPut, Writes, source_destination}
 use Rattle.stack_rules.proofs.lemmas.UnitLemmas.{unit_sectors-some}
-use Rattle.stack_engine.proofs.UnitLineLemmas.{IsUnitLine, unit-line, cost-beneath, unit-said}
-use Rattle.stack_engine.proofs.UnitPutLemmas.{sectors_in-of, whole-put, some-put}
-use Rattle.stack_engine.proofs.UnitReadLemmas.{images-whole, unit-means, whole-unit, unit-fails}
-use Rattle.stack_engine.proofs.UnitSourceLemmas.{lies_in, begin-whole, part-some}
+use Rattle.stack_lines.proofs.lemmas.UnitLineLemmas.{IsUnitLine, unit-line, cost-beneath, unit-said}
+use Rattle.stack_lines.proofs.lemmas.UnitPutLemmas.{sectors_in-of, whole-put, some-put}
+use Rattle.stack_lines.proofs.lemmas.UnitReadLemmas.{images-whole, unit-means, whole-unit, unit-fails}
+use Rattle.stack_lines.proofs.lemmas.UnitSourceLemmas.{lies_in, begin-whole, part-some}
 use Rattle.stack_engine.proofs.WritablePlainLemmas.{none-verity}
-use Rattle.stack_engine.proofs.lemmas.ChangeLemmas.{AreWritten-more, AreWritten-then, AreWritten-read}
-use Rattle.stack_engine.proofs.lemmas.LeafListLemmas.{AllSteady-kept, images-kept, failed_later}
-use Rattle.stack_engine.proofs.lemmas.SizeLemmas.{AreSized, sector-size}
-use Rattle.stack_engine.proofs.lemmas.SpanLemmas.{span_same, span_fails}
-use Rattle.stack_engine.proofs.lemmas.WriteRunLemmas.{length-sectors_in, MayEnd-as}
+use Rattle.stack_meaning.proofs.lemmas.ChangeLemmas.{AreWritten-more, AreWritten-then, AreWritten-read}
+use Rattle.stack_meaning.proofs.lemmas.LeafListLemmas.{AllSteady-kept, images-kept, failed_later}
+use Rattle.stack_lines.proofs.lemmas.SizeLemmas.{AreSized, sector-size}
+use Rattle.stack_meaning.proofs.lemmas.SpanLemmas.{span_same, span_fails}
+use Rattle.stack_lines.proofs.lemmas.WriteRunLemmas.{length-sectors_in, MayEnd-as}
 
 abbrev err_of : IoFault → Result Unit IoFault
 err_of fault = Err fault

@@ -9,8 +9,8 @@ use Rattle.stack_rules.specs.declared.lower.Lower.{Lower}
 use Rattle.stack_rules.specs.Records.{Configuration}
 use Rattle.stack_rules.specs.Units.{unit_sectors}
 use Rattle.xts_sector.specs.Units.{unit}
-use Rattle.stack_engine.specs.declared.fault.IoFault.{IoFault}
-use Rattle.stack_engine.specs.Writing.{sectors_in, destination_of, Writes}
+use Rattle.stack_meaning.specs.declared.fault.IoFault.{IoFault}
+use Rattle.stack_lines.specs.Writing.{sectors_in, destination_of, Writes}
 use Rattle.stack_engine.proofs.UnitWriteLemmas.{at-is, next-is, next-even, one-is, one-fits}
 
 -- from byte `at` on to the byte `end`, of n sectors in units of `size` bytes

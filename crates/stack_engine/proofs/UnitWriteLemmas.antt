@@ -13,30 +13,30 @@ use Rattle.stack_rules.specs.Names.{named, lines_of}
 use Rattle.stack_rules.specs.Descend.{write_cost}
 use Rattle.stack_rules.specs.Rules.{IsLoaded}
 use Rattle.xts_sector.specs.Units.{unit}
-use Rattle.stack_engine.specs.declared.fault.IoFault.{IoFault}
-use Rattle.stack_engine.specs.declared.source.BlockPart.{BlockPart}
-use Rattle.stack_engine.specs.declared.source.Source.TheVariants.{Units}
-use Rattle.stack_engine.specs.Sectors.{SomeOf}
-use Rattle.stack_engine.specs.Outcomes.{Fault, Images, LeafSector}
+use Rattle.stack_meaning.specs.declared.fault.IoFault.{IoFault}
+use Rattle.stack_lines.specs.declared.source.BlockPart.{BlockPart}
+use Rattle.stack_lines.specs.declared.source.Source.TheVariants.{Units}
+use Rattle.stack_meaning.specs.Sectors.{SomeOf}
+use Rattle.stack_meaning.specs.Outcomes.{Fault, Images, LeafSector}
 use Rattle.dm_table.specs.Crypt.{sector_size}
 use Rattle.stack_rules.specs.Units.{unit_sectors}
-use Rattle.stack_engine.specs.Units.{encrypted_units, unit_first}
-use Rattle.stack_engine.specs.Meaning.{Said, crypt_said, said_at}
-use Rattle.stack_engine.specs.Puts.{Put, done, then_put, Putting, put_on}
-use Rattle.stack_engine.specs.Leaves.{images_of}
-use Rattle.stack_engine.specs.Changes.{reached}
-use Rattle.stack_engine.specs.Cuts.{PutsInSteps}
-use Rattle.stack_engine.specs.Sources.{HasCrypt, AreUnits, source_said}
-use Rattle.stack_engine.specs.Writing.{sectors_in, put_on_line, IsPut, destination_of, Writes, source_destination}
+use Rattle.stack_meaning.specs.Units.{encrypted_units, unit_first}
+use Rattle.stack_meaning.specs.Meaning.{Said, crypt_said, said_at}
+use Rattle.stack_meaning.specs.Puts.{Put, done, then_put, Putting, put_on}
+use Rattle.stack_meaning.specs.Leaves.{images_of}
+use Rattle.stack_meaning.specs.Changes.{reached}
+use Rattle.stack_lines.specs.Cuts.{PutsInSteps}
+use Rattle.stack_lines.specs.Sources.{HasCrypt, AreUnits, source_said}
+use Rattle.stack_lines.specs.Writing.{sectors_in, put_on_line, IsPut, destination_of, Writes, source_destination}
 use Rattle.stack_rules.proofs.lemmas.UnitLemmas.{unit_sectors-some, unit-bytes}
-use Rattle.stack_engine.proofs.UnitLineLemmas.{cost-beneath, unit-said}
-use Rattle.stack_engine.proofs.UnitSourceLemmas.{units-aligned, units-whole}
-use Rattle.stack_engine.proofs.UnitReadLemmas.{units-some, unit_first-more}
-use Rattle.stack_engine.proofs.UnitPutLemmas.{unit-step, unit-apart, units-apart, front-more, front-length, lower-units}
-use Rattle.stack_engine.proofs.lemmas.ChangeLemmas.{AreWritten-more}
-use Rattle.stack_engine.proofs.lemmas.FoundLemmas.{in-gathered}
-use Rattle.stack_engine.proofs.lemmas.UnitLemmas.{unit-more, unit-fits, unit-is, unit-length, length-encrypted_units}
-use Rattle.stack_engine.proofs.lemmas.WriteRunLemmas.{length-sectors_in, sectors_in-append, MayEnd-as, write_ok, write_err}
+use Rattle.stack_lines.proofs.lemmas.UnitLineLemmas.{cost-beneath, unit-said}
+use Rattle.stack_lines.proofs.lemmas.UnitSourceLemmas.{units-aligned, units-whole}
+use Rattle.stack_lines.proofs.lemmas.UnitReadLemmas.{units-some, unit_first-more}
+use Rattle.stack_lines.proofs.lemmas.UnitPutLemmas.{unit-step, unit-apart, units-apart, front-more, front-length, lower-units}
+use Rattle.stack_meaning.proofs.lemmas.ChangeLemmas.{AreWritten-more}
+use Rattle.stack_meaning.proofs.lemmas.FoundLemmas.{in-gathered}
+use Rattle.stack_meaning.proofs.lemmas.UnitLemmas.{unit-more, unit-fits, unit-is, unit-length, length-encrypted_units}
+use Rattle.stack_lines.proofs.lemmas.WriteRunLemmas.{length-sectors_in, sectors_in-append, MayEnd-as, write_ok, write_err}
 
 module _ (c : Configuration) (b : BlockPart) (bytes : List ℕ) (n : ℕ) (crypt : Crypt) (loaded : IsLoaded c) (has : HasCrypt c b.device.0 b.line crypt) (units : AreUnits c b.device.0 b.line b.first n) (lower : Lower)
     (is : named c crypt.base.device ≡ Some lower) (len : length bytes ≡ 512 * n) where

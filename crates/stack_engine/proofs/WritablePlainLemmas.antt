@@ -11,16 +11,16 @@ use Rattle.stack_rules.specs.Descend.{depth, known}
 use Rattle.stack_rules.specs.Lines.{line_at, IsLine}
 use Rattle.stack_rules.specs.Rules.{IsLoaded}
 use Rattle.stack_loader.proofs.lemmas.VerityLineLemmas.{verity-line}
-use Rattle.stack_engine.specs.Sectors.{on_found}
-use Rattle.stack_engine.specs.Outcomes.{error_target, mismatch}
-use Rattle.stack_engine.specs.Units.{unit_first}
-use Rattle.stack_engine.specs.Beneath.{beneath, said_or}
-use Rattle.stack_engine.specs.Meaning.{Said, leaf_said, none_said, line_said, said_at, said_by_name}
-use Rattle.stack_engine.specs.Reading.{MeetVerity}
-use Rattle.stack_engine.proofs.LoadedLemmas.{depth-falls}
-use Rattle.stack_engine.proofs.WritableLemmas.{writable-falls}
-use Rattle.stack_engine.proofs.lemmas.EachLineLemmas.{line_at-is}
-use Rattle.stack_engine.proofs.lemmas.SectorLemmas.{by_sector-rule, line_said-asks, said_at-leaf}
+use Rattle.stack_meaning.specs.Sectors.{on_found}
+use Rattle.stack_meaning.specs.Outcomes.{error_target, mismatch}
+use Rattle.stack_meaning.specs.Units.{unit_first}
+use Rattle.stack_meaning.specs.Beneath.{beneath, said_or}
+use Rattle.stack_meaning.specs.Meaning.{Said, leaf_said, none_said, line_said, said_at, said_by_name}
+use Rattle.stack_meaning.specs.Reading.{MeetVerity}
+use Rattle.stack_meaning.proofs.lemmas.LoadedLemmas.{depth-falls}
+use Rattle.stack_lines.proofs.lemmas.WritableLemmas.{writable-falls}
+use Rattle.stack_meaning.proofs.lemmas.EachLineLemmas.{line_at-is}
+use Rattle.stack_meaning.proofs.lemmas.SectorLemmas.{by_sector-rule, line_said-asks, said_at-leaf}
 
 other-fault : mismatch ≡ error_target → ⊥
 other-fault e = cc

@@ -1,22 +1,8 @@
 -- What callers may cite.
 pub mod AnsweredLemmas
 pub mod BlockLemmas
-pub mod ChangeLemmas
-pub mod EachLineLemmas
 pub mod FormattedLemmas
-pub mod FoundLemmas
-pub mod LeafListLemmas
-pub mod LeavesBeneathLemmas
-pub mod LineLemmas
 pub mod PieceLemmas
-pub mod PlainLemmas
-pub mod PutLemmas
-pub mod RunLemmas
-pub mod SectorLemmas
-pub mod SizeLemmas
-pub mod SpanLemmas
 pub mod SyncLemmas
-pub mod UnitLemmas
 pub mod WalkLemmas
 pub mod WritePieceLemmas
-pub mod WriteRunLemmas

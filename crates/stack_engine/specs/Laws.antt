@@ -1,5 +1,5 @@
 -- Laws of what a stack means and of what is answered.
-use Rattle.std.specs.Prelude.{◌≡◌, ◌≢◌, ℕ, ◌-◌, ◌*◌, ◌/◌, IsTrue, if◌then◌else◌, List, [], ◌∷◌, ◌++◌, flat_map, map, All, Contains, Some, Ok}
+use Rattle.std.specs.Prelude.{◌≡◌, ◌≢◌, ℕ, ◌-◌, ◌*◌, ◌/◌, IsTrue, if◌then◌else◌, List, [], ◌++◌, map, All, Contains, Some, Ok}
 use Rattle.std.specs.List.{slice_index_or, concat}
 use Rattle.sha2.specs.Sha256.{sha256}
 use Rattle.hash_tree.specs.declared.difference.Place.{Place}
@@ -9,30 +9,24 @@ use Rattle.hash_tree.specs.Digests.{digest}
 use Rattle.hash_tree.specs.Laws.{AreBlocks}
 use Rattle.hash_tree.specs.Shape.{area_blocks}
 use Rattle.hash_tree.specs.Tree.{root, area}
-use Rattle.block_device.specs.Device.{IsSector}
 use Rattle.dm_table.specs.declared.table.Line.{Line}
 use Rattle.dm_table.specs.declared.table.Target.TheVariants.{Verity as verity_target}
 use Rattle.dm_table.specs.declared.verity.Verity.{Verity}
 use Rattle.stack_rules.specs.declared.lower.Lower.{Lower}
-use Rattle.stack_rules.specs.declared.lower.Lower.TheVariants.{Leaf as leaf, Device as device}
-use Rattle.stack_rules.specs.Descend.{descend}
 use Rattle.stack_rules.specs.Lines.{line_at}
-use Rattle.stack_rules.specs.Names.{mapped, lowers}
+use Rattle.stack_rules.specs.Names.{mapped}
 use Rattle.stack_rules.specs.Records.{Configuration}
 use Rattle.stack_rules.specs.Rules.{IsLoaded}
 use Rattle.stack_rules.specs.Trees.{tree_of, data_sectors, block_sectors, zero_block}
-use Rattle.stack_engine.specs.Blocks.{hash_sectors, is_ignored}
-use Rattle.stack_engine.specs.Found.{FoundRecord}
-use Rattle.stack_engine.specs.May.{MayBe}
-use Rattle.stack_engine.specs.Meaning.{sector, said_by_name}
-use Rattle.stack_engine.specs.Outcomes.{Images, Outcome, span, part, zero_sector}
-use Rattle.stack_engine.specs.Walks.{HasVerity}
+use Rattle.stack_meaning.specs.Blocks.{hash_sectors, is_ignored}
+use Rattle.stack_meaning.specs.Found.{FoundRecord}
+use Rattle.stack_meaning.specs.LeavesBeneath.{leaves_beneath}
+use Rattle.stack_meaning.specs.May.{MayBe}
+use Rattle.stack_meaning.specs.Meaning.{sector, said_by_name}
+use Rattle.stack_meaning.specs.Outcomes.{Images, AreWhole, Outcome, span, part, zero_sector}
+use Rattle.stack_lines.specs.Walks.{HasVerity}
 
 -- ---- a verity line over formatted devices
-
--- each sector has 512 bytes
-abbrev pub AreWhole : Images → Type 0
-AreWhole images = All (λ image. All IsSector image) images
 
 -- sector s of the device of that name
 abbrev pub named_sector : Configuration → Images → List ℕ → ℕ → Outcome
@@ -69,14 +63,6 @@ FormattedDataIsRead = (c : Configuration) → IsLoaded c → (images : Images) �
     → sector c images (mapped d) s ≡ Ok (formatted_sector v blocks (s - line.start))
 
 -- ---- the leaves beneath a device
-
-abbrev pub leaves_rule : Configuration → (Lower → List ℕ) → Lower → List ℕ
-leaves_rule c below (leaf i) = i ∷ []
-leaves_rule c below (device d) = flat_map below (lowers c d.0)
-
--- the numbers of the leaves on which it stands
-abbrev pub leaves_beneath : Configuration → Lower → List ℕ
-leaves_beneath c = descend [] (leaves_rule c)
 
 -- a span depends on the images of the leaves beneath its device alone
 abbrev pub SpansStandOnLeaves : Type 0

@@ -4,12 +4,12 @@ use Rattle.block_device.specs.Device.{Device}
 use Rattle.stack_rules.specs.Records.{Configuration}
 use Rattle.stack_rules.specs.Names.{mapped}
 use Rattle.stack_rules.specs.Descend.{read_cost}
-use Rattle.stack_engine.specs.declared.fault.IoFault.{IoFault}
-use Rattle.stack_engine.specs.Outcomes.{span}
-use Rattle.stack_engine.specs.Meaning.{sector}
-use Rattle.stack_engine.specs.May.{MayBe, MayFault}
-use Rattle.stack_engine.specs.Leaves.{images_of, AllSteady, AreRead}
-use Rattle.stack_engine.specs.Reading.{Ends, Answers}
+use Rattle.stack_meaning.specs.declared.fault.IoFault.{IoFault}
+use Rattle.stack_meaning.specs.Outcomes.{span}
+use Rattle.stack_meaning.specs.Meaning.{sector}
+use Rattle.stack_meaning.specs.May.{MayBe, MayFault}
+use Rattle.stack_meaning.specs.Leaves.{images_of, AllSteady, AreRead}
+use Rattle.stack_meaning.specs.Reading.{Ends, Answers}
 use Rattle.stack_engine.specs.Stacks.{StackRecord, AnswerRecord}
 
 -- a configuration over its leaves' devices

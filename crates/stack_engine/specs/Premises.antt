@@ -2,14 +2,12 @@
 use Rattle.std.specs.Prelude.{ℕ, ◌/◌, List, length}
 use Rattle.block_device.specs.Device.{Device}
 use Rattle.stack_rules.specs.Records.{Configuration}
-use Rattle.stack_engine.specs.declared.source.Source.{Source}
-use Rattle.stack_engine.specs.declared.cuts.Steps.{Steps}
-use Rattle.stack_engine.specs.Found.{FoundRecord}
-use Rattle.stack_engine.specs.Kept.{AllKept}
-use Rattle.stack_engine.specs.Sources.{SourceHolds}
-use Rattle.stack_engine.specs.Writing.{AreSectors, SourceMayWrite}
-use Rattle.stack_engine.specs.Cuts.{AreSteps}
-use Rattle.stack_engine.specs.Caches.{StackCache}
+use Rattle.stack_lines.specs.declared.source.Source.{Source}
+use Rattle.stack_meaning.specs.Found.{FoundRecord}
+use Rattle.stack_meaning.specs.Kept.{AllKept}
+use Rattle.stack_lines.specs.Sources.{SourceHolds}
+use Rattle.stack_lines.specs.Writing.{AreSectors, SourceMayWrite}
+use Rattle.stack_lines.specs.Caches.{StackCache}
 use Rattle.stack_engine.specs.Stacks.{IsStack}
 
 -- the bytes of whole sectors, at least one, which the source has
@@ -28,9 +26,3 @@ pub record CanWrite (c : Configuration) (leaves : List Device) (cache : StackCac
   pub stack : IsStack c leaves cache
   pub allowed : SourceMayWrite c source
   pub fits : FitsIn c source bytes
-
--- n sectors of the source, which may be written, in steps
-pub record AreInSteps (c : Configuration) (source : Source) (n : ℕ) (each : Steps) : Type 0 where
-  pub allowed : SourceMayWrite c source
-  pub holds : SourceHolds c source n
-  pub steps : AreSteps each

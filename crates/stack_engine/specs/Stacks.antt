@@ -3,9 +3,9 @@ use Rattle.std.specs.Prelude.{ℕ, List}
 use Rattle.block_device.specs.Device.{Device}
 use Rattle.stack_rules.specs.Records.{Configuration}
 use Rattle.stack_rules.specs.Rules.{IsLoaded}
-use Rattle.stack_engine.specs.Found.{FoundRecord}
-use Rattle.stack_engine.specs.Leaves.{ServeLeaves}
-use Rattle.stack_engine.specs.Caches.{StackCache, IsCacheOf}
+use Rattle.stack_meaning.specs.Found.{FoundRecord}
+use Rattle.stack_meaning.specs.Leaves.{ServeLeaves}
+use Rattle.stack_lines.specs.Caches.{StackCache, IsCacheOf}
 
 -- a configuration, and the devices of its leaves in order
 pub record StackRecord : Type 0 where

@@ -2,9 +2,9 @@
 use Rattle.std.specs.Prelude.{◌≡◌, ◌≢◌, ℕ, ◌-◌, ◌≤◌, List, IsTrue, All, set}
 use Rattle.std.specs.List.{slice_index_or}
 use Rattle.block_device.specs.Device.{Device, IsUnsynced}
-use Rattle.stack_engine.specs.declared.fault.IoFault.{IoFault}
-use Rattle.stack_engine.specs.declared.fault.IoFault.TheVariants as io
-use Rattle.stack_engine.specs.Leaves.{LeafFailed}
+use Rattle.stack_meaning.specs.declared.fault.IoFault.{IoFault}
+use Rattle.stack_meaning.specs.declared.fault.IoFault.TheVariants as io
+use Rattle.stack_meaning.specs.Leaves.{LeafFailed}
 
 -- The writes to leaf i, of which there were some, couldn't be put on its medium. Nothing else changed.
 pub record LeafUnsynced (i : ℕ) (old new : List Device) : Type 0 where

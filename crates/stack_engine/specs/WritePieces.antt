@@ -3,13 +3,13 @@ use Rattle.std.specs.Prelude.{◌≡◌, ◌≤◌, ℕ, ◌+◌, ◌*◌, ◌/�
 use Rattle.stack_rules.specs.Names.{mapped}
 use Rattle.stack_rules.specs.Records.{Configuration}
 use Rattle.stack_rules.specs.Descend.{write_cost}
-use Rattle.stack_engine.specs.declared.fault.IoFault.{IoFault}
-use Rattle.stack_engine.specs.Meaning.{said_at}
-use Rattle.stack_engine.specs.May.{MayFault}
-use Rattle.stack_engine.specs.Puts.{put_on}
-use Rattle.stack_engine.specs.Leaves.{images_of, AllSteady}
-use Rattle.stack_engine.specs.Changes.{LeafSectors, reached, AreWritten, DifferWithin, AllWhole}
-use Rattle.stack_engine.specs.Writing.{AreSectors, MayEnd, IsPut, sectors_in}
+use Rattle.stack_meaning.specs.declared.fault.IoFault.{IoFault}
+use Rattle.stack_meaning.specs.Meaning.{said_at}
+use Rattle.stack_meaning.specs.May.{MayFault}
+use Rattle.stack_meaning.specs.Puts.{put_on}
+use Rattle.stack_meaning.specs.Leaves.{images_of, AllSteady}
+use Rattle.stack_meaning.specs.Changes.{LeafSectors, reached, AreWritten, DifferWithin, AllWhole}
+use Rattle.stack_lines.specs.Writing.{AreSectors, MayEnd, IsPut, sectors_in}
 use Rattle.stack_engine.specs.Stacks.{StackRecord}
 
 -- the bytes of 1 to 128 whole sectors

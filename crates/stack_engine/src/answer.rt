@@ -1,5 +1,5 @@
 // What a read answers.
-use crate::found::Found;
+use stack_meaning::Found;
 use std::marker::Model;
 
 /// The bytes of a piece, 512 for each of its sectors, and the chains that show them: one for each block of a

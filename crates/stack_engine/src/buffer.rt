@@ -2,10 +2,10 @@
 ghost use Rattle.std.specs.Prelude.{◌≡◌, ◌≤◌, ◌+◌, ◌*◌, ◌/◌, length, replicate, IfOk, OnErr, vec_len};
 ghost use Rattle.stack_rules.specs.Names.{mapped, size};
 ghost use Rattle.stack_rules.specs.Rules.{IsLoaded};
-ghost use Rattle.stack_engine.specs.Meaning.{said_at};
-ghost use Rattle.stack_engine.specs.Writing.{SomeEncrypt, IsBufferFor};
+ghost use Rattle.stack_meaning.specs.Meaning.{said_at};
+ghost use Rattle.stack_lines.specs.Writing.{SomeEncrypt, IsBufferFor};
 
-use crate::encrypts::device_encrypts;
+use stack_lines::device_encrypts;
 use stack_loader::{Config, DevId};
 use std::alloc::{AllocError, Global};
 

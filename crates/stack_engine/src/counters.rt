@@ -1,7 +1,7 @@
 // What the leaves have counted.
 ghost use Rattle.std.specs.Prelude.{◌≡◌, map};
 ghost use Rattle.block_device.specs.Device.{capped};
-ghost use Rattle.stack_engine.specs.Leaves.{reads_of, writes_of};
+ghost use Rattle.stack_meaning.specs.Leaves.{reads_of, writes_of};
 
 use block_device::BlockDev;
 

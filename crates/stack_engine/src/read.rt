@@ -1,33 +1,31 @@
 // Reads through the lines of a stack, down to its leaves.
 ghost use Rattle.std.specs.Prelude.{◌≡◌, ◌/◌, List, length, map};
 ghost use Rattle.stack_rules.specs.Names.{mapped};
-ghost use Rattle.stack_engine.specs.declared.source.Source.TheVariants.{Below};
-ghost use Rattle.stack_engine.specs.Found.{FoundRecord};
-ghost use Rattle.stack_engine.specs.Places.{place_of, run_expected};
-ghost use Rattle.stack_engine.specs.Meaning.{said_at};
-ghost use Rattle.stack_engine.specs.Reading.{Gets, Reads, IsPlain, buffer_answer};
-ghost use Rattle.stack_engine.specs.Sources.{ReadsSource, source_said};
-ghost use Rattle.stack_engine.specs.Extents.{LiesInside};
-ghost use Rattle.stack_engine.specs.Walks.{HasDataBlock, block_in, checked_expected, data_expected, GetsChain};
-ghost use Rattle.stack_engine.specs.Caches.{KeepsCache, IsPlaceOf};
+ghost use Rattle.stack_lines.specs.declared.source.Source.TheVariants.{Below};
+ghost use Rattle.stack_meaning.specs.Found.{FoundRecord};
+ghost use Rattle.stack_meaning.specs.Places.{place_of, run_expected};
+ghost use Rattle.stack_meaning.specs.Meaning.{said_at};
+ghost use Rattle.stack_meaning.specs.Reading.{Gets, Reads, IsPlain, buffer_answer};
+ghost use Rattle.stack_lines.specs.Sources.{ReadsSource, source_said};
+ghost use Rattle.stack_lines.specs.Extents.{LiesInside};
+ghost use Rattle.stack_lines.specs.Walks.{HasDataBlock, block_in, checked_expected, data_expected, GetsChain};
+ghost use Rattle.stack_lines.specs.Caches.{KeepsCache, IsPlaceOf};
 ghost use Rattle.stack_engine.specs.Stacks.{IsSound, IsStack};
 ghost use Rattle.stack_engine.specs.Premises.{FitsIn, CanRead};
 
 use crate::buffer::{fill_zeros, zero_block, zero_sectors};
-use crate::fault::IoFault;
-use crate::found::Found;
 use crate::reader::Reader;
-use crate::serve::run_at;
-use crate::source::{BlockPart, Source};
-use crate::tree::{
-    Extent, Tree, copy_part, data_extent, find, hash_extent, hash_key, is_ignored, tree_at,
-    verity_at,
-};
-use crate::units::{MOST, crypt_at, decrypt, take_sectors, unit_at, whole_unit};
 use block_device::BlockDev;
 use dm_table::Verity;
 use hash_tree::{Chain, Salt, digest, digest_in};
+use stack_lines::tree::{
+    Extent, Tree, copy_part, data_extent, find, hash_extent, hash_key, is_ignored, tree_at,
+    verity_at,
+};
+use stack_lines::units::{MOST, crypt_at, decrypt, take_sectors, unit_at, whole_unit};
+use stack_lines::{BlockPart, Source, run_at};
 use stack_loader::{Config, DevId, Lower};
+use stack_meaning::{Found, IoFault};
 use verified_cache::Key;
 
 /// The sectors of a leaf, by one call of its device.

@@ -1,6 +1,6 @@
 // What reads and writes use beside the configuration.
-use crate::cache::Cache;
 use block_device::BlockDev;
+use stack_lines::Cache;
 use std::alloc::Global;
 
 /// The devices of the leaves in order, the cache, and the allocator.

@@ -3,8 +3,8 @@ ghost use Rattle.std.specs.Prelude.{◌≡◌, ◌≢◌, ◌≤◌, IsOk, IsTru
 ghost use Rattle.block_device.specs.Device.{IsUnsynced};
 ghost use Rattle.stack_engine.specs.Syncs.{FailsToSync};
 
-use crate::fault::IoFault;
 use block_device::{DeviceFault, SyncDev};
+use stack_meaning::IoFault;
 
 /// Syncs each leaf that was written, in order up to the first of which that fails.
 pub(crate) fn sync_leaves<D: SyncDev>(devices: &mut [D]) -> Result<(), IoFault>

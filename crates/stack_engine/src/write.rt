@@ -1,23 +1,21 @@
 // Writes through the lines of a stack, down to its leaves.
 ghost use Rattle.std.specs.Prelude.{◌≡◌, ◌≤◌, ◌-◌, ◌⊎◌, ◌++◌, [], IsTrue, map, take, drop};
 ghost use Rattle.stack_rules.specs.Names.{mapped, may_write};
-ghost use Rattle.stack_engine.specs.declared.source.Source.TheVariants.{Below};
-ghost use Rattle.stack_engine.specs.Meaning.{said_at};
-ghost use Rattle.stack_engine.specs.Sources.{source_said};
-ghost use Rattle.stack_engine.specs.Writing.{AreHeld, sectors_in, destination_of, Writes, source_destination};
-ghost use Rattle.stack_engine.specs.Caches.{KeepsCache};
+ghost use Rattle.stack_lines.specs.declared.source.Source.TheVariants.{Below};
+ghost use Rattle.stack_meaning.specs.Meaning.{said_at};
+ghost use Rattle.stack_lines.specs.Sources.{source_said};
+ghost use Rattle.stack_lines.specs.Writing.{AreHeld, sectors_in, destination_of, Writes, source_destination};
+ghost use Rattle.stack_lines.specs.Caches.{KeepsCache};
 ghost use Rattle.stack_engine.specs.Stacks.{IsSound};
 ghost use Rattle.stack_engine.specs.Premises.{FitsIn, CanWrite};
 
-use crate::cuts::{Steps, lower_cuts};
-use crate::fault::IoFault;
 use crate::read::read_units;
 use crate::reader::Reader;
-use crate::serve::run_at;
-use crate::source::{BlockPart, Source};
-use crate::units::{MOST, crypt_at, encrypt, put_sectors, unit_at, whole_unit};
 use block_device::BlockDev;
+use stack_lines::units::{MOST, crypt_at, encrypt, put_sectors, unit_at, whole_unit};
+use stack_lines::{BlockPart, Source, Steps, lower_cuts, run_at};
 use stack_loader::{Config, DevId, Lower, unit_sectors};
+use stack_meaning::IoFault;
 
 /// The sectors of a leaf, by one call of its device.
 fn write_sectors<D: BlockDev>(

@@ -1,6 +1,6 @@
 //! Stacks made of texts.
 ghost use Rattle.std.specs.Prelude.{map};
-ghost use Rattle.stack_engine.specs.Leaves.{ServeLeaves};
+ghost use Rattle.stack_meaning.specs.Leaves.{ServeLeaves};
 
 use crate::leaves::leaf_of;
 use crate::lists::pair;

@@ -8,11 +8,11 @@ use Rattle.stack_rules.specs.Names.{mapped}
 use Rattle.stack_rules.specs.Records.{Configuration}
 use Rattle.stack_rules.specs.Rules.{IsLoaded}
 use Rattle.stack_rules.specs.Trees.{block_sectors}
-use Rattle.stack_engine.specs.Blocks.{block_at}
-use Rattle.stack_engine.specs.Meaning.{Said, content_part, line_said, said_by_name, sector}
-use Rattle.stack_engine.specs.Outcomes.{Fault, Images, Outcome, then_outcome}
+use Rattle.stack_meaning.specs.Blocks.{block_at}
+use Rattle.stack_meaning.specs.Meaning.{Said, content_part, line_said, said_by_name, sector}
+use Rattle.stack_meaning.specs.Outcomes.{Fault, Images, Outcome, then_outcome}
 use Rattle.stack_engine.proofs.lemmas.BlockLemmas.{same_block}
-use Rattle.stack_engine.proofs.lemmas.SectorLemmas.{said_at-line}
+use Rattle.stack_meaning.proofs.lemmas.SectorLemmas.{said_at-line}
 use Rattle.stack_recovery.specs.Alike.{AreAlike}
 use Rattle.stack_recovery.specs.Pieces.{AreLostTogether}
 

@@ -2,8 +2,8 @@
 use Rattle.std.proofs.Common.{◌≡◌, ℕ, zero, suc, ◌+◌, ◌≤◌, ◌<◌, ◌==◌, ◌&&◌, Bool, true, false, cond, List, [], ◌∷◌, ◌++◌, length, replicate, Option, Some, None, refl, sym, ap, ◌∙◌, subst, arith}
 use Rattle.std.proofs.lemmas.Bool.{eqb-true, eq-eqb, ne_eqb, and_from, and_left, and_right}
 use Rattle.std.proofs.lemmas.List.{append-nil, append_assoc, length-append, length-replicate}
-use Rattle.stack_engine.specs.declared.fault.IoFault.{IoFault}
-use Rattle.stack_engine.specs.declared.fault.IoFault.TheVariants.{ErrorTarget, Mismatch, Device, NoMemory}
+use Rattle.stack_meaning.specs.declared.fault.IoFault.{IoFault}
+use Rattle.stack_meaning.specs.declared.fault.IoFault.TheVariants.{ErrorTarget, Mismatch, Device, NoMemory}
 use Rattle.stack_recovery.specs.declared.lost_run.LostRun.{LostRun}
 use Rattle.stack_recovery.specs.LostRuns.{is_same, run, follows, run_before, lost_runs, lost_in}
 use Rattle.stack_recovery.specs.Surveys.{State}

@@ -4,14 +4,14 @@ use Rattle.std.proofs.lemmas.List.{length-append, length-replicate}
 use Rattle.block_device.specs.Device.{Device, in_memory}
 use Rattle.stack_rules.specs.Names.{mapped}
 use Rattle.stack_rules.specs.Records.{Configuration}
-use Rattle.stack_engine.specs.declared.fault.IoFault.{IoFault}
-use Rattle.stack_engine.specs.declared.fault.IoFault.TheVariants.{ErrorTarget, Mismatch, Device as DeviceFailed, NoMemory}
-use Rattle.stack_engine.specs.Leaves.{AreRead, images_of}
-use Rattle.stack_engine.specs.Meaning.{sector}
-use Rattle.stack_engine.specs.Outcomes.{Fault, Images, Outcome, error_target, joint_outcome, mismatch, span}
+use Rattle.stack_meaning.specs.declared.fault.IoFault.{IoFault}
+use Rattle.stack_meaning.specs.declared.fault.IoFault.TheVariants.{ErrorTarget, Mismatch, Device as DeviceFailed, NoMemory}
+use Rattle.stack_meaning.specs.Leaves.{AreRead, images_of}
+use Rattle.stack_meaning.specs.Meaning.{sector}
+use Rattle.stack_meaning.specs.Outcomes.{Fault, Images, Outcome, error_target, joint_outcome, mismatch, span}
 use Rattle.stack_engine.specs.Pieces.{EachPiece}
 use Rattle.stack_engine.specs.Stacks.{StackRecord}
-use Rattle.stack_engine.proofs.lemmas.LeafListLemmas.{AllSteady-kept, images-kept, same_length}
+use Rattle.stack_meaning.proofs.lemmas.LeafListLemmas.{AllSteady-kept, images-kept, same_length}
 use Rattle.stack_recovery.specs.Alike.{AreAlike}
 use Rattle.stack_recovery.specs.Laws.{AreSure, StatesAreMeant, meant_state, meant_states}
 use Rattle.stack_recovery.specs.Surveys.{Finding, IsPieceRead, State, again, all_states, had, lost, states_found, states_of}

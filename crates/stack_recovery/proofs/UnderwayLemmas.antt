@@ -4,8 +4,8 @@ use Rattle.std.specs.Io.KnownBytes.{Appends}
 use Rattle.std.proofs.lemmas.List.{append-nil, length-append, length-replicate}
 use Rattle.block_device.specs.Device.{Device, IsWritten, sectors_of, spliced}
 use Rattle.stack_rules.specs.Names.{mapped, size}
-use Rattle.stack_engine.specs.declared.fault.IoFault.{IoFault}
-use Rattle.stack_engine.specs.declared.fault.IoFault.TheVariants.{NoMemory}
+use Rattle.stack_meaning.specs.declared.fault.IoFault.{IoFault}
+use Rattle.stack_meaning.specs.declared.fault.IoFault.TheVariants.{NoMemory}
 use Rattle.stack_engine.specs.Pieces.{EachPiece}
 use Rattle.stack_engine.specs.Stacks.{AnswerRecord, StackRecord}
 use Rattle.stack_recovery.specs.declared.lost_run.LostRun.{LostRun}

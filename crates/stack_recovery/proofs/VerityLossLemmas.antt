@@ -4,12 +4,12 @@ use Rattle.dm_table.specs.declared.table.Target.{Target}
 use Rattle.dm_table.specs.declared.table.Target.TheVariants.{Verity as verity_target}
 use Rattle.stack_rules.specs.Names.{mapped}
 use Rattle.stack_rules.specs.Trees.{block_sectors}
-use Rattle.stack_engine.specs.Kept.{block_of}
-use Rattle.stack_engine.specs.Meaning.{Said, content_part, line_said, said_by_name, sector}
-use Rattle.stack_engine.specs.Outcomes.{Fault, Outcome, then_outcome}
-use Rattle.stack_engine.proofs.lemmas.EachLineLemmas.{line_at-end}
-use Rattle.stack_engine.proofs.lemmas.LineLemmas.{line-start}
-use Rattle.stack_engine.proofs.lemmas.SectorLemmas.{said_at-line}
+use Rattle.stack_meaning.specs.Kept.{block_of}
+use Rattle.stack_meaning.specs.Meaning.{Said, content_part, line_said, said_by_name, sector}
+use Rattle.stack_meaning.specs.Outcomes.{Fault, Outcome, then_outcome}
+use Rattle.stack_meaning.proofs.lemmas.EachLineLemmas.{line_at-end}
+use Rattle.stack_meaning.proofs.lemmas.LineLemmas.{line-start}
+use Rattle.stack_meaning.proofs.lemmas.SectorLemmas.{said_at-line}
 use Rattle.stack_recovery.specs.Laws.{LostBlocksAreLost}
 
 fault-from : (x : Outcome) (f : List ℕ → List ℕ) (fault : Fault) → then_outcome x (λ b. Ok (f b)) ≡ Err fault → x ≡ Err fault

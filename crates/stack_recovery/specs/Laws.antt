@@ -7,12 +7,12 @@ use Rattle.stack_rules.specs.Names.{mapped}
 use Rattle.stack_rules.specs.Records.{Configuration}
 use Rattle.stack_rules.specs.Rules.{IsLoaded}
 use Rattle.stack_rules.specs.Trees.{block_sectors}
-use Rattle.stack_engine.specs.declared.fault.IoFault.TheVariants.{ErrorTarget, Mismatch}
-use Rattle.stack_engine.specs.Kept.{block_of}
+use Rattle.stack_meaning.specs.declared.fault.IoFault.TheVariants.{ErrorTarget, Mismatch}
+use Rattle.stack_meaning.specs.Kept.{block_of}
 use Rattle.stack_engine.specs.Laws.{LiesInVerity}
-use Rattle.stack_engine.specs.Leaves.{AllSteady, images_of}
-use Rattle.stack_engine.specs.Meaning.{sector}
-use Rattle.stack_engine.specs.Outcomes.{Fault, Images, Outcome, error_target, mismatch}
+use Rattle.stack_meaning.specs.Leaves.{AllSteady, images_of}
+use Rattle.stack_meaning.specs.Meaning.{sector}
+use Rattle.stack_meaning.specs.Outcomes.{Fault, Images, Outcome, error_target, mismatch}
 use Rattle.stack_engine.specs.Stacks.{StackRecord}
 use Rattle.stack_recovery.specs.declared.lost_run.LostRun.{LostRun}
 use Rattle.stack_recovery.specs.LostRuns.{lost_runs}

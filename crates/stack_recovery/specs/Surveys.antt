@@ -2,8 +2,8 @@
 use Rattle.std.specs.Prelude.{◌≡◌, ◌≢◌, ℕ, ◌+◌, List, [], ◌∷◌, length, replicate, Option, Some, None, Result, Ok, Err}
 use Rattle.std.specs.List.{flat_map}
 use Rattle.stack_rules.specs.Records.{Configuration}
-use Rattle.stack_engine.specs.declared.fault.IoFault.{IoFault}
-use Rattle.stack_engine.specs.declared.fault.IoFault.TheVariants.{NoMemory}
+use Rattle.stack_meaning.specs.declared.fault.IoFault.{IoFault}
+use Rattle.stack_meaning.specs.declared.fault.IoFault.TheVariants.{NoMemory}
 use Rattle.stack_engine.specs.Pieces.{EachPiece}
 use Rattle.stack_engine.specs.Stacks.{AnswerRecord, StackRecord}
 use Rattle.stack_recovery.specs.Alike.{AreAlike}

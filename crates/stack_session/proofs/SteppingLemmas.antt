@@ -4,7 +4,7 @@ use Rattle.block_device.specs.Device.{Device}
 use Rattle.dm_table.specs.declared.stack.Entry.{Entry}
 use Rattle.dm_table.specs.declared.fault.TextFault.{TextFault}
 use Rattle.dm_table.specs.StackText.{stack_of}
-use Rattle.stack_engine.specs.Leaves.{AllSteady}
+use Rattle.stack_meaning.specs.Leaves.{AllSteady}
 use Rattle.request_queue.specs.Parts.{AnyPart, SteadyPart, EachPart}
 use Rattle.request_queue.specs.Runs.{Turn}
 use Rattle.request_queue.specs.World.{World, Event, Step}

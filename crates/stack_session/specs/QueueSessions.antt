@@ -1,6 +1,6 @@
 -- A session whose lines are served by a queue.
 use Rattle.std.specs.Prelude.{◌≡◌, List, Result, IfSome, OnOk}
-use Rattle.stack_engine.specs.Leaves.{AllSteady}
+use Rattle.stack_meaning.specs.Leaves.{AllSteady}
 use Rattle.request_queue.specs.Parts.{PartRelation, AnyPart, SteadyPart, EachPart}
 use Rattle.request_queue.specs.Runs.{Turn, Run, last}
 use Rattle.request_queue.specs.World.{World, Step}

@@ -7,9 +7,9 @@ use Rattle.stack_rules.specs.declared.refusal.LoadFault.{LoadFault}
 use Rattle.stack_rules.specs.declared.refusal.LoadFault.TheVariants as load
 use Rattle.stack_rules.specs.declared.refusal.Refusal.{Refusal}
 use Rattle.stack_rules.specs.declared.refusal.RemoveFault.{RemoveFault}
-use Rattle.stack_engine.specs.declared.fault.IoFault.{IoFault}
-use Rattle.stack_engine.specs.declared.fault.IoFault.TheVariants as io
-use Rattle.stack_engine.specs.IoFaults.{io_number, io_name}
+use Rattle.stack_meaning.specs.declared.fault.IoFault.{IoFault}
+use Rattle.stack_meaning.specs.declared.fault.IoFault.TheVariants as io
+use Rattle.stack_meaning.specs.IoFaults.{io_number, io_name}
 use Rattle.dm_table.specs.TextKinds.{text_number, text_name}
 use Rattle.stack_rules.specs.FaultKinds.{load_number, load_name, removal_number, removal_name}
 use Rattle.request_queue.specs.declared.fault.Held.{Held}

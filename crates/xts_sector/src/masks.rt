@@ -45,13 +45,31 @@ fn add_mask(block: &mut [u8], mask: &[u8])
     sum.copy_to_slice(block);
 }
 
-/// Adds to each block its mask.
+/// Adds to two blocks their masks.
+#[inline(always)]
+fn add_two_masks(blocks: &mut [u8], masks: &[u8])
+    requires blocks { length blocks.old ≡ 32 }
+    requires masks { length masks.now ≡ 32 }
+    ensures { blocks.new ≡ joined (λ j. add_blocks (block blocks.old j) (block masks.now j)) 2 }
+{
+    let sum = u8x32::from_slice(blocks) ^ u8x32::from_slice(masks);
+    sum.copy_to_slice(blocks);
+}
+
+/// Adds to each block its mask, two blocks at once.
 pub fn add_masks(blocks: &mut [u8], masks: &[u8])
     requires same { length masks.now ≡ length blocks.old }
     requires whole { length blocks.old % 16 ≡ 0 }
     ensures { blocks.new ≡ joined (λ j. add_blocks (block blocks.old j) (block masks.now j)) (length blocks.old / 16) }
 {
-    for j in 0..blocks.len() / 16 {
+    let pairs = blocks.len() / 32;
+    for i in 0..pairs {
+        add_two_masks(
+            &mut blocks[32 * i..32 * i + 32],
+            &masks[32 * i..32 * i + 32],
+        );
+    }
+    for j in 2 * pairs..blocks.len() / 16 {
         add_mask(
             &mut blocks[16 * j..16 * j + 16],
             &masks[16 * j..16 * j + 16],

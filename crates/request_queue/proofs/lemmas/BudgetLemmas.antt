@@ -7,7 +7,7 @@ use Rattle.dm_table.specs.declared.stack.Entry.{Entry}
 use Rattle.stack_rules.specs.declared.refusal.LoadFault.{LoadFault}
 use Rattle.stack_rules.specs.declared.refusal.RemoveFault.{RemoveFault}
 use Rattle.stack_rules.specs.Records.{Configuration}
-use Rattle.stack_engine.specs.declared.fault.IoFault.{IoFault}
+use Rattle.stack_meaning.specs.declared.fault.IoFault.{IoFault}
 use Rattle.stack_engine.specs.Stacks.{StackRecord, AnswerRecord}
 use Rattle.request_queue.specs.declared.fault.Held.{Held}
 use Rattle.request_queue.specs.declared.fault.Held.TheVariants.{Busy, Fault}

@@ -4,11 +4,11 @@ use Rattle.block_device.specs.Device.{Device}
 use Rattle.dm_table.specs.declared.stack.Entry.{Entry}
 use Rattle.stack_rules.specs.declared.refusal.LoadFault.{LoadFault}
 use Rattle.stack_rules.specs.declared.refusal.RemoveFault.{RemoveFault}
-use Rattle.stack_engine.specs.declared.fault.IoFault.{IoFault}
-use Rattle.stack_engine.specs.Leaves.{AllSteady}
+use Rattle.stack_meaning.specs.declared.fault.IoFault.{IoFault}
+use Rattle.stack_meaning.specs.Leaves.{AllSteady}
 use Rattle.stack_engine.specs.Stacks.{StackRecord, AnswerRecord}
 use Rattle.stack_engine.specs.Syncs.{FailsToSync}
-use Rattle.stack_engine.proofs.lemmas.LeafListLemmas.{AllSteady-kept}
+use Rattle.stack_meaning.proofs.lemmas.LeafListLemmas.{AllSteady-kept}
 use Rattle.stack_engine.proofs.lemmas.SyncLemmas.{unsynced-steady}
 use Rattle.request_queue.specs.declared.fault.Held.{Held}
 use Rattle.request_queue.specs.declared.fault.Held.TheVariants.{Busy, Fault}

@@ -4,11 +4,11 @@ use Rattle.std.proofs.lemmas.List.{length-take-le, take-append-drop}
 use Rattle.std.proofs.Math.Seq.{take-length, take-add}
 use Rattle.stack_rules.specs.Names.{mapped}
 use Rattle.stack_rules.specs.Rules.{IsLoaded}
-use Rattle.stack_engine.specs.declared.fault.IoFault.{IoFault}
-use Rattle.stack_engine.specs.declared.fault.IoFault.TheVariants as io
+use Rattle.stack_meaning.specs.declared.fault.IoFault.{IoFault}
+use Rattle.stack_meaning.specs.declared.fault.IoFault.TheVariants as io
 use Rattle.stack_engine.specs.Pieces.{EachPiece, stack_over}
 use Rattle.stack_engine.specs.WritePieces.{EachWrite, WritesInPieces}
-use Rattle.stack_engine.specs.Reading.{Gets}
+use Rattle.stack_meaning.specs.Reading.{Gets}
 use Rattle.stack_engine.specs.Stacks.{StackRecord, AnswerRecord}
 use Rattle.stack_engine.proofs.lemmas.PieceLemmas.{piece_expected, pieces_expected, no-pieces, more-pieces, fault-pieces, piece-got}
 use Rattle.stack_engine.proofs.lemmas.WritePieceLemmas.{write-none, write-then, write-ends}

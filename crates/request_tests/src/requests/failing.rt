@@ -1,5 +1,5 @@
 // Requests in flight over a device of which one call fails: a read, a write and a read, each of three pieces.
-use super::{LINES, is_done, is_filled, is_more, queue_of, read, submit_fault, write};
+use super::queues::{LINES, is_done, is_filled, is_more, queue_of, read, submit_fault, write};
 use block_device::{FailAt, MemoryDev};
 use request_queue::{Progress, Reply, Ticket};
 use stack_engine::IoFault;

@@ -16,18 +16,18 @@ use Rattle.stack_rules.specs.Records.{Configuration}
 use Rattle.stack_rules.specs.Rules.{IsLoaded}
 use Rattle.stack_rules.specs.Trees.{tree_of, zero_block}
 use Rattle.stack_rules.specs.Units.{unit_sectors}
-use Rattle.stack_engine.specs.Units.{unit_first}
-use Rattle.stack_engine.specs.Beneath.{beneath, said_or}
-use Rattle.stack_engine.specs.Blocks.{is_ignored}
-use Rattle.stack_engine.specs.Found.{FoundRecord, Entry, entry_of, AreDistinct}
+use Rattle.stack_meaning.specs.Units.{unit_first}
+use Rattle.stack_meaning.specs.Beneath.{beneath, said_or}
+use Rattle.stack_meaning.specs.Blocks.{is_ignored}
+use Rattle.stack_meaning.specs.Found.{FoundRecord, Entry, entry_of, AreDistinct}
 use Rattle.stack_engine.specs.Laws.{digests_of, IsSha256Collision}
-use Rattle.stack_engine.specs.May.{MayBe}
-use Rattle.stack_engine.specs.Meaning.{Said, none_said, line_said, said_at, IsShown}
-use Rattle.stack_engine.specs.Outcomes.{part}
-use Rattle.stack_engine.specs.Walks.{HasVerity}
-use Rattle.stack_engine.proofs.VerityLineLemmas.{line-facts}
-use Rattle.stack_engine.proofs.lemmas.EachLineLemmas.{IsHandedUpIn, said_at-each_in}
-use Rattle.stack_engine.proofs.lemmas.FoundLemmas.{of-gathered}
+use Rattle.stack_meaning.specs.May.{MayBe}
+use Rattle.stack_meaning.specs.Meaning.{Said, none_said, line_said, said_at, IsShown}
+use Rattle.stack_meaning.specs.Outcomes.{part}
+use Rattle.stack_lines.specs.Walks.{HasVerity}
+use Rattle.stack_lines.proofs.lemmas.VerityLineLemmas.{line-facts}
+use Rattle.stack_meaning.proofs.lemmas.EachLineLemmas.{IsHandedUpIn, said_at-each_in}
+use Rattle.stack_meaning.proofs.lemmas.FoundLemmas.{of-gathered}
 use Rattle.stack_engine.proofs.lemmas.WalkLemmas.{ignored-digest}
 
 -- ---- what stands for an entry on a sector's way
@@ -94,7 +94,7 @@ answered-good c lower first n bytes chains may x there =
     (shown.1, shown.2, subst (λ (y : FoundRecord). IsGood (tree_of shown.1) shown.1.salt shown.1.root y.chain) same shown.3.good)
 
 one-line : (c : Configuration) (d l : ℕ) (v w : Verity) → HasVerity c d l v → HasVerity c d l w → v ≡ w
-one-line c d l v w a b = Rattle.stack_engine.proofs.VerityLineLemmas.same-verity c d l 0 0 v w a b
+one-line c d l v w a b = Rattle.stack_lines.proofs.lemmas.VerityLineLemmas.same-verity c d l 0 0 v w a b
 
 -- a collision of blocks is one of SHA-256's inputs
 sha-collision : (salt a b : List ℕ) → IsCollision salt a b → IsSha256Collision (salt ++ a) (salt ++ b)

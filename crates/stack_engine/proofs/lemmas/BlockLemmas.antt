@@ -11,20 +11,20 @@ use Rattle.block_device.specs.Device.{Device}
 use Rattle.dm_table.specs.declared.verity.Verity.{Verity}
 use Rattle.stack_rules.specs.Records.{Configuration}
 use Rattle.stack_rules.specs.Trees.{tree_of, block_sectors}
-use Rattle.stack_engine.specs.declared.fault.IoFault.{IoFault}
-use Rattle.stack_engine.specs.Sectors.{SomeOf}
-use Rattle.stack_engine.specs.Outcomes.{Outcome, Images, then_outcome, part}
-use Rattle.stack_engine.specs.Found.{FoundRecord, Entry, entry_of, Grown}
-use Rattle.stack_engine.specs.Blocks.{block_at, BlockMeets}
-use Rattle.stack_engine.specs.Meaning.{content_part, verity_said}
-use Rattle.stack_engine.specs.Kept.{IsKept, AllKept}
-use Rattle.stack_engine.specs.Leaves.{images_of, AllSteady, AreRead}
-use Rattle.stack_engine.specs.Places.{Place, run_expected}
-use Rattle.stack_engine.specs.Reading.{Gets}
-use Rattle.stack_engine.specs.Walks.{DataBlock, chain_expected, GetsChain}
-use Rattle.stack_engine.proofs.lemmas.LeafListLemmas.{AreRead-none}
-use Rattle.stack_engine.proofs.lemmas.SpanLemmas.{span_block, span_fails}
-use Rattle.stack_engine.proofs.lemmas.RunLemmas.{fault_passes}
+use Rattle.stack_meaning.specs.declared.fault.IoFault.{IoFault}
+use Rattle.stack_meaning.specs.Sectors.{SomeOf}
+use Rattle.stack_meaning.specs.Outcomes.{Outcome, Images, then_outcome, part}
+use Rattle.stack_meaning.specs.Found.{FoundRecord, Entry, entry_of, Grown}
+use Rattle.stack_meaning.specs.Blocks.{block_at, BlockMeets}
+use Rattle.stack_meaning.specs.Meaning.{content_part, verity_said}
+use Rattle.stack_meaning.specs.Kept.{IsKept, AllKept}
+use Rattle.stack_meaning.specs.Leaves.{images_of, AllSteady, AreRead}
+use Rattle.stack_meaning.specs.Places.{Place, run_expected}
+use Rattle.stack_meaning.specs.Reading.{Gets}
+use Rattle.stack_lines.specs.Walks.{DataBlock, chain_expected, GetsChain}
+use Rattle.stack_meaning.proofs.lemmas.LeafListLemmas.{AreRead-none}
+use Rattle.stack_meaning.proofs.lemmas.SpanLemmas.{span_block, span_fails}
+use Rattle.stack_meaning.proofs.lemmas.RunLemmas.{fault_passes}
 
 -- ---- places within a block
 

@@ -5,18 +5,18 @@ use Rattle.block_device.specs.Device.{Device}
 use Rattle.stack_rules.specs.declared.lower.Lower.{Lower}
 use Rattle.stack_rules.specs.Records.{Configuration}
 use Rattle.stack_rules.specs.Names.{mapped}
-use Rattle.stack_engine.specs.declared.fault.IoFault.{IoFault}
-use Rattle.stack_engine.specs.Found.{FoundRecord}
-use Rattle.stack_engine.specs.Meaning.{said_at}
-use Rattle.stack_engine.specs.May.{MayRead, MayBe}
-use Rattle.stack_engine.specs.Leaves.{AreRead}
-use Rattle.stack_engine.specs.Places.{place_of, Expected, run_expected}
-use Rattle.stack_engine.specs.Reading.{Gets, Reads}
+use Rattle.stack_meaning.specs.declared.fault.IoFault.{IoFault}
+use Rattle.stack_meaning.specs.Found.{FoundRecord}
+use Rattle.stack_meaning.specs.Meaning.{said_at}
+use Rattle.stack_meaning.specs.May.{MayRead, MayBe}
+use Rattle.stack_meaning.specs.Leaves.{AreRead}
+use Rattle.stack_meaning.specs.Places.{place_of, Expected, run_expected}
+use Rattle.stack_meaning.specs.Reading.{Gets, Reads}
 use Rattle.stack_engine.specs.Stacks.{StackRecord, AnswerRecord, IsSound}
 use Rattle.stack_engine.specs.Pieces.{AnyPiece, EachPiece, stack_over}
-use Rattle.stack_engine.proofs.lemmas.LeafListLemmas.{AreRead-none, leaves_kept}
-use Rattle.stack_engine.proofs.lemmas.FoundLemmas.{HasMore, used-append, said_at-mono}
-use Rattle.stack_engine.proofs.lemmas.RunLemmas.{fault_passes, fill_ok, fill_err, fill_more}
+use Rattle.stack_meaning.proofs.lemmas.LeafListLemmas.{AreRead-none, leaves_kept}
+use Rattle.stack_meaning.proofs.lemmas.FoundLemmas.{HasMore, used-append, said_at-mono}
+use Rattle.stack_meaning.proofs.lemmas.RunLemmas.{fault_passes, fill_ok, fill_err, fill_more}
 
 pub piece-sound : (c : Configuration) {old new : List Device} {n : ℕ} → IsSound c old → AreRead old n new → IsSound c new
 piece-sound c {old = old} {new = new} s a = record { loaded = s.loaded; serve = leaves_kept c.leaves old new a.moved.fixed s.serve }

@@ -6,11 +6,11 @@ use Rattle.std.proofs.lemmas.Bool.{cases_eq}
 use Rattle.std.proofs.lemmas.List.{get_or-map, get_or-set_same, get_or-set_other, length-map, map-set}
 use Rattle.std.proofs.lemmas.List.Sums.{sum-map}
 use Rattle.block_device.specs.Device.{Device, HasFailed, IsUnsynced}
-use Rattle.stack_engine.specs.declared.fault.IoFault.{IoFault}
-use Rattle.stack_engine.specs.declared.fault.IoFault.TheVariants as io
-use Rattle.stack_engine.specs.Leaves.{AllSteady, AreRead, Counts, fixed_part}
+use Rattle.stack_meaning.specs.declared.fault.IoFault.{IoFault}
+use Rattle.stack_meaning.specs.declared.fault.IoFault.TheVariants as io
+use Rattle.stack_meaning.specs.Leaves.{AllSteady, AreRead, Counts, fixed_part}
 use Rattle.stack_engine.specs.Syncs.{FailsToSync, LeafUnsynced, NeverFail}
-use Rattle.stack_engine.proofs.lemmas.LeafListLemmas.{AllSteady-kept, AreRead-none}
+use Rattle.stack_meaning.proofs.lemmas.LeafListLemmas.{AllSteady-kept, AreRead-none}
 
 module _ (i : ℕ) (old new : List Device) (u : LeafUnsynced i old new) where
   -- what of the leaf is as it was is so of each leaf

@@ -10,17 +10,17 @@ use Rattle.hash_tree.specs.Shape.{levels}
 use Rattle.block_device.specs.Device.{Device}
 use Rattle.dm_table.specs.declared.verity.Verity.{Verity}
 use Rattle.stack_rules.specs.Trees.{tree_of, block_sectors, zero_block}
-use Rattle.stack_engine.specs.declared.fault.IoFault.{IoFault}
-use Rattle.stack_engine.specs.declared.fault.IoFault.TheVariants as io
-use Rattle.stack_engine.specs.Outcomes.{mismatch, Outcome, Images, then_outcome}
-use Rattle.stack_engine.specs.Found.{FoundRecord}
-use Rattle.stack_engine.specs.Blocks.{hash_sectors, hash_start, next_digest, checked, checked_span, is_ignored, data_block_at}
-use Rattle.stack_engine.specs.Leaves.{images_of, AllSteady, AreRead}
-use Rattle.stack_engine.specs.Places.{Place, Expected, run_expected}
-use Rattle.stack_engine.specs.Reading.{Answers, Gets}
-use Rattle.stack_engine.specs.Walks.{checked_expected, DataBlock, means_below, data_expected, chain_expected, GetsChain, IsWalked}
-use Rattle.stack_engine.proofs.lemmas.LeafListLemmas.{AreRead-none, AreRead-then, AreRead-more, AllSteady-kept, images-kept}
-use Rattle.stack_engine.proofs.lemmas.RunLemmas.{fault_passes}
+use Rattle.stack_meaning.specs.declared.fault.IoFault.{IoFault}
+use Rattle.stack_meaning.specs.declared.fault.IoFault.TheVariants as io
+use Rattle.stack_meaning.specs.Outcomes.{mismatch, Outcome, Images, then_outcome}
+use Rattle.stack_meaning.specs.Found.{FoundRecord}
+use Rattle.stack_meaning.specs.Blocks.{hash_sectors, hash_start, next_digest, checked, checked_span, is_ignored, data_block_at}
+use Rattle.stack_meaning.specs.Leaves.{images_of, AllSteady, AreRead}
+use Rattle.stack_meaning.specs.Places.{Place, Expected, run_expected}
+use Rattle.stack_meaning.specs.Reading.{Answers, Gets}
+use Rattle.stack_lines.specs.Walks.{checked_expected, DataBlock, means_below, data_expected, chain_expected, GetsChain, IsWalked}
+use Rattle.stack_meaning.proofs.lemmas.LeafListLemmas.{AreRead-none, AreRead-then, AreRead-more, AllSteady-kept, images-kept}
+use Rattle.stack_meaning.proofs.lemmas.RunLemmas.{fault_passes}
 
 -- ---- one block that is checked
 

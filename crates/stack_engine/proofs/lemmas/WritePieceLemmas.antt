@@ -5,19 +5,19 @@ use Rattle.std.proofs.Math.Nat.{add-mul, mul-le-mul_right}
 use Rattle.stack_rules.specs.Records.{Configuration}
 use Rattle.stack_rules.specs.Names.{mapped}
 use Rattle.stack_rules.specs.Descend.{write_cost}
-use Rattle.stack_engine.specs.declared.fault.IoFault.{IoFault}
-use Rattle.stack_engine.specs.declared.fault.IoFault.TheVariants as io
-use Rattle.stack_engine.specs.May.{MayFault}
-use Rattle.stack_engine.specs.Changes.{reached, AreWritten, AllWhole}
-use Rattle.stack_engine.specs.Writing.{sectors_in, MayEnd, destination_of, Writes}
+use Rattle.stack_meaning.specs.declared.fault.IoFault.{IoFault}
+use Rattle.stack_meaning.specs.declared.fault.IoFault.TheVariants as io
+use Rattle.stack_meaning.specs.May.{MayFault}
+use Rattle.stack_meaning.specs.Changes.{reached, AreWritten, AllWhole}
+use Rattle.stack_lines.specs.Writing.{sectors_in, MayEnd, destination_of, Writes}
 use Rattle.stack_engine.specs.Stacks.{StackRecord, IsSound}
-use Rattle.stack_engine.specs.Outcomes.{Fault, error_target, LeafSector}
-use Rattle.stack_engine.specs.Meaning.{said_at}
+use Rattle.stack_meaning.specs.Outcomes.{Fault, error_target, LeafSector}
+use Rattle.stack_meaning.specs.Meaning.{said_at}
 use Rattle.stack_engine.specs.WritePieces.{piece_reached, AnyWrite, EachWrite, WritesInPieces, nothing, next, ends}
-use Rattle.stack_engine.proofs.lemmas.LeafListLemmas.{leaves_kept, failed_later}
-use Rattle.stack_engine.proofs.lemmas.ChangeLemmas.{differ-within, reached-first, reached-later, AreWritten-none, AreWritten-then, AreWritten-more}
-use Rattle.stack_engine.proofs.lemmas.FoundLemmas.{SomeOf-more}
-use Rattle.stack_engine.proofs.lemmas.WriteRunLemmas.{length-sectors_in}
+use Rattle.stack_meaning.proofs.lemmas.LeafListLemmas.{leaves_kept, failed_later}
+use Rattle.stack_meaning.proofs.lemmas.ChangeLemmas.{differ-within, reached-first, reached-later, AreWritten-none, AreWritten-then, AreWritten-more}
+use Rattle.stack_meaning.proofs.lemmas.FoundLemmas.{SomeOf-more}
+use Rattle.stack_lines.proofs.lemmas.WriteRunLemmas.{length-sectors_in}
 
 -- a write of bytes to a mapped device
 abbrev pub WritesTo : Configuration → ℕ → ℕ → List ℕ → StackRecord → StackRecord → Result Unit IoFault → Type 0

@@ -1,5 +1,5 @@
 use Rattle.aes_lanes.specs.Circuit.{CarryEach, inverse}
-use Rattle.aes_lanes.proofs.GateLemmas.{Carries-xor, Carries-and}
+use Rattle.aes_lanes.proofs.GateLemmas.{Carries-xor, Carries-and, Carries-or}
 use Rattle.aes_lanes.proofs.circuit.inverse.Goals as goal
 
 pub returns : goal.returns
@@ -9,25 +9,23 @@ returns c p b v combined_bits lane low byte given_combined =
     let t22 = given_combined.0.0.1 in
     let t23 = given_combined.0.1 in
     let t24 = given_combined.1 in
-    let t25 = Carries-xor lane t21 t22 in
-    let t26 = Carries-and lane t21 t23 in
-    let t27 = Carries-xor lane t24 t26 in
-    let t28 = Carries-and lane t25 t27 in
-    let t29 = Carries-xor lane t28 t22 in
-    let t30 = Carries-xor lane t23 t24 in
-    let t31 = Carries-xor lane t22 t26 in
-    let t32 = Carries-and lane t31 t30 in
-    let t33 = Carries-xor lane t32 t24 in
-    let t34 = Carries-xor lane t23 t33 in
-    let t35 = Carries-xor lane t27 t33 in
-    let t36 = Carries-and lane t24 t35 in
-    let t37 = Carries-xor lane t36 t34 in
-    let t38 = Carries-xor lane t27 t36 in
-    let t39 = Carries-and lane t29 t38 in
-    let t40 = Carries-xor lane t25 t39 in
-    let t41 = Carries-xor lane t40 t37 in
-    let t42 = Carries-xor lane t29 t33 in
-    let t43 = Carries-xor lane t29 t40 in
+    let t25 = Carries-xor lane t23 t24 in
+    let t26 = Carries-and lane t21 t25 in
+    let t27 = Carries-and lane t22 t25 in
+    let t28 = Carries-or lane t24 t26 in
+    let t33 = Carries-xor lane t27 t28 in
+    let t30 = Carries-or lane t21 t27 in
+    let t31 = Carries-and lane t22 t23 in
+    let t43 = Carries-xor lane t30 t31 in
+    let t32 = Carries-xor lane t23 t33 in
+    let t34 = Carries-and lane t24 t30 in
+    let t37 = Carries-or lane t32 t34 in
     let t44 = Carries-xor lane t33 t37 in
-    let t45 = Carries-xor lane t42 t41 in
+    let t45 = Carries-xor lane t43 t44 in
+    let t35 = Carries-and lane t21 t43 in
+    let t36 = Carries-or lane t22 t26 in
+    let t40 = Carries-xor lane t35 t36 in
+    let t41 = Carries-xor lane t37 t40 in
+    let t29 = Carries-xor lane t43 t40 in
+    let t42 = Carries-xor lane t45 t41 in
     (((((((((tt, t29), t33), t37), t40), t41), t42), t43), t44), t45)

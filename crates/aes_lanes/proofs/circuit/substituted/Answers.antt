@@ -1,5 +1,5 @@
 use Rattle.aes_lanes.specs.Circuit.{CarryEach, substituted}
-use Rattle.aes_lanes.proofs.GateLemmas.{Carries-xor, Carries-ones}
+use Rattle.aes_lanes.proofs.GateLemmas.{Carries-xor}
 use Rattle.aes_lanes.proofs.circuit.substituted.Goals as goal
 
 pub returns : goal.returns
@@ -53,5 +53,4 @@ returns c p b v products_bits lane low byte given_products =
     let s5 = Carries-xor lane t47 t65 in
     let s1 = Carries-xor lane t64 s3 in
     let s2 = Carries-xor lane t55 t67 in
-    let ones = Carries-ones lane low byte in
-    ((((((((tt, Carries-xor lane s7 ones), Carries-xor lane s6 ones), s5), s4), s3), Carries-xor lane s2 ones), Carries-xor lane s1 ones), s0)
+    ((((((((tt, s7), s6), s5), s4), s3), s2), s1), s0)

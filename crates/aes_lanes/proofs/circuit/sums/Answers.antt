@@ -32,8 +32,6 @@ returns c p b v bits lane low byte given_x =
     let y11 = Carries-xor lane y20 y9 in
     let y7 = Carries-xor lane x7 y11 in
     let y17 = Carries-xor lane y10 y11 in
-    let y19 = Carries-xor lane y10 y8 in
     let y16 = Carries-xor lane t0 y11 in
-    let y21 = Carries-xor lane y13 y16 in
-    let y18 = Carries-xor lane x0 y16 in
-    ((((((((((((((((((((((tt, x7), y1), y2), y3), y4), y5), y6), y7), y8), y9), y10), y11), y12), y13), y14), y15), y16), y17), y18), y19), y20), y21)
+    let y18 = Carries-xor lane y3 y6 in
+    ((((((((((((((((((((tt, x7), y1), y2), y3), y4), y5), y6), y7), y8), y9), y10), y11), y12), y13), y14), y15), y16), y17), y18), y20)

@@ -6,6 +6,7 @@ use Rattle.std.proofs.lemmas.Simd.{pick_l_whole}
 use Rattle.aes_block.specs.KeyExpansion.{round_key}
 use Rattle.aes_lanes.specs.Planes.{lane}
 use Rattle.aes_lanes.proofs.LaneLemmas.{below_eight}
+use Rattle.aes_lanes.proofs.ShiftLemmas.{shifted-zero}
 use Rattle.aes_lanes.proofs.VectorLemmas.{length-block, IsBytes-block, slice_index-twice, block_of-turned}
 use Rattle.aes_lanes.proofs.keys.copies.Goals as goal
 
@@ -24,9 +25,10 @@ returns c =
     record {
       planes = λ k h. (c.turn.ensures.vectors k h).len;
       blocks = λ j h.
-          let vectors : List (List ℕ) = twice ∷ twice ∷ twice ∷ twice ∷ twice ∷ twice ∷ twice ∷ twice ∷ [] in
+          shifted-zero _
+          ∙ (let vectors : List (List ℕ) = twice ∷ twice ∷ twice ∷ twice ∷ twice ∷ twice ∷ twice ∷ twice ∷ [] in
           block_of-turned vectors _ c.turn.ensures.bits key j h long (IsBytes-block w c.args.round (λ i. (c.type_inv.schedule i).fits)) (λ i hi.
           below_eight (λ k. lane vectors k (16 * (j % 2) + i) ≡ slice_index twice (16 * (j % 2) + i)) refl refl refl refl refl refl refl refl (j / 2) (omega arith)
           ∙ ap (λ x. slice_index x (16 * (j % 2) + i)) whole
-          ∙ slice_index-twice key long (j % 2) i (omega arith) hi);
+          ∙ slice_index-twice key long (j % 2) i (omega arith) hi));
     }

@@ -6,7 +6,7 @@ use Rattle.stack_rules.specs.Records.{Configuration}
 use Rattle.stack_engine.specs.Stacks.{StackRecord}
 use Rattle.request_queue.specs.World.{World}
 use Rattle.stack_session.specs.Session.{streams}
-use Rattle.nbd_server.specs.Exports.{IsExport, export_record}
+use Rattle.nbd_server.specs.Exports.{HasNoExport, IsExport, export_record}
 use Rattle.command_line.specs.Bindings.{binding_record}
 use Rattle.stack_commands.specs.StackCommands.{IsSyncEnd, ServesClient}
 use Rattle.stack_commands.proofs.OpeningLemmas.{err-from}
@@ -25,7 +25,11 @@ returns-in_err-queue-clause-err g c =
     (inl (refl, inr (inr (_, c.as_slice.result.now, _, c.in_ok-over.ensures.bound, inl c.in_err-queue.ensures.err))))
 
 pub returns-in_default-clause-err : goal.returns-in_default-clause-err
-returns-in_default-clause-err g c = inl (refl, inr (inr (_, c.as_slice.result.now, _, c.in_ok-over.ensures.bound, inr refl)))
+returns-in_default-clause-err g c =
+    let made = c.in_ok-queue.ensures.ok in
+    let at = c.config.ensures.value ∙ ap (λ (v : StackRecord). v.config) c.stack.ensures ∙ ap (λ (w : World). w.stack.config) made.2 in
+    let none = subst (λ (n : List ℕ). HasNoExport c.config.result.now n) c.as_bytes.ensures.value c.in_default.ensures.none in
+    inl (refl, inr (inr (_, c.as_slice.result.now, _, c.in_ok-over.ensures.bound, inr (made.0, made.1, subst (λ (x : Configuration). HasNoExport x c.args.device.name.now) at none, refl))))
 
 pub returns-in_err-outcome-clause-err : goal.returns-in_err-outcome-clause-err
 returns-in_err-outcome-clause-err g c =

@@ -1,6 +1,6 @@
 use Rattle.std.proofs.Common.{◌≡◌, map, take}
 use Rattle.block_device.specs.Device.{capped}
-use Rattle.stack_engine.specs.Leaves.{reads_of, writes_of}
+use Rattle.stack_meaning.specs.Leaves.{reads_of, writes_of}
 use Rattle.stack_engine.proofs.counters.counted.Given as goal
 
 abbrev pub invariant-loop-device : goal.invariant-loop-device

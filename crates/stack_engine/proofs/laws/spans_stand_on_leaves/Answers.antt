@@ -1,4 +1,4 @@
-use Rattle.stack_engine.proofs.lemmas.LeavesBeneathLemmas.{spans-alike}
+use Rattle.stack_meaning.proofs.lemmas.LeavesBeneathLemmas.{spans-alike}
 use Rattle.stack_engine.proofs.laws.spans_stand_on_leaves.Goals as goal
 
 pub returns : goal.returns

@@ -15,39 +15,39 @@ use Rattle.stack_rules.specs.Trees.{block_sectors}
 use Rattle.stack_rules.specs.declared.lower.DevId.{DevId}
 use Rattle.stack_rules.specs.declared.lower.Lower.TheVariants.{Leaf}
 use Rattle.stack_rules.specs.declared.lower.Lower.{Lower}
-use Rattle.stack_engine.specs.declared.fault.IoFault.TheVariants.{ErrorTarget}
-use Rattle.stack_engine.specs.declared.source.Source.{Source}
-use Rattle.stack_engine.specs.declared.source.Source.TheVariants.{Units, UnitPart, Block}
-use Rattle.stack_engine.specs.Found.{FoundRecord, entry_of}
-use Rattle.stack_engine.specs.declared.tree.Extent.{Extent}
-use Rattle.stack_engine.specs.Caches.{IsCacheOf}
-use Rattle.stack_engine.specs.Blocks.{hash_sectors, next_digest}
-use Rattle.stack_engine.specs.Walks.{block_in, GetsChain, IsWalked}
-use Rattle.stack_engine.specs.declared.fault.IoFault.{IoFault}
-use Rattle.stack_engine.specs.Places.{place_of, run_expected, Read}
-use Rattle.stack_engine.specs.Reading.{Gets, Reads, IsPlain, buffer_answer}
-use Rattle.stack_engine.specs.Sources.{SourceHolds, ReadsSource, source_said}
+use Rattle.stack_meaning.specs.declared.fault.IoFault.TheVariants.{ErrorTarget}
+use Rattle.stack_lines.specs.declared.source.Source.{Source}
+use Rattle.stack_lines.specs.declared.source.Source.TheVariants.{Units, UnitPart, Block}
+use Rattle.stack_meaning.specs.Found.{FoundRecord, entry_of}
+use Rattle.stack_lines.specs.declared.tree.Extent.{Extent}
+use Rattle.stack_lines.specs.Caches.{IsCacheOf}
+use Rattle.stack_meaning.specs.Blocks.{hash_sectors, next_digest}
+use Rattle.stack_lines.specs.Walks.{block_in, GetsChain, IsWalked}
+use Rattle.stack_meaning.specs.declared.fault.IoFault.{IoFault}
+use Rattle.stack_meaning.specs.Places.{place_of, run_expected, Read}
+use Rattle.stack_meaning.specs.Reading.{Gets, Reads, IsPlain, buffer_answer}
+use Rattle.stack_lines.specs.Sources.{SourceHolds, ReadsSource, source_said}
 use Rattle.stack_engine.proofs.RunBytesLemmas.{room_sectors, run_length}
 use Rattle.stack_engine.proofs.StackLemmas.{stack-later}
-use Rattle.stack_engine.proofs.LoadedLemmas.{size-small}
-use Rattle.stack_engine.proofs.SourceLemmas.{served-depth, served-holds, below_of, leaf_of, empty_read, zeros_of, fails_of, device_ok, device_err, device_plain, below_plain, same_reads}
-use Rattle.stack_engine.proofs.VerityLineLemmas.{data-whole, hash-whole, part-within, part-index, hash-depth, data-depth}
+use Rattle.stack_meaning.proofs.lemmas.LoadedLemmas.{size-small}
+use Rattle.stack_lines.proofs.lemmas.SourceLemmas.{served-depth, served-holds, below_of, leaf_of, empty_read, zeros_of, fails_of, device_ok, device_err, device_plain, below_plain, same_reads}
+use Rattle.stack_lines.proofs.lemmas.VerityLineLemmas.{data-whole, hash-whole, part-within, part-index, hash-depth, data-depth}
 use Rattle.stack_engine.proofs.PathBlockLemmas.{bytes, checked_as, place_key, hash_read, hash_failed, data_had, data_failed}
 use Rattle.stack_engine.proofs.CachedLemmas.{cached-read, cached-hit, keeps-noted, noted_key, keeps-kept, keeps-found}
-use Rattle.stack_engine.proofs.StandingLemmas.{named-inside, knows-all}
+use Rattle.stack_lines.proofs.lemmas.StandingLemmas.{named-inside, knows-all}
 use Rattle.stack_engine.proofs.BlockPartLemmas.{kept_length, contains_at, part-room, part_found, part_walked, part_err, part_full, block_plain}
-use Rattle.stack_engine.specs.declared.source.BlockPart.{BlockPart}
-use Rattle.stack_engine.specs.Sources.{AreUnits}
+use Rattle.stack_lines.specs.declared.source.BlockPart.{BlockPart}
+use Rattle.stack_lines.specs.Sources.{AreUnits}
 use Rattle.stack_engine.proofs.lemmas.BlockLemmas.{length-content}
 use Rattle.stack_engine.proofs.lemmas.WalkLemmas.{checked_ok, data_zeros, data_read, walk_full}
 use Rattle.stack_engine.proofs.read.+read.Goals.{read_block-in-Err-push, read_block-in-Ok-push}
-use Rattle.stack_engine.proofs.LeafLemmas.{all-whole}
+use Rattle.stack_meaning.proofs.lemmas.LeafLemmas.{all-whole}
 use Rattle.stack_rules.specs.Units.{unit_sectors}
-use Rattle.stack_engine.specs.Units.{decrypted_units}
-use Rattle.stack_engine.specs.Meaning.{said_at}
-use Rattle.stack_engine.proofs.lemmas.PlainLemmas.{plain-none}
-use Rattle.stack_engine.proofs.UnitLineLemmas.{unit-line-on}
-use Rattle.stack_engine.proofs.UnitSourceLemmas.{units-inside, units-small, units-bytes, lies_in, whole-units, part-read, part-failed, part-plain, units-read, units-failed, units-plain}
+use Rattle.stack_meaning.specs.Units.{decrypted_units}
+use Rattle.stack_meaning.specs.Meaning.{said_at}
+use Rattle.stack_meaning.proofs.lemmas.PlainLemmas.{plain-none}
+use Rattle.stack_lines.proofs.lemmas.UnitLineLemmas.{unit-line-on}
+use Rattle.stack_lines.proofs.lemmas.UnitSourceLemmas.{units-inside, units-small, units-bytes, lies_in, whole-units, part-read, part-failed, part-plain, units-read, units-failed, units-plain}
 use Rattle.stack_engine.proofs.read.+read.Goals as goal
 
 pub read_device-overflow_add-first : goal.read_device-overflow_add-first

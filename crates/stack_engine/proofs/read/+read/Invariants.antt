@@ -1,11 +1,11 @@
 use Rattle.std.proofs.Common.{length, take, map, ◌-◌, ◌≡◌, ◌≤◌, ◌+◌, ◌/◌, ◌*◌, ◌%◌, Ok}
 use Rattle.stack_rules.specs.Names.{mapped}
 use Rattle.stack_rules.specs.Descend.{depth}
-use Rattle.stack_engine.specs.Meaning.{said_at}
-use Rattle.stack_engine.specs.Reading.{Reads, IsPlain}
-use Rattle.stack_engine.specs.Sources.{source_depth}
-use Rattle.stack_engine.specs.Walks.{block_in, IsWalked}
-use Rattle.stack_engine.specs.Caches.{KeepsCache}
+use Rattle.stack_meaning.specs.Meaning.{said_at}
+use Rattle.stack_meaning.specs.Reading.{Reads, IsPlain}
+use Rattle.stack_lines.specs.Sources.{source_depth}
+use Rattle.stack_lines.specs.Walks.{block_in, IsWalked}
+use Rattle.stack_lines.specs.Caches.{KeepsCache}
 use Rattle.stack_engine.proofs.read.+read.Given as goal
 
 -- 8 times the depth and a rank, of which 0 to 4 are left for the steps of a target: part of a unit takes 4, whole units 3,

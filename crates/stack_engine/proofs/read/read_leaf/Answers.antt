@@ -3,17 +3,17 @@ use Rattle.block_device.specs.Device.{Device, IsRead, HasFailed}
 use Rattle.stack_rules.specs.declared.lower.Lower.TheVariants.{Leaf}
 use Rattle.stack_rules.specs.Records.{Configuration}
 use Rattle.stack_rules.specs.Descend.{read_cost}
-use Rattle.stack_engine.specs.Outcomes.{zero_sector}
-use Rattle.stack_engine.specs.Meaning.{Said, said_at}
-use Rattle.stack_engine.specs.Leaves.{images_of, LeafFailed}
-use Rattle.stack_engine.proofs.WriteLeafLemmas.{leaf-plain}
-use Rattle.stack_engine.proofs.LeafLemmas.{leaf-size, leaves-few, AreRead-device, image_at, steady_at, LeafFailed-device}
+use Rattle.stack_meaning.specs.Outcomes.{zero_sector}
+use Rattle.stack_meaning.specs.Meaning.{Said, said_at}
+use Rattle.stack_meaning.specs.Leaves.{images_of, LeafFailed}
+use Rattle.stack_lines.proofs.lemmas.WriteLeafLemmas.{leaf-plain}
+use Rattle.stack_meaning.proofs.lemmas.LeafLemmas.{leaf-size, leaves-few, AreRead-device, image_at, steady_at, LeafFailed-device}
 use Rattle.stack_engine.proofs.StackLemmas.{leaf-there}
-use Rattle.stack_engine.proofs.lemmas.LeafListLemmas.{AreRead-more}
-use Rattle.stack_engine.proofs.lemmas.SpanLemmas.{span_image}
-use Rattle.stack_engine.proofs.lemmas.SectorLemmas.{said_at-leaf}
-use Rattle.stack_engine.proofs.CostLemmas.{cost-leaf}
-use Rattle.stack_engine.proofs.lemmas.RunLemmas.{leaf-run}
+use Rattle.stack_meaning.proofs.lemmas.LeafListLemmas.{AreRead-more}
+use Rattle.stack_meaning.proofs.lemmas.SpanLemmas.{span_image}
+use Rattle.stack_meaning.proofs.lemmas.SectorLemmas.{said_at-leaf}
+use Rattle.stack_meaning.proofs.lemmas.CostLemmas.{cost-leaf}
+use Rattle.stack_meaning.proofs.lemmas.RunLemmas.{leaf-run}
 use Rattle.stack_engine.proofs.read.read_leaf.Goals as goal
 
 pub bounds-devices-leaf : goal.bounds-devices-leaf

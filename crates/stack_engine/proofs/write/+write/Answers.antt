@@ -2,38 +2,38 @@ use Rattle.std.proofs.Common.{◌≡◌, inl, ◌≤◌, ◌+◌, ◌/◌, ◌*�
 use Rattle.std.proofs.lemmas.List.{length-take, take_all}
 use Rattle.stack_rules.specs.Names.{mapped}
 use Rattle.stack_rules.specs.declared.lower.Lower.{Lower}
-use Rattle.stack_engine.specs.declared.source.Source.{Source}
+use Rattle.stack_lines.specs.declared.source.Source.{Source}
 use Rattle.stack_rules.specs.Descend.{depth}
-use Rattle.stack_engine.specs.declared.source.Source.TheVariants.{Below, Units, UnitPart}
-use Rattle.stack_engine.specs.Cuts.{PutsInSteps}
-use Rattle.stack_engine.specs.Puts.{put_on}
-use Rattle.stack_engine.specs.Sources.{SourceHolds, AreUnits, source_said, source_depth}
-use Rattle.stack_engine.specs.Meaning.{said_at}
-use Rattle.stack_engine.specs.Writing.{AreHeld, sectors_in, destination_of, Writes, source_destination}
+use Rattle.stack_lines.specs.declared.source.Source.TheVariants.{Below, Units, UnitPart}
+use Rattle.stack_lines.specs.Cuts.{PutsInSteps}
+use Rattle.stack_meaning.specs.Puts.{put_on}
+use Rattle.stack_lines.specs.Sources.{SourceHolds, AreUnits, source_said, source_depth}
+use Rattle.stack_meaning.specs.Meaning.{said_at}
+use Rattle.stack_lines.specs.Writing.{AreHeld, sectors_in, destination_of, Writes, source_destination}
 use Rattle.stack_engine.specs.Premises.{FitsIn, CanWrite}
 use Rattle.stack_engine.proofs.StackLemmas.{stack-later}
-use Rattle.stack_engine.proofs.LoadedLemmas.{size-small}
-use Rattle.stack_engine.proofs.SourceLemmas.{served-depth, served-holds}
-use Rattle.stack_engine.proofs.WriteSourceLemmas.{served-may_write, below-alike, fails-written, device-written, device-ended}
-use Rattle.stack_engine.proofs.lemmas.PutLemmas.{put-none}
-use Rattle.stack_engine.proofs.lemmas.WriteRunLemmas.{length-sectors_in, sectors_in-none, write_none, write_as}
+use Rattle.stack_meaning.proofs.lemmas.LoadedLemmas.{size-small}
+use Rattle.stack_lines.proofs.lemmas.SourceLemmas.{served-depth, served-holds}
+use Rattle.stack_lines.proofs.lemmas.WriteSourceLemmas.{served-may_write, below-alike, fails-written, device-written, device-ended}
+use Rattle.stack_lines.proofs.lemmas.PutLemmas.{put-none}
+use Rattle.stack_lines.proofs.lemmas.WriteRunLemmas.{length-sectors_in, sectors_in-none, write_none, write_as}
 use Rattle.dm_table.specs.declared.crypt.Crypt.{Crypt}
 use Rattle.stack_rules.specs.declared.lower.Lower.TheVariants.{Leaf}
 use Rattle.stack_rules.specs.Units.{unit_sectors}
-use Rattle.stack_engine.specs.Units.{encrypted_units}
-use Rattle.stack_engine.proofs.UnitSourceLemmas.{units-small, units-bytes}
+use Rattle.stack_meaning.specs.Units.{encrypted_units}
+use Rattle.stack_lines.proofs.lemmas.UnitSourceLemmas.{units-small, units-bytes}
 use Rattle.std.proofs.lemmas.Slice.{drop-put_mid}
 use Rattle.stack_rules.proofs.lemmas.UnitLemmas.{unit_sectors-some, unit-bytes}
-use Rattle.stack_engine.specs.Units.{unit_first}
-use Rattle.stack_engine.proofs.UnitLineLemmas.{unit-line-on}
-use Rattle.stack_engine.proofs.UnitSourceLemmas.{units-inside, units-whole, lies_in, whole-units}
+use Rattle.stack_meaning.specs.Units.{unit_first}
+use Rattle.stack_lines.proofs.lemmas.UnitLineLemmas.{unit-line-on}
+use Rattle.stack_lines.proofs.lemmas.UnitSourceLemmas.{units-inside, units-whole, lies_in, whole-units}
 use Rattle.std.proofs.Common.{IsTrue}
 use Rattle.stack_rules.specs.Names.{may_write}
-use Rattle.stack_engine.specs.declared.source.BlockPart.{BlockPart}
-use Rattle.stack_engine.specs.Places.{Read}
-use Rattle.stack_engine.specs.Reading.{IsPlain}
-use Rattle.stack_engine.specs.Sources.{ReadsSource}
-use Rattle.stack_engine.proofs.LeafLemmas.{all-whole}
+use Rattle.stack_lines.specs.declared.source.BlockPart.{BlockPart}
+use Rattle.stack_meaning.specs.Places.{Read}
+use Rattle.stack_meaning.specs.Reading.{IsPlain}
+use Rattle.stack_lines.specs.Sources.{ReadsSource}
+use Rattle.stack_meaning.proofs.lemmas.LeafLemmas.{all-whole}
 use Rattle.stack_engine.proofs.UnitChangeLemmas.{part-ended, part-written}
 use Rattle.stack_engine.proofs.UnitWriteLemmas.{lower-written, units-none, units-more, units-ended}
 use Rattle.stack_engine.proofs.RunBytesLemmas.{room_length, room_sectors, run_length, run_sectors, front_whole, with_run, with_rest, run_served, ends_before, ends_after, ends_behind}

@@ -1,11 +1,11 @@
 use Rattle.std.proofs.Common.{◌⊎◌, ◌/◌, length, take, drop, map, ◌-◌, ◌≡◌, ◌≤◌, ◌+◌, ◌++◌, ◌*◌, ◌%◌, Ok}
 use Rattle.stack_rules.specs.Names.{mapped}
 use Rattle.stack_rules.specs.Descend.{depth}
-use Rattle.stack_engine.specs.Writing.{sectors_in, destination_of, source_destination, Writes}
-use Rattle.stack_engine.specs.declared.source.Source.TheVariants.{Units}
-use Rattle.stack_engine.proofs.WriteSourceLemmas.{EndsBefore}
-use Rattle.stack_engine.specs.Sources.{source_depth}
-use Rattle.stack_engine.specs.Caches.{KeepsCache}
+use Rattle.stack_lines.specs.Writing.{sectors_in, destination_of, source_destination, Writes}
+use Rattle.stack_lines.specs.declared.source.Source.TheVariants.{Units}
+use Rattle.stack_lines.proofs.lemmas.WriteSourceLemmas.{EndsBefore}
+use Rattle.stack_lines.specs.Sources.{source_depth}
+use Rattle.stack_lines.specs.Caches.{KeepsCache}
 use Rattle.stack_engine.proofs.write.+write.Given as goal
 
 -- 8 times the depth and a rank, of which 0 to 4 are left for the steps of a target

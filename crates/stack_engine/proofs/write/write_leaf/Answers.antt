@@ -2,8 +2,8 @@ use Rattle.std.proofs.Common.{◌≡◌, map, length, sym, ap, ◌∙◌, subst}
 use Rattle.std.proofs.lemmas.List.{with_items_is}
 use Rattle.std.specs.Vec.{with_items}
 use Rattle.stack_rules.specs.declared.lower.Lower.TheVariants.{Leaf}
-use Rattle.stack_engine.specs.Caches.{KeepsCache}
-use Rattle.stack_engine.specs.Writing.{sectors_in, destination_of, Writes}
+use Rattle.stack_lines.specs.Caches.{KeepsCache}
+use Rattle.stack_lines.specs.Writing.{sectors_in, destination_of, Writes}
 use Rattle.stack_engine.proofs.CachedLemmas.{keeps-written}
 use Rattle.stack_engine.proofs.write.write_leaf.Goals as goal
 

@@ -1,11 +1,11 @@
 use Rattle.std.proofs.Common.{◌≤◌, ◌/◌, ◌<◌, length, Bool, true, false, ℕ, List, sym, subst, arith, inl, inr}
 use Rattle.block_device.specs.Device.{Device, IsWritten, HasFailed}
-use Rattle.stack_engine.specs.Writing.{sectors_in}
+use Rattle.stack_lines.specs.Writing.{sectors_in}
 use Rattle.stack_engine.proofs.StackLemmas.{leaf-there}
-use Rattle.stack_engine.proofs.LeafLemmas.{leaf-size}
-use Rattle.stack_engine.proofs.WritableLemmas.{leaf-writable}
-use Rattle.stack_engine.proofs.WriteLeafLemmas.{leaf-written, leaf-failed}
-use Rattle.stack_engine.proofs.lemmas.WriteRunLemmas.{length-sectors_in}
+use Rattle.stack_meaning.proofs.lemmas.LeafLemmas.{leaf-size}
+use Rattle.stack_lines.proofs.lemmas.WritableLemmas.{leaf-writable}
+use Rattle.stack_lines.proofs.lemmas.WriteLeafLemmas.{leaf-written, leaf-failed}
+use Rattle.stack_lines.proofs.lemmas.WriteRunLemmas.{length-sectors_in}
 use Rattle.stack_engine.proofs.write.write_sectors.Goals as goal
 
 pub bounds-devices-leaf : goal.bounds-devices-leaf

@@ -1,6 +1,6 @@
 use Rattle.std.proofs.Common.{◌≡◌, length, map, sym, ap, ◌∙◌, subst}
 use Rattle.std.proofs.lemmas.List.{with_items_is}
-use Rattle.stack_engine.specs.Leaves.{AreRead}
+use Rattle.stack_meaning.specs.Leaves.{AreRead}
 use Rattle.stack_engine.specs.Stacks.{StackRecord, IsStack}
 use Rattle.stack_engine.specs.Syncs.{NeverFail}
 use Rattle.stack_engine.proofs.CachedLemmas.{cached-read}

@@ -3,11 +3,11 @@ use Rattle.std.proofs.lemmas.List.{take_all, length-drop}
 use Rattle.stack_rules.specs.Names.{mapped}
 use Rattle.stack_engine.specs.Stacks.{StackRecord}
 use Rattle.stack_engine.specs.Pieces.{stack_over}
-use Rattle.stack_engine.specs.Writing.{sectors_in, destination_of, Writes}
+use Rattle.stack_lines.specs.Writing.{sectors_in, destination_of, Writes}
 use Rattle.stack_engine.specs.WritePieces.{EachWrite}
-use Rattle.stack_engine.proofs.lemmas.ChangeLemmas.{AreWritten-none}
+use Rattle.stack_meaning.proofs.lemmas.ChangeLemmas.{AreWritten-none}
 use Rattle.stack_engine.proofs.lemmas.WritePieceLemmas.{each-write, write-sound}
-use Rattle.stack_engine.proofs.LeafLemmas.{all-whole}
+use Rattle.stack_meaning.proofs.lemmas.LeafLemmas.{all-whole}
 use Rattle.stack_engine.proofs.stack.Stack.write_piece.Given as given
 use Rattle.stack_engine.proofs.stack.Stack.write_piece.Goals as goal
 

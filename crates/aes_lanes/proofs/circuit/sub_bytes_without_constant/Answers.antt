@@ -1,0 +1,36 @@
+use Rattle.std.proofs.Common.{ℕ, ◌<◌, arith}
+use Rattle.aes_lanes.specs.Planes.{byte_of}
+use Rattle.aes_lanes.specs.Circuit.{sums, combined, inverse, products}
+use Rattle.aes_lanes.proofs.PlaneLemmas.{byte_of_lt}
+use Rattle.aes_lanes.proofs.CircuitLemmas.{inputs, outputs, inputs_carried, byte_of-outputs, ArePlanes-carried, block_of-sub_bytes}
+use Rattle.aes_lanes.proofs.circuit.sub_bytes_without_constant.Goals as goal
+
+pub returns-clause-planes : goal.returns-clause-planes
+returns-clause-planes c =
+    let q = c.args.q.now in
+    let p : ℕ = 0 in
+    let b : ℕ = 0 in
+    let hp : p < 32 = omega arith in
+    let hb : b < 8 = omega arith in
+    let v = byte_of q p b in
+    let byte = byte_of_lt q p b in
+    let y = c.sums-sums.ensures p b v inputs hp hb byte (inputs_carried q c.requires p b) in
+    let t = c.combined-combined.ensures p b v (sums inputs) hp hb byte y in
+    let i = c.inverse-inverse.ensures p b v (combined (sums inputs)) hp hb byte t in
+    let z = c.products-products.ensures p b v (sums inputs) (inverse (combined (sums inputs))) hp hb byte y i in
+    let all = c.substituted.ensures p b v (products (sums inputs) (inverse (combined (sums inputs)))) hp hb byte z in
+    ArePlanes-carried p b v _ _ all
+
+pub returns-clause-blocks : goal.returns-clause-blocks
+unfolding outputs
+returns-clause-blocks c =
+    let q = c.args.q.now in
+    block_of-sub_bytes q _ (λ p b hp hb.
+    let v = byte_of q p b in
+    let byte = byte_of_lt q p b in
+    let y = c.sums-sums.ensures p b v inputs hp hb byte (inputs_carried q c.requires p b) in
+    let t = c.combined-combined.ensures p b v (sums inputs) hp hb byte y in
+    let i = c.inverse-inverse.ensures p b v (combined (sums inputs)) hp hb byte t in
+    let z = c.products-products.ensures p b v (sums inputs) (inverse (combined (sums inputs))) hp hb byte y i in
+    let all = c.substituted.ensures p b v (products (sums inputs) (inverse (combined (sums inputs)))) hp hb byte z in
+    byte_of-outputs p b v _ byte all)

@@ -1,0 +1,76 @@
+// What the words of the commands on images invoke.
+ghost use Rattle.std.specs.Prelude.{◌≡◌, map, Some, None, IfOk, IfErr};
+ghost use Rattle.command_line.specs.CommandWords.{IsUsage, dump_of, format_of, invocation_record, root_of, table_of, verify_of};
+
+use crate::fault::WordsFault;
+use crate::invocation::{ImageInvocation, Invocation};
+use dm_table::is_device;
+
+/// `DATA HASH`
+pub fn format_of<'a>(words: &[&'a str]) -> Result<Invocation<'a>, WordsFault>
+    ensures ok { IfOk result (λ got. format_of (map (λ word. word.now) words.now) ≡ Some (invocation_record got)) }
+    ensures err { IfErr result (λ fault. IsUsage fault (format_of (map (λ word. word.now) words.now) ≡ None)) }
+{
+    match words {
+        [data, hash] => Ok(Invocation::Image(ImageInvocation::Format { data, hash })),
+        _ => Err(WordsFault::Usage),
+    }
+}
+
+/// `DATA HASH ROOT`
+pub fn verify_of<'a>(words: &[&'a str]) -> Result<Invocation<'a>, WordsFault>
+    ensures ok { IfOk result (λ got. verify_of (map (λ word. word.now) words.now) ≡ Some (invocation_record got)) }
+    ensures err { IfErr result (λ fault. IsUsage fault (verify_of (map (λ word. word.now) words.now) ≡ None)) }
+{
+    let [data, hash, root] = words else {
+        return Err(WordsFault::Usage);
+    };
+    match root_of(root) {
+        Some(root) => Ok(Invocation::Image(ImageInvocation::Verify { data, hash, root })),
+        None => Err(WordsFault::Usage),
+    }
+}
+
+/// `HASH`
+pub fn dump_of<'a>(words: &[&'a str]) -> Result<Invocation<'a>, WordsFault>
+    ensures ok { IfOk result (λ got. dump_of (map (λ word. word.now) words.now) ≡ Some (invocation_record got)) }
+    ensures err { IfErr result (λ fault. IsUsage fault (dump_of (map (λ word. word.now) words.now) ≡ None)) }
+{
+    match words {
+        [hash] => Ok(Invocation::Image(ImageInvocation::Dump { hash })),
+        _ => Err(WordsFault::Usage),
+    }
+}
+
+/// `HASH ROOT DATANAME HASHNAME`, of which the last two are device arguments of a table line.
+pub fn table_of<'a>(words: &[&'a str]) -> Result<Invocation<'a>, WordsFault>
+    ensures ok { IfOk result (λ got. table_of (map (λ word. word.now) words.now) ≡ Some (invocation_record got)) }
+    ensures err { IfErr result (λ fault. IsUsage fault (table_of (map (λ word. word.now) words.now) ≡ None)) }
+{
+    let [hash, root, data_name, hash_name] = words else {
+        return Err(WordsFault::Usage);
+    };
+    if !is_device(data_name.as_bytes()) || !is_device(hash_name.as_bytes()) {
+        return Err(WordsFault::Usage);
+    }
+    match root_of(root) {
+        Some(root) => Ok(Invocation::Image(ImageInvocation::Table {
+            hash,
+            root,
+            data_name,
+            hash_name,
+        })),
+        None => Err(WordsFault::Usage),
+    }
+}
+
+// A root digest of 64 hexadecimal digits.
+fn root_of(word: &str) -> Option<[u8; 32]>
+    ensures { result ≡ root_of word.now }
+{
+    let mut root = [0u8; 32];
+    match hex::decode_to_slice(word, &mut root) {
+        Ok(()) => Some(root),
+        Err(_) => None,
+    }
+}

@@ -1,0 +1,107 @@
+// The rules on the sectors that a line reaches.
+ghost use Rattle.std.specs.Prelude.{◌≡◌, map};
+ghost use Rattle.std.specs.List.{list_any};
+ghost use Rattle.dm_table.specs.Grammar.{IsTargetOfGrammar};
+ghost use Rattle.stack_rules.specs.Records.{configuration};
+ghost use Rattle.stack_rules.specs.Names.{size, names};
+ghost use Rattle.stack_rules.specs.Passing.{Mean};
+ghost use Rattle.stack_rules.specs.Rules.{ends_beyond, is_beyond, is_uncovered, is_tree_beyond};
+
+use dm_table::{Base, Line, Target};
+use stack_rules::{Leaf, Lower, Planned, data_sectors, tree_sectors};
+use std::slice;
+
+// How many sectors a lower device has.
+fn size_of(leaves: &[Leaf], devices: &[Planned<'_>], lower: Lower) -> u128
+    ensures { result ≡ size (configuration leaves.now devices.now) lower }
+{
+    match lower {
+        Lower::Leaf(i) => match leaves.get(i as usize) {
+            Some(leaf) => u128::from(leaf.sectors()),
+            None => 0,
+        },
+        Lower::Device(d) => match devices.get(d.0 as usize) {
+            Some(device) => device.size(),
+            None => 0,
+        },
+    }
+}
+
+// Whether so many sectors from one of the bases end past its device.
+fn are_beyond(
+    leaves: &[Leaf],
+    devices: &[Planned<'_>],
+    lowers: &[Lower],
+    bases: &[Base],
+    sectors: u64,
+) -> bool
+    requires { Mean (configuration leaves.now devices.now) lowers.now (map (λ b. b.device) bases.now) }
+    ensures { result ≡ list_any (ends_beyond (configuration leaves.now devices.now) sectors) bases.now }
+{
+    for (i, base) in bases.iter().enumerate() {
+        let end = u128::from(base.offset) + u128::from(sectors);
+        if size_of(leaves, devices, lowers[i]) < end {
+            return true;
+        }
+    }
+    false
+}
+
+/// Whether a range, a stripe's share or all data blocks of a verity line end past the device that is named.
+pub fn is_beyond(leaves: &[Leaf], devices: &[Planned<'_>], lowers: &[Lower], line: &Line) -> bool
+    requires grammar { IsTargetOfGrammar line.now.target }
+    requires lowers { Mean (configuration leaves.now devices.now) lowers.now (names line.now.target) }
+    ensures { result ≡ is_beyond (configuration leaves.now devices.now) line.now.length line.now.target }
+{
+    match &line.target {
+        Target::Linear(base) => {
+            are_beyond(leaves, devices, lowers, slice::from_ref(base), line.length)
+        }
+        Target::Striped { bases, .. } => {
+            let bases = bases.as_slice();
+            let share = line.length / bases.len() as u64;
+            are_beyond(leaves, devices, lowers, bases, share)
+        }
+        Target::Zero | Target::Error => false,
+        Target::Crypt(crypt) => {
+            let base = slice::from_ref(&crypt.base);
+            are_beyond(leaves, devices, lowers, base, line.length)
+        }
+        Target::Verity(verity) => size_of(leaves, devices, lowers[0]) < data_sectors(verity),
+    }
+}
+
+/// Whether the line has more sectors than its data blocks.
+pub fn is_uncovered(line: &Line) -> bool
+    ensures { result ≡ is_uncovered line.now.length line.now.target }
+{
+    match &line.target {
+        Target::Verity(verity) => data_sectors(verity) < u128::from(line.length),
+        Target::Linear(_)
+        | Target::Striped { .. }
+        | Target::Zero
+        | Target::Error
+        | Target::Crypt(_) => false,
+    }
+}
+
+/// Whether the tree ends past the hash device.
+pub fn is_tree_beyond(
+    leaves: &[Leaf],
+    devices: &[Planned<'_>],
+    lowers: &[Lower],
+    target: &Target,
+) -> bool
+    requires grammar { IsTargetOfGrammar target.now }
+    requires lowers { Mean (configuration leaves.now devices.now) lowers.now (names target.now) }
+    ensures { result ≡ is_tree_beyond (configuration leaves.now devices.now) target.now }
+{
+    match target {
+        Target::Verity(verity) => size_of(leaves, devices, lowers[1]) < tree_sectors(verity),
+        Target::Linear(_)
+        | Target::Striped { .. }
+        | Target::Zero
+        | Target::Error
+        | Target::Crypt(_) => false,
+    }
+}

@@ -1,0 +1,69 @@
+// The rules on a line's stripes and units.
+ghost use Rattle.std.specs.Prelude.{◌≡◌, ◌∷◌, [], ℕ, option_map};
+ghost use Rattle.dm_table.specs.Grammar.{IsTargetOfGrammar};
+ghost use Rattle.stack_rules.specs.Passing.{refusal_at};
+ghost use Rattle.stack_rules.specs.declared.refusal.LoadKind.TheVariants as kinds;
+ghost use Rattle.stack_rules.specs.Rules.{first, refuse, cuts_unit, is_off_unit, is_undivided};
+
+use dm_table::{Line, Target};
+use stack_rules::{LoadKind, unit_sectors};
+
+// Whether a striped line's length is no multiple of stripes times chunk.
+fn is_undivided(line: &Line) -> bool
+    requires { IsTargetOfGrammar line.now.target }
+    ensures { result ≡ is_undivided line.now.length line.now.target }
+{
+    match &line.target {
+        Target::Striped { chunk, bases } => {
+            let width = bases.as_slice().len() as u128 * u128::from(*chunk);
+            u128::from(line.length) % width != 0
+        }
+        Target::Linear(_) | Target::Zero | Target::Error | Target::Crypt(_) | Target::Verity(_) =>
+            false,
+    }
+}
+
+// Whether a crypt line's length is no multiple of its unit.
+fn cuts_unit(line: &Line) -> bool
+    ensures { result ≡ cuts_unit line.now.length line.now.target }
+{
+    match &line.target {
+        Target::Crypt(crypt) => line.length % u64::from(unit_sectors(crypt)) != 0,
+        Target::Linear(_)
+        | Target::Striped { .. }
+        | Target::Zero
+        | Target::Error
+        | Target::Verity(_) => false,
+    }
+}
+
+// Whether the `iv_offset` of a crypt line is no multiple of its unit's sectors.
+fn is_off_unit(target: &Target) -> bool
+    ensures { result ≡ is_off_unit target.now }
+{
+    match target {
+        Target::Crypt(crypt) => crypt.iv_offset % u64::from(unit_sectors(crypt)) != 0,
+        Target::Linear(_)
+        | Target::Striped { .. }
+        | Target::Zero
+        | Target::Error
+        | Target::Verity(_) => false,
+    }
+}
+
+/// The first rule by which a line isn't whole stripes or units.
+pub fn part_fault(line: &Line) -> Option<LoadKind>
+    requires { IsTargetOfGrammar line.now.target }
+    ensures { (d l : ℕ) → option_map (refusal_at d l) result ≡ first (refuse kinds.StripesDontDivide d l (is_undivided line.now.length line.now.target) ∷ refuse kinds.UnitDoesntDivide d l (cuts_unit line.now.length line.now.target) ∷ refuse kinds.IvOffset d l (is_off_unit line.now.target) ∷ []) }
+{
+    if is_undivided(line) {
+        return Some(LoadKind::StripesDontDivide);
+    }
+    if cuts_unit(line) {
+        return Some(LoadKind::UnitDoesntDivide);
+    }
+    if is_off_unit(&line.target) {
+        return Some(LoadKind::IvOffset);
+    }
+    None
+}

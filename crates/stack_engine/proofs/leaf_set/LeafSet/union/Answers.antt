@@ -1,5 +1,0 @@
-use Rattle.stack_engine.proofs.StandingLemmas.{bit_or-at}
-use Rattle.stack_engine.proofs.leaf_set.LeafSet.union.Goals as goal
-
-pub returns : goal.returns
-returns c = λ d. bit_or-at c.args.self.bits c.args.other.bits d

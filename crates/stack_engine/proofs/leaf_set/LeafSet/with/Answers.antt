@@ -1,5 +1,0 @@
-use Rattle.stack_engine.proofs.StandingLemmas.{bit_set-at}
-use Rattle.stack_engine.proofs.leaf_set.LeafSet.with.Goals as goal
-
-pub returns : goal.returns
-returns c = λ e. bit_set-at c.args.self.bits c.args.leaf e c.requires

@@ -1,5 +1,0 @@
-use Rattle.stack_engine.proofs.StandingLemmas.{bit_clear-at}
-use Rattle.stack_engine.proofs.leaf_set.LeafSet.without.Goals as goal
-
-pub returns : goal.returns
-returns c = λ e small. bit_clear-at c.args.self.bits c.args.leaf e c.requires small

@@ -1,7 +1,0 @@
-use Rattle.std.proofs.Common.{Bool, ◌||◌, ◌==◌, sym, ap, ◌∙◌}
-use Rattle.stack_engine.specs.Standing.{stands_on}
-use Rattle.stack_engine.proofs.StandingLemmas.{stands-leaf}
-use Rattle.stack_engine.proofs.leaf_sets.lower_leaves.Goals as goal
-
-pub returns-in-Leaf : goal.returns-in-Leaf
-returns-in-Leaf c = λ k loaded known i. c.with.ensures i ∙ ap (λ (b : Bool). b || (i == c.in-Leaf.leaf)) (c.empty.ensures i) ∙ sym (stands-leaf k i c.in-Leaf.leaf) ∙ ap (stands_on k i) (sym c.in-Leaf.is)

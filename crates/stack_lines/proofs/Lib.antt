@@ -1,0 +1,5 @@
+pub mod lemmas
+pub mod StripeLemmas
+pub mod RunEndLemmas
+pub mod CutLemmas
+pub mod UnitsAtOnceLemmas

@@ -1,0 +1,202 @@
+-- What is read from where a device's sectors come from, and what is read of the device.
+use Rattle.std.proofs.Common.{◌≡◌, ℕ, ◌+◌, ◌-◌, ◌*◌, ◌<◌, ◌≤◌, List, length, ◌++◌, take, replicate, Option, Result, Ok, Err, refl, sym, ap, ◌∙◌, subst, arith}
+use Rattle.std.specs.Prelude.{slice_get}
+use Rattle.std.proofs.lemmas.List.{take-replicate, drop-replicate, length-replicate}
+use Rattle.block_device.specs.Device.{Device}
+use Rattle.dm_table.specs.declared.table.Line.{Line}
+use Rattle.dm_table.specs.declared.table.Target.{Target}
+use Rattle.stack_rules.specs.declared.lower.Lower.{Lower}
+use Rattle.stack_rules.specs.declared.lower.Lower.TheVariants.{Leaf}
+use Rattle.stack_rules.specs.Records.{Configuration}
+use Rattle.stack_rules.specs.Names.{mapped, lines_of}
+use Rattle.stack_rules.specs.Lines.{IsLine}
+use Rattle.stack_rules.specs.Descend.{known, depth, read_cost}
+use Rattle.stack_rules.specs.Rules.{IsLoaded}
+use Rattle.stack_meaning.specs.declared.fault.IoFault.{IoFault}
+use Rattle.stack_meaning.specs.declared.fault.IoFault.TheVariants as io
+use Rattle.stack_lines.specs.declared.source.BlockPart.{BlockPart}
+use Rattle.stack_lines.specs.declared.source.Source.{Source}
+use Rattle.stack_lines.specs.declared.source.Source.TheVariants.{Below, Units, UnitPart, Zeros, Fails, Block}
+use Rattle.stack_rules.specs.Units.{unit_sectors}
+use Rattle.stack_rules.proofs.lemmas.UnitLemmas.{unit_sectors-some}
+use Rattle.stack_lines.proofs.lemmas.UnitLineLemmas.{unit-line, cost-beneath}
+use Rattle.std.proofs.Math.Nat.{mul-le-mul_right}
+use Rattle.stack_meaning.specs.Outcomes.{error_target, zero_sector, part}
+use Rattle.stack_meaning.specs.Found.{FoundRecord}
+use Rattle.stack_meaning.specs.Kept.{AllKept}
+use Rattle.stack_meaning.specs.Meaning.{Said, none_said, line_said, said_at, said_by_name}
+use Rattle.stack_meaning.specs.Leaves.{images_of}
+use Rattle.stack_meaning.specs.Places.{place_of, run_expected, Read}
+use Rattle.stack_lines.specs.Sources.{LieInBlock, AreUnits, LieInUnit, BeginsAt, ComeFrom, IsServed, said_of_line, part_said, source_said, source_cost, source_place, source_depth, SourceHolds, ReadsSource}
+use Rattle.stack_meaning.specs.Reading.{Gets, Reads, IsPlain}
+use Rattle.stack_meaning.proofs.lemmas.SectorLemmas.{said_at-line, line_said-beneath}
+use Rattle.stack_meaning.proofs.lemmas.CostLemmas.{cost-falls}
+use Rattle.stack_meaning.proofs.lemmas.LoadedLemmas.{depth-falls}
+use Rattle.stack_meaning.proofs.lemmas.LeafListLemmas.{AreRead-none}
+use Rattle.stack_meaning.proofs.lemmas.FoundLemmas.{said_at-mono, Grown-none, kept-later}
+use Rattle.stack_meaning.proofs.lemmas.SpanLemmas.{span_zeros, span_fails}
+use Rattle.stack_meaning.proofs.lemmas.RunLemmas.{run_ok, run_err, Passes, pass}
+use Rattle.stack_meaning.proofs.lemmas.PlainLemmas.{plain-as, plain-then}
+
+-- ---- what is said of the sectors where those of a device come from
+
+-- a part of line l of device d from its sector w on
+part-said : (c : Configuration) (d l w j : ℕ) (line : Line) (b : BlockPart) → IsLine c d l line → BeginsAt d l w b → part_said c b j ≡ line_said (said_by_name c) d l line.target (w + j)
+part-said c d l w j line b is begins =
+    ap (λ (k : ℕ). said_of_line c k b.line (slice_get (lines_of c k) b.line) (b.first + j)) begins.0
+    ∙ ap (λ (k : ℕ). said_of_line c d k (slice_get (lines_of c d) k) (b.first + j)) begins.1
+    ∙ ap (λ (k : ℕ). said_of_line c d l (slice_get (lines_of c d) l) (k + j)) begins.2
+    ∙ ap (λ (o : Option Line). said_of_line c d l o (w + j)) is
+
+module _ (c : Configuration) (d l : ℕ) (line : Line) (is : IsLine c d l line) (w n j : ℕ) (below : j < n) where
+  come-said : (source : Source) → ComeFrom c (d, l) line.target w n source → line_said (said_by_name c) d l line.target (w + j) ≡ source_said c source j
+  come-said (Below lower first) come =
+      let on = come.1 in
+      line_said-beneath (said_by_name c) d l line.target (w + j) (on.name, first + j) come.0 (on.under j below)
+      ∙ ap (λ (o : Option Lower). known {A = ℕ → Said} (λ t. none_said) (said_at c) o (first + j)) on.is
+  come-said (Units b) come = sym (part-said c d l w j line b is come.0)
+  come-said (UnitPart b) come = sym (part-said c d l w j line b is come.0)
+  come-said Zeros come = ap (λ (t : Target). line_said (said_by_name c) d l t (w + j)) come
+  come-said Fails come = ap (λ (t : Target). line_said (said_by_name c) d l t (w + j)) come
+  come-said (Block b) come = sym (part-said c d l w j line b is come.0)
+
+pub served-said : (c : Configuration) (d s n j : ℕ) (source : Source) → IsLoaded c → j < n → IsServed c d s n source → source_said c source j ≡ said_at c (mapped d) (s + j)
+served-said c d s n j source loaded below r =
+    sym (said_at-line c loaded.valid d s j r.number r.line r.found r.start (omega (arith, below, r.fits)) ∙ come-said c d r.number r.line r.is (s - r.line.start) n j below source r.come)
+
+-- the units of a part that begins at a sector
+pub units-at : (c : Configuration) (d l w n : ℕ) (b : BlockPart) → BeginsAt d l w b → AreUnits c d l w n → AreUnits c b.device.0 b.line b.first n
+units-at c d l w n b begins units =
+    subst (λ (k : ℕ). AreUnits c k b.line b.first n) (sym begins.0)
+    (subst (λ (k : ℕ). AreUnits c d k b.first n) (sym begins.1)
+    (subst (λ (k : ℕ). AreUnits c d l k n) (sym begins.2) units))
+
+pub unit-at : (c : Configuration) (d l w n : ℕ) (b : BlockPart) → BeginsAt d l w b → LieInUnit c d l w n → LieInUnit c b.device.0 b.line b.first n
+unit-at c d l w n b begins unit =
+    subst (λ (k : ℕ). LieInUnit c k b.line b.first n) (sym begins.0)
+    (subst (λ (k : ℕ). LieInUnit c d k b.first n) (sym begins.1)
+    (subst (λ (k : ℕ). LieInUnit c d l k n) (sym begins.2) unit))
+
+pub served-cost : (c : Configuration) (d s n : ℕ) (source : Source) → IsLoaded c → 0 < n → IsServed c d s n source → source_cost c source ≤ read_cost c (mapped d)
+served-cost c d s n (Below lower first) loaded some r =
+    let on = r.come.1 in
+    cost-falls c d r.number r.line (s - r.line.start + 0) (on.name, first + 0) lower loaded.valid r.is (on.under 0 some) on.is
+served-cost c d s n (Units b) loaded some r =
+    let units = units-at c d r.number (s - r.line.start) n b r.come.0 r.come.1 in
+    let lower = unit-line c b.device.0 b.line _ units.crypt loaded units.has in
+    let same = cost-beneath c b.device.0 b.line _ units.crypt loaded units.has (read_cost c) lower.0 lower.1.crypt_line.named in
+    let whole : read_cost c (mapped b.device.0) ≡ read_cost c (mapped d) = ap (λ (k : ℕ). read_cost c (mapped k)) r.come.0.0 in
+    let once : 1 * read_cost c lower.0 ≤ unit_sectors units.crypt * read_cost c lower.0 = mul-le-mul_right (read_cost c lower.0) (unit_sectors-some units.crypt) in
+    omega (arith, same, whole, once, lower.1.read)
+served-cost c d s n (UnitPart b) loaded some r = let same : read_cost c (mapped b.device.0) ≡ read_cost c (mapped d) = ap (λ (k : ℕ). read_cost c (mapped k)) r.come.0.0 in omega (arith, same)
+served-cost c d s n Zeros loaded some r = omega arith
+served-cost c d s n Fails loaded some r = omega arith
+served-cost c d s n (Block b) loaded some r = let same : read_cost c (mapped b.device.0) ≡ read_cost c (mapped d) = ap (λ (k : ℕ). read_cost c (mapped k)) r.come.0.0 in omega (arith, same)
+
+-- the lower device stands less deep
+pub served-depth : (c : Configuration) (d s n : ℕ) (source : Source) → IsLoaded c → 0 < n → IsServed c d s n source → source_depth c source ≤ depth c (mapped d)
+served-depth c d s n (Below lower first) loaded some r =
+    let on = r.come.1 in
+    let falls = depth-falls c d r.number r.line (s - r.line.start + 0) (on.name, first + 0) lower loaded.valid r.is (on.under 0 some) on.is in omega (arith, falls)
+served-depth c d s n (Units b) loaded some r = let same : depth c (mapped b.device.0) ≡ depth c (mapped d) = ap (λ (k : ℕ). depth c (mapped k)) r.come.0.0 in omega (arith, same)
+served-depth c d s n (UnitPart b) loaded some r = let same : depth c (mapped b.device.0) ≡ depth c (mapped d) = ap (λ (k : ℕ). depth c (mapped k)) r.come.0.0 in omega (arith, same)
+served-depth c d s n Zeros loaded some r = omega arith
+served-depth c d s n Fails loaded some r = omega arith
+served-depth c d s n (Block b) loaded some r = let same : depth c (mapped b.device.0) ≡ depth c (mapped d) = ap (λ (k : ℕ). depth c (mapped k)) r.come.0.0 in omega (arith, same)
+
+pub served-holds : (c : Configuration) (d s n : ℕ) (source : Source) → IsServed c d s n source → SourceHolds c source n
+served-holds c d s n (Below lower first) r = r.come.1.inside
+served-holds c d s n (Units b) r = units-at c d r.number (s - r.line.start) n b r.come.0 r.come.1
+served-holds c d s n (UnitPart b) r = unit-at c d r.number (s - r.line.start) n b r.come.0 r.come.1
+served-holds c d s n Zeros r = tt
+served-holds c d s n Fails r = tt
+served-holds c d s n (Block b) r =
+    let w : ℕ = s - r.line.start in
+    subst (λ (k : ℕ). LieInBlock c k b.line b.first n) (sym r.come.0.0)
+    (subst (λ (k : ℕ). LieInBlock c d k b.first n) (sym r.come.0.1)
+    (subst (λ (k : ℕ). LieInBlock c d r.number k n) (sym r.come.0.2) r.come.1))
+
+-- ---- reads
+
+served-passes : (c : Configuration) (d s n : ℕ) (source : Source) → IsLoaded c → 0 < n → IsServed c d s n source → Passes (source_place c source) (place_of c (mapped d)) 0 s n
+served-passes c d s n source loaded some r = record {
+  said = λ j h. let e : 0 + j ≡ j = omega arith in ap (source_said c source) e ∙ served-said c d s n j source loaded h r;
+  cost = served-cost c d s n source loaded some r;
+}
+
+below-passes : (c : Configuration) (lower : Lower) (first n : ℕ) → Passes (place_of c lower) (source_place c (Below lower first)) first 0 n
+below-passes c lower first n = record { said = λ j h. let e : j ≡ 0 + j = omega arith in ap (λ (k : ℕ). said_at c lower (first + k)) e; cost = omega arith }
+
+pub below_of : (c : Configuration) (lower : Lower) (first n : ℕ) (did : Read) (answer : Result (List ℕ) IoFault) → Reads c lower first n did answer → ReadsSource c (Below lower first) n did answer
+below_of c lower first n did answer p = pass (below-passes c lower first n) did answer p
+
+part-zeros : (n j : ℕ) → j < n → part (replicate (512 * n) 0) j ≡ zero_sector
+unfolding zero_sector
+part-zeros n j h = ap (take 512) (drop-replicate (512 * j) (512 * n) 0) ∙ take-replicate 512 (512 * n - 512 * j) 0 (omega arith)
+
+-- where nothing is read, leaves and chains stay
+abbrev pub empty_read : List Device → List FoundRecord → Read
+empty_read leaves found = record { old = leaves; new = leaves; before = found; after = found }
+
+pub zeros_of : (c : Configuration) (n : ℕ) (leaves : List Device) (found : List FoundRecord) (bytes : List ℕ) → AllKept c leaves found → bytes ≡ replicate (512 * n) 0
+    → ReadsSource c Zeros n (empty_read leaves found) (Ok bytes)
+zeros_of c n leaves found bytes kept e = record {
+  got = record {
+    moved = AreRead-none _ leaves;
+    may = record { len = ap length e ∙ length-replicate {A = ℕ} (512 * n) 0; sectors = λ j h. ap (λ (b : List ℕ). part b j) e ∙ part-zeros n j h };
+    exact = λ steady. span_zeros (λ j. (source_said c Zeros j).means (images_of leaves)) 0 n (λ j h. refl) ∙ ap Ok (sym e);
+  };
+  grown = Grown-none (λ j. (source_said c Zeros j).entries) 0 n found;
+  kept = kept;
+}
+
+pub fails_of : (c : Configuration) (n : ℕ) (leaves : List Device) (found : List FoundRecord) → AllKept c leaves found → 0 < n → ReadsSource c Fails n (empty_read leaves found) (Err io.ErrorTarget)
+fails_of c n leaves found kept some = record {
+  got = record {
+    moved = AreRead-none _ leaves;
+    may = (0, some, refl);
+    exact = λ steady. span_fails (λ j. (source_said c Fails j).means (images_of leaves)) 0 n error_target some refl;
+  };
+  grown = Grown-none (λ j. (source_said c Fails j).entries) 0 n found;
+  kept = kept;
+}
+
+-- ---- runs of one device
+
+module _ (c : Configuration) (d first a m : ℕ) (source : Source) {old mid new : List Device} {u v w : List FoundRecord} {x : List ℕ} (loaded : IsLoaded c) (some : 0 < m) (r : IsServed c d (first + a) m source)
+    (p : Reads c (mapped d) first a (record { old = old; new = mid; before = u; after = v }) (Ok x)) where
+  pub device_ok : {y : List ℕ} → ReadsSource c source m (record { old = mid; new = new; before = v; after = w }) (Ok y)
+      → Reads c (mapped d) first (a + m) (record { old = old; new = new; before = u; after = w }) (Ok (x ++ y))
+  device_ok {y = y} q =
+      run_ok (place_of c (mapped d)) c (said_at-mono c (mapped d)) first a m p
+      (pass (served-passes c d (first + a) m source loaded some r) (record { old = mid; new = new; before = v; after = w }) (Ok y) q)
+
+  pub device_err : (n : ℕ) (fault : IoFault) → a + m ≤ n → ReadsSource c source m (record { old = mid; new = new; before = v; after = w }) (Err fault)
+      → Reads c (mapped d) first n (record { old = old; new = new; before = u; after = w }) (Err fault)
+  device_err n fault h q =
+      run_err (place_of c (mapped d)) c (said_at-mono c (mapped d)) first a m p n fault h
+      (pass (served-passes c d (first + a) m source loaded some r) (record { old = mid; new = new; before = v; after = w }) (Err fault) q)
+
+-- the reads of some sectors of a device, and of the run behind them
+pub device_plain : (c : Configuration) (d first a m n : ℕ) (source : Source) {old mid new : List Device} {result : Result Unit IoFault} → IsLoaded c → a + m ≤ n → IsServed c d (first + a) m source
+    → IsPlain (said_at c (mapped d)) first a old mid (Ok tt) → IsPlain (source_said c source) 0 m mid new result → IsPlain (said_at c (mapped d)) first n old new result
+device_plain c d first a m n source loaded h r p q =
+    plain-then (said_at c (mapped d)) first a m n h p
+    (plain-as (source_said c source) (said_at c (mapped d)) 0 (first + a) m (λ j low. let e : 0 + j ≡ j = omega arith in ap (source_said c source) e ∙ served-said c d (first + a) m j source loaded low r) q)
+
+pub below_plain : (c : Configuration) (lower : Lower) (first n : ℕ) {old new : List Device} {result : Result Unit IoFault} → IsPlain (said_at c lower) first n old new result → IsPlain (source_said c (Below lower first)) 0 n old new result
+below_plain c lower first n p = plain-as (said_at c lower) (source_said c (Below lower first)) first 0 n (λ j h. let e : j ≡ 0 + j = omega arith in ap (λ (k : ℕ). said_at c lower (first + k)) e) p
+
+-- a leaf's sectors were read, and no chain found
+pub leaf_of : (c : Configuration) (i first n : ℕ) {old new : List Device} (found : List FoundRecord) {answer : Result (List ℕ) IoFault} → AllKept c old found
+    → Gets (run_expected (place_of c (Leaf i)) found first n) old new answer → Reads c (Leaf i) first n (record { old = old; new = new; before = found; after = found }) answer
+leaf_of c i first n found kept p = record {
+  got = p;
+  grown = Grown-none (λ s. (said_at c (Leaf i) s).entries) first n found;
+  kept = kept-later c found p.moved kept;
+}
+
+-- the same read by equal numbers and bytes
+pub same_reads : (c : Configuration) (lower : Lower) (first : ℕ) {n m : ℕ} (did : Read) {x y : List ℕ} → n ≡ m → x ≡ y → Reads c lower first n did (Ok x) → Reads c lower first m did (Ok y)
+same_reads c lower first {n = n} {m = m} did {x = x} e f p =
+    subst (λ (b : List ℕ). Reads c lower first m did (Ok b)) f (subst (λ (j : ℕ). Reads c lower first j did (Ok x)) e p)

@@ -1,0 +1,350 @@
+-- What is read of the units of a `crypt` line.
+use Rattle.std.proofs.Common.{◌≡◌, ◌++◌, [], ℕ, zero, suc, ◌+◌, ◌-◌, ◌*◌, ◌/◌, ◌%◌, ◌<◌, ◌≤◌, List, length, get_or, Contains, take, drop, Ok, Err, All, refl, sym, ap, ◌∙◌, subst, arith}
+use Rattle.std.proofs.lemmas.List.{length-take-le, length-drop, take-append-drop, drop-drop}
+use Rattle.std.proofs.lemmas.List.Elements.{All-map}
+use Rattle.std.proofs.lemmas.Nat.{div-add-mod', div-mul-add, mod-mul-add, mod_below}
+use Rattle.std.proofs.Math.Nat.{add-mul}
+use Rattle.xts_sector.specs.Units.{unit}
+use Rattle.block_device.specs.Device.{Device, IsSector}
+use Rattle.dm_table.specs.declared.crypt.Crypt.{Crypt}
+use Rattle.stack_rules.specs.declared.lower.Lower.{Lower}
+use Rattle.stack_rules.specs.Records.{Configuration}
+use Rattle.stack_rules.specs.Rules.{IsLoaded}
+use Rattle.stack_meaning.specs.declared.fault.IoFault.{IoFault}
+use Rattle.stack_meaning.specs.Sectors.{SomeOf, gathered}
+use Rattle.stack_meaning.specs.Outcomes.{Fault, Outcome, Images, joint_outcome, changed_outcome, span, part, AreWhole}
+use Rattle.dm_table.specs.Crypt.{sector_size}
+use Rattle.stack_rules.specs.Units.{unit_sectors}
+use Rattle.stack_meaning.specs.Units.{decrypted_unit, decrypted_units, unit_number, unit_part, unit_first}
+use Rattle.stack_meaning.specs.Found.{entry_of, Grown}
+use Rattle.stack_meaning.specs.Meaning.{Said, crypt_said, said_at}
+use Rattle.stack_meaning.specs.Leaves.{images_of}
+use Rattle.stack_meaning.specs.Changes.{AllWhole}
+use Rattle.stack_meaning.specs.Places.{Place, place_of, run_expected, Read}
+use Rattle.stack_meaning.specs.Reading.{Reads, Finds}
+use Rattle.stack_rules.proofs.lemmas.UnitLemmas.{unit_sectors-some}
+use Rattle.stack_meaning.proofs.lemmas.LeafListLemmas.{AreRead-none, AreRead-more}
+use Rattle.stack_meaning.proofs.lemmas.FoundLemmas.{in-gathered}
+use Rattle.stack_meaning.proofs.lemmas.RunLemmas.{part_left, fault_passes}
+use Rattle.stack_lines.proofs.lemmas.SizeLemmas.{AreSized, span-length, span-part, sector-size, crypt-size}
+use Rattle.stack_meaning.proofs.lemmas.SpanLemmas.{span-add, span_same, span_fails}
+use Rattle.stack_meaning.proofs.lemmas.UnitLemmas.{span-parts, unit-more, unit-fits, unit-is, unit-length, unit-sector, length-decrypted_units, part-decrypted}
+use Rattle.xts_sector.proofs.lemmas.UnitLemmas as xts
+
+pub images-whole : (leaves : List Device) → AllWhole leaves → AreWhole (images_of leaves)
+images-whole leaves whole = All-map (λ image. All IsSector image) (λ (l : Device). l.image) leaves (λ i d h. (whole i d h).sectors)
+
+-- the sectors of a crypt line from its sector w on, over that device
+abbrev pub units_said : Configuration → Lower → Crypt → ℕ → ℕ → Said
+units_said c lower crypt w j = crypt_said (said_at c lower) crypt (w + j)
+
+abbrev pub units_place : Configuration → Lower → Crypt → ℕ → ℕ → Place
+units_place c lower crypt w cost = record { said = units_said c lower crypt w; cost = cost }
+
+-- ---- sectors beneath units
+
+module _ (lower : ℕ → Said) (crypt : Crypt) (w : ℕ) (aligned : w % unit_sectors crypt ≡ 0) where
+  some-unit : 0 < unit_sectors crypt
+  some-unit = omega (arith, unit_sectors-some crypt)
+
+  -- the unit of sector w + j begins there
+  pub unit_first-more : (j : ℕ) → unit_first crypt (w + j) ≡ unit_first crypt w + j / unit_sectors crypt * unit_sectors crypt
+  unit_first-more j =
+      let u : ℕ = unit_sectors crypt in
+      ap (λ (k : ℕ). crypt.base.offset + k * u) (unit-more u w j some-unit aligned).0
+      ∙ (omega (arith, add-mul (w / u) (j / u) u))
+
+  -- sector j on the lower device is one of the unit of sector w + j
+  pub unit_first-of : (j : ℕ) → unit_first crypt w + j ≡ unit_first crypt (w + j) + j % unit_sectors crypt
+  unit_first-of j = omega (arith, unit_first-more j, div-add-mod' j (unit_sectors crypt))
+
+  -- what one of the sectors beneath meets, its unit meets
+  pub units-some : (P : Said → Type 0) (Q : Said → Type 0) → ((s : ℕ) → SomeOf (λ t. P (lower t)) (unit_first crypt s) (unit_sectors crypt) → Q (crypt_said lower crypt s)) → (n : ℕ)
+      → SomeOf (λ t. P (lower t)) (unit_first crypt w) n → SomeOf (λ j. Q (crypt_said lower crypt (w + j))) 0 n
+  units-some P Q up n some =
+      let j : ℕ = some.0 in
+      let at : j ≡ 0 + j = omega arith in
+      let here : SomeOf (λ t. P (lower t)) (unit_first crypt (w + j)) (unit_sectors crypt) = (j % unit_sectors crypt, mod_below j (unit_sectors crypt) some-unit, subst (λ (t : ℕ). P (lower t)) (unit_first-of j) some.2) in
+      (j, some.1, subst (λ (i : ℕ). Q (crypt_said lower crypt (w + i))) at (up (w + j) here))
+
+  pub units-meet : (fault : Fault) (n : ℕ) → SomeOf (λ t. (lower t).meets fault) (unit_first crypt w) n → SomeOf (λ j. (crypt_said lower crypt (w + j)).meets fault) 0 n
+  units-meet fault = units-some (λ x. x.meets fault) (λ x. x.meets fault) (λ s some. some)
+
+-- ---- spans of units
+
+module _ (images : Images) (lower : ℕ → Said) (sized : AreSized (λ t. (lower t).means images)) (crypt : Crypt) where
+  -- each sector of a unit, by the bytes beneath
+  pub unit-means : (k j : ℕ) (x : Outcome) → span (λ t. (lower t).means images) (crypt.base.offset + k * unit_sectors crypt) (unit_sectors crypt) ≡ x → j < unit_sectors crypt
+      → (crypt_said lower crypt (k * unit_sectors crypt + j)).means images ≡ changed_outcome (λ bytes. part (decrypted_unit crypt k bytes) j) x
+  unit-means k j x is low =
+      let u : ℕ = unit_sectors crypt in
+      let f : ℕ → Outcome = λ t. (lower t).means images in
+      let place : ((k * u + j) / u ≡ k) × ((k * u + j) % u ≡ j) = (div-mul-add k u j low, mod-mul-add k u j low) in
+      ap (λ (i : ℕ). changed_outcome (λ bytes. part (decrypted_unit crypt i bytes) ((k * u + j) % u)) (span f (crypt.base.offset + i * u) u)) place.0
+      ∙ ap (λ (i : ℕ). changed_outcome (λ bytes. part (decrypted_unit crypt k bytes) i) (span f (crypt.base.offset + k * u) u)) place.1
+      ∙ ap (changed_outcome (λ bytes. part (decrypted_unit crypt k bytes) j)) is
+
+  -- a whole unit
+  pub whole-unit : (k : ℕ) (bytes : List ℕ) → span (λ t. (lower t).means images) (crypt.base.offset + k * unit_sectors crypt) (unit_sectors crypt) ≡ Ok bytes
+      → span (λ s. (crypt_said lower crypt s).means images) (k * unit_sectors crypt) (unit_sectors crypt) ≡ Ok (decrypted_unit crypt k bytes)
+  whole-unit k bytes is =
+      let u : ℕ = unit_sectors crypt in
+      let len : length bytes ≡ 512 * u = span-length (λ t. (lower t).means images) sized (crypt.base.offset + k * u) u bytes is in
+      let long : length (decrypted_unit crypt k bytes) ≡ 512 * u = xts.length-decrypted crypt.key (unit_number crypt k) bytes (omega (arith, len)) ∙ len in
+      span-parts (λ s. (crypt_said lower crypt s).means images) (k * u) u (decrypted_unit crypt k bytes) long (λ j h. unit-means k j (Ok bytes) is h)
+
+  -- the fault of a whole unit stands beneath
+  pub unit-fails : (k : ℕ) (x : Fault) → span (λ s. (crypt_said lower crypt s).means images) (k * unit_sectors crypt) (unit_sectors crypt) ≡ Err x
+      → span (λ t. (lower t).means images) (crypt.base.offset + k * unit_sectors crypt) (unit_sectors crypt) ≡ Err x
+  unit-fails k x is = go (span (λ t. (lower t).means images) (crypt.base.offset + k * unit_sectors crypt) (unit_sectors crypt)) refl
+    where
+      g : ℕ → Outcome
+      g s = (crypt_said lower crypt s).means images
+
+      go : (o : Outcome) → span (λ t. (lower t).means images) (crypt.base.offset + k * unit_sectors crypt) (unit_sectors crypt) ≡ o → span (λ t. (lower t).means images) (crypt.base.offset + k * unit_sectors crypt) (unit_sectors crypt) ≡ Err x
+      go (Ok bytes) e = let clash : Ok (decrypted_unit crypt k bytes) ≡ Err x = sym (whole-unit k bytes e) ∙ is in cc
+      go (Err y) e =
+          let some : 0 < unit_sectors crypt = omega (arith, unit_sectors-some crypt) in
+          let zero_on : k * unit_sectors crypt + 0 ≡ k * unit_sectors crypt = omega arith in
+          let fails : g (k * unit_sectors crypt) ≡ Err y = ap g (sym zero_on) ∙ unit-means k 0 (Err y) e some in
+          e ∙ sym (span_fails g (k * unit_sectors crypt) (unit_sectors crypt) y some fails) ∙ is
+
+  -- units the first fault beneath which is this
+  pub units-fail : (m k : ℕ) (x : Fault) → span (λ t. (lower t).means images) (crypt.base.offset + k * unit_sectors crypt) (m * unit_sectors crypt) ≡ Err x
+      → span (λ s. (crypt_said lower crypt s).means images) (k * unit_sectors crypt) (m * unit_sectors crypt) ≡ Err x
+  units-fail zero k x is = let none : 0 * unit_sectors crypt ≡ 0 = omega arith in let clash : Ok [] ≡ Err x = ap (span (λ t. (lower t).means images) (crypt.base.offset + k * unit_sectors crypt)) (sym none) ∙ is in cc
+  units-fail (suc m) k x is = go (units-fail m (suc k)) (span f first u) refl
+    where
+      u : ℕ
+      u = unit_sectors crypt
+
+      first : ℕ
+      first = crypt.base.offset + k * unit_sectors crypt
+
+      f : ℕ → Outcome
+      f t = (lower t).means images
+
+      g : ℕ → Outcome
+      g s = (crypt_said lower crypt s).means images
+
+      size : suc m * unit_sectors crypt ≡ unit_sectors crypt + m * unit_sectors crypt
+      size = omega (arith, add-mul 1 m (unit_sectors crypt))
+
+      next : crypt.base.offset + k * unit_sectors crypt + unit_sectors crypt ≡ crypt.base.offset + suc k * unit_sectors crypt
+      next = omega (arith, add-mul k 1 (unit_sectors crypt))
+
+      after : k * unit_sectors crypt + unit_sectors crypt ≡ suc k * unit_sectors crypt
+      after = omega (arith, add-mul k 1 (unit_sectors crypt))
+
+      some : 0 < unit_sectors crypt
+      some = omega (arith, unit_sectors-some crypt)
+
+      in_parts : joint_outcome (span (λ t. (lower t).means images) (crypt.base.offset + k * unit_sectors crypt) (unit_sectors crypt)) (span (λ t. (lower t).means images) (crypt.base.offset + suc k * unit_sectors crypt) (m * unit_sectors crypt)) ≡ Err x
+      in_parts =
+          ap (λ (a : ℕ). joint_outcome (span f first u) (span f a (m * u))) (sym next)
+          ∙ sym (span-add f first u (m * u)) ∙ ap (span f first) (sym size) ∙ is
+
+      go : ((x : Fault) → span (λ t. (lower t).means images) (crypt.base.offset + suc k * unit_sectors crypt) (m * unit_sectors crypt) ≡ Err x → span (λ s. (crypt_said lower crypt s).means images) (suc k * unit_sectors crypt) (m * unit_sectors crypt) ≡ Err x)
+          → (o : Outcome) → span (λ t. (lower t).means images) (crypt.base.offset + k * unit_sectors crypt) (unit_sectors crypt) ≡ o
+          → span (λ s. (crypt_said lower crypt s).means images) (k * unit_sectors crypt) (suc m * unit_sectors crypt) ≡ Err x
+      go deeper (Err y) e =
+          let same : Err y ≡ Err x = sym (ap (λ (o : Outcome). joint_outcome o (span f (crypt.base.offset + suc k * u) (m * u))) e) ∙ in_parts in
+          let zero_on : k * u + 0 ≡ k * u = omega arith in
+          let fails : g (k * u) ≡ Err x = ap g (sym zero_on) ∙ unit-means k 0 (Err y) e some ∙ same in
+          ap (span g (k * u)) size ∙ span_fails g (k * u) (u + m * u) x (omega (arith, some)) fails
+      go deeper (Ok bytes) e = by (span f (crypt.base.offset + suc k * u) (m * u)) refl
+        where
+          by : (o : Outcome) → span (λ t. (lower t).means images) (crypt.base.offset + suc k * unit_sectors crypt) (m * unit_sectors crypt) ≡ o
+              → span (λ s. (crypt_said lower crypt s).means images) (k * unit_sectors crypt) (suc m * unit_sectors crypt) ≡ Err x
+          by (Ok more) d =
+              let clash : Ok (bytes ++ more) ≡ Err x = sym (ap (λ (o : Outcome). joint_outcome o (Ok more)) e) ∙ sym (ap (joint_outcome (span f first u)) d) ∙ in_parts in cc
+          by (Err y) d =
+              let same : Err y ≡ Err x = sym (ap (λ (o : Outcome). joint_outcome o (Err y)) e) ∙ sym (ap (joint_outcome (span f first u)) d) ∙ in_parts in
+              let rest = deeper x (d ∙ same) in
+              ap (span g (k * u)) size ∙ span-add g (k * u) u (m * u)
+              ∙ ap (λ (o : Outcome). joint_outcome o (span g (k * u + u) (m * u))) (whole-unit k bytes e)
+              ∙ ap (λ (a : ℕ). joint_outcome (Ok (decrypted_unit crypt k bytes)) (span g a (m * u))) after
+              ∙ ap (joint_outcome (Ok (decrypted_unit crypt k bytes))) rest
+
+-- ---- whole units
+
+module _ (c : Configuration) (lower : Lower) (crypt : Crypt) (w n cost : ℕ) (did : Read) (aligned : w % unit_sectors crypt ≡ 0) (whole : n % unit_sectors crypt ≡ 0) (dear : cost ≡ (place_of c lower).cost) where
+  units-grown : Grown (λ s. (said_at c lower s).entries) (unit_first crypt w) n did.before did.after → Grown (λ j. (units_said c lower crypt w j).entries) 0 n did.before did.after
+  units-grown p = record {
+    added = p.added;
+    is = p.is;
+    used = λ k x below.
+        units-some (said_at c lower) crypt w aligned (λ y. Contains y.entries (entry_of (get_or p.added k x))) (λ y. Contains y.entries (entry_of (get_or p.added k x)))
+        (λ s some. in-gathered (λ t. (said_at c lower t).entries) (unit_first crypt s) (unit_sectors crypt) some.0 (entry_of (get_or p.added k x)) some.1 some.2) n (p.used k x below);
+    distinct = p.distinct;
+  }
+
+  -- they were decrypted in place
+  pub units_ok : (bytes : List ℕ) → IsLoaded c → AllWhole did.old → Reads c lower (unit_first crypt w) n did (Ok bytes)
+      → Finds (units_place c lower crypt w cost) c 0 n did (Ok (decrypted_units crypt (w / unit_sectors crypt) bytes))
+  units_ok bytes loaded all p =
+      let u : ℕ = unit_sectors crypt in
+      let some : 0 < u = omega (arith, unit_sectors-some crypt) in
+      let run = p.got.may in
+      let out = decrypted_units crypt (w / u) bytes in
+      let long : length out ≡ 512 * n = length-decrypted_units crypt bytes n run.len whole (w / u) in
+      record {
+        got = record {
+          moved = AreRead-more (let same = ap (λ (k : ℕ). n * k) dear in omega (arith, same)) p.got.moved;
+          may = record {
+            len = long;
+            sectors = λ j h.
+                let at : j ≡ 0 + j = omega arith in
+                let i : ℕ = j / u in
+                let fits = unit-fits u n j some whole h in
+                let below : List ℕ = unit (sector_size crypt) bytes i in
+                subst (λ (k : ℕ). (units_said c lower crypt w k).may did.after (part out j)) at (
+                  below,
+                  record {
+                    len = unit-length crypt bytes n run.len i fits;
+                    sectors = λ t low.
+                        let first : unit_first crypt w + (i * u + t) ≡ unit_first crypt (w + j) + t = omega (arith, unit_first-more (said_at c lower) crypt w aligned j) in
+                        subst (λ (s : ℕ). (said_at c lower s).may did.after (part below t)) first
+                        (subst (λ (b : List ℕ). (said_at c lower (unit_first crypt w + (i * u + t))).may did.after b) (sym (unit-sector crypt bytes n run.len i t fits low))
+                        (run.sectors (i * u + t) (omega (arith, fits, low))));
+                  },
+                  part-decrypted crypt bytes n run.len whole w j aligned h,
+                );
+          };
+          exact = λ steady.
+              let images : Images = images_of did.old in
+              let f : ℕ → Outcome = λ s. (said_at c lower s).means images in
+              let sized : AreSized f = λ s. sector-size c images loaded (images-whole did.old all) lower s in
+              let g : ℕ → Outcome = λ j. (units_said c lower crypt w j).means images in
+              span-parts g 0 n out long (λ j h.
+              let at : 0 + j ≡ j = omega arith in
+              let i : ℕ = j / u in
+              let fits = unit-fits u n j some whole h in
+              let rest : n ≡ i * u + (u + (n - (i * u + u))) = omega (arith, fits) in
+              let under : span f (unit_first crypt w + i * u) u ≡ Ok (take (512 * u) (drop (512 * (i * u)) bytes)) =
+              span-part f sized (unit_first crypt w) (i * u) u (n - (i * u + u)) bytes (ap (span f (unit_first crypt w)) (sym rest) ∙ p.got.exact steady) in
+              ap g at
+              ∙ ap (λ (s : ℕ). changed_outcome (unit_part crypt (w + j)) (span f s u)) (unit_first-more (said_at c lower) crypt w aligned j)
+              ∙ ap (changed_outcome (unit_part crypt (w + j))) under
+              ∙ ap (λ (b : List ℕ). Ok (unit_part crypt (w + j) b)) (sym (unit-is crypt bytes i))
+              ∙ ap Ok (sym (part-decrypted crypt bytes n run.len whole w j aligned h)));
+        };
+        grown = units-grown p.grown;
+        kept = p.kept;
+      }
+
+  -- a fault beneath
+  pub units_err : (fault : IoFault) → IsLoaded c → AllWhole did.old → Reads c lower (unit_first crypt w) n did (Err fault) → Finds (units_place c lower crypt w cost) c 0 n did (Err fault)
+  units_err fault loaded all p = record {
+    got = fault_passes {wanted = run_expected (place_of c lower) did.after (unit_first crypt w) n} {wanted' = run_expected (units_place c lower crypt w cost) did.after 0 n} fault p.got (AreRead-none 0 did.old)
+        (let same = ap (λ (k : ℕ). n * k) dear in omega (arith, same))
+        (λ x some. units-meet (said_at c lower) crypt w aligned x n some)
+        (λ steady x is.
+        let u : ℕ = unit_sectors crypt in
+        let images : Images = images_of did.old in
+        let f : ℕ → Outcome = λ s. (said_at c lower s).means images in
+        let g : ℕ → Outcome = λ s. (crypt_said (said_at c lower) crypt s).means images in
+        let count : n ≡ n / u * u = omega (arith, div-add-mod' n u, whole) in
+        let place : w ≡ w / u * u = omega (arith, div-add-mod' w u, aligned) in
+        let fails = units-fail images (said_at c lower) (λ s. sector-size c images loaded (images-whole did.old all) lower s) crypt (n / u) (w / u) x (ap (span f (unit_first crypt w)) (sym count) ∙ is) in
+        span_same (λ j. g (w + j)) g 0 w n (λ j h. let at : 0 + j ≡ j = omega arith in ap (λ (k : ℕ). g (w + k)) at)
+        ∙ ap (span g w) count ∙ ap (λ (s : ℕ). span g s (n / u * u)) place ∙ fails);
+    grown = units-grown p.grown;
+    kept = p.kept;
+  }
+
+-- ---- sectors of one unit
+
+module _ (c : Configuration) (lower : Lower) (crypt : Crypt) (w0 r n cost dear : ℕ) (did : Read) (aligned : w0 % unit_sectors crypt ≡ 0) (some : 0 < n) (fits : r + n ≤ unit_sectors crypt)
+    (paid : unit_sectors crypt * cost ≤ n * dear) where
+  -- all sectors of a unit have one unit beneath
+  pub same-first : (j : ℕ) → j < unit_sectors crypt → unit_first crypt (w0 + j) ≡ unit_first crypt w0
+  same-first j low =
+      let u : ℕ = unit_sectors crypt in
+      let none : j / u ≡ 0 = let split : j ≡ 0 * u + j = omega arith in ap (λ (k : ℕ). k / u) split ∙ div-mul-add 0 u j low in
+      unit_first-more (said_at c lower) crypt w0 aligned j ∙ ap (λ (k : ℕ). unit_first crypt w0 + k * u) none ∙ (omega arith)
+
+  -- what one sector of the unit meets, the first of the part meets
+  pub unit-some : (P : ℕ → Type 0) → SomeOf (λ j. P (unit_first crypt (w0 + j))) 0 (unit_sectors crypt) → SomeOf (λ j. P (unit_first crypt (w0 + r + j))) 0 n
+  unit-some P x =
+      let at : w0 + (0 + x.0) ≡ w0 + x.0 = omega arith in
+      let to : w0 + r ≡ w0 + r + (0 + 0) = omega arith in
+      (0, some, subst P (ap (λ (s : ℕ). unit_first crypt s) at ∙ same-first x.0 x.1 ∙ sym (same-first r (omega (arith, fits, some))) ∙ ap (λ (s : ℕ). unit_first crypt s) to) x.2)
+
+  part-grown : Grown (λ j. (units_said c lower crypt w0 j).entries) 0 (unit_sectors crypt) did.before did.after → Grown (λ j. (units_said c lower crypt (w0 + r) j).entries) 0 n did.before did.after
+  part-grown p = record {
+    added = p.added;
+    is = p.is;
+    used = λ k x below. unit-some (λ first. Contains (gathered (λ t. (said_at c lower t).entries) first (unit_sectors crypt)) (entry_of (get_or p.added k x))) (p.used k x below);
+    distinct = p.distinct;
+  }
+
+  part-said : (j : ℕ) → units_said c lower crypt w0 (0 + (r + j)) ≡ units_said c lower crypt (w0 + r) (0 + j)
+  part-said j = let at : w0 + (0 + (r + j)) ≡ w0 + r + (0 + j) = omega arith in ap (crypt_said (said_at c lower) crypt) at
+
+  pub part_ok : (bytes : List ℕ) → IsLoaded c → AllWhole did.old → Finds (units_place c lower crypt w0 cost) c 0 (unit_sectors crypt) did (Ok bytes)
+      → Finds (units_place c lower crypt (w0 + r) dear) c 0 n did (Ok (take (512 * n) (drop (512 * r) bytes)))
+  part_ok bytes loaded all p =
+      let u : ℕ = unit_sectors crypt in
+      let out = take (512 * n) (drop (512 * r) bytes) in
+      let run = p.got.may in
+      let long : length out ≡ 512 * n = length-take-le (512 * n) (drop (512 * r) bytes) (omega (arith, run.len, fits, length-drop (512 * r) bytes)) in
+      record {
+        got = record {
+          moved = AreRead-more paid p.got.moved;
+          may = record {
+            len = long;
+            sectors = λ j h.
+                subst (λ (b : List ℕ). (units_said c lower crypt (w0 + r) (0 + j)).may did.after b) (sym (cut-part bytes j (omega (arith, run.len)) h))
+                (subst (λ (x : Said). x.may did.after (part bytes (r + j))) (part-said j) (run.sectors (r + j) (omega (arith, h, fits))));
+          };
+          exact = λ steady.
+              let images : Images = images_of did.old in
+              let g : ℕ → Outcome = λ j. (units_said c lower crypt w0 j).means images in
+              let sized : AreSized g = λ j. crypt-size images (said_at c lower) (λ t. sector-size c images loaded (images-whole did.old all) lower t) crypt (w0 + j) in
+              let rest : u ≡ r + (n + (u - (r + n))) = omega (arith, fits) in
+              span_same (λ j. (units_said c lower crypt (w0 + r) j).means images) g 0 (0 + r) n
+              (λ j h. let at : 0 + r + j ≡ 0 + (r + j) = omega arith in sym (ap g at ∙ ap (λ (x : Said). x.means images) (part-said j)))
+              ∙ span-part g sized 0 r n (u - (r + n)) bytes (ap (span g 0) (sym rest) ∙ p.got.exact steady);
+        };
+        grown = part-grown p.grown;
+        kept = p.kept;
+      }
+    where
+      cut-part : (bytes : List ℕ) (j : ℕ) → length bytes ≡ 512 * unit_sectors crypt → j < n → part (take (512 * n) (drop (512 * r) bytes)) j ≡ part bytes (r + j)
+      cut-part bytes j len h =
+          let rest : List ℕ = drop (512 * r) bytes in
+          let at : 512 * r + 512 * j ≡ 512 * (r + j) = omega arith in
+          let wide : length (take (512 * n) rest) ≡ 512 * n = length-take-le (512 * n) rest (omega (arith, len, fits, length-drop (512 * r) bytes)) in
+          sym (part_left (take (512 * n) rest) (drop (512 * n) rest) n j wide h)
+          ∙ ap (λ (l : List ℕ). part l j) (take-append-drop (512 * n) rest)
+          ∙ ap (take 512) (drop-drop (512 * j) (512 * r) bytes)
+          ∙ ap (λ (k : ℕ). take 512 (drop k bytes)) at
+
+  under : (images : Images) (x : Fault) → AreSized (λ t. (said_at c lower t).means images) → span (λ j. (units_said c lower crypt w0 j).means images) 0 (unit_sectors crypt) ≡ Err x
+      → span (λ t. (said_at c lower t).means images) (unit_first crypt w0) (unit_sectors crypt) ≡ Err x
+  under images x sized is =
+      let u : ℕ = unit_sectors crypt in
+      let g : ℕ → Outcome = λ s. (crypt_said (said_at c lower) crypt s).means images in
+      let place : w0 / u * u ≡ w0 = omega (arith, div-add-mod' w0 u, aligned) in
+      unit-fails images (said_at c lower) sized crypt (w0 / u) x (
+      ap (λ (s : ℕ). span g s u) place
+      ∙ span_same g (λ j. g (w0 + j)) w0 0 u (λ j h. let at : j ≡ 0 + j = omega arith in ap (λ (k : ℕ). g (w0 + k)) at)
+      ∙ is)
+
+  pub part_err : (fault : IoFault) → IsLoaded c → AllWhole did.old → Finds (units_place c lower crypt w0 cost) c 0 (unit_sectors crypt) did (Err fault) → Finds (units_place c lower crypt (w0 + r) dear) c 0 n did (Err fault)
+  part_err fault loaded all p = record {
+    got = fault_passes {wanted = run_expected (units_place c lower crypt w0 cost) did.after 0 (unit_sectors crypt)} {wanted' = run_expected (units_place c lower crypt (w0 + r) dear) did.after 0 n} fault p.got (AreRead-none 0 did.old)
+        (omega (arith, paid))
+        (λ x some. unit-some (λ first. SomeOf (λ t. (said_at c lower t).meets x) first (unit_sectors crypt)) some)
+        (λ steady x is.
+        let images : Images = images_of did.old in
+        let first : w0 + r + 0 ≡ w0 + r = omega arith in
+        let g : ℕ → Outcome = λ j. (units_said c lower crypt (w0 + r) j).means images in
+        span_fails g 0 n x some (
+        ap (λ (s : ℕ). (crypt_said (said_at c lower) crypt s).means images) first
+        ∙ ap (λ (s : ℕ). changed_outcome (unit_part crypt (w0 + r)) (span (λ t. (said_at c lower t).means images) s (unit_sectors crypt))) (same-first r (omega (arith, fits, some)))
+        ∙ ap (changed_outcome (unit_part crypt (w0 + r))) (under images x (λ t. sector-size c images loaded (images-whole did.old all) lower t) is)));
+    grown = part-grown p.grown;
+    kept = p.kept;
+  }

@@ -1,0 +1,111 @@
+-- What a loaded configuration gives of a verity line and its blocks.
+use Rattle.std.proofs.Common.{◌≡◌, ℕ, ◌+◌, ◌*◌, ◌/◌, ◌%◌, ◌<◌, ◌≤◌, Bool, true, false, IsTrue, ◌||◌, ◌==◌, List, Option, Some, refl, sym, ap, ◌∙◌, subst, arith}
+use Rattle.std.proofs.lemmas.Bool.{eqb-true}
+use Rattle.std.proofs.Math.Nat.{mul_comm}
+use Rattle.std.proofs.lemmas.Nat.{div_below}
+use Rattle.hash_tree.specs.Shape.{is_block_size, area_end}
+use Rattle.dm_table.specs.declared.verity.Verity.{Verity}
+use Rattle.dm_table.specs.declared.table.Line.{Line}
+use Rattle.dm_table.specs.declared.table.Target.TheVariants.{Verity as verity_target}
+use Rattle.stack_rules.specs.declared.lower.Lower.{Lower}
+use Rattle.stack_rules.specs.Records.{Configuration}
+use Rattle.stack_rules.specs.Names.{mapped, named, size, may_write}
+use Rattle.stack_rules.specs.Descend.{depth, known, read_cost}
+use Rattle.stack_rules.specs.Rules.{IsLoaded}
+use Rattle.stack_rules.specs.Trees.{tree_of, data_sectors, block_sectors}
+use Rattle.stack_loader.proofs.lemmas.VerityLineLemmas.{IsVerityLine, verity-line, data_block-inside, hash_block-inside}
+use Rattle.stack_lines.specs.declared.tree.Tree.{Tree}
+use Rattle.stack_meaning.specs.Blocks.{hash_sectors}
+use Rattle.stack_meaning.specs.Meaning.{Said, none_said, said_at}
+use Rattle.stack_meaning.specs.Places.{Place, place_of}
+use Rattle.stack_lines.specs.Sources.{HasTarget, LieInBlock}
+use Rattle.stack_lines.specs.Walks.{HasVerity, IsTreeOf, place_named}
+
+-- ---- block sizes
+
+-- a block is whole sectors, 1 to 8
+pub record IsWholeSectors (size : ℕ) : Type 0 where
+  pub whole : 512 * (size / 512) ≡ size
+  pub some : 1 ≤ size / 512
+  pub most : size / 512 ≤ 8
+
+sectors_in : (n : ℕ) → (a b d e : Bool) → (n == 512) ≡ a → (n == 1024) ≡ b → (n == 2048) ≡ d → (n == 4096) ≡ e → IsTrue (a || b || d || e) → IsWholeSectors n
+sectors_in n true b d e ea eb ed ee h = let is = eqb-true n 512 ea in record { whole = omega (arith, is); some = omega (arith, is); most = omega (arith, is) }
+sectors_in n false true d e ea eb ed ee h = let is = eqb-true n 1024 eb in record { whole = omega (arith, is); some = omega (arith, is); most = omega (arith, is) }
+sectors_in n false false true e ea eb ed ee h = let is = eqb-true n 2048 ed in record { whole = omega (arith, is); some = omega (arith, is); most = omega (arith, is) }
+sectors_in n false false false true ea eb ed ee h = let is = eqb-true n 4096 ee in record { whole = omega (arith, is); some = omega (arith, is); most = omega (arith, is) }
+sectors_in n false false false false ea eb ed ee h = cc
+
+pub whole-sectors : (n : ℕ) → IsTrue (is_block_size n) → IsWholeSectors n
+whole-sectors n h = sectors_in n (n == 512) (n == 1024) (n == 2048) (n == 4096) refl refl refl refl h
+
+-- ---- lines
+
+module _ (c : Configuration) (d l : ℕ) (v : Verity) (loaded : IsLoaded c) (has : HasVerity c d l v) where
+  pub line-facts : (below : Lower) × (hash : Lower) × IsVerityLine c d has.line v below hash
+  line-facts = verity-line c d l has.line v loaded has.is has.has
+
+-- the arguments of one line
+pub same-verity : (c : Configuration) (d l m n : ℕ) (v w : Verity) → HasTarget c d l (verity_target v) m → HasTarget c d l (verity_target w) n → v ≡ w
+same-verity c d l m n v w a b =
+    let both : Some a.line ≡ Some b.line = sym a.is ∙ b.is in
+    let lines : a.line ≡ b.line = cc in
+    let targets : verity_target v ≡ verity_target w = sym a.has ∙ ap (λ (x : Line). x.target) lines ∙ b.has in
+    cc
+
+-- ---- trees
+
+-- what a name means is the place of what it names
+pub place-named : (c : Configuration) (name : List ℕ) (lower : Lower) → named c name ≡ Some lower → place_named c name ≡ place_of c lower
+place-named c name lower is = ap {B = Place} (λ (o : Option Lower). record { said = known {A = ℕ → Said} (λ t. none_said) (said_at c) o; cost = known 0 (read_cost c) o }) is
+
+module _ (c : Configuration) (v : Verity) (tree : Tree) (loaded : IsLoaded c) (is : IsTreeOf c v tree) where
+  facts : IsVerityLine c tree.device.0 is.is.line v tree.data tree.hash
+  facts =
+      let all = line-facts c tree.device.0 tree.line v loaded is.is in
+      let below : Some all.0 ≡ Some tree.data = sym all.2.below_named ∙ is.on_data in
+      let hash : Some all.1 ≡ Some tree.hash = sym all.2.hash_named ∙ is.on_hash in
+      let a : all.0 ≡ tree.data = cc in
+      let b : all.1 ≡ tree.hash = cc in
+      subst (λ (x : Lower). IsVerityLine c tree.device.0 is.is.line v x tree.hash) a (subst (λ (y : Lower). IsVerityLine c tree.device.0 is.is.line v all.0 y) b all.2)
+
+  pub data-depth : depth c tree.data < depth c (mapped tree.device.0)
+  data-depth = facts.below_shallower
+
+  pub hash-depth : depth c tree.hash < depth c (mapped tree.device.0)
+  hash-depth = facts.hash_shallower
+
+  pub data-inside : (i : ℕ) → i < v.blocks → block_sectors v * i + block_sectors v ≤ size c tree.data
+  data-inside i low = let room = data_block-inside c tree.device.0 is.is.line v tree.data tree.hash facts i low in omega (arith, room, mul_comm i (block_sectors v))
+
+  pub hash-inside : (k : ℕ) → k < area_end (tree_of v) → hash_sectors v * k + hash_sectors v ≤ size c tree.hash
+  hash-inside k low = let room = hash_block-inside c tree.device.0 is.is.line v tree.data tree.hash facts k low in omega (arith, room, mul_comm k (hash_sectors v))
+
+-- ---- parts of blocks
+
+-- a verity line's device isn't written
+pub part-read_only : (c : Configuration) (d l w n : ℕ) → IsLoaded c → LieInBlock c d l w n → may_write c (mapped d) ≡ false
+part-read_only c d l w n loaded lies = (verity-line c d l lies.has.line lies.verity loaded lies.has.is lies.has.has).2.read_only
+
+module _ (c : Configuration) (d l w n : ℕ) (v : Verity) (loaded : IsLoaded c) (has : HasVerity c d l v) where
+  pub data-whole : IsWholeSectors v.data_block
+  data-whole = whole-sectors v.data_block (line-facts c d l v loaded has).2.shape.data_size
+
+  pub hash-whole : IsWholeSectors v.hash_block
+  hash-whole = whole-sectors v.hash_block (line-facts c d l v loaded has).2.shape.hash_size
+
+  module _ (lies : LieInBlock c d l w n) where
+    same : lies.verity ≡ v
+    same = same-verity c d l (w + n) 0 lies.verity v lies.has has
+
+    pub part-within : w % block_sectors v + n ≤ block_sectors v
+    part-within = subst (λ (u : Verity). w % block_sectors u + n ≤ block_sectors u) same lies.within
+
+    -- the block is one of the line's
+    pub part-index : 0 < n → w / block_sectors v < v.blocks
+    part-index some =
+        let both : Some lies.has.line ≡ Some has.line = sym lies.has.is ∙ has.is in
+        let lines : lies.has.line ≡ has.line = cc in
+        let long : lies.has.line.length ≡ has.line.length = ap (λ (x : Line). x.length) lines in
+        let covers : has.line.length ≤ data_sectors v = (line-facts c d l v loaded has).2.covers in
+        div_below w (block_sectors v) v.blocks data-whole.some (omega (arith, some, lies.has.fits, long, covers))

@@ -1,0 +1,170 @@
+-- What is written to where a device's sectors lie is written to the device.
+use Rattle.std.proofs.Common.{◌≡◌, ℕ, ◌+◌, ◌-◌, ◌/◌, ◌%◌, ◌*◌, ◌<◌, ◌≤◌, ◌⊎◌, inl, inr, true, false, IsTrue, List, [], ◌++◌, length, Option, Result, Ok, Err, refl, sym, ap, ◌∙◌, subst, arith}
+use Rattle.block_device.specs.Device.{Device}
+use Rattle.dm_table.specs.declared.table.Line.{Line}
+use Rattle.dm_table.specs.declared.table.Target.{Target}
+use Rattle.dm_table.specs.declared.table.Target.TheVariants.{Zero, Error}
+use Rattle.stack_rules.specs.declared.lower.Lower.{Lower}
+use Rattle.stack_rules.specs.Records.{Configuration}
+use Rattle.stack_rules.specs.Names.{mapped, lines_of, may_write}
+use Rattle.stack_rules.specs.Lines.{IsLine}
+use Rattle.stack_rules.specs.Descend.{known, write_cost}
+use Rattle.stack_rules.specs.Rules.{IsLoaded}
+use Rattle.stack_meaning.specs.declared.fault.IoFault.{IoFault}
+use Rattle.stack_meaning.specs.declared.fault.IoFault.TheVariants as io
+use Rattle.stack_lines.specs.declared.source.Source.{Source}
+use Rattle.stack_lines.specs.declared.source.Source.TheVariants.{Below, Units, UnitPart, Zeros, Fails, Block}
+use Rattle.stack_rules.specs.Units.{unit_sectors}
+use Rattle.stack_lines.specs.declared.source.BlockPart.{BlockPart}
+use Rattle.stack_rules.proofs.lemmas.UnitLemmas.{unit_sectors-some}
+use Rattle.stack_lines.proofs.lemmas.UnitLineLemmas.{unit-line, cost-beneath}
+use Rattle.std.specs.Prelude.{slice_get}
+use Rattle.std.proofs.Math.Nat.{mul-le-mul_right}
+use Rattle.stack_meaning.specs.Outcomes.{Images}
+use Rattle.stack_meaning.specs.Meaning.{said_at}
+use Rattle.stack_meaning.specs.Puts.{Putting, none_put, runs_from, put_runs, together, in_one_run, line_put, put_on}
+use Rattle.stack_lines.specs.Sources.{BeginsAt, ComeFrom, IsServed}
+use Rattle.stack_lines.specs.Writing.{sectors_in, destination_of, Writes, put_by_name, put_on_line, part_put, source_put, source_write_cost, SourceMayWrite, source_destination}
+use Rattle.stack_meaning.proofs.lemmas.CostLemmas.{write_cost-falls}
+use Rattle.stack_lines.proofs.lemmas.SourceLemmas.{units-at, served-said}
+use Rattle.stack_lines.proofs.lemmas.VerityLineLemmas.{part-read_only}
+use Rattle.stack_lines.proofs.lemmas.WritableLemmas.{writable-falls}
+use Rattle.stack_meaning.proofs.lemmas.ChangeLemmas.{AreWritten-none}
+use Rattle.stack_meaning.proofs.lemmas.LineLemmas.{found-more}
+use Rattle.stack_lines.proofs.lemmas.PutLemmas.{Apart, put-together, device-apart, put_on-line, line_put-beneath}
+use Rattle.stack_lines.proofs.lemmas.WriteRunLemmas.{length-sectors_in, sectors_in-none, sectors_in-append, PutsInParts, PutsAlike, write_ok, write_err, write_as}
+
+-- ---- puts where a device's sectors lie
+
+-- a put on a part of line l of device d from its sector w on
+part-put : (c : Configuration) (d l w j : ℕ) (line : Line) (b : BlockPart) (sectors : List (List ℕ)) (images : Images) → IsLine c d l line → BeginsAt d l w b
+    → part_put c b j sectors images ≡ put_runs (line_put c (put_by_name c) d l line.target) (runs_from (together line.target) (w + j) sectors) images
+part-put c d l w j line b sectors images is begins =
+    ap (λ (k : ℕ). put_on_line c k b.line (slice_get (lines_of c k) b.line) (b.first + j) sectors images) begins.0
+    ∙ ap (λ (k : ℕ). put_on_line c d k (slice_get (lines_of c d) k) (b.first + j) sectors images) begins.1
+    ∙ ap (λ (k : ℕ). put_on_line c d l (slice_get (lines_of c d) l) (k + j) sectors images) begins.2
+    ∙ ap (λ (o : Option Line). put_on_line c d l o (w + j) sectors images) is
+
+module _ (c : Configuration) (d l : ℕ) (line : Line) (is : IsLine c d l line) (w j n : ℕ) (sectors : List (List ℕ)) (images : Images) (some : 0 < length sectors) (fits : j + length sectors ≤ n) where
+  -- a target of which all sectors go down together
+  one-run : (target : Target) → ((i : ℕ) → IsTrue (together target (w + j + i))) → line.target ≡ target
+      → put_runs (line_put c (put_by_name c) d l line.target) (runs_from (together line.target) (w + j) sectors) images ≡ line_put c (put_by_name c) d l target (w + j) sectors images
+  one-run target all come =
+      ap (λ (t : Target). put_runs (line_put c (put_by_name c) d l t) (runs_from (together t) (w + j) sectors) images) come
+      ∙ put-together (line_put c (put_by_name c) d l target) (together target) (w + j) sectors images some (λ i h. all i)
+
+  -- of n sectors from w on, those from the j-th on
+  come-put : (source : Source) → SourceMayWrite c source → ComeFrom c (d, l) line.target w n source
+      → put_runs (line_put c (put_by_name c) d l line.target) (runs_from (together line.target) (w + j) sectors) images ≡ source_put c source j sectors images
+  come-put (Below lower first) may come =
+      let on = come.1 in
+      put-together (line_put c (put_by_name c) d l line.target) (together line.target) (w + j) sectors images some
+      (λ i h. let e : w + j + i ≡ w + (j + i) = omega arith in ap (together line.target) e ∙ come.2 (j + i) (omega (arith, h, fits)))
+      ∙ line_put-beneath c (put_by_name c) d l line.target (w + j) (on.name, first + j) sectors images come.0 (on.under j (omega (arith, some, fits)))
+      ∙ ap (λ (o : Option Lower). known {A = ℕ → Putting} (λ t. none_put) (put_on c) o (first + j) sectors images) on.is
+  come-put (Units b) may come = sym (part-put c d l w j line b sectors images is come.0)
+  come-put (UnitPart b) may come = sym (part-put c d l w j line b sectors images is come.0)
+  come-put Zeros may come = one-run Zero (λ i. refl) come
+  come-put Fails may come = one-run Error (λ i. refl) come
+  come-put (Block b) may come = absurd may
+
+-- of n sectors of a device from s on, those from the j-th on
+pub served-put : (c : Configuration) (d s n j : ℕ) (source : Source) (sectors : List (List ℕ)) (images : Images) → IsLoaded c → 0 < length sectors → j + length sectors ≤ n → SourceMayWrite c source → IsServed c d s n source
+    → put_on c (mapped d) (s + j) sectors images ≡ source_put c source j sectors images
+served-put c d s n j source sectors images loaded some fits may r =
+    let at : s + j - r.line.start ≡ s - r.line.start + j = omega (arith, r.start) in
+    put_on-line c loaded.valid d (s + j) r.number r.line sectors images (found-more 0 (lines_of c d) s (s + j) (r.number, r.line) r.found (omega arith) (omega (arith, some, fits, r.fits))) (omega (arith, r.start)) (omega (arith, fits, r.fits))
+    ∙ ap (λ (k : ℕ). put_runs (line_put c (put_by_name c) d r.number r.line.target) (runs_from (together r.line.target) k sectors) images) at
+    ∙ come-put c d r.number r.line r.is (s - r.line.start) j n sectors images some fits source may r.come
+
+-- ---- writes
+
+served-write-cost : (c : Configuration) (d s n : ℕ) (source : Source) → IsLoaded c → 0 < n → IsServed c d s n source → source_write_cost c source ≤ write_cost c (mapped d)
+served-write-cost c d s n (Below lower first) loaded some r =
+    let on = r.come.1 in
+    write_cost-falls c d r.number r.line (s - r.line.start + 0) (on.name, first + 0) lower loaded.valid r.is (on.under 0 some) on.is
+served-write-cost c d s n (Units b) loaded some r =
+    let units = units-at c d r.number (s - r.line.start) n b r.come.0 r.come.1 in
+    let lower = unit-line c b.device.0 b.line _ units.crypt loaded units.has in
+    let same = cost-beneath c b.device.0 b.line _ units.crypt loaded units.has (write_cost c) lower.0 lower.1.crypt_line.named in
+    let whole : write_cost c (mapped b.device.0) ≡ write_cost c (mapped d) = ap (λ (k : ℕ). write_cost c (mapped k)) r.come.0.0 in
+    let once : 1 * write_cost c lower.0 ≤ unit_sectors units.crypt * write_cost c lower.0 = mul-le-mul_right (write_cost c lower.0) (unit_sectors-some units.crypt) in
+    omega (arith, same, whole, once, lower.1.write)
+served-write-cost c d s n (UnitPart b) loaded some r = let same : write_cost c (mapped b.device.0) ≡ write_cost c (mapped d) = ap (λ (k : ℕ). write_cost c (mapped k)) r.come.0.0 in omega (arith, same)
+served-write-cost c d s n Zeros loaded some r = omega arith
+served-write-cost c d s n Fails loaded some r = omega arith
+served-write-cost c d s n (Block b) loaded some r = omega arith
+
+pub served-may_write : (c : Configuration) (d s n : ℕ) (source : Source) → IsLoaded c → 0 < n → IsTrue (may_write c (mapped d)) → IsServed c d s n source → SourceMayWrite c source
+served-may_write c d s n (Below lower first) loaded some writable r =
+    let on = r.come.1 in
+    writable-falls c d r.number r.line (s - r.line.start + 0) (on.name, first + 0) lower loaded.valid r.is writable (on.under 0 some) on.is
+served-may_write c d s n (Units b) loaded some writable r = subst (λ (k : ℕ). IsTrue (may_write c (mapped k))) (sym r.come.0.0) writable
+served-may_write c d s n (UnitPart b) loaded some writable r = subst (λ (k : ℕ). IsTrue (may_write c (mapped k))) (sym r.come.0.0) writable
+served-may_write c d s n Zeros loaded some writable r = tt
+served-may_write c d s n Fails loaded some writable r = tt
+served-may_write c d s n (Block b) loaded some writable r =
+    let none = part-read_only c d r.number (s - r.line.start) n loaded r.come.1 in
+    let clash : true ≡ false = sym writable ∙ none in cc
+
+served-alike : (c : Configuration) (d s : ℕ) (source : Source) (sectors : List (List ℕ)) → IsLoaded c → 0 < length sectors → SourceMayWrite c source → IsServed c d s (length sectors) source
+    → PutsAlike (source_destination c source) (destination_of c (mapped d)) 0 s sectors
+served-alike c d s source sectors loaded some may r = record {
+  said = λ j h. let e : 0 + j ≡ j = omega arith in ap (source_destination c source).said e ∙ served-said c d s (length sectors) j source loaded h r;
+  puts = λ images.
+      let e : s + 0 ≡ s = omega arith in
+      sym (served-put c d s (length sectors) 0 source sectors images loaded some (omega arith) may r) ∙ ap (λ (k : ℕ). put_on c (mapped d) k sectors images) e;
+  cost = served-write-cost c d s (length sectors) source loaded some r;
+}
+
+pub below-alike : (c : Configuration) (lower : Lower) (first : ℕ) (sectors : List (List ℕ)) → PutsAlike (destination_of c lower) (source_destination c (Below lower first)) first 0 sectors
+below-alike c lower first sectors = record {
+  said = λ j h. let e : j ≡ 0 + j = omega arith in ap (λ (k : ℕ). said_at c lower (first + k)) e;
+  puts = λ images. let e : first ≡ first + 0 = omega arith in ap (λ (k : ℕ). put_on c lower k sectors images) e;
+  cost = omega arith;
+}
+
+pub fails-written : (c : Configuration) (sectors : List (List ℕ)) (leaves : List Device) → 0 < length sectors → Writes (source_destination c Fails) 0 sectors leaves leaves (Err io.ErrorTarget)
+fails-written c sectors leaves some = record { moved = AreWritten-none _ _ leaves; ends = (0, some, refl); grown = λ e. cc; exact = λ steady. refl }
+
+-- ---- runs of one device
+
+-- the bytes before sector s of a device end a run
+abbrev pub EndsBefore : Configuration → ℕ → ℕ → List ℕ → Type 0
+EndsBefore c d s bytes = (bytes ≡ []) ⊎ (in_one_run c d (s - 1) ≡ false)
+
+apart-before : (c : Configuration) (d first : ℕ) (x : List ℕ) (ys : List (List ℕ)) → EndsBefore c d (first + length x / 512) x → Apart (in_one_run c d) first (sectors_in x) ys
+apart-before c d first x ys ends = elim ends [
+  | inl none ↦ inl (ap sectors_in none ∙ sectors_in-none)
+  | inr cut ↦ inr (inr (ap (λ (n : ℕ). in_one_run c d (first + n - 1)) (length-sectors_in x) ∙ cut))
+]
+
+parts-before : (c : Configuration) (d first : ℕ) (x : List ℕ) → IsLoaded c → EndsBefore c d (first + length x / 512) x → (ys : List (List ℕ)) → PutsInParts (destination_of c (mapped d)) first (sectors_in x) ys
+parts-before c d first x loaded ends ys images = device-apart c loaded.valid d first (sectors_in x) ys images (apart-before c d first x ys ends)
+
+module _ (c : Configuration) (d first : ℕ) (x y : List ℕ) (source : Source) {old mid new : List Device} (loaded : IsLoaded c) (whole_x : length x % 512 ≡ 0) (whole_y : length y % 512 ≡ 0) (some : 0 < length y / 512)
+    (may : SourceMayWrite c source) (ends : EndsBefore c d (first + length x / 512) x)
+    (r : IsServed c d (first + length x / 512) (length y / 512) source) (p : Writes (destination_of c (mapped d)) first (sectors_in x) old mid (Ok tt)) where
+  next-run : (result : Result Unit IoFault) → Writes (source_destination c source) 0 (sectors_in y) mid new result → Writes (destination_of c (mapped d)) (first + length (sectors_in x)) (sectors_in y) mid new result
+  next-run result q =
+      let count : length y / 512 ≡ length (sectors_in y) = sym (length-sectors_in y) in
+      let at : first + length x / 512 ≡ first + length (sectors_in x) = ap (λ (k : ℕ). first + k) (sym (length-sectors_in x)) in
+      write_as (served-alike c d (first + length (sectors_in x)) source (sectors_in y) loaded (subst (λ (k : ℕ). 0 < k) count some) may
+      (subst (λ (k : ℕ). IsServed c d k (length (sectors_in y)) source) at (subst (λ (k : ℕ). IsServed c d (first + length x / 512) k source) count r))) q
+
+  pub device-written : Writes (source_destination c source) 0 (sectors_in y) mid new (Ok tt) → Writes (destination_of c (mapped d)) first (sectors_in (x ++ y)) old new (Ok tt)
+  device-written q =
+      subst (λ (l : List (List ℕ)). Writes (destination_of c (mapped d)) first l old new (Ok tt)) (sym (sectors_in-append x y whole_x))
+      (write_ok (destination_of c (mapped d)) first (sectors_in x) (sectors_in y) p (parts-before c d first x loaded ends (sectors_in y)) (next-run (Ok tt) q))
+
+  pub device-ended : (z : List ℕ) (fault : IoFault) → (z ≡ []) ⊎ (in_one_run c d (first + length x / 512 + length y / 512 - 1) ≡ false) → Writes (source_destination c source) 0 (sectors_in y) mid new (Err fault)
+      → Writes (destination_of c (mapped d)) first (sectors_in (x ++ (y ++ z))) old new (Err fault)
+  device-ended z fault after q =
+      let at : first + length (sectors_in x) + length (sectors_in y) - 1 ≡ first + length x / 512 + length y / 512 - 1 = omega (arith, length-sectors_in x, length-sectors_in y) in
+      let apart : Apart (in_one_run c d) (first + length (sectors_in x)) (sectors_in y) (sectors_in z) = elim after [
+        | inl none ↦ inr (inl (ap sectors_in none ∙ sectors_in-none))
+        | inr cut ↦ inr (inr (ap (in_one_run c d) at ∙ cut))
+      ] in
+      subst (λ (l : List (List ℕ)). Writes (destination_of c (mapped d)) first l old new (Err fault)) (sym (sectors_in-append x (y ++ z) whole_x ∙ ap (λ (l : List (List ℕ)). sectors_in x ++ l) (sectors_in-append y z whole_y)))
+      (write_err (destination_of c (mapped d)) first (sectors_in x) (sectors_in y) p (sectors_in z) fault (parts-before c d first x loaded ends (sectors_in y ++ sectors_in z))
+      (λ images. device-apart c loaded.valid d (first + length (sectors_in x)) (sectors_in y) (sectors_in z) images apart) (next-run (Err fault) q))

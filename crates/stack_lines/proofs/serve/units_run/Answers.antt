@@ -1,0 +1,44 @@
+use Rattle.std.proofs.Common.{◌≡◌, ◌+◌, ◌-◌, ◌*◌, ◌/◌, ◌%◌, ◌<◌, ℕ, refl, ap, ◌∙◌, inr, arith}
+use Rattle.std.proofs.lemmas.Nat.{div-add-mod', mod-mul-add, mod_below}
+use Rattle.stack_rules.specs.Units.{unit_sectors}
+use Rattle.stack_lines.proofs.StripeLemmas.{part-ends}
+use Rattle.stack_rules.proofs.lemmas.UnitLemmas.{unit_sectors-some}
+use Rattle.stack_meaning.proofs.lemmas.UnitLemmas.{unit-more}
+use Rattle.stack_lines.proofs.serve.units_run.Goals as goal
+
+-- as many sectors as whole units have
+whole-count : (u count : ℕ) → 0 < u → (count - count % u) % u ≡ 0
+whole-count u count some =
+    let all : count - count % u ≡ count / u * u + 0 = omega (arith, div-add-mod' count u) in
+    ap (λ (k : ℕ). k % u) all ∙ mod-mul-add (count / u) u 0 some
+
+pub returns : goal.returns
+returns c = record {
+  come =
+      let crypt = c.args.crypt.now in
+      let u : ℕ = unit_sectors crypt in
+      let few : c.from-sectors.result ≡ u = c.from-sectors.ensures ∙ c.unit_sectors-few.ensures.value in
+      let line = c.requires.line in (
+        (refl, refl, refl),
+        record {
+          crypt = crypt;
+          has = record { line = line.line; is = line.is; has = line.has; fits = omega (arith, line.fits) };
+          aligned = c.requires.aligned;
+          whole = ap (λ (k : ℕ). (c.args.count - c.args.count % k) % u) few ∙ whole-count u c.args.count (omega (arith, unit_sectors-some crypt));
+        },
+      );
+  some =
+      let few : c.from-sectors.result ≡ unit_sectors c.args.crypt.now = c.from-sectors.ensures ∙ c.unit_sectors-few.ensures.value in
+      omega (arith, few, c.requires.enough, mod_below c.args.count c.from-sectors.result (omega (arith, few, unit_sectors-some c.args.crypt.now)));
+  most = omega (arith);
+  longest =
+      let crypt = c.args.crypt.now in
+      let u : ℕ = unit_sectors crypt in
+      let w : ℕ = c.args.within in
+      let few : c.from-sectors.result ≡ u = c.from-sectors.ensures ∙ c.unit_sectors-few.ensures.value in
+      let some : 0 < u = omega (arith, unit_sectors-some crypt) in
+      let n : ℕ = c.args.count - c.args.count % c.from-sectors.result in
+      let whole : n % u ≡ 0 = ap (λ (k : ℕ). (c.args.count - c.args.count % k) % u) few ∙ whole-count u c.args.count some in
+      let low = mod_below c.args.count c.from-sectors.result (omega (arith, few, some)) in
+      inr (part-ends u (w + n) some (omega (arith, few, c.requires.enough, low)) ((unit-more u w n some c.requires.aligned).1 ∙ whole));
+}

@@ -1,0 +1,92 @@
+-- The leaves on which devices and lines stand.
+use Rattle.std.specs.Prelude.{◌≡◌, ℕ, ◌<◌, Bool, true, false, ◌==◌, List, length, slice_get, All}
+use Rattle.std.specs.Int.{bit_at}
+use Rattle.std.specs.List.{list_any, slice_index_or}
+use Rattle.std.specs.Option.{option_map_or}
+use Rattle.dm_table.specs.declared.table.Target.{Target}
+use Rattle.dm_table.specs.declared.table.Target.TheVariants.{Linear, Striped, Zero, Error, Crypt as crypt_target, Verity as verity_target}
+use Rattle.stack_rules.specs.declared.lower.Lower.{Lower}
+use Rattle.stack_rules.specs.declared.lower.Lower.TheVariants.{Leaf as leaf, Device as device}
+use Rattle.stack_rules.specs.Descend.{by_name, depth, most_devices}
+use Rattle.stack_rules.specs.Names.{mapped, lines_of}
+use Rattle.stack_rules.specs.Records.{Configuration}
+use Rattle.stack_rules.specs.Rules.{most_leaves}
+use Rattle.verified_cache.specs.Cache.{CachedBlock, CacheRecord, cache_without}
+use Rattle.verified_cache.specs.declared.key.Key.{Key}
+use Rattle.stack_lines.specs.declared.leaf_set.LeafSet.{LeafSet}
+use Rattle.stack_meaning.specs.LeavesBeneath.{leaves_beneath}
+
+-- ---- sets of leaves
+
+abbrev pub contains : LeafSet → ℕ → Bool
+contains set i = bit_at set.bits i == 1
+
+-- set d, where there is none the empty one
+abbrev pub set_at : List LeafSet → ℕ → LeafSet
+set_at sets d = slice_index_or sets d (record { bits = 0 })
+
+-- ---- what stands on a leaf
+
+-- a leaf or device is leaf i, or stands on it
+abbrev pub stands_on : Configuration → ℕ → Lower → Bool
+stands_on c i lower = list_any (λ j. i == j) (leaves_beneath c lower)
+
+-- what the name means is leaf i, or stands on it
+abbrev pub name_stands_on : Configuration → ℕ → List ℕ → Bool
+name_stands_on c i = by_name c false (stands_on c i)
+
+abbrev pub is_verity : Target → Bool
+is_verity (Linear base) = false
+is_verity (Striped chunk bases) = false
+is_verity Zero = false
+is_verity Error = false
+is_verity (crypt_target crypt) = false
+is_verity (verity_target v) = true
+
+-- the target is that of a verity line, whose hash device is leaf i or stands on it
+abbrev pub hashes_stand_on : Configuration → ℕ → Target → Bool
+hashes_stand_on c i (Linear base) = false
+hashes_stand_on c i (Striped chunk bases) = false
+hashes_stand_on c i Zero = false
+hashes_stand_on c i Error = false
+hashes_stand_on c i (crypt_target crypt) = false
+hashes_stand_on c i (verity_target v) = name_stands_on c i v.hash
+
+-- the same of the line of a key
+abbrev pub line_stands_on : Configuration → ℕ → ℕ → ℕ → Bool
+line_stands_on c i d l = option_map_or (λ line. hashes_stand_on c i line.target) (slice_get (lines_of c d) l) false
+
+abbrev pub key_stands_on : Configuration → ℕ → Key → Bool
+key_stands_on c i key = line_stands_on c i key.device key.line
+
+-- what is left of a cache without the blocks of the lines whose hash device is leaf i or stands on it
+abbrev pub cache_without_leaf : Configuration → ℕ → CacheRecord → CacheRecord
+cache_without_leaf c i = cache_without (key_stands_on c i)
+
+-- ---- what is found out of a configuration
+
+-- a leaf or device that a configuration may have
+abbrev pub IsInside : Lower → Type 0
+IsInside (leaf i) = i < most_leaves
+IsInside (device d) = d.0 < most_devices
+
+-- the set has the leaves on which it stands
+abbrev pub HasLeaves : Configuration → Lower → LeafSet → Type 0
+HasLeaves c lower set = (i : ℕ) → contains set i ≡ stands_on c i lower
+
+-- a leaf, or a device that has its set
+abbrev pub KnowsLeaves : Configuration → List LeafSet → Lower → Type 0
+KnowsLeaves c sets (leaf i) = Unit {0}
+KnowsLeaves c sets (device d) = HasLeaves c (device d) (set_at sets d.0)
+
+-- each device that is less deep has its set
+abbrev pub AreSetsBelow : Configuration → ℕ → List LeafSet → Type 0
+AreSetsBelow c deep sets = (d : ℕ) → d < length c.devices → depth c (mapped d) < deep → HasLeaves c (mapped d) (set_at sets d)
+
+-- each device has its set
+abbrev pub AreLeafSets : Configuration → List LeafSet → Type 0
+AreLeafSets c sets = (d : ℕ) → d < length c.devices → HasLeaves c (mapped d) (set_at sets d)
+
+-- the set has each leaf on which the hash device of a kept block's line stands
+abbrev pub CoversBlocks : Configuration → LeafSet → List CachedBlock → Type 0
+CoversBlocks c set blocks = All (λ b. (i : ℕ) → i < most_leaves → key_stands_on c i b.key ≡ true → contains set i ≡ true) blocks

@@ -1,0 +1,114 @@
+-- Contracts of reads of data blocks, from the root down.
+use Rattle.std.specs.Prelude.{◌≡◌, ◌⊎◌, ℕ, ◌+◌, ◌*◌, ◌<◌, List, ◌++◌, length, Some, Result}
+use Rattle.hash_tree.specs.Chain.{ChainRecord, HangsFrom, IsGood}
+use Rattle.hash_tree.specs.Digests.{digest}
+use Rattle.hash_tree.specs.Shape.{levels}
+use Rattle.block_device.specs.Device.{Device}
+use Rattle.dm_table.specs.declared.verity.Verity.{Verity}
+use Rattle.dm_table.specs.declared.table.Target.TheVariants.{Verity as verity_target}
+use Rattle.stack_rules.specs.Records.{Configuration}
+use Rattle.stack_rules.specs.Names.{named}
+use Rattle.stack_rules.specs.Descend.{by_name, read_cost}
+use Rattle.stack_rules.specs.Trees.{tree_of, block_sectors, path_sectors}
+use Rattle.stack_meaning.specs.declared.fault.IoFault.{IoFault}
+use Rattle.stack_lines.specs.declared.tree.Tree.{Tree}
+use Rattle.stack_meaning.specs.Sectors.{SomeOf}
+use Rattle.stack_meaning.specs.Outcomes.{Outcome, Fault, mismatch, Images}
+use Rattle.stack_meaning.specs.Blocks.{hash_sectors, checked_span, data_block_at, block_below, block_at, BlockMeets}
+use Rattle.stack_meaning.specs.Leaves.{images_of, AllSteady, AreRead}
+use Rattle.stack_meaning.specs.Meaning.{said_by_name}
+use Rattle.stack_meaning.specs.Places.{Place, Expected}
+use Rattle.stack_meaning.specs.Reading.{Gets}
+use Rattle.stack_lines.specs.Sources.{HasTarget}
+
+-- ---- lines
+
+-- line l of device d is a verity line of these arguments
+abbrev pub HasVerity : Configuration → ℕ → ℕ → Verity → Type 0
+HasVerity c d l v = HasTarget c d l (verity_target v) 0
+
+abbrev pub IsOnVerity : Configuration → ℕ → ℕ → Type 0
+IsOnVerity c d l = (v : Verity) × HasVerity c d l v
+
+-- where its blocks lie
+pub record IsTreeOf (c : Configuration) (v : Verity) (tree : Tree) : Type 0 where
+  pub is : HasVerity c tree.device.0 tree.line v
+  pub on_data : named c v.data ≡ Some tree.data
+  pub on_hash : named c v.hash ≡ Some tree.hash
+  pub shape_is : tree.shape ≡ tree_of v
+
+-- it has a data block of that number
+pub record HasDataBlock (c : Configuration) (v : Verity) (tree : Tree) (index : ℕ) : Type 0 where
+  pub lies : IsTreeOf c v tree
+  pub there : index < v.blocks
+
+-- ---- one block
+
+-- a block of n sectors that has the digest
+abbrev pub IsBlock : ℕ → List ℕ → List ℕ → List ℕ → Type 0
+IsBlock n salt expected block = (length block ≡ 512 * n) × (digest salt block ≡ expected)
+
+-- the fault is that of a digest, or one of n sectors meets it
+abbrev pub SpanMeets : Place → ℕ → ℕ → Fault → Type 0
+SpanMeets place first n fault = (fault ≡ mismatch) ⊎ SomeOf (λ s. (place.said s).meets fault) first n
+
+-- of n sectors of a place from the first on, as a block that has the digest
+abbrev pub checked_expected : {A : Type 0} → (A → List ℕ) → Place → ℕ → ℕ → List ℕ → List ℕ → Expected A
+checked_expected bytes_of place first n salt expected = record {
+  is = λ x. IsBlock n salt expected (bytes_of x);
+  faults = SpanMeets place first n;
+  bytes_of = bytes_of;
+  means = λ images. checked_span (λ s. (place.said s).means images) first n salt expected;
+  cost = n * place.cost;
+}
+
+-- ---- a data block
+
+-- a data block of a verity line: the places of data blocks and of hash blocks, and its number
+pub record DataBlock : Type 1 where
+  pub verity : Verity
+  pub on_data : Place
+  pub on_hash : Place
+  pub index : ℕ
+
+-- what a name means, as a place
+abbrev pub place_named : Configuration → List ℕ → Place
+place_named c name = record { said = said_by_name c name; cost = by_name c 0 (read_cost c) name }
+
+abbrev pub block_in : Configuration → Verity → ℕ → DataBlock
+block_in c v i = record { verity = v; on_data = place_named c v.data; on_hash = place_named c v.hash; index = i }
+
+-- what it means over the leaves' images, where l levels are left and that digest is expected
+abbrev pub means_below : DataBlock → Images → ℕ → List ℕ → Outcome
+means_below b images l expected = block_below b.verity (λ s. (b.on_data.said s).means images) (λ s. (b.on_hash.said s).means images) b.index l expected
+
+-- of itself, where that digest is expected of it
+abbrev pub data_expected : {A : Type 0} → (A → List ℕ) → DataBlock → List ℕ → Expected A
+data_expected bytes_of b expected = record {
+  is = λ x. IsBlock (block_sectors b.verity) b.verity.salt expected (bytes_of x);
+  faults = SpanMeets b.on_data (block_sectors b.verity * b.index) (block_sectors b.verity);
+  bytes_of = bytes_of;
+  means = λ images. data_block_at b.verity (λ s. (b.on_data.said s).means images) b.index expected;
+  cost = block_sectors b.verity * b.on_data.cost;
+}
+
+-- of its chain
+abbrev pub chain_expected : DataBlock → Expected ChainRecord
+chain_expected b = record {
+  is = λ chain. (chain.index ≡ b.index) × IsGood (tree_of b.verity) b.verity.salt b.verity.root chain;
+  faults = BlockMeets b.verity (λ s. (b.on_data.said s).meets) (λ s. (b.on_hash.said s).meets) b.index;
+  bytes_of = λ chain. chain.content;
+  means = λ images. block_at b.verity (λ s. (b.on_data.said s).means images) (λ s. (b.on_hash.said s).means images) b.index;
+  cost = block_sectors b.verity * b.on_data.cost + path_sectors b.verity * b.on_hash.cost;
+}
+
+abbrev pub GetsChain : DataBlock → List Device → List Device → Result ChainRecord IoFault → Type 0
+GetsChain b old new result = Gets (chain_expected b) old new result
+
+-- what stands once the path was read, where l levels are left and that digest is expected of the next block
+pub record IsWalked (b : DataBlock) (l : ℕ) (expected : List ℕ) (path : List (List ℕ)) (old new : List Device) : Type 0 where
+  pub count : length path + l ≡ levels (tree_of b.verity)
+  pub moved : AreRead old (length path * (hash_sectors b.verity * b.on_hash.cost)) new
+  pub hangs : (rest : List (List ℕ)) (content : List ℕ) → length rest ≡ l → HangsFrom (tree_of b.verity) b.verity.salt b.index expected rest content
+      → HangsFrom (tree_of b.verity) b.verity.salt b.index b.verity.root (path ++ rest) content
+  pub exact : AllSteady old → (chain_expected b).means (images_of old) ≡ means_below b (images_of old) l expected

@@ -1,0 +1,122 @@
+-- Contracts of writes.
+use Rattle.std.specs.Prelude.{◌≡◌, ℕ, ◌+◌, ◌-◌, ◌*◌, ◌/◌, ◌%◌, ◌<◌, ◌≤◌, ◌⊎◌, IsTrue, List, [], ◌++◌, length, drop, slice_get, Option, Some, None, Result, Ok, Err}
+use Rattle.block_device.specs.Device.{Device, sectors_of}
+use Rattle.dm_table.specs.declared.table.Line.{Line}
+use Rattle.stack_rules.specs.declared.lower.Lower.{Lower}
+use Rattle.stack_rules.specs.Records.{Configuration}
+use Rattle.stack_rules.specs.Names.{mapped, lines_of, may_write}
+use Rattle.stack_rules.specs.Descend.{by_name, write_cost}
+use Rattle.stack_meaning.specs.declared.fault.IoFault.{IoFault}
+use Rattle.stack_meaning.specs.declared.fault.IoFault.TheVariants as io
+use Rattle.stack_lines.specs.declared.source.BlockPart.{BlockPart}
+use Rattle.stack_lines.specs.declared.source.Source.{Source}
+use Rattle.stack_lines.specs.declared.source.Source.TheVariants.{Below, Units, UnitPart, Zeros, Fails, Block}
+use Rattle.stack_meaning.specs.Sectors.{SomeOf}
+use Rattle.stack_meaning.specs.Outcomes.{Fault, error_target, mismatch, Images}
+use Rattle.stack_meaning.specs.Meaning.{Said, said_at}
+use Rattle.stack_meaning.specs.Puts.{Put, done, stopped, Putting, none_put, runs_from, put_runs, together, line_put, put_on}
+use Rattle.stack_meaning.specs.Leaves.{images_of, AllSteady, LeafFailed}
+use Rattle.stack_meaning.specs.Changes.{reached, AreWritten}
+use Rattle.stack_lines.specs.Sources.{source_said, cost_beneath}
+
+-- the bytes of whole sectors, at least one
+pub record AreSectors (bytes : List ℕ) : Type 0 where
+  pub some : 0 < length bytes
+  pub whole : length bytes % 512 ≡ 0
+
+-- bytes as whole sectors
+abbrev pub sectors_in : List ℕ → List (List ℕ)
+sectors_in bytes = sectors_of (length bytes / 512) bytes
+
+-- Whatever the leaves answer: how a write may end, where these faults may come. The number of a leaf that failed
+-- counts from 1. Where memory ran out nothing was written.
+abbrev pub MayEnd : (Fault → Type 0) → List Device → List Device → Result Unit IoFault → Type 0
+MayEnd May old new (Ok x) = Unit {0}
+MayEnd May old new (Err io.ErrorTarget) = May error_target
+MayEnd May old new (Err io.Mismatch) = ⊥
+MayEnd May old new (Err (io.Device i)) = (1 ≤ i) × LeafFailed (i - 1) old new
+MayEnd May old new (Err io.NoMemory) = new ≡ old
+
+-- over steady leaves: these images are what the put leaves, unless a device failed or memory ran out
+abbrev pub IsPut : Put → Images → Result Unit IoFault → Type 0
+IsPut put images (Ok x) = put ≡ done images
+IsPut put images (Err io.ErrorTarget) = put ≡ stopped error_target images
+IsPut put images (Err io.Mismatch) = put ≡ stopped mismatch images
+IsPut put images (Err (io.Device i)) = Unit {0}
+IsPut put images (Err io.NoMemory) = Unit {0}
+
+-- where sectors are written: what is said of each, what a put of some does, and the leaf sectors that are written
+-- for one at most
+pub record Destination : Type 1 where
+  pub said : ℕ → Said
+  pub puts : ℕ → Putting
+  pub cost : ℕ
+
+-- a leaf or device
+abbrev pub destination_of : Configuration → Lower → Destination
+destination_of c lower = record { said = said_at c lower; puts = put_on c lower; cost = write_cost c lower }
+
+-- a write encrypts some of n sectors from the first on
+abbrev pub SomeEncrypt : (ℕ → Said) → ℕ → ℕ → Type 0
+SomeEncrypt said first n = SomeOf (λ s. (said s).encrypts) first n
+
+-- The bytes of a write: a buffer's, where they may be encrypted on the way, or the caller's, where none is. The
+-- other ones are none.
+abbrev pub AreHeld : (ℕ → Said) → ℕ → List ℕ → List ℕ → Type 0
+AreHeld said first plain buffer = (plain ≡ []) ⊎ ((buffer ≡ []) × (SomeEncrypt said first (length plain / 512) → ⊥))
+
+-- a buffer for a write of some bytes: it has all of them where some may be encrypted, and else none
+pub record IsBufferFor (said : ℕ → Said) (first : ℕ) (bytes buffer : List ℕ) : Type 0 where
+  pub held : AreHeld said first (drop (length buffer) bytes) buffer
+  pub same : drop (length buffer) bytes ++ buffer ≡ bytes
+
+-- a write of sectors from the first on, all of whose growths were made before it
+pub record Writes (to : Destination) (first : ℕ) (sectors : List (List ℕ)) (old new : List Device) (result : Result Unit IoFault) : Type 0 where
+  pub moved : AreWritten (reached (λ s. (to.said s).reaches) first (length sectors)) old (length sectors * to.cost) new
+  pub ends : MayEnd (λ fault. SomeOf (λ s. (to.said s).meets fault) first (length sectors)) old new result
+  pub grown : result ≡ Err io.NoMemory → ⊥
+  pub exact : AllSteady old → IsPut (to.puts first sectors (images_of old)) (images_of new) result
+
+-- ---- what the engine writes as one run
+
+-- what a put does by the names of a configuration
+abbrev pub put_by_name : Configuration → List ℕ → ℕ → Putting
+put_by_name c = by_name c (λ t. none_put) (put_on c)
+
+-- what a put of sectors from s of line l of device d on does, where the line was looked for
+abbrev pub put_on_line : Configuration → ℕ → ℕ → Option Line → ℕ → Putting
+put_on_line c d l None s sectors images = done images
+put_on_line c d l (Some line) s sectors images = put_runs (line_put c (put_by_name c) d l line.target) (runs_from (together line.target) s sectors) images
+
+abbrev pub part_put : Configuration → BlockPart → ℕ → Putting
+part_put c b j sectors images = put_on_line c b.device.0 b.line (slice_get (lines_of c b.device.0) b.line) (b.first + j) sectors images
+
+-- what a put of sectors from its j-th on does
+abbrev pub source_put : Configuration → Source → ℕ → Putting
+source_put c (Below lower first) j sectors images = put_on c lower (first + j) sectors images
+source_put c (Units b) j sectors images = part_put c b j sectors images
+source_put c (UnitPart b) j sectors images = part_put c b j sectors images
+source_put c Zeros j sectors images = done images
+source_put c Fails j sectors images = stopped error_target images
+source_put c (Block b) j sectors images = done images
+
+-- the leaf sectors that are written for one of its sectors at most
+abbrev pub source_write_cost : Configuration → Source → ℕ
+source_write_cost c (Below lower first) = write_cost c lower
+source_write_cost c (Units b) = cost_beneath c (write_cost c) b
+source_write_cost c (UnitPart b) = write_cost c (mapped b.device.0)
+source_write_cost c Zeros = 0
+source_write_cost c Fails = 0
+source_write_cost c (Block b) = 0
+
+-- what it lies on may be written; a verity line's block never is
+abbrev pub SourceMayWrite : Configuration → Source → Type 0
+SourceMayWrite c (Below lower first) = IsTrue (may_write c lower)
+SourceMayWrite c (Units b) = IsTrue (may_write c (mapped b.device.0))
+SourceMayWrite c (UnitPart b) = IsTrue (may_write c (mapped b.device.0))
+SourceMayWrite c Zeros = Unit {0}
+SourceMayWrite c Fails = Unit {0}
+SourceMayWrite c (Block b) = ⊥
+
+abbrev pub source_destination : Configuration → Source → Destination
+source_destination c source = record { said = source_said c source; puts = source_put c source; cost = source_write_cost c source }

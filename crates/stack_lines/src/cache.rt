@@ -1,0 +1,128 @@
+// The hash blocks that a stack keeps.
+ghost use Rattle.std.specs.Prelude.{◌≡◌, ◌<◌, ◌||◌, [], ℕ, option_map, IfOk, OnOk, OnErr};
+ghost use Rattle.stack_rules.specs.Records.{Configuration};
+ghost use Rattle.stack_rules.specs.Rules.{IsLoaded, most_leaves};
+ghost use Rattle.verified_cache.specs.Cache.{CachedBlock, block_under, cache_after_find, cache_after_keep};
+ghost use Rattle.stack_lines.specs.Standing.{contains, stands_on, cache_without_leaf, IsInside, KnowsLeaves, AreLeafSets, CoversBlocks};
+ghost use Rattle.stack_lines.specs.Caches.{IsFresh};
+
+use crate::keys_on_leaf::KeysOnLeaf;
+use crate::leaf_set::LeafSet;
+use crate::leaf_sets::{leaf_sets, lower_leaves};
+use stack_loader::{Config, Lower};
+use std::alloc::{AllocError, Global};
+use std::marker::Model;
+use verified_cache::{BlockCache, Key};
+
+/// Hash blocks of verity lines, each of which was checked before it was kept.
+#[derive(Drop)]
+pub struct Cache {
+    blocks: BlockCache,
+    // The leaves on which each mapped device stands.
+    beneath: [LeafSet; 64],
+    // Those on which the hash devices of the kept blocks' lines stand, and maybe others.
+    covered: LeafSet,
+}
+
+impl Model for Cache {
+    ghost use Rattle.stack_lines.specs.Caches.{StackCache};
+
+    ghost Value = { StackCache };
+
+    ghost view = { λ c. record { blocks = c.blocks; beneath = c.beneath; covered = c.covered } };
+}
+
+impl Cache {
+    /// An empty cache of at most `capacity` blocks.
+    pub fn new(alloc: Global, config: &Config, capacity: u32) -> Result<Cache, AllocError>
+        requires { IsLoaded config.now }
+        ensures { IfOk result (IsFresh config.now capacity) }
+    {
+        let blocks = BlockCache::new(alloc, capacity)?;
+        Ok(Cache {
+            blocks,
+            beneath: leaf_sets(config),
+            covered: LeafSet::empty(),
+        })
+    }
+
+    /// Drops all blocks, and finds out anew which leaves stand beneath which device.
+    pub fn start_over(&mut self, config: &Config)
+        requires { IsLoaded config.now }
+        ensures { IsFresh config.now self.old.blocks.capacity self.new }
+    {
+        self.blocks.forget_all();
+        self.beneath = leaf_sets(config);
+        self.covered = LeafSet::empty();
+    }
+
+    /// A copy of the block kept under that key and that digest, if there is one.
+    pub fn copy_of(
+        &mut self,
+        alloc: Global,
+        key: Key,
+        digest: &[u8; 32],
+    ) -> Result<Option<Vec<u8>>, AllocError>
+        ensures leaves { self.new ≡ record self.old { blocks = cache_after_find key digest.now self.old.blocks } }
+        ensures answer { IfOk result (λ copy. option_map (λ block. block.items) copy ≡ option_map (λ b. b.bytes) (block_under key digest.now self.old.blocks)) }
+    {
+        match self.blocks.find(key, digest) {
+            None => Ok(None),
+            Some(block) => {
+                let copy = Vec::from_slice(alloc, block)?;
+                Ok(Some(copy))
+            }
+        }
+    }
+
+    /// Notes that a block of a line with that hash device may be kept.
+    pub fn cover(&mut self, hash: Lower)
+        requires { IsInside hash }
+        ensures rest { self.new ≡ record self.old { covered = self.new.covered } }
+        ensures covered { (c : Configuration) → IsLoaded c → KnowsLeaves c self.old.beneath hash → (i : ℕ) → contains self.new.covered i ≡ (contains self.old.covered i || stands_on c i hash) }
+    {
+        self.covered = self.covered.union(lower_leaves(&self.beneath, hash));
+    }
+
+    /// Keeps a copy of the block.
+    pub fn keep_copy(
+        &mut self,
+        alloc: Global,
+        key: Key,
+        digest: [u8; 32],
+        block: &[u8],
+    ) -> Result<(), AllocError>
+        ensures ok { OnOk result (self.new ≡ record self.old { blocks = cache_after_keep (record { key = key; digest = digest; bytes = block.now }) self.old.blocks }) }
+        ensures err { OnErr result (self.new ≡ self.old) }
+    {
+        // What holds of every cache is learned from a call.
+        let _count = self.blocks.len();
+        if self.blocks.capacity() == 0 {
+            return Ok(());
+        }
+        let copy = Vec::from_slice(alloc, block)?;
+        self.blocks.keep(key, digest, copy)
+    }
+
+    /// Drops the blocks of the lines whose hash device is the leaf, or stands on it, and looks at each block once.
+    /// Where no block was kept for such a line since the last time, that is known at once.
+    pub fn forget_leaf(&mut self, config: &Config, leaf: u32)
+        requires loaded { IsLoaded config.now }
+        requires leaf { leaf < most_leaves }
+        requires sets { AreLeafSets config.now self.old.beneath }
+        requires covers { CoversBlocks config.now self.old.covered self.old.blocks.blocks }
+        ensures blocks { self.new.blocks ≡ cache_without_leaf config.now leaf self.old.blocks }
+        ensures sets { self.new.beneath ≡ self.old.beneath }
+        ensures covers { CoversBlocks config.now self.new.covered self.new.blocks.blocks }
+    {
+        if !self.covered.contains(leaf) {
+            return;
+        }
+        self.blocks.forget_where(&KeysOnLeaf {
+            config,
+            beneath: &self.beneath,
+            leaf,
+        });
+        self.covered = self.covered.without(leaf);
+    }
+}

@@ -1,0 +1,94 @@
+// Whether a write may be cut in two, which asks no device.
+ghost use Rattle.std.specs.Prelude.{IsTrue};
+ghost use Rattle.stack_rules.specs.Names.{mapped};
+ghost use Rattle.stack_rules.specs.Rules.{IsLoaded};
+ghost use Rattle.stack_lines.specs.declared.source.Source.TheVariants.{Below};
+ghost use Rattle.stack_meaning.specs.Puts.{put_on};
+ghost use Rattle.stack_lines.specs.Cuts.{AreSteps, PutsInSteps, AreInSteps};
+ghost use Rattle.stack_lines.specs.Sources.{AreUnits};
+ghost use Rattle.stack_lines.specs.Writing.{source_put};
+
+use crate::serve::run_at;
+use crate::source::{BlockPart, Source};
+use crate::units::crypt_at;
+use stack_loader::{Config, DevId, Lower, unit_sectors};
+
+/// Steps of so many sectors, one after another. Of the first one, `skip` sectors lie before those that are asked for.
+#[derive(Clone, Copy)]
+pub struct Steps {
+    pub size: u64,
+    pub skip: u64,
+}
+
+/// Whole units of a `crypt` line, behind each step.
+fn units_cut(config: &Config, part: BlockPart, count: u64, steps: Steps) -> bool
+    requires loaded { IsLoaded config.now }
+    requires inside { AreUnits config.now part.device.0 part.line part.first count }
+    requires steps { AreSteps steps }
+    ensures { IsTrue result → PutsInSteps (source_put config.now (Source.Units part)) 0 count steps }
+{
+    let _count = count;
+    let crypt = crypt_at(config, part.device, part.line);
+    let few = unit_sectors(crypt);
+    let sectors = u64::from(few);
+    if steps.size % sectors != 0 {
+        return false;
+    }
+    steps.skip % sectors == 0
+}
+
+/// Whether a put of so many sectors of a leaf or a mapped device, from that one on, may be cut behind each step. Where
+/// nothing is known, the answer is `false`.
+#[cycle(cuts)]
+pub fn lower_cuts(config: &Config, lower: Lower, first: u64, count: u64, steps: Steps) -> bool
+    requires loaded { IsLoaded config.now }
+    requires sectors { AreInSteps config.now (Below lower first) count steps }
+    ensures { IsTrue result → PutsInSteps (put_on config.now lower) first count steps }
+{
+    match lower {
+        Lower::Leaf(_) => true,
+        Lower::Device(d) => device_cuts(config, d, first, count, steps),
+    }
+}
+
+/// The sectors of one run, behind each step.
+#[cycle(cuts)]
+fn run_cuts(config: &Config, source: Source, count: u64, steps: Steps) -> bool
+    requires loaded { IsLoaded config.now }
+    requires sectors { AreInSteps config.now source count steps }
+    ensures { IsTrue result → PutsInSteps (source_put config.now source) 0 count steps }
+{
+    if count <= steps.size - steps.skip {
+        return true;
+    }
+    match source {
+        Source::Below { lower, first } => lower_cuts(config, lower, first, count, steps),
+        Source::Units(part) => units_cut(config, part, count, steps),
+        Source::UnitPart(_) => false,
+        Source::Zeros | Source::Fails => true,
+        Source::Block(_) => false,
+    }
+}
+
+/// The sectors of a mapped device, behind each step.
+#[cycle(cuts)]
+fn device_cuts(config: &Config, d: DevId, first: u64, count: u64, steps: Steps) -> bool
+    requires loaded { IsLoaded config.now }
+    requires sectors { AreInSteps config.now (Below (mapped d.0) first) count steps }
+    ensures { IsTrue result → PutsInSteps (put_on config.now (mapped d.0)) first count steps }
+{
+    let mut at = 0;
+    while at < count {
+        let run = run_at(config, d, first + at, count - at);
+        let skip = (steps.skip + at) % steps.size;
+        let rest = Steps {
+            size: steps.size,
+            skip,
+        };
+        if !run_cuts(config, run.source, run.count, rest) {
+            return false;
+        }
+        at += run.count;
+    }
+    true
+}

@@ -1,0 +1,108 @@
+// The leaves on which each mapped device stands.
+ghost use Rattle.std.specs.Prelude.{◌≡◌, ◌<◌, ◌+◌, ℕ, length};
+ghost use Rattle.std.specs.List.{list_any};
+ghost use Rattle.dm_table.specs.Grammar.{IsTargetOfGrammar};
+ghost use Rattle.stack_rules.specs.Descend.{depth};
+ghost use Rattle.stack_rules.specs.Lines.{names_at};
+ghost use Rattle.stack_rules.specs.Names.{mapped, names};
+ghost use Rattle.stack_rules.specs.Records.{Configuration};
+ghost use Rattle.stack_rules.specs.Rules.{IsLoaded};
+ghost use Rattle.stack_lines.specs.Standing.{contains, is_verity, name_stands_on, IsInside, HasLeaves, KnowsLeaves, AreSetsBelow, AreLeafSets};
+
+use crate::leaf_set::LeafSet;
+use dm_table::Target;
+use stack_loader::{Config, DevId, Lower};
+
+/// The depth of the deepest.
+const MOST_DEPTH: u32 = 8;
+
+/// The leaves on which a leaf or device stands, by the sets of the devices.
+pub(crate) fn lower_leaves(sets: &[LeafSet; 64], lower: Lower) -> LeafSet
+    requires { IsInside lower }
+    ensures { (c : Configuration) → IsLoaded c → KnowsLeaves c sets.now lower → HasLeaves c lower result }
+{
+    match lower {
+        Lower::Leaf(leaf) => LeafSet::empty().with(leaf),
+        Lower::Device(d) => sets[d.0 as usize],
+    }
+}
+
+/// How many names a line has.
+fn name_count(target: &Target) -> u32
+    requires { IsTargetOfGrammar target.now }
+    ensures { result ≡ length (names target.now) }
+{
+    match target {
+        Target::Linear(_) | Target::Crypt(_) => 1,
+        Target::Striped { chunk: _, bases } => bases.as_slice().len() as u32,
+        Target::Zero | Target::Error => 0,
+        Target::Verity(_) => 2,
+    }
+}
+
+/// Whether a target is that of a verity line.
+pub(crate) fn is_verity(target: &Target) -> bool
+    ensures { result ≡ is_verity target.now }
+{
+    matches!(target, Target::Verity(_))
+}
+
+/// The leaves on which one line stands, by the `count` devices that it names.
+fn line_leaves(config: &Config, sets: &[LeafSet; 64], d: DevId, line: u32, count: u32) -> LeafSet
+    requires loaded { IsLoaded config.now }
+    requires device { d.0 < length config.now.devices }
+    requires count { count ≡ length (names_at config.now d.0 line) }
+    requires below { AreSetsBelow config.now (depth config.now (mapped d.0)) sets.now }
+    ensures { (k : ℕ) → contains result k ≡ list_any (name_stands_on config.now k) (names_at config.now d.0 line) }
+{
+    let mut leaves = LeafSet::empty();
+    for i in 0..count {
+        let lower = config.lower(d, line, i);
+        leaves = leaves.union(lower_leaves(sets, lower));
+    }
+    leaves
+}
+
+/// Those of a device, by its lines.
+fn device_leaves(config: &Config, sets: &[LeafSet; 64], d: DevId) -> LeafSet
+    requires loaded { IsLoaded config.now }
+    requires device { d.0 < length config.now.devices }
+    requires below { AreSetsBelow config.now (depth config.now (mapped d.0)) sets.now }
+    ensures { HasLeaves config.now (mapped d.0) result }
+{
+    let mut leaves = LeafSet::empty();
+    let mut number = 0;
+    let lines = config.table(d).lines();
+    for line in lines {
+        let count = name_count(&line.target);
+        leaves = leaves.union(line_leaves(config, sets, d, number, count));
+        number += 1;
+    }
+    leaves
+}
+
+/// The sets of the devices of one depth, by those of the devices that are less deep.
+fn settle(config: &Config, deep: u32, sets: &mut [LeafSet; 64])
+    requires loaded { IsLoaded config.now }
+    requires below { AreSetsBelow config.now deep sets.old }
+    ensures { AreSetsBelow config.now (deep + 1) sets.new }
+{
+    for place in 0..config.count() {
+        let d = DevId(place as u32);
+        if config.depth(d) == deep {
+            sets[place] = device_leaves(config, sets, d);
+        }
+    }
+}
+
+/// The set of each device.
+pub(crate) fn leaf_sets(config: &Config) -> [LeafSet; 64]
+    requires { IsLoaded config.now }
+    ensures { AreLeafSets config.now result }
+{
+    let mut sets = [LeafSet::empty(); 64];
+    for deep in 0..MOST_DEPTH {
+        settle(config, deep + 1, &mut sets);
+    }
+    sets
+}

@@ -1,0 +1,19 @@
+//! What the lines of mapped devices make of runs of sectors, before a device is asked.
+#![tactic(auto)]
+
+mod cache;
+mod cuts;
+mod encrypts;
+mod keys_on_leaf;
+mod leaf_set;
+mod leaf_sets;
+mod serve;
+mod source;
+pub mod tree;
+pub mod units;
+
+pub use cache::Cache;
+pub use cuts::{Steps, lower_cuts};
+pub use encrypts::device_encrypts;
+pub use serve::run_at;
+pub use source::{BlockPart, Run, Source};

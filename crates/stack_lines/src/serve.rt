@@ -1,0 +1,172 @@
+// The run of sectors at a place of a device.
+ghost use Rattle.std.specs.Prelude.{◌≡◌, ◌<◌, ◌≤◌, ◌+◌, ◌%◌};
+ghost use Rattle.dm_table.specs.Grammar.{IsStripedOfGrammar, IsTargetOfGrammar, IsVerityOfGrammar};
+ghost use Rattle.stack_rules.specs.Names.{mapped, size};
+ghost use Rattle.stack_rules.specs.Rules.{IsLoaded};
+ghost use Rattle.stack_rules.specs.Units.{unit_sectors};
+ghost use Rattle.stack_lines.specs.Sources.{ComeFrom, HasTarget};
+ghost use Rattle.stack_lines.specs.Runs.{HasSectors, IsRunOfLine, IsRunAt};
+
+use crate::source::{BlockPart, Run, Source};
+use dm_table::{Base, Crypt, Line, Target, Verity};
+use stack_loader::{Config, DevId, unit_sectors};
+
+fn linear_run(config: &Config, d: DevId, line: u32, base: &Base, within: u64, count: u64) -> Run
+    requires loaded { IsLoaded config.now }
+    requires line { HasTarget config.now d.0 line (Target.Linear base.now) (within + count) }
+    ensures come { ComeFrom config.now (d.0, line) (Target.Linear base.now) within count result.source }
+    ensures count { result.count ≡ count }
+{
+    let lower = config.lower(d, line, 0);
+    let first = base.offset + within;
+    Run {
+        source: Source::Below { lower, first },
+        count,
+    }
+}
+
+/// The whole units from that sector on.
+fn units_run(config: &Config, d: DevId, line: u32, crypt: &Crypt, within: u64, count: u64) -> Run
+    requires line { HasTarget config.now d.0 line (Target.Crypt crypt.now) (within + count) }
+    requires aligned { within % unit_sectors crypt.now ≡ 0 }
+    requires enough { unit_sectors crypt.now ≤ count }
+    ensures { IsRunOfLine config.now (d.0, line) (Target.Crypt crypt.now) within count result }
+{
+    let _config = config;
+    let few = unit_sectors(crypt);
+    let sectors = u64::from(few);
+    let count = count - count % sectors;
+    let from = BlockPart {
+        device: d,
+        line,
+        first: within,
+    };
+    Run {
+        source: Source::Units(from),
+        count,
+    }
+}
+
+/// The sectors that lie in one unit and aren't all of it.
+fn unit_run(config: &Config, d: DevId, line: u32, crypt: &Crypt, within: u64, count: u64) -> Run
+    requires line { HasSectors config.now d.0 line (Target.Crypt crypt.now) within count }
+    requires part { within % unit_sectors crypt.now ≡ 0 → count < unit_sectors crypt.now }
+    ensures { IsRunOfLine config.now (d.0, line) (Target.Crypt crypt.now) within count result }
+{
+    let _config = config;
+    let few = unit_sectors(crypt);
+    let sectors = u64::from(few);
+    let count = count.min(sectors - within % sectors);
+    let from = BlockPart {
+        device: d,
+        line,
+        first: within,
+    };
+    Run {
+        source: Source::UnitPart(from),
+        count,
+    }
+}
+
+/// Whole units, or sectors of one unit.
+fn crypt_run(config: &Config, d: DevId, line: u32, crypt: &Crypt, within: u64, count: u64) -> Run
+    requires line { HasSectors config.now d.0 line (Target.Crypt crypt.now) within count }
+    ensures { IsRunOfLine config.now (d.0, line) (Target.Crypt crypt.now) within count result }
+{
+    let few = unit_sectors(crypt);
+    let sectors = u64::from(few);
+    if within % sectors != 0 {
+        return unit_run(config, d, line, crypt, within, count);
+    }
+    if count < sectors {
+        return unit_run(config, d, line, crypt, within, count);
+    }
+    units_run(config, d, line, crypt, within, count)
+}
+
+/// The sectors that lie in one chunk, from that one of the line on.
+fn striped_run(config: &Config, from: BlockPart, chunk: u64, bases: &[Base], count: u64) -> Run
+    requires loaded { IsLoaded config.now }
+    requires grammar { IsStripedOfGrammar chunk bases.now }
+    requires line { HasSectors config.now from.device.0 from.line (Target.Striped chunk bases.now) from.first count }
+    ensures { IsRunOfLine config.now (from.device.0, from.line) (Target.Striped chunk bases.now) from.first count result }
+{
+    let number = from.first / chunk;
+    let part = from.first % chunk;
+    let stripes = bases.len() as u64;
+    let stripe = number % stripes;
+    let base = &bases[stripe as usize];
+    let count = count.min(chunk - part);
+    let first = base.offset + number / stripes * chunk + part;
+    let lower = config.lower(from.device, from.line, stripe as u32);
+    Run {
+        source: Source::Below { lower, first },
+        count,
+    }
+}
+
+/// The sectors that lie in one data block.
+fn verity_run(config: &Config, d: DevId, line: u32, verity: &Verity, within: u64, count: u64) -> Run
+    requires loaded { IsLoaded config.now }
+    requires grammar { IsVerityOfGrammar verity.now }
+    requires line { HasSectors config.now d.0 line (Target.Verity verity.now) within count }
+    ensures { IsRunOfLine config.now (d.0, line) (Target.Verity verity.now) within count result }
+{
+    let sectors = u64::from(verity.data_block / 512);
+    let count = count.min(sectors - within % sectors);
+    let part = BlockPart {
+        device: d,
+        line,
+        first: within,
+    };
+    Run {
+        source: Source::Block(part),
+        count,
+    }
+}
+
+/// The longest run of so many sectors of a line at most.
+fn line_run(config: &Config, d: DevId, number: u32, line: &Line, within: u64, count: u64) -> Run
+    requires loaded { IsLoaded config.now }
+    requires grammar { IsTargetOfGrammar line.now.target }
+    requires line { HasSectors config.now d.0 number line.now.target within count }
+    ensures { IsRunOfLine config.now (d.0, number) line.now.target within count result }
+{
+    match &line.target {
+        Target::Linear(base) => linear_run(config, d, number, base, within, count),
+        Target::Striped { chunk, bases } => {
+            let from = BlockPart {
+                device: d,
+                line: number,
+                first: within,
+            };
+            striped_run(config, from, *chunk, bases.as_slice(), count)
+        }
+        Target::Zero => Run {
+            source: Source::Zeros,
+            count,
+        },
+        Target::Crypt(crypt) => crypt_run(config, d, number, crypt, within, count),
+        Target::Error => Run {
+            source: Source::Fails,
+            count,
+        },
+        Target::Verity(verity) => verity_run(config, d, number, verity, within, count),
+    }
+}
+
+/// The longest run from that sector of a device on, of at most so many sectors: those of one line that one source has.
+pub fn run_at(config: &Config, d: DevId, sector: u64, most: u64) -> Run
+    requires loaded { IsLoaded config.now }
+    requires some { 0 < most }
+    requires inside { sector + most ≤ size config.now (mapped d.0) }
+    ensures { IsRunAt config.now d.0 sector most result }
+{
+    let place = config.line_at(d, sector);
+    let number = place.0;
+    let lines = config.table(d).lines();
+    let line = &lines[number as usize];
+    let within = sector - line.start;
+    let count = most.min(place.1);
+    line_run(config, d, number, line, within, count)
+}

@@ -1,0 +1,162 @@
+// What a read of a verity line's blocks uses.
+ghost use Rattle.std.specs.Prelude.{◌≡◌, ◌<◌, ◌≤◌, ◌+◌, ◌*◌, ℕ, length, take, drop, get_or, IfSome, IfNone};
+ghost use Rattle.hash_tree.specs.Shape.{ancestor, levels};
+ghost use Rattle.stack_rules.specs.Rules.{IsLoaded};
+ghost use Rattle.stack_rules.specs.Trees.{tree_of, block_sectors};
+ghost use Rattle.stack_meaning.specs.Blocks.{hash_sectors, hash_start, is_ignored};
+ghost use Rattle.stack_meaning.specs.Found.{FoundRecord, entry_of};
+ghost use Rattle.stack_lines.specs.Extents.{IsExtent};
+ghost use Rattle.stack_lines.specs.Walks.{HasVerity, HasDataBlock, IsOnVerity, IsTreeOf};
+
+use dm_table::{Target, Verity};
+use hash_tree::Shape;
+use stack_loader::{Config, DevId, Lower};
+use stack_meaning::Found;
+use verified_cache::Key;
+
+/// Where the blocks of a verity line lie: the devices of its data blocks and of its hash blocks, and the shape.
+#[derive(Clone, Copy)]
+pub struct Tree {
+    pub device: DevId,
+    pub line: u32,
+    pub data: Lower,
+    pub hash: Lower,
+    pub shape: Shape,
+}
+
+/// So many sectors of a leaf or device, from that one on.
+#[derive(Clone, Copy)]
+pub struct Extent {
+    pub lower: Lower,
+    pub first: u64,
+    pub sectors: u32,
+}
+
+/// The arguments of a verity line, by its number in the table of its device.
+pub fn verity_at(config: &Config, d: DevId, line: u32) -> &Verity
+    requires loaded { IsLoaded config.now }
+    requires line { IsOnVerity config.now d.0 line }
+    ensures { HasVerity config.now d.0 line result.now }
+{
+    let lines = config.table(d).lines();
+    match &lines[line as usize].target {
+        Target::Verity(verity) => verity,
+        Target::Linear(_)
+        | Target::Striped { .. }
+        | Target::Zero
+        | Target::Error
+        | Target::Crypt(_) => { unreachable!() }
+    }
+}
+
+/// Where the blocks of a verity line with these arguments lie.
+pub fn tree_at(config: &Config, d: DevId, line: u32, verity: &Verity) -> Tree
+    requires loaded { IsLoaded config.now }
+    requires line { HasVerity config.now d.0 line verity.now }
+    ensures tree { IsTreeOf config.now verity.now result }
+    ensures at { result.device ≡ d }
+{
+    let data = config.lower(d, line, 0);
+    let hash = config.lower(d, line, 1);
+    match Shape::new(
+        verity.data_block,
+        verity.hash_block,
+        verity.blocks,
+        verity.start,
+    ) {
+        Ok(shape) => Tree {
+            device: d,
+            line,
+            data,
+            hash,
+            shape,
+        },
+        Err(_) => unreachable!(),
+    }
+}
+
+/// Where the hash block of a level stands on the way to a data block. Levels count from 0 above the data blocks.
+pub fn hash_extent(config: &Config, verity: &Verity, tree: &Tree, level: u32, index: u64) -> Extent
+    requires loaded { IsLoaded config.now }
+    requires block { HasDataBlock config.now verity.now tree.now index }
+    requires level { level < levels (tree_of verity.now) }
+    ensures { IsExtent config.now tree.now.hash (hash_start verity.now level index) (hash_sectors verity.now) result }
+{
+    let place = tree
+        .shape
+        .position(level, tree.shape.block_on_path(level, index));
+    let sectors = verity.hash_block / 512;
+    Extent {
+        lower: tree.hash,
+        first: u64::from(sectors) * place,
+        sectors,
+    }
+}
+
+/// The key under which a cache keeps that hash block.
+pub fn hash_key(tree: &Tree, level: u32, index: u64) -> Key
+    requires { index < tree.now.shape.blocks }
+    ensures { result ≡ record { device = tree.now.device.0; line = tree.now.line; level = level; block = ancestor tree.now.shape (level + 1) index } }
+{
+    Key {
+        device: tree.device.0,
+        line: tree.line,
+        level,
+        block: tree.shape.block_on_path(level, index),
+    }
+}
+
+/// Where a data block stands; blocks count from 0.
+pub fn data_extent(config: &Config, verity: &Verity, tree: &Tree, index: u64) -> Extent
+    requires loaded { IsLoaded config.now }
+    requires block { HasDataBlock config.now verity.now tree.now index }
+    ensures { IsExtent config.now tree.now.data (block_sectors verity.now * index) (block_sectors verity.now) result }
+{
+    let sectors = verity.data_block / 512;
+    Extent {
+        lower: tree.data,
+        first: u64::from(sectors) * index,
+        sectors,
+    }
+}
+
+/// Whether the line ignores a data block of that digest, which is then one of zeros.
+pub fn is_ignored(config: &Config, verity: &Verity, tree: &Tree, expected: &[u8; 32]) -> bool
+    requires { IsTreeOf config.now verity.now tree.now }
+    ensures { result ≡ is_ignored verity.now expected.now }
+{
+    match config.zero_digest(tree.device, tree.line) {
+        Some(zeros) => zeros == *expected,
+        None => false,
+    }
+}
+
+/// The place of the chain of that block in the list, if it was found.
+pub fn find(found: &[Found], device: u32, line: u32, index: u64) -> Option<usize>
+    ensures some { IfSome result (λ k. (k < length found.now) × ((x : FoundRecord) → entry_of (get_or found.now k x) ≡ (device, line, index))) }
+    ensures none { IfNone result ((k : ℕ) → k < length found.now → (x : FoundRecord) → entry_of (get_or found.now k x) ≡ (device, line, index) → ⊥) }
+{
+    let mut at = 0;
+    for one in found {
+        let chain = &one.chain;
+        if one.device == device && one.line == line && chain.index == index {
+            return Some(at);
+        }
+        at += 1;
+    }
+    None
+}
+
+/// The sectors of a found chain's content, from that one on, as many as fill the buffer.
+pub fn copy_part(found: &[Found], at: usize, within: u64, out: &mut [u8])
+    requires at { at < length found.now }
+    requires small { within ≤ 8 }
+    requires inside { (x : FoundRecord) → 512 * within + length out.old ≤ length ((get_or found.now at x).chain.content) }
+    ensures { (x : FoundRecord) → out.new ≡ take (length out.old) (drop (512 * within) ((get_or found.now at x).chain.content)) }
+{
+    let from = within as usize * 512;
+    let one = &found[at];
+    let chain = &one.chain;
+    let content = chain.content.as_slice();
+    out.copy_from_slice(&content[from..from + out.len()]);
+}

@@ -1,0 +1,16 @@
+pub mod Outcomes
+pub mod Sectors
+pub mod Units
+pub mod Beneath
+pub mod Found
+pub mod Blocks
+pub mod Meaning
+pub mod LeavesBeneath
+pub mod Puts
+pub mod May
+pub mod Leaves
+pub mod Changes
+pub mod Kept
+pub mod Places
+pub mod Reading
+pub mod IoFaults

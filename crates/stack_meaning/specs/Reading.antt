@@ -1,0 +1,64 @@
+-- Contracts of reads.
+use Rattle.std.specs.Prelude.{◌≡◌, ℕ, ◌-◌, ◌≤◌, List, Result, Ok, Err}
+use Rattle.std.specs.List.{slice_index_or}
+use Rattle.block_device.specs.Device.{Device}
+use Rattle.stack_rules.specs.declared.lower.Lower.{Lower}
+use Rattle.stack_rules.specs.Records.{Configuration}
+use Rattle.stack_meaning.specs.declared.fault.IoFault.{IoFault}
+use Rattle.stack_meaning.specs.declared.fault.IoFault.TheVariants as io
+use Rattle.stack_meaning.specs.Outcomes.{Fault, error_target, mismatch, Outcome}
+use Rattle.stack_meaning.specs.Leaves.{images_of, AllSteady, AreRead, LeafFailed}
+use Rattle.stack_meaning.specs.Sectors.{SomeOf}
+use Rattle.stack_meaning.specs.Changes.{reached}
+use Rattle.stack_meaning.specs.Meaning.{Said}
+use Rattle.stack_meaning.specs.Found.{Grown}
+use Rattle.stack_meaning.specs.Kept.{AllKept}
+use Rattle.stack_meaning.specs.Places.{Place, place_of, Expected, run_expected, Read}
+
+-- Whatever the leaves answer: with an x that is so, or by a fault that may come. The number of a leaf
+-- that failed counts from 1.
+abbrev pub Ends : {A : Type 0} → (A → Type 0) → (Fault → Type 0) → List Device → List Device → Result A IoFault → Type 0
+Ends Is May old new (Ok x) = Is x
+Ends Is May old new (Err io.ErrorTarget) = May error_target
+Ends Is May old new (Err io.Mismatch) = May mismatch
+Ends Is May old new (Err (io.Device i)) = (1 ≤ i) × LeafFailed (i - 1) old new
+Ends Is May old new (Err io.NoMemory) = Unit {0}
+
+-- over steady leaves: what this means, unless a device failed or memory ran out
+abbrev pub Answers : {A : Type 0} → (A → List ℕ) → Outcome → Result A IoFault → Type 0
+Answers bytes_of meaning (Ok x) = meaning ≡ Ok (bytes_of x)
+Answers bytes_of meaning (Err io.ErrorTarget) = meaning ≡ Err error_target
+Answers bytes_of meaning (Err io.Mismatch) = meaning ≡ Err mismatch
+Answers bytes_of meaning (Err (io.Device i)) = Unit {0}
+Answers bytes_of meaning (Err io.NoMemory) = Unit {0}
+
+-- what a call did to the leaves, and how it ended
+pub record Gets {A : Type 0} (wanted : Expected A) (old new : List Device) (result : Result A IoFault) : Type 0 where
+  pub moved : AreRead old wanted.cost new
+  pub may : Ends wanted.is wanted.faults old new result
+  pub exact : AllSteady old → Answers wanted.bytes_of (wanted.means (images_of old)) result
+
+-- the bytes of a buffer that was filled, or the fault
+abbrev pub buffer_answer : Result Unit IoFault → List ℕ → Result (List ℕ) IoFault
+buffer_answer (Ok x) bytes = Ok bytes
+buffer_answer (Err fault) bytes = Err fault
+
+-- the way of one of n sectors from the first on meets a verity line
+abbrev pub MeetVerity : (ℕ → Said) → ℕ → ℕ → Type 0
+MeetVerity said first n = SomeOf (λ s. (said s).meets mismatch) first n
+
+-- A read of n sectors, from the first on, takes memory where a verity line is on their way alone. Where none is, it
+-- keeps each leaf on which none of them lies as it was.
+pub record IsPlain (said : ℕ → Said) (first n : ℕ) (old new : List Device) (result : Result Unit IoFault) : Type 0 where
+  pub memory : result ≡ Err io.NoMemory → MeetVerity said first n
+  pub leaf : (MeetVerity said first n → ⊥) → (i : ℕ) (d : Device) → ((t : ℕ) → reached (λ s. (said s).reaches) first n (i, t) → ⊥) → slice_index_or new i d ≡ slice_index_or old i d
+
+-- A read of n sectors of a place, from the first on. Each may be its bytes with the chains that are there after it.
+pub record Finds (place : Place) (c : Configuration) (first n : ℕ) (did : Read) (answer : Result (List ℕ) IoFault) : Type 0 where
+  pub got : Gets (run_expected place did.after first n) did.old did.new answer
+  pub grown : Grown (λ s. (place.said s).entries) first n did.before did.after
+  pub kept : AllKept c did.new did.after
+
+-- of a leaf or device
+abbrev pub Reads : Configuration → Lower → ℕ → ℕ → Read → Result (List ℕ) IoFault → Type 0
+Reads c lower first n did answer = Finds (place_of c lower) c first n did answer

@@ -1,0 +1,48 @@
+// How an access to a stack ends where it doesn't succeed.
+use thiserror::Error;
+
+/// The fault of a read or a write.
+#[derive(Clone, Copy, Debug, PartialEq, Eq, Error)]
+pub enum IoFault {
+    /// The way of a sector leads to an `error` line.
+    #[error("ErrorTarget")]
+    ErrorTarget,
+    /// A block has another digest than the one that stands for it.
+    #[error("Mismatch")]
+    Mismatch,
+    /// The leaf of this number, counted from 1, failed.
+    #[error("Device {0}")]
+    Device(u32),
+    /// Memory ran out.
+    #[error("NoMemory")]
+    NoMemory,
+}
+
+impl IoFault {
+    ghost use Rattle.std.specs.Prelude.{◌≡◌};
+    ghost use Rattle.stack_meaning.specs.IoFaults.{io_number, io_name};
+
+    /// The number under which it is printed; 0 for want of memory, which is printed without one.
+    pub fn number(self) -> u8
+        ensures { result ≡ io_number self }
+    {
+        match self {
+            IoFault::ErrorTarget => 1,
+            IoFault::Mismatch => 2,
+            IoFault::Device(_) => 3,
+            IoFault::NoMemory => 0,
+        }
+    }
+
+    /// The name under which it is printed.
+    pub fn name(self) -> &'static str
+        ensures { result.now ≡ io_name self }
+    {
+        match self {
+            IoFault::ErrorTarget => "ErrorTarget",
+            IoFault::Mismatch => "Mismatch",
+            IoFault::Device(_) => "Device",
+            IoFault::NoMemory => "NoMemory",
+        }
+    }
+}

@@ -1,0 +1,8 @@
+//! What a stack of mapped devices means: of each sector what it holds, of each put what it leaves.
+#![tactic(auto)]
+
+mod fault;
+mod found;
+
+pub use fault::IoFault;
+pub use found::Found;
