@@ -49,6 +49,20 @@ pub fn load_stack<'a>(
         Ok(config) => config,
         Err(fault) => return Err(fault),
     };
+    stack_on(alloc, config, devices, cache)
+}
+
+/// The stack of a configuration over the devices of its leaves, with a cache of so many hash blocks.
+pub fn stack_on<'a>(
+    alloc: Global,
+    config: Config,
+    devices: Vec<AnyDev>,
+    cache: u32,
+) -> Result<Stack<AnyDev>, CommandFault<'a>>
+    requires { ServeLeaves config.leaves (map ⟦<AnyDev as BlockDev>⟧.state devices.items) }
+    ensures ok { IfOk result (λ stack. stack ≡ stack_over config (map ⟦<AnyDev as BlockDev>⟧.state devices.items)) }
+    ensures err { IfErr result (λ fault. fault ≡ CommandFault.NoMemory) }
+{
     match Stack::new(alloc, config, devices, cache) {
         Ok(stack) => Ok(stack),
         Err(_) => Err(CommandFault::NoMemory),

@@ -6,7 +6,7 @@ ghost use Rattle.stack_recovery.specs.Recoveries.{Recovers, sides};
 ghost use Rattle.stack_commands.specs.Recoveries.{FailsToFind, HasDevice};
 ghost use Rattle.stack_commands.specs.Recovering.{IsCountsEnd, IsRecoverEnd, TellsCounts};
 
-use crate::configuration::configuration_of;
+use crate::configuration::{configuration_of, stack_on};
 use crate::opening::OpenLeaves;
 use block_device::{AnyDev, BlockDev};
 use command_faults::{CommandFault, say_counts};
@@ -41,13 +41,7 @@ pub fn load_device<'a>(
     };
     // A name that isn't there is told before any room is asked for the stack's cache.
     match config.device(name.as_bytes()) {
-        Some(device) => match Stack::new(alloc, config, devices, CACHED_BLOCKS) {
-            Ok(stack) => Ok((stack, device)),
-            Err(parts) => {
-                drop(parts);
-                Err(CommandFault::NoMemory)
-            }
-        },
+        Some(device) => Ok((stack_on(alloc, config, devices, CACHED_BLOCKS)?, device)),
         None => Err(CommandFault::Submit(SubmitFault::NoSuchDevice)),
     }
 }

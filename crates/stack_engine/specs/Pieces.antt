@@ -16,11 +16,7 @@ use Rattle.stack_engine.specs.Stacks.{StackRecord, AnswerRecord}
 abbrev pub stack_over : Configuration → List Device → StackRecord
 stack_over config leaves = record { config = config; leaves = leaves }
 
--- How a piece is answered: of the stack, n sectors of mapped device d from the first on; and the stack that the
--- answer leaves.
-abbrev pub Piece : Type 1
-Piece = StackRecord → ℕ → ℕ → ℕ → Result AnswerRecord IoFault → StackRecord → Type 0
-
+-- How a piece is answered, n sectors of mapped device d from the first on, with the stack that the answer leaves:
 -- whatever the leaves answer
 pub record AnyPiece (w : StackRecord) (d first n : ℕ) (answer : Result AnswerRecord IoFault) (w' : StackRecord) : Type 0 where
   pub config : w'.config ≡ w.config

@@ -17,15 +17,11 @@ pub record ArePiece (bytes : List ℕ) : Type 0 where
   pub sectors : AreSectors bytes
   pub most : length bytes / 512 ≤ 128
 
--- How a piece is written: of the stack, to mapped device d from its sector first on, these bytes; how it ends, and
--- the stack that it leaves.
-abbrev pub WritePiece : Type 1
-WritePiece = StackRecord → ℕ → ℕ → List ℕ → Result Unit IoFault → StackRecord → Type 0
-
 -- the leaf sectors that n sectors of mapped device d from the first on reach
 abbrev pub piece_reached : Configuration → ℕ → ℕ → ℕ → LeafSectors
 piece_reached c d first n = reached (λ s. (said_at c (mapped d) s).reaches) first n
 
+-- How a piece is written, these bytes to mapped device d from its sector first on, with the stack that it leaves:
 -- whatever the leaves answer
 pub record AnyWrite (w : StackRecord) (d first : ℕ) (bytes : List ℕ) (result : Result Unit IoFault) (w' : StackRecord) : Type 0 where
   pub config : w'.config ≡ w.config

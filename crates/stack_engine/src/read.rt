@@ -1,5 +1,5 @@
 // Reads through the lines of a stack, down to its leaves.
-ghost use Rattle.std.specs.Prelude.{◌≡◌, ◌/◌, List, length, map};
+ghost use Rattle.std.specs.Prelude.{◌/◌, List, length, map};
 ghost use Rattle.stack_rules.specs.Names.{mapped};
 ghost use Rattle.stack_lines.specs.declared.source.Source.TheVariants.{Below};
 ghost use Rattle.stack_meaning.specs.Found.{FoundRecord};

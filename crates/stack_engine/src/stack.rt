@@ -1,5 +1,5 @@
 // A stack: a configuration, and the devices of its leaves.
-ghost use Rattle.std.specs.Prelude.{◌≡◌, ◌<◌, ◌≤◌, ◌+◌, ◌*◌, ◌/◌, ◌^◌, length, map, IsTrue, IsOk, IfOk, IfErr, OnOk, OnErr, None, Some, Err};
+ghost use Rattle.std.specs.Prelude.{◌≡◌, ◌<◌, ◌≤◌, ◌+◌, ◌/◌, length, map, IsTrue, IsOk, IfOk, IfErr, OnOk, OnErr, None, Some, Err};
 ghost use Rattle.block_device.specs.Device.{capped};
 ghost use Rattle.stack_rules.specs.Names.{mapped, size, may_write};
 ghost use Rattle.stack_rules.specs.Rules.{after_load, IsRefusal, first_refusal};

@@ -1,8 +1,8 @@
 // The hash blocks that a stack keeps.
-ghost use Rattle.std.specs.Prelude.{◌≡◌, ◌<◌, ◌||◌, [], ℕ, option_map, IfOk, OnOk, OnErr};
+ghost use Rattle.std.specs.Prelude.{◌≡◌, ◌<◌, ◌||◌, ℕ, option_map, IfOk, OnOk, OnErr};
 ghost use Rattle.stack_rules.specs.Records.{Configuration};
 ghost use Rattle.stack_rules.specs.Rules.{IsLoaded, most_leaves};
-ghost use Rattle.verified_cache.specs.Cache.{CachedBlock, block_under, cache_after_find, cache_after_keep};
+ghost use Rattle.verified_cache.specs.Cache.{block_under, cache_after_find, cache_after_keep};
 ghost use Rattle.stack_lines.specs.Standing.{contains, stands_on, cache_without_leaf, IsInside, KnowsLeaves, AreLeafSets, CoversBlocks};
 ghost use Rattle.stack_lines.specs.Caches.{IsFresh};
 
@@ -14,7 +14,7 @@ use std::alloc::{AllocError, Global};
 use std::marker::Model;
 use verified_cache::{BlockCache, Key};
 
-/// Hash blocks of verity lines, each of which was checked before it was kept.
+/// Hash blocks of `verity` lines, each of which was checked before it was kept.
 #[derive(Drop)]
 pub struct Cache {
     blocks: BlockCache,

@@ -1,5 +1,5 @@
 // Whether a write of sectors encrypts some of them, which asks no device.
-ghost use Rattle.std.specs.Prelude.{◌≡◌, ◌↔◌, ◌<◌, ◌≤◌, ◌+◌, IsTrue};
+ghost use Rattle.std.specs.Prelude.{◌↔◌, ◌<◌, ◌≤◌, ◌+◌, IsTrue};
 ghost use Rattle.stack_rules.specs.Names.{mapped, size};
 ghost use Rattle.stack_rules.specs.Rules.{IsLoaded};
 ghost use Rattle.stack_meaning.specs.Meaning.{said_at};
@@ -10,7 +10,7 @@ use crate::serve::run_at;
 use crate::source::Source;
 use stack_loader::{Config, DevId, Lower};
 
-/// Of a leaf or a mapped device.
+/// Whether a write of some sectors of a leaf or a mapped device encrypts one of them.
 #[cycle(encrypts)]
 fn lower_encrypts(config: &Config, lower: Lower, first: u64, count: u64) -> bool
     requires loaded { IsLoaded config.now }
@@ -23,7 +23,7 @@ fn lower_encrypts(config: &Config, lower: Lower, first: u64, count: u64) -> bool
     }
 }
 
-/// Of one run.
+/// Whether a write of a run encrypts one of its sectors.
 #[cycle(encrypts)]
 fn run_encrypts(config: &Config, source: Source, count: u64) -> bool
     requires loaded { IsLoaded config.now }

@@ -9,7 +9,7 @@ use crate::leaf_sets::{is_verity, lower_leaves};
 use stack_loader::{Config, DevId};
 use verified_cache::{Key, Keys};
 
-/// The keys of the verity lines whose hash device is a leaf, or stands on it.
+/// The keys of the `verity` lines whose hash device is a leaf, or stands on it.
 #[derive(Clone, Copy)]
 pub(crate) struct KeysOnLeaf<'a> {
     pub(crate) config: &'a Config,

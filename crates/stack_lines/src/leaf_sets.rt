@@ -40,7 +40,7 @@ fn name_count(target: &Target) -> u32
     }
 }
 
-/// Whether a target is that of a verity line.
+/// Whether a target is that of a `verity` line.
 pub(crate) fn is_verity(target: &Target) -> bool
     ensures { result ≡ is_verity target.now }
 {

@@ -1,4 +1,4 @@
-// What a read of a verity line's blocks uses.
+// What a read of a `verity` line's blocks uses.
 ghost use Rattle.std.specs.Prelude.{◌≡◌, ◌<◌, ◌≤◌, ◌+◌, ◌*◌, ℕ, length, take, drop, get_or, IfSome, IfNone};
 ghost use Rattle.hash_tree.specs.Shape.{ancestor, levels};
 ghost use Rattle.stack_rules.specs.Rules.{IsLoaded};
@@ -14,7 +14,7 @@ use stack_loader::{Config, DevId, Lower};
 use stack_meaning::Found;
 use verified_cache::Key;
 
-/// Where the blocks of a verity line lie: the devices of its data blocks and of its hash blocks, and the shape.
+/// Where the blocks of a `verity` line lie: the devices of its data blocks and of its hash blocks, and the shape.
 #[derive(Clone, Copy)]
 pub struct Tree {
     pub device: DevId,
@@ -32,7 +32,7 @@ pub struct Extent {
     pub sectors: u32,
 }
 
-/// The arguments of a verity line, by its number in the table of its device.
+/// The arguments of a `verity` line, by its number in the table of its device.
 pub fn verity_at(config: &Config, d: DevId, line: u32) -> &Verity
     requires loaded { IsLoaded config.now }
     requires line { IsOnVerity config.now d.0 line }
@@ -49,7 +49,7 @@ pub fn verity_at(config: &Config, d: DevId, line: u32) -> &Verity
     }
 }
 
-/// Where the blocks of a verity line with these arguments lie.
+/// Where the blocks of a `verity` line with these arguments lie.
 pub fn tree_at(config: &Config, d: DevId, line: u32, verity: &Verity) -> Tree
     requires loaded { IsLoaded config.now }
     requires line { HasVerity config.now d.0 line verity.now }
