@@ -1,4 +1,5 @@
--- The circuit is the map of SubBytes without its constant: computed for all 256 bytes at once, on the numbers whose bit v is a bit of v.
+-- The circuit is the map of SubBytes without its constant: computed for all 256 bytes at once, on the numbers whose bit v is a
+-- bit of v.
 use Rattle.std.proofs.Common.{◌≡◌, ℕ, ◌+◌, ◌-◌, ◌*◌, ◌/◌, ◌%◌, ◌^◌, ◌<◌, true, List, [], ◌∷◌, nat_eq, slice_index, bit_xor, refl, sym, ap, ◌∙◌, arith}
 use Rattle.std.specs.Int.{bit_at}
 use Rattle.aes_block.specs.Field.{xtimes, parities, product_low, product, inverse, affine, inv_affine, sub_byte, inv_sub_byte}

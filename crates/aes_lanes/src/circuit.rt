@@ -1,5 +1,5 @@
-//! The map of SubBytes (FIPS 197, 5.1.1) as a circuit, that of Boyar and Peralta with two ors: the inverse is taken in the subfield of
-//! 16 elements, and the affine map but for its constant is part of the last sums. A gate works on 256 bytes at once.
+//! The map of SubBytes (FIPS 197, 5.1.1) as a circuit of 109 gates: the inverse is taken in the subfield of 16 elements, and
+//! the affine map but for its constant is part of the last sums. A gate works on one bit each of 256 bytes.
 
 ghost use Rattle.std.specs.Prelude.{◌≡◌, ℕ, ◌<◌, List};
 ghost use Rattle.aes_lanes.specs.Planes.{ArePlanes, block_of};

@@ -70,8 +70,8 @@ fn copies(schedule: &[u8], round: usize) -> Planes
     turn(&[twice; 8])
 }
 
-// Those of a round key as it is kept: with the constant of SubBytes, but for the first, and with its rows where a round finds
-// those of its state.
+// Sixteen copies of a round key as it is kept: with the constant of SubBytes, but for the first, and with its rows where a
+// round finds those of its state.
 fn kept_planes(schedule: &[u8], round: usize) -> Planes
     requires { 16 * round + 16 ≤ length schedule.now }
     ensures { AreCopies (round % 4) (kept_key schedule.now round) result }
@@ -82,7 +82,7 @@ fn kept_planes(schedule: &[u8], round: usize) -> Planes
     } else {
         add_constant(&plain)
     };
-    for _row in 0..round % 4 {
+    for _shift in 0..round % 4 {
         planes = inv_shift_rows(&planes);
     }
     planes

@@ -42,7 +42,8 @@ pub(crate) fn last_round(q: &Planes, key: &Planes) -> Planes
     shift_rows(&once)
 }
 
-// The first AddRoundKey of the inverse cipher, after which the state is two ShiftRows ahead and has the constant added.
+// The first AddRoundKey of the inverse cipher. After it the state is two ShiftRows ahead of the planes, which have the constant
+// of SubBytes added.
 #[inline(always)]
 pub(crate) fn first_inverse_key(q: &Planes, key: &Planes) -> Planes
     ensures planes { ArePlanes result }
@@ -53,7 +54,8 @@ pub(crate) fn first_inverse_key(q: &Planes, key: &Planes) -> Planes
     add_round_key(&back, key)
 }
 
-// A round of the inverse cipher, after which the state is `shifts` ShiftRows ahead. Before and after, the constant is added.
+// A round of the inverse cipher, after which the state is `shifts` ShiftRows ahead. The planes have the constant added before
+// it and after it.
 #[inline(always)]
 pub(crate) fn inverse_round(q: &Planes, key: &Planes, shifts: usize) -> Planes
     requires planes { ArePlanes q.now }

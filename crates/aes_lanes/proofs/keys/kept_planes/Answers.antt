@@ -7,8 +7,8 @@ use Rattle.aes_lanes.proofs.KeyLemmas.{kept_key-later}
 use Rattle.aes_lanes.proofs.keys.kept_planes.Goals as goal
 use Rattle.aes_lanes.proofs.keys.kept_planes.Goals.{then-round-eq0, else-round-eq0}
 
-pub loop-row-init : goal.loop-row-init
-loop-row-init c = elim c.if-round-eq0.branch [
+pub loop-shift-init : goal.loop-shift-init
+loop-shift-init c = elim c.if-round-eq0.branch [
   | then-round-eq0 w ↦ rw (w.planes-is, w.if-round-eq0.true) (rw w.if-round-eq0.true at c.copies-plain.ensures)
   | else-round-eq0 w ↦
       let planes = w.add_constant-planes.result in
@@ -22,13 +22,13 @@ loop-row-init c = elim c.if-round-eq0.branch [
       })
 ]
 
-pub loop-row-preserved : goal.loop-row-preserved
-loop-row-preserved c =
-    let i = c.loop-row._row in
+pub loop-shift-preserved : goal.loop-shift-preserved
+loop-shift-preserved c =
+    let i = c.loop-shift._shift in
     record {
       planes = c.inv_shift_rows-planes.ensures.planes;
       blocks = λ j h.
           ap (shifted (i + 1)) (c.inv_shift_rows-planes.ensures.blocks j h)
-          ∙ shifted-back i (i + 1) (block_of c.loop-row.planes j) (length-block_of c.loop-row.planes j) refl
-          ∙ c.loop-row.invariant.blocks j h;
+          ∙ shifted-back i (i + 1) (block_of c.loop-shift.planes j) (length-block_of c.loop-shift.planes j) refl
+          ∙ c.loop-shift.invariant.blocks j h;
     }
