@@ -1,5 +1,5 @@
 -- Bytes are all one where each is the one before it.
-use Rattle.std.proofs.Common.{◌≡◌, ◌<◌, ◌≤◌, ◌&&◌, ◌==◌, ◌-◌, Bool, true, false, ℕ, List, [], ◌∷◌, length, take, drop, slice_index, arith, refl, sym, ap, ◌∙◌}
+use Rattle.std.proofs.Common.{◌≡◌, ◌<◌, ◌&&◌, ◌==◌, ◌-◌, Bool, true, false, ℕ, List, [], ◌∷◌, length, take, drop, slice_index, arith, refl, sym, ap, ◌∙◌}
 use Rattle.std.specs.List.{list_all}
 use Rattle.std.specs.Str.{bytes_eq}
 use Rattle.std.proofs.lemmas.Bool.{eqb-true, eq-eqb}

@@ -2,6 +2,9 @@ pub mod lemmas
 pub mod ExampleRows
 pub mod BlockLemmas
 pub mod TweakLemmas
+pub mod PowerLemmas
+pub mod TwoMaskLemmas
+pub mod MaskLemmas
 pub mod XtsLemmas
 pub mod XtsKeyLemmas
 pub mod FirstTweakLemmas

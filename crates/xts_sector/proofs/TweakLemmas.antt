@@ -40,7 +40,7 @@ unit_number_is n h =
 
 -- ---- the product by α of a number
 
-xor_even : (x b : ℕ) → b < 2 → bit_xor (2 * x) b ≡ 2 * x + b
+pub xor_even : (x b : ℕ) → b < 2 → bit_xor (2 * x) b ≡ 2 * x + b
 xor_even x b h =
     let e = xor_block 1 x 0 0 b (omega arith) (omega (arith, h)) in
     let l : x * 2 ^ 1 + 0 ≡ 2 * x = omega arith in

@@ -10,7 +10,6 @@ use Rattle.aes_block.proofs.lemmas.BlockLemmas.{joined-same, length-joined, bloc
 use Rattle.aes_block.proofs.lemmas.CipherBlocksLemmas.{blocks_undone}
 use Rattle.xts_sector.specs.Blocks.{add_blocks}
 use Rattle.xts_sector.specs.Tweak.{times_alpha_power}
-use Rattle.xts_sector.proofs.TweakLemmas.{times_alpha_power-add}
 use Rattle.xts_sector.specs.Xts.{encrypted_block, decrypted_block, encrypted_blocks, decrypted_blocks}
 use Rattle.xts_sector.proofs.BlockLemmas.{length-add_blocks, add_blocks-add_blocks}
 
@@ -44,11 +43,8 @@ encrypted_block-decrypted_block key t c len out_len undone =
 -- ---- a unit
 
 -- blocks that are added to their masks, mapped and added again
-module _ (f : List ℕ → List ℕ) (tweaks : ℕ → List ℕ) (old masks b1 : List ℕ) (m : ℕ) (long : (x : List ℕ) → length (f x) ≡ 16) (tweak_long : (j : ℕ) → length (tweaks j) ≡ 16)
-    (len : length old ≡ 16 * m) (masks_are : masks ≡ joined tweaks m) (is1 : b1 ≡ joined (λ j. add_blocks (block old j) (block masks j)) (length old / 16)) where
-  mask : (j : ℕ) → j < m → block masks j ≡ tweaks j
-  mask j h = ap (λ ms. block ms j) masks_are ∙ block-joined tweaks m j (λ i k. tweak_long i) h
-
+module _ (f : List ℕ → List ℕ) (tweaks : ℕ → List ℕ) (old masks b1 : List ℕ) (m : ℕ) (long : (x : List ℕ) → length (f x) ≡ 16)
+    (len : length old ≡ 16 * m) (mask : (j : ℕ) → j < m → block masks j ≡ tweaks j) (is1 : b1 ≡ joined (λ j. add_blocks (block old j) (block masks j)) (length old / 16)) where
   first_sum : ℕ → List ℕ
   first_sum j = add_blocks (block old j) (block masks j)
 
@@ -77,8 +73,8 @@ module _ (f : List ℕ → List ℕ) (tweaks : ℕ → List ℕ) (old masks b1 :
       ∙ joined-same (λ j. add_blocks (block b2 j) (block masks j)) (λ j. add_blocks (f (add_blocks (block old j) (tweaks j))) (tweaks j)) m
       (λ j h. ap (λ x. add_blocks x (block masks j)) (at2 j h) ∙ ap (add_blocks (f (add_blocks (block old j) (tweaks j)))) (mask j h))
 
--- the n blocks from block m on of a unit, mapped by f, whose tweak comes first, and turned back by g
-module _ (f : List ℕ → List ℕ → List ℕ) (first old now t : List ℕ) (m n a k : ℕ) (at : a ≡ 16 * m) (wide : k ≡ 16 * n) (fits : a + k ≤ length now) (tweak_is : t ≡ times_alpha_power m first) where
+-- the n blocks from block m on of a unit, mapped by f, whose tweaks are the masks, and turned back by g
+module _ (f : List ℕ → List ℕ → List ℕ) (masks first old now : List ℕ) (m n a k : ℕ) (at : a ≡ 16 * m) (wide : k ≡ 16 * n) (fits : a + k ≤ length now) (mask_is : (j : ℕ) → j < n → block masks j ≡ times_alpha_power (m + j) first) where
   length-part : length (take k (drop a now)) / 16 ≡ n
   length-part = omega (arith, wide, fits, length-take-le k (drop a now) (omega (arith, fits, length-drop a now)))
 
@@ -88,21 +84,18 @@ module _ (f : List ℕ → List ℕ → List ℕ) (first old now t : List ℕ) (
       let to : 16 * m + 16 * j ≡ 16 * (m + j) = omega arith in
       block-take (drop a now) k j (omega (arith, wide, h)) ∙ ap (λ xs. block xs j) from ∙ ap (take 16) (drop-drop (16 * j) (16 * m) old ∙ ap (λ x. drop x old) to)
 
-  tweak-part : (j : ℕ) → times_alpha_power j t ≡ times_alpha_power (m + j) first
-  tweak-part j = ap (times_alpha_power j) tweak_is ∙ times_alpha_power-add m j first
-
-  pub part_written : (long : (u x : List ℕ) → length (f u x) ≡ 16) → (out : List ℕ) → out ≡ joined (λ j. f (times_alpha_power j t) (block (take k (drop a now)) j)) (length (take k (drop a now)) / 16)
+  pub part_written : (long : (u x : List ℕ) → length (f u x) ≡ 16) → (out : List ℕ) → out ≡ joined (λ j. f (block masks j) (block (take k (drop a now)) j)) (length (take k (drop a now)) / 16)
       → IsWrittenTo 16 (λ j. f (times_alpha_power j first) (block old j)) old now m → IsWrittenTo 16 (λ j. f (times_alpha_power j first) (block old j)) old (put_mid a k now out) (m + n)
   part_written long out is written =
       let part = take k (drop a now) in
       let blocks = λ (j : ℕ). f (times_alpha_power j first) (block old j) in
-      let same = is ∙ ap (joined (λ j. f (times_alpha_power j t) (block part j))) length-part
-      ∙ joined-same (λ j. f (times_alpha_power j t) (block part j)) (λ j. blocks (m + j)) n (λ j h. ap (λ u. f u (block part j)) (tweak-part j) ∙ ap (f (times_alpha_power (m + j) first)) (block-part written.rest j h)) in
+      let same = is ∙ ap (joined (λ j. f (block masks j) (block part j))) length-part
+      ∙ joined-same (λ j. f (block masks j) (block part j)) (λ j. blocks (m + j)) n (λ j h. ap (λ u. f u (block part j)) (mask_is j h) ∙ ap (f (times_alpha_power (m + j) first)) (block-part written.rest j h)) in
       let out_long : length out ≡ k = ap length same ∙ length-joined (λ j. blocks (m + j)) n (λ j h. long (times_alpha_power (m + j) first) (block old (m + j))) ∙ sym wide in
       IsWrittenTo-more 16 blocks old now out m n a k at wide fits same out_long written
 
   pub part_undone : (g : List ℕ → List ℕ → List ℕ) → drop (16 * m) now ≡ drop (16 * m) old
-      → ((j : ℕ) → j < length (take k (drop a now)) / 16 → g (times_alpha_power j t) (f (times_alpha_power j t) (block (take k (drop a now)) j)) ≡ block (take k (drop a now)) j)
+      → ((j : ℕ) → j < length (take k (drop a now)) / 16 → g (block masks j) (f (block masks j) (block (take k (drop a now)) j)) ≡ block (take k (drop a now)) j)
       → ((j : ℕ) → j < m → g (times_alpha_power j first) (f (times_alpha_power j first) (block old j)) ≡ block old j)
       → (j : ℕ) → j < m + n → g (times_alpha_power j first) (f (times_alpha_power j first) (block old j)) ≡ block old j
   part_undone g rest here before j h =
@@ -112,7 +105,7 @@ module _ (f : List ℕ → List ℕ → List ℕ) (first old now t : List ℕ) (
             let i = j - m in
             let inside : i < n = omega (arith, h, above) in
             let to : m + i ≡ j = omega (arith, above) in
-            let tweak = tweak-part i ∙ ap (λ x. times_alpha_power x first) to in
+            let tweak = mask_is i inside ∙ ap (λ x. times_alpha_power x first) to in
             let place = block-part rest i inside ∙ ap (block old) to in
             let back = here i (omega (arith, inside, length-part)) in
             sym (ap (λ u. g u (f u (block (take k (drop a now)) i))) tweak ∙ ap (λ x. g (times_alpha_power j first) (f (times_alpha_power j first) x)) place) ∙ back ∙ place

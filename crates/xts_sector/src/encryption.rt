@@ -2,30 +2,23 @@
 
 ghost use Rattle.std.specs.Prelude.{◌≡◌, ℕ, ◌/◌, ◌%◌, ◌<◌, ◌≤◌, length};
 ghost use Rattle.aes_block.specs.Blocks.{block};
-ghost use Rattle.xts_sector.specs.Tweak.{block_of, times_alpha_power};
+ghost use Rattle.xts_sector.specs.Tweak.{times_alpha_power};
 ghost use Rattle.xts_sector.specs.Xts.{encrypted_block, decrypted_block, encrypted_blocks, decrypted_blocks};
 
-use crate::masks::{add_masks, fill_masks};
+use crate::masks::{Masks, PART, add_masks, make_masks};
 use crate::tweak::Block;
 use aes_lanes::LanesKey;
 
-/// The most bytes whose masks are made ahead.
-const PART: usize = 512;
-
-/// Encrypts blocks, the first of which has the tweak `first`, and gives the tweak after the last.
-fn encrypt_part(key: &LanesKey, first: u128, blocks: &mut [u8]) -> u128
+/// Encrypts blocks, whose tweaks are the masks.
+fn encrypt_part(key: &LanesKey, masks: &Masks, blocks: &mut [u8])
     requires { (length blocks.old % 16 ≡ 0) × (length blocks.old ≤ PART) }
-    ensures value { blocks.new ≡ encrypted_blocks key.now (λ j. times_alpha_power j (block_of first)) blocks.old }
-    ensures inverse { (j : ℕ) → j < length blocks.old / 16 → decrypted_block key.now (times_alpha_power j (block_of first)) (encrypted_block key.now (times_alpha_power j (block_of first)) (block blocks.old j)) ≡ block blocks.old j }
-    ensures next { block_of result ≡ times_alpha_power (length blocks.old / 16) (block_of first) }
+    ensures value { blocks.new ≡ encrypted_blocks key.now (block masks.now) blocks.old }
+    ensures inverse { (j : ℕ) → j < length blocks.old / 16 → decrypted_block key.now (block masks.now j) (encrypted_block key.now (block masks.now j) (block blocks.old j)) ≡ block blocks.old j }
 {
-    let mut all = [0; PART];
-    let masks = &mut all[..blocks.len()];
-    let next = fill_masks(first, masks);
+    let masks = &masks[..blocks.len()];
     add_masks(blocks, masks);
     key.encrypt_blocks(blocks);
     add_masks(blocks, masks);
-    next
 }
 
 /// Encrypts a unit of whole blocks, whose first block has the tweak `first`.
@@ -34,9 +27,10 @@ pub fn encrypt_blocks(key: &LanesKey, first: &Block, unit: &mut [u8])
     ensures value { unit.new ≡ encrypted_blocks key.now (λ j. times_alpha_power j first.now) unit.old }
     ensures inverse { decrypted_blocks key.now (λ j. times_alpha_power j first.now) unit.new ≡ unit.old }
 {
-    let mut tweak = u128::from_le_bytes(*first);
+    let mut masks = [0; PART];
     for i in 0..unit.len().div_ceil(PART) {
+        make_masks(first, i, &mut masks);
         let end = unit.len().min(PART * i + PART);
-        tweak = encrypt_part(key, tweak, &mut unit[PART * i..end]);
+        encrypt_part(key, &masks, &mut unit[PART * i..end]);
     }
 }

@@ -1,37 +1,104 @@
 //! The tweaks of several blocks ahead, and their sums with the blocks.
 
-ghost use Rattle.std.specs.Prelude.{◌≡◌, ◌/◌, ◌%◌, length};
+ghost use Rattle.std.specs.Prelude.{◌≡◌, ◌≢◌, ℕ, ◌+◌, ◌-◌, ◌*◌, ◌/◌, ◌%◌, ◌<◌, ◌++◌, length};
 ghost use Rattle.aes_block.specs.Blocks.{block, joined};
 ghost use Rattle.xts_sector.specs.Blocks.{add_blocks};
+ghost use Rattle.xts_sector.specs.Masks.{HoldMasks};
 ghost use Rattle.xts_sector.specs.Tweak.{block_of, times_alpha_power};
 
-use crate::tweak::times_alpha;
+use crate::tweak::{Block, times_alpha};
 use std::simd::prelude::*;
 
-/// Writes a tweak.
+/// The most bytes of a unit whose masks are made ahead: a part of it.
+pub const PART: usize = 512;
+
+/// The masks of the 32 blocks of a part, one after the other.
+pub type Masks = [u8; PART];
+
+/// Writes two masks.
 #[inline(always)]
-fn write_tweak(tweak: u128, block: &mut [u8])
-    requires { length block.old ≡ 16 }
-    ensures { block.new ≡ block_of tweak }
+fn write_two_masks(two: u8x32, masks: &mut [u8])
+    requires { length masks.old ≡ 32 }
+    ensures { masks.new ≡ two }
 {
-    let low = (tweak % 0x1_0000_0000_0000_0000) as u64;
-    let high = (tweak >> 64) as u64;
-    let halves = u64x2::from_array([low, high]);
-    halves.to_le_bytes().copy_to_slice(block);
+    two.copy_to_slice(masks);
 }
 
-/// Writes the tweaks of as many blocks as `masks` holds, from `first` on, and gives the one after them.
-pub fn fill_masks(first: u128, masks: &mut [u8]) -> u128
-    requires { length masks.old % 16 ≡ 0 }
-    ensures masks { masks.new ≡ joined (λ j. times_alpha_power j (block_of first)) (length masks.new / 16) }
-    ensures next { block_of result ≡ times_alpha_power (length masks.new / 16) (block_of first) }
+/// Writes two tweaks.
+#[inline(always)]
+fn write_two_tweaks(first: u128, second: u128, masks: &mut [u8])
+    requires { length masks.old ≡ 32 }
+    ensures { masks.new ≡ block_of first ++ block_of second }
+{
+    let low = (first % 0x1_0000_0000_0000_0000) as u64;
+    let high = (first >> 64) as u64;
+    let second_low = (second % 0x1_0000_0000_0000_0000) as u64;
+    let second_high = (second >> 64) as u64;
+    let halves = u64x4::from_array([low, high, second_low, second_high]);
+    write_two_masks(halves.to_le_bytes(), masks);
+}
+
+/// Writes the masks of the first eight blocks, from `first` on.
+fn write_first_masks(first: u128, masks: &mut Masks)
+    ensures { (j : ℕ) → j < 8 → block masks.new j ≡ times_alpha_power j (block_of first) }
 {
     let mut tweak = first;
-    for j in 0..masks.len() / 16 {
-        write_tweak(tweak, &mut masks[16 * j..16 * j + 16]);
-        tweak = times_alpha(tweak);
+    for i in 0..4_usize {
+        let second = times_alpha(tweak);
+        write_two_tweaks(tweak, second, &mut masks[32 * i..32 * i + 32]);
+        tweak = times_alpha(second);
     }
-    tweak
+}
+
+/// The products of two masks by α^8: what leaves at the top comes back times x^7 + x^2 + x + 1 (5.2).
+#[inline(always)]
+fn two_products(masks: &[u8]) -> u8x32
+    requires { length masks.now ≡ 32 }
+    ensures { result ≡ joined (λ j. times_alpha_power 8 (block masks.now j)) 2 }
+{
+    let turned = u8x32::from_slice(masks).swizzle([
+        15, 0, 1, 2, 3, 4, 5, 6, 7, 8, 9, 10, 11, 12, 13, 14, 31, 16, 17, 18, 19, 20, 21, 22, 23,
+        24, 25, 26, 27, 28, 29, 30,
+    ]);
+    let halves = u64x4::from_le_bytes(turned);
+    let top = halves & u64x4::from_array([0xff, 0, 0xff, 0]);
+    let products = halves
+        ^ (top << u64x4::splat(1))
+        ^ (top << u64x4::splat(2))
+        ^ (top << u64x4::splat(7));
+    products.to_le_bytes()
+}
+
+/// Writes over the first eight masks those of the eight blocks that come after the last.
+fn write_next_masks(masks: &mut Masks)
+    ensures { (j : ℕ) → j < 8 → block masks.new j ≡ times_alpha_power 8 (block masks.old (24 + j)) }
+{
+    for i in 0..4_usize {
+        let two = two_products(&masks[32 * i + 384..32 * i + 416]);
+        write_two_masks(two, &mut masks[32 * i..32 * i + 32]);
+    }
+}
+
+/// Makes all masks from the first eight, each from the one eight before.
+fn extend_masks(masks: &mut Masks)
+    ensures { masks.new ≡ joined (λ j. times_alpha_power (8 * (j / 8)) (block masks.old (j % 8))) 32 }
+{
+    for i in 0..12_usize {
+        let two = two_products(&masks[32 * i..32 * i + 32]);
+        write_two_masks(two, &mut masks[32 * i + 128..32 * i + 160]);
+    }
+}
+
+/// Makes the masks of part `i` of a unit, whose first block has the tweak `first`, from those of the part before.
+pub fn make_masks(first: &Block, i: usize, masks: &mut Masks)
+    ensures { (i ≢ 0 → HoldMasks first.now (i - 1) masks.old) → HoldMasks first.now i masks.new }
+{
+    if i == 0 {
+        write_first_masks(u128::from_le_bytes(*first), masks);
+    } else {
+        write_next_masks(masks);
+    }
+    extend_masks(masks);
 }
 
 /// Adds to a block its mask.

@@ -1,10 +1,9 @@
-use Rattle.std.proofs.Common.{◌≡◌, ℕ, ◌*◌, ◌/◌, ◌-◌, ◌+◌, ◌<◌, ◌≤◌, length, take, drop, min, sym, ap, ◌∙◌, arith}
-use Rattle.std.proofs.lemmas.List.{length-take-le, length-drop}
+use Rattle.std.proofs.Common.{◌≡◌, ℕ, ◌*◌, ◌/◌, ◌-◌, ◌+◌, ◌<◌, ◌≤◌, length, take, drop, min, ap, ◌∙◌, arith}
 use Rattle.aes_block.specs.Blocks.{block, joined}
 use Rattle.aes_block.proofs.lemmas.PartLemmas.{IsWrittenTo-none, IsWrittenTo-all}
-use Rattle.xts_sector.specs.Tweak.{block_of, times_alpha_power}
+use Rattle.xts_sector.specs.Tweak.{times_alpha_power}
 use Rattle.xts_sector.specs.Xts.{decrypted_block, encrypted_block, decrypted_blocks, encrypted_blocks}
-use Rattle.xts_sector.proofs.TweakLemmas.{block_of-from_le_bytes, times_alpha_power-add}
+use Rattle.xts_sector.proofs.MaskLemmas.{HoldMasks-next}
 use Rattle.xts_sector.proofs.XtsLemmas.{length-decrypted_block, part_written, part_undone, encrypted_blocks-decrypted_blocks}
 use Rattle.xts_sector.proofs.decryption.decrypt_blocks.Goals as goal
 use Rattle.xts_sector.proofs.decryption.decrypt_blocks.Goals.{After-loop-i}
@@ -13,7 +12,7 @@ pub loop-i-init : goal.loop-i-init
 loop-i-init c =
     let none : min (32 * 0) (length c.args.unit.now / 16) ≡ 0 = omega arith in
     record {
-      tweak = ap block_of c.from_le_bytes-tweak.ensures ∙ block_of-from_le_bytes c.args.first.now c.told-first c.fits-first ∙ ap (λ n. times_alpha_power n c.args.first.now) (sym none);
+      masks = λ some. absurd (omega (arith, some));
       written = rw none (IsWrittenTo-none 16 (λ j. decrypted_block c.args.key.now (times_alpha_power j c.args.first.now) (block c.args.unit.now j)) c.args.unit.now);
       undone = λ j h. absurd (omega (arith, h, none));
     }
@@ -37,12 +36,14 @@ loop-i-preserved c =
     let next : m + n ≡ min (32 * (i + 1)) total = omega arith in
     let part = take k (drop (512 * i) now) in
     let fits : 512 * i + k ≤ length now = omega (arith, inside, c.min-end.ensures, c.loop-i.auto.unit) in
-    let out = c.decrypt_part-tweak.new.blocks in
-    let long : length part / 16 ≡ n = omega (arith, wide, fits, length-take-le k (drop (512 * i) now) (omega (arith, fits, length-drop (512 * i) now))) in
+    let masks = c.make_masks.new.masks in
+    let held = c.make_masks.ensures so_far.masks in
+    let mask = λ (j : ℕ) (h : j < n). held j (omega (arith, h)) ∙ ap (λ x. times_alpha_power (x + j) first) (let e : 32 * i ≡ m = omega (arith, at) in e) in
+    let out = c.decrypt_part.new.blocks in
     record {
-      tweak = c.decrypt_part-tweak.ensures.next ∙ ap (times_alpha_power (length part / 16)) so_far.tweak ∙ times_alpha_power-add m (length part / 16) first ∙ ap (λ n. times_alpha_power (m + n) first) long ∙ ap (λ n. times_alpha_power n first) next;
-      written = rw (← next) (part_written (decrypted_block key) first old now (block_of c.loop-i.tweak) m n (512 * i) k at wide fits so_far.tweak (length-decrypted_block key) out c.decrypt_part-tweak.ensures.value so_far.written);
-      undone = λ j h. part_undone (decrypted_block key) first old now (block_of c.loop-i.tweak) m n (512 * i) k at wide fits so_far.tweak (encrypted_block key) so_far.written.rest c.decrypt_part-tweak.ensures.inverse so_far.undone j (omega (arith, h, next));
+      masks = λ _. HoldMasks-next first masks i held;
+      written = rw (← next) (part_written (decrypted_block key) masks first old now m n (512 * i) k at wide fits mask (length-decrypted_block key) out c.decrypt_part.ensures.value so_far.written);
+      undone = λ j h. part_undone (decrypted_block key) masks first old now m n (512 * i) k at wide fits mask (encrypted_block key) so_far.written.rest c.decrypt_part.ensures.inverse so_far.undone j (omega (arith, h, next));
     }
 
 -- the unit that is left

@@ -1,14 +1,15 @@
-use Rattle.std.proofs.Common.{◌≡◌, ℕ, ◌*◌, ◌/◌, ◌<◌, length, min}
+use Rattle.std.proofs.Common.{◌≡◌, ◌≢◌, ℕ, ◌-◌, ◌*◌, ◌/◌, ◌<◌, length, min}
 use Rattle.aes_block.specs.Blocks.{block}
 use Rattle.aes_block.proofs.lemmas.PartLemmas.{IsWrittenTo}
-use Rattle.xts_sector.specs.Tweak.{block_of, times_alpha_power}
+use Rattle.xts_sector.specs.Tweak.{times_alpha_power}
+use Rattle.xts_sector.specs.Masks.{HoldMasks}
 use Rattle.xts_sector.specs.Xts.{encrypted_block, decrypted_block}
 use Rattle.xts_sector.proofs.encryption.encrypt_blocks.Given as goal
 
--- the blocks of the parts so far
+-- the blocks of the parts so far, and the masks of the last one
 abbrev pub invariant-loop-i : goal.invariant-loop-i
 invariant-loop-i l = record {
-  tweak : block_of l.tweak ≡ times_alpha_power (min (32 * l.i) (length l.fn.unit / 16)) l.fn.first;
+  masks : l.i ≢ 0 → HoldMasks l.fn.first (l.i - 1) l.masks;
   written : IsWrittenTo 16 (λ j. encrypted_block l.key (times_alpha_power j l.fn.first) (block l.fn.unit j)) l.fn.unit l.unit (min (32 * l.i) (length l.fn.unit / 16));
   undone : (j : ℕ) → j < min (32 * l.i) (length l.fn.unit / 16)
       → decrypted_block l.key (times_alpha_power j l.fn.first) (encrypted_block l.key (times_alpha_power j l.fn.first) (block l.fn.unit j)) ≡ block l.fn.unit j;
