@@ -1,4 +1,4 @@
--- The masks of a part: of their first eight, and from part to part.
+-- The masks of a part: from its first eight, and from part to part.
 use Rattle.std.proofs.Common.{◌≡◌, ◌≢◌, ℕ, ◌+◌, ◌-◌, ◌*◌, ◌/◌, ◌%◌, ◌<◌, ◌≤◌, List, length, take, drop, sym, ap, ◌∙◌, refl, arith}
 use Rattle.std.proofs.lemmas.List.{drop-drop, length-take-le, length-drop, take_all}
 use Rattle.aes_block.specs.Blocks.{block, joined}
@@ -14,12 +14,6 @@ length-block bytes j h = length-take-le 16 (drop (16 * j) bytes) (omega (arith, 
 -- a block of those that are written
 pub block-front : (blocks : ℕ → List ℕ) (now : List ℕ) (m j : ℕ) → ((j : ℕ) → j < m → length (blocks j) ≡ 16) → take (16 * m) now ≡ joined blocks m → j < m → block now j ≡ blocks j
 block-front blocks now m j long front h = sym (block-take now (16 * m) j (omega (arith, h))) ∙ ap (λ ms. block ms j) front ∙ block-joined blocks m j long h
-
--- a block of two that begin with block m
-pub block-two : (bytes : List ℕ) (m a k j : ℕ) → a ≡ 16 * m → k ≡ 32 → j < 2 → block (take k (drop a bytes)) j ≡ block bytes (m + j)
-block-two bytes m a k j at wide h =
-    let to : 16 * m + 16 * j ≡ 16 * (m + j) = omega arith in
-    block-take (drop a bytes) k j (omega (arith, wide, h)) ∙ ap (λ x. take 16 (drop (16 * j) (drop x bytes))) at ∙ ap (take 16) (drop-drop (16 * j) (16 * m) bytes ∙ ap (λ x. drop x bytes) to)
 
 -- a block of the rest that isn't written
 pub block-rest : (old now : List ℕ) (m j : ℕ) → drop (16 * m) now ≡ drop (16 * m) old → m ≤ j → block now j ≡ block old j

@@ -10,7 +10,7 @@ use Rattle.xts_sector.proofs.TweakLemmas.{xor_even, times_alpha_is}
 unfoldable pub reduced : ℕ → ℕ
 reduced c = bit_xor (bit_xor (bit_xor c (c * 2)) (c * 4)) (c * 128)
 
--- the product of a number by the power k of α
+-- the product of a number below 2^128 by the power k of α, for k up to 120
 unfoldable pub power : ℕ → ℕ → ℕ
 power k a = bit_xor (a * 2 ^ k % 2 ^ 128) (reduced (a / 2 ^ (128 - k)))
 

@@ -1,17 +1,17 @@
 -- Enciphering and deciphering a unit undo each other where they do on each of its blocks.
 use Rattle.std.proofs.Common.{◌≡◌, ℕ, ◌*◌, ◌/◌, ◌%◌, ◌<◌, ◌+◌, ◌-◌, ◌≤◌, List, length, take, drop, sym, ap, ◌∙◌, inl, inr, arith}
 use Rattle.std.proofs.lemmas.Bool.{cases_lt}
-use Rattle.std.proofs.lemmas.List.{drop-drop, length-take-le, length-drop}
+use Rattle.std.proofs.lemmas.List.{length-take-le, length-drop}
 use borrow.Rule.Slice.PartMut.{put_mid}
 use Rattle.aes_block.proofs.lemmas.PartLemmas.{IsWrittenTo, IsWrittenTo-more}
 use Rattle.aes_block.specs.Cipher.{cipher, inverse_cipher}
 use Rattle.aes_block.specs.Blocks.{block, joined}
-use Rattle.aes_block.proofs.lemmas.BlockLemmas.{joined-same, length-joined, block-joined, block-take}
+use Rattle.aes_block.proofs.lemmas.BlockLemmas.{joined-same, length-joined, block-joined}
 use Rattle.aes_block.proofs.lemmas.CipherBlocksLemmas.{blocks_undone}
 use Rattle.xts_sector.specs.Blocks.{add_blocks}
 use Rattle.xts_sector.specs.Tweak.{times_alpha_power}
 use Rattle.xts_sector.specs.Xts.{encrypted_block, decrypted_block, encrypted_blocks, decrypted_blocks}
-use Rattle.xts_sector.proofs.BlockLemmas.{length-add_blocks, add_blocks-add_blocks}
+use Rattle.xts_sector.proofs.BlockLemmas.{length-add_blocks, add_blocks-add_blocks, block-part}
 
 -- ---- one block
 
@@ -78,19 +78,13 @@ module _ (f : List ℕ → List ℕ → List ℕ) (masks first old now : List �
   length-part : length (take k (drop a now)) / 16 ≡ n
   length-part = omega (arith, wide, fits, length-take-le k (drop a now) (omega (arith, fits, length-drop a now)))
 
-  block-part : drop (16 * m) now ≡ drop (16 * m) old → (j : ℕ) → j < n → block (take k (drop a now)) j ≡ block old (m + j)
-  block-part rest j h =
-      let from : drop a now ≡ drop (16 * m) old = ap (λ x. drop x now) at ∙ rest in
-      let to : 16 * m + 16 * j ≡ 16 * (m + j) = omega arith in
-      block-take (drop a now) k j (omega (arith, wide, h)) ∙ ap (λ xs. block xs j) from ∙ ap (take 16) (drop-drop (16 * j) (16 * m) old ∙ ap (λ x. drop x old) to)
-
   pub part_written : (long : (u x : List ℕ) → length (f u x) ≡ 16) → (out : List ℕ) → out ≡ joined (λ j. f (block masks j) (block (take k (drop a now)) j)) (length (take k (drop a now)) / 16)
       → IsWrittenTo 16 (λ j. f (times_alpha_power j first) (block old j)) old now m → IsWrittenTo 16 (λ j. f (times_alpha_power j first) (block old j)) old (put_mid a k now out) (m + n)
   part_written long out is written =
       let part = take k (drop a now) in
       let blocks = λ (j : ℕ). f (times_alpha_power j first) (block old j) in
       let same = is ∙ ap (joined (λ j. f (block masks j) (block part j))) length-part
-      ∙ joined-same (λ j. f (block masks j) (block part j)) (λ j. blocks (m + j)) n (λ j h. ap (λ u. f u (block part j)) (mask_is j h) ∙ ap (f (times_alpha_power (m + j) first)) (block-part written.rest j h)) in
+      ∙ joined-same (λ j. f (block masks j) (block part j)) (λ j. blocks (m + j)) n (λ j h. ap (λ u. f u (block part j)) (mask_is j h) ∙ ap (f (times_alpha_power (m + j) first)) (block-part old now m n a k j at wide written.rest h)) in
       let out_long : length out ≡ k = ap length same ∙ length-joined (λ j. blocks (m + j)) n (λ j h. long (times_alpha_power (m + j) first) (block old (m + j))) ∙ sym wide in
       IsWrittenTo-more 16 blocks old now out m n a k at wide fits same out_long written
 
@@ -106,7 +100,7 @@ module _ (f : List ℕ → List ℕ → List ℕ) (masks first old now : List �
             let inside : i < n = omega (arith, h, above) in
             let to : m + i ≡ j = omega (arith, above) in
             let tweak = mask_is i inside ∙ ap (λ x. times_alpha_power x first) to in
-            let place = block-part rest i inside ∙ ap (block old) to in
+            let place = block-part old now m n a k i at wide rest inside ∙ ap (block old) to in
             let back = here i (omega (arith, inside, length-part)) in
             sym (ap (λ u. g u (f u (block (take k (drop a now)) i))) tweak ∙ ap (λ x. g (times_alpha_power j first) (f (times_alpha_power j first) x)) place) ∙ back ∙ place
       ]

@@ -9,7 +9,7 @@ use crate::masks::{Masks, PART, add_masks, make_masks};
 use crate::tweak::Block;
 use aes_lanes::LanesKey;
 
-/// Decrypts blocks, whose tweaks are the masks.
+/// Decrypts at most 32 blocks. The tweak of block j is mask j.
 fn decrypt_part(key: &LanesKey, masks: &Masks, blocks: &mut [u8])
     requires { (length blocks.old % 16 ≡ 0) × (length blocks.old ≤ PART) }
     ensures value { blocks.new ≡ decrypted_blocks key.now (block masks.now) blocks.old }

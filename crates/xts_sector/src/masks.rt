@@ -1,4 +1,4 @@
-//! The tweaks of several blocks ahead, and their sums with the blocks.
+//! The tweaks T (IEEE 1619-2007, 5.3.1) of the blocks of a part, here called masks, and their sums with the blocks.
 
 ghost use Rattle.std.specs.Prelude.{◌≡◌, ◌≢◌, ℕ, ◌+◌, ◌-◌, ◌*◌, ◌/◌, ◌%◌, ◌<◌, ◌++◌, length};
 ghost use Rattle.aes_block.specs.Blocks.{block, joined};
@@ -9,7 +9,7 @@ ghost use Rattle.xts_sector.specs.Tweak.{block_of, times_alpha_power};
 use crate::tweak::{Block, times_alpha};
 use std::simd::prelude::*;
 
-/// The most bytes of a unit whose masks are made ahead: a part of it.
+/// The bytes of a part of a unit. Masks are made for a whole part, also where fewer blocks are left.
 pub const PART: usize = 512;
 
 /// The masks of the 32 blocks of a part, one after the other.
@@ -50,7 +50,8 @@ fn write_first_masks(first: u128, masks: &mut Masks)
     }
 }
 
-/// The products of two masks by α^8: what leaves at the top comes back times x^7 + x^2 + x + 1 (5.2).
+/// The products of two masks by α^8 (5.2). The shuffle moves each up by a byte and puts the byte that leaves at the top in below,
+/// which is its product by 1; the shifts add those by x, x^2 and x^7.
 #[inline(always)]
 fn two_products(masks: &[u8]) -> u8x32
     requires { length masks.now ≡ 32 }
@@ -89,7 +90,8 @@ fn extend_masks(masks: &mut Masks)
     }
 }
 
-/// Makes the masks of part `i` of a unit, whose first block has the tweak `first`, from those of the part before.
+/// Makes the masks of part `i` of the unit whose first block has the tweak `first`: of part 0 from `first`, of each other from
+/// those of the part before.
 pub fn make_masks(first: &Block, i: usize, masks: &mut Masks)
     ensures { (i ≢ 0 → HoldMasks first.now (i - 1) masks.old) → HoldMasks first.now i masks.new }
 {

@@ -1,4 +1,4 @@
-use Rattle.std.proofs.Common.{◌≡◌, ℕ, ◌*◌, ◌/◌, ◌-◌, ◌+◌, ◌<◌, ◌≤◌, length, take, drop, min, ap, ◌∙◌, arith}
+use Rattle.std.proofs.Common.{◌≡◌, ℕ, ◌*◌, ◌/◌, ◌-◌, ◌+◌, ◌<◌, ◌≤◌, length, min, ap, ◌∙◌, arith}
 use Rattle.aes_block.specs.Blocks.{block, joined}
 use Rattle.aes_block.proofs.lemmas.PartLemmas.{IsWrittenTo-none, IsWrittenTo-all}
 use Rattle.xts_sector.specs.Tweak.{times_alpha_power}
@@ -34,7 +34,6 @@ loop-i-preserved c =
     let at : 512 * i ≡ 16 * m = omega (arith, inside, c.requires) in
     let wide : k ≡ 16 * n = omega (arith, inside, c.min-end.ensures, c.requires, c.loop-i.auto.unit) in
     let next : m + n ≡ min (32 * (i + 1)) total = omega arith in
-    let part = take k (drop (512 * i) now) in
     let fits : 512 * i + k ≤ length now = omega (arith, inside, c.min-end.ensures, c.loop-i.auto.unit) in
     let masks = c.make_masks.new.masks in
     let held = c.make_masks.ensures so_far.masks in

@@ -8,7 +8,6 @@ use Rattle.xts_sector.specs.Blocks.{add_blocks}
 use Rattle.xts_sector.specs.Xts.{decrypted_block, decrypted_blocks}
 use Rattle.xts_sector.proofs.XtsLemmas.{masked_blocks, block-masked, length-masked, encrypted_block-decrypted_block}
 use Rattle.xts_sector.proofs.decryption.decrypt_part.Goals as goal
-use Rattle.xts_sector.proofs.decryption.decrypt_part.Goals.{After-add_masks-2}
 
 pub returns-clause-value : goal.returns-clause-value
 unfolding decrypted_blocks decrypted_block inverse_cipher_blocks

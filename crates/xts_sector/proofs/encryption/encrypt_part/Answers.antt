@@ -8,7 +8,6 @@ use Rattle.xts_sector.specs.Blocks.{add_blocks}
 use Rattle.xts_sector.specs.Xts.{encrypted_block, encrypted_blocks}
 use Rattle.xts_sector.proofs.XtsLemmas.{masked_blocks, block-masked, length-masked, decrypted_block-encrypted_block}
 use Rattle.xts_sector.proofs.encryption.encrypt_part.Goals as goal
-use Rattle.xts_sector.proofs.encryption.encrypt_part.Goals.{After-add_masks-2}
 
 pub returns-clause-value : goal.returns-clause-value
 unfolding encrypted_blocks encrypted_block cipher_blocks

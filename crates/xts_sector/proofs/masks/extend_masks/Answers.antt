@@ -1,8 +1,9 @@
-use Rattle.std.proofs.Common.{◌≡◌, ℕ, ◌+◌, ◌-◌, ◌*◌, length, sym, ap, ◌∙◌, arith}
+use Rattle.std.proofs.Common.{◌≡◌, ℕ, ◌+◌, ◌-◌, ◌*◌, length, sym, ap, ◌∙◌, arith, refl}
 use Rattle.aes_block.proofs.lemmas.BlockLemmas.{joined-same, length-joined}
 use Rattle.aes_block.proofs.lemmas.PartLemmas.{IsWrittenTo-more}
 use Rattle.xts_sector.specs.Tweak.{times_alpha_power}
-use Rattle.xts_sector.proofs.MaskLemmas.{block-front, block-two, extended, length-extended, extended-more, extended-none, extended-all}
+use Rattle.xts_sector.proofs.BlockLemmas.{block-part}
+use Rattle.xts_sector.proofs.MaskLemmas.{block-front, extended, length-extended, extended-more, extended-none, extended-all}
 use Rattle.xts_sector.proofs.masks.extend_masks.Goals as goal
 
 pub loop-i-init : goal.loop-i-init
@@ -22,7 +23,7 @@ loop-i-preserved c =
     let long = λ (j : ℕ). length-extended old j c.told-masks in
     let products = joined-same _ (λ j. extended old (m + j)) 2 (λ j h.
     let to : 8 + (2 * i + j) ≡ m + j = omega arith in
-    ap (times_alpha_power 8) (block-two now (2 * i) (32 * i) (32 * i + 32 - 32 * i) j (omega arith) (omega arith) h ∙ block-front (extended old) now m (2 * i + j) (λ j _. long j) c.loop-i.invariant.front (omega (arith, h)))
+    ap (times_alpha_power 8) (block-part now now (2 * i) 2 (32 * i) (32 * i + 32 - 32 * i) j (omega arith) (omega arith) refl h ∙ block-front (extended old) now m (2 * i + j) (λ j _. long j) c.loop-i.invariant.front (omega (arith, h)))
     ∙ extended-more old (2 * i + j) ∙ ap (extended old) to) in
     let out = c.write_two_masks.ensures ∙ c.two_products-two.ensures ∙ products in
     let out_long : length c.write_two_masks.new.masks ≡ k = ap length out ∙ length-joined (λ j. extended old (m + j)) 2 (λ j h. long (m + j)) ∙ sym wide in

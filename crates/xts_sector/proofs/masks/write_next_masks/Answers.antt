@@ -1,10 +1,11 @@
-use Rattle.std.proofs.Common.{◌≡◌, ℕ, ◌+◌, ◌-◌, ◌*◌, ◌<◌, length, sym, ap, ◌∙◌, arith}
+use Rattle.std.proofs.Common.{◌≡◌, ℕ, ◌+◌, ◌-◌, ◌*◌, ◌<◌, length, sym, ap, ◌∙◌, arith, refl}
 use Rattle.aes_block.specs.Blocks.{block}
 use Rattle.aes_block.proofs.lemmas.BlockLemmas.{joined-same, length-joined}
 use Rattle.aes_block.proofs.lemmas.PartLemmas.{IsWrittenTo-none, IsWrittenTo-more}
 use Rattle.xts_sector.specs.Tweak.{times_alpha_power}
 use Rattle.xts_sector.proofs.TweakLemmas.{length-times_alpha_power}
-use Rattle.xts_sector.proofs.MaskLemmas.{length-block, block-front, block-two, block-rest}
+use Rattle.xts_sector.proofs.BlockLemmas.{block-part}
+use Rattle.xts_sector.proofs.MaskLemmas.{length-block, block-front, block-rest}
 use Rattle.xts_sector.proofs.masks.write_next_masks.Goals as goal
 
 pub loop-i-init : goal.loop-i-init
@@ -24,7 +25,7 @@ loop-i-preserved c =
     let part = λ (j : ℕ). times_alpha_power 8 (block old (24 + j)) in
     let products = joined-same _ (λ j. part (m + j)) 2 (λ j h.
     let to : m + 24 + j ≡ 24 + (m + j) = omega arith in
-    ap (times_alpha_power 8) (block-two now (m + 24) (a + 384) (a + 416 - (a + 384)) j (omega arith) (omega arith) h ∙ block-rest old now m (m + 24 + j) c.loop-i.invariant.rest (omega arith) ∙ ap (block old) to)) in
+    ap (times_alpha_power 8) (block-part now now (m + 24) 2 (a + 384) (a + 416 - (a + 384)) j (omega arith) (omega arith) refl h ∙ block-rest old now m (m + 24 + j) c.loop-i.invariant.rest (omega arith) ∙ ap (block old) to)) in
     let out = c.write_two_masks.ensures ∙ c.two_products-two.ensures ∙ products in
     let long = λ (j : ℕ) (h : j < 2). length-times_alpha_power 8 (block old (24 + (m + j))) (length-block old (24 + (m + j)) (omega (arith, h, c.told-masks))) in
     let out_long : length c.write_two_masks.new.masks ≡ k = ap length out ∙ length-joined (λ j. part (m + j)) 2 long ∙ sym wide in
