@@ -7,7 +7,7 @@ top=$(dirname "$(dirname "$(readlink -f "$0")")")
 room=$(mktemp -d)
 trap 'rm -rf "$room"' EXIT
 cd "$room"
-"$top/dmstack" session < /dev/null
+"$top/prove"
 program=$top/crates/dmstack/out/dmstack
 runs=7
 

@@ -17,7 +17,7 @@ import time
 from concurrent.futures import FIRST_COMPLETED, ThreadPoolExecutor, wait
 
 sys.dont_write_bytecode = True
-from kit import RT, TOP
+from kit import TOP, begin, crate_of, lock, memory_free, memory_needed, processors
 
 PROGRAM = "dmstack"
 START = time.monotonic()
@@ -93,7 +93,7 @@ def in_chains(libraries, build):
 
     The first in that order gets a job for each processor, even where others are being built: the time of the whole is that of the
     longest chain. The others get what is idle. The kit's own order gives each its share, and plans on twice the memory."""
-    lanes, memory, behind = RT.processors(), 0.85 * RT.free(), dict.fromkeys(libraries, 0)
+    lanes, memory, behind = processors(), 0.85 * memory_free(), dict.fromkeys(libraries, 0)
     for it in reversed(libraries):
         behind[it] += it.count(rb"\n")
         for below in it.below():
@@ -107,7 +107,7 @@ def in_chains(libraries, build):
                 is_first = all(behind[it] >= behind[other] for other, _, _ in running.values())
                 idle = lanes - sum(jobs for _, _, jobs in running.values())
                 room = memory - sum(needs for _, needs, _ in running.values())
-                needs = RT.need(it)
+                needs = memory_needed(it)
                 if len(running) < lanes and (not running or needs <= room):
                     jobs = max(1, min(lanes if is_first else idle, 1 + int((room / needs - 1) / 0.6)))
                     left.remove(it)
@@ -131,9 +131,9 @@ def main():
     # Python would wait at Ctrl-C for what the threads started; so rt's guard ends that at once.
     signal.signal(signal.SIGINT, signal.SIG_DFL)
     os.chdir(TOP)
-    RT.rtlib.guarded()
-    program = next(it for it in RT.rtlib.crates_below(TOP) if it.name == PROGRAM)
-    held = RT.rtlib.lock([*program.below(), program])
+    begin()
+    program = crate_of(PROGRAM)
+    held = lock([*program.below(), program])
     build = Build([it for it in program.below() if not it.is_built()])
     if build.libraries:
         tell(f"proving and building the program, with libraries to prove: {len(build.libraries)}; this takes minutes")

@@ -6,7 +6,7 @@ set -eu
 top=$(dirname "$(dirname "$(readlink -f "$0")")")
 cd "$top/crates/dmstack"
 [ -z "${GATE_BUILT:-}" ] || { ls out/dmstack out/dmstack.by-rattle > /dev/null; exit; }
-"$top/dmstack" session < /dev/null
+"$top/prove"
 case " $* " in
 *' dmstack.by-rattle '*)
     [ out/dmstack.by-rattle -nt out/dmstack ] && exit

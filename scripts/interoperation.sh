@@ -9,7 +9,7 @@ step=${1:-7}
 PATH=$PATH:/usr/sbin
 command -v veritysetup > /dev/null || { echo 'veritysetup is not installed'; exit 1; }
 top=$(dirname "$(dirname "$(readlink -f "$0")")")
-"$top/dmstack" session < /dev/null
+"$top/prove"
 program=$top/crates/dmstack/out/dmstack
 room=$(mktemp -d)
 trap 'rm -rf "$room"' EXIT

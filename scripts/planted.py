@@ -2,10 +2,13 @@
 import json
 import os
 import re
-import subprocess
 from dataclasses import dataclass
 
-from kit import RT
+from kit import TOP, texts_of_edit, tokens
+
+
+# Where the planted bugs of a crate lie: its main promise and those of the gate, and all others.
+FOLDERS = ("must-fail", "edits")
 
 
 @dataclass
@@ -48,6 +51,13 @@ class Edit:
 
     def label(self):
         return "/".join(self.file.split("/")[-3:])
+
+
+def edit_file(bug):
+    """The file of a planted bug CRATE/NAME, in whichever of the crate's two folders it lies."""
+    crate, name = bug.split("/")
+    files = [f"{TOP}/crates/{crate}/{it}/{name}.edit" for it in FOLDERS]
+    return next((it for it in files if os.path.isfile(it)), files[0])
 
 
 def camel(path):
@@ -114,8 +124,7 @@ def body_at(code, at):
 
 def functions_of(crate, path):
     """The functions of a file of the crate, by rattle's own tokens, without the text of clauses."""
-    ran = subprocess.run([RT.rtlib.RATTLE, "fmt", "--tokens", f"{crate.folder}/{path}"], capture_output=True, text=True)
-    rows = [it.split(" ", 4) for it in ran.stdout.splitlines() if it[:1].isdigit()]
+    rows = tokens(f"{crate.folder}/{path}")
     code = [(int(it[1]), int(it[2]), json.loads(it[4])) for it in rows if it[3] == "Code"]
     module = [it for it in re.sub(r"\.rt$", "", path).split("/")[1:] if it not in ("lib", "main", "mod")]
     found, open_braces, pending, cycle, at = [], [], (None, True), "", 0
@@ -153,7 +162,7 @@ def functions_of(crate, path):
 def read_edit(crate, file):
     """The edit, with the text that it puts in place of the text between two offsets."""
     edit = Edit(file)
-    texts, edit.error = RT.read_edit(file, crate.folder)
+    texts, edit.error = texts_of_edit(file, crate.folder)
     if edit.error or len(texts) != 1:
         return edit
     edit.path, text = next(iter(texts.items()))

@@ -3,7 +3,7 @@ import re
 import resource
 from dataclasses import dataclass, field
 
-from kit import RT
+from kit import checked, is_refused
 
 ONE_JOB = ["--jobs", "1"]
 # Said of an edit whose refusal says little of the contract: change a value and keep the names.
@@ -55,9 +55,9 @@ class Trial:
         texts, rows = self.plant(edits)
         words = [it.function.only for it in edits]
         only = [word for it in words for word in ("--only", it)] if all(words) else []
-        ran = RT.checked(self.crate, texts, [*ONE_JOB, *only], self.kept)
+        ran = checked(self.crate, texts, [*ONE_JOB, *only], self.kept)
         if only and "` has no function `" in ran.stdout:
-            ran = RT.checked(self.crate, texts, ONE_JOB, self.kept)
+            ran = checked(self.crate, texts, ONE_JOB, self.kept)
         found = dict(re.findall(r"^fn (\S+): (.*)$", ran.stdout, re.M))
         return Round(ran.stdout, found, rows)
 
@@ -150,10 +150,10 @@ class Trial:
 
     def try_singly(self, edit):
         before = cpu()
-        is_refused, text = RT.must_fail(self.crate, edit.file, ONE_JOB, self.kept)
+        refused, text = is_refused(self.crate, edit.file, ONE_JOB, self.kept)
         edit.seconds, edit.way = edit.seconds + cpu() - before, "single"
         said = text.partition(": ")[2]
-        if is_refused:
+        if refused:
             is_weak = "only because a proof file names" in said
             said = said.removeprefix("refused, as it must be").lstrip(": ") or "the crate is not proved"
             edit.refusal = f"the crate is not proved{WEAK}" if is_weak else said

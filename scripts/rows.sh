@@ -1,7 +1,7 @@
 #!/usr/bin/env bash
 # Runs each row of tests/rows on the program as LLVM and as Rattle's own compiler build it.
 #
-# rows.sh [NAME..]: all rows, or those of these names. A row is a case as scripts/case.sh says, with the file `stdout`,
+# rows.sh [--program FILE] [NAME..]: all rows, or those of these names, on both programs or on that file alone. A row is a case as scripts/case.sh says, with the file `stdout`,
 # what is printed and what `after` prints behind it, and `status`, where that isn't 0. Standard error stays empty.
 #
 # A row of several steps has `steps` in place of `args`, `stdin`, `stdout` and `status`: a transcript, as in the documents. A line
@@ -11,7 +11,13 @@
 set -eu
 top=$(dirname "$(dirname "$(readlink -f "$0")")")
 out=$top/crates/dmstack/out
-"$top/scripts/built.sh" dmstack dmstack.by-rattle
+programs=("$out/dmstack" "$out/dmstack.by-rattle")
+if [ "${1-}" = --program ]; then
+    programs=("$(realpath "$2")")
+    shift 2
+else
+    "$top/scripts/built.sh" dmstack dmstack.by-rattle
+fi
 room=$(mktemp -d)
 trap 'rm -rf "$room"' EXIT
 . "$top/scripts/case.sh"
@@ -22,14 +28,14 @@ passed=0 failed=0
 check() {
     local row=$top/tests/rows/$1 wanted=0
     [ ! -e "$row/status" ] || wanted=$(cat "$row/status")
-    run_case "$row" timeout 60 "$out/$2"
+    run_case "$row" timeout 60 "$2"
     if [ "$case_status" != "$wanted" ]; then
-        echo "$1 ($2): status $case_status, and not $wanted"
+        echo "$1 (${2##*/}): status $case_status, and not $wanted"
     elif ! cmp -s "$row/stdout" "$room/out"; then
-        echo "$1 ($2): the output differs (< wanted, > printed)"
+        echo "$1 (${2##*/}): the output differs (< wanted, > printed)"
         diff -a "$row/stdout" "$room/out" | head -n 20
     elif [ -s "$room/errors" ]; then
-        echo "$1 ($2): standard error has $(head -c 300 "$room/errors")"
+        echo "$1 (${2##*/}): standard error has $(head -c 300 "$room/errors")"
     else
         return 0
     fi
@@ -56,13 +62,13 @@ check_steps() {
     local row=$top/tests/rows/$1 command='' input='' wanted='' same=0 line
     rm -rf "$room/files" "$room/bin"
     mkdir "$room/files" "$room/bin"
-    ln -s "$out/$2" "$room/bin/dmstack"
+    ln -s "$2" "$room/bin/dmstack"
     [ ! -e "$row/files" ] || cp -R "$row/files/." "$room/files"
     [ ! -e "$row/before" ] || (cd "$room/files" && bash "$row/before")
     while IFS= read -r line; do
         case $line in
         '$ '*)
-            finish "$1 ($2)"
+            finish "$1 (${2##*/})"
             command=${line#'$ '}
             ;;
         '> '*) input+=${line#'> '}$'\n' ;;
@@ -70,14 +76,14 @@ check_steps() {
         *) wanted+=$line$'\n' ;;
         esac
     done < "$row/steps"
-    finish "$1 ($2)"
+    finish "$1 (${2##*/})"
     return $same
 }
 
 for name in "$@"; do
     form=check
     [ ! -e "$top/tests/rows/$name/steps" ] || form=check_steps
-    for program in dmstack dmstack.by-rattle; do
+    for program in "${programs[@]}"; do
         if $form "$name" "$program"; then passed=$((passed + 1)); else failed=$((failed + 1)); fi
     done
 done

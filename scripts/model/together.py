@@ -5,18 +5,16 @@ optimised, so this number stands in the file as it is.
 """
 import os
 
-from kit import RT, TOP
-from planted import read_edit
+from kit import TOP, crates as crates_of, texts_of_edit
+from planted import edit_file, read_edit
 
 NONE = 0x5A17C0DE5A170000
 CHOICE = "\nfn planted_bug() -> u64 {\n    %d\n}\n" % NONE
 
 
 def edit_of(bug, crates):
-    crate, folder, name = bug.split("/")
-    it = crates[crate]
-    file = f"{it.folder}/{folder}/{name}.edit"
-    return read_edit(it, file), RT.read_edit(file, it.folder)[0]
+    it, file = crates[bug.split("/")[0]], edit_file(bug)
+    return read_edit(it, file), texts_of_edit(file, it.folder)[0]
 
 
 def chosen_bodies(old, function, bodies):
@@ -37,7 +35,7 @@ def with_all(old, changes):
 
 def plant(bugs, top):
     """Plants the bugs in a copy of the sources; their numbers, of those that change the body of one function."""
-    crates = {it.name: it for it in RT.rtlib.crates_below(TOP)}
+    crates = {it.name: it for it in crates_of()}
     numbers, files = {}, {}
     for bug in bugs:
         edit, texts = edit_of(bug, crates)

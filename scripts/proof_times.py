@@ -1,0 +1,62 @@
+#!/usr/bin/env python3
+"""Says what the proof of a crate costs: its seconds of processor time from nothing, and its costliest functions.
+
+    proof_times.py [--most 3] CRATE..
+
+The libraries below are built first where they aren't. Each crate is checked alone, by one job, so that the time between two
+of the checker's lines is that of the function in the second one, with the modules that only it asked for.
+"""
+import argparse
+import os
+import re
+import resource
+import subprocess
+import sys
+import tempfile
+import time
+
+sys.dont_write_bytecode = True
+from build import in_chains
+from kit import TOP, begin, crate_of, words_of_check
+
+
+def cpu():
+    used = resource.getrusage(resource.RUSAGE_CHILDREN)
+    return used.ru_utime + used.ru_stime
+
+
+def times_of(crate, kept):
+    """The seconds of each function, the dearest first, and whether the crate is proved."""
+    found, last, is_proved = [], time.monotonic(), False
+    how = {"cwd": crate.folder, "stdin": subprocess.DEVNULL, "stdout": subprocess.PIPE, "stderr": subprocess.STDOUT, "text": True}
+    with subprocess.Popen(words_of_check(crate, ["--jobs", "1", "--progress"], kept), **how) as running:
+        for line in running.stdout:
+            told = re.match(r"checked (\S+), \d+ of \d+", line)
+            if told:
+                found.append((time.monotonic() - last, told[1]))
+                last = time.monotonic()
+            is_proved = is_proved or line.startswith("logic=proved")
+    return sorted(found, reverse=True), is_proved
+
+
+def main():
+    parser = argparse.ArgumentParser(description=__doc__, formatter_class=argparse.RawDescriptionHelpFormatter)
+    parser.add_argument("crates", nargs="+", metavar="CRATE")
+    parser.add_argument("--most", type=int, default=3, help="how many functions of each are printed")
+    words = parser.parse_args()
+    os.chdir(TOP)
+    begin()
+    for crate in map(crate_of, words.crates):
+        below = [it for it in crate.below() if not it.is_built()]
+        if not in_chains(below, lambda it, jobs: it.build_rlib(["--jobs", str(jobs)], anew=False) == 0):
+            return 1
+        before = cpu()
+        with tempfile.TemporaryDirectory(prefix="times-") as kept:
+            found, is_proved = times_of(crate, kept)
+        dearest = ", ".join(f"{name.split('::', 1)[1]} {seconds:.0f}" for seconds, name in found[: words.most])
+        print(f"{crate.name}: {cpu() - before:.0f} s, {len(found)} functions{'' if is_proved else ', NOT PROVED'}; {dearest}", flush=True)
+    return 0
+
+
+if __name__ == "__main__":
+    sys.exit(main())
