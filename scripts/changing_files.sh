@@ -78,6 +78,14 @@ check 'the image has the sectors up to the one that was written' test "$(wc -c <
 
 # An image is overwritten: what is read is what stands there now, and a verified block isn't served. Its removal, and another
 # file under its name, aren't seen: the file that was opened is served.
+filled 7 8 > a
+begin A=ro:a
+ask 'load a,,,ro,0 8 linear A 0' 'loaded 1'
+ask 'read a 5 1' '5 all 07'
+{ filled 11 1; filled 0 1; } | dd of=a bs=512 seek=5 conv=notrunc status=none
+ask 'read a 5 2' '5 all 09' '6 all 00'
+ask 'read a 7 1' '7 all 07'
+end 0
 python3 - << 'END'
 from hashlib import sha256
 data = [bytes([k + 1]) * 512 for k in range(2)]

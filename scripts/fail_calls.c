@@ -1,7 +1,8 @@
 // Fails call number FAIL (from 1) of the kind FAIL_KIND of the program that it is loaded into: `device` counts positioned reads
 // and writes and syncs, `input` reads of standard input, `output` writes of standard output, `text` other reads, and each fails
 // with EIO. `short` and `interrupted` count all of these but the syncs; such a call moves one byte, or is interrupted. The file
-// FAIL_MET then says which call it was and of which file.
+// FAIL_MET then says which call it was, how many whole sectors positioned reads and writes had asked for, it included, and of
+// which file.
 #define _GNU_SOURCE
 #include <dlfcn.h>
 #include <errno.h>
@@ -14,12 +15,16 @@
 
 static ssize_t (*real_write)(int, const void *, size_t);
 
+// What positioned reads and writes asked for so far, in bytes.
+static size_t asked_to_read, asked_to_write;
+
 static void tell(const char *call, int fd) {
     const char *met = getenv("FAIL_MET");
-    char name[64], path[4096], line[4200];
+    char name[64], path[4096], line[4300];
     snprintf(name, sizeof name, "/proc/self/fd/%d", fd);
     ssize_t length = readlink(name, path, sizeof path);
-    int size = snprintf(line, sizeof line, "%s %.*s\n", call, (int)(length < 0 ? 0 : length), path);
+    int size = snprintf(line, sizeof line, "%s %zu %zu %.*s\n", call, asked_to_read / 512, asked_to_write / 512,
+                        (int)(length < 0 ? 0 : length), path);
     int file = met ? open(met, O_WRONLY | O_CREAT | O_TRUNC, 0644) : -1;
     if (file < 0 || real_write(file, line, size) != size)
         abort();
@@ -67,6 +72,7 @@ static int sync_fails(int fd) {
 
 ssize_t pread64(int fd, void *bytes, size_t n, off64_t at) {
     REAL(ssize_t, "pread64", int, void *, size_t, off64_t);
+    asked_to_read += n;
     return fails("device", "read", fd, &n) ? -1 : real(fd, bytes, n, at);
 }
 
@@ -74,6 +80,7 @@ ssize_t pread(int fd, void *bytes, size_t n, off_t at) { return pread64(fd, byte
 
 ssize_t pwrite64(int fd, const void *bytes, size_t n, off64_t at) {
     REAL(ssize_t, "pwrite64", int, const void *, size_t, off64_t);
+    asked_to_write += n;
     return fails("device", "write", fd, &n) ? -1 : real(fd, bytes, n, at);
 }
 

@@ -9,8 +9,12 @@ its input and of texts and writes of its output: in each run one of them fails. 
 byte, or is interrupted: no answer shows it.) A session must answer, up to the line that met the failure,
 what it answers without one; that line is refused (`no memory`, or the fault of the right device); and the lines behind it, and
 the files at the end, are what the model of scripts/model says over the files as the failure left them, in which each sector
-holds what it held before that line or what the line was to write. Another command must name the failure, and answer, when it
-is made again, as without one.
+holds what it held before that line or what the line was to write. (A line `moved` counts what the files were asked for, that
+line included, so the leaves are files.) Another command must name the failure, and answer, when it is made again, as without one.
+
+Where a case has the file `calls`, this has a line for each positioned read and write and each sync, in their order: which call
+it is, of which leaf, how many sectors were asked for by then, read and written, and, where it fails, the sums (FNV-1a in 32
+bits) of what all leaves hold afterwards. scripts/failing_writes.py writes such cases.
 """
 import argparse
 import copy
@@ -50,6 +54,14 @@ def all_allow(replies, lines):
     return len(replies) == len(lines) and all(map(allows, replies, lines))
 
 
+def sum_of(data):
+    """FNV-1a in 32 bits."""
+    it = 0x811C9DC5
+    for byte in data:
+        it = (it ^ byte) * 0x01000193 % 2**32
+    return b"%08x" % it
+
+
 def read_file(path):
     with open(path, "rb") as it:
         return it.read()
@@ -74,12 +86,14 @@ class Case:
         # Where a checked block can't be kept for want of memory, the answer is that of the block as it was read.
         before = read_file(f"{self.folder}/before") if os.path.exists(f"{self.folder}/before") else b""
         self.may_keep = b" verity " in self.given + before and b"--cache=0" not in self.words
+        self.calls = lines_of(read_file(f"{self.folder}/calls")) if os.path.exists(f"{self.folder}/calls") else None
 
     def is_session(self):
         return self.words[0] == b"session"
 
     def run(self, kind="", number=0, given=None, again=False):
-        """The output, the status, and what failed of which file (or None), with the call of that number failing."""
+        """The output, the status, and what failed (or None), with the call of that number failing: which call, of which file,
+        and the sectors asked for until then."""
         folder, met = f"{self.room}/files", f"{self.room}/met"
         if not again:
             shutil.rmtree(folder, ignore_errors=True)
@@ -93,14 +107,28 @@ class Case:
                               env={**os.environ, **failing}, capture_output=True, timeout=20, check=False)
         if done.stderr:
             raise Wrong(f"an error output: {done.stderr[:200]}")
-        what = tuple(read_file(met).rstrip(b"\n").split(b" ", 1)) if os.path.exists(met) else None
+        what = read_file(met).rstrip(b"\n").split(b" ", 3) if os.path.exists(met) else None
+        if what and kind != "memory":
+            what = what[0], what[3], int(what[1]), int(what[2])
         return done.stdout, done.returncode, what
+
+    def leaves(self):
+        """The files that are bound to leaves, and the leaves' names."""
+        words = cut_words(self.words[1:], OPTIONS[self.words[0].decode()])[1]
+        bound_words = [it.partition(b"=") for it in words if b"=" in it]
+        return [file.partition(b":")[2] for _, _, file in bound_words], [name for name, _, _ in bound_words]
 
     def leaf(self, path):
         """The number of the leaf that is bound to a file."""
-        words = cut_words(self.words[1:], OPTIONS[self.words[0].decode()])[1]
-        files = [it.partition(b"=")[2].partition(b":")[2] for it in words if b"=" in it]
-        return files.index(os.path.basename(path)) + 1
+        return self.leaves()[0].index(os.path.basename(path)) + 1
+
+    def check_call(self, number, what):
+        """Whether the call that failed is the one that the case's file names, and left what this says."""
+        files, names = self.leaves()
+        sums = [sum_of(read_file(f"{self.room}/files/{it.decode()}")) for it in files]
+        found = b" ".join([what[0], names[self.leaf(what[1]) - 1], b"%d %d" % what[2:], *sums])
+        if self.calls[number - 1 : number] != [found]:
+            raise Wrong(f"{self.calls[number - 1 : number]} in the file calls, and not {found}")
 
 
 class Modelled:
@@ -138,7 +166,8 @@ class Modelled:
     def rest(self, state, number):
         """What the lines behind a line answer from a state on, and the files then."""
         session, nodes = state
-        key = number, session.tickets, tuple(sorted(session.in_flight)), tuple(map(bytes, nodes.values()))
+        moved = session.stack.moved.reads, session.stack.moved.writes
+        key = number, session.tickets, moved, tuple(sorted(session.in_flight)), tuple(map(bytes, nodes.values()))
         if key not in self.rests:
             replies = [it for line in self.lines[number + 1 :] for it in session.reply(line)]
             self.rests[key] = replies, {name: bytes(node) for name, node in nodes.items()}
@@ -170,8 +199,9 @@ class Modelled:
         """What may follow a line that met want of memory: replies and files."""
         return [self.rest(state, number) for state in self.ended(number)]
 
-    def after_device(self, number, kind, call):
-        """What follows a line that met a device's failure: replies and files."""
+    def after_device(self, number, kind, call, asked):
+        """What follows a line that met a device's failure, where the files were asked for so many sectors by then: replies and
+        files."""
         given = b"\n".join(self.lines[: number + 1]) + b"\n"
         self.case.run(kind, call, given)
         session, nodes = self.state(number)
@@ -183,6 +213,8 @@ class Modelled:
                 if left[part] not in (node[part], later[name][part]):
                     raise Wrong(f"sector {at // 512} of {name.decode()} is neither as it was nor as it was to be")
             node[:] = left
+        moved = session.stack.moved = copy.copy(self.states[number + 1][0].stack.moved)
+        moved.reads, moved.writes = asked
         words = self.lines[number].split()
         if words[0] == b"step":
             del session.in_flight[int(words[1])]
@@ -230,7 +262,7 @@ def check_session(case, model, kind, number, ran):
     wanted = b"no memory" if kind == "memory" else b"fault 3 Device %d" % case.leaf(what[1])
     if lines[at : at + 1] != [wanted]:
         raise Wrong(f"line {failing + 1}: {lines[at : at + 1]} in place of {wanted}")
-    ends = model.after_memory(failing) if kind == "memory" else [model.after_device(failing, kind, number)]
+    ends = model.after_memory(failing) if kind == "memory" else [model.after_device(failing, kind, number, what[2:])]
     if kind == "device":
         case.run(kind, number)
     held = {name: read_file(f"{case.room}/files/{name.decode()}") for name in model.nodes}
@@ -273,8 +305,12 @@ def sweep(case, kind, check):
     for number in range(1, MOST):
         ran = case.run(kind, number)
         if ran[2] is None:
+            if kind == "device" and case.calls and len(case.calls) != number - 1:
+                raise Wrong(f"{number - 1} calls, and not the {len(case.calls)} of the file calls")
             return number - 1
         try:
+            if kind == "device" and case.calls:
+                case.check_call(number, ran[2])
             check(kind, number, ran)
         except Wrong as wrong:
             raise Wrong(f"{kind} {number} ({ran[2]}): {wrong}") from None

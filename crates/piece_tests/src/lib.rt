@@ -1,12 +1,8 @@
-//! Tests of pieces that are read from stacks and written to them, over public calls. They stand in a crate of their own, since a
-//! crate with tests is proved twice.
+//! Tests of stacks that no word of the program reaches, over public calls. They stand in a crate of their own, since a crate with
+//! tests is proved twice.
 #![tactic(auto)]
 
 #[cfg(test)]
-mod crypt;
+mod leaves;
 #[cfg(test)]
-mod reads;
-#[cfg(test)]
-mod units;
-#[cfg(test)]
-mod writes;
+mod syncs;

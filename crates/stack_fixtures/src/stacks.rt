@@ -62,9 +62,3 @@ pub fn cached_stack_of<D: BlockDev + Drop>(
     let devices = pair(alloc, a, b)?;
     stack_over(alloc, leaves, devices, text, capacity)
 }
-
-/// Whether the text's devices were loaded.
-pub fn loads<D: BlockDev>(alloc: Global, stack: &mut Stack<D>, text: &[u8]) -> Result<bool, Fail> {
-    let text = parsed(alloc, text)?;
-    Ok(stack.load(&text).is_ok())
-}

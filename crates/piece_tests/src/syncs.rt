@@ -1,0 +1,24 @@
+// Which leaves a sync asks.
+use block_device::{FailAt, MemoryDev};
+use stack_engine::IoFault;
+use stack_fixtures::pieces::write_to;
+use stack_fixtures::stacks::stack_of;
+use std::test::Fail;
+
+// A sync is a call that a failing device counts: only leaves that were written are asked, in order up to the first fault.
+#[test]
+fn syncs_the_leaves_that_were_written(rt: HostRuntime) -> Result<(), Fail> {
+    let alloc = rt.alloc();
+    let a = FailAt::new(MemoryDev::zeros(alloc, 8, true)?, 2);
+    let b = FailAt::new(MemoryDev::zeros(alloc, 8, true)?, 2);
+    let mut stack = stack_of(alloc, a, b, b"a,,,rw,0 8 linear A 0;b,,,rw,0 8 linear B 0")?;
+    assert!(rt; stack.sync() == Ok(()));
+    assert!(rt; write_to(&mut stack, b"a", 2, &[1; 512]) == Some(Ok(())));
+    assert!(rt; write_to(&mut stack, b"b", 2, &[1; 512]) == Some(Ok(())));
+    assert!(rt; stack.sync() == Err(IoFault::Device(1)));
+    assert!(rt; stack.sync() == Err(IoFault::Device(2)));
+    assert!(rt; stack.sync() == Ok(()));
+    let (config, devices) = stack.into_parts();
+    assert!(rt; config.count() == 2 && devices.len() == 2);
+    Ok(())
+}
