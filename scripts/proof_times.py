@@ -1,9 +1,10 @@
 #!/usr/bin/env python3
 """Says what the proof of a crate costs: its seconds of processor time from nothing, and its costliest functions.
 
-    proof_times.py [--most 3] CRATE..
+    proof_times.py [--most 3] [--built] CRATE..
 
-The libraries below are built first where they aren't. Each crate is checked alone, by one job, so that the time between two
+The libraries below are built first where they aren't; with --built what stands in out/ is taken as it is, where `rt ci` has just
+made it. Each crate is checked alone, by one job, so that the time between two
 of the checker's lines is that of the function in the second one, with the modules that only it asked for.
 """
 import argparse
@@ -43,11 +44,12 @@ def main():
     parser = argparse.ArgumentParser(description=__doc__, formatter_class=argparse.RawDescriptionHelpFormatter)
     parser.add_argument("crates", nargs="+", metavar="CRATE")
     parser.add_argument("--most", type=int, default=3, help="how many functions of each are printed")
+    parser.add_argument("--built", action="store_true", help="take the libraries in out/ as they are")
     words = parser.parse_args()
     os.chdir(TOP)
     begin()
     for crate in map(crate_of, words.crates):
-        below = [it for it in crate.below() if not it.is_built()]
+        below = [] if words.built else [it for it in crate.below() if not it.is_built()]
         if not in_chains(below, lambda it, jobs: it.build_rlib(["--jobs", str(jobs)], anew=False) == 0):
             return 1
         before = cpu()

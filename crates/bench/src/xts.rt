@@ -1,13 +1,12 @@
 // XTS over 16 MiB of units under keys of 32 bytes each, in megabytes a second of processor time.
 ghost use Rattle.std.specs.Prelude.{◌≡◌, ◌<◌, ◌%◌};
 
+use crate::medians::{RUNS, median};
 use anyhow::{Context, Result, bail};
 use std::time::CpuClock;
 use xts_sector::XtsKey;
 
 const BYTES: usize = 16_777_216;
-
-const RUNS: usize = 15;
 
 /// Prints the medians for units of 512 and of 4,096 bytes, encrypted and decrypted in turn.
 pub fn measure<R: CpuClock + Print + AllocGlobal>(rt: &R) -> Result<()> {
@@ -54,8 +53,6 @@ fn measure_units<R: CpuClock + Print + AllocGlobal>(
 }
 
 /// The bytes by the median of the times, which are in microseconds.
-fn speed(mut times: Vec<u128>) -> u128 {
-    times.sort_unstable();
-    let time = times.get(RUNS / 2).copied().unwrap_or(0);
-    BYTES as u128 / time.max(1)
+fn speed(times: Vec<u128>) -> u128 {
+    BYTES as u128 / median(times).max(1)
 }
