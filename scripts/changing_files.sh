@@ -76,6 +76,41 @@ end 0
 check 'the other image is as it was' cmp b kept
 check 'the image has the sectors up to the one that was written' test "$(wc -c < a)" = 3072
 
+# What is gone when it is read and there again: a request that failed has no sectors, also those that were read before, it counts
+# in `moved` as what was asked for, and the next one is served, as is one that was in flight.
+python3 -c 'import sys; sys.stdout.buffer.write(b"".join(bytes([k]) * 512 for k in range(256)))' > ramp
+cp ramp first
+cp ramp second
+begin A=rw:first B=rw:second
+ask 'load a,,,rw,0 4 linear A 2,4 4 zero' 'loaded 1'
+truncate -s 2560 first
+ask 'read a 3 2' 'fault 3 Device 1'
+cp ramp first
+ask 'read a 3 2' '3 all 05' '4 all 00'
+ask moved 'moved 2 0'
+ask 'load a,,,rw,0 4 linear A 0,4 4 linear B 0' 'loaded 1'
+truncate -s 0 second
+ask 'read a 2 4' 'fault 3 Device 2'
+cp ramp second
+ask 'read a 4 1' '4 all 00'
+ask moved 'moved 7 0'
+ask 'load a,,,rw,0 256 linear B 0' 'loaded 1'
+truncate -s 65536 second
+ask 'read a 0 200' 'fault 3 Device 2'
+cp ramp second
+ask 'read a 255 1' '255 all ff'
+ask moved 'moved 208 0'
+ask 'submit read a 0 200' 'ticket 7'
+ask 'submit read a 255 1' 'ticket 8'
+ask 'step 7' more
+truncate -s 65536 second
+ask 'step 7' 'fault 3 Device 2'
+ask 'step 7' 'refused 1 NoSuchTicket'
+cp ramp second
+ask 'step 8' '255 all ff'
+ask moved 'moved 409 0'
+end 0
+
 # An image is overwritten: what is read is what stands there now, and a verified block isn't served. Its removal, and another
 # file under its name, aren't seen: the file that was opened is served.
 filled 7 8 > a

@@ -1,129 +1,103 @@
-//! What no session shows, which reads stack texts alone: tables as texts of their own, and what a stack text gives.
-mod rows;
-
-use dm_table::{ParseFault, StackText, Target};
-use rows::{CRYPT, EACH_TARGET, HIDDEN, VERITY};
+// What no command prints or reads: tables as texts of their own, keys, and the stack of one table.
+use dm_table::StackText;
 use std::alloc::Global;
+use std::rt::HostRuntime;
 use std::test::Fail;
 use table_printer::print_table;
-use table_reader::{parse_stack, parse_table};
+use table_reader::parse_table;
 
 const SPELLED: &str =
     "0 8 linear D 2\n8 32 striped 2 8 A 0 /dev/mapper/b 16\n40 1 error\n41 18446744073709551615 zero\n";
 
-// The table, copied and printed, or what its fault is printed as.
-fn table_text(alloc: Global, text: &str, show_keys: bool) -> Result<Vec<u8>, Fail> {
+/// A line of each target.
+const EACH: &str = "0 8 striped 1 8 D 3
+8 1 linear E 1
+9 1 zero
+10 1 error
+11 8 crypt aes-xts-plain64 052a4f7499bee3082d52779cc1e60b30557a9fc4e90e33587da2c7ec11365b80 0 D 0 2 no_read_workqueue allow_discards
+19 8 verity 1 D /dev/mapper/tree 4096 512 1 1 sha256 093e73a8dd12477cb1e61b5085baef24598ec3f82d6297cc01366ba0d50a3f74 0a0b 1 ignore_zero_blocks
+";
+
+/// Tables, and what they are printed as with their keys, or their first fault. Behind `single` stands the name of a device
+/// whose table is then the only one of a stack.
+static TEXTS: [(&str, &str); 21] = [
+    ("# x\n\n0 08 linear D 02", "0 8 linear D 2\n"),
+    ("0 21474836480 zero", "0 21474836480 zero\n"),
+    (SPELLED, SPELLED),
+    (
+        "0 8 linear D 2\r\n8 32 striped 2 8 A 0 /dev/mapper/b 16\r\n40 1 error\r\n41 18446744073709551615 zero\r\n",
+        SPELLED,
+    ),
+    (
+        "\t 00  08\r\tlinear   D 0002 \r\n\n  # note\n8\t0000000000000000000000000000032 striped 02 08 A 00 /dev/mapper/b 016\r\n \t\r\n40 1 error\n#\n41 018446744073709551615 zero",
+        SPELLED,
+    ),
+    (EACH, EACH),
+    (
+        "0 8 crypt aes-xts-plain64 052A4F7499BEE3082D52779CC1E60B30557A9FC4E90E33587DA2C7EC11365B80 07 /dev/mapper/low 18446744073709551615",
+        "0 8 crypt aes-xts-plain64 052a4f7499bee3082d52779cc1e60b30557a9fc4e90e33587da2c7ec11365b80 7 /dev/mapper/low 18446744073709551615\n",
+    ),
+    (
+        "0 8 crypt aes-xts-plain64 ab0661bc1772cd2883de3994ef4aa5005bb6116cc7227dd8338ee9449ffa55b00B66C11C77D22D88E33E99F44FAA0560BB1671CC2782DD3893EE49A4FF5AB510 0 D 0",
+        "0 8 crypt aes-xts-plain64 ab0661bc1772cd2883de3994ef4aa5005bb6116cc7227dd8338ee9449ffa55b00b66c11c77d22d88e33e99f44faa0560bb1671cc2782dd3893ee49a4ff5ab510 0 D 0\n",
+    ),
+    (
+        "0 8 verity 01 D /dev/mapper/tree 0512 01024 0 0018446744073709551615 sha256 093E73A8DD12477CB1E61B5085BAEF24598EC3F82D6297CC01366BA0D50A3F74 AB",
+        "0 8 verity 1 D /dev/mapper/tree 512 1024 0 18446744073709551615 sha256 093e73a8dd12477cb1e61b5085baef24598ec3f82d6297cc01366ba0d50a3f74 ab\n",
+    ),
+    ("0 8 linear a,b 0", "entry 0, line 1: Name"),
+    ("", "entry 0, line 0: Fields"),
+    ("\n# c\n0 8 foo", "entry 0, line 3: Target"),
+    ("!,;\0", "entry 0, line 0: NotText"),
+    ("0 8 zero\x0b", "entry 0, line 0: NotText"),
+    ("# \x0c", "entry 0, line 0: NotText"),
+    ("0 8 zero\x1f", "entry 0, line 0: NotText"),
+    ("0 8 zero\\", "entry 0, line 0: NotText"),
+    ("0 8 zero\x7f", "entry 0, line 0: NotText"),
+    ("0 8 zero \u{80}", "entry 0, line 0: NotText"),
+    ("single one", "0 8 linear D 2\n8 8 zero\n"),
+    ("single a,b", "entry 1, line 0: Name"),
+];
+
+/// The table, copied and printed with its keys, or what its fault is printed as.
+fn table_text(alloc: Global, text: &str) -> Result<Vec<u8>, Fail> {
     if text.len() >= 1 << 24 {
-        return Err("a text of this size is not tried".into());
+        return Err(Fail::from("a text of this size is not tried"));
     }
     match parse_table(alloc, text.as_bytes()) {
-        Ok(table) => Ok(print_table(alloc, &table.try_clone(alloc)?, show_keys)?),
+        Ok(table) => Ok(print_table(alloc, &table.try_clone(alloc)?, true)?),
         Err(fault) => Ok(format!(in alloc; "{fault}")?.into_bytes()),
     }
 }
 
+/// What the only entry of the stack of one table is printed as, or what the fault of its name is.
+fn single_text(alloc: Global, name: &[u8]) -> Result<Vec<u8>, Fail> {
+    let table = parse_table(alloc, b"0 8 linear D 02\n8 8 zero".as_slice())?;
+    match StackText::single(alloc, name, true, table) {
+        Ok(stack) => match stack.as_slice() {
+            [entry] if stack.entries() == 1 && entry.number == 1 => {
+                Ok(print_table(alloc, &entry.table, false)?)
+            }
+            _ => Err(Fail::from("another entry")),
+        },
+        Err(fault) => Ok(format!(in alloc; "{fault}")?.into_bytes()),
+    }
+}
+
+/// Whether a table, or the name of a single one, has that text.
+fn is_printed(alloc: Global, text: &str, wanted: &str) -> Result<bool, Fail> {
+    let found = match text.strip_prefix("single ") {
+        Some(name) => single_text(alloc, name.as_bytes())?,
+        None => table_text(alloc, text)?,
+    };
+    Ok(found.as_slice() == wanted.as_bytes())
+}
+
 #[test]
 fn texts_of_tables(rt: HostRuntime) -> Result<(), Fail> {
-    for (text, want) in [
-        ("# x\n\n0 08 linear D 02", "0 8 linear D 2\n"),
-        ("0 21474836480 zero", "0 21474836480 zero\n"),
-        (SPELLED, SPELLED),
-        (
-            "0 8 linear D 2\r\n8 32 striped 2 8 A 0 /dev/mapper/b 16\r\n40 1 error\r\n41 18446744073709551615 zero\r\n",
-            SPELLED,
-        ),
-        (
-            "\t 00  08\r\tlinear   D 0002 \r\n\n  # note\n8\t0000000000000000000000000000032 striped 02 08 A 00 /dev/mapper/b 016\r\n \t\r\n40 1 error\n#\n41 018446744073709551615 zero",
-            SPELLED,
-        ),
-        ("", "entry 0, line 0: Fields"),
-        ("\n# c\n0 8 foo", "entry 0, line 3: Target"),
-        ("!,;\0", "entry 0, line 0: NotText"),
-        ("0 8 zero\x0b", "entry 0, line 0: NotText"),
-        ("# \x0c", "entry 0, line 0: NotText"),
-        ("0 8 zero\x1f", "entry 0, line 0: NotText"),
-        ("0 8 zero\\", "entry 0, line 0: NotText"),
-        ("0 8 zero\x7f", "entry 0, line 0: NotText"),
-        ("0 8 zero \u{80}", "entry 0, line 0: NotText"),
-    ] {
-        let got = table_text(rt.alloc(), text, false)?;
-        assert_eq!(rt; got.as_slice(), want.as_bytes(), "{text}");
-    }
-    for (show_keys, rows) in [(true, CRYPT), (false, HIDDEN), (true, VERITY)] {
-        for row in rows.lines() {
-            let (text, want) = row.split_once(" => ").ok_or("a row without `=>`")?;
-            let got = table_text(rt.alloc(), text, show_keys)?;
-            assert_eq!(rt; got.as_slice().trim_ascii_end(), want.as_bytes(), "{row}");
-        }
-    }
-    Ok(())
-}
-
-#[test]
-fn fields_of_entries(rt: HostRuntime) -> Result<(), Fail> {
-    let text =
-        b"; \n ;low , any text , 007 , ro , 0 4 zero;x,,,rw,0 9 striped 2 03 A 1 /dev/mapper/low 2".as_slice();
-    let stack = parse_stack(rt.alloc(), text)?;
-    let [low, x] = stack.as_slice() else {
-        return Err("two entries".into());
-    };
-    assert_eq!(rt;
-        (low.number, low.name.as_slice(), low.writable),
-        (3, b"low".as_slice(), false)
-    );
-    assert_eq!(rt; (x.number, x.writable), (4, true));
-    let [line] = x.table.lines() else {
-        return Err("one line".into());
-    };
-    assert_eq!(rt; (line.start, line.length), (0, 9));
-    let Target::Striped { chunk: 3, bases } = &line.target else {
-        return Err("another target".into());
-    };
-    let [first, second] = bases.as_slice() else {
-        return Err("two devices".into());
-    };
-    assert_eq!(rt;
-        (first.device.as_slice(), first.offset),
-        (b"A".as_slice(), 1)
-    );
-    assert_eq!(rt;
-        (second.device.as_slice(), second.offset),
-        (b"/dev/mapper/low".as_slice(), 2)
-    );
-    Ok(())
-}
-
-#[test]
-fn makes_a_stack_of_one_table(rt: HostRuntime) -> Result<(), Fail> {
     let alloc = rt.alloc();
-    let table = parse_table(alloc, EACH_TARGET.as_bytes())?;
-    let stack = StackText::single(alloc, b"one".as_slice(), true, table.try_clone(alloc)?)?;
-    let [entry] = stack.as_slice() else {
-        return Err("one entry".into());
-    };
-    assert_eq!(rt; (stack.entries(), entry.number), (1, 1));
-    let printed = print_table(alloc, &entry.table, true)?;
-    assert_eq!(rt; printed.as_slice(), EACH_TARGET.as_bytes());
-    let Err(fault) = StackText::single(alloc, b"a,b".as_slice(), true, table) else {
-        return Err("a comma in a name".into());
-    };
-    let text = format!(in alloc; "{fault}")?;
-    assert_eq!(rt; text.as_str(), "entry 1, line 0: Name");
-    Ok(())
-}
-
-// The example of the crate's README.
-#[test]
-fn reads_prints_and_names_a_fault(rt: HostRuntime) -> Result<(), Fail> {
-    let alloc = rt.alloc();
-    let table = parse_table(alloc, b"0 8 linear D 02\n8 8 zero".as_slice())?;
-    let text = print_table(alloc, &table, false)?;
-    assert_eq!(rt; text.as_slice(), b"0 8 linear D 2\n8 8 zero\n".as_slice());
-    let Err(ParseFault::Text(fault)) = parse_stack(alloc, b"a,,,rw,0 1 zero,1 1 no".as_slice())
-    else {
-        return Err("an unknown target".into());
-    };
-    assert_eq!(rt; (fault.entry, fault.line, fault.kind.number()), (1, 2, 6));
-    assert_eq!(rt; fault.kind.name(), "Target");
+    for (text, wanted) in &TEXTS {
+        assert!(rt; is_printed(alloc, text, wanted)?, "{text}");
+    }
     Ok(())
 }

@@ -1,6 +1,0 @@
-//! Tests of requests in flight, over public calls. They stand in a crate of their own, since a crate with tests is proved
-//! twice.
-#![tactic(auto)]
-
-#[cfg(test)]
-mod requests;
