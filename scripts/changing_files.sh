@@ -69,6 +69,10 @@ ask 'step 3' '0 all 01' '1 all 01' '2 all 01'
 ask 'read a 3 2' 'fault 3 Device 1'
 ask 'read a 3 1' '3 all 01'
 ask 'read b 7 1' '7 all 02'
+truncate -s 1800 a
+ask 'read a 3 1' 'fault 3 Device 1'
+ask 'read a 2 1' '2 all 01'
+filled 1 4 > a
 ask 'write a 5 1 cc' written
 ask 'read a 3 3' '3 all 01' '4 all 00' '5 all cc'
 ask 'load c,,,ro,0 256 linear A 0' 'loaded 1'

@@ -10,7 +10,8 @@ byte, or is interrupted: no answer shows it.) A session must answer, up to the l
 what it answers without one; that line is refused (`no memory`, or the fault of the right device); and the lines behind it, and
 the files at the end, are what the model of scripts/model says over the files as the failure left them, in which each sector
 holds what it held before that line or what the line was to write. (A line `moved` counts what the files were asked for, that
-line included, so the leaves are files.) Another command must name the failure, and answer, when it is made again, as without one.
+line included, so the leaves are files.) Another command must name the failure, and answer, when it is made again, as without one;
+a format that met one before its sync leaves no superblock.
 
 Where a case has the file `calls`, this has a line for each positioned read and write and each sync, in their order: which call
 it is, of which leaf, how many sectors were asked for by then, read and written, and, where it fails, the sums (FNV-1a in 32
@@ -272,6 +273,12 @@ def check_session(case, model, kind, number, ran):
     raise Wrong(f"behind line {failing + 1}: {lines[at + 1:][:20]}, in place of {ends[0][0][:20]}")
 
 
+def check_unfinished(case):
+    """No superblock stands before a tree that isn't finished."""
+    if read_file(f"{case.room}/files/{case.words[-1].decode()}").startswith(b"verity"):
+        raise Wrong("a superblock stands there")
+
+
 def check_command(case, plain, kind, ran):
     output, status, what = ran
     if kind == "memory" and ran[:2] == plain[:2]:
@@ -295,6 +302,8 @@ def check_command(case, plain, kind, ran):
             wanted = wanted[0], wanted[1] % case.leaf(what[1])
         if (status, output) != (wanted[0], wanted[1] + b"\n"):
             raise Wrong(f"status {status}, {output[-200:]}")
+        if case.words[0] == b"format" and what[0] != b"sync":
+            check_unfinished(case)
     again = case.run(again=True)
     if again[:2] != plain[:2]:
         raise Wrong(f"made again: status {again[1]}, {again[0][-200:]}")
