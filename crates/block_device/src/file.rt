@@ -195,27 +195,3 @@ impl SyncDev for FileDev {
         }
     }
 }
-
-#[cfg(test)]
-mod tests {
-    use super::*;
-    use std::test::Fail;
-
-    #[test]
-    fn a_refused_write_is_a_fault(rt: HostRuntime) -> Result<(), Fail> {
-        fs::write(&rt, "kept_open", [1u8; 1024].as_slice())?;
-        let file = File::open(&rt, "kept_open")?;
-        let metadata = file.metadata()?;
-        let mut dev = device_of(file, &metadata, true)?;
-        assert_eq!(rt; dev.sectors(), 2);
-        assert!(rt; dev.writable());
-        assert_eq!(rt; dev.write(0, &[2u8; 1024]), Err(DeviceFault));
-        assert_eq!(rt; (dev.writes(), dev.failures()), (2, 1));
-        assert_eq!(rt;
-            fs::read(&rt, "kept_open")?.as_slice(),
-            [1u8; 1024].as_slice()
-        );
-        fs::remove_file(&rt, "kept_open")?;
-        Ok(())
-    }
-}

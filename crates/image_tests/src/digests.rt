@@ -1,33 +1,33 @@
-// What no clause says: the digests of FIPS 180-4's examples, and those that Python's hashlib gives.
-ghost use Rattle.std.specs.Prelude.{◌≡◌, IfOk, vec_len};
-
-mod expected;
-
-use expected::VECTORS;
+//! Digests beside those of FIPS 180-4's examples and of Python's hashlib, of sizes and prefixes that no tree has.
 use sha2::{Digest, Sha256};
 use sha256_lanes::digest_eight;
 use std::alloc::{AllocError, Global};
 use std::test::Fail;
 
-const OF_ABC: [u8; 32] = [
-    0xba, 0x78, 0x16, 0xbf, 0x8f, 0x01, 0xcf, 0xea, 0x41, 0x41, 0x40, 0xde, 0x5d, 0xae, 0x22, 0x23,
-    0xb0, 0x03, 0x61, 0xa3, 0x96, 0x17, 0x7a, 0x9c, 0xb4, 0x10, 0xff, 0x61, 0xf2, 0x00, 0x15, 0xad,
+const OF_ABC: &str = "ba7816bf8f01cfea414140de5dae2223b00361a396177a9cb410ff61f20015ad";
+
+const OF_TWO_BLOCKS: &str = "248d6a61d20638b8e5c026930c3e6039a33ce45964ff2167f6ecedd419db06c1";
+
+const OF_A_MILLION: &str = "cdc76e5c9914fb9281a1c7e284d73e67f1809a48a497200e046d39ccc7112cd0";
+
+/// The lengths of a prefix and of a block, and the digest of the eight digests one after another. Byte i of a prefix is 7 i + 1, and
+/// byte i of block j 13 i + 31 j + 5, modulo 256.
+static VECTORS: [(usize, usize, &str); 11] = [
+    (0, 0, "da4974409dcfd785cec6321826272da5cf679e2d48a28bab45e77d489752a47b"),
+    (0, 1, "8f4d714dff7b5908f1f4ab9f86620b0129826d0544eee3858a556679270dab61"),
+    (0, 55, "e8cbb21a962701345656bf6430106e16af21ccfadd041a4cfd0b029afab3d7ae"),
+    (0, 56, "112d9ec99980f9ac22b235f6ff786834a5f9df04784aaf435a419f79ecc946dc"),
+    (0, 64, "97ee6f454306cba927f756c5b11f14a0f2198364ace9cf723fdd8089524d9934"),
+    (1, 63, "23c33e28b69b975d1161e82d151388361b49ea4ece578af7d2a1c30cc757b695"),
+    (32, 23, "d0b4fa8fb88c796df5c2f29574a3b067b1575ea99e126f790a2bc21ba2126211"),
+    (32, 24, "d8ce3d3123fc5e3c13759d4d41ad592c6d6a00f44a3e8baa90186e7a29e5e6d0"),
+    (32, 512, "96ccd8d2736bf4fb10e42feeecd26db24160207bbbe877b676cadacda03e407e"),
+    (256, 4096, "2a473bf9f511a0ee3c98af02a05376659a8b82fcdba8fc59e540a79492b8ba1b"),
+    (100, 119, "ba7d71cecc60f81464771a5920eec8e9f3d80efcb4ee4cf68b095f37aca869ae"),
 ];
 
-const OF_TWO_BLOCKS: [u8; 32] = [
-    0x24, 0x8d, 0x6a, 0x61, 0xd2, 0x06, 0x38, 0xb8, 0xe5, 0xc0, 0x26, 0x93, 0x0c, 0x3e, 0x60, 0x39,
-    0xa3, 0x3c, 0xe4, 0x59, 0x64, 0xff, 0x21, 0x67, 0xf6, 0xec, 0xed, 0xd4, 0x19, 0xdb, 0x06, 0xc1,
-];
-
-const OF_A_MILLION: [u8; 32] = [
-    0xcd, 0xc7, 0x6e, 0x5c, 0x99, 0x14, 0xfb, 0x92, 0x81, 0xa1, 0xc7, 0xe2, 0x84, 0xd7, 0x3e, 0x67,
-    0xf1, 0x80, 0x9a, 0x48, 0xa4, 0x97, 0x20, 0x0e, 0x04, 0x6d, 0x39, 0xcc, 0xc7, 0x11, 0x2c, 0xd0,
-];
-
-// That many bytes, each by `step` more than the one before, modulo 256.
-fn bytes_from(alloc: Global, first: u8, step: u8, len: usize) -> Result<Vec<u8>, AllocError>
-    ensures { IfOk result (λ bytes. vec_len bytes ≡ len) }
-{
+/// So many bytes, each by `step` more than the one before, modulo 256.
+fn bytes_from(alloc: Global, first: u8, step: u8, len: usize) -> Result<Vec<u8>, AllocError> {
     let mut bytes = Vec::new(alloc);
     let mut byte = first;
     for _ in 0..len {
@@ -38,43 +38,35 @@ fn bytes_from(alloc: Global, first: u8, step: u8, len: usize) -> Result<Vec<u8>,
 }
 
 #[test]
-fn examples_of_the_standard(rt: HostRuntime) -> Result<(), Fail> {
+fn digests_are_those_of_others(rt: HostRuntime) -> Result<(), Fail> {
+    let alloc = rt.alloc();
+    let of_abc = hex::decode(alloc, OF_ABC)?;
     let digests = digest_eight(b"ab", b"cdcecccc", 1);
-    assert_eq!(rt; digests[0], OF_ABC);
-    assert!(rt; digests[1] != OF_ABC);
-    assert_eq!(rt; digests[7], OF_ABC);
+    assert!(rt; digests[0].as_slice() == of_abc.as_slice() && digests[7].as_slice() == of_abc.as_slice());
+    assert!(rt; digests[1].as_slice() != of_abc.as_slice());
     let prefix = b"abcdbcdecdefdefgefghfghighijhijkijkljklmklmnlmnomnop";
-    let digests = digest_eight(prefix, b"nopqnopqnopqnopqnopqnopqnopqnopq", 4);
-    for digest in digests.iter() {
-        assert_eq!(rt; *digest, OF_TWO_BLOCKS);
-    }
-    let many = bytes_from(rt.alloc(), b'a', 0, 8_000_000)?;
-    let digests = digest_eight(&[], &many, 1_000_000);
-    for digest in digests.iter() {
-        assert_eq!(rt; *digest, OF_A_MILLION);
-    }
-    Ok(())
-}
-
-#[test]
-fn digests_of_hashlib(rt: HostRuntime) -> Result<(), Fail> {
-    for vector in VECTORS.iter() {
-        let prefix = bytes_from(rt.alloc(), 1, 7, vector.prefix)?;
-        let mut blocks = Vec::new(rt.alloc());
-        let mut first: u8 = 5;
-        for _ in 0..8_u32 {
-            let block = bytes_from(rt.alloc(), first, 13, vector.size)?;
-            blocks.extend_from_slice(&block)?;
-            first = first.wrapping_add(31);
+    let two = digest_eight(prefix, b"nopqnopqnopqnopqnopqnopqnopqnopq", 4);
+    let letters = bytes_from(alloc, b'a', 0, 8_000_000)?;
+    assert!(rt; letters.len() == 8_000_000);
+    let million = digest_eight(&[], &letters, 1_000_000);
+    for (digests, wanted) in [(two, OF_TWO_BLOCKS), (million, OF_A_MILLION)] {
+        let wanted = hex::decode(alloc, wanted)?;
+        for digest in digests.iter() {
+            assert!(rt; digest.as_slice() == wanted.as_slice());
         }
-        let mut hasher = Sha256::new();
-        if blocks.len() / 8 == vector.size && blocks.len() % 8 == 0 {
-            for digest in digest_eight(&prefix, &blocks, vector.size).iter() {
-                hasher.update(digest);
-            }
+    }
+    for (prefix_len, size, wanted) in &VECTORS {
+        let prefix = bytes_from(alloc, 1, 7, *prefix_len)?;
+        let mut blocks = Vec::new(alloc);
+        for j in 0..8_u8 {
+            blocks.extend_from_slice(&bytes_from(alloc, 5 + 31 * j, 13, *size)?)?;
         }
-        let digests: [u8; 32] = hasher.finalize();
-        assert_eq!(rt; digests, vector.digests);
+        assert!(rt; blocks.len() / 8 == *size && blocks.len() % 8 == 0);
+        let mut sum = Sha256::new();
+        for digest in digest_eight(&prefix, &blocks, *size).iter() {
+            sum.update(digest);
+        }
+        assert!(rt; sum.finalize().as_slice() == hex::decode(alloc, wanted)?.as_slice(), "{prefix_len} {size}");
     }
     Ok(())
 }

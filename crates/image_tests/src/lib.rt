@@ -1,14 +1,16 @@
-//! Tests of devices, hash trees and verity images, over their public calls. They stand in a crate of their own, since a
-//! crate with tests is proved twice.
+//! Tests of ciphers, digests, trees, caches, devices and `verity` lines, over public calls: what no word of the program reaches.
+//! They stand in a crate of their own, since a crate with tests is proved twice.
 #![tactic(auto)]
 
 #[cfg(test)]
 mod caches;
 #[cfg(test)]
+mod ciphers;
+#[cfg(test)]
 mod devices;
 #[cfg(test)]
 mod digests;
 #[cfg(test)]
-mod images;
-#[cfg(test)]
 mod trees;
+#[cfg(test)]
+mod verity;
