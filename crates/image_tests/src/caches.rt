@@ -2,10 +2,6 @@
 use std::test::Fail;
 use verified_cache::{BlockCache, Key};
 
-const DIGEST: [u8; 32] = [1; 32];
-
-const OTHER_DIGEST: [u8; 32] = [2; 32];
-
 /// Block `block` of line `line`.
 fn key_of(line: u32, block: u64) -> Key {
     Key {
@@ -16,46 +12,92 @@ fn key_of(line: u32, block: u64) -> Key {
     }
 }
 
-/// The first byte of what is found.
-fn found(cache: &mut BlockCache, key: Key, digest: &[u8; 32]) -> Option<u8> {
-    cache.find(key, digest)?.first().copied()
+/// The first byte of what is found, under the digest of which each byte is that one.
+fn found(cache: &mut BlockCache, key: Key, digest: u8) -> Option<u8> {
+    cache.find(key, &[digest; 32])?.first().copied()
 }
+
+/// What is kept, and under which digest; and what is then found of three blocks, in this order: where it was kept under
+/// another digest nothing, and that is no use. Blocks are of line 1 or 2.
+static CALLS: [(u32, u64, u8, u8, [(u32, u64, u8, Option<u8>); 3]); 6] = [
+    (
+        1,
+        1,
+        1,
+        10,
+        [(1, 1, 1, Some(10)), (1, 2, 1, None), (1, 1, 2, None)],
+    ),
+    (
+        1,
+        2,
+        1,
+        11,
+        [(1, 2, 2, None), (2, 1, 1, None), (1, 1, 1, Some(10))],
+    ),
+    (
+        2,
+        1,
+        1,
+        12,
+        [(1, 2, 1, None), (2, 1, 1, Some(12)), (1, 1, 2, None)],
+    ),
+    (
+        2,
+        2,
+        1,
+        13,
+        [(1, 1, 1, None), (2, 2, 1, Some(13)), (2, 1, 1, Some(12))],
+    ),
+    (
+        2,
+        1,
+        2,
+        14,
+        [(2, 1, 1, None), (2, 1, 2, Some(14)), (2, 2, 2, None)],
+    ),
+    (
+        1,
+        1,
+        1,
+        15,
+        [(2, 2, 1, None), (1, 1, 2, None), (2, 1, 2, Some(14))],
+    ),
+];
 
 #[test]
 fn the_least_recently_used_block_goes(rt: HostRuntime) -> Result<(), Fail> {
-    let alloc = rt.alloc();
-    let (a, b, c, d) = (key_of(1, 1), key_of(1, 2), key_of(2, 1), key_of(2, 2));
-    let mut cache = BlockCache::new(alloc, 2)?;
-    // What is kept under which digest, and what is then found of which blocks, in this order; a find under another digest
-    // is no use.
-    for (key, digest, byte, finds) in [
-        (a, DIGEST, 10u8, [(a, DIGEST, Some(10u8)), (b, DIGEST, None), (a, OTHER_DIGEST, None)]),
-        (b, DIGEST, 11, [(b, OTHER_DIGEST, None), (c, DIGEST, None), (a, DIGEST, Some(10))]),
-        (c, DIGEST, 12, [(b, DIGEST, None), (c, DIGEST, Some(12)), (a, OTHER_DIGEST, None)]),
-        (d, DIGEST, 13, [(a, DIGEST, None), (d, DIGEST, Some(13)), (c, DIGEST, Some(12))]),
-        (c, OTHER_DIGEST, 14, [(c, DIGEST, None), (c, OTHER_DIGEST, Some(14)), (d, OTHER_DIGEST, None)]),
-        (a, DIGEST, 15, [(d, DIGEST, None), (a, OTHER_DIGEST, None), (c, OTHER_DIGEST, Some(14))]),
-    ] {
-        cache.keep(key, digest, [byte].to_vec(alloc)?)?;
-        for (key, digest, wanted) in &finds {
-            assert!(rt; found(&mut cache, *key, digest) == *wanted, "behind {byte}");
+    let mut cache = BlockCache::new(rt.alloc(), 2)?;
+    for (line, block, digest, byte, finds) in &CALLS {
+        cache.keep(
+            key_of(*line, *block),
+            [*digest; 32],
+            [*byte].to_vec(rt.alloc())?,
+        )?;
+        for (line, block, digest, wanted) in finds {
+            assert!(rt;
+                found(&mut cache, key_of(*line, *block), *digest) == *wanted,
+                "behind {byte}"
+            );
         }
     }
     cache.forget_line(2, 2);
     cache.forget_line(1, 3);
     assert!(rt; cache.len() == 2);
     cache.forget_line(1, 2);
-    assert!(rt; found(&mut cache, c, &OTHER_DIGEST).is_none() && found(&mut cache, a, &DIGEST) == Some(15));
+    assert!(rt;
+        found(&mut cache, key_of(2, 1), 2).is_none()
+            && found(&mut cache, key_of(1, 1), 1) == Some(15)
+    );
     cache.forget_all();
-    assert!(rt; found(&mut cache, a, &DIGEST).is_none());
+    assert!(rt; found(&mut cache, key_of(1, 1), 1).is_none());
     for (capacity, kept) in [(0, 0), (1, 1), (65_536, 65_536), (u32::MAX, 65_540)] {
-        let mut cache = BlockCache::new(alloc, capacity)?;
+        let mut cache = BlockCache::new(rt.alloc(), capacity)?;
         for block in 0..65_540 {
-            cache.keep(key_of(0, block), DIGEST, [1].to_vec(alloc)?)?;
+            cache.keep(key_of(0, block), [1; 32], [1].to_vec(rt.alloc())?)?;
         }
         assert!(rt; cache.len() == kept && cache.capacity() == capacity);
-        let (first, last) = (found(&mut cache, key_of(0, 3), &DIGEST), found(&mut cache, key_of(0, 65_539), &DIGEST));
-        assert!(rt; first.is_some() == (kept > 65_536) && last.is_some() == (kept > 0));
+        assert!(rt; found(&mut cache, key_of(0, 3), 1).is_some() == (kept > 65_536));
+        assert!(rt; found(&mut cache, key_of(0, 65_539), 1).is_some() == (kept > 0));
         cache.forget_line(1, 0);
         assert!(rt; cache.len() == 0);
     }

@@ -1,4 +1,5 @@
 //! Whole trees in memory, where two chains differ, and shapes: calls and sizes of which the program makes no use.
+use crate::has_digits;
 use hash_tree::{Chain, Place, Salt, Shape, ShapeFault, area, collide, digest};
 use std::alloc::{AllocError, Global};
 use std::test::Fail;
@@ -30,14 +31,17 @@ fn areas_of_20001_digests(rt: HostRuntime) -> Result<(), Fail> {
         let shape = Shape::new(512, *hash_block, 20_001, 1)?;
         assert!(rt; digests.len() as u64 == shape.blocks());
         let (made, top) = area(alloc, &shape, &salt, &digests)?;
-        assert!(rt; top.as_slice() == hex::decode(alloc, root)?.as_slice());
-        assert!(rt; digest(&empty, &made).as_slice() == hex::decode(alloc, bytes)?.as_slice());
+        assert!(rt; has_digits(&top, root) && has_digits(&digest(&empty, &made), bytes));
     }
     Ok(())
 }
 
 /// A chain of two hash blocks and a content, each of one byte.
-fn chain_of(alloc: Global, index: u64, [top, below, content]: [u8; 3]) -> Result<Chain, AllocError> {
+fn chain_of(
+    alloc: Global,
+    index: u64,
+    [top, below, content]: [u8; 3],
+) -> Result<Chain, AllocError> {
     let mut path = Vec::new(alloc);
     path.push([top].to_vec(alloc)?).map_err(AllocError::from)?;
     path.push([below].to_vec(alloc)?).map_err(AllocError::from)?;
@@ -75,13 +79,19 @@ fn chains_and_shapes_are_told_apart(rt: HostRuntime) -> Result<(), Fail> {
         (5, [1, 2, 9], Some(Place::Content)),
         (6, [9, 9, 9], None),
     ] {
-        assert!(rt; collide(&expected, &chain_of(alloc, index, bytes)?) == place, "{index}");
+        assert!(rt;
+            collide(&expected, &chain_of(alloc, index, bytes)?) == place,
+            "{index}"
+        );
     }
     let mut shorter = chain_of(alloc, 5, [9; 3])?;
     shorter.path.truncate(1);
     assert!(rt; collide(&expected, &shorter).is_none());
     for (data_block, hash_block, blocks, start, fault) in SHAPES {
-        assert!(rt; Shape::new(data_block, hash_block, blocks, start).err() == fault, "{blocks} {start}");
+        assert!(rt;
+            Shape::new(data_block, hash_block, blocks, start).err() == fault,
+            "{blocks} {start}"
+        );
     }
     Ok(())
 }
