@@ -92,7 +92,8 @@ def in_chains(libraries, build):
     first those with the longest chain of others above. Returns whether all were built; after a failure none is begun.
 
     The first in that order gets a job for each processor, even where others are being built: the time of the whole is that of the
-    longest chain. The others get what is idle. The kit's own order gives each its share, and plans on twice the memory."""
+    longest chain. The others get what is idle. The kit's own order gives each its share, and plans on more than twice the memory
+    that a library's check was seen to take, which kept processors idle."""
     lanes, memory, behind = processors(), 0.85 * memory_free(), dict.fromkeys(libraries, 0)
     for it in reversed(libraries):
         behind[it] += it.count(rb"\n")
@@ -107,7 +108,7 @@ def in_chains(libraries, build):
                 is_first = all(behind[it] >= behind[other] for other, _, _ in running.values())
                 idle = lanes - sum(jobs for _, _, jobs in running.values())
                 room = memory - sum(needs for _, needs, _ in running.values())
-                needs = memory_needed(it)
+                needs = memory_needed(it) / 2
                 if len(running) < lanes and (not running or needs <= room):
                     jobs = max(1, min(lanes if is_first else idle, 1 + int((room / needs - 1) / 0.6)))
                     left.remove(it)
