@@ -19,7 +19,7 @@ fn found(cache: &mut BlockCache, key: Key, digest: u8) -> Option<u8> {
 
 /// What is kept, and under which digest; and what is then found of three blocks, in this order: where it was kept under
 /// another digest nothing, and that is no use. Blocks are of line 1 or 2.
-static CALLS: [(u32, u64, u8, u8, [(u32, u64, u8, Option<u8>); 3]); 6] = [
+const CALLS: [(u32, u64, u8, u8, [(u32, u64, u8, Option<u8>); 3]); 6] = [
     (
         1,
         1,
@@ -66,16 +66,14 @@ static CALLS: [(u32, u64, u8, u8, [(u32, u64, u8, Option<u8>); 3]); 6] = [
 
 #[test]
 fn the_least_recently_used_block_goes(rt: HostRuntime) -> Result<(), Fail> {
-    let mut cache = BlockCache::new(rt.alloc(), 2)?;
-    for (line, block, digest, byte, finds) in &CALLS {
-        cache.keep(
-            key_of(*line, *block),
-            [*digest; 32],
-            [*byte].to_vec(rt.alloc())?,
-        )?;
+    let alloc = rt.alloc();
+    let mut cache = BlockCache::new(alloc, 2)?;
+    for (line, block, digest, byte, finds) in CALLS {
+        let bytes = [byte].to_vec(alloc)?;
+        cache.keep(key_of(line, block), [digest; 32], bytes)?;
         for (line, block, digest, wanted) in finds {
             assert!(rt;
-                found(&mut cache, key_of(*line, *block), *digest) == *wanted,
+                found(&mut cache, key_of(line, block), digest) == wanted,
                 "behind {byte}"
             );
         }
@@ -91,9 +89,10 @@ fn the_least_recently_used_block_goes(rt: HostRuntime) -> Result<(), Fail> {
     cache.forget_all();
     assert!(rt; found(&mut cache, key_of(1, 1), 1).is_none());
     for (capacity, kept) in [(0, 0), (1, 1), (65_536, 65_536), (u32::MAX, 65_540)] {
-        let mut cache = BlockCache::new(rt.alloc(), capacity)?;
+        let mut cache = BlockCache::new(alloc, capacity)?;
         for block in 0..65_540 {
-            cache.keep(key_of(0, block), [1; 32], [1].to_vec(rt.alloc())?)?;
+            let bytes = [1].to_vec(alloc)?;
+            cache.keep(key_of(0, block), [1; 32], bytes)?;
         }
         assert!(rt; cache.len() == kept && cache.capacity() == capacity);
         assert!(rt; found(&mut cache, key_of(0, 3), 1).is_some() == (kept > 65_536));

@@ -133,7 +133,7 @@ static UNITS: [(usize, &str); 11] = [
 ];
 
 /// So many units, and the digest of what they are where their numbers, which pass 2^64 - 1, are 1 apart, or 8, or go down by 7.
-static CALLS: [(usize, &str); 9] = [
+static CALLS: [(u8, &str); 9] = [
     (
         0,
         "e3b0c44298fc1c149afbf4c8996fb92427ae41e4649b934ca495991b7852b855",
@@ -265,9 +265,9 @@ fn many_units(key: &XtsKey, plain: &[u8], step: u64, sum: &mut Sha256) -> bool {
 
 #[test]
 fn units_are_those_of_openssl(rt: HostRuntime) -> Result<(), Fail> {
-    let bytes = counted();
-    let long = XtsKey::new(&bytes).ok_or("a key was refused")?;
-    let short = XtsKey::new(&bytes[..32]).ok_or("a key was refused")?;
+    let keys = counted();
+    let long = XtsKey::new(&keys).ok_or("a key was refused")?;
+    let short = XtsKey::new(keys.get(..32).ok_or("no key")?).ok_or("a key was refused")?;
     let mut bytes = [0; 33 * 512];
     draw(&mut bytes);
     for (size, wanted) in &UNITS {
@@ -280,7 +280,7 @@ fn units_are_those_of_openssl(rt: HostRuntime) -> Result<(), Fail> {
         assert!(rt; has_digits(&sum.finalize(), wanted), "{size}");
     }
     for (count, wanted) in &CALLS {
-        let plain = &bytes[..(*count).min(33) * 512];
+        let plain = bytes.get(..512 * usize::from(*count)).ok_or("no units")?;
         let mut sum = Sha256::new();
         for step in [1, 8, u64::MAX - 6] {
             assert!(rt; many_units(&long, plain, step, &mut sum), "{count}");
