@@ -7,7 +7,6 @@ What stands in the crates' out/ is used where it still holds, as by `rt run`. Sa
 shows what rt said of a crate that isn't proved.
 """
 import os
-import re
 import signal
 import subprocess
 import sys
@@ -17,7 +16,7 @@ import time
 from concurrent.futures import FIRST_COMPLETED, ThreadPoolExecutor, wait
 
 sys.dont_write_bytecode = True
-from kit import TOP, begin, crate_of, lock, memory_free, memory_needed, processors
+from kit import PROVED, SO_FAR, TOP, begin, crate_of, lock, memory_free, memory_needed, processors
 
 PROGRAM = "dmstack"
 START = time.monotonic()
@@ -43,7 +42,7 @@ class Log:
 
     def write(self, text):
         self.text.append(text)
-        found = re.match(r"so far: (\d+) of (\d+) functions", text)
+        found = SO_FAR.match(text)
         if found and found[1] != "0":
             tell(f"{self.name}: {found[1]} of {found[2]} functions so far")
 
@@ -51,7 +50,7 @@ class Log:
         pass
 
     def count(self):
-        return len(re.findall(r"^fn \S+: proved", "".join(self.text), re.M))
+        return len(PROVED.findall("".join(self.text)))
 
 
 class Build:

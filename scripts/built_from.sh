@@ -1,7 +1,7 @@
-# Which sources a program was made from; read by dmstack and prove, which set `top` and `rt` (empty where there is no kit).
+# Which sources a program was made from; read by dmstack and prove, which set `top` and `rt`.
 #
-# A record holds the sum of the sources, their sizes and times, and those of the program: it stands where none has changed,
-# and where only times have changed, as after a checkout, the sum decides.
+# A record holds the sum of the sources, the program's size and time, and the sources' sizes and times: it stands where none of
+# these has changed, and where only the sources' times have, as after a checkout, the sum decides.
 
 # The processor that it is built for, where it isn't the kit's default: digests go three times as fast with AVX2.
 cpu=x86-64-v3 flags=
@@ -31,19 +31,29 @@ program_state() {
     find "$1" -type f -perm -u+x -printf '%s %T@\n' 2> /dev/null || :
 }
 
-# stands PROGRAM RECORD STATE: whether the program was made from the sources in this state.
+# stands PROGRAM: whether it was made from the sources as they are.
 stands() {
-    local record=()
-    [ -e "$2" ] || return 1
-    mapfile -d '' -t record < "$2"
+    local record=() now
+    [ -e "$1.from" ] || return 1
+    now=$(state)
+    mapfile -d '' -t record < "$1.from"
     [ "${record[1]-}" = "$(program_state "$1")" ] || return 1
-    [ "${record[2]-}" = "$3" ] || {
-        [ -n "${sum-}" ] || sum=$(sum)
-        [ "${record[0]-}" = "$sum" ] && keep_record "$1" "$2" "$sum" "$3"
-    }
+    [ "${record[2]-}" != "$now" ] || return 0
+    [ "${record[0]-}" = "$(sum)" ] || return 1
+    # It stands all the same where the record can't be written.
+    keep_record "$1" "${record[0]}" "$now" 2> /dev/null || :
 }
 
-# keep_record PROGRAM RECORD SUM STATE: writes the record of a program that was made from these sources.
+# keep_record PROGRAM SUM STATE: says of a program from which sources it was made.
 keep_record() {
-    printf '%s\0' "$3" "$(program_state "$1")" "$4" > "$2.new" && mv "$2.new" "$2"
+    printf '%s\0' "$2" "$(program_state "$1")" "$3" > "$1.from.$$" && mv "$1.from.$$" "$1.from"
+}
+
+# alone FILE NAME: waits until no other run holds the file, and says so where it has to.
+alone() {
+    exec 9> "$1"
+    flock -n 9 || {
+        echo "$2: waiting for another run of it" >&2
+        flock 9
+    }
 }

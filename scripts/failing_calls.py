@@ -314,11 +314,11 @@ def sweep(case, kind, check):
     for number in range(1, MOST):
         ran = case.run(kind, number)
         if ran[2] is None:
-            if kind == "device" and case.calls and len(case.calls) != number - 1:
+            if kind == "device" and case.calls is not None and len(case.calls) != number - 1:
                 raise Wrong(f"{number - 1} calls, and not the {len(case.calls)} of the file calls")
             return number - 1
         try:
-            if kind == "device" and case.calls:
+            if kind == "device" and case.calls is not None:
                 case.check_call(number, ran[2])
             check(kind, number, ran)
         except Wrong as wrong:

@@ -43,7 +43,7 @@ def copy_of_sources(to):
 def without_the_kit(top, room):
     tools = os.path.join(room, "tools")
     os.mkdir(tools)
-    for name in ("bash", "env", "cat", "dirname", "readlink", "find", "grep", "python3", "cc"):
+    for name in ("bash", "env", "cat", "dirname", "readlink", "find", "grep", "python3", "cc", "xxd"):
         os.symlink(shutil.which(name), os.path.join(tools, name))
     where = {"env": {"PATH": tools}}
     expect("no kit", run(top, "dmstack", **where), 1, b"", r"dmstack: not built yet, and rt, [^\n]*\n")
@@ -81,12 +81,13 @@ def on_a_full_disk(top):
 
 
 def main():
+    signal.signal(signal.SIGTERM, lambda *_: sys.exit(1))
     expect("first run", run(TOP, "dmstack", "session", "D=ramp:8"), 0, REPLIES, COMPILING + COMPILED)
     expect("second run", run(TOP, "dmstack", "session", "D=ramp:8"), 0, REPLIES, "")
     expect("a word for prove", run(TOP, "prove", "all"), 2, b"", r"prove: [^\n]*\n")
     expect("an unknown word for check", run(TOP, "check", "--every"), 2, b"", r"check: [^\n]*\n")
     with tempfile.TemporaryDirectory(prefix="first-run-") as room:
-        top = os.path.join(room, "copy")
+        top = os.path.join(room, "copy of all")
         os.mkdir(top)
         copy_of_sources(top)
         without_the_kit(top, room)

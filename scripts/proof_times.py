@@ -9,7 +9,6 @@ of the checker's lines is that of the function in the second one, with the modul
 """
 import argparse
 import os
-import re
 import resource
 import subprocess
 import sys
@@ -18,7 +17,7 @@ import time
 
 sys.dont_write_bytecode = True
 from build import in_chains
-from kit import TOP, begin, crate_of, words_of_check
+from kit import ALL_PROVED, CHECKED, TOP, begin, crate_of, lock, otherwise, words_of_check
 
 
 def cpu():
@@ -32,11 +31,11 @@ def times_of(crate, kept):
     how = {"cwd": crate.folder, "stdin": subprocess.DEVNULL, "stdout": subprocess.PIPE, "stderr": subprocess.STDOUT, "text": True}
     with subprocess.Popen(words_of_check(crate, ["--jobs", "1", "--progress"], kept), **how) as running:
         for line in running.stdout:
-            told = re.match(r"checked (\S+), \d+ of \d+", line)
+            told = CHECKED.match(line)
             if told:
                 found.append((time.monotonic() - last, told[1]))
                 last = time.monotonic()
-            is_proved = is_proved or line.startswith("logic=proved")
+            is_proved = is_proved or line.startswith(ALL_PROVED)
     return sorted(found, reverse=True), is_proved
 
 
@@ -50,11 +49,16 @@ def main():
     begin()
     for crate in map(crate_of, words.crates):
         below = [] if words.built else [it for it in crate.below() if not it.is_built()]
+        held = lock(below)
         if not in_chains(below, lambda it, jobs: it.build_rlib(["--jobs", str(jobs)], anew=False) == 0):
             return 1
+        for it in held:
+            os.close(it)
         before = cpu()
         with tempfile.TemporaryDirectory(prefix="times-") as kept:
             found, is_proved = times_of(crate, kept)
+        if not found:
+            otherwise("tells no function of a check")
         dearest = ", ".join(f"{name.split('::', 1)[1]} {seconds:.0f}" for seconds, name in found[: words.most])
         print(f"{crate.name}: {cpu() - before:.0f} s, {len(found)} functions{'' if is_proved else ', NOT PROVED'}; {dearest}", flush=True)
     return 0

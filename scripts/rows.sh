@@ -1,8 +1,9 @@
 #!/usr/bin/env bash
 # Runs each row of tests/rows on the program as LLVM and as Rattle's own compiler build it.
 #
-# rows.sh [--program FILE] [NAME..]: all rows, or those of these names, on both programs or on that file alone. A row is a case as scripts/case.sh says, with the file `stdout`,
-# what is printed and what `after` prints behind it, and `status`, where that isn't 0. Standard error stays empty.
+# rows.sh [--program FILE] [NAME..]: all rows, or those of these names, on both programs or on that file alone. A row is a case
+# as scripts/case.sh says, with the file `stdout`, what is printed and what `after` prints behind it, and `status`, where that
+# isn't 0. Standard error stays empty.
 #
 # A row of several steps has `steps` in place of `args`, `stdin`, `stdout` and `status`: a transcript, as in the documents. A line
 # `$ COMMAND` is a command line for bash, for which `dmstack` is the program; the lines `> LINE` behind it are its input; the

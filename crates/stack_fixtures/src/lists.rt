@@ -1,15 +1,7 @@
-//! Lists of one, two and three elements.
+//! Lists of two and three elements.
 ghost use Rattle.std.specs.Prelude.{◌≡◌, ◌∷◌, [], IfOk};
 
 use std::alloc::{AllocError, Global};
-
-pub fn one<T: Drop>(alloc: Global, a: T) -> Result<Vec<T>, AllocError>
-    ensures { IfOk result (λ v. v.items ≡ a ∷ []) }
-{
-    let mut only = Vec::new(alloc);
-    only.push(a)?;
-    Ok(only)
-}
 
 pub fn pair<T: Drop>(alloc: Global, a: T, b: T) -> Result<Vec<T>, AllocError>
     ensures { IfOk result (λ v. v.items ≡ a ∷ b ∷ []) }
