@@ -75,7 +75,7 @@ def on_a_full_disk(top):
     if subprocess.run(["mount", "-t", "tmpfs", "-o", "size=1m", "none", made], capture_output=True).returncode:
         return
     try:
-        expect("full disk", run(top, "dmstack", "session"), 1, b"", r"dmstack: not compiled: \S+ has 1 MB free, and \d+ are needed\n")
+        expect("full disk", run(top, "dmstack", "session"), 1, b"", r"dmstack: not compiled: [^\n]+ has 1 MB free, and \d+ are needed\n")
     finally:
         subprocess.run(["umount", made], check=True)
 
