@@ -1,7 +1,7 @@
 //! A `verity` line over a device that answers another block each time.
 use block_device::ScriptDev;
 use hash_tree::{Salt, digest};
-use stack_engine::{Answer, IoFault};
+use stack_engine::{Answer, Fault, IoFault};
 use stack_fixtures::pieces::{is_fault, is_filled, read};
 use stack_fixtures::stacks::cached_stack_of;
 use std::alloc::Global;
@@ -46,7 +46,9 @@ fn answers_the_block_that_it_checked(rt: HostRuntime) -> Result<(), Fail> {
         assert!(rt; is_filled(&answer, &[0]) && has_chain(&answer) && stack.moved() == (2, 0));
         let answer = read(&mut stack, b"v", 0, 1);
         let again = is_filled(&answer, &[0]) && has_chain(&answer);
-        assert!(rt; again == (capacity > 0) && again != is_fault(&answer, IoFault::Mismatch));
+        assert!(rt;
+            again == (capacity > 0) && again != is_fault(&answer, IoFault::Stack(Fault::Mismatch))
+        );
         assert!(rt; stack.moved() == (3, 0));
     }
     Ok(())

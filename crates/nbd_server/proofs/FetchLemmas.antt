@@ -97,8 +97,7 @@ more-runs c lower first a m {before = before} {answer = answer} p q =
 
 -- a fault of a run as one of a piece
 as-piece : (c : Configuration) (lower : Lower) (first n : ℕ) {old new : List Device} (fault : IoFault) → Gets (pieces_expected c lower first n) old new (Err fault) → Gets (piece_expected c lower first n) old new (Err fault)
-as-piece c lower first n io.ErrorTarget p = record { moved = p.moved; may = p.may; exact = p.exact }
-as-piece c lower first n io.Mismatch p = record { moved = p.moved; may = p.may; exact = p.exact }
+as-piece c lower first n (io.Stack fault) p = record { moved = p.moved; may = p.may; exact = p.exact }
 as-piece c lower first n (io.Device i) p = record { moved = p.moved; may = p.may; exact = p.exact }
 as-piece c lower first n io.NoMemory p = record { moved = p.moved; may = p.may; exact = p.exact }
 

@@ -8,11 +8,13 @@ use Rattle.stack_rules.specs.Names.{device_named, mapped}
 use Rattle.stack_rules.specs.Descend.{write_cost}
 use Rattle.stack_rules.specs.Records.{Configuration}
 use Rattle.stack_meaning.specs.declared.fault.IoFault.{IoFault}
+use Rattle.stack_meaning.specs.declared.fault.Fault.TheVariants as why
 use Rattle.stack_meaning.specs.declared.fault.IoFault.TheVariants as io
 use Rattle.stack_meaning.specs.Changes.{reached, AreWritten}
 use Rattle.stack_meaning.specs.May.{MayFault}
 use Rattle.stack_meaning.specs.Meaning.{said_at}
-use Rattle.stack_meaning.specs.Outcomes.{Fault, error_target, LeafSector}
+use Rattle.stack_meaning.specs.declared.fault.Fault.{Fault}
+use Rattle.stack_meaning.specs.Outcomes.{error_target, LeafSector}
 use Rattle.stack_engine.specs.Stacks.{StackRecord}
 use Rattle.stack_engine.specs.WritePieces.{piece_reached, AnyWrite, EachWrite, InTurn, WritesInPieces, nothing, next, ends}
 use Rattle.stack_lines.specs.Writing.{MayEnd}
@@ -74,8 +76,8 @@ module _ {w w' w'' : StackRecord} (d first : ℕ) (x y z : List ℕ) (even : len
       later : (result : Result Unit IoFault) → (result ≡ Err io.NoMemory → ⊥) → MayEnd (MayFault w.config (mapped d) (first + length x / 512) (length y / 512)) w'.leaves w''.leaves result
           → MayEnd (MayFault w.config (mapped d) first (length (x ++ (y ++ z)) / 512)) w.leaves w''.leaves result
       later (Ok u) grown h = tt
-      later (Err io.ErrorTarget) grown h = more error_target h
-      later (Err io.Mismatch) grown h = h
+      later (Err (io.Stack why.ErrorTarget)) grown h = more error_target h
+      later (Err (io.Stack why.Mismatch)) grown h = h
       later (Err (io.Device i)) grown h = (h.0, failed_later p.moved.moved q.moved.moved h.1)
       later (Err io.NoMemory) grown h = absurd (grown refl)
 
@@ -143,8 +145,7 @@ module _ (w : World) (name : List ℕ) (d first : ℕ) (bytes : List ℕ) (found
 
   put-fails : (fault : IoFault) (range : SectorRange) → admission w (a_write name first bytes) ≡ Ok range → Step EachPart w (run (a_write name first bytes) (Ok (Err fault))) w'
       → WritesWhole w.stack range bytes (Err fault) w'.stack → EndsPut w d first bytes (error_of fault) w' ⊎ StopsPut w d first bytes (error_of fault) w'
-  put-fails io.ErrorTarget range h s p = inl (refl, io.ErrorTarget, refl, at-place bytes (Err io.ErrorTarget) range h p)
-  put-fails io.Mismatch range h s p = inl (refl, io.Mismatch, refl, at-place bytes (Err io.Mismatch) range h p)
+  put-fails (io.Stack fault) range h s p = inl (refl, io.Stack fault, refl, at-place bytes (Err (io.Stack fault)) range h p)
   put-fails (io.Device i) range h s p = inl (refl, io.Device i, refl, at-place bytes (Err (io.Device i)) range h p)
   put-fails io.NoMemory range h s p =
       let front = take (512 * p.0) bytes in
@@ -168,8 +169,7 @@ module _ (w v w' : World) (d first : ℕ) (x y : List ℕ) (even : length x % 51
   stored-more q = record { put = pieces-then d first x y even p.put q.put; led = led-then EachPart w v w' p.led q.led }
 
 no-memory : (fault : IoFault) → error_of fault ≡ InputOutput → ended fault ≡ ended io.NoMemory → ⊥
-no-memory io.ErrorTarget e same = cc
-no-memory io.Mismatch e same = cc
+no-memory (io.Stack fault) e same = cc
 no-memory (io.Device i) e same = cc
 no-memory io.NoMemory e same = cc
 

@@ -14,8 +14,7 @@ use Rattle.nbd_server.specs.declared.request_error.RequestError.TheVariants.{NoM
 
 -- how a fault of the stack is told
 abbrev pub error_of : IoFault → RequestError
-error_of io.ErrorTarget = InputOutput
-error_of io.Mismatch = InputOutput
+error_of (io.Stack fault) = InputOutput
 error_of (io.Device leaf) = InputOutput
 error_of io.NoMemory = NoMemory
 

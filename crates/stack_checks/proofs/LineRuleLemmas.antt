@@ -97,24 +97,24 @@ pub record IsPassedLine (c : Configuration) (before : ℕ) (line : Line) : Type 
   pub low : line.start + line.length ≤ most_sectors
   pub divides : is_undivided line.length line.target ≡ false
   pub units : cuts_unit line.length line.target ≡ false
-  pub offset : is_off_unit line.target ≡ false
+  pub offset : is_off_unit line.length line.target ≡ false
   pub inside : is_beyond c line.length line.target ≡ false
   pub covered : is_uncovered line.length line.target ≡ false
   pub tree : is_tree_beyond c line.target ≡ false
 
 pub line-last : (c : Configuration) (writable : Bool) (d l before : ℕ) (line : Line) (lowers : List Lower) → IsPassedLine c before line → Mean c lowers (names line.target)
     → first (line_rules c writable d l before line)
-    ≡ first (refuse NeedsReadOnly d l (writable && needs_read_only line.target) ∷ refuse LowerReadOnly d l (writable && list_any (λ lower. not (may_write c lower)) lowers) ∷ [])
+    ≡ first (refuse NeedsReadOnly d l (writable && needs_read_only line.length line.target) ∷ refuse LowerReadOnly d l (writable && list_any (λ lower. not (may_write c lower)) lowers) ∷ [])
 line-last c writable d l before line lowers p means =
     rw (at-zero line.length p.some, at-same line.start before p.start, lt-false most_sectors (line.start + line.length) p.low, p.divides, p.units, p.offset, p.inside, p.covered, p.tree)
-    (ap (λ b. first (refuse NeedsReadOnly d l (writable && needs_read_only line.target) ∷ refuse LowerReadOnly d l (writable && b) ∷ [])) (read_only-lowers c lowers (names line.target) means))
+    (ap (λ b. first (refuse NeedsReadOnly d l (writable && needs_read_only line.length line.target) ∷ refuse LowerReadOnly d l (writable && b) ∷ [])) (read_only-lowers c lowers (names line.target) means))
 
 -- a line that none of the first three rules refuses, and one of those on stripes and units does
 pub line-parts : (c : Configuration) (writable : Bool) (d l before : ℕ) (line : Line) (r : Refusal) → (line.length ≡ 0 → ⊥) → line.start ≡ before → line.start + line.length ≤ most_sectors
-    → Some r ≡ first (refuse StripesDontDivide d l (is_undivided line.length line.target) ∷ refuse UnitDoesntDivide d l (cuts_unit line.length line.target) ∷ refuse IvOffset d l (is_off_unit line.target) ∷ [])
+    → Some r ≡ first (refuse StripesDontDivide d l (is_undivided line.length line.target) ∷ refuse UnitDoesntDivide d l (cuts_unit line.length line.target) ∷ refuse IvOffset d l (is_off_unit line.length line.target) ∷ [])
     → Some r ≡ first (line_rules c writable d l before line)
 line-parts c writable d l before line r some start low h =
     rw (at-zero line.length some, at-same line.start before start, lt-false most_sectors (line.start + line.length) low)
-    (parts-some d l (is_undivided line.length line.target) (cuts_unit line.length line.target) (is_off_unit line.target)
+    (parts-some d l (is_undivided line.length line.target) (cuts_unit line.length line.target) (is_off_unit line.length line.target)
     (refuse BeyondDevice d l (is_beyond c line.length line.target) ∷ refuse LineBeyondTree d l (is_uncovered line.length line.target) ∷ refuse TreeBeyondDevice d l (is_tree_beyond c line.target)
-    ∷ refuse NeedsReadOnly d l (writable && needs_read_only line.target) ∷ refuse LowerReadOnly d l (writable && names_read_only c line.target) ∷ []) r h)
+    ∷ refuse NeedsReadOnly d l (writable && needs_read_only line.length line.target) ∷ refuse LowerReadOnly d l (writable && names_read_only c line.target) ∷ []) r h)

@@ -8,7 +8,7 @@ ghost use Rattle.stack_rules.specs.Passing.{Mean};
 ghost use Rattle.stack_rules.specs.Rules.{ends_beyond, is_beyond, is_uncovered, is_tree_beyond};
 
 use dm_table::{Base, Line, Target};
-use stack_rules::{Leaf, Lower, Planned, data_sectors, tree_sectors};
+use stack_rules::{Leaf, Lower, Planned, data_sectors, tree_sectors, verity_of};
 use std::slice;
 
 // How many sectors a lower device has.
@@ -75,13 +75,9 @@ pub fn is_beyond(leaves: &[Leaf], devices: &[Planned<'_>], lowers: &[Lower], lin
 pub fn is_uncovered(line: &Line) -> bool
     ensures { result ≡ is_uncovered line.now.length line.now.target }
 {
-    match &line.target {
-        Target::Verity(verity) => data_sectors(verity) < u128::from(line.length),
-        Target::Linear(_)
-        | Target::Striped { .. }
-        | Target::Zero
-        | Target::Error
-        | Target::Crypt(_) => false,
+    match verity_of(&line.target) {
+        Some(verity) => data_sectors(verity) < u128::from(line.length),
+        None => false,
     }
 }
 
@@ -96,12 +92,8 @@ pub fn is_tree_beyond(
     requires lowers { Mean (configuration leaves.now devices.now) lowers.now (names target.now) }
     ensures { result ≡ is_tree_beyond (configuration leaves.now devices.now) target.now }
 {
-    match target {
-        Target::Verity(verity) => size_of(leaves, devices, lowers[1]) < tree_sectors(verity),
-        Target::Linear(_)
-        | Target::Striped { .. }
-        | Target::Zero
-        | Target::Error
-        | Target::Crypt(_) => false,
+    match verity_of(target) {
+        Some(verity) => size_of(leaves, devices, lowers[1]) < tree_sectors(verity),
+        None => false,
     }
 }

@@ -13,8 +13,8 @@ ghost use Rattle.stack_rules.specs.Rules.{first, refuse, line_rules, needs_read_
 use crate::leaves::MOST_SECTORS;
 use crate::ranges::{is_beyond, is_tree_beyond, is_uncovered};
 use crate::units::part_fault;
-use dm_table::{Line, Target};
-use stack_rules::{DeviceLowers, Leaf, LineLowers, LoadKind, Lower, Planned, Refusal};
+use dm_table::Line;
+use stack_rules::{DeviceLowers, Leaf, LineLowers, LoadKind, Lower, Planned, Refusal, verity_of};
 
 fn may_write(leaves: &[Leaf], devices: &[Planned<'_>], lower: Lower) -> bool
     ensures { result ≡ may_write (configuration leaves.now devices.now) lower }
@@ -31,17 +31,10 @@ fn may_write(leaves: &[Leaf], devices: &[Planned<'_>], lower: Lower) -> bool
     }
 }
 
-fn needs_read_only(target: &Target) -> bool
-    ensures { result ≡ needs_read_only target.now }
+fn needs_read_only(line: &Line) -> bool
+    ensures { result ≡ needs_read_only line.now.length line.now.target }
 {
-    match target {
-        Target::Verity(_) => true,
-        Target::Linear(_)
-        | Target::Striped { .. }
-        | Target::Zero
-        | Target::Error
-        | Target::Crypt(_) => false,
-    }
+    verity_of(&line.target).is_some()
 }
 
 /// Whether one of the lower devices may not be written.
@@ -58,11 +51,11 @@ fn write_fault(
     leaves: &[Leaf],
     devices: &[Planned<'_>],
     lowers: &[Lower],
-    target: &Target,
+    line: &Line,
 ) -> Option<LoadKind>
-    ensures { (d l : ℕ) → option_map (refusal_at d l) result ≡ first (refuse kinds.NeedsReadOnly d l (needs_read_only target.now) ∷ refuse kinds.LowerReadOnly d l (list_any (λ lower. not (may_write (configuration leaves.now devices.now) lower)) lowers.now) ∷ []) }
+    ensures { (d l : ℕ) → option_map (refusal_at d l) result ≡ first (refuse kinds.NeedsReadOnly d l (needs_read_only line.now.length line.now.target) ∷ refuse kinds.LowerReadOnly d l (list_any (λ lower. not (may_write (configuration leaves.now devices.now) lower)) lowers.now) ∷ []) }
 {
-    if needs_read_only(target) {
+    if needs_read_only(line) {
         return Some(LoadKind::NeedsReadOnly);
     }
     if has_read_only(leaves, devices, lowers) {
@@ -109,7 +102,7 @@ fn line_fault(
     if !writable {
         return None;
     }
-    write_fault(leaves, devices, lowers, &line.target)
+    write_fault(leaves, devices, lowers, line)
 }
 
 /// The first rule that refuses a line of the d-th device, from 1.

@@ -6,7 +6,7 @@ ghost use Rattle.stack_rules.specs.declared.refusal.LoadKind.TheVariants as kind
 ghost use Rattle.stack_rules.specs.Rules.{first, refuse, cuts_unit, is_off_unit, is_undivided};
 
 use dm_table::{Line, Target};
-use stack_rules::{LoadKind, unit_sectors};
+use stack_rules::{LoadKind, crypt_of, unit_sectors};
 
 // Whether a striped line's length is no multiple of stripes times chunk.
 fn is_undivided(line: &Line) -> bool
@@ -18,8 +18,7 @@ fn is_undivided(line: &Line) -> bool
             let width = bases.as_slice().len() as u128 * u128::from(*chunk);
             u128::from(line.length) % width != 0
         }
-        Target::Linear(_) | Target::Zero | Target::Error | Target::Crypt(_) | Target::Verity(_) =>
-            false,
+        _ => false,
     }
 }
 
@@ -27,34 +26,26 @@ fn is_undivided(line: &Line) -> bool
 fn cuts_unit(line: &Line) -> bool
     ensures { result ≡ cuts_unit line.now.length line.now.target }
 {
-    match &line.target {
-        Target::Crypt(crypt) => line.length % u64::from(unit_sectors(crypt)) != 0,
-        Target::Linear(_)
-        | Target::Striped { .. }
-        | Target::Zero
-        | Target::Error
-        | Target::Verity(_) => false,
+    match crypt_of(&line.target) {
+        Some(crypt) => line.length % u64::from(unit_sectors(crypt)) != 0,
+        None => false,
     }
 }
 
 // Whether the `iv_offset` of a crypt line is no multiple of its unit's sectors.
-fn is_off_unit(target: &Target) -> bool
-    ensures { result ≡ is_off_unit target.now }
+fn is_off_unit(line: &Line) -> bool
+    ensures { result ≡ is_off_unit line.now.length line.now.target }
 {
-    match target {
-        Target::Crypt(crypt) => crypt.iv_offset % u64::from(unit_sectors(crypt)) != 0,
-        Target::Linear(_)
-        | Target::Striped { .. }
-        | Target::Zero
-        | Target::Error
-        | Target::Verity(_) => false,
+    match crypt_of(&line.target) {
+        Some(crypt) => crypt.iv_offset % u64::from(unit_sectors(crypt)) != 0,
+        None => false,
     }
 }
 
 /// The first rule by which a line isn't whole stripes or units.
 pub fn part_fault(line: &Line) -> Option<LoadKind>
     requires { IsTargetOfGrammar line.now.target }
-    ensures { (d l : ℕ) → option_map (refusal_at d l) result ≡ first (refuse kinds.StripesDontDivide d l (is_undivided line.now.length line.now.target) ∷ refuse kinds.UnitDoesntDivide d l (cuts_unit line.now.length line.now.target) ∷ refuse kinds.IvOffset d l (is_off_unit line.now.target) ∷ []) }
+    ensures { (d l : ℕ) → option_map (refusal_at d l) result ≡ first (refuse kinds.StripesDontDivide d l (is_undivided line.now.length line.now.target) ∷ refuse kinds.UnitDoesntDivide d l (cuts_unit line.now.length line.now.target) ∷ refuse kinds.IvOffset d l (is_off_unit line.now.length line.now.target) ∷ []) }
 {
     if is_undivided(line) {
         return Some(LoadKind::StripesDontDivide);
@@ -62,7 +53,7 @@ pub fn part_fault(line: &Line) -> Option<LoadKind>
     if cuts_unit(line) {
         return Some(LoadKind::UnitDoesntDivide);
     }
-    if is_off_unit(&line.target) {
+    if is_off_unit(line) {
         return Some(LoadKind::IvOffset);
     }
     None

@@ -34,7 +34,7 @@ use Rattle.stack_meaning.proofs.lemmas.RunLemmas.{Passes, pass}
 use Rattle.stack_engine.proofs.lemmas.BlockLemmas.{block_place, chain_fills, block_fails, length-content, AllKept-push, Grown-push}
 
 -- what was found for an entry of a verity line
-pub kept_for : (c : Configuration) (leaves : List Device) (d l i : ℕ) (v : Verity) (x : FoundRecord) → HasVerity c d l v → entry_of x ≡ (d, l, i) → IsKept c leaves x → IsOfVerity c leaves v x.chain
+pub kept_for : (c : Configuration) (leaves : List Device) (d l i : ℕ) (v : Verity) (x : FoundRecord) → HasVerity c d l v → entry_of x ≡ (d, l, i) → IsKept c leaves x → IsOfVerity (said_by_name c v.data) (said_by_name c v.hash) leaves v x.chain
 kept_for c leaves d l i v x line at kept =
     let device : x.device ≡ d = ap (λ (e : Entry). e.0) at in
     let number : x.line ≡ l = ap (λ (e : Entry). e.1) at in
@@ -95,7 +95,7 @@ module _ (c : Configuration) (v : Verity) (p : BlockPart) (n : ℕ) (loaded : Is
   part_walked {old = old} {new = new} found chain kept none q is =
       let x : FoundRecord = record { device = p.device.0; line = p.line; chain = chain } in
       let here : entry_of x ≡ (p.device.0, p.line, p.first / block_sectors v) = ap (λ (k : ℕ). (p.device.0, p.line, k)) q.may.0 in
-      let one : IsOfVerity c new v chain = record {
+      let one : IsOfVerity (said_by_name c v.data) (said_by_name c v.hash) new v chain = record {
         good = q.may.1;
         exact = λ steady.
             let before : AllSteady old = AllSteady-kept new old (sym q.moved.moved.fixed) steady in

@@ -13,12 +13,14 @@ use Rattle.stack_rules.specs.Names.{mapped, lines_of, may_write}
 use Rattle.stack_rules.specs.Descend.{read_cost, write_cost}
 use Rattle.stack_rules.specs.Rules.{IsLoaded}
 use Rattle.stack_meaning.specs.declared.fault.IoFault.{IoFault}
+use Rattle.stack_meaning.specs.declared.fault.Fault.TheVariants as why
 use Rattle.stack_meaning.specs.declared.fault.IoFault.TheVariants as io
 use Rattle.stack_lines.specs.declared.source.BlockPart.{BlockPart}
 use Rattle.stack_lines.specs.declared.units.WholeUnit.{WholeUnit}
 use Rattle.stack_lines.specs.declared.source.Source.TheVariants.{Units, UnitPart}
 use Rattle.stack_meaning.specs.Sectors.{SomeOf, IsRun, gathered}
-use Rattle.stack_meaning.specs.Outcomes.{Fault, error_target, mismatch, Images, Outcome, LeafSector, span}
+use Rattle.stack_meaning.specs.declared.fault.Fault.{Fault}
+use Rattle.stack_meaning.specs.Outcomes.{error_target, mismatch, Images, Outcome, LeafSector, span}
 use Rattle.stack_rules.specs.Units.{unit_sectors}
 use Rattle.stack_meaning.specs.Units.{decrypted_unit, encrypted_unit, unit_first}
 use Rattle.stack_meaning.specs.Found.{FoundRecord}
@@ -37,7 +39,8 @@ use Rattle.stack_lines.proofs.lemmas.UnitSourceLemmas.{lies_in, begin-whole, par
 use Rattle.stack_engine.proofs.WritablePlainLemmas.{none-verity}
 use Rattle.stack_meaning.proofs.lemmas.ChangeLemmas.{AreWritten-more, AreWritten-then, AreWritten-read}
 use Rattle.stack_meaning.proofs.lemmas.LeafListLemmas.{AllSteady-kept, images-kept, failed_later}
-use Rattle.stack_lines.proofs.lemmas.SizeLemmas.{AreSized, sector-size}
+use Rattle.stack_lines.proofs.lemmas.SizeLemmas.{sector-size}
+use Rattle.stack_meaning.proofs.lemmas.SizedLemmas.{AreSized}
 use Rattle.stack_meaning.proofs.lemmas.SpanLemmas.{span_same, span_fails}
 use Rattle.stack_lines.proofs.lemmas.WriteRunLemmas.{length-sectors_in, MayEnd-as}
 
@@ -172,8 +175,8 @@ module _ (c : Configuration) (b : BlockPart) (whole : WholeUnit) (bytes : List �
   read-ends : (old new : List Device) (after : List FoundRecord) (fault : IoFault)
       → Ends {A = List ℕ} (IsRun (λ j. (source_said c (Units whole.from) j).may after) 0 whole.sectors) (λ x. SomeOf (λ j. (source_said c (Units whole.from) j).meets x) 0 whole.sectors) old new (Err fault)
       → (fault ≡ io.NoMemory → ⊥) → MayEnd (λ x. SomeOf (λ j. (source_said c (UnitPart b) j).meets x) 0 (length (sectors_in bytes))) old new (Err fault)
-  read-ends old new after io.ErrorTarget may grown = meets-more error_target may
-  read-ends old new after io.Mismatch may grown = none-meets may
+  read-ends old new after (io.Stack why.ErrorTarget) may grown = meets-more error_target may
+  read-ends old new after (io.Stack why.Mismatch) may grown = none-meets may
   read-ends old new after (io.Device i) may grown = may
   read-ends old new after io.NoMemory may grown = absurd (grown refl)
 
@@ -185,8 +188,7 @@ module _ (c : Configuration) (b : BlockPart) (whole : WholeUnit) (bytes : List �
 
   read-exact : (old new : List Device) (fault : IoFault) → AllWhole old → Answers {A = List ℕ} (λ x. x) (span (λ j. (source_said c (Units whole.from) j).means (images_of old)) 0 whole.sectors) (Err fault) → images_of new ≡ images_of old
       → IsPut ((source_destination c (UnitPart b)).puts 0 (sectors_in bytes) (images_of old)) (images_of new) (Err fault)
-  read-exact old new io.ErrorTarget all is same = stops old all error_target is ∙ ap (stopped error_target) (sym same)
-  read-exact old new io.Mismatch all is same = stops old all mismatch is ∙ ap (stopped mismatch) (sym same)
+  read-exact old new (io.Stack fault) all is same = stops old all fault is ∙ ap (stopped fault) (sym same)
   read-exact old new (io.Device i) all is same = tt
   read-exact old new io.NoMemory all is same = tt
 
@@ -253,8 +255,8 @@ module _ (c : Configuration) (b : BlockPart) (whole : WholeUnit) (bytes : List �
       later : (result : Result Unit IoFault) → (result ≡ Err io.NoMemory → ⊥) → MayEnd (λ x. SomeOf (λ j. (source_said c (UnitPart b) j).meets x) 0 (length (sectors_in bytes))) mid new result
           → {r w' r' w'' : ℕ} → Moves r w' old mid → Moves r' w'' mid new → MayEnd (λ x. SomeOf (λ j. (source_said c (UnitPart b) j).meets x) 0 (length (sectors_in bytes))) old new result
       later (Ok x) grown h a d = tt
-      later (Err io.ErrorTarget) grown h a d = h
-      later (Err io.Mismatch) grown h a d = h
+      later (Err (io.Stack why.ErrorTarget)) grown h a d = h
+      later (Err (io.Stack why.Mismatch)) grown h a d = h
       later (Err (io.Device i)) grown h a d = (h.0, failed_later a d h.1)
       later (Err io.NoMemory) grown h a d = absurd (grown refl)
 

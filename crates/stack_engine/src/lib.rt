@@ -13,4 +13,4 @@ mod write;
 
 pub use answer::Answer;
 pub use stack::Stack;
-pub use stack_meaning::{Found, IoFault};
+pub use stack_meaning::{Fault, Found, IoFault};

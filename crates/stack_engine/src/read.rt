@@ -25,7 +25,7 @@ use stack_lines::tree::{
 use stack_lines::units::{MOST, crypt_at, decrypt, take_sectors, unit_at, whole_unit};
 use stack_lines::{BlockPart, Source, run_at};
 use stack_loader::{Config, DevId, Lower};
-use stack_meaning::{Found, IoFault};
+use stack_meaning::{Fault, Found, IoFault};
 use verified_cache::Key;
 
 /// The sectors of a leaf, by one call of its device.
@@ -95,7 +95,7 @@ fn read_run<D: BlockDev>(
             fill_zeros(out);
             Ok(())
         }
-        Source::Fails => Err(IoFault::ErrorTarget),
+        Source::Fails => Err(IoFault::Stack(Fault::ErrorTarget)),
         Source::Block(part) => read_block(config, reader, part, out, found),
     }
 }
@@ -341,7 +341,7 @@ fn read_checked<D: BlockDev>(
     if digest(salt, block.as_slice()) == *expected {
         Ok(block)
     } else {
-        Err(IoFault::Mismatch)
+        Err(IoFault::Stack(Fault::Mismatch))
     }
 }
 

@@ -15,7 +15,7 @@ use block_device::BlockDev;
 use stack_lines::units::{MOST, crypt_at, encrypt, put_sectors, unit_at, whole_unit};
 use stack_lines::{BlockPart, Source, Steps, lower_cuts, run_at};
 use stack_loader::{Config, DevId, Lower, unit_sectors};
-use stack_meaning::IoFault;
+use stack_meaning::{Fault, IoFault};
 
 /// The sectors of a leaf, by one call of its device.
 fn write_sectors<D: BlockDev>(
@@ -115,7 +115,7 @@ fn write_run<D: BlockDev>(
         Source::Units(part) => write_units(config, reader, part, buffer),
         Source::UnitPart(part) => write_unit_part(config, reader, part, buffer),
         Source::Zeros => Ok(()),
-        Source::Fails => Err(IoFault::ErrorTarget),
+        Source::Fails => Err(IoFault::Stack(Fault::ErrorTarget)),
         Source::Block(_) => unreachable!(),
     }
 }

@@ -134,7 +134,7 @@ part-longest k w count n some_k some is = elim (cases_lt (k - w % k) count) [
 
 -- the sector beneath, where its chunk and its place in the chunk are known
 on_chunk : ℕ → List Base → ℕ → ℕ → Option (List ℕ × ℕ)
-on_chunk chunk bases k r = option_map (λ (b : Base). (b.device, b.offset + k / length bases * chunk + r)) (slice_get bases (k % length bases))
+on_chunk chunk bases k r = option_map (λ (b : Base). (b.device, b.offset + (k / length bases * chunk + r))) (slice_get bases (k % length bases))
 
 beneath-stripe : (chunk : ℕ) (bases : List Base) (base : Base) (w j : ℕ) → slice_get bases (w / chunk % length bases) ≡ Some base → w % chunk + j < chunk
     → beneath (Striped chunk bases) (w + j) ≡ Some (base.device, base.offset + w / chunk / length bases * chunk + w % chunk + j)
@@ -143,9 +143,9 @@ beneath-stripe chunk bases base w j at low =
     let same = chunk-more chunk w j low in
     let first : on_chunk chunk bases ((w + j) / chunk) ((w + j) % chunk) ≡ on_chunk chunk bases (w / chunk) ((w + j) % chunk) = ap (λ (q : ℕ). on_chunk chunk bases q ((w + j) % chunk)) same.0 in
     let second : on_chunk chunk bases (w / chunk) ((w + j) % chunk) ≡ on_chunk chunk bases (w / chunk) (w % chunk + j) = ap (on_chunk chunk bases (w / chunk)) same.1 in
-    let third : on_chunk chunk bases (w / chunk) (w % chunk + j) ≡ Some (base.device, base.offset + w / chunk / length bases * chunk + (w % chunk + j)) =
-    ap (option_map (λ (b : Base). (b.device, b.offset + w / chunk / length bases * chunk + (w % chunk + j)))) at in
-    let regrouped : base.offset + w / chunk / length bases * chunk + (w % chunk + j) ≡ base.offset + w / chunk / length bases * chunk + w % chunk + j = omega arith in
+    let third : on_chunk chunk bases (w / chunk) (w % chunk + j) ≡ Some (base.device, base.offset + (w / chunk / length bases * chunk + (w % chunk + j))) =
+    ap (option_map (λ (b : Base). (b.device, b.offset + (w / chunk / length bases * chunk + (w % chunk + j))))) at in
+    let regrouped : base.offset + (w / chunk / length bases * chunk + (w % chunk + j)) ≡ base.offset + w / chunk / length bases * chunk + w % chunk + j = omega arith in
     first ∙ second ∙ third ∙ ap (λ (x : ℕ). Some (base.device, x)) regrouped
 
 module _ (c : Configuration) (d l chunk : ℕ) (bases : List Base) (w n : ℕ) (loaded : IsLoaded c) (g : IsStripedOfGrammar chunk bases) (t : HasTarget c d l (Striped chunk bases) (w + n)) where

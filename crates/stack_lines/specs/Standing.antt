@@ -1,16 +1,16 @@
 -- The leaves on which devices and lines stand.
-use Rattle.std.specs.Prelude.{◌≡◌, ℕ, ◌<◌, Bool, true, false, ◌==◌, List, length, slice_get, All}
+use Rattle.std.specs.Prelude.{◌≡◌, ℕ, ◌<◌, Bool, true, false, ◌==◌, List, length, slice_get, is_some, All}
 use Rattle.std.specs.Int.{bit_at}
 use Rattle.std.specs.List.{list_any, slice_index_or}
 use Rattle.std.specs.Option.{option_map_or}
 use Rattle.dm_table.specs.declared.table.Target.{Target}
-use Rattle.dm_table.specs.declared.table.Target.TheVariants.{Linear, Striped, Zero, Error, Crypt as crypt_target, Verity as verity_target}
 use Rattle.stack_rules.specs.declared.lower.Lower.{Lower}
 use Rattle.stack_rules.specs.declared.lower.Lower.TheVariants.{Leaf as leaf, Device as device}
 use Rattle.stack_rules.specs.Descend.{by_name, depth, most_devices}
 use Rattle.stack_rules.specs.Names.{mapped, lines_of}
 use Rattle.stack_rules.specs.Records.{Configuration}
 use Rattle.stack_rules.specs.Rules.{most_leaves}
+use Rattle.stack_rules.specs.Trees.{verity_of}
 use Rattle.verified_cache.specs.Cache.{CachedBlock, CacheRecord, cache_without}
 use Rattle.verified_cache.specs.declared.key.Key.{Key}
 use Rattle.stack_lines.specs.declared.leaf_set.LeafSet.{LeafSet}
@@ -36,21 +36,11 @@ abbrev pub name_stands_on : Configuration → ℕ → List ℕ → Bool
 name_stands_on c i = by_name c false (stands_on c i)
 
 abbrev pub is_verity : Target → Bool
-is_verity (Linear base) = false
-is_verity (Striped chunk bases) = false
-is_verity Zero = false
-is_verity Error = false
-is_verity (crypt_target crypt) = false
-is_verity (verity_target v) = true
+is_verity target = is_some (verity_of target)
 
 -- the target is that of a verity line, whose hash device is leaf i or stands on it
 abbrev pub hashes_stand_on : Configuration → ℕ → Target → Bool
-hashes_stand_on c i (Linear base) = false
-hashes_stand_on c i (Striped chunk bases) = false
-hashes_stand_on c i Zero = false
-hashes_stand_on c i Error = false
-hashes_stand_on c i (crypt_target crypt) = false
-hashes_stand_on c i (verity_target v) = name_stands_on c i v.hash
+hashes_stand_on c i target = option_map_or (λ v. name_stands_on c i v.hash) (verity_of target) false
 
 -- the same of the line of a key
 abbrev pub line_stands_on : Configuration → ℕ → ℕ → ℕ → Bool

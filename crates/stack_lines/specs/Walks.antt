@@ -13,7 +13,8 @@ use Rattle.stack_rules.specs.Trees.{tree_of, block_sectors, path_sectors}
 use Rattle.stack_meaning.specs.declared.fault.IoFault.{IoFault}
 use Rattle.stack_lines.specs.declared.tree.Tree.{Tree}
 use Rattle.stack_meaning.specs.Sectors.{SomeOf}
-use Rattle.stack_meaning.specs.Outcomes.{Outcome, Fault, mismatch, Images}
+use Rattle.stack_meaning.specs.declared.fault.Fault.{Fault}
+use Rattle.stack_meaning.specs.Outcomes.{Outcome, mismatch, Images}
 use Rattle.stack_meaning.specs.Blocks.{hash_sectors, checked_span, data_block_at, block_below, block_at, BlockMeets}
 use Rattle.stack_meaning.specs.Leaves.{images_of, AllSteady, AreRead}
 use Rattle.stack_meaning.specs.Meaning.{said_by_name}

@@ -7,12 +7,14 @@ use Rattle.stack_rules.specs.Records.{Configuration}
 use Rattle.stack_rules.specs.Names.{mapped, lines_of, may_write}
 use Rattle.stack_rules.specs.Descend.{by_name, write_cost}
 use Rattle.stack_meaning.specs.declared.fault.IoFault.{IoFault}
+use Rattle.stack_meaning.specs.declared.fault.Fault.TheVariants as why
 use Rattle.stack_meaning.specs.declared.fault.IoFault.TheVariants as io
 use Rattle.stack_lines.specs.declared.source.BlockPart.{BlockPart}
 use Rattle.stack_lines.specs.declared.source.Source.{Source}
 use Rattle.stack_lines.specs.declared.source.Source.TheVariants.{Below, Units, UnitPart, Zeros, Fails, Block}
 use Rattle.stack_meaning.specs.Sectors.{SomeOf}
-use Rattle.stack_meaning.specs.Outcomes.{Fault, error_target, mismatch, Images}
+use Rattle.stack_meaning.specs.declared.fault.Fault.{Fault}
+use Rattle.stack_meaning.specs.Outcomes.{error_target, Images}
 use Rattle.stack_meaning.specs.Meaning.{Said, said_at}
 use Rattle.stack_meaning.specs.Puts.{Put, done, stopped, Putting, none_put, runs_from, put_runs, together, line_put, put_on}
 use Rattle.stack_meaning.specs.Leaves.{images_of, AllSteady, LeafFailed}
@@ -32,16 +34,15 @@ sectors_in bytes = sectors_of (length bytes / 512) bytes
 -- counts from 1. Where memory ran out nothing was written.
 abbrev pub MayEnd : (Fault → Type 0) → List Device → List Device → Result Unit IoFault → Type 0
 MayEnd May old new (Ok x) = Unit {0}
-MayEnd May old new (Err io.ErrorTarget) = May error_target
-MayEnd May old new (Err io.Mismatch) = ⊥
+MayEnd May old new (Err (io.Stack why.ErrorTarget)) = May error_target
+MayEnd May old new (Err (io.Stack why.Mismatch)) = ⊥
 MayEnd May old new (Err (io.Device i)) = (1 ≤ i) × LeafFailed (i - 1) old new
 MayEnd May old new (Err io.NoMemory) = new ≡ old
 
 -- over steady leaves: these images are what the put leaves, unless a device failed or memory ran out
 abbrev pub IsPut : Put → Images → Result Unit IoFault → Type 0
 IsPut put images (Ok x) = put ≡ done images
-IsPut put images (Err io.ErrorTarget) = put ≡ stopped error_target images
-IsPut put images (Err io.Mismatch) = put ≡ stopped mismatch images
+IsPut put images (Err (io.Stack fault)) = put ≡ stopped fault images
 IsPut put images (Err (io.Device i)) = Unit {0}
 IsPut put images (Err io.NoMemory) = Unit {0}
 

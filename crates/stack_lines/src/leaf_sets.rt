@@ -11,7 +11,7 @@ ghost use Rattle.stack_lines.specs.Standing.{contains, is_verity, name_stands_on
 
 use crate::leaf_set::LeafSet;
 use dm_table::Target;
-use stack_loader::{Config, DevId, Lower};
+use stack_loader::{Config, DevId, Lower, verity_of};
 
 /// The depth of the deepest.
 const MOST_DEPTH: u32 = 8;
@@ -44,7 +44,7 @@ fn name_count(target: &Target) -> u32
 pub(crate) fn is_verity(target: &Target) -> bool
     ensures { result ≡ is_verity target.now }
 {
-    matches!(target, Target::Verity(_))
+    verity_of(target).is_some()
 }
 
 /// The leaves on which one line stands, by the `count` devices that it names.

@@ -8,9 +8,9 @@ ghost use Rattle.stack_meaning.specs.Found.{FoundRecord, entry_of};
 ghost use Rattle.stack_lines.specs.Extents.{IsExtent};
 ghost use Rattle.stack_lines.specs.Walks.{HasVerity, HasDataBlock, IsOnVerity, IsTreeOf};
 
-use dm_table::{Target, Verity};
+use dm_table::Verity;
 use hash_tree::Shape;
-use stack_loader::{Config, DevId, Lower};
+use stack_loader::{Config, DevId, Lower, verity_of};
 use stack_meaning::Found;
 use verified_cache::Key;
 
@@ -39,13 +39,9 @@ pub fn verity_at(config: &Config, d: DevId, line: u32) -> &Verity
     ensures { HasVerity config.now d.0 line result.now }
 {
     let lines = config.table(d).lines();
-    match &lines[line as usize].target {
-        Target::Verity(verity) => verity,
-        Target::Linear(_)
-        | Target::Striped { .. }
-        | Target::Zero
-        | Target::Error
-        | Target::Crypt(_) => { unreachable!() }
+    match verity_of(&lines[line as usize].target) {
+        Some(verity) => verity,
+        None => unreachable!(),
     }
 }
 

@@ -8,7 +8,7 @@ ghost use Rattle.stack_lines.specs.Sources.{HasTarget, HasCrypt, IsOnCrypt, IsUn
 
 use crate::source::BlockPart;
 use dm_table::{Crypt, Target};
-use stack_loader::{Config, DevId, Lower, unit_sectors};
+use stack_loader::{Config, DevId, Lower, crypt_of, unit_sectors};
 use xts_sector::XtsKey;
 
 /// The most bytes of a unit.
@@ -40,13 +40,9 @@ pub fn crypt_at(config: &Config, d: DevId, line: u32) -> &Crypt
     ensures { HasCrypt config.now d.0 line result.now }
 {
     let lines = config.table(d).lines();
-    match &lines[line as usize].target {
-        Target::Crypt(crypt) => crypt,
-        Target::Linear(_)
-        | Target::Striped { .. }
-        | Target::Zero
-        | Target::Error
-        | Target::Verity(_) => { unreachable!() }
+    match crypt_of(&lines[line as usize].target) {
+        Some(crypt) => crypt,
+        None => unreachable!(),
     }
 }
 

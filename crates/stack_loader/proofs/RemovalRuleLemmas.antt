@@ -9,7 +9,6 @@ use Rattle.std.proofs.lemmas.Bool.Decides.{nat_tests}
 use Rattle.std.proofs.lemmas.List.Edits.{length-remove}
 use Rattle.dm_table.specs.declared.table.Line.{Line}
 use Rattle.dm_table.specs.declared.table.Target.{Target}
-use Rattle.dm_table.specs.declared.table.Target.TheVariants.{Linear, Striped, Zero, Error, Crypt, Verity}
 use Rattle.stack_rules.specs.declared.lower.Lower.{Lower}
 use Rattle.stack_rules.specs.declared.lower.Lower.TheVariants.{Leaf as leaf, Device as device}
 use Rattle.stack_rules.specs.declared.refusal.LoadKind.{LoadKind}
@@ -17,7 +16,9 @@ use Rattle.stack_rules.specs.declared.refusal.LoadKind.TheVariants.{TooMany, NoS
 use Rattle.stack_rules.specs.declared.refusal.Refusal.{Refusal}
 use Rattle.stack_rules.specs.Records.{Configuration, DeviceRecord}
 use Rattle.stack_rules.specs.Names.{mapped, named, names, lowers, sectors_of, size, may_write}
-use Rattle.stack_rules.specs.Trees.{tree_sectors}
+use Rattle.stack_rules.specs.RulesOf.{rules_of}
+use Rattle.stack_rules.proofs.lemmas.TargetLaws.{OfRange}
+use Rattle.stack_rules.proofs.lemmas.RulesLawsOf.{rules-laws}
 use Rattle.stack_rules.specs.Descend.{depth, read_cost, most_devices}
 use Rattle.stack_rules.specs.Cycles.{is_mapped, names_device, Leads, by_line, by_chain, IsOnCycle, is_on_cycle}
 use Rattle.stack_rules.specs.Removal.{place_after, lower_after}
@@ -74,12 +75,11 @@ is_beyond-after c d unused len target avoids =
     (all-map (λ range apart. ends-after c d unused range.0 range.1 apart) (ranges len target) (ranges-names (Avoids c d) len target avoids))
 
 is_tree_beyond-after : (c : Configuration) (d : ℕ) → IsUnused c d → (target : Target) → AllByRecursion (Avoids c d) (names target) → is_tree_beyond (without c d) target ≡ is_tree_beyond c target
-is_tree_beyond-after c d unused (Linear base) avoids = refl
-is_tree_beyond-after c d unused (Striped chunk bases) avoids = refl
-is_tree_beyond-after c d unused Zero avoids = refl
-is_tree_beyond-after c d unused Error avoids = refl
-is_tree_beyond-after c d unused (Crypt crypt) avoids = refl
-is_tree_beyond-after c d unused (Verity verity) avoids = ends-after c d unused verity.hash (tree_sectors verity) avoids.1.0
+is_tree_beyond-after c d unused target avoids = go (rules_of target).tree ((rules-laws target).tree (Avoids c d) avoids)
+  where
+    go : (o : Option (List ℕ × ℕ)) → OfRange (Avoids c d) o → option_map_or (λ range. ends_past (without c d) range.0 range.1) o false ≡ option_map_or (λ range. ends_past c range.0 range.1) o false
+    go None apart = refl
+    go (Some range) apart = ends-after c d unused range.0 range.1 apart
 
 read_only-after : (c : Configuration) (d : ℕ) → IsUnused c d → (name : List ℕ) → Avoids c d name
     → option_map_or (λ lower. not (may_write (without c d) lower)) (named (without c d) name) false ≡ option_map_or (λ lower. not (may_write c lower)) (named c name) false

@@ -7,7 +7,7 @@ ghost use Rattle.stack_rules.specs.Lines.{key_of};
 ghost use Rattle.stack_rules.specs.Rules.{most_lines};
 
 use dm_table::{Line, Target};
-use stack_rules::Planned;
+use stack_rules::{Planned, crypt_of};
 use std::alloc::{AllocError, Global};
 use std::marker::Model;
 use xts_sector::XtsKey;
@@ -64,13 +64,9 @@ fn key_of(target: &Target) -> Option<XtsKey>
     requires { IsTargetOfGrammar target.now }
     ensures { result ≡ key_of target.now }
 {
-    match target {
-        Target::Crypt(crypt) => XtsKey::new(crypt.key.bytes()),
-        Target::Linear(_)
-        | Target::Striped { .. }
-        | Target::Zero
-        | Target::Error
-        | Target::Verity(_) => None,
+    match crypt_of(target) {
+        Some(crypt) => XtsKey::new(crypt.key.bytes()),
+        None => None,
     }
 }
 

@@ -12,5 +12,6 @@ mod zero_digests;
 
 pub use config::Config;
 pub use stack_rules::{
-    ConfigFault, DevId, Leaf, LoadFault, LoadKind, Lower, Refusal, RemoveFault, unit_sectors,
+    ConfigFault, DevId, Leaf, LoadFault, LoadKind, Lower, Refusal, RemoveFault, crypt_of,
+    unit_sectors, verity_of,
 };

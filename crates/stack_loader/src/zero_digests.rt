@@ -8,7 +8,7 @@ ghost use Rattle.stack_rules.specs.Trees.{zero_block};
 
 use dm_table::{Line, Target, Verity};
 use hash_tree::digest;
-use stack_rules::Planned;
+use stack_rules::{Planned, verity_of};
 use std::alloc::{AllocError, Global};
 use std::marker::Model;
 
@@ -56,19 +56,15 @@ fn zero_digest_of(target: &Target) -> Option<[u8; 32]>
     requires { IsTargetOfGrammar target.now }
     ensures { result ≡ zero_digest_of target.now }
 {
-    match target {
-        Target::Verity(verity) => {
+    match verity_of(target) {
+        Some(verity) => {
             if verity.ignore_zero_blocks {
                 Some(digest_of_zeros(verity))
             } else {
                 None
             }
         }
-        Target::Linear(_)
-        | Target::Striped { .. }
-        | Target::Zero
-        | Target::Error
-        | Target::Crypt(_) => None,
+        None => None,
     }
 }
 

@@ -1,15 +1,22 @@
 -- What callers may cite.
+pub mod BaseLemmas
+pub mod BlockSizeLemmas
 pub mod ChangeLemmas
 pub mod CostLemmas
 pub mod EachLineLemmas
 pub mod FoundLemmas
+pub mod GatheredLemmas
 pub mod LeafLemmas
 pub mod LeafListLemmas
 pub mod LeavesBeneathLemmas
 pub mod LineLemmas
 pub mod LoadedLemmas
+pub mod MeaningLaws
+pub mod MeaningLawsOf
 pub mod PlainLemmas
 pub mod RunLemmas
 pub mod SectorLemmas
+pub mod SizedLemmas
 pub mod SpanLemmas
 pub mod UnitLemmas
+pub mod targets

@@ -1,31 +1,28 @@
 -- The lower sector on which a sector of a line lies.
-use Rattle.std.specs.Prelude.{ℕ, ◌+◌, ◌*◌, ◌/◌, ◌%◌, List, length, slice_get, Option, Some, None, option_map}
+use Rattle.std.specs.Prelude.{ℕ, ◌+◌, List, slice_get, Option, Some, None, option_map, option_and_then}
+use Rattle.dm_table.specs.declared.table.Base.{Base}
 use Rattle.dm_table.specs.declared.table.Target.{Target}
-use Rattle.dm_table.specs.declared.table.Target.TheVariants.{Linear, Striped, Zero, Error, Crypt as crypt_target, Verity as verity_target}
+use Rattle.stack_rules.specs.RulesOf.{rules_of}
+use Rattle.stack_meaning.specs.TargetMeaning.{IsHanded}
+use Rattle.stack_meaning.specs.MeaningOf.{meaning_of}
 
--- The device and the sector there at which sector s of a line lies. Of a striped line, chunk k is on device
--- k % n of its n devices, as their chunk k / n from the offset on.
+-- a base by its place, and a sector from its first on, as a device's
+abbrev pub on_base : List Base → ℕ × ℕ → Option (List ℕ × ℕ)
+on_base bases p = option_map (λ base. (base.device, base.offset + p.1)) (slice_get bases p.0)
+
+-- the device and the sector there at which sector s of a line lies
 abbrev pub beneath : Target → ℕ → Option (List ℕ × ℕ)
-beneath (Linear base) s = Some (base.device, base.offset + s)
-beneath (Striped chunk bases) s =
-    let k = s / chunk in
-    let n = length bases in
-    option_map (λ base. (base.device, base.offset + k / n * chunk + s % chunk)) (slice_get bases (k % n))
-beneath Zero s = None
-beneath Error s = None
-beneath (crypt_target crypt) s = Some (crypt.base.device, crypt.base.offset + s)
-beneath (verity_target verity) s = None
+beneath target s = option_and_then (on_base (rules_of target).bases) ((rules_of target).lies s)
 
 -- the line hands on the sector beneath as it is
 abbrev pub HandsOn : Target → Type 0
-HandsOn (Linear base) = Unit {0}
-HandsOn (Striped chunk bases) = Unit {0}
-HandsOn Zero = ⊥
-HandsOn Error = ⊥
-HandsOn (crypt_target crypt) = ⊥
-HandsOn (verity_target verity) = ⊥
+HandsOn target = IsHanded (meaning_of target).meant
 
 -- what at says of the sector beneath, if there is one
 abbrev pub said_or {ℓ} : {X : Type ℓ} → X → (List ℕ → ℕ → X) → Option (List ℕ × ℕ) → X
 said_or none at None = none
 said_or none at (Some p) = at p.0 p.1
+
+-- what at says of sector t of the base of that place
+abbrev pub below {ℓ} : {X : Type ℓ} → X → (List ℕ → ℕ → X) → Target → ℕ → ℕ → X
+below none at target i t = said_or none at (option_map (λ base. (base.device, t)) (slice_get (rules_of target).bases i))

@@ -6,7 +6,8 @@ use Rattle.hash_tree.specs.Shape.{levels, position, slot, ancestor}
 use Rattle.dm_table.specs.declared.verity.Verity.{Verity}
 use Rattle.stack_rules.specs.Trees.{tree_of, block_sectors, zero_block}
 use Rattle.stack_meaning.specs.Sectors.{SomeOf}
-use Rattle.stack_meaning.specs.Outcomes.{Outcome, Fault, mismatch, span, then_outcome}
+use Rattle.stack_meaning.specs.declared.fault.Fault.{Fault}
+use Rattle.stack_meaning.specs.Outcomes.{Outcome, mismatch, span, then_outcome}
 
 -- the sectors of a hash block
 abbrev pub hash_sectors : Verity → ℕ

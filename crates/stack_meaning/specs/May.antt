@@ -3,7 +3,7 @@ use Rattle.std.specs.Prelude.{ℕ, List}
 use Rattle.stack_rules.specs.declared.lower.Lower.{Lower}
 use Rattle.stack_rules.specs.Records.{Configuration}
 use Rattle.stack_meaning.specs.Sectors.{SomeOf, IsRun}
-use Rattle.stack_meaning.specs.Outcomes.{Fault}
+use Rattle.stack_meaning.specs.declared.fault.Fault.{Fault}
 use Rattle.stack_meaning.specs.Found.{FoundRecord, AreDistinct, AreUsed}
 use Rattle.stack_meaning.specs.Meaning.{said_at}
 

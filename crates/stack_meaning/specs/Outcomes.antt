@@ -1,10 +1,15 @@
 -- What a sector's place may hold: bytes, or a fault.
 use Rattle.std.specs.Prelude.{ℕ, zero, suc, ◌*◌, List, [], ◌++◌, take, drop, Result, Ok, Err, All}
 use Rattle.block_device.specs.Device.{filled, IsSector}
+use Rattle.stack_meaning.specs.declared.fault.Fault.{Fault}
+use Rattle.stack_meaning.specs.declared.fault.Fault.TheVariants.{ErrorTarget, Mismatch}
 
 -- why a sector has no bytes
-pub data Fault : Type 0 where
-  error_target mismatch : Fault
+abbrev pub error_target : Fault
+error_target = ErrorTarget
+
+abbrev pub mismatch : Fault
+mismatch = Mismatch
 
 -- the sectors of each leaf, in order
 abbrev pub Images : Type 0

@@ -5,7 +5,8 @@ use Rattle.stack_rules.specs.declared.lower.Lower.{Lower}
 use Rattle.stack_rules.specs.Records.{Configuration}
 use Rattle.stack_rules.specs.Descend.{read_cost}
 use Rattle.stack_meaning.specs.Sectors.{SomeOf, IsRun}
-use Rattle.stack_meaning.specs.Outcomes.{Fault, Outcome, Images, span}
+use Rattle.stack_meaning.specs.declared.fault.Fault.{Fault}
+use Rattle.stack_meaning.specs.Outcomes.{Outcome, Images, span}
 use Rattle.stack_meaning.specs.Found.{FoundRecord}
 use Rattle.stack_meaning.specs.Meaning.{Said, said_at}
 

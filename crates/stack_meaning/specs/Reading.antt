@@ -6,7 +6,8 @@ use Rattle.stack_rules.specs.declared.lower.Lower.{Lower}
 use Rattle.stack_rules.specs.Records.{Configuration}
 use Rattle.stack_meaning.specs.declared.fault.IoFault.{IoFault}
 use Rattle.stack_meaning.specs.declared.fault.IoFault.TheVariants as io
-use Rattle.stack_meaning.specs.Outcomes.{Fault, error_target, mismatch, Outcome}
+use Rattle.stack_meaning.specs.declared.fault.Fault.{Fault}
+use Rattle.stack_meaning.specs.Outcomes.{mismatch, Outcome}
 use Rattle.stack_meaning.specs.Leaves.{images_of, AllSteady, AreRead, LeafFailed}
 use Rattle.stack_meaning.specs.Sectors.{SomeOf}
 use Rattle.stack_meaning.specs.Changes.{reached}
@@ -19,16 +20,14 @@ use Rattle.stack_meaning.specs.Places.{Place, place_of, Expected, run_expected, 
 -- that failed counts from 1.
 abbrev pub Ends : {A : Type 0} → (A → Type 0) → (Fault → Type 0) → List Device → List Device → Result A IoFault → Type 0
 Ends Is May old new (Ok x) = Is x
-Ends Is May old new (Err io.ErrorTarget) = May error_target
-Ends Is May old new (Err io.Mismatch) = May mismatch
+Ends Is May old new (Err (io.Stack fault)) = May fault
 Ends Is May old new (Err (io.Device i)) = (1 ≤ i) × LeafFailed (i - 1) old new
 Ends Is May old new (Err io.NoMemory) = Unit {0}
 
 -- over steady leaves: what this means, unless a device failed or memory ran out
 abbrev pub Answers : {A : Type 0} → (A → List ℕ) → Outcome → Result A IoFault → Type 0
 Answers bytes_of meaning (Ok x) = meaning ≡ Ok (bytes_of x)
-Answers bytes_of meaning (Err io.ErrorTarget) = meaning ≡ Err error_target
-Answers bytes_of meaning (Err io.Mismatch) = meaning ≡ Err mismatch
+Answers bytes_of meaning (Err (io.Stack fault)) = meaning ≡ Err fault
 Answers bytes_of meaning (Err (io.Device i)) = Unit {0}
 Answers bytes_of meaning (Err io.NoMemory) = Unit {0}
 

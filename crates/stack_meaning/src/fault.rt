@@ -1,15 +1,23 @@
 // How an access to a stack ends where it doesn't succeed.
 use thiserror::Error;
 
+/// Why a sector has no bytes, over leaves that don't fail.
+#[derive(Clone, Copy, Debug, PartialEq, Eq, Error)]
+pub enum Fault {
+    /// Its way leads to an `error` line.
+    #[error("ErrorTarget")]
+    ErrorTarget,
+    /// A block on its way has another digest than the one that stands for it.
+    #[error("Mismatch")]
+    Mismatch,
+}
+
 /// The fault of a read or a write.
 #[derive(Clone, Copy, Debug, PartialEq, Eq, Error)]
 pub enum IoFault {
-    /// The way of a sector leads to an `error` line.
-    #[error("ErrorTarget")]
-    ErrorTarget,
-    /// A block has another digest than the one that stands for it.
-    #[error("Mismatch")]
-    Mismatch,
+    /// A sector has no bytes.
+    #[error("{0}")]
+    Stack(Fault),
     /// The leaf of this number, counted from 1, failed.
     #[error("Device {0}")]
     Device(u32),
@@ -27,8 +35,8 @@ impl IoFault {
         ensures { result ≡ io_number self }
     {
         match self {
-            IoFault::ErrorTarget => 1,
-            IoFault::Mismatch => 2,
+            IoFault::Stack(Fault::ErrorTarget) => 1,
+            IoFault::Stack(Fault::Mismatch) => 2,
             IoFault::Device(_) => 3,
             IoFault::NoMemory => 0,
         }
@@ -39,8 +47,8 @@ impl IoFault {
         ensures { result.now ≡ io_name self }
     {
         match self {
-            IoFault::ErrorTarget => "ErrorTarget",
-            IoFault::Mismatch => "Mismatch",
+            IoFault::Stack(Fault::ErrorTarget) => "ErrorTarget",
+            IoFault::Stack(Fault::Mismatch) => "Mismatch",
             IoFault::Device(_) => "Device",
             IoFault::NoMemory => "NoMemory",
         }

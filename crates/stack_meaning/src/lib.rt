@@ -4,5 +4,5 @@
 mod fault;
 mod found;
 
-pub use fault::IoFault;
+pub use fault::{Fault, IoFault};
 pub use found::Found;

@@ -2,7 +2,7 @@
 use Rattle.std.proofs.Common.{◌≡◌, ℕ, ◌+◌, ◌-◌, ◌/◌, ◌<◌, ◌≤◌, List, Some, Ok, Err, sym, ap, ◌∙◌, subst, arith}
 use Rattle.dm_table.specs.declared.table.Line.{Line}
 use Rattle.dm_table.specs.declared.table.Target.{Target}
-use Rattle.dm_table.specs.declared.table.Target.TheVariants.{Linear, Striped, Zero, Error, Crypt as crypt_target, Verity as verity_target}
+use Rattle.dm_table.specs.declared.table.Target.TheVariants.{Error, Verity as verity_target}
 use Rattle.stack_rules.specs.Lines.{line_at}
 use Rattle.stack_rules.specs.Names.{mapped}
 use Rattle.stack_rules.specs.Records.{Configuration}
@@ -10,7 +10,8 @@ use Rattle.stack_rules.specs.Rules.{IsLoaded}
 use Rattle.stack_rules.specs.Trees.{block_sectors}
 use Rattle.stack_meaning.specs.Blocks.{block_at}
 use Rattle.stack_meaning.specs.Meaning.{Said, content_part, line_said, said_by_name, sector}
-use Rattle.stack_meaning.specs.Outcomes.{Fault, Images, Outcome, then_outcome}
+use Rattle.stack_meaning.specs.declared.fault.Fault.{Fault}
+use Rattle.stack_meaning.specs.Outcomes.{Images, Outcome, then_outcome}
 use Rattle.stack_engine.proofs.lemmas.BlockLemmas.{same_block}
 use Rattle.stack_meaning.proofs.lemmas.SectorLemmas.{said_at-line}
 use Rattle.stack_recovery.specs.Alike.{AreAlike}
@@ -26,11 +27,7 @@ module _ (at : List ℕ → ℕ → Said) (d l w n : ℕ) (images : Images) (fau
   one target few e = let same : w + j ≡ w + k = omega (arith, few, low, below) in subst (λ (s : ℕ). (line_said at d l target s).means images ≡ Err fault) same e
 
   pub lost-together : (target : Target) → AreLostTogether target w n → (line_said at d l target (w + j)).means images ≡ Err fault → (line_said at d l target (w + k)).means images ≡ Err fault
-  lost-together (Linear base) few e = one (Linear base) few e
-  lost-together (Striped chunk bases) few e = one (Striped chunk bases) few e
-  lost-together Zero few e = one Zero few e
   lost-together Error few e = e
-  lost-together (crypt_target crypt) few e = one (crypt_target crypt) few e
   lost-together (verity_target v) few e =
       let first : (w + j) / block_sectors v ≡ w / block_sectors v = same_block (block_sectors v) w j (omega (arith, few, low)) in
       let second : (w + k) / block_sectors v ≡ w / block_sectors v = same_block (block_sectors v) w k (omega (arith, few, below)) in
@@ -38,6 +35,7 @@ module _ (at : List ℕ → ℕ → Said) (d l w n : ℕ) (images : Images) (fau
       let block : ℕ → Outcome = λ i. block_at v (λ t. (at v.data t).means images) (λ t. (at v.hash t).means images) i in
       fault-through (block ((w + k) / block_sectors v)) (content_part v (w + j)) (content_part v (w + k)) fault
       (subst (λ (i : ℕ). then_outcome (block i) (λ b. Ok (content_part v (w + j) b)) ≡ Err fault) same e)
+  lost-together target few e = one target few e
 
 -- sectors of a device that lie in one line
 pub alike-at : (c : Configuration) → IsLoaded c → (d s n l : ℕ) (line : Line) → line_at c d s ≡ Some (l, line) → line.start ≤ s → s + n ≤ line.start + line.length
@@ -48,9 +46,6 @@ alike-at c loaded d s n l line found start inside together images fault j k low 
     at k below ∙ lost-together (said_by_name c) d l (s - line.start) n images fault j k low below line.target together (sym (at j low) ∙ e)
 
 pub fewer-together : (target : Target) (w m n : ℕ) → m ≤ n → AreLostTogether target w n → AreLostTogether target w m
-fewer-together (Linear base) w m n le h = omega (arith, le, h)
-fewer-together (Striped chunk bases) w m n le h = omega (arith, le, h)
-fewer-together Zero w m n le h = omega (arith, le, h)
 fewer-together Error w m n le h = tt
-fewer-together (crypt_target crypt) w m n le h = omega (arith, le, h)
 fewer-together (verity_target v) w m n le h = omega (arith, le, h)
+fewer-together target w m n le h = omega (arith, le, h)

@@ -3,7 +3,8 @@ use Rattle.std.proofs.Common.{◌≡◌, ℕ, zero, suc, ◌+◌, ◌≤◌, ◌
 use Rattle.std.proofs.lemmas.Bool.{eqb-true, eq-eqb, ne_eqb, and_from, and_left, and_right}
 use Rattle.std.proofs.lemmas.List.{append-nil, append_assoc, length-append, length-replicate}
 use Rattle.stack_meaning.specs.declared.fault.IoFault.{IoFault}
-use Rattle.stack_meaning.specs.declared.fault.IoFault.TheVariants.{ErrorTarget, Mismatch, Device, NoMemory}
+use Rattle.stack_meaning.specs.declared.fault.Fault.TheVariants.{ErrorTarget, Mismatch}
+use Rattle.stack_meaning.specs.declared.fault.IoFault.TheVariants.{Stack, Device, NoMemory}
 use Rattle.stack_recovery.specs.declared.lost_run.LostRun.{LostRun}
 use Rattle.stack_recovery.specs.LostRuns.{is_same, run, follows, run_before, lost_runs, lost_in}
 use Rattle.stack_recovery.specs.Surveys.{State}
@@ -12,26 +13,26 @@ use Rattle.stack_recovery.specs.Tallies.{EndsAt, listed, closed_from, opened_fro
 -- ---- faults
 
 pub is_same-refl : (f : IoFault) → is_same f f ≡ true
-is_same-refl ErrorTarget = refl
-is_same-refl Mismatch = refl
+is_same-refl (Stack ErrorTarget) = refl
+is_same-refl (Stack Mismatch) = refl
 is_same-refl (Device i) = eq-eqb i i refl
 is_same-refl NoMemory = refl
 
 pub is_same-true : (a b : IoFault) → is_same a b ≡ true → a ≡ b
-is_same-true ErrorTarget ErrorTarget e = refl
-is_same-true ErrorTarget Mismatch e = cc
-is_same-true ErrorTarget (Device j) e = cc
-is_same-true ErrorTarget NoMemory e = cc
-is_same-true Mismatch ErrorTarget e = cc
-is_same-true Mismatch Mismatch e = refl
-is_same-true Mismatch (Device j) e = cc
-is_same-true Mismatch NoMemory e = cc
-is_same-true (Device i) ErrorTarget e = cc
-is_same-true (Device i) Mismatch e = cc
+is_same-true (Stack ErrorTarget) (Stack ErrorTarget) e = refl
+is_same-true (Stack ErrorTarget) (Stack Mismatch) e = cc
+is_same-true (Stack ErrorTarget) (Device j) e = cc
+is_same-true (Stack ErrorTarget) NoMemory e = cc
+is_same-true (Stack Mismatch) (Stack ErrorTarget) e = cc
+is_same-true (Stack Mismatch) (Stack Mismatch) e = refl
+is_same-true (Stack Mismatch) (Device j) e = cc
+is_same-true (Stack Mismatch) NoMemory e = cc
+is_same-true (Device i) (Stack ErrorTarget) e = cc
+is_same-true (Device i) (Stack Mismatch) e = cc
 is_same-true (Device i) (Device j) e = ap (λ (k : ℕ). Device k) (eqb-true i j e)
 is_same-true (Device i) NoMemory e = cc
-is_same-true NoMemory ErrorTarget e = cc
-is_same-true NoMemory Mismatch e = cc
+is_same-true NoMemory (Stack ErrorTarget) e = cc
+is_same-true NoMemory (Stack Mismatch) e = cc
 is_same-true NoMemory (Device j) e = cc
 is_same-true NoMemory NoMemory e = refl
 

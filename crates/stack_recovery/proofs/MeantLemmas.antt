@@ -5,10 +5,11 @@ use Rattle.block_device.specs.Device.{Device, in_memory}
 use Rattle.stack_rules.specs.Names.{mapped}
 use Rattle.stack_rules.specs.Records.{Configuration}
 use Rattle.stack_meaning.specs.declared.fault.IoFault.{IoFault}
-use Rattle.stack_meaning.specs.declared.fault.IoFault.TheVariants.{ErrorTarget, Mismatch, Device as DeviceFailed, NoMemory}
+use Rattle.stack_meaning.specs.declared.fault.IoFault.TheVariants.{Stack, Device as DeviceFailed, NoMemory}
 use Rattle.stack_meaning.specs.Leaves.{AreRead, images_of}
 use Rattle.stack_meaning.specs.Meaning.{sector}
-use Rattle.stack_meaning.specs.Outcomes.{Fault, Images, Outcome, error_target, joint_outcome, mismatch, span}
+use Rattle.stack_meaning.specs.declared.fault.Fault.{Fault}
+use Rattle.stack_meaning.specs.Outcomes.{Images, Outcome, error_target, joint_outcome, mismatch, span}
 use Rattle.stack_engine.specs.Pieces.{EachPiece}
 use Rattle.stack_engine.specs.Stacks.{StackRecord}
 use Rattle.stack_meaning.proofs.lemmas.LeafListLemmas.{AllSteady-kept, images-kept, same_length}
@@ -97,8 +98,7 @@ module _ (d first : ℕ) (w : StackRecord) (sure : AreSure w.leaves) (n : ℕ) (
   at = sector w.config (images_of w.leaves) (mapped d)
 
   meant-lost : (fault : IoFault) → EachPiece w d first n (Err fault) after → AreAlike w.config d first n → fault ≢ NoMemory → meant_states (sector w.config (images_of w.leaves) (mapped d)) first n ≡ replicate n (Some fault)
-  meant-lost ErrorTarget p alike kind = meant-fault w.config (images_of w.leaves) d first n error_target alike (p.steady sure.steady).exact
-  meant-lost Mismatch p alike kind = meant-fault w.config (images_of w.leaves) d first n mismatch alike (p.steady sure.steady).exact
+  meant-lost (Stack fault) p alike kind = meant-fault w.config (images_of w.leaves) d first n fault alike (p.steady sure.steady).exact
   meant-lost (DeviceFailed i) p alike kind = let failed = p.any.may.1 in absurd (failed.unsure some-device (sure.never_fail (i - 1) some-device failed.inside))
   meant-lost NoMemory p alike kind = absurd (kind refl)
 

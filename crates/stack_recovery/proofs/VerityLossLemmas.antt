@@ -6,7 +6,8 @@ use Rattle.stack_rules.specs.Names.{mapped}
 use Rattle.stack_rules.specs.Trees.{block_sectors}
 use Rattle.stack_meaning.specs.Kept.{block_of}
 use Rattle.stack_meaning.specs.Meaning.{Said, content_part, line_said, said_by_name, sector}
-use Rattle.stack_meaning.specs.Outcomes.{Fault, Outcome, then_outcome}
+use Rattle.stack_meaning.specs.declared.fault.Fault.{Fault}
+use Rattle.stack_meaning.specs.Outcomes.{Outcome, then_outcome}
 use Rattle.stack_meaning.proofs.lemmas.EachLineLemmas.{line_at-end}
 use Rattle.stack_meaning.proofs.lemmas.LineLemmas.{line-start}
 use Rattle.stack_meaning.proofs.lemmas.SectorLemmas.{said_at-line}

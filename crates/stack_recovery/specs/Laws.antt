@@ -7,12 +7,13 @@ use Rattle.stack_rules.specs.Names.{mapped}
 use Rattle.stack_rules.specs.Records.{Configuration}
 use Rattle.stack_rules.specs.Rules.{IsLoaded}
 use Rattle.stack_rules.specs.Trees.{block_sectors}
-use Rattle.stack_meaning.specs.declared.fault.IoFault.TheVariants.{ErrorTarget, Mismatch}
+use Rattle.stack_meaning.specs.declared.fault.IoFault.TheVariants.{Stack}
 use Rattle.stack_meaning.specs.Kept.{block_of}
 use Rattle.stack_engine.specs.Laws.{LiesInVerity}
 use Rattle.stack_meaning.specs.Leaves.{AllSteady, images_of}
 use Rattle.stack_meaning.specs.Meaning.{sector}
-use Rattle.stack_meaning.specs.Outcomes.{Fault, Images, Outcome, error_target, mismatch}
+use Rattle.stack_meaning.specs.declared.fault.Fault.{Fault}
+use Rattle.stack_meaning.specs.Outcomes.{Images, Outcome}
 use Rattle.stack_engine.specs.Stacks.{StackRecord}
 use Rattle.stack_recovery.specs.declared.lost_run.LostRun.{LostRun}
 use Rattle.stack_recovery.specs.LostRuns.{lost_runs}
@@ -27,8 +28,7 @@ pub record AreSure (leaves : List Device) : Type 0 where
 -- what becomes of a sector that means this
 abbrev pub meant_state : Outcome → State
 meant_state (Ok bytes) = None
-meant_state (Err error_target) = Some ErrorTarget
-meant_state (Err mismatch) = Some Mismatch
+meant_state (Err fault) = Some (Stack fault)
 
 -- of n sectors from the first on, where at says what each means
 abbrev pub meant_states : (ℕ → Outcome) → ℕ → ℕ → List State

@@ -1,13 +1,14 @@
 -- The longest runs of sectors that are lost by one fault.
 use Rattle.std.specs.Prelude.{ℕ, suc, ◌+◌, ◌==◌, ◌&&◌, Bool, true, false, List, [], ◌∷◌, Some, None, if◌then◌else◌}
 use Rattle.stack_meaning.specs.declared.fault.IoFault.{IoFault}
-use Rattle.stack_meaning.specs.declared.fault.IoFault.TheVariants.{ErrorTarget, Mismatch, Device, NoMemory}
+use Rattle.stack_meaning.specs.declared.fault.Fault.TheVariants.{ErrorTarget, Mismatch}
+use Rattle.stack_meaning.specs.declared.fault.IoFault.TheVariants.{Stack, Device, NoMemory}
 use Rattle.stack_recovery.specs.declared.lost_run.LostRun.{LostRun}
 use Rattle.stack_recovery.specs.Surveys.{State}
 
 abbrev pub is_same : IoFault → IoFault → Bool
-is_same ErrorTarget ErrorTarget = true
-is_same Mismatch Mismatch = true
+is_same (Stack ErrorTarget) (Stack ErrorTarget) = true
+is_same (Stack Mismatch) (Stack Mismatch) = true
 is_same (Device i) (Device j) = i == j
 is_same NoMemory NoMemory = true
 is_same a b = false

@@ -1,7 +1,7 @@
 -- The next piece of a device that is gone over.
 use Rattle.std.specs.Prelude.{◌≡◌, ℕ, ◌+◌, ◌%◌, ◌≤◌, false, IsTrue}
 use Rattle.dm_table.specs.declared.table.Target.{Target}
-use Rattle.dm_table.specs.declared.table.Target.TheVariants.{Linear, Striped, Zero, Error, Crypt, Verity}
+use Rattle.dm_table.specs.declared.table.Target.TheVariants.{Error, Verity}
 use Rattle.stack_rules.specs.Names.{mapped, size}
 use Rattle.stack_rules.specs.Records.{Configuration}
 use Rattle.stack_rules.specs.Trees.{block_sectors}
@@ -10,12 +10,9 @@ use Rattle.stack_recovery.specs.Alike.{AreAlike}
 
 -- n sectors of a line from its sector w on are lost together: one, those of an `error` line, or of one data block
 abbrev pub AreLostTogether : Target → ℕ → ℕ → Type 0
-AreLostTogether (Linear base) w n = n ≤ 1
-AreLostTogether (Striped chunk bases) w n = n ≤ 1
-AreLostTogether Zero w n = n ≤ 1
 AreLostTogether Error w n = Unit {0}
-AreLostTogether (Crypt crypt) w n = n ≤ 1
 AreLostTogether (Verity v) w n = w % block_sectors v + n ≤ block_sectors v
+AreLostTogether target w n = n ≤ 1
 
 -- A piece of device d from sector first on, of sectors that are lost together, or of at most so many.
 pub record IsPiece (c : Configuration) (d first most : ℕ) (piece : Piece) : Type 0 where

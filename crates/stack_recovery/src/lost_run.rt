@@ -4,7 +4,7 @@ ghost use Rattle.stack_session.specs.Counted.{Writes};
 ghost use Rattle.stack_recovery.specs.LostRuns.{is_same};
 ghost use Rattle.stack_recovery.specs.Texts.{run_text};
 
-use stack_engine::IoFault;
+use stack_engine::{Fault, IoFault};
 use stack_session::{Counted, WriteFault, say_io_words};
 use std::io::Write;
 
@@ -21,8 +21,8 @@ pub(crate) fn is_same(a: IoFault, b: IoFault) -> bool
     ensures { result ≡ is_same a b }
 {
     match (a, b) {
-        (IoFault::ErrorTarget, IoFault::ErrorTarget)
-        | (IoFault::Mismatch, IoFault::Mismatch)
+        (IoFault::Stack(Fault::ErrorTarget), IoFault::Stack(Fault::ErrorTarget))
+        | (IoFault::Stack(Fault::Mismatch), IoFault::Stack(Fault::Mismatch))
         | (IoFault::NoMemory, IoFault::NoMemory) => true,
         (IoFault::Device(leaf), IoFault::Device(other)) => leaf == other,
         _ => false,

@@ -42,9 +42,7 @@ fn unit_of(target: &Target, within: u64) -> Unit
                 whole,
             }
         }
-        Target::Linear(_) | Target::Striped { .. } | Target::Zero | Target::Crypt(_) => {
-            Unit { rest: 1, whole: 1 }
-        }
+        _ => Unit { rest: 1, whole: 1 },
     }
 }
 

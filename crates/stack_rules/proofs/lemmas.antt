@@ -13,3 +13,8 @@ pub mod NameMeaningLemmas
 pub mod UnknownNameLemmas
 pub mod LowerLemmas
 pub mod PassingLemmas
+pub mod CostLaws
+pub mod TargetLaws
+pub mod targets
+pub mod RulesLawsOf
+pub mod LastCaseLemmas

@@ -1,13 +1,12 @@
 -- What is said of a device by what holds of the devices beneath it: depths and costs.
-use Rattle.std.specs.Prelude.{ℕ, zero, suc, ◌+◌, ◌*◌, max, List, [], ◌∷◌, map, Option, Some, None}
+use Rattle.std.specs.Prelude.{ℕ, zero, suc, ◌+◌, List, map, Option, Some, None}
 use Rattle.dm_table.specs.declared.table.Target.{Target}
-use Rattle.dm_table.specs.declared.table.Target.TheVariants.{Linear, Striped, Zero, Error, Crypt, Verity}
 use Rattle.stack_rules.specs.declared.lower.Lower.{Lower}
 use Rattle.stack_rules.specs.declared.lower.Lower.TheVariants.{Leaf as leaf, Device as device}
 use Rattle.stack_rules.specs.Records.{Configuration}
-use Rattle.stack_rules.specs.Names.{named, lowers, lines_of}
-use Rattle.stack_rules.specs.Trees.{block_sectors, path_sectors}
-use Rattle.stack_rules.specs.Units.{unit_sectors, unit_write_cost}
+use Rattle.stack_rules.specs.Names.{named, names, lowers, lines_of}
+pub use Rattle.stack_rules.specs.TargetRules.{greatest}
+use Rattle.stack_rules.specs.RulesOf.{rules_of}
 
 -- the most mapped devices that a configuration may have
 abbrev pub most_devices : ℕ
@@ -30,10 +29,6 @@ known none below (Some lower) = below lower
 abbrev pub by_name {ℓ} : {A : Type ℓ} → Configuration → A → (Lower → A) → List ℕ → A
 by_name c none below name = known none below (named c name)
 
-abbrev pub greatest : List ℕ → ℕ
-greatest [] = 0
-greatest (x ∷ xs) = max x (greatest xs)
-
 -- a leaf has depth 0, a mapped device 1 more than the deepest that it names
 abbrev pub depth_rule : Configuration → (Lower → ℕ) → Lower → ℕ
 depth_rule c below (leaf i) = 0
@@ -44,21 +39,11 @@ depth c = descend 0 (depth_rule c)
 
 -- leaf sectors read for a sector of such a line, at most, where cost is that of the devices that it names
 abbrev pub line_read_cost : (List ℕ → ℕ) → Target → ℕ
-line_read_cost cost (Linear base) = cost base.device
-line_read_cost cost (Striped chunk bases) = greatest (map (λ base. cost base.device) bases)
-line_read_cost cost Zero = 0
-line_read_cost cost Error = 0
-line_read_cost cost (Crypt crypt) = unit_sectors crypt * cost crypt.base.device
-line_read_cost cost (Verity verity) = block_sectors verity * cost verity.data + path_sectors verity * cost verity.hash
+line_read_cost cost target = (rules_of target).read_cost (map cost (names target))
 
 -- leaf sectors read and written for a sector of it that is written, at most, where read is what reading costs
 abbrev pub line_write_cost : (List ℕ → ℕ) → (List ℕ → ℕ) → Target → ℕ
-line_write_cost read cost (Linear base) = cost base.device
-line_write_cost read cost (Striped chunk bases) = greatest (map (λ base. cost base.device) bases)
-line_write_cost read cost Zero = 0
-line_write_cost read cost Error = 0
-line_write_cost read cost (Crypt crypt) = unit_write_cost (unit_sectors crypt) (read crypt.base.device) (cost crypt.base.device)
-line_write_cost read cost (Verity verity) = 0
+line_write_cost read cost target = (rules_of target).write_cost (map read (names target)) (map cost (names target))
 
 -- a leaf's sector is one, and a device costs what its dearest line does
 abbrev pub cost_rule : Configuration → ((List ℕ → ℕ) → Target → ℕ) → (Lower → ℕ) → Lower → ℕ

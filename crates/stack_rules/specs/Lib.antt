@@ -1,7 +1,10 @@
 pub mod Records
-pub mod Names
 pub mod Trees
 pub mod Units
+pub mod TargetRules
+pub mod targets
+pub mod RulesOf
+pub mod Names
 pub mod Descend
 pub mod Cycles
 pub mod Lines

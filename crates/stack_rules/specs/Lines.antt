@@ -1,15 +1,13 @@
 -- The lines of a device by their sectors and numbers.
-use Rattle.std.specs.Prelude.{◌≡◌, ℕ, ◌+◌, ◌≤◌, ◌<◌, List, [], ◌∷◌, find, nat_lt, slice_get, if◌then◌else◌, Option, Some, None, option_and_then}
+use Rattle.std.specs.Prelude.{◌≡◌, ℕ, ◌+◌, ◌≤◌, ◌<◌, List, [], ◌∷◌, find, nat_lt, slice_get, Option, Some, option_and_then}
 use Rattle.std.specs.List.{enumerate_from}
 use Rattle.std.specs.Option.{option_map_or}
 use Rattle.dm_table.specs.declared.table.Line.{Line}
 use Rattle.dm_table.specs.declared.table.Target.{Target}
-use Rattle.dm_table.specs.declared.table.Target.TheVariants.{Linear, Striped, Zero, Error, Crypt, Verity}
-use Rattle.hash_tree.specs.Digests.{digest}
 use Rattle.stack_rules.specs.declared.lower.Lower.{Lower}
 use Rattle.stack_rules.specs.Records.{Configuration}
 use Rattle.stack_rules.specs.Names.{lines_of, names, named}
-use Rattle.stack_rules.specs.Trees.{zero_block}
+use Rattle.stack_rules.specs.RulesOf.{rules_of}
 
 -- the first line that ends past sector s of its device, after its number from 0
 abbrev pub line_in : List Line → ℕ → Option (ℕ × Line)
@@ -52,12 +50,7 @@ lower_at c d l i = option_and_then (named c) (slice_get (names_at c d l) i)
 
 -- the key that a target has, if it is a crypt line's
 abbrev pub key_of : Target → Option (List ℕ)
-key_of (Linear base) = None
-key_of (Striped chunk bases) = None
-key_of Zero = None
-key_of Error = None
-key_of (Crypt crypt) = Some crypt.key
-key_of (Verity verity) = None
+key_of target = (rules_of target).key
 
 -- the key of line l of device d, if it is a crypt line
 abbrev pub key_at : Configuration → ℕ → ℕ → Option (List ℕ)
@@ -65,12 +58,7 @@ key_at c d l = option_and_then (λ line. key_of line.target) (slice_get (lines_o
 
 -- the digest of a data block of zeros, if a target is a verity line that ignores such blocks
 abbrev pub zero_digest_of : Target → Option (List ℕ)
-zero_digest_of (Linear base) = None
-zero_digest_of (Striped chunk bases) = None
-zero_digest_of Zero = None
-zero_digest_of Error = None
-zero_digest_of (Crypt crypt) = None
-zero_digest_of (Verity verity) = if verity.ignore_zero_blocks then Some (digest verity.salt (zero_block verity)) else None
+zero_digest_of target = (rules_of target).zero_digest
 
 -- that of line l of device d, if there is such a line
 abbrev pub zero_digest_at : Configuration → ℕ → ℕ → Option (List ℕ)

@@ -1,13 +1,13 @@
 -- What the names in a table mean, and which device stands on which.
-use Rattle.std.specs.Prelude.{ℕ, Bool, false, List, [], ◌∷◌, ◌++◌, map, filter_map, flat_map, sum_by, Option, option_map, slice_get, position, codes}
+use Rattle.std.specs.Prelude.{ℕ, Bool, false, List, [], ◌++◌, map, filter_map, flat_map, sum_by, Option, option_map, slice_get, position, codes}
 use Rattle.std.specs.Str.{bytes_eq}
 use Rattle.std.specs.Option.{option_or, option_map_or}
 use Rattle.dm_table.specs.declared.table.Line.{Line}
 use Rattle.dm_table.specs.declared.table.Target.{Target}
-use Rattle.dm_table.specs.declared.table.Target.TheVariants.{Linear, Striped, Zero, Error, Crypt, Verity}
 use Rattle.stack_rules.specs.declared.lower.Lower.{Lower}
 use Rattle.stack_rules.specs.declared.lower.Lower.TheVariants.{Leaf as leaf, Device as device}
 use Rattle.stack_rules.specs.Records.{Configuration}
+use Rattle.stack_rules.specs.RulesOf.{rules_of}
 
 -- the mapped device of that place
 abbrev pub mapped : ℕ → Lower
@@ -15,12 +15,7 @@ mapped d = device (record { 0 = d })
 
 -- the names that a line's target has, from left to right
 abbrev pub names : Target → List (List ℕ)
-names (Linear base) = base.device ∷ []
-names (Striped chunk bases) = map (λ base. base.device) bases
-names Zero = []
-names Error = []
-names (Crypt crypt) = crypt.base.device ∷ []
-names (Verity verity) = verity.data ∷ verity.hash ∷ []
+names target = map (λ base. base.device) (rules_of target).bases
 
 -- how a table names a mapped device
 abbrev pub path_of : List ℕ → List ℕ

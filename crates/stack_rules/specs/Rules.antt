@@ -1,5 +1,5 @@
 -- Which loads are refused, and by which rule first.
-use Rattle.std.specs.Prelude.{◌≡◌, ◌≤◌, IsTrue, All, ℕ, ◌+◌, ◌-◌, ◌*◌, ◌/◌, ◌%◌, ◌^◌, Bool, true, false, not, ◌&&◌, ◌||◌, ◌==◌, nat_lt, is_none, List, [], ◌∷◌, ◌++◌, length, map, take, filter, flat_map, Option, Some, None, if◌then◌else◌, find}
+use Rattle.std.specs.Prelude.{◌≡◌, ◌≤◌, IsTrue, All, ℕ, ◌+◌, ◌-◌, ◌^◌, Bool, true, false, not, ◌&&◌, ◌||◌, ◌==◌, nat_lt, is_none, List, [], ◌∷◌, ◌++◌, length, map, take, filter, flat_map, Option, Some, None, if◌then◌else◌, find}
 use Rattle.std.specs.List.{list_any, enumerate_from, starts_with, IsDistinct}
 use Rattle.std.specs.Option.{option_map_or}
 use Rattle.std.specs.Str.{bytes_eq}
@@ -7,7 +7,6 @@ use Rattle.dm_table.specs.declared.stack.Entry.{Entry}
 use Rattle.dm_table.specs.declared.table.Base.{Base}
 use Rattle.dm_table.specs.declared.table.Line.{Line}
 use Rattle.dm_table.specs.declared.table.Target.{Target}
-use Rattle.dm_table.specs.declared.table.Target.TheVariants.{Linear, Striped, Zero, Error, Crypt, Verity}
 use Rattle.dm_table.specs.Grammar.{IsTableOfGrammar}
 use Rattle.dm_table.specs.Names.{is_mapped_name, is_name_of, is_leaf_byte, mapper}
 use Rattle.stack_rules.specs.declared.refusal.LoadKind.{LoadKind}
@@ -15,8 +14,9 @@ use Rattle.stack_rules.specs.declared.refusal.LoadKind.TheVariants.{DuplicateNam
 use Rattle.stack_rules.specs.declared.refusal.Refusal.{Refusal}
 use Rattle.stack_rules.specs.Records.{Configuration, DeviceRecord, LeafRecord}
 use Rattle.stack_rules.specs.Names.{mapped, named, names, sectors_of, size, may_write, device_named}
-use Rattle.stack_rules.specs.Trees.{data_sectors, tree_sectors}
-use Rattle.stack_rules.specs.Units.{unit_sectors}
+pub use Rattle.stack_rules.specs.TargetRules.{range_from}
+use Rattle.stack_rules.specs.TargetRules.{has_fault}
+use Rattle.stack_rules.specs.RulesOf.{rules_of}
 use Rattle.stack_rules.specs.Descend.{depth, read_cost, most_devices}
 use Rattle.stack_rules.specs.Cycles.{is_on_cycle, IsOnCycle, IsFirstOnCycle}
 
@@ -62,18 +62,9 @@ most_depth = 8
 abbrev pub ends_past : Configuration → List ℕ → ℕ → Bool
 ends_past c name end = option_map_or (λ lower. nat_lt (size c lower) end) (named c name) true
 
--- the range that so many sectors from a base take: the name of its device, and the sector at which it ends
-abbrev pub range_from : ℕ → Base → List ℕ × ℕ
-range_from sectors base = (base.device, base.offset + sectors)
-
 -- the mapped ranges of a line of so many sectors, its stripes' shares, or all its data blocks
 abbrev pub ranges : ℕ → Target → List (List ℕ × ℕ)
-ranges len (Linear base) = range_from len base ∷ []
-ranges len (Striped chunk bases) = map (range_from (len / length bases)) bases
-ranges len Zero = []
-ranges len Error = []
-ranges len (Crypt crypt) = range_from len crypt.base ∷ []
-ranges len (Verity verity) = (verity.data, data_sectors verity) ∷ []
+ranges len target = (rules_of target).ranges len
 
 -- so many sectors from a base end past its device
 abbrev pub ends_beyond : Configuration → ℕ → Base → Bool
@@ -83,59 +74,33 @@ ends_beyond c sectors base = ends_past c base.device (base.offset + sectors)
 abbrev pub is_beyond : Configuration → ℕ → Target → Bool
 is_beyond c len target = list_any (λ range. ends_past c range.0 range.1) (ranges len target)
 
+-- the target's own rule of that kind refuses a line of so many sectors
+abbrev pub refuses : LoadKind → ℕ → Target → Bool
+refuses kind len target = has_fault kind ((rules_of target).faults len)
+
 -- the length is no multiple of stripes times chunk
 abbrev pub is_undivided : ℕ → Target → Bool
-is_undivided len (Linear base) = false
-is_undivided len (Striped chunk bases) = not (len % (length bases * chunk) == 0)
-is_undivided len Zero = false
-is_undivided len Error = false
-is_undivided len (Crypt crypt) = false
-is_undivided len (Verity verity) = false
+is_undivided len target = refuses StripesDontDivide len target
 
 -- the length is no multiple of the unit
 abbrev pub cuts_unit : ℕ → Target → Bool
-cuts_unit len (Linear base) = false
-cuts_unit len (Striped chunk bases) = false
-cuts_unit len Zero = false
-cuts_unit len Error = false
-cuts_unit len (Crypt crypt) = not (len % unit_sectors crypt == 0)
-cuts_unit len (Verity verity) = false
+cuts_unit len target = refuses UnitDoesntDivide len target
 
 -- the number of the first unit is no multiple of the unit's sectors, however units are numbered
-abbrev pub is_off_unit : Target → Bool
-is_off_unit (Linear base) = false
-is_off_unit (Striped chunk bases) = false
-is_off_unit Zero = false
-is_off_unit Error = false
-is_off_unit (Crypt crypt) = not (crypt.iv_offset % unit_sectors crypt == 0)
-is_off_unit (Verity verity) = false
+abbrev pub is_off_unit : ℕ → Target → Bool
+is_off_unit len target = refuses IvOffset len target
 
 -- the line has more sectors than its data blocks
 abbrev pub is_uncovered : ℕ → Target → Bool
-is_uncovered len (Linear base) = false
-is_uncovered len (Striped chunk bases) = false
-is_uncovered len Zero = false
-is_uncovered len Error = false
-is_uncovered len (Crypt crypt) = false
-is_uncovered len (Verity verity) = nat_lt (data_sectors verity) len
+is_uncovered len target = refuses LineBeyondTree len target
 
 -- the tree, if it has a block, ends past the hash device
 abbrev pub is_tree_beyond : Configuration → Target → Bool
-is_tree_beyond c (Linear base) = false
-is_tree_beyond c (Striped chunk bases) = false
-is_tree_beyond c Zero = false
-is_tree_beyond c Error = false
-is_tree_beyond c (Crypt crypt) = false
-is_tree_beyond c (Verity verity) = ends_past c verity.hash (tree_sectors verity)
+is_tree_beyond c target = option_map_or (λ range. ends_past c range.0 range.1) (rules_of target).tree false
 
 -- no sector of such a line can be written
-abbrev pub needs_read_only : Target → Bool
-needs_read_only (Linear base) = false
-needs_read_only (Striped chunk bases) = false
-needs_read_only Zero = false
-needs_read_only Error = false
-needs_read_only (Crypt crypt) = false
-needs_read_only (Verity verity) = true
+abbrev pub needs_read_only : ℕ → Target → Bool
+needs_read_only len target = refuses NeedsReadOnly len target
 
 -- the line names a leaf or device that may not be written
 abbrev pub names_read_only : Configuration → Target → Bool
@@ -149,11 +114,11 @@ line_faults c writable before line =
     ∷ (TooLarge, nat_lt most_sectors (line.start + line.length))
     ∷ (StripesDontDivide, is_undivided line.length line.target)
     ∷ (UnitDoesntDivide, cuts_unit line.length line.target)
-    ∷ (IvOffset, is_off_unit line.target)
+    ∷ (IvOffset, is_off_unit line.length line.target)
     ∷ (BeyondDevice, is_beyond c line.length line.target)
     ∷ (LineBeyondTree, is_uncovered line.length line.target)
     ∷ (TreeBeyondDevice, is_tree_beyond c line.target)
-    ∷ (NeedsReadOnly, writable && needs_read_only line.target)
+    ∷ (NeedsReadOnly, writable && needs_read_only line.length line.target)
     ∷ (LowerReadOnly, writable && names_read_only c line.target)
     ∷ []
 

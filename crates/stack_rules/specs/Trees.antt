@@ -2,7 +2,7 @@
 use Rattle.std.specs.Prelude.{ℕ, ◌*◌, ◌/◌, List, replicate, Option, Some, None}
 use Rattle.hash_tree.specs.Shape.{ShapeRecord, shape_of, sectors_of, levels, area_end}
 use Rattle.dm_table.specs.declared.table.Target.{Target}
-use Rattle.dm_table.specs.declared.table.Target.TheVariants.{Linear, Striped, Zero, Error, Crypt, Verity as verity_target}
+use Rattle.dm_table.specs.declared.table.Target.TheVariants.{Verity as verity_target}
 use Rattle.dm_table.specs.declared.verity.Verity.{Verity}
 
 -- the shape that its arguments say
@@ -29,9 +29,5 @@ zero_block verity = replicate verity.data_block 0
 
 -- the arguments of a verity line
 abbrev pub verity_of : Target → Option Verity
-verity_of (Linear base) = None
-verity_of (Striped chunk bases) = None
-verity_of Zero = None
-verity_of Error = None
-verity_of (Crypt crypt) = None
 verity_of (verity_target verity) = Some verity
+verity_of target = None

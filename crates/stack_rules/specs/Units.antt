@@ -2,7 +2,7 @@
 use Rattle.std.specs.Prelude.{ℕ, ◌+◌, ◌*◌, ◌/◌, ◌==◌, if◌then◌else◌, Option, Some, None}
 use Rattle.dm_table.specs.declared.crypt.Crypt.{Crypt}
 use Rattle.dm_table.specs.declared.table.Target.{Target}
-use Rattle.dm_table.specs.declared.table.Target.TheVariants.{Linear, Striped, Zero, Error, Crypt as crypt_target, Verity}
+use Rattle.dm_table.specs.declared.table.Target.TheVariants.{Crypt as crypt_target}
 use Rattle.dm_table.specs.Crypt.{sector_size}
 
 -- 1, 2, 4 or 8
@@ -16,9 +16,5 @@ unit_write_cost sectors read write = if sectors == 1 then write else sectors * (
 
 -- the arguments of a crypt line
 abbrev pub crypt_of : Target → Option Crypt
-crypt_of (Linear base) = None
-crypt_of (Striped chunk bases) = None
-crypt_of Zero = None
-crypt_of Error = None
 crypt_of (crypt_target crypt) = Some crypt
-crypt_of (Verity verity) = None
+crypt_of target = None

@@ -12,11 +12,7 @@ pub fn verity_of(target: &Target) -> Option<&Verity>
 {
     match target {
         Target::Verity(verity) => Some(verity),
-        Target::Linear(_)
-        | Target::Striped { .. }
-        | Target::Zero
-        | Target::Error
-        | Target::Crypt(_) => None,
+        _ => None,
     }
 }
 

@@ -10,11 +10,7 @@ pub fn crypt_of(target: &Target) -> Option<&Crypt>
 {
     match target {
         Target::Crypt(crypt) => Some(crypt),
-        Target::Linear(_)
-        | Target::Striped { .. }
-        | Target::Zero
-        | Target::Error
-        | Target::Verity(_) => None,
+        _ => None,
     }
 }
 

@@ -137,7 +137,7 @@ pub fn say_io_fault<W: Write>(writer: &mut Counted<W>, fault: IoFault) -> Result
 {
     match fault {
         IoFault::NoMemory => say_no_memory(writer),
-        IoFault::ErrorTarget | IoFault::Mismatch | IoFault::Device(_) => {
+        IoFault::Stack(_) | IoFault::Device(_) => {
             writer.put(b"fault ")?;
             say_io_words(writer, fault)
         }
@@ -151,9 +151,7 @@ pub fn say_io_words<W: Write>(writer: &mut Counted<W>, fault: IoFault) -> Result
     let (number, name) = (fault.number(), fault.name());
     match fault {
         IoFault::Device(leaf) => writer.print(format_args!("{number} {name} {leaf}\n")),
-        IoFault::ErrorTarget | IoFault::Mismatch | IoFault::NoMemory => {
-            writer.print(format_args!("{number} {name}\n"))
-        }
+        IoFault::Stack(_) | IoFault::NoMemory => { writer.print(format_args!("{number} {name}\n")) }
     }
 }
 

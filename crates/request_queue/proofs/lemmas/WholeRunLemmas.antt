@@ -211,8 +211,7 @@ module _ (base : StackRecord) (loaded : IsLoaded base.config) (range : SectorRan
         subst (λ x. WritesInPieces base range.device.0 range.first (take (512 * u.done) bytes) (Ok tt) x) same u.put
 
     put-fails : (fault : IoFault) → u.done < range.count → EachWrite w.stack range.device.0 (range.first + u.done) (next_bytes bytes u.done n) (Err fault) w'.stack → WritesWhole base range bytes (Err fault) w'.stack
-    put-fails io.ErrorTarget some p = put-ends io.ErrorTarget (λ e. cc) p
-    put-fails io.Mismatch some p = put-ends io.Mismatch (λ e. cc) p
+    put-fails (io.Stack why) some p = put-ends (io.Stack why) (λ e. cc) p
     put-fails (io.Device i) some p = put-ends (io.Device i) (λ e. cc) p
     put-fails io.NoMemory some p = (u.done, some, put-nothing p)
 

@@ -9,10 +9,9 @@ use Rattle.std.proofs.Math.Path.{fun_ext}
 use Rattle.std.proofs.lemmas.Bool.{cond-true, cond-false, eq-eqb, ne_eqb}
 use Rattle.std.proofs.lemmas.List.{get_or-set_same, get_or-set_other, length-map}
 use Rattle.std.proofs.lemmas.List.FromFn.{fill_by_all, get_or-map-range_with_len}
-use Rattle.dm_table.specs.declared.table.Base.{Base}
 use Rattle.dm_table.specs.declared.table.Line.{Line}
 use Rattle.dm_table.specs.declared.table.Target.{Target}
-use Rattle.dm_table.specs.declared.table.Target.TheVariants.{Linear, Striped, Zero, Error, Crypt, Verity}
+use Rattle.dm_table.specs.declared.table.Target.TheVariants.{Crypt, Verity}
 use Rattle.dm_table.specs.declared.crypt.Crypt.{Crypt as CryptRecord}
 use Rattle.dm_table.specs.declared.verity.Verity.{Verity as VerityRecord}
 use Rattle.stack_costs.specs.declared.cost.Direction.{Direction}
@@ -28,6 +27,7 @@ use Rattle.stack_rules.specs.Kept.{each_mapped, meanings}
 use Rattle.stack_rules.specs.Passing.{Mean, RowsMean}
 use Rattle.stack_costs.specs.Costs.{line_cost, cost, cost_in, dearest, AreRows, AreMeasured, AreCosts, capped}
 use Rattle.stack_rules.specs.Rules.{most_depth}
+use Rattle.stack_rules.proofs.lemmas.LastCaseLemmas.{reads-dearest, writes-dearest}
 use Rattle.stack_rules.proofs.lemmas.UnrollLemmas.{turn, falls-at}
 use Rattle.stack_rules.proofs.lemmas.CostRuleLemmas.{IsLineLocal, line_read_cost-local, line_write_cost-local, cost_rule-local, cost-rule}
 use Rattle.stack_costs.proofs.lemmas.CappedLemmas.{rule-capped}
@@ -48,49 +48,20 @@ names-row c below (l ∷ ls) (n ∷ ns) means =
     let more : map (λ (lower : Lower). Some lower) ls ≡ map (named c) ns = cc in
     rw (← here) (ap (max (below l)) (names-row c below ls ns more))
 
-bases-names : (cost : List ℕ → ℕ) (bases : List Base) → greatest (map (λ (base : Base). cost base.device) bases) ≡ greatest (map cost (map (λ (base : Base). base.device) bases))
-bases-names cost [] = refl
-bases-names cost (b ∷ bs) = ap (max (cost b.device)) (bases-names cost bs)
-
-pub verity-is : (target : Target) (verity : VerityRecord) → Some verity ≡ verity_of target → target ≡ Verity verity
-verity-is (Verity v) verity is = let same : verity ≡ v = cc in ap Verity (sym same)
-verity-is (Linear base) verity is = cc
-verity-is (Striped chunk bases) verity is = cc
-verity-is Zero verity is = cc
-verity-is Error verity is = cc
-verity-is (Crypt crypt) verity is = cc
-
 -- a line that is neither a verity line nor a crypt line
 pub line_read_cost-row : (c : Configuration) (below : Lower → ℕ) (row : List Lower) (target : Target) → None ≡ verity_of target → None ≡ crypt_of target → Mean c row (names target) → greatest (map below row) ≡ line_read_cost (by_name c 0 below) target
-line_read_cost-row c below row (Linear base) plain bare means = let all = names-row c below row (names (Linear base)) means in omega (arith, all)
-line_read_cost-row c below row (Striped chunk bases) plain bare means = sym (bases-names (by_name c 0 below) bases ∙ names-row c below row (names (Striped chunk bases)) means)
-line_read_cost-row c below row Zero plain bare means = sym (names-row c below row [] means)
-line_read_cost-row c below row Error plain bare means = sym (names-row c below row [] means)
-line_read_cost-row c below row (Crypt crypt) plain bare means = cc
-line_read_cost-row c below row (Verity verity) plain bare means = cc
+line_read_cost-row c below row target plain bare means = sym (reads-dearest target plain bare (map (by_name c 0 below) (names target)) ∙ names-row c below row (names target) means)
 
 pub line_write_cost-row : (c : Configuration) (read : List ℕ → ℕ) (below : Lower → ℕ) (row : List Lower) (target : Target) → None ≡ verity_of target → None ≡ crypt_of target → Mean c row (names target)
     → greatest (map below row) ≡ line_write_cost read (by_name c 0 below) target
-line_write_cost-row c read below row (Linear base) plain bare means = let all = names-row c below row (names (Linear base)) means in omega (arith, all)
-line_write_cost-row c read below row (Striped chunk bases) plain bare means = sym (bases-names (by_name c 0 below) bases ∙ names-row c below row (names (Striped chunk bases)) means)
-line_write_cost-row c read below row Zero plain bare means = sym (names-row c below row [] means)
-line_write_cost-row c read below row Error plain bare means = sym (names-row c below row [] means)
-line_write_cost-row c read below row (Crypt crypt) plain bare means = cc
-line_write_cost-row c read below row (Verity verity) plain bare means = cc
+line_write_cost-row c read below row target plain bare means =
+    sym (writes-dearest target plain bare (map read (names target)) (map (by_name c 0 below) (names target)) ∙ names-row c below row (names target) means)
 
 -- the one lower device of a crypt line
 pub crypt-lower : (c : Configuration) (below : Lower → ℕ) (row : List Lower) (crypt : CryptRecord) → Mean c row (names (Crypt crypt)) → option_map_or below (slice_get row 0) 0 ≡ by_name c 0 below crypt.base.device
 crypt-lower c below (l ∷ []) crypt means = let first : Some l ≡ named c crypt.base.device = cc in rw (← first) refl
 crypt-lower c below [] crypt means = let clash : [] ≡ map (named c) (names (Crypt crypt)) = means in cc
 crypt-lower c below (l ∷ m ∷ ls) crypt means = let clash : map (λ (lower : Lower). Some lower) (m ∷ ls) ≡ [] = cc in cc
-
-pub crypt-is : (target : Target) (crypt : CryptRecord) → Some crypt ≡ crypt_of target → target ≡ Crypt crypt
-crypt-is (Crypt v) crypt is = let same : crypt ≡ v = cc in ap Crypt (sym same)
-crypt-is (Linear base) crypt is = cc
-crypt-is (Striped chunk bases) crypt is = cc
-crypt-is Zero crypt is = cc
-crypt-is Error crypt is = cc
-crypt-is (Verity verity) crypt is = cc
 
 -- a unit of one sector, and one of several
 pub unit-one : (u read write : ℕ) → u ≡ 1 → unit_write_cost u read write ≡ write

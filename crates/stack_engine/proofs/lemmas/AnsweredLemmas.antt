@@ -8,26 +8,25 @@ use Rattle.hash_tree.specs.Difference.{IsTopmostDifference, IsCollision, block_a
 use Rattle.hash_tree.specs.Digests.{digest}
 use Rattle.hash_tree.specs.Laws.{AreBlocks, ForgedBlocksCollide}
 use Rattle.hash_tree.specs.Tree.{root}
-use Rattle.dm_table.specs.declared.table.Target.{Target}
-use Rattle.dm_table.specs.declared.table.Target.TheVariants.{Linear, Striped, Zero, Error, Crypt as crypt_target, Verity as verity_target}
 use Rattle.dm_table.specs.declared.verity.Verity.{Verity}
 use Rattle.stack_rules.specs.declared.lower.Lower.{Lower}
 use Rattle.stack_rules.specs.Records.{Configuration}
 use Rattle.stack_rules.specs.Rules.{IsLoaded}
 use Rattle.stack_rules.specs.Trees.{tree_of, zero_block}
-use Rattle.stack_rules.specs.Units.{unit_sectors}
-use Rattle.stack_meaning.specs.Units.{unit_first}
-use Rattle.stack_meaning.specs.Beneath.{beneath, said_or}
+use Rattle.stack_meaning.specs.Beneath.{beneath, below, said_or}
+use Rattle.stack_meaning.specs.TargetMeaning.{Meant, handed, own, said_as}
+use Rattle.stack_meaning.specs.MeaningOf.{meaning_of}
 use Rattle.stack_meaning.specs.Blocks.{is_ignored}
 use Rattle.stack_meaning.specs.Found.{FoundRecord, Entry, entry_of, AreDistinct}
 use Rattle.stack_engine.specs.Laws.{digests_of, IsSha256Collision}
 use Rattle.stack_meaning.specs.May.{MayBe}
-use Rattle.stack_meaning.specs.Meaning.{Said, none_said, line_said, said_at, IsShown}
+use Rattle.stack_meaning.specs.Meaning.{Said, none_said, said_at, IsShown}
 use Rattle.stack_meaning.specs.Outcomes.{part}
 use Rattle.stack_lines.specs.Walks.{HasVerity}
 use Rattle.stack_lines.proofs.lemmas.VerityLineLemmas.{line-facts}
 use Rattle.stack_meaning.proofs.lemmas.EachLineLemmas.{IsHandedUpIn, said_at-each_in}
-use Rattle.stack_meaning.proofs.lemmas.FoundLemmas.{of-gathered}
+use Rattle.stack_meaning.proofs.lemmas.MeaningLaws.{MeantLaws, Shows}
+use Rattle.stack_meaning.proofs.lemmas.MeaningLawsOf.{meaning-laws}
 use Rattle.stack_engine.proofs.lemmas.WalkLemmas.{ignored-digest}
 
 -- ---- what stands for an entry on a sector's way
@@ -38,28 +37,20 @@ IsShownIn c chains e = (x : FoundRecord) × (v : Verity) × HasVerity c e.0 e.1 
 
 -- what a sector may be shows a good chain for each entry on its way
 abbrev ShowsEntries : Configuration → Said → Type 0
-ShowsEntries c said = (chains : List FoundRecord) (bytes : List ℕ) (e : Entry) → said.may chains bytes → Contains said.entries e → IsShownIn c chains e
+ShowsEntries c said = (chains : List FoundRecord) → Shows chains (IsShownIn c chains) said
 
 or-shows : (c : Configuration) (at : List ℕ → ℕ → Said) → ((name : List ℕ) (s : ℕ) → ShowsEntries c (at name s)) → (o : Option (List ℕ × ℕ)) → ShowsEntries c (said_or none_said at o)
 or-shows c at all None chains bytes e may there = absurd may
 or-shows c at all (Some p) chains bytes e may there = all p.0 p.1 chains bytes e may there
 
 line-shows : (c : Configuration) → IsHandedUpIn c (ShowsEntries c)
-line-shows c at all d l line is s = go line.target refl
+line-shows c at all d l line is s chains = go (meaning_of line.target).meant (meaning-laws line.target)
   where
-    go : (target : Target) → line.target ≡ target → ShowsEntries c (line_said at d l target s)
-    go (Linear base) has = or-shows c at all (beneath (Linear base) s)
-    go (Striped chunk bases) has = or-shows c at all (beneath (Striped chunk bases) s)
-    go Zero has = λ chains bytes e may there. absurd (omega (arith, there.1))
-    go Error has = λ chains bytes e may there. absurd may
-    go (crypt_target crypt) has = λ chains bytes e may there.
-        let some = of-gathered (λ t. (at crypt.base.device t).entries) (unit_first crypt s) (unit_sectors crypt) e there in
-        all crypt.base.device (unit_first crypt s + some.0) chains (part may.0 some.0) e (may.1.sectors some.0 some.1) some.2
-    go (verity_target v) has = λ chains bytes e may there.
-        let here : Entry = (d, l, s / (v.data_block / 512)) in
-        let first : there.0 ≡ 0 = omega (arith, there.1) in
-        let same : here ≡ e = ap (λ (k : ℕ). get_or (here ∷ []) k e) (sym first) ∙ there.2 in
-        subst (IsShownIn c chains) same (may.0, v, record { line = line; is = is; has = has; fits = omega arith }, may.1)
+    go : (m : Meant) → MeantLaws line.target m → Shows chains (IsShownIn c chains) (said_as m (said_or none_said at (beneath line.target s)) (below none_said at line.target) d l s)
+    go handed laws = or-shows c at all (beneath line.target s) chains
+    go (own m) laws =
+        laws.shows chains (IsShownIn c chains) (below none_said at line.target) (λ i t. or-shows c at all _ chains) d l s
+        (λ v x i has shown. (x, v, record { line = line; is = is; has = has; fits = omega arith }, shown))
 
 at-shows : (c : Configuration) (lower : Lower) (s : ℕ) → ShowsEntries c (said_at c lower s)
 at-shows c lower s = said_at-each_in c (ShowsEntries c) (λ chains bytes e may there. absurd may) (λ i s chains bytes e may there. absurd (omega (arith, there.1))) (line-shows c) lower s

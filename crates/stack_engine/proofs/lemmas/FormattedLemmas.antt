@@ -26,13 +26,14 @@ use Rattle.stack_rules.specs.Trees.{tree_of, data_sectors, block_sectors, zero_b
 use Rattle.stack_loader.proofs.lemmas.VerityLineLemmas.{verity-line}
 use Rattle.stack_engine.specs.Laws.{named_sector, formatted_sector, FormattedDataIsRead}
 use Rattle.stack_meaning.specs.Meaning.{Said, line_said, said_by_name, sector}
-use Rattle.stack_lines.proofs.lemmas.VerityLineLemmas.{whole-sectors}
+use Rattle.stack_meaning.proofs.lemmas.BlockSizeLemmas.{whole-sectors}
 use Rattle.stack_meaning.proofs.lemmas.EachLineLemmas.{line_at-is, line_at-end}
 use Rattle.stack_meaning.proofs.lemmas.LineLemmas.{line-start}
 use Rattle.stack_meaning.proofs.lemmas.SectorLemmas.{said_at-line}
 use Rattle.stack_meaning.specs.Blocks.{hash_sectors, hash_start, next_digest, checked, is_ignored, data_block_at, block_below, block_at}
 use Rattle.stack_meaning.specs.Outcomes.{Outcome, span, then_outcome, part, zero_sector}
-use Rattle.stack_lines.proofs.lemmas.SizeLemmas.{AreSized, span-part, named-size}
+use Rattle.stack_lines.proofs.lemmas.SizeLemmas.{named-size}
+use Rattle.stack_meaning.proofs.lemmas.SizedLemmas.{AreSized, span-part}
 use Rattle.stack_engine.proofs.lemmas.WalkLemmas.{checked-same}
 
 -- ---- joined blocks

@@ -60,8 +60,7 @@ module _ (i : ℕ) (old new : List Device) (u : LeafUnsynced i old new) where
 -- a sync that fails changes no image, and no sector is counted
 pub unsynced-read : (old new : List Device) (fault : IoFault) → FailsToSync old new fault → AreRead old 0 new
 unsynced-read old new (io.Device i) f = leaf-read (i - 1) old new f.1
-unsynced-read old new io.ErrorTarget f = absurd f
-unsynced-read old new io.Mismatch f = absurd f
+unsynced-read old new (io.Stack fault) f = absurd f
 unsynced-read old new io.NoMemory f = absurd f
 
 pub unsynced-steady : (old new : List Device) (fault : IoFault) → FailsToSync old new fault → AllSteady old → AllSteady new
@@ -74,8 +73,7 @@ sync-read old new (Err fault) same fails = unsynced-read old new fault fails
 
 never-unsynced : (old new : List Device) (fault : IoFault) → FailsToSync old new fault → NeverFail old → ⊥
 never-unsynced old new (io.Device i) f never = let one = f.1.failed in one.unsure f.1.after (never (i - 1) f.1.after one.inside)
-never-unsynced old new io.ErrorTarget f never = f
-never-unsynced old new io.Mismatch f never = f
+never-unsynced old new (io.Stack fault) f never = f
 never-unsynced old new io.NoMemory f never = f
 
 -- leaves that never fail are synced

@@ -6,12 +6,14 @@ use Rattle.stack_rules.specs.Records.{Configuration}
 use Rattle.stack_rules.specs.Names.{mapped}
 use Rattle.stack_rules.specs.Descend.{write_cost}
 use Rattle.stack_meaning.specs.declared.fault.IoFault.{IoFault}
+use Rattle.stack_meaning.specs.declared.fault.Fault.TheVariants as why
 use Rattle.stack_meaning.specs.declared.fault.IoFault.TheVariants as io
 use Rattle.stack_meaning.specs.May.{MayFault}
 use Rattle.stack_meaning.specs.Changes.{reached, AreWritten, AllWhole}
 use Rattle.stack_lines.specs.Writing.{sectors_in, MayEnd, destination_of, Writes}
 use Rattle.stack_engine.specs.Stacks.{StackRecord, IsSound}
-use Rattle.stack_meaning.specs.Outcomes.{Fault, error_target, LeafSector}
+use Rattle.stack_meaning.specs.declared.fault.Fault.{Fault}
+use Rattle.stack_meaning.specs.Outcomes.{error_target, LeafSector}
 use Rattle.stack_meaning.specs.Meaning.{said_at}
 use Rattle.stack_engine.specs.WritePieces.{piece_reached, AnyWrite, EachWrite, WritesInPieces, nothing, next, ends}
 use Rattle.stack_meaning.proofs.lemmas.LeafListLemmas.{leaves_kept, failed_later}
@@ -92,8 +94,8 @@ module _ {w w' w'' : StackRecord} (d first : ℕ) (x y z : List ℕ) (even : len
       later : (result : Result Unit IoFault) → (result ≡ Err io.NoMemory → ⊥) → MayEnd (MayFault w.config (mapped d) (first + length x / 512) (length y / 512)) w'.leaves w''.leaves result
           → MayEnd (MayFault w.config (mapped d) first (length (x ++ (y ++ z)) / 512)) w.leaves w''.leaves result
       later (Ok u) grown h = tt
-      later (Err io.ErrorTarget) grown h = more error_target h
-      later (Err io.Mismatch) grown h = h
+      later (Err (io.Stack why.ErrorTarget)) grown h = more error_target h
+      later (Err (io.Stack why.Mismatch)) grown h = h
       later (Err (io.Device i)) grown h = (h.0, failed_later p.moved.moved q.moved.moved h.1)
       later (Err io.NoMemory) grown h = absurd (grown refl)
 

@@ -6,24 +6,25 @@ use Rattle.std.proofs.lemmas.List.{set-set, set_past, set-get_or, length-set, dr
 use Rattle.block_device.specs.Device.{spliced}
 use Rattle.dm_table.specs.declared.table.Line.{Line}
 use Rattle.dm_table.specs.declared.table.Target.{Target}
-use Rattle.dm_table.specs.declared.table.Target.TheVariants.{Linear, Striped, Zero, Error, Crypt as crypt_target, Verity as verity_target}
 use Rattle.stack_rules.specs.declared.lower.Lower.{Lower}
 use Rattle.stack_rules.specs.declared.lower.Lower.TheVariants.{Leaf as leaf, Device as device}
 use Rattle.stack_rules.specs.Records.{Configuration}
 use Rattle.stack_rules.specs.Names.{mapped, lines_of}
 use Rattle.stack_rules.specs.Descend.{descend, most_devices, depth}
 use Rattle.stack_rules.specs.Lines.{line_at}
-use Rattle.stack_rules.proofs.lemmas.UnrollLemmas.{all_and, IsLocal, descend-rule, falls-at}
+use Rattle.stack_rules.proofs.lemmas.UnrollLemmas.{IsLocal, descend-rule, falls-at}
 use Rattle.stack_rules.specs.Rules.{IsValid, most_depth}
 use Rattle.stack_rules.proofs.lemmas.ValidLemmas.{depth-low}
 use Rattle.stack_meaning.specs.Sectors.{on_found, sector_rule}
 use Rattle.stack_meaning.specs.Outcomes.{Images}
-use Rattle.stack_meaning.specs.Beneath.{beneath, said_or, HandsOn}
-use Rattle.stack_meaning.specs.Puts.{Put, done, stopped, then_put, Putting, none_put, Run, run_before, runs_from, put_runs, together, in_one_run, leaf_put, unit_put, line_put, put_rule, put_on}
+use Rattle.stack_meaning.specs.Beneath.{beneath, below, said_or, HandsOn}
+use Rattle.stack_meaning.specs.TargetMeaning.{Meant, handed, own, put_as, IsHanded}
+use Rattle.stack_meaning.specs.MeaningOf.{meaning_of}
+use Rattle.stack_meaning.specs.Puts.{Put, done, stopped, then_put, Putting, none_put, Run, run_before, runs_from, put_runs, together, in_one_run, leaf_put, line_put, put_rule, put_on}
 use Rattle.stack_lines.specs.Writing.{put_by_name}
-use Rattle.stack_meaning.specs.Meaning.{said_by_name}
+use Rattle.stack_meaning.specs.Meaning.{none_said, said_by_name}
 use Rattle.stack_meaning.proofs.lemmas.LineLemmas.{found-more}
-use Rattle.stack_meaning.proofs.lemmas.SectorLemmas.{AsksOfNames, said_or-same, sector_rule-local}
+use Rattle.stack_meaning.proofs.lemmas.SectorLemmas.{AsksOfNames, said_or-same, below-same, sector_rule-local}
 
 -- ---- one put after another
 
@@ -270,13 +271,9 @@ put-none c (device d) s images = refl
 -- ---- the sectors of one line
 
 line_put-asks : (c : Configuration) → AsksOfNames (line_put c)
-line_put-asks c at at' d l (Linear base) s all = said_or-same none_put at at' (Linear base) s all
-line_put-asks c at at' d l (Striped chunk bases) s all = said_or-same none_put at at' (Striped chunk bases) s all
-line_put-asks c at at' d l Zero s all = refl
-line_put-asks c at at' d l Error s all = refl
-line_put-asks c at at' d l (crypt_target crypt) s (all_and same more) =
-    ap (λ (f : ℕ → Putting). unit_put (λ images t. (said_by_name c crypt.base.device t).means images) f crypt s) same
-line_put-asks c at at' d l (verity_target verity) s all = refl
+line_put-asks c at at' d l target s all =
+    ap (λ (x : Putting). put_as (meaning_of target).meant x (below none_said (said_by_name c) target) (below none_put at target) s) (said_or-same none_put at at' target s all)
+    ∙ ap (λ (f : ℕ → ℕ → Putting). put_as (meaning_of target).meant (said_or none_put at' (beneath target s)) (below none_said (said_by_name c) target) f s) (below-same none_put at at' target all)
 
 put_rule-local : (c : Configuration) → IsLocal c (put_rule c)
 put_rule-local c f g (leaf i) all = refl
@@ -321,9 +318,8 @@ put_on-line c valid d s l line sectors images found start fits =
 -- a line that hands on the sectors beneath
 pub line_put-beneath : (c : Configuration) (at : List ℕ → ℕ → Putting) (d l : ℕ) (target : Target) (s : ℕ) (p : List ℕ × ℕ) (sectors : List (List ℕ)) (images : Images) → HandsOn target → beneath target s ≡ Some p
     → line_put c at d l target s sectors images ≡ at p.0 p.1 sectors images
-line_put-beneath c at d l (Linear base) s p sectors images hands e = ap (λ (o : Option (List ℕ × ℕ)). said_or none_put at o sectors images) e
-line_put-beneath c at d l (Striped chunk bases) s p sectors images hands e = ap (λ (o : Option (List ℕ × ℕ)). said_or none_put at o sectors images) e
-line_put-beneath c at d l Zero s p sectors images hands e = absurd hands
-line_put-beneath c at d l Error s p sectors images hands e = absurd hands
-line_put-beneath c at d l (crypt_target crypt) s p sectors images hands e = absurd hands
-line_put-beneath c at d l (verity_target verity) s p sectors images hands e = absurd hands
+line_put-beneath c at d l target s p sectors images hands e = go (meaning_of target).meant hands
+  where
+    go : (m : Meant) → IsHanded m → put_as m (said_or none_put at (beneath target s)) (below none_said (said_by_name c) target) (below none_put at target) s sectors images ≡ at p.0 p.1 sectors images
+    go handed h = ap (λ (o : Option (List ℕ × ℕ)). said_or none_put at o sectors images) e
+    go (own m) h = absurd h

@@ -1,163 +1,25 @@
--- Sectors that have bytes have 512, and the parts of a span.
-use Rattle.std.proofs.Common.{◌≡◌, ℕ, zero, suc, ◌+◌, ◌-◌, ◌*◌, ◌/◌, ◌%◌, ◌<◌, List, [], ◌++◌, length, get_or, All, take, drop, Option, Some, None, Ok, Err, refl, sym, ap, ◌∙◌, subst, arith, inl, inr}
-use Rattle.std.proofs.lemmas.List.{get_or_past, length-append, length-drop, length-take-le, length-replicate, take_all, take-append-le}
-use Rattle.std.proofs.Math.Seq.{drop-append-add}
-use Rattle.std.proofs.lemmas.List.Elements.{All-get_or}
-use Rattle.std.proofs.lemmas.Bool.{cases_lt, cases_Bool, cond-true, cond-false}
-use Rattle.std.proofs.lemmas.Nat.{mod_below}
-use Rattle.block_device.specs.Device.{IsSector}
-use Rattle.dm_table.specs.declared.crypt.Crypt.{Crypt}
-use Rattle.dm_table.specs.declared.verity.Verity.{Verity}
-use Rattle.dm_table.specs.declared.table.Target.{Target}
-use Rattle.dm_table.specs.declared.table.Target.TheVariants.{Linear, Striped, Zero, Error, Crypt as crypt_target, Verity as verity_target}
+-- Sectors that have bytes have 512.
+use Rattle.std.proofs.Common.{ℕ, List}
 use Rattle.stack_rules.specs.declared.lower.Lower.{Lower}
 use Rattle.stack_rules.specs.Records.{Configuration}
 use Rattle.stack_rules.specs.Rules.{IsLoaded}
-use Rattle.stack_rules.specs.Trees.{tree_of, block_sectors, zero_block}
-use Rattle.stack_loader.proofs.lemmas.VerityLineLemmas.{verity-line}
-use Rattle.hash_tree.specs.Shape.{levels}
-use Rattle.xts_sector.proofs.lemmas.UnitLemmas as units
-use Rattle.stack_rules.specs.Units.{unit_sectors}
-use Rattle.stack_meaning.specs.Units.{unit_number, decrypted_unit, unit_part, unit_first}
-use Rattle.stack_meaning.specs.Beneath.{beneath, said_or}
-use Rattle.stack_meaning.specs.Blocks.{hash_sectors, hash_start, next_digest, checked, checked_span, is_ignored, data_block_at, block_below, block_at}
-use Rattle.stack_meaning.specs.Meaning.{Said, none_said, leaf_said, crypt_said, line_said, said_at, said_by_name}
-use Rattle.stack_meaning.specs.Outcomes.{Images, Outcome, mismatch, changed_outcome, joint_outcome, span, then_outcome, part, zero_sector, AreWhole}
-use Rattle.stack_rules.proofs.lemmas.UnitLemmas.{unit_sectors-some}
-use Rattle.stack_lines.proofs.lemmas.VerityLineLemmas.{whole-sectors}
+use Rattle.stack_loader.proofs.lemmas.LoadedLineLemmas.{line-grammar}
+use Rattle.stack_meaning.specs.Beneath.{beneath, below, said_or}
+use Rattle.stack_meaning.specs.TargetMeaning.{Meant, handed, own, said_as}
+use Rattle.stack_meaning.specs.MeaningOf.{meaning_of}
+use Rattle.stack_meaning.specs.Meaning.{none_said, said_at, said_by_name}
+use Rattle.stack_meaning.specs.Outcomes.{Images, AreWhole}
 use Rattle.stack_meaning.proofs.lemmas.EachLineLemmas.{IsHandedUpIn, said_at-each_in, said_by_name-each_in}
-use Rattle.stack_meaning.proofs.lemmas.SpanLemmas.{span-add}
-
--- ---- spans
-
--- what has bytes has 512
-abbrev pub AreSized : (ℕ → Outcome) → Type 0
-AreSized at = (s : ℕ) (b : List ℕ) → at s ≡ Ok b → IsSector b
-
-pub joint-parts : (a b : Outcome) (bytes : List ℕ) → joint_outcome a b ≡ Ok bytes → (x : List ℕ) × (y : List ℕ) × (a ≡ Ok x) × (b ≡ Ok y) × (bytes ≡ x ++ y)
-joint-parts (Ok x) (Ok y) bytes e = let same : x ++ y ≡ bytes = cc in (x, y, refl, refl, sym same)
-joint-parts (Ok x) (Err f) bytes e = cc
-joint-parts (Err f) b bytes e = cc
-
-pub span-length : (at : ℕ → Outcome) → AreSized at → (first n : ℕ) (bytes : List ℕ) → span at first n ≡ Ok bytes → length bytes ≡ 512 * n
-span-length at sized first zero bytes e = let same : [] ≡ bytes = cc in ap length (sym same) ∙ (let none : 0 ≡ 512 * 0 = omega arith in none)
-span-length at sized first (suc n) bytes e =
-    let both = joint-parts (at first) (span at (suc first) n) bytes e in
-    let one : length both.0 ≡ 512 = sized first both.0 both.2 in
-    let more = span-length at sized (suc first) n both.1 both.3 in
-    omega (arith, ap (λ (l : List ℕ). length l) both.4, length-append both.0 both.1, one, more)
-
--- the bytes between two others
-between : (x y z : List ℕ) (a n : ℕ) → length x ≡ a → length y ≡ n → take n (drop a (x ++ (y ++ z))) ≡ y
-between x y z a n ex ey =
-    let at : a ≡ length x + 0 = omega (arith, ex) in
-    ap (λ (k : ℕ). take n (drop k (x ++ (y ++ z)))) at ∙ ap (take n) (drop-append-add x (y ++ z) 0) ∙ take-append-le n y z (omega (arith, ey)) ∙ take_all n y (omega (arith, ey))
-
--- a part of a span
-pub span-part : (at : ℕ → Outcome) → AreSized at → (first a n m : ℕ) (bytes : List ℕ) → span at first (a + (n + m)) ≡ Ok bytes → span at (first + a) n ≡ Ok (take (512 * n) (drop (512 * a) bytes))
-span-part at sized first a n m bytes e =
-    let outer = joint-parts (span at first a) (span at (first + a) (n + m)) bytes (sym (span-add at first a (n + m)) ∙ e) in
-    let inner = joint-parts (span at (first + a) n) (span at (first + a + n) m) outer.1 (sym (span-add at (first + a) n m) ∙ outer.3) in
-    let whole : bytes ≡ outer.0 ++ (inner.0 ++ inner.1) = outer.4 ∙ ap (λ (l : List ℕ). outer.0 ++ l) inner.4 in
-    inner.2
-    ∙ ap Ok (sym (ap (λ (l : List ℕ). take (512 * n) (drop (512 * a) l)) whole
-    ∙ between outer.0 inner.0 inner.1 (512 * a) (512 * n) (span-length at sized first a outer.0 outer.2) (span-length at sized (first + a) n inner.0 inner.2)))
-
--- ---- blocks that are checked
-
-then-parts : (x : Outcome) (next : List ℕ → Outcome) (bytes : List ℕ) → then_outcome x next ≡ Ok bytes → (b : List ℕ) × (x ≡ Ok b) × (next b ≡ Ok bytes)
-then-parts (Ok b) next bytes e = (b, refl, e)
-then-parts (Err f) next bytes e = cc
-
-checked-is : (salt expected block bytes : List ℕ) → checked salt expected block ≡ Ok bytes → block ≡ bytes
-checked-is salt expected block bytes e = go (Rattle.std.specs.Str.bytes_eq (Rattle.hash_tree.specs.Digests.digest salt block) expected) e
-  where
-    go : (t : Rattle.std.proofs.Common.Bool) → Rattle.std.proofs.Common.cond t (Ok block) (Err mismatch) ≡ Ok bytes → block ≡ bytes
-    go Rattle.std.proofs.Common.true h = cc
-    go Rattle.std.proofs.Common.false h = cc
-
-data-length : (v : Verity) (on_data : ℕ → Outcome) → 512 * block_sectors v ≡ v.data_block → AreSized on_data → (i : ℕ) (expected bytes : List ℕ) → data_block_at v on_data i expected ≡ Ok bytes → length bytes ≡ 512 * block_sectors v
-data-length v on_data whole sized i expected bytes e = elim (cases_Bool (is_ignored v expected)) [
-  | inl zeros ↦
-      let both : Ok (zero_block v) ≡ Ok bytes = sym (cond-true _ _ _ zeros) ∙ e in
-      let same : zero_block v ≡ bytes = cc in
-      ap length (sym same) ∙ length-replicate {A = ℕ} v.data_block 0 ∙ sym whole
-  | inr other ↦
-      let read = then-parts (span on_data (block_sectors v * i) (block_sectors v)) (checked v.salt expected) bytes (sym (cond-false _ _ _ other) ∙ e) in
-      ap length (sym (checked-is v.salt expected read.0 bytes read.2)) ∙ span-length on_data sized (block_sectors v * i) (block_sectors v) read.0 read.1
-]
-
-block-length : (v : Verity) (on_data on_hash : ℕ → Outcome) → 512 * block_sectors v ≡ v.data_block → AreSized on_data → (i l : ℕ) (expected bytes : List ℕ) → block_below v on_data on_hash i l expected ≡ Ok bytes → length bytes ≡ 512 * block_sectors v
-block-length v on_data on_hash whole sized i zero expected bytes e = data-length v on_data whole sized i expected bytes e
-block-length v on_data on_hash whole sized i (suc l) expected bytes e =
-    let read = then-parts (checked_span on_hash (hash_start v l i) (hash_sectors v) v.salt expected) (λ block. block_below v on_data on_hash i l (next_digest v l i block)) bytes e in
-    block-length v on_data on_hash whole sized i l (next_digest v l i read.0) bytes read.2
-
--- ---- sectors
-
-abbrev pub IsSized : Images → Said → Type 0
-IsSized images said = (b : List ℕ) → said.means images ≡ Ok b → IsSector b
-
-zero-size : IsSector zero_sector
-unfolding zero_sector
-zero-size = length-replicate {A = ℕ} 512 0
-
-image-size : (image : List (List ℕ)) (s : ℕ) → All IsSector image → IsSector (get_or image s zero_sector)
-image-size image s all = elim (cases_lt s (length image)) [
-  | inl low ↦ All-get_or IsSector image s zero_sector low all
-  | inr high ↦ subst IsSector (sym (get_or_past image s zero_sector high)) zero-size
-]
-
-leaf-size : (images : Images) → AreWhole images → (i s : ℕ) → IsSized images (leaf_said i s)
-leaf-size images whole i s b e =
-    let image : List (List ℕ) = get_or images i [] in
-    let sized : All IsSector image = elim (cases_lt i (length images)) [
-      | inl low ↦ All-get_or (λ (image : List (List ℕ)). All IsSector image) images i [] low whole
-      | inr high ↦ subst (λ (l : List (List ℕ)). All IsSector l) (sym (get_or_past images i [] high)) (λ k d below. absurd (omega (arith, below)))
-    ] in
-    let same : get_or image s zero_sector ≡ b = cc in
-    subst IsSector same (image-size image s sized)
-
-or-size : (images : Images) (at : List ℕ → ℕ → Said) → ((name : List ℕ) (s : ℕ) → IsSized images (at name s)) → (o : Option (List ℕ × ℕ)) → IsSized images (said_or none_said at o)
-or-size images at all None b e = cc
-or-size images at all (Some p) b e = all p.0 p.1 b e
-
-changed-parts : (f : List ℕ → List ℕ) (o : Outcome) (bytes : List ℕ) → changed_outcome f o ≡ Ok bytes → (x : List ℕ) × (o ≡ Ok x) × (bytes ≡ f x)
-changed-parts f (Ok x) bytes e = let same : f x ≡ bytes = cc in (x, refl, sym same)
-changed-parts f (Err x) bytes e = cc
-
--- a sector of a unit
-pub unit_part-size : (crypt : Crypt) (s : ℕ) (bytes : List ℕ) → length bytes ≡ 512 * unit_sectors crypt → IsSector (unit_part crypt s bytes)
-unit_part-size crypt s bytes len =
-    let u : ℕ = unit_sectors crypt in
-    let out = decrypted_unit crypt (s / u) bytes in
-    let long : length out ≡ 512 * u = units.length-decrypted crypt.key (unit_number crypt (s / u)) bytes (omega (arith, len)) ∙ len in
-    let low : s % u < u = mod_below s u (omega (arith, unit_sectors-some crypt)) in
-    length-take-le 512 (drop (512 * (s % u)) out) (omega (arith, long, low, length-drop (512 * (s % u)) out))
-
-pub crypt-size : (images : Images) (lower : ℕ → Said) → ((t : ℕ) → IsSized images (lower t)) → (crypt : Crypt) (s : ℕ) → IsSized images (crypt_said lower crypt s)
-crypt-size images lower all crypt s b e =
-    let f : ℕ → Outcome = λ t. (lower t).means images in
-    let read = changed-parts (unit_part crypt s) (span f (unit_first crypt s) (unit_sectors crypt)) b e in
-    subst IsSector (sym read.2) (unit_part-size crypt s read.0 (span-length f all (unit_first crypt s) (unit_sectors crypt) read.0 read.1))
+use Rattle.stack_meaning.proofs.lemmas.MeaningLaws.{MeantLaws, IsSized}
+use Rattle.stack_meaning.proofs.lemmas.MeaningLawsOf.{meaning-laws}
+use Rattle.stack_meaning.proofs.lemmas.SizedLemmas.{leaf-size, or-size}
 
 line-size : (c : Configuration) (images : Images) → IsLoaded c → IsHandedUpIn c (IsSized images)
-line-size c images loaded at all d l line is s = go line.target refl
+line-size c images loaded at all d l line is s = go (meaning_of line.target).meant (meaning-laws line.target)
   where
-    go : (target : Target) → line.target ≡ target → IsSized images (line_said at d l target s)
-    go (Linear base) e = or-size images at all (beneath (Linear base) s)
-    go (Striped chunk bases) e = or-size images at all (beneath (Striped chunk bases) s)
-    go Zero e = λ b h. let same : zero_sector ≡ b = cc in subst IsSector same zero-size
-    go Error e = λ b h. cc
-    go (crypt_target crypt) e = crypt-size images (at crypt.base.device) (all crypt.base.device) crypt s
-    go (verity_target v) e = λ b h.
-        let some = whole-sectors v.data_block (verity-line c d l line v loaded is e).2.shape.data_size in
-        let i : ℕ = s / block_sectors v in
-        let read = then-parts (block_at v (λ t. (at v.data t).means images) (λ t. (at v.hash t).means images) i) (λ block. Ok (part block (s % block_sectors v))) b h in
-        let size = block-length v (λ t. (at v.data t).means images) (λ t. (at v.hash t).means images) some.whole (λ t. all v.data t) i (levels (tree_of v)) v.root read.0 read.1 in
-        let low : s % block_sectors v < block_sectors v = mod_below s (block_sectors v) some.some in
-        let same : part read.0 (s % block_sectors v) ≡ b = cc in
-        subst IsSector same (length-take-le 512 (drop (512 * (s % block_sectors v)) read.0) (omega (arith, size, low, length-drop (512 * (s % block_sectors v)) read.0)))
+    go : (m : Meant) → MeantLaws line.target m → IsSized images (said_as m (said_or none_said at (beneath line.target s)) (below none_said at line.target) d l s)
+    go handed laws = or-size images at all (beneath line.target s)
+    go (own m) laws = laws.sized (line-grammar c d l line loaded is).target images (below none_said at line.target) (λ i t. or-size images at all _) d l s
 
 pub sector-size : (c : Configuration) (images : Images) → IsLoaded c → AreWhole images → (lower : Lower) (s : ℕ) → IsSized images (said_at c lower s)
 sector-size c images loaded whole lower s = said_at-each_in c (IsSized images) (λ b e. cc) (leaf-size images whole) (line-size c images loaded) lower s

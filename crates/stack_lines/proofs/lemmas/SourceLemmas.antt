@@ -150,7 +150,7 @@ zeros_of c n leaves found bytes kept e = record {
   kept = kept;
 }
 
-pub fails_of : (c : Configuration) (n : ℕ) (leaves : List Device) (found : List FoundRecord) → AllKept c leaves found → 0 < n → ReadsSource c Fails n (empty_read leaves found) (Err io.ErrorTarget)
+pub fails_of : (c : Configuration) (n : ℕ) (leaves : List Device) (found : List FoundRecord) → AllKept c leaves found → 0 < n → ReadsSource c Fails n (empty_read leaves found) (Err (io.Stack error_target))
 fails_of c n leaves found kept some = record {
   got = record {
     moved = AreRead-none _ leaves;

@@ -1,6 +1,6 @@
 -- The leaves on which the devices of a loaded configuration stand.
 use Rattle.std.proofs.Common.{◌≡◌, ◌≢◌, ℕ, ◌+◌, ◌*◌, ◌%◌, ◌^◌, ◌<◌, ◌≤◌, Bool, true, false, not, ◌&&◌, ◌||◌, ◌==◌, ◌⊎◌, List, [], ◌∷◌, ◌++◌, length, get_or, set, take, Option, Some, None, refl, sym, ap, ◌∙◌, subst, arith, max, inl, inr}
-use Rattle.std.specs.Prelude.{filter_map, flat_map, slice_get, option_map, option_and_then, position}
+use Rattle.std.specs.Prelude.{filter_map, flat_map, slice_get, is_some, option_map, option_and_then, position}
 use Rattle.std.specs.Int.{bit_at, bit_not, w64}
 use Rattle.std.specs.Int.RustNames.{bit_or, bit_and}
 use Rattle.std.specs.List.{list_any, cons_option}
@@ -15,7 +15,7 @@ use Rattle.std.proofs.lemmas.List.Quantifiers.{position-Some}
 use Rattle.std.proofs.lemmas.Option.{same_Some, slice_get_within, slice_get_past, get_or_from_slice_get}
 use Rattle.dm_table.specs.declared.table.Line.{Line}
 use Rattle.dm_table.specs.declared.table.Target.{Target}
-use Rattle.dm_table.specs.declared.table.Target.TheVariants.{Linear, Striped, Zero, Error, Crypt as crypt_target, Verity as verity_target}
+use Rattle.dm_table.specs.declared.table.Target.TheVariants.{Verity as verity_target}
 use Rattle.dm_table.specs.declared.verity.Verity.{Verity}
 use Rattle.stack_rules.specs.declared.lower.Lower.{Lower}
 use Rattle.stack_rules.specs.declared.lower.Lower.TheVariants.{Leaf as leaf, Device as device}
@@ -24,6 +24,7 @@ use Rattle.stack_rules.specs.Names.{mapped, named, names, lines_of, lowers, path
 use Rattle.stack_rules.specs.Descend.{descend, depth, depth_rule, known, most_devices}
 use Rattle.stack_rules.specs.Lines.{IsLine, names_at, lower_at}
 use Rattle.stack_rules.specs.Rules.{IsLoaded, most_depth}
+use Rattle.stack_rules.specs.Trees.{verity_of}
 use Rattle.stack_loader.proofs.lemmas.LoadedLineLemmas.{names-shallower}
 use Rattle.stack_rules.proofs.lemmas.UnrollLemmas.{AllOf, all_and, IsLocal, descend-rule, depth-rule, falls-at}
 use Rattle.stack_rules.proofs.lemmas.ValidLemmas.{depth-low}
@@ -257,34 +258,25 @@ pub stands-at : (c : Configuration) (i d l : ℕ) (line : Line) → IsLine c d l
 stands-at c i d l line at = ap (λ (o : Option Line). option_map_or (λ line. hashes_stand_on c i line.target) o false) at
 
 not-hashed : (c : Configuration) (i : ℕ) (target : Target) → is_verity target ≡ false → hashes_stand_on c i target ≡ false
-not-hashed c i (Linear base) h = refl
-not-hashed c i (Striped chunk bases) h = refl
-not-hashed c i Zero h = refl
-not-hashed c i Error h = refl
-not-hashed c i (crypt_target crypt) h = refl
-not-hashed c i (verity_target v) h = absurd cc
+not-hashed c i target h = go (verity_of target) h
+  where
+    go : (o : Option Verity) → is_some o ≡ false → option_map_or (λ v. name_stands_on c i v.hash) o false ≡ false
+    go None h = refl
+    go (Some v) h = absurd cc
 
 pub stands-not : (c : Configuration) (i d l : ℕ) (line : Line) → IsLine c d l line → is_verity line.target ≡ false → line_stands_on c i d l ≡ false
 stands-not c i d l line at h = stands-at c i d l line at ∙ not-hashed c i line.target h
 
 two-names : (target : Target) → is_verity target ≡ true → length (names target) ≡ 2
-two-names (Linear base) h = absurd cc
-two-names (Striped chunk bases) h = absurd cc
-two-names Zero h = absurd cc
-two-names Error h = absurd cc
-two-names (crypt_target crypt) h = absurd cc
 two-names (verity_target v) h = refl
+two-names target h = absurd cc
 
 pub verity-names : (c : Configuration) (d l : ℕ) (line : Line) → IsLine c d l line → is_verity line.target ≡ true → length (names_at c d l) ≡ 2
 verity-names c d l line at h = ap (λ (o : Option Line). length (option_map_or (λ line. names line.target) o [])) at ∙ two-names line.target h
 
 second-stands : (c : Configuration) (i d l : ℕ) (line : Line) (y : Lower) (target : Target) → IsLoaded c → IsLine c d l line → line.target ≡ target → is_verity target ≡ true → lower_at c d l 1 ≡ Some y → line_stands_on c i d l ≡ stands_on c i y
-second-stands c i d l line y (Linear base) loaded at is h second = absurd cc
-second-stands c i d l line y (Striped chunk bases) loaded at is h second = absurd cc
-second-stands c i d l line y Zero loaded at is h second = absurd cc
-second-stands c i d l line y Error loaded at is h second = absurd cc
-second-stands c i d l line y (crypt_target crypt) loaded at is h second = absurd cc
 second-stands c i d l line y (verity_target v) loaded at is h second = hash-stands c i d l line v y loaded at is second
+second-stands c i d l line y target loaded at is h second = absurd cc
 
 pub lower-stands : (c : Configuration) (i d l : ℕ) (line : Line) (y : Lower) → IsLoaded c → IsLine c d l line → is_verity line.target ≡ true → lower_at c d l 1 ≡ Some y → line_stands_on c i d l ≡ stands_on c i y
 lower-stands c i d l line y loaded at h second = second-stands c i d l line y line.target loaded at refl h second

@@ -12,7 +12,8 @@ use Rattle.stack_rules.specs.Records.{Configuration}
 use Rattle.stack_rules.specs.Rules.{IsLoaded}
 use Rattle.stack_meaning.specs.declared.fault.IoFault.{IoFault}
 use Rattle.stack_meaning.specs.Sectors.{SomeOf, gathered}
-use Rattle.stack_meaning.specs.Outcomes.{Fault, Outcome, Images, joint_outcome, changed_outcome, span, part, AreWhole}
+use Rattle.stack_meaning.specs.declared.fault.Fault.{Fault}
+use Rattle.stack_meaning.specs.Outcomes.{Outcome, Images, joint_outcome, changed_outcome, span, part, AreWhole}
 use Rattle.dm_table.specs.Crypt.{sector_size}
 use Rattle.stack_rules.specs.Units.{unit_sectors}
 use Rattle.stack_meaning.specs.Units.{decrypted_unit, decrypted_units, unit_number, unit_part, unit_first}
@@ -26,7 +27,8 @@ use Rattle.stack_rules.proofs.lemmas.UnitLemmas.{unit_sectors-some}
 use Rattle.stack_meaning.proofs.lemmas.LeafListLemmas.{AreRead-none, AreRead-more}
 use Rattle.stack_meaning.proofs.lemmas.FoundLemmas.{in-gathered}
 use Rattle.stack_meaning.proofs.lemmas.RunLemmas.{part_left, fault_passes}
-use Rattle.stack_lines.proofs.lemmas.SizeLemmas.{AreSized, span-length, span-part, sector-size, crypt-size}
+use Rattle.stack_lines.proofs.lemmas.SizeLemmas.{sector-size}
+use Rattle.stack_meaning.proofs.lemmas.SizedLemmas.{AreSized, span-length, span-part, crypt-size}
 use Rattle.stack_meaning.proofs.lemmas.SpanLemmas.{span-add, span_same, span_fails}
 use Rattle.stack_meaning.proofs.lemmas.UnitLemmas.{span-parts, unit-more, unit-fits, unit-is, unit-length, unit-sector, length-decrypted_units, part-decrypted}
 use Rattle.xts_sector.proofs.lemmas.UnitLemmas as xts

@@ -6,9 +6,11 @@ use Rattle.block_device.specs.Device.{Device, sectors_of}
 use Rattle.block_device.specs.Whole.{length-sectors_of}
 use Rattle.block_device.proofs.lemmas.SectorLemmas.{sectors_of-append}
 use Rattle.stack_meaning.specs.declared.fault.IoFault.{IoFault}
+use Rattle.stack_meaning.specs.declared.fault.Fault.TheVariants as why
 use Rattle.stack_meaning.specs.declared.fault.IoFault.TheVariants as io
 use Rattle.stack_meaning.specs.Sectors.{SomeOf}
-use Rattle.stack_meaning.specs.Outcomes.{Fault, error_target, LeafSector, Images}
+use Rattle.stack_meaning.specs.declared.fault.Fault.{Fault}
+use Rattle.stack_meaning.specs.Outcomes.{error_target, LeafSector, Images}
 use Rattle.stack_meaning.specs.Leaves.{images_of, Moves}
 use Rattle.stack_meaning.specs.Meaning.{Said}
 use Rattle.stack_meaning.specs.Puts.{Put, done, then_put}
@@ -38,23 +40,22 @@ sectors_in-append x y whole =
 -- a fault of a later call, before which something was written
 ends-later : {May More : Fault → Type 0} {r w r' w' : ℕ} {old mid new : List Device} (fault : IoFault) → Moves r w old mid → Moves r' w' mid new → (fault ≡ io.NoMemory → ⊥)
     → ((x : Fault) → May x → More x) → MayEnd May mid new (Err fault) → MayEnd More old new (Err fault)
-ends-later io.ErrorTarget a b grown more h = more error_target h
-ends-later io.Mismatch a b grown more h = h
+ends-later (io.Stack why.ErrorTarget) a b grown more h = more error_target h
+ends-later (io.Stack why.Mismatch) a b grown more h = h
 ends-later (io.Device i) a b grown more h = (h.0, failed_later a b h.1)
 ends-later io.NoMemory a b grown more h = absurd (grown refl)
 
 -- what follows a fault isn't put
 put-ends : (p : Put) (next : Images → Put) (images : Images) (fault : IoFault) → IsPut p images (Err fault) → IsPut (then_put p next) images (Err fault)
-put-ends p next images io.ErrorTarget h = ap (λ (q : Put). then_put q next) h
-put-ends p next images io.Mismatch h = ap (λ (q : Put). then_put q next) h
+put-ends p next images (io.Stack fault) h = ap (λ (q : Put). then_put q next) h
 put-ends p next images (io.Device i) h = tt
 put-ends p next images io.NoMemory h = tt
 
 -- the same write by other faults that may come
 pub MayEnd-as : (May More : Fault → Type 0) (old new : List Device) (result : Result Unit IoFault) → ((x : Fault) → May x → More x) → MayEnd May old new result → MayEnd More old new result
 MayEnd-as May More old new (Ok x) more h = tt
-MayEnd-as May More old new (Err io.ErrorTarget) more h = more error_target h
-MayEnd-as May More old new (Err io.Mismatch) more h = h
+MayEnd-as May More old new (Err (io.Stack why.ErrorTarget)) more h = more error_target h
+MayEnd-as May More old new (Err (io.Stack why.Mismatch)) more h = h
 MayEnd-as May More old new (Err (io.Device i)) more h = h
 MayEnd-as May More old new (Err io.NoMemory) more h = h
 

@@ -11,6 +11,7 @@ use Rattle.stack_rules.specs.Lines.{IsLine}
 use Rattle.stack_rules.specs.Descend.{known, write_cost}
 use Rattle.stack_rules.specs.Rules.{IsLoaded}
 use Rattle.stack_meaning.specs.declared.fault.IoFault.{IoFault}
+use Rattle.stack_meaning.specs.declared.fault.Fault.TheVariants as why
 use Rattle.stack_meaning.specs.declared.fault.IoFault.TheVariants as io
 use Rattle.stack_lines.specs.declared.source.Source.{Source}
 use Rattle.stack_lines.specs.declared.source.Source.TheVariants.{Below, Units, UnitPart, Zeros, Fails, Block}
@@ -124,7 +125,7 @@ below-alike c lower first sectors = record {
   cost = omega arith;
 }
 
-pub fails-written : (c : Configuration) (sectors : List (List ℕ)) (leaves : List Device) → 0 < length sectors → Writes (source_destination c Fails) 0 sectors leaves leaves (Err io.ErrorTarget)
+pub fails-written : (c : Configuration) (sectors : List (List ℕ)) (leaves : List Device) → 0 < length sectors → Writes (source_destination c Fails) 0 sectors leaves leaves (Err (io.Stack why.ErrorTarget))
 fails-written c sectors leaves some = record { moved = AreWritten-none _ _ leaves; ends = (0, some, refl); grown = λ e. cc; exact = λ steady. refl }
 
 -- ---- runs of one device

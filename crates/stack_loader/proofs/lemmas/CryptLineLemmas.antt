@@ -56,7 +56,7 @@ crypt-line c d l line crypt loaded is has =
     let lower-write = name-cost c (write_cost c) crypt.base.device lower means in
     let units : IsInUnits c d line crypt lower = record {
       whole = undivided line.length (unit_sectors crypt) (sym (ap (cuts_unit line.length) has) ∙ s.units);
-      offset = undivided crypt.iv_offset (unit_sectors crypt) (sym (ap is_off_unit has) ∙ s.offset);
+      offset = undivided crypt.iv_offset (unit_sectors crypt) (sym (ap (is_off_unit line.length) has) ∙ s.offset);
       read = rw lower-read at read;
       write = rw (lower-read, lower-write) at write;
     } in (

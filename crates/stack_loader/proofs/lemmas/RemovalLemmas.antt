@@ -8,13 +8,12 @@ use Rattle.std.proofs.lemmas.Bool.Decides.{nat_tests}
 use Rattle.std.proofs.lemmas.List.Elements.{filter_map-append}
 use Rattle.dm_table.specs.declared.table.Line.{Line}
 use Rattle.dm_table.specs.declared.table.Target.{Target}
-use Rattle.dm_table.specs.declared.table.Target.TheVariants.{Linear, Striped, Zero, Error, Crypt, Verity}
 use Rattle.stack_rules.specs.declared.lower.Lower.{Lower}
 use Rattle.stack_rules.specs.declared.lower.Lower.TheVariants.{Leaf as leaf, Device as device}
 use Rattle.stack_rules.specs.Records.{Configuration, DeviceRecord}
 use Rattle.stack_rules.specs.Names.{mapped, named, names, path_of, lowers, lowers_of, lines_of, sectors_of, size, may_write}
 use Rattle.stack_rules.specs.Descend.{greatest, known, by_name, depth, depth_rule, descend, cost_rule, line_read_cost, line_write_cost, read_cost, write_cost}
-use Rattle.stack_rules.specs.Units.{unit_sectors, unit_write_cost}
+use Rattle.stack_rules.specs.RulesOf.{rules_of}
 use Rattle.stack_rules.specs.Cycles.{is_mapped, names_device}
 use Rattle.stack_rules.specs.Removal.{place_after, lower_after}
 use Rattle.stack_loader.proofs.RemoveLemmas.{slice_get-remove, position-remove}
@@ -205,9 +204,8 @@ write_cost-after c d unused x other =
         go (Some y) apart = read_cost-after c d unused y (other-of d y (λ same. apart (ap (λ (y : Lower). Some y) same)))
 
     agree : Agree c d (line_write_cost (by_name c 0 (read_cost c))) (line_write_cost (by_name (without c d) 0 (read_cost (without c d))))
-    agree cost (Linear base) avoids = refl
-    agree cost (Striped chunk bases) avoids = refl
-    agree cost Zero avoids = refl
-    agree cost Error avoids = refl
-    agree cost (Crypt crypt) avoids = ap (λ n. unit_write_cost (unit_sectors crypt) n (cost crypt.base.device)) (name crypt.base.device avoids.0)
-    agree cost (Verity verity) avoids = refl
+    agree cost target avoids = ap (λ reads. (rules_of target).write_cost reads (map cost (names target))) (same-reads (names target) avoids)
+      where
+        same-reads : (ns : List (List ℕ)) → AllByRecursion (Avoids c d) ns → map (by_name c 0 (read_cost c)) ns ≡ map (by_name (without c d) 0 (read_cost (without c d))) ns
+        same-reads [] all = refl
+        same-reads (n ∷ ns) all = rw (name n all.0, same-reads ns all.1) refl

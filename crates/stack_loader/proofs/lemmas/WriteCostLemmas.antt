@@ -1,20 +1,16 @@
 -- Write costs: no limit of their own is needed, since no depth and no read cost is above its limit.
-use Rattle.std.proofs.Common.{◌≡◌, ◌+◌, ◌*◌, ◌^◌, ◌≤◌, ◌<◌, ◌==◌, ℕ, zero, suc, Bool, true, false, cond, List, [], ◌∷◌, refl, Option, Some, None, map, arith}
+use Rattle.std.proofs.Common.{◌≡◌, ◌+◌, ◌*◌, ◌^◌, ◌≤◌, ◌<◌, ℕ, zero, suc, List, [], ◌∷◌, refl, Option, Some, None, map, arith}
 use Rattle.std.specs.Prelude.{slice_get}
 use Rattle.std.specs.List.{AllByRecursion}
-use Rattle.std.proofs.Math.Nat.{mul-le-mul_right}
-use Rattle.dm_table.specs.declared.table.Base.{Base}
 use Rattle.dm_table.specs.declared.table.Line.{Line}
 use Rattle.dm_table.specs.declared.table.Target.{Target}
-use Rattle.dm_table.specs.declared.table.Target.TheVariants.{Linear, Striped, Zero, Error, Crypt, Verity}
 use Rattle.stack_rules.specs.declared.lower.Lower.{Lower}
 use Rattle.stack_rules.specs.declared.lower.Lower.TheVariants.{Leaf as leaf, Device as device}
 use Rattle.stack_rules.specs.Records.{Configuration}
 use Rattle.stack_rules.specs.Names.{mapped, named, names, lines_of}
-use Rattle.stack_rules.specs.Units.{unit_sectors, unit_write_cost}
 use Rattle.stack_rules.specs.Descend.{descend, depth, greatest, known, by_name, line_write_cost, read_cost, write_cost}
 use Rattle.stack_rules.specs.Rules.{IsValid, most_depth, most_cost}
-use Rattle.stack_rules.proofs.lemmas.UnitLemmas.{unit_sectors-most}
+use Rattle.stack_rules.proofs.lemmas.RulesLawsOf.{rules-laws}
 use Rattle.stack_rules.proofs.lemmas.CostRuleLemmas.{line_write_cost-local, cost-rule}
 use Rattle.stack_loader.proofs.lemmas.LoadedLineLemmas.{names-shallower}
 use Rattle.stack_rules.proofs.lemmas.UnrollLemmas.{depth-rule}
@@ -22,24 +18,17 @@ use Rattle.stack_rules.proofs.lemmas.ValidLemmas.{depth-low, cost-low}
 
 -- ---- one line, where no device that it names costs more than b to write
 
-pub unit_write-low : (u read write b : ℕ) → u ≤ 8 → read ≤ most_cost → write ≤ b → unit_write_cost u read write ≤ 8 * (most_cost + b)
-unit_write-low u read write b few cheap low = go (u == 1)
-  where
-    go : (one : Bool) → cond one write (u * (read + write)) ≤ 8 * (most_cost + b)
-    go true = omega (arith, low)
-    go false = let most : u * (read + write) ≤ 8 * (read + write) = mul-le-mul_right (read + write) few in omega (arith, most, cheap, low)
+costs-low : (cost : List ℕ → ℕ) (b : ℕ) (ns : List (List ℕ)) → AllByRecursion (λ name. cost name ≤ b) ns → AllByRecursion (λ n. n ≤ b) (map cost ns)
+costs-low cost b [] all = tt
+costs-low cost b (n ∷ ns) all = (all.0, costs-low cost b ns all.1)
 
-bases-low : (cost : List ℕ → ℕ) (b : ℕ) (bases : List Base) → AllByRecursion (λ name. cost name ≤ b) (map (λ (base : Base). base.device) bases) → greatest (map (λ (base : Base). cost base.device) bases) ≤ b
-bases-low cost b [] all = omega arith
-bases-low cost b (x ∷ xs) all = omega (arith, all.0, bases-low cost b xs all.1)
+each-low : (cost : List ℕ → ℕ) (b : ℕ) (ns : List (List ℕ)) → ((name : List ℕ) → cost name ≤ b) → AllByRecursion (λ n. n ≤ b) (map cost ns)
+each-low cost b [] all = tt
+each-low cost b (n ∷ ns) all = (all n, each-low cost b ns all)
 
 line-low : (read cost : List ℕ → ℕ) (b : ℕ) → ((name : List ℕ) → read name ≤ most_cost) → (target : Target) → AllByRecursion (λ name. cost name ≤ b) (names target) → line_write_cost read cost target ≤ 8 * (most_cost + b)
-line-low read cost b cheap (Linear base) all = omega (arith, all.0)
-line-low read cost b cheap (Striped chunk bases) all = omega (arith, bases-low cost b bases all)
-line-low read cost b cheap Zero all = omega arith
-line-low read cost b cheap Error all = omega arith
-line-low read cost b cheap (Crypt crypt) all = unit_write-low (unit_sectors crypt) (read crypt.base.device) (cost crypt.base.device) b (unit_sectors-most crypt) (cheap crypt.base.device) all.0
-line-low read cost b cheap (Verity verity) all = omega arith
+line-low read cost b cheap target all =
+    (rules-laws target).costs.write_low (map read (names target)) (map cost (names target)) most_cost b (each-low read most_cost (names target) cheap) (costs-low cost b (names target) all)
 
 -- ---- one device
 

@@ -1,13 +1,10 @@
 -- What a device means depends on the leaves beneath it alone.
-use Rattle.std.proofs.Common.{◌≡◌, ℕ, zero, suc, ◌+◌, ◌*◌, ◌/◌, ◌%◌, List, [], ◌∷◌, length, get_or, All, map, Option, Some, None, Ok, refl, ap, ◌∙◌}
-use Rattle.std.specs.Prelude.{flat_map, slice_get, option_map}
+use Rattle.std.proofs.Common.{◌≡◌, ℕ, zero, suc, ◌+◌, List, [], ◌∷◌, get_or, All, map, Option, Some, None, Ok, refl, ap}
+use Rattle.std.specs.Prelude.{flat_map, slice_get, option_map, option_and_then}
 use Rattle.std.specs.List.{AllByRecursion}
 use Rattle.std.proofs.lemmas.List.Elements.{recursion_from_All}
-use Rattle.std.proofs.Math.Path.{fun_ext}
-use Rattle.dm_table.specs.declared.table.Base.{Base}
 use Rattle.dm_table.specs.declared.table.Line.{Line}
 use Rattle.dm_table.specs.declared.table.Target.{Target}
-use Rattle.dm_table.specs.declared.table.Target.TheVariants.{Linear, Striped, Zero, Error, Crypt as crypt_target, Verity as verity_target}
 use Rattle.stack_rules.specs.declared.lower.Lower.{Lower}
 use Rattle.stack_rules.specs.declared.lower.Lower.TheVariants.{Leaf as leaf, Device as device}
 use Rattle.stack_rules.specs.Records.{Configuration}
@@ -15,13 +12,15 @@ use Rattle.stack_rules.specs.Names.{named, names, lowers, lines_of}
 use Rattle.stack_rules.specs.Descend.{descend, after_steps, most_devices, by_name, known}
 use Rattle.stack_rules.specs.Lines.{line_at}
 use Rattle.stack_rules.proofs.lemmas.CostRuleLemmas.{in-append}
-use Rattle.stack_meaning.specs.Beneath.{said_or}
-use Rattle.stack_rules.specs.Units.{unit_sectors}
-use Rattle.stack_meaning.specs.Units.{unit_part, unit_first}
-use Rattle.stack_meaning.specs.Blocks.{block_at}
+use Rattle.stack_meaning.specs.Beneath.{beneath, below, said_or}
+use Rattle.stack_meaning.specs.TargetMeaning.{Meant, handed, own, said_as}
+use Rattle.stack_meaning.specs.MeaningOf.{meaning_of}
+use Rattle.stack_meaning.proofs.lemmas.BaseLemmas.{beneath-each, below-each}
+use Rattle.stack_meaning.proofs.lemmas.MeaningLaws.{MeantLaws}
+use Rattle.stack_meaning.proofs.lemmas.MeaningLawsOf.{meaning-laws}
 use Rattle.stack_meaning.specs.LeavesBeneath.{leaves_rule, leaves_beneath}
 use Rattle.stack_meaning.specs.Meaning.{Said, leaf_said, none_said, line_said, sector}
-use Rattle.stack_meaning.specs.Outcomes.{Images, Outcome, changed_outcome, span, then_outcome, part, zero_sector}
+use Rattle.stack_meaning.specs.Outcomes.{Images, span, zero_sector}
 use Rattle.stack_meaning.specs.Sectors.{on_found, sector_rule}
 use Rattle.stack_meaning.proofs.lemmas.LoadedLemmas.{of_line}
 use Rattle.stack_meaning.proofs.lemmas.EachLineLemmas.{line_at-is}
@@ -32,27 +31,12 @@ module _ (images other : Images) where
   abbrev IsAlike : Said → Type 0
   IsAlike said = said.means images ≡ said.means other
 
-  stripe-alike : (at : List ℕ → ℕ → Said) (bases : List Base) (k : ℕ) (place : Base → ℕ) → AllByRecursion (λ name. (t : ℕ) → IsAlike (at name t)) (map (λ base. base.device) bases)
-      → IsAlike (said_or none_said at (option_map (λ base. (base.device, place base)) (slice_get bases k)))
-  stripe-alike at [] k place all = refl
-  stripe-alike at (base ∷ bases) zero place all = all.0 (place base)
-  stripe-alike at (base ∷ bases) (suc k) place all = stripe-alike at bases k place all.1
-
   line-alike : (at : List ℕ → ℕ → Said) (d l : ℕ) (target : Target) (s : ℕ) → AllByRecursion (λ name. (t : ℕ) → IsAlike (at name t)) (names target) → IsAlike (line_said at d l target s)
-  line-alike at d l (Linear base) s all = all.0 (base.offset + s)
-  line-alike at d l (Striped chunk bases) s all = stripe-alike at bases (s / chunk % length bases) (λ base. base.offset + s / chunk / length bases * chunk + s % chunk) all
-  line-alike at d l Zero s all = refl
-  line-alike at d l Error s all = refl
-  line-alike at d l (crypt_target crypt) s all =
-      let f : Images → ℕ → Outcome = λ i t. (at crypt.base.device t).means i in
-      ap (changed_outcome (unit_part crypt s)) (span_same (f images) (f other) (unit_first crypt s) (unit_first crypt s) (unit_sectors crypt) (λ j h. all.0 (unit_first crypt s + j)))
-  line-alike at d l (verity_target v) s all =
-      let i : ℕ = s / (v.data_block / 512) in
-      let on_data : (λ t. (at v.data t).means images) ≡ (λ t. (at v.data t).means other) = fun_ext all.0 in
-      let on_hash : (λ t. (at v.hash t).means images) ≡ (λ t. (at v.hash t).means other) = fun_ext all.1.0 in
-      let next : List ℕ → Outcome = λ block. Ok (part block (s % (v.data_block / 512))) in
-      ap (λ (f : ℕ → Outcome). then_outcome (block_at v f (λ t. (at v.hash t).means images) i) next) on_data
-      ∙ ap (λ (f : ℕ → Outcome). then_outcome (block_at v (λ t. (at v.data t).means other) f i) next) on_hash
+  line-alike at d l target s all = go (meaning_of target).meant (meaning-laws target)
+    where
+      go : (m : Meant) → MeantLaws target m → IsAlike (said_as m (said_or none_said at (beneath target s)) (below none_said at target) d l s)
+      go handed laws = beneath-each IsAlike refl at target s all
+      go (own m) laws = laws.alike images other (below none_said at target) (below-each IsAlike refl at target all) d l s
 
   -- the leaf has one image
   abbrev IsSame : ℕ → Type 0

@@ -1,6 +1,6 @@
 -- What a loaded configuration gives.
-use Rattle.std.proofs.Common.{◌≡◌, ℕ, zero, suc, ◌+◌, ◌*◌, ◌/◌, ◌%◌, ◌<◌, ◌≤◌, List, [], ◌∷◌, ◌++◌, length, map, Option, Some, None, refl, subst, arith}
-use Rattle.std.specs.Prelude.{filter_map, flat_map, slice_get, option_map, All}
+use Rattle.std.proofs.Common.{◌≡◌, ℕ, zero, suc, ◌+◌, ◌<◌, ◌≤◌, List, [], ◌∷◌, ◌++◌, length, map, Option, Some, None, refl, subst, arith}
+use Rattle.std.specs.Prelude.{filter_map, flat_map, slice_get, option_and_then, All}
 use Rattle.std.specs.List.{AllByRecursion, cons_option}
 use Rattle.std.specs.Option.{option_map_or}
 use Rattle.std.proofs.Common.{false}
@@ -8,7 +8,6 @@ use Rattle.std.proofs.lemmas.Option.{slice_get_within, get_or_from_slice_get}
 use Rattle.dm_table.specs.declared.table.Base.{Base}
 use Rattle.dm_table.specs.declared.table.Line.{Line}
 use Rattle.dm_table.specs.declared.table.Target.{Target}
-use Rattle.dm_table.specs.declared.table.Target.TheVariants.{Linear, Striped, Zero, Error, Crypt as crypt_target, Verity as verity_target}
 use Rattle.stack_rules.specs.declared.lower.Lower.{Lower}
 use Rattle.stack_rules.specs.declared.lower.Lower.TheVariants.{Leaf as leaf, Device as device}
 use Rattle.stack_rules.specs.Records.{Configuration, DeviceRecord, LeafRecord}
@@ -19,7 +18,8 @@ use Rattle.stack_rules.proofs.lemmas.UnrollLemmas.{falls-at}
 use Rattle.stack_rules.proofs.lemmas.ValidLemmas.{depth-low}
 use Rattle.stack_rules.proofs.lemmas.ValidLineLemmas.{sound, size-low}
 use Rattle.stack_rules.specs.Rules.{IsValid, IsLoaded, is_undivided, is_beyond, most_sectors, most_depth}
-use Rattle.stack_meaning.specs.Beneath.{beneath}
+use Rattle.stack_rules.specs.RulesOf.{rules_of}
+use Rattle.stack_meaning.specs.Beneath.{on_base, beneath}
 
 pub at_place : {X : Type 0} (P : X → Type 0) (xs : List X) (i : ℕ) (x : X) → AllByRecursion P xs → slice_get xs i ≡ Some x → P x
 at_place P [] i x all e = cc
@@ -94,19 +94,18 @@ module _ (c : Configuration) (P : Lower → Type 0) where
   of_line (x ∷ lines) zero line all e = let same : x ≡ line = cc in subst (λ (y : Line). AllByRecursion ForName (names y.target)) same (front (names x.target) (flat_map (λ line. names line.target) lines) all)
   of_line (x ∷ lines) (suc l) line all e = of_line lines l line (back (names x.target) (flat_map (λ line. names line.target) lines) all) e
 
--- what holds of each name of a line holds of the device on which a sector lies
+-- what holds of each base's device holds of the one on which a sector lies
+of_base : (P : List ℕ → Type 0) (bases : List Base) (k t : ℕ) (p : List ℕ × ℕ) → AllByRecursion P (map (λ base. base.device) bases) → on_base bases (k, t) ≡ Some p → P p.0
+of_base P [] k t p all e = cc
+of_base P (base ∷ bases) zero t p all e = let same : (base.device, base.offset + t) ≡ p = cc in subst (λ (q : List ℕ × ℕ). P q.0) same all.0
+of_base P (base ∷ bases) (suc k) t p all e = of_base P bases k t p all.1 e
+
 pub of_beneath : (P : List ℕ → Type 0) (target : Target) (s : ℕ) (p : List ℕ × ℕ) → AllByRecursion P (names target) → beneath target s ≡ Some p → P p.0
-of_beneath P (Linear base) s p all e = let same : (base.device, base.offset + s) ≡ p = cc in subst (λ (q : List ℕ × ℕ). P q.0) same all.0
-of_beneath P (Striped chunk bases) s p all e = stripe bases (s / chunk % length bases) all e
+of_beneath P target s p all e = go ((rules_of target).lies s) e
   where
-    stripe : (list : List Base) (k : ℕ) → AllByRecursion P (map (λ base. base.device) list) → option_map {U = List ℕ × ℕ} (λ base. (base.device, base.offset + s / chunk / length bases * chunk + s % chunk)) (slice_get list k) ≡ Some p → P p.0
-    stripe [] k all e = cc
-    stripe (base ∷ list) zero all e = let same : (base.device, base.offset + s / chunk / length bases * chunk + s % chunk) ≡ p = cc in subst (λ (q : List ℕ × ℕ). P q.0) same all.0
-    stripe (base ∷ list) (suc k) all e = stripe list k all.1 e
-of_beneath P Zero s p all e = cc
-of_beneath P Error s p all e = cc
-of_beneath P (crypt_target crypt) s p all e = let same : (crypt.base.device, crypt.base.offset + s) ≡ p = cc in subst (λ (q : List ℕ × ℕ). P q.0) same all.0
-of_beneath P (verity_target verity) s p all e = cc
+    go : (o : Option (ℕ × ℕ)) → option_and_then (on_base (rules_of target).bases) o ≡ Some p → P p.0
+    go None e = cc
+    go (Some q) e = of_base P (rules_of target).bases q.0 q.1 p all e
 
 -- a device on which a line's sector lies has a smaller depth
 pub depth-falls : (c : Configuration) (d l : ℕ) (line : Line) (s : ℕ) (p : List ℕ × ℕ) (lower : Lower) → IsValid c → IsLine c d l line → beneath line.target s ≡ Some p → named c p.0 ≡ Some lower

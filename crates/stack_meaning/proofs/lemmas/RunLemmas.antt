@@ -8,7 +8,8 @@ use Rattle.block_device.specs.Device.{Device, IsSector}
 use Rattle.stack_rules.specs.Records.{Configuration}
 use Rattle.stack_meaning.specs.declared.fault.IoFault.{IoFault}
 use Rattle.stack_meaning.specs.declared.fault.IoFault.TheVariants as io
-use Rattle.stack_meaning.specs.Outcomes.{Fault, error_target, mismatch, Outcome, Images, joint_outcome, span, part}
+use Rattle.stack_meaning.specs.declared.fault.Fault.{Fault}
+use Rattle.stack_meaning.specs.Outcomes.{Outcome, Images, joint_outcome, span, part}
 use Rattle.stack_meaning.specs.Sectors.{IsRun}
 use Rattle.stack_meaning.specs.Leaves.{images_of, AllSteady, AreRead}
 use Rattle.stack_meaning.specs.Found.{FoundRecord, entry_of}
@@ -24,8 +25,7 @@ use Rattle.stack_meaning.proofs.lemmas.SpanLemmas.{span-add, span_same}
 Ends-as : {A : Type 0} (wanted wanted' : Expected A) (old new : List Device) (result : Result A IoFault)
     → ((x : A) → wanted.is x → wanted'.is x) → ((fault : Fault) → wanted.faults fault → wanted'.faults fault) → Ends wanted.is wanted.faults old new result → Ends wanted'.is wanted'.faults old new result
 Ends-as wanted wanted' old new (Ok x) is faults h = is x h
-Ends-as wanted wanted' old new (Err io.ErrorTarget) is faults h = faults error_target h
-Ends-as wanted wanted' old new (Err io.Mismatch) is faults h = faults mismatch h
+Ends-as wanted wanted' old new (Err (io.Stack fault)) is faults h = faults fault h
 Ends-as wanted wanted' old new (Err (io.Device i)) is faults h = h
 Ends-as wanted wanted' old new (Err io.NoMemory) is faults h = tt
 
@@ -34,15 +34,10 @@ pub fault_passes : {A B : Type 0} {wanted : Expected A} {wanted' : Expected B} {
     → Gets wanted mid new (Err fault) → AreRead old m mid → m + wanted.cost ≤ wanted'.cost → ((x : Fault) → wanted.faults x → wanted'.faults x)
     → (AllSteady old → (x : Fault) → wanted.means (images_of mid) ≡ Err x → wanted'.means (images_of old) ≡ Err x)
     → Gets wanted' old new (Err fault)
-fault_passes {old = old} {mid = mid} io.ErrorTarget p a h faults means = record {
+fault_passes {old = old} {mid = mid} (io.Stack fault) p a h faults means = record {
   moved = AreRead-more h (AreRead-then a p.moved);
-  may = faults error_target p.may;
-  exact = λ steady. means steady error_target (p.exact (AllSteady-kept old mid a.moved.fixed steady));
-}
-fault_passes {old = old} {mid = mid} io.Mismatch p a h faults means = record {
-  moved = AreRead-more h (AreRead-then a p.moved);
-  may = faults mismatch p.may;
-  exact = λ steady. means steady mismatch (p.exact (AllSteady-kept old mid a.moved.fixed steady));
+  may = faults fault p.may;
+  exact = λ steady. means steady fault (p.exact (AllSteady-kept old mid a.moved.fixed steady));
 }
 fault_passes (io.Device i) p a h faults means = record {
   moved = AreRead-more h (AreRead-then a p.moved);

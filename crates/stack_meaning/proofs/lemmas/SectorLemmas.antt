@@ -1,12 +1,11 @@
 -- What is said of a sector: by the line that has it, and what holds of each.
-use Rattle.std.proofs.Common.{◌≡◌, ℕ, zero, suc, ◌+◌, ◌-◌, ◌*◌, ◌/◌, ◌%◌, ◌<◌, ◌≤◌, List, [], ◌∷◌, ◌++◌, refl, ap, ◌∙◌, arith, Bool, true, false, cond, Option, Some, None, map, length}
-use Rattle.std.specs.Prelude.{filter_map, flat_map, find, nat_lt, slice_get, option_map}
+use Rattle.std.proofs.Common.{◌≡◌, ℕ, zero, suc, ◌+◌, ◌-◌, ◌<◌, ◌≤◌, List, [], ◌∷◌, ◌++◌, refl, ap, ◌∙◌, arith, Bool, true, false, cond, Option, Some, None, map}
+use Rattle.std.specs.Prelude.{filter_map, flat_map, find, nat_lt, slice_get, option_map, option_and_then}
 use Rattle.std.specs.List.{cons_option, enumerate_from}
 use Rattle.std.proofs.Math.Path.{fun_ext}
 use Rattle.dm_table.specs.declared.table.Base.{Base}
 use Rattle.dm_table.specs.declared.table.Line.{Line}
 use Rattle.dm_table.specs.declared.table.Target.{Target}
-use Rattle.dm_table.specs.declared.table.Target.TheVariants.{Linear, Striped, Zero, Error, Crypt as crypt_target, Verity as verity_target}
 use Rattle.stack_rules.specs.declared.lower.Lower.{Lower}
 use Rattle.stack_rules.specs.declared.lower.Lower.TheVariants.{Leaf as leaf, Device as device}
 use Rattle.stack_rules.specs.Records.{Configuration}
@@ -17,8 +16,11 @@ use Rattle.stack_rules.proofs.lemmas.UnrollLemmas.{AllOf, all_none, all_and, IsL
 use Rattle.stack_rules.specs.Rules.{IsValid, most_depth}
 use Rattle.stack_rules.proofs.lemmas.ValidLemmas.{depth-low}
 use Rattle.stack_meaning.specs.Sectors.{OnLine, on_found, sector_rule, by_sector}
-use Rattle.stack_meaning.specs.Beneath.{beneath, said_or, HandsOn}
-use Rattle.stack_meaning.specs.Meaning.{Said, leaf_said, none_said, crypt_said, verity_said, line_said, said_at, said_by_name}
+use Rattle.stack_rules.specs.RulesOf.{rules_of}
+use Rattle.stack_meaning.specs.Beneath.{on_base, beneath, below, said_or, HandsOn}
+use Rattle.stack_meaning.specs.TargetMeaning.{Meant, handed, own, said_as, IsHanded}
+use Rattle.stack_meaning.specs.MeaningOf.{meaning_of}
+use Rattle.stack_meaning.specs.Meaning.{Said, leaf_said, none_said, line_said, said_at, said_by_name}
 use Rattle.stack_meaning.proofs.lemmas.LineLemmas.{found-more}
 
 -- it asks only of the devices that the line names
@@ -88,28 +90,26 @@ by_sector-line c none on_leaf on_line asks valid d s j l line found start inside
 
 -- ---- the device beneath is one of those that the line names
 
-stripe-same {ℓ} : {X : Type ℓ} (none : X) (at at' : List ℕ → ℕ → X) (bases : List Base) (k : ℕ) (place : Base → ℕ) → AllOf (λ name. at name ≡ at' name) (map (λ base. base.device) bases)
+base-same {ℓ} : {X : Type ℓ} (none : X) (at at' : List ℕ → ℕ → X) (bases : List Base) (k : ℕ) (place : Base → ℕ) → AllOf (λ name. at name ≡ at' name) (map (λ base. base.device) bases)
     → said_or none at (option_map (λ base. (base.device, place base)) (slice_get bases k)) ≡ said_or none at' (option_map (λ base. (base.device, place base)) (slice_get bases k))
-stripe-same none at at' [] k place all = refl
-stripe-same none at at' (base ∷ bases) zero place (all_and same more) = ap (λ h. h (place base)) same
-stripe-same none at at' (base ∷ bases) (suc k) place (all_and same more) = stripe-same none at at' bases k place more
+base-same none at at' [] k place all = refl
+base-same none at at' (base ∷ bases) zero place (all_and same more) = ap (λ h. h (place base)) same
+base-same none at at' (base ∷ bases) (suc k) place (all_and same more) = base-same none at at' bases k place more
 
 pub said_or-same {ℓ} : {X : Type ℓ} (none : X) (at at' : List ℕ → ℕ → X) (target : Target) (s : ℕ) → AllOf (λ name. at name ≡ at' name) (names target) → said_or none at (beneath target s) ≡ said_or none at' (beneath target s)
-said_or-same none at at' (Linear base) s (all_and same more) = ap (λ h. h (base.offset + s)) same
-said_or-same none at at' (Striped chunk bases) s all = stripe-same none at at' bases (s / chunk % length bases) (λ base. base.offset + s / chunk / length bases * chunk + s % chunk) all
-said_or-same none at at' Zero s all = refl
-said_or-same none at at' Error s all = refl
-said_or-same none at at' (crypt_target crypt) s (all_and same more) = ap (λ h. h (crypt.base.offset + s)) same
-said_or-same none at at' (verity_target verity) s all = refl
+said_or-same none at at' target s all = go ((rules_of target).lies s)
+  where
+    go : (o : Option (ℕ × ℕ)) → said_or none at (option_and_then (on_base (rules_of target).bases) o) ≡ said_or none at' (option_and_then (on_base (rules_of target).bases) o)
+    go None = refl
+    go (Some p) = base-same none at at' (rules_of target).bases p.0 (λ base. base.offset + p.1) all
+
+pub below-same {ℓ} : {X : Type ℓ} (none : X) (at at' : List ℕ → ℕ → X) (target : Target) → AllOf (λ name. at name ≡ at' name) (names target) → below none at target ≡ below none at' target
+below-same none at at' target all = fun_ext (λ i. fun_ext (λ t. base-same none at at' (rules_of target).bases i (λ base. t) all))
 
 pub line_said-asks : AsksOfNames line_said
-line_said-asks at at' d l (Linear base) s all = said_or-same none_said at at' (Linear base) s all
-line_said-asks at at' d l (Striped chunk bases) s all = said_or-same none_said at at' (Striped chunk bases) s all
-line_said-asks at at' d l Zero s all = refl
-line_said-asks at at' d l Error s all = refl
-line_said-asks at at' d l (crypt_target crypt) s (all_and same more) = ap (λ (f : ℕ → Said). crypt_said f crypt s) same
-line_said-asks at at' d l (verity_target v) s (all_and on_data (all_and on_hash more)) =
-    ap (λ (f : ℕ → Said). verity_said f (at v.hash) d l v s) on_data ∙ ap (λ (f : ℕ → Said). verity_said (at' v.data) f d l v s) on_hash
+line_said-asks at at' d l target s all =
+    ap (λ (x : Said). said_as (meaning_of target).meant x (below none_said at target) d l s) (said_or-same none_said at at' target s all)
+    ∙ ap (λ (f : ℕ → ℕ → Said). said_as (meaning_of target).meant (said_or none_said at' (beneath target s)) f d l s) (below-same none_said at at' target all)
 
 -- ---- the sectors of one line
 
@@ -119,12 +119,11 @@ said_at-line c valid d s j l line found start inside = by_sector-line c none_sai
 
 -- a line that hands on the sector beneath
 pub line_said-beneath : (at : List ℕ → ℕ → Said) (d l : ℕ) (target : Target) (s : ℕ) (p : List ℕ × ℕ) → HandsOn target → beneath target s ≡ Some p → line_said at d l target s ≡ at p.0 p.1
-line_said-beneath at d l (Linear base) s p hands e = ap (said_or none_said at) e
-line_said-beneath at d l (Striped chunk bases) s p hands e = ap (said_or none_said at) e
-line_said-beneath at d l Zero s p hands e = absurd hands
-line_said-beneath at d l Error s p hands e = absurd hands
-line_said-beneath at d l (crypt_target crypt) s p hands e = absurd hands
-line_said-beneath at d l (verity_target verity) s p hands e = absurd hands
+line_said-beneath at d l target s p hands e = go (meaning_of target).meant hands
+  where
+    go : (m : Meant) → IsHanded m → said_as m (said_or none_said at (beneath target s)) (below none_said at target) d l s ≡ at p.0 p.1
+    go handed h = ap (said_or none_said at) e
+    go (own m) h = absurd h
 
 -- ---- leaves
 

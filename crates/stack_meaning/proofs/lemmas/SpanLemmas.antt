@@ -4,7 +4,8 @@ use Rattle.std.proofs.lemmas.List.{append_assoc, drop-drop, drop_more, replicate
 use Rattle.std.proofs.Math.Seq.{take-add}
 use Rattle.std.specs.List.{concat}
 use Rattle.block_device.specs.Device.{run_of}
-use Rattle.stack_meaning.specs.Outcomes.{Outcome, Fault, joint_outcome, span, zero_sector, part}
+use Rattle.stack_meaning.specs.declared.fault.Fault.{Fault}
+use Rattle.stack_meaning.specs.Outcomes.{Outcome, joint_outcome, span, zero_sector, part}
 
 -- a leaf's span
 pub span_image : (f : ℕ → Outcome) (image : List (List ℕ)) (first n : ℕ) → ((s : ℕ) → f s ≡ Ok (get_or image s zero_sector)) → first + n ≤ length image → span f first n ≡ Ok (concat (run_of image first n))

@@ -1,44 +1,31 @@
 -- The equation of costs, of lines whose cost depends on what they name alone.
-use Rattle.std.proofs.Common.{◌≡◌, ◌≤◌, ◌*◌, ℕ, List, [], ◌∷◌, ◌++◌, refl, ap, Option, Some, None, map, arith}
+use Rattle.std.proofs.Common.{◌≡◌, ◌≤◌, ℕ, List, [], ◌∷◌, ◌++◌, refl, ap, Option, Some, None, map, arith}
 use Rattle.std.specs.Prelude.{filter_map, flat_map}
 use Rattle.std.specs.List.{AllByRecursion, cons_option}
-use Rattle.dm_table.specs.declared.table.Base.{Base}
 use Rattle.dm_table.specs.declared.table.Line.{Line}
 use Rattle.dm_table.specs.declared.table.Target.{Target}
-use Rattle.dm_table.specs.declared.table.Target.TheVariants.{Linear, Striped, Zero, Error, Crypt, Verity}
 use Rattle.stack_rules.specs.declared.lower.Lower.{Lower}
 use Rattle.stack_rules.specs.declared.lower.Lower.TheVariants.{Leaf as leaf, Device as device}
 use Rattle.stack_rules.specs.Records.{Configuration}
 use Rattle.stack_rules.specs.Names.{named, names, lowers_of, lines_of}
 use Rattle.stack_rules.specs.Descend.{depth, descend, greatest, known, by_name, cost_rule, line_read_cost, line_write_cost}
 use Rattle.stack_rules.specs.Rules.{most_depth}
-use Rattle.stack_rules.specs.Units.{unit_sectors, unit_write_cost}
+use Rattle.stack_rules.specs.RulesOf.{rules_of}
 use Rattle.stack_rules.proofs.lemmas.UnrollLemmas.{AllOf, all_and, IsLocal, descend-rule, falls-at}
 
 -- a line's cost depends on the costs of what it names alone
 abbrev pub IsLineLocal : ((List ℕ → ℕ) → Target → ℕ) → Type 0
 IsLineLocal line_cost = (cost other : List ℕ → ℕ) (target : Target) → AllByRecursion (λ n. cost n ≡ other n) (names target) → line_cost cost target ≡ line_cost other target
 
-bases-same : (cost other : List ℕ → ℕ) (bases : List Base) → AllByRecursion (λ n. cost n ≡ other n) (map (λ (base : Base). base.device) bases)
-    → greatest (map (λ (base : Base). cost base.device) bases) ≡ greatest (map (λ (base : Base). other base.device) bases)
-bases-same cost other [] all = refl
-bases-same cost other (b ∷ bs) all = rw (all.0, bases-same cost other bs all.1) refl
+pub costs-same : (cost other : List ℕ → ℕ) (ns : List (List ℕ)) → AllByRecursion (λ n. cost n ≡ other n) ns → map cost ns ≡ map other ns
+costs-same cost other [] all = refl
+costs-same cost other (n ∷ ns) all = rw (all.0, costs-same cost other ns all.1) refl
 
 pub line_read_cost-local : IsLineLocal line_read_cost
-line_read_cost-local cost other (Linear base) all = all.0
-line_read_cost-local cost other (Striped chunk bases) all = bases-same cost other bases all
-line_read_cost-local cost other Zero all = refl
-line_read_cost-local cost other Error all = refl
-line_read_cost-local cost other (Crypt crypt) all = ap (λ n. unit_sectors crypt * n) all.0
-line_read_cost-local cost other (Verity verity) all = rw (all.0, all.1.0) refl
+line_read_cost-local cost other target all = ap (rules_of target).read_cost (costs-same cost other (names target) all)
 
 pub line_write_cost-local : (read : List ℕ → ℕ) → IsLineLocal (line_write_cost read)
-line_write_cost-local read cost other (Linear base) all = all.0
-line_write_cost-local read cost other (Striped chunk bases) all = bases-same cost other bases all
-line_write_cost-local read cost other Zero all = refl
-line_write_cost-local read cost other Error all = refl
-line_write_cost-local read cost other (Crypt crypt) all = ap (unit_write_cost (unit_sectors crypt) (read crypt.base.device)) all.0
-line_write_cost-local read cost other (Verity verity) all = refl
+line_write_cost-local read cost other target all = ap ((rules_of target).write_cost (map read (names target))) (costs-same cost other (names target) all)
 
 -- ---- from the devices beneath to the names of each line
 

@@ -3,12 +3,13 @@ use Rattle.std.proofs.Common.{◌≡◌, ℕ, ◌+◌, ◌/◌, List, [], ◌∷
 use Rattle.std.specs.List.{AllByRecursion, list_any}
 use Rattle.dm_table.specs.declared.table.Base.{Base}
 use Rattle.dm_table.specs.declared.table.Target.{Target}
-use Rattle.dm_table.specs.declared.table.Target.TheVariants.{Linear, Striped, Zero, Error, Crypt, Verity}
+use Rattle.dm_table.specs.declared.table.Target.TheVariants.{Linear, Striped, Crypt, Verity}
 use Rattle.dm_table.specs.declared.crypt.Crypt.{Crypt as CryptRecord}
 use Rattle.dm_table.specs.declared.verity.Verity.{Verity as VerityRecord}
 use Rattle.stack_rules.specs.Records.{Configuration}
 use Rattle.stack_rules.specs.Trees.{data_sectors}
 use Rattle.stack_rules.specs.Names.{names}
+use Rattle.stack_rules.proofs.lemmas.RulesLawsOf.{rules-laws}
 use Rattle.stack_rules.specs.Rules.{ends_past, is_beyond, range_from, ranges}
 
 pub list_any-map : {X Y : Type 0} (p : Y → Bool) (f : X → Y) (xs : List X) → list_any p (map f xs) ≡ list_any (λ x. p (f x)) xs
@@ -17,16 +18,7 @@ list_any-map p f (x ∷ xs) = rw (list_any-map p f xs) refl
 
 -- each range is on a device that the target names
 pub ranges-names : (P : List ℕ → Type 0) (len : ℕ) (target : Target) → AllByRecursion P (names target) → AllByRecursion (λ (range : List ℕ × ℕ). P range.0) (ranges len target)
-ranges-names P len (Linear base) all = (all.0, tt)
-ranges-names P len (Striped chunk bases) all = go bases all
-  where
-    go : (bs : List Base) → AllByRecursion P (map (λ (base : Base). base.device) bs) → AllByRecursion (λ (range : List ℕ × ℕ). P range.0) (map (range_from (len / length bases)) bs)
-    go [] all = tt
-    go (b ∷ bs) all = (all.0, go bs all.1)
-ranges-names P len Zero all = tt
-ranges-names P len Error all = tt
-ranges-names P len (Crypt crypt) all = (all.0, tt)
-ranges-names P len (Verity verity) all = (all.0, tt)
+ranges-names P len target = (rules-laws target).ranges P len
 
 or-false : (b : Bool) → (b || false) ≡ b
 or-false true = refl

@@ -1,5 +1,6 @@
 -- The units of a crypt line.
-use Rattle.std.proofs.Common.{◌≡◌, ◌+◌, ◌*◌, ◌/◌, ◌≤◌, ◌==◌, ℕ, Bool, true, false, cond, ap, sym, ◌∙◌, inl, inr, arith}
+use Rattle.std.proofs.Common.{◌≡◌, ◌+◌, ◌*◌, ◌/◌, ◌≤◌, ◌==◌, ℕ, zero, suc, min, Bool, true, false, cond, ap, sym, ◌∙◌, inl, inr, arith}
+use Rattle.std.proofs.Math.Decide.{dec_le}
 use Rattle.std.proofs.Math.Nat.{mul-le-mul_right}
 use Rattle.std.specs.Prelude.{◌⊎◌}
 use Rattle.dm_table.specs.declared.crypt.Crypt.{Crypt}
@@ -70,3 +71,23 @@ unit_write-some u read write some = go (u == 1)
     go : (one : Bool) → write ≤ cond one write (u * (read + write))
     go true = omega arith
     go false = omega (arith, times-some u (read + write) some)
+
+-- so many times a cost, more than k or not
+times-capped : (k m a : ℕ) → min k (m * min k a) ≡ min k (m * a)
+times-capped k m a = go m (dec_le a k)
+  where
+    go : (m : ℕ) → Dec (a ≤ k) → min k (m * min k a) ≡ min k (m * a)
+    go m (yes low) = let same : min k a ≡ a = omega (arith, low) in ap (λ n. min k (m * n)) same
+    go zero (no high) = omega arith
+    go (suc m) (no high) =
+        let above : k ≤ a = grind (arith, high) in
+        let same : min k a ≡ k = omega (arith, above) in
+        let first : 1 * min k a ≤ suc m * min k a = mul-le-mul_right (min k a) (omega arith) in
+        let second : 1 * a ≤ suc m * a = mul-le-mul_right a (omega arith) in
+        omega (arith, first, second, same, above)
+
+pub sum-capped : (k a b x y : ℕ) → min k a ≡ min k b → min k x ≡ min k y → min k (a + x) ≡ min k (b + y)
+sum-capped k a b x y p q = omega (arith, p, q)
+
+pub product-capped : (k m a b : ℕ) → min k a ≡ min k b → min k (m * a) ≡ min k (m * b)
+product-capped k m a b same = sym (times-capped k m a) ∙ ap (λ n. min k (m * n)) same ∙ times-capped k m b

@@ -85,11 +85,11 @@ pub record IsSound (c : Configuration) (writable : Bool) (before : ℕ) (line : 
   pub low : line.start + line.length ≤ most_sectors
   pub divides : is_undivided line.length line.target ≡ false
   pub units : cuts_unit line.length line.target ≡ false
-  pub offset : is_off_unit line.target ≡ false
+  pub offset : is_off_unit line.length line.target ≡ false
   pub inside : is_beyond c line.length line.target ≡ false
   pub covered : is_uncovered line.length line.target ≡ false
   pub tree : is_tree_beyond c line.target ≡ false
-  pub read_only : (writable && needs_read_only line.target) ≡ false
+  pub read_only : (writable && needs_read_only line.length line.target) ≡ false
   pub lowers : (writable && names_read_only c line.target) ≡ false
 
 pub sound : (c : Configuration) → IsValid c → (d : ℕ) (x : DeviceRecord) → slice_get c.devices d ≡ Some x

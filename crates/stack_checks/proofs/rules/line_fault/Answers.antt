@@ -15,7 +15,7 @@ returns-in-Some c = λ d l.
 pub returns-then-not-writable : goal.returns-then-not-writable
 returns-then-not-writable c = λ d l.
     let c' : Configuration = configuration c.args.leaves.now c.args.devices.now in
-    let parts = parts-none d l (is_undivided c.args.line.now.length c.args.line.now.target) (cuts_unit c.args.line.now.length c.args.line.now.target) (is_off_unit c.args.line.now.target)
+    let parts = parts-none d l (is_undivided c.args.line.now.length c.args.line.now.target) (cuts_unit c.args.line.now.length c.args.line.now.target) (is_off_unit c.args.line.now.length c.args.line.now.target)
     (ap (option_map (refusal_at d l)) (sym c.in-None.is) ∙ c.part_fault.ensures d l) in
     let passed : IsPassedLine c' c.args.before c.args.line.now = record {
       some = c.if-line-eq0.false;
@@ -33,7 +33,7 @@ returns-then-not-writable c = λ d l.
 pub returns : goal.returns
 returns c = λ d l.
     let c' : Configuration = configuration c.args.leaves.now c.args.devices.now in
-    let parts = parts-none d l (is_undivided c.args.line.now.length c.args.line.now.target) (cuts_unit c.args.line.now.length c.args.line.now.target) (is_off_unit c.args.line.now.target)
+    let parts = parts-none d l (is_undivided c.args.line.now.length c.args.line.now.target) (cuts_unit c.args.line.now.length c.args.line.now.target) (is_off_unit c.args.line.now.length c.args.line.now.target)
     (ap (option_map (refusal_at d l)) (sym c.in-None.is) ∙ c.part_fault.ensures d l) in
     let passed : IsPassedLine c' c.args.before c.args.line.now = record {
       some = c.if-line-eq0.false;

@@ -4,15 +4,16 @@ use Rattle.stack_rules.specs.Names.{names}
 use Rattle.stack_rules.specs.Descend.{by_name, line_write_cost}
 use Rattle.stack_costs.specs.Costs.{cost_in}
 use Rattle.stack_rules.specs.Passing.{Mean}
-use Rattle.stack_costs.proofs.lemmas.CostLemmas.{verity-is, crypt-is, line_write_cost-row}
+use Rattle.stack_rules.proofs.lemmas.LastCaseLemmas.{verity_of-is, crypt_of-is}
+use Rattle.stack_costs.proofs.lemmas.CostLemmas.{line_write_cost-row}
 use Rattle.stack_costs.proofs.cost.line_write_cost.Goals as goal
 
 pub returns-in-Some : goal.returns-in-Some
-returns-in-Some c = λ c' means. ap (line_write_cost (by_name c' 0 (cost_in c.args.reads.now)) (by_name c' 0 (cost_in c.args.costs.now))) (sym (verity-is c.args.target.now _ c.in-Some.ensures))
+returns-in-Some c = λ c' means. ap (line_write_cost (by_name c' 0 (cost_in c.args.reads.now)) (by_name c' 0 (cost_in c.args.costs.now))) (sym (verity_of-is c.args.target.now _ c.in-Some.ensures))
 
 pub returns-in-Some-crypt_of : goal.returns-in-Some-crypt_of
 returns-in-Some-crypt_of c = λ c' means.
-    let is = crypt-is c.args.target.now c.in-Some-crypt_of.crypt.now c.in-Some-crypt_of.ensures in
+    let is = crypt_of-is c.args.target.now c.in-Some-crypt_of.crypt.now c.in-Some-crypt_of.ensures in
     let P : Target → Type 0 = λ target. Mean c' c.args.lowers.now (names target) in
     c.unit_write_cost.ensures c' (subst P is means) ∙ ap (line_write_cost (by_name c' 0 (cost_in c.args.reads.now)) (by_name c' 0 (cost_in c.args.costs.now))) (sym is)
 

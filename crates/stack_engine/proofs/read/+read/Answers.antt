@@ -15,7 +15,8 @@ use Rattle.stack_rules.specs.Trees.{block_sectors}
 use Rattle.stack_rules.specs.declared.lower.DevId.{DevId}
 use Rattle.stack_rules.specs.declared.lower.Lower.TheVariants.{Leaf}
 use Rattle.stack_rules.specs.declared.lower.Lower.{Lower}
-use Rattle.stack_meaning.specs.declared.fault.IoFault.TheVariants.{ErrorTarget}
+use Rattle.stack_meaning.specs.declared.fault.Fault.TheVariants.{ErrorTarget}
+use Rattle.stack_meaning.specs.declared.fault.IoFault.TheVariants.{Stack}
 use Rattle.stack_lines.specs.declared.source.Source.{Source}
 use Rattle.stack_lines.specs.declared.source.Source.TheVariants.{Units, UnitPart, Block}
 use Rattle.stack_meaning.specs.Found.{FoundRecord, entry_of}
@@ -167,7 +168,7 @@ pub read_run-returns-in-Fails-clause-reads : goal.read_run-returns-in-Fails-clau
 read_run-returns-in-Fails-clause-reads g t c =
     let old = map g.D.BlockDev.state c.args.reader.now.devices.items in
     let n : ℕ = length c.args.out.now / 512 in
-    subst (λ (s : Source). ReadsSource c.args.config.now s n (empty_read old c.args.found.now.items) (Err ErrorTarget)) (sym c.in-Fails.is)
+    subst (λ (s : Source). ReadsSource c.args.config.now s n (empty_read old c.args.found.now.items) (Err (Stack ErrorTarget))) (sym c.in-Fails.is)
     (fails_of c.args.config.now n old c.args.found.now.items c.requires.kept (omega (arith, c.requires.fits.sectors.some, c.requires.fits.sectors.whole)))
 
 pub read_run-returns-in-Zeros-clause-reads : goal.read_run-returns-in-Zeros-clause-reads

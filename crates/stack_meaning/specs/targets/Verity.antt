@@ -1,0 +1,52 @@
+-- `verity`: data blocks, each checked from the root down.
+use Rattle.std.specs.Prelude.{◌≡◌, ℕ, ◌+◌, ◌/◌, ◌%◌, nat_lt, List, [], ◌∷◌, Contains, Ok}
+use Rattle.hash_tree.specs.Chain.{ChainRecord, IsGood}
+use Rattle.block_device.specs.Device.{Device}
+use Rattle.dm_table.specs.declared.verity.Verity.{Verity}
+use Rattle.stack_rules.specs.Trees.{tree_of, block_sectors}
+use Rattle.stack_meaning.specs.Outcomes.{then_outcome, part}
+use Rattle.stack_meaning.specs.Found.{FoundRecord, Entry, entry_of}
+use Rattle.stack_meaning.specs.Blocks.{block_at, BlockMeets}
+use Rattle.stack_meaning.specs.Leaves.{images_of, AllSteady}
+use Rattle.stack_meaning.specs.Said.{Said}
+use Rattle.stack_meaning.specs.Putting.{done}
+use Rattle.stack_meaning.specs.TargetMeaning.{TargetMeaning, own}
+
+-- a chain that was found at that entry, and is good for that verity line
+pub record IsShown (chains : List FoundRecord) (entry : Entry) (v : Verity) (x : FoundRecord) : Type 0 where
+  pub given : Contains chains x
+  pub at : entry_of x ≡ entry
+  pub good : IsGood (tree_of v) v.salt v.root x.chain
+
+-- the sector of a chain's content at which sector s of its line stands
+abbrev pub content_part : Verity → ℕ → List ℕ → List ℕ
+content_part v s content = part content (s % block_sectors v)
+
+-- Sector s of a verity line, the l-th of device d: that of its data block, which is checked from the root down.
+-- It may be that of a good chain which was found for it, and no write reaches it.
+abbrev pub verity_said : (ℕ → Said) → (ℕ → Said) → ℕ → ℕ → Verity → ℕ → Said
+verity_said on_data on_hash d l v s =
+    let i = s / block_sectors v in
+    record {
+      means = λ images. then_outcome (block_at v (λ t. (on_data t).means images) (λ t. (on_hash t).means images) i) (λ block. Ok (content_part v s block));
+      may = λ chains bytes. (x : FoundRecord) × IsShown chains (d, l, i) v x × (bytes ≡ content_part v s x.chain.content);
+      meets = BlockMeets v (λ t. (on_data t).meets) (λ t. (on_hash t).meets) i;
+      entries = (d, l, i) ∷ [];
+      reaches = [];
+      encrypts = ⊥;
+    }
+
+-- a chain of a verity line: it is good, and over steady leaves its content is the data block
+pub record IsOfVerity (on_data on_hash : ℕ → Said) (leaves : List Device) (v : Verity) (chain : ChainRecord) : Type 0 where
+  pub good : IsGood (tree_of v) v.salt v.root chain
+  pub exact : AllSteady leaves → block_at v (λ t. (on_data t).means (images_of leaves)) (λ t. (on_hash t).means (images_of leaves)) chain.index ≡ Ok chain.content
+
+abbrev pub verity : Verity → TargetMeaning
+verity line = record {
+  meant = own (record {
+    said = λ below d l. verity_said (below 0) (below 1) d l line;
+    put = λ reads puts s sectors images. done images;
+    keeps = λ below leaves chain. IsOfVerity (below 0) (below 1) leaves line chain;
+  });
+  together = λ s. nat_lt (s % block_sectors line + 1) (block_sectors line);
+}

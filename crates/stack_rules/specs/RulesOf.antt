@@ -1,0 +1,18 @@
+-- The record of a target: the one match on its kinds.
+use Rattle.dm_table.specs.declared.table.Target.{Target}
+use Rattle.dm_table.specs.declared.table.Target.TheVariants.{Linear, Striped, Zero, Error, Crypt, Verity}
+use Rattle.stack_rules.specs.TargetRules.{TargetRules}
+use Rattle.stack_rules.specs.targets.Linear.{linear}
+use Rattle.stack_rules.specs.targets.Striped.{striped}
+use Rattle.stack_rules.specs.targets.Zero.{zero}
+use Rattle.stack_rules.specs.targets.Error.{error}
+use Rattle.stack_rules.specs.targets.Crypt.{crypt}
+use Rattle.stack_rules.specs.targets.Verity.{verity}
+
+abbrev pub rules_of : Target → TargetRules
+rules_of (Linear base) = linear base
+rules_of (Striped chunk bases) = striped chunk bases
+rules_of Zero = zero
+rules_of Error = error
+rules_of (Crypt line) = crypt line
+rules_of (Verity line) = verity line
