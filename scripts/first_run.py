@@ -73,6 +73,7 @@ def on_a_full_disk(top):
     shutil.rmtree(made, ignore_errors=True)
     os.mkdir(made)
     if subprocess.run(["mount", "-t", "tmpfs", "-o", "size=1m", "none", made], capture_output=True).returncode:
+        print("first run: no full disk was tried, since none can be mounted here")
         return
     try:
         expect("full disk", run(top, "dmstack", "session"), 1, b"", r"dmstack: not compiled: [^\n]+ has 1 MB free, and \d+ are needed\n")
