@@ -3,9 +3,8 @@
 # cipher alone, and `format` and `verify` beside veritysetup, where it is installed. Not a part of the gate.
 #
 # benchmark_verity.sh [MIB [RUNS]]: beside veritysetup an image of MIB mebibytes (512) in blocks of 4,096 bytes, RUNS times each in
-# turn (9); scans are of 256 MiB, five times. A
-# ratio is the other's time divided by ours: more than 1 is faster. Other programs disturb the least processor time least, and
-# wall time most. Both our builds are measured: the kit's default, and the one for AVX2 where the machine has it.
+# turn (9); scans are of 256 MiB, five times. A ratio is the other's time divided by ours: more than 1 is faster. Other programs
+# disturb the least processor time least, and wall time most. Both our builds are measured: the kit's default, and the one for AVX2 where the machine has it.
 set -eu
 mib=${1:-512}
 runs=${2:-9}
