@@ -6,8 +6,8 @@
 
 Each public call has a row, and each row a call: a row names the call's file, its refusals as the signature has them, and the
 clauses and tests that say when each comes and what it leaves. The files, clauses and tests stand there. A function of a
-public module is named behind the module. One of a module `laws` does nothing, and has no row; nor have those of
-`stack_fixtures`, which tests alone call. No call has a handle by which it might not return.
+public module is named behind the module. One of a module `laws` does nothing, and has no row. No call has a handle by which
+it might not return.
 """
 import glob
 import os
@@ -75,8 +75,6 @@ def exported(crate):
 
 def open_modules(crate):
     """The modules whose public functions are called by the module's name."""
-    if os.path.basename(crate) == "stack_fixtures":
-        return set()
     return set(re.findall(r"^pub mod (\w+);", text_of(f"{crate}/src/lib.rt"), re.M)) - {"laws"}
 
 

@@ -1,4 +1,5 @@
 """Planted bugs, and the functions of a source file in which they stand."""
+import glob
 import json
 import os
 import re
@@ -22,10 +23,19 @@ class Function:
     body: int
     end: int
     cycle: str
+    # The words of its body.
+    words: frozenset
 
-    def key(self):
-        # The functions of a cycle have one proof.
+    def name(self):
+        return self.proofs.rpartition("/")[2]
+
+    def proof(self):
+        """What its proof is called: the functions of a cycle have one."""
         return self.cycle or self.pattern
+
+    def has(self, goal):
+        """Whether a goal of its proof is its own: those of a cycle begin with the names of its functions."""
+        return not self.cycle or re.match(rf"(?:(?:invariant|decreases)-)?{re.escape(self.name())}(?:-|$)", goal)
 
     def folders(self):
         """Where its proof files may lie, as patterns: those of a function that calls itself, and of a cycle, begin with +."""
@@ -143,7 +153,8 @@ def functions_of(crate, path):
                 pattern = "::".join([crate.name, f"(?:{'::'.join(names)}|{closure})"])
                 only = "::".join(names if is_exact else module)
                 proofs = "/".join([*module, *owners, following])
-                found.append(Function(pattern, only, proofs, code[at][0], code[body[0]][0], code[body[1]][1], cycle))
+                words = frozenset(it[2] for it in code[body[0] : body[1]])
+                found.append(Function(pattern, only, proofs, code[at][0], code[body[0]][0], code[body[1]][1], cycle, words))
                 at = body[1]
             cycle = ""
         elif word == "impl":
@@ -157,6 +168,27 @@ def functions_of(crate, path):
             open_braces.pop()
         at += 1
     return found
+
+
+def proofs_below(crate):
+    """For each proof of the crate's functions, those of the functions that it calls, directly or not, as far as names tell."""
+    paths = [os.path.relpath(it, crate.folder) for it in glob.glob(f"{crate.folder}/src/**/*.rt", recursive=True)]
+    functions = [it for path in paths for it in functions_of(crate, path)]
+    named, calls = {}, {}
+    for it in functions:
+        named.setdefault(it.name(), []).append(it)
+    alone = {name: their[0].proof() for name, their in named.items() if len(their) == 1}
+    for it in functions:
+        calls.setdefault(it.proof(), set()).update(alone[word] for word in it.words if word in alone)
+    below = {}
+    for proof in calls:
+        left, seen = [proof], set()
+        while left:
+            new = calls[left.pop()] - seen
+            seen |= new
+            left += new
+        below[proof] = seen - {proof}
+    return below
 
 
 def read_edit(crate, file):

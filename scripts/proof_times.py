@@ -4,9 +4,9 @@
     proof_times.py [--most 3] [--built] CRATE..
 
 The libraries below are built first where they aren't; with --built what stands in out/ is taken as it is, where `rt ci` has just
-made it. Each crate is checked alone, by one job, so that the time between two
-of the checker's lines is that of the function in the second one, with the modules that only it asked for; the first one that is
-told also has all that is read at the start.
+made it. Each crate is checked alone, with its tests, by one job, so that the time between two of the checker's lines is that of
+the function in the second one, with the modules that only it asked for; the first one that is told also has all that is read at
+the start.
 """
 import argparse
 import os
@@ -30,7 +30,8 @@ def times_of(crate, kept):
     """The seconds of each function, the dearest first, and whether the crate is proved."""
     found, last, is_proved = [], time.monotonic(), False
     how = {"cwd": crate.folder, "stdin": subprocess.DEVNULL, "stdout": subprocess.PIPE, "stderr": subprocess.STDOUT, "text": True}
-    with subprocess.Popen(words_of_check(crate, ["--jobs", "1", "--progress"], kept), **how) as running:
+    flags = ["--jobs", "1", "--progress", *["--test"] * bool(crate.has_tests())]
+    with subprocess.Popen(words_of_check(crate, flags, kept), **how) as running:
         for line in running.stdout:
             told = CHECKED.match(line)
             if told:

@@ -4,6 +4,7 @@ import resource
 from dataclasses import dataclass, field
 
 from kit import checked, is_refused
+from planted import proofs_below
 
 ONE_JOB = ["--jobs", "1"]
 # Said of an edit whose refusal says little of the contract: change a value and keep the names.
@@ -32,7 +33,9 @@ class Trial:
     def __init__(self, crate, edits, kept):
         self.crate, self.edits, self.kept = crate, edits, kept
         # What is known of which function's edit hides that of another: for each function those that it rests on.
-        self.below = {}
+        functions = [it.function for it in edits if it.function]
+        below = proofs_below(crate) if len(functions) > 1 else {}
+        self.below = {f.pattern: {g.pattern for g in functions if g.proof() in below.get(f.proof(), ())} for f in functions}
 
     def plant(self, edits):
         """The texts of the files with these edits, and the lines at which each edit's function stands in them."""
@@ -69,7 +72,7 @@ class Trial:
             if "it calls" in line or not line.startswith(("no proof", "not proved")):
                 continue
             goal = re.search(r"did not prove `([^`]*)`", line)
-            if goal:
+            if goal and edit.function.has(goal[1]):
                 return goal[1]
             goal = self.refused_answer(edit, tried)
             if goal:
@@ -80,6 +83,7 @@ class Trial:
         """The goal whose written answer was refused, or that has none; last those that name what the edit took away."""
         folder = "|".join(edit.function.folders())
         lines = re.findall(rf"^\./proofs/(?:{folder})/\S+: error: `([^`]*)`: (.*)$", tried.said, re.M)
+        lines = [it for it in lines if edit.function.has(it[0])]
         strong = [goal for goal, why in lines if not re.search(r"has no field|is not in scope|has no `|was not admitted", why)]
         if strong:
             return strong[0]
@@ -90,7 +94,7 @@ class Trial:
         return f"{lines[0][0]}{WEAK}" if lines else ""
 
     def hidden_by(self, edit, tried, chosen):
-        """The keys of the edited functions because of which nothing was said of the edit's own."""
+        """The edited functions because of which nothing was said of the edit's own: those that it calls, and those of its cycle."""
         left = [it for it in tried.functions if re.fullmatch(edit.function.pattern, it)]
         seen, found = {*left}, set()
         while left:
@@ -98,16 +102,17 @@ class Trial:
             if "it calls" not in line:
                 continue
             for name in re.findall(r"`([^`]*)`", line.partition("it calls")[2]):
-                found |= {it.function.key() for it in chosen if re.fullmatch(it.function.pattern, name)}
+                found |= {it.function.pattern for it in chosen if re.fullmatch(it.function.pattern, name)}
                 left += [] if name in seen else [name]
                 seen.add(name)
-        return found - {edit.function.key()}
+        found |= {it.function.pattern for it in chosen if it.function.cycle and it.function.cycle == edit.function.cycle}
+        return found - {edit.function.pattern}
 
     def choice(self, left):
         """As many edits as one round can judge, as far as that is known."""
         chosen, keys, below = [], set(), set()
         for edit in left:
-            key = edit.function.key()
+            key = edit.function.pattern
             if key not in keys and key not in below and not self.below.get(key, set()) & keys:
                 chosen.append(edit)
                 keys.add(key)
@@ -141,7 +146,7 @@ class Trial:
             judged = []
             for edit in chosen:
                 hidden_by = set() if edit.refusal else self.hidden_by(edit, tried, chosen)
-                self.below.setdefault(edit.function.key(), set()).update(hidden_by)
+                self.below.setdefault(edit.function.pattern, set()).update(hidden_by)
                 judged += [] if hidden_by else [edit]
             judged = judged or chosen
             single += [it for it in judged if not it.refusal]

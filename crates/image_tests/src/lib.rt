@@ -1,4 +1,4 @@
-//! Tests of ciphers, digests, trees, caches, devices and `verity` lines, over public calls: what no word of the program reaches.
+//! Tests of ciphers, digests, trees, caches, devices, `verity` lines and syncs, over public calls: what no word of the program reaches.
 //! They stand in a crate of their own, since a crate with tests is proved twice.
 #![tactic(auto)]
 
@@ -10,6 +10,10 @@ mod ciphers;
 mod devices;
 #[cfg(test)]
 mod digests;
+#[cfg(test)]
+mod stacks;
+#[cfg(test)]
+mod syncs;
 #[cfg(test)]
 mod trees;
 #[cfg(test)]

@@ -1,9 +1,8 @@
 //! A `verity` line over a device that answers another block each time.
+use crate::stacks::{read, stack_of};
 use block_device::ScriptDev;
 use hash_tree::{Salt, digest};
 use stack_engine::{Answer, Fault, IoFault};
-use stack_fixtures::pieces::{is_fault, is_filled, read};
-use stack_fixtures::stacks::cached_stack_of;
 use std::alloc::Global;
 use std::test::Fail;
 
@@ -11,15 +10,23 @@ use std::test::Fail;
 const TWO: &[u8] =
     b"v,,,ro,0 2 verity 1 A B 512 512 2 1 sha256 182a1c8ba54d084e24f1018f709256fd40fa272278e35622dfef43d6ec1b1a9b -";
 
-/// Whether the answer has one chain, of block 0 of device 0's line 0.
-fn has_chain(answer: &Option<Result<Answer, IoFault>>) -> bool {
+/// Whether the answer is a sector of zeros with one chain, of block 0 of device 0's line 0.
+fn is_good(answer: &Option<Result<Answer, IoFault>>) -> bool {
     let Some(Ok(answer)) = answer else {
         return false;
     };
     let [found] = answer.chains.as_slice() else {
         return false;
     };
-    (found.device, found.line, found.chain.index) == (0, 0, 0)
+    let is_of_block_0 = (found.device, found.line, found.chain.index) == (0, 0, 0);
+    is_of_block_0 && answer.bytes.as_slice() == [0u8; 512].as_slice()
+}
+
+fn is_mismatch(answer: &Option<Result<Answer, IoFault>>) -> bool {
+    match answer {
+        Some(Err(fault)) => *fault == IoFault::Stack(Fault::Mismatch),
+        _ => false,
+    }
 }
 
 /// A device of which the tree's block is read at first, and then one of which a byte is another.
@@ -41,14 +48,11 @@ fn answers_the_block_that_it_checked(rt: HostRuntime) -> Result<(), Fail> {
     let alloc = rt.alloc();
     for capacity in [0, 4] {
         let data = ScriptDev::new(2, Vec::new(alloc));
-        let mut stack = cached_stack_of(alloc, data, hash_dev(alloc)?, TWO, capacity)?;
+        let mut stack = stack_of(alloc, data, hash_dev(alloc)?, TWO, capacity)?;
+        assert!(rt; is_good(&read(&mut stack, b"v", 0, 1)) && stack.moved() == (2, 0));
         let answer = read(&mut stack, b"v", 0, 1);
-        assert!(rt; is_filled(&answer, &[0]) && has_chain(&answer) && stack.moved() == (2, 0));
-        let answer = read(&mut stack, b"v", 0, 1);
-        let again = is_filled(&answer, &[0]) && has_chain(&answer);
-        assert!(rt;
-            again == (capacity > 0) && again != is_fault(&answer, IoFault::Stack(Fault::Mismatch))
-        );
+        let again = is_good(&answer);
+        assert!(rt; again == (capacity > 0) && again != is_mismatch(&answer));
         assert!(rt; stack.moved() == (3, 0));
     }
     Ok(())

@@ -1,17 +1,18 @@
-// Which leaves a sync asks.
+//! Which leaves a sync asks.
+use crate::stacks::{stack_of, write_to};
 use block_device::{FailAt, MemoryDev};
 use stack_engine::IoFault;
-use stack_fixtures::pieces::write_to;
-use stack_fixtures::stacks::stack_of;
 use std::test::Fail;
 
-// A sync is a call that a failing device counts: only leaves that were written are asked, in order up to the first fault.
+const SIDE_BY_SIDE: &[u8] = b"a,,,rw,0 8 linear A 0;b,,,rw,0 8 linear B 0";
+
+/// A sync is a call that a failing device counts: only leaves that were written are asked, in order up to the first fault.
 #[test]
 fn syncs_the_leaves_that_were_written(rt: HostRuntime) -> Result<(), Fail> {
     let alloc = rt.alloc();
     let a = FailAt::new(MemoryDev::zeros(alloc, 8, true)?, 2);
     let b = FailAt::new(MemoryDev::zeros(alloc, 8, true)?, 2);
-    let mut stack = stack_of(alloc, a, b, b"a,,,rw,0 8 linear A 0;b,,,rw,0 8 linear B 0")?;
+    let mut stack = stack_of(alloc, a, b, SIDE_BY_SIDE, 0)?;
     assert!(rt; stack.sync() == Ok(()));
     assert!(rt; write_to(&mut stack, b"a", 2, &[1; 512]) == Some(Ok(())));
     assert!(rt; write_to(&mut stack, b"b", 2, &[1; 512]) == Some(Ok(())));
