@@ -1,8 +1,8 @@
 // Digests of blocks side by side, beside the kit's SHA-256 of one block after the other, over 64 MiB of blocks of 4,096 bytes.
 use crate::medians::{RUNS, median};
 use anyhow::{Context, Result, bail};
-use hash_tree::{Salt, digests};
-use sha2::{Digest, Sha256};
+use hash_tree::{Digest, Salt};
+use sha2::{Digest as _, Sha256};
 use std::time::CpuClock;
 
 const BLOCK: usize = 4096;
@@ -13,7 +13,7 @@ const BLOCKS: usize = 16384;
 pub fn measure<R: CpuClock + Print + AllocGlobal>(rt: &R) -> Result<()> {
     let salt = Salt::new(&[0xa5; 32]).context("the salt is too long")?;
     let blocks = vec![in rt.alloc(); 0x5au8; BLOCKS * BLOCK]?;
-    let mut made = vec![in rt.alloc(); [0u8; 32]; BLOCKS]?;
+    let mut made = vec![in rt.alloc(); Digest::new([0; Digest::SIZE]); BLOCKS]?;
     let mut ours = Vec::new(rt.alloc());
     let mut least = Vec::new(rt.alloc());
     for _ in 0..RUNS {
@@ -21,7 +21,7 @@ pub fn measure<R: CpuClock + Print + AllocGlobal>(rt: &R) -> Result<()> {
             bail!("the sizes differ");
         }
         let start = rt.process_cpu_time()?;
-        digests(&salt, BLOCK, &blocks, &mut made);
+        salt.digests(BLOCK, &blocks, &mut made);
         let between = rt.process_cpu_time()?;
         // All blocks are equal and their number is even.
         if folded(&made) ^ folded_one_by_one(&blocks) != 0 {
@@ -43,10 +43,10 @@ pub fn measure<R: CpuClock + Print + AllocGlobal>(rt: &R) -> Result<()> {
 }
 
 /// A byte that hangs on all digests, so that no compiler leaves one out.
-fn folded(digests: &[[u8; 32]]) -> u8 {
+fn folded(digests: &[Digest]) -> u8 {
     let mut byte = 0;
     for digest in digests {
-        byte ^= digest[0];
+        byte ^= digest.as_bytes()[0];
     }
     byte
 }

@@ -4,14 +4,12 @@ ghost use Rattle.std.specs.Prelude.{◌≡◌};
 use anyhow::{Context, Result, bail};
 use block_device::{BlockDev, MemoryDev};
 use dm_table::{ParseFault, StackText, Table};
-use hash_tree::{Chain, Salt, Shape, area};
+use hash_tree::{Chain, Digest, Salt, Shape, area};
 use std::alloc::Global;
 use table_reader::parse_table;
 use verity_format::{ChainFault, data_sectors, read_chain, tree_sectors};
 
 const TABLE: &[u8] = b"0 8 striped 2 4 A 0 B 0\n8 8 linear C 2\n16 1 error\n";
-
-const DIGESTS: [[u8; 32]; 17] = [[0x5a; 32]; 17];
 
 /// By hashlib: under the salt `salt`, of blocks of 512 bytes.
 const ROOT: [u8; 32] = [
@@ -32,7 +30,7 @@ pub fn show<R: Print + AllocGlobal>(rt: &R) -> Result<()> {
     println!(rt; "StackText::single: the stack")?;
     let shape = Shape::new(512, 512, 17, 1)?;
     let (blocks, root) = area_of(rt, &shape)?;
-    if blocks.len() != 3 * 512 || root != ROOT {
+    if blocks.len() != 3 * 512 || root.as_bytes() != ROOT.as_slice() {
         bail!("another area");
     }
     println!(rt; "area: the area")?;
@@ -72,16 +70,17 @@ fn stack_of<R: Print + AllocGlobal>(rt: &R, table: Table) -> Result<StackText> {
     }
 }
 
-fn area_of<R: Print + AllocGlobal>(rt: &R, shape: &Shape) -> Result<(Vec<u8>, [u8; 32])> {
+fn area_of<R: Print + AllocGlobal>(rt: &R, shape: &Shape) -> Result<(Vec<u8>, Digest)> {
     let salt = Salt::new(b"salt").context("the salt was refused")?;
     if shape.blocks() != 17 {
         bail!("another shape");
     }
-    match area(rt.alloc(), shape, &salt, &DIGESTS) {
+    let digests = [Digest::new([0x5a; 32]); 17];
+    match area(rt.alloc(), shape, &salt, &digests) {
         Ok(made) => Ok(made),
         Err(_) => {
             println!(rt; "area: no memory")?;
-            Ok(area(rt.alloc(), shape, &salt, &DIGESTS)?)
+            Ok(area(rt.alloc(), shape, &salt, &digests)?)
         }
     }
 }

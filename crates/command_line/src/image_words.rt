@@ -5,6 +5,7 @@ ghost use Rattle.command_line.specs.CommandWords.{IsUsage, dump_of, format_of, i
 use crate::fault::WordsFault;
 use crate::invocation::{ImageInvocation, Invocation};
 use dm_table::is_device;
+use hash_tree::Digest;
 
 /// `DATA HASH`
 pub fn format_of<'a>(words: &[&'a str]) -> Result<Invocation<'a>, WordsFault>
@@ -65,12 +66,12 @@ pub fn table_of<'a>(words: &[&'a str]) -> Result<Invocation<'a>, WordsFault>
 }
 
 // A root digest of 64 hexadecimal digits.
-fn root_of(word: &str) -> Option<[u8; 32]>
+fn root_of(word: &str) -> Option<Digest>
     ensures { result ≡ root_of word.now }
 {
-    let mut root = [0u8; 32];
+    let mut root = [0u8; Digest::SIZE];
     match hex::decode_to_slice(word, &mut root) {
-        Ok(()) => Some(root),
+        Ok(()) => Some(Digest::new(root)),
         Err(_) => None,
     }
 }

@@ -1,5 +1,6 @@
 // Commands with their words.
 use crate::bindings::Binding;
+use hash_tree::Digest;
 
 /// Sectors of a mapped device.
 #[derive(Clone, Copy, Debug, PartialEq, Eq)]
@@ -86,7 +87,7 @@ pub enum ImageInvocation<'a> {
     Verify {
         data: &'a str,
         hash: &'a str,
-        root: [u8; 32],
+        root: Digest,
     },
     /// `dump HASH`
     Dump {
@@ -95,7 +96,7 @@ pub enum ImageInvocation<'a> {
     /// `table HASH ROOT DATANAME HASHNAME`
     Table {
         hash: &'a str,
-        root: [u8; 32],
+        root: Digest,
         data_name: &'a str,
         hash_name: &'a str,
     },

@@ -2,7 +2,7 @@
 ghost use Rattle.std.specs.Prelude.{◌≡◌, IfOk};
 
 use crate::table::Name;
-use hash_tree::Salt;
+use hash_tree::{Digest, Salt};
 use std::alloc::{AllocError, Global};
 
 /// Blocks of one device, checked against a hash tree on another.
@@ -21,7 +21,7 @@ pub struct Verity {
     /// The first hash block of the tree, in hash blocks.
     pub start: u64,
     /// The digest of the root block.
-    pub root: [u8; 32],
+    pub root: Digest,
     pub salt: Salt,
     /// `ignore_zero_blocks`: a data block that has the digest of a block of zeros is zeros, and isn't read.
     pub ignore_zero_blocks: bool,

@@ -5,7 +5,7 @@ ghost use Rattle.hash_tree.specs.Shape.{IsShape, levels};
 ghost use Rattle.hash_tree.specs.Tree.{filled};
 ghost use Rattle.hash_tree.specs.Building.{begun_builder, begun_levels, pushed, completed, last_completed, built_root, HasSome, grow, close};
 
-use crate::{Salt, Shape, digest};
+use crate::{Digest, Salt, Shape};
 use std::alloc::{AllocError, Global};
 use std::marker::Model;
 use std::mem;
@@ -48,7 +48,7 @@ pub struct LevelBuilder {
     left: u64,
     failed: bool,
     levels: Vec<Level>,
-    root: [u8; 32],
+    root: Digest,
 }
 
 impl Model for LevelBuilder {
@@ -83,7 +83,7 @@ impl LevelBuilder {
             left,
             failed: false,
             levels: begun_levels(alloc, &shape)?,
-            root: [0; 32],
+            root: Digest::new([0; Digest::SIZE]),
         })
     }
 
@@ -96,7 +96,7 @@ impl LevelBuilder {
 
     /// The next data block's digest; `out` gets the blocks that it completes. After want of memory
     /// the builder answers nothing else.
-    pub fn push(&mut self, digest: [u8; 32], out: &mut Vec<Placed>) -> Result<(), AllocError>
+    pub fn push(&mut self, digest: Digest, out: &mut Vec<Placed>) -> Result<(), AllocError>
         requires { self.old.failed ≡ false → 0 < self.old.left }
         ensures ok { OnOk result ((self.new ≡ pushed self.old (digest ∷ [])) × (out.new.items ≡ out.old.items ++ completed self.old (digest ∷ []))) }
         ensures err { OnErr result (self.new.failed ≡ true) }
@@ -126,11 +126,7 @@ impl LevelBuilder {
     }
 
     /// The next digests, in order, as by `push`.
-    pub fn push_many(
-        &mut self,
-        digests: &[[u8; 32]],
-        out: &mut Vec<Placed>,
-    ) -> Result<(), AllocError>
+    pub fn push_many(&mut self, digests: &[Digest], out: &mut Vec<Placed>) -> Result<(), AllocError>
         requires { self.old.failed ≡ false → length digests.now ≤ self.old.left }
         ensures ok { OnOk result ((self.new ≡ pushed self.old digests.now) × (out.new.items ≡ out.old.items ++ completed self.old digests.now)) }
         ensures err { OnErr result (self.new.failed ≡ true) }
@@ -147,7 +143,7 @@ impl LevelBuilder {
     }
 
     /// The end: `out` gets the blocks that were begun. Gives the root.
-    pub fn finish(self, out: &mut Vec<Placed>) -> Result<[u8; 32], AllocError>
+    pub fn finish(self, out: &mut Vec<Placed>) -> Result<Digest, AllocError>
         requires { self.failed ≡ false → self.left ≡ 0 }
         ensures root { IfOk result (λ r. r ≡ built_root self) }
         ensures out { OnOk result (out.new.items ≡ out.old.items ++ last_completed self) }
@@ -190,8 +186,8 @@ fn rise(
     hash_block: usize,
     salt: &Salt,
     levels: &mut [Level],
-    root: &mut [u8; 32],
-    coming: [u8; 32],
+    root: &mut Digest,
+    coming: Digest,
     out: &mut Vec<Placed>,
 ) -> Result<(), AllocError>
     requires { All (λ l. l.next < 2 ^ 63) levels.old }
@@ -210,7 +206,7 @@ fn rise(
     }
     let alloc = *out.allocator();
     let bytes = mem::replace(&mut level.bytes, Vec::new(alloc));
-    let next = digest(salt, &bytes);
+    let next = salt.digest(&bytes);
     let block = level.next;
     level.next += 1;
     out.push(Placed { block, bytes })?;
@@ -222,10 +218,10 @@ fn close_up(
     hash_block: usize,
     salt: &Salt,
     levels: &mut [Level],
-    root: [u8; 32],
-    coming: Option<[u8; 32]>,
+    root: Digest,
+    coming: Option<Digest>,
     out: &mut Vec<Placed>,
-) -> Result<[u8; 32], AllocError>
+) -> Result<Digest, AllocError>
     ensures root { IfOk result (λ r. r ≡ (close hash_block salt.now levels.old root coming).root) }
     ensures out { OnOk result (out.new.items ≡ out.old.items ++ (close hash_block salt.now levels.old root coming).placed) }
     ensures some { HasSome out.old.items (close hash_block salt.now levels.old root coming).placed out.new.items }
@@ -240,7 +236,7 @@ fn close_up(
         return close_up(hash_block, salt, above, root, None, out);
     }
     fill(&mut bytes, hash_block)?;
-    let next = digest(salt, &bytes);
+    let next = salt.digest(&bytes);
     out.push(Placed {
         block: level.next,
         bytes,
@@ -249,21 +245,17 @@ fn close_up(
 }
 
 /// A digest behind a block's bytes; the first one takes the memory for the whole block.
-fn append(bytes: &mut Vec<u8>, digest: &[u8; 32], hash_block: usize) -> Result<(), AllocError>
+fn append(bytes: &mut Vec<u8>, digest: &Digest, hash_block: usize) -> Result<(), AllocError>
     ensures { OnOk result (bytes.new.items ≡ bytes.old.items ++ digest.now) }
 {
     if bytes.is_empty() {
         bytes.reserve_exact(hash_block)?;
     }
-    bytes.extend_from_slice(digest)
+    bytes.extend_from_slice(digest.as_bytes())
 }
 
 /// A digest behind the bytes, if there is one.
-fn extend(
-    bytes: &mut Vec<u8>,
-    digest: Option<[u8; 32]>,
-    hash_block: usize,
-) -> Result<(), AllocError>
+fn extend(bytes: &mut Vec<u8>, digest: Option<Digest>, hash_block: usize) -> Result<(), AllocError>
     ensures { OnOk result (bytes.new.items ≡ bytes.old.items ++ unwrap_or digest []) }
 {
     if let Some(digest) = digest {

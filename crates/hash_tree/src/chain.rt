@@ -2,7 +2,7 @@
 ghost use Rattle.std.specs.Prelude.{◌↔◌, ◌<◌, ◌^◌, IsTrue, length, map};
 ghost use Rattle.hash_tree.specs.Chain.{IsGood, HangsFrom};
 
-use crate::{Salt, Shape, digest, digest_in};
+use crate::{Digest, Salt, Shape, digest_in};
 use std::marker::Model;
 
 /// A data block with its number, and the hash blocks on the way to it, from the top level down to level 0.
@@ -24,7 +24,7 @@ impl Model for Chain {
 
 impl Chain {
     /// Whether the chain leads from that root to the data block of its number.
-    pub fn holds(&self, shape: &Shape, salt: &Salt, root: &[u8; 32]) -> bool
+    pub fn holds(&self, shape: &Shape, salt: &Salt, root: &Digest) -> bool
         ensures { IsTrue result ↔ IsGood shape.now salt.now root.now self.now }
     {
         self.index < shape.blocks()
@@ -37,7 +37,7 @@ impl Chain {
 fn hangs(
     shape: &Shape,
     salt: &Salt,
-    expected: &[u8; 32],
+    expected: &Digest,
     index: u64,
     path: &[Vec<u8>],
     content: &[u8],
@@ -46,9 +46,9 @@ fn hangs(
     ensures { IsTrue result ↔ HangsFrom shape.now salt.now index expected.now (map (λ b. b.items) path.now) content.now }
 {
     let Some((block, below)) = path.split_first() else {
-        return content.len() == shape.data_block() as usize && digest(salt, content) == *expected;
+        return content.len() == shape.data_block() as usize && salt.digest(content) == *expected;
     };
-    if block.len() != shape.hash_block() as usize || digest(salt, block) != *expected {
+    if block.len() != shape.hash_block() as usize || salt.digest(block) != *expected {
         return false;
     }
     let next = digest_in(block, shape.slot_on_path(below.len() as u32, index));

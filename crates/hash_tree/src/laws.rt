@@ -5,7 +5,7 @@ ghost use Rattle.hash_tree.specs.Difference.{IsTopmostDifference, IsCollision, b
 ghost use Rattle.hash_tree.specs.Laws.{LevelsAreLeast, PlacesLieInside, SlotsLieInside, AncestorsAreBlocks, PlacesAreTakenOnce, TreesStandInShape, FormedChainsAreGood, GoodChainsAreWhole, DifferencesCollide, GoodChainsCollide, ForgedBlocksCollide};
 ghost use Rattle.hash_tree.specs.Building.{BuildersMakeTheArea};
 
-use crate::{Chain, Place, Salt, Shape, collide};
+use crate::{Chain, Digest, Place, Salt, Shape, collide};
 
 /// The number of levels is the least that leaves one block at the top.
 pub fn levels_are_least()
@@ -72,7 +72,7 @@ pub fn forged_blocks_collide()
 pub fn collision(
     shape: &Shape,
     salt: &Salt,
-    root: &[u8; 32],
+    root: &Digest,
     expected: &Chain,
     got: &Chain,
 ) -> Option<Place>

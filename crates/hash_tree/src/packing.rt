@@ -1,11 +1,11 @@
 // The area: a tree's hash blocks as they are stored.
-ghost use Rattle.std.specs.Prelude.{◌≡◌, ◌+◌, ◌-◌, ◌*◌, ◌≤◌, ◌<◌, ◌/◌, ◌%◌, ◌++◌, length, map, replicate, IfOk, OnOk, IsTrue};
+ghost use Rattle.std.specs.Prelude.{◌≡◌, ◌+◌, ◌-◌, ◌*◌, ◌≤◌, ◌<◌, ◌/◌, ◌%◌, ◌++◌, length, map, replicate, All, IfOk, OnOk, IsTrue};
 ghost use Rattle.std.specs.List.{concat};
 ghost use Rattle.hash_tree.specs.Digests.{digest};
 ghost use Rattle.hash_tree.specs.Shape.{is_block_size};
 ghost use Rattle.hash_tree.specs.Tree.{area, root, cut};
 
-use crate::{Salt, Shape, digest};
+use crate::{Digest, Salt, Shape};
 use std::alloc::{AllocError, Global};
 
 /// The tree's hash blocks as they are stored, the top level first and each filled up with zeros, and the root
@@ -14,12 +14,13 @@ pub fn area(
     alloc: Global,
     shape: &Shape,
     salt: &Salt,
-    digests: &[[u8; 32]],
-) -> Result<(Vec<u8>, [u8; 32]), AllocError>
+    digests: &[Digest],
+) -> Result<(Vec<u8>, Digest), AllocError>
     requires { length digests.now ≡ shape.now.blocks }
     ensures area { IfOk result (λ r. r.0.items ≡ concat (area shape.now.hash_block salt.now digests.now)) }
     ensures root { IfOk result (λ r. r.1 ≡ root shape.now.hash_block salt.now digests.now) }
 {
+    are_whole(digests);
     let hash_block = shape.hash_block() as usize;
     let size = shape.area_blocks() as usize * hash_block;
     let mut bytes = vec![in alloc; 0u8; size]?;
@@ -27,16 +28,26 @@ pub fn area(
     Ok((bytes, root))
 }
 
+/// Each digest has its 32 bytes.
+fn are_whole(digests: &[Digest])
+    ensures { All (λ d. length d ≡ 32) digests.now }
+{
+    for digest in digests {
+        let _bytes = digest.as_bytes();
+    }
+}
+
 /// Writes the tree over some digests, level by level from the end, and gives its root.
 fn build(
     alloc: Global,
     hash_block: usize,
     salt: &Salt,
-    digests: &[[u8; 32]],
+    digests: &[Digest],
     out: &mut [u8],
-) -> Result<[u8; 32], AllocError>
+) -> Result<Digest, AllocError>
     requires size { IsTrue (is_block_size hash_block) }
     requires some { 0 < length digests.now }
+    requires sized { All (λ d. length d ≡ 32) digests.now }
     requires room { length out.old ≡ hash_block * length (area hash_block salt.now digests.now) }
     ensures area { OnOk result (out.new ≡ concat (area hash_block salt.now digests.now)) }
     ensures root { IfOk result (λ r. r ≡ root hash_block salt.now digests.now) }
@@ -57,18 +68,18 @@ fn level_start(hash_block: usize, digests: usize, end: usize) -> usize
     requires some { 0 < digests }
     ensures { result + hash_block * ((digests - 1) / (hash_block / 32) + 1) ≡ end }
 {
-    end - hash_block * ((digests - 1) / (hash_block / 32) + 1)
+    end - hash_block * ((digests - 1) / (hash_block / Digest::SIZE) + 1)
 }
 
 /// Writes the digests and fills the rest with zeros.
-fn put_digests(digests: &[[u8; 32]], out: &mut [u8])
+fn put_digests(digests: &[Digest], out: &mut [u8])
     requires { 32 * length digests.now ≤ length out.old }
     ensures { out.new ≡ concat digests.now ++ replicate (length out.old - 32 * length digests.now) 0 }
 {
     let mut end = 0;
     for digest in digests {
-        out[end..end + 32].copy_from_slice(digest);
-        end += 32;
+        out[end..end + Digest::SIZE].copy_from_slice(digest.as_bytes());
+        end += Digest::SIZE;
     }
     out[end..].fill(0);
 }
@@ -79,7 +90,7 @@ fn digests_of(
     hash_block: usize,
     salt: &Salt,
     blocks: &[u8],
-) -> Result<Vec<[u8; 32]>, AllocError>
+) -> Result<Vec<Digest>, AllocError>
     requires size { 0 < hash_block }
     requires whole { length blocks.now % hash_block ≡ 0 }
     ensures { IfOk result (λ v. v.items ≡ map (digest salt.now) (cut hash_block blocks.now)) }
@@ -87,7 +98,7 @@ fn digests_of(
     let count = blocks.len() / hash_block;
     let mut digests = Vec::with_capacity(alloc, count)?;
     for i in 0..count {
-        digests.push(digest(salt, &blocks[i * hash_block..(i + 1) * hash_block]))?;
+        digests.push(salt.digest(&blocks[i * hash_block..(i + 1) * hash_block]))?;
     }
     Ok(digests)
 }

@@ -3,6 +3,7 @@ ghost use Rattle.std.specs.Prelude.{◌≡◌, ◌+◌, ◌*◌, ◌^◌, ◌<�
 ghost use Rattle.std.specs.Result.{result_err};
 ghost use Rattle.hash_tree.specs.Shape.{IsShape, shape_of, first_fault, is_block_size, is_too_large, sectors_of, per_block, levels, level_blocks, position, slot, ancestor, area_blocks, area_end, end_of};
 
+use crate::Digest;
 use std::marker::Model;
 use thiserror::Error;
 
@@ -113,7 +114,7 @@ impl Shape {
         ensures many { 16 ≤ result }
         ensures valid { IsShape self.now }
     {
-        u64::from(self.hash_block() / 32)
+        u64::from(self.hash_block() / Digest::SIZE as u32)
     }
 
     /// How many levels the tree has; a single data block needs none.
@@ -246,7 +247,7 @@ fn blocks_over(blocks: u64, hash_block: u32) -> u64
     ensures value { result ≡ area_blocks (shape_of 512 hash_block blocks 0) }
     ensures fewer { result < blocks }
 {
-    let per_block = u64::from(hash_block / 32);
+    let per_block = u64::from(hash_block / Digest::SIZE as u32);
     let mut count = blocks;
     let mut sum = 0;
     while count > 1 {

@@ -13,7 +13,7 @@ use crate::superblock_text::{say_blocks, say_root, say_salt, say_uuid};
 use block_device::{BlockDev, FileDev, OpenFault, SyncDev};
 use command_faults::{CommandFault, is_one_file, open_file};
 use command_line::ImageOptions;
-use hash_tree::Salt;
+use hash_tree::{Digest, Salt};
 use rand::make_rng;
 use rand::rngs::StdRng;
 use stack_session::{Counted, WriteFault};
@@ -27,7 +27,7 @@ use verity_format::{FormatFault, FormatOptions, format_with, given_blocks};
 /// What was made: the root digest, and what else is printed of the image.
 #[derive(Clone, Copy)]
 pub struct MadeImage {
-    pub root: [u8; 32],
+    pub root: Digest,
     pub salt: Salt,
     pub uuid: [u8; 16],
     pub blocks: u64,

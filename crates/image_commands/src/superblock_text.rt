@@ -4,6 +4,7 @@ ghost use Rattle.hex.specs.Hex.{encode_lower};
 ghost use Rattle.stack_session.specs.Counted.{Writes};
 ghost use Rattle.image_commands.specs.SuperblockTexts.{algorithm_text, blocks_text, data_block_text, data_blocks_text, hash_block_text, root_text, salt_text, sizes_text, superblock_text, uuid_text};
 
+use hash_tree::Digest;
 use stack_session::{Counted, WriteFault};
 use std::io::Write;
 use uuid::Uuid;
@@ -11,11 +12,11 @@ use verity_format::Superblock;
 
 /// `root HEX`
 #[tactic(auto, unfolding(crate::specs::SuperblockTexts::root_text))]
-pub fn say_root<W: Write>(writer: &mut Counted<W>, root: &[u8; 32]) -> Result<(), WriteFault>
+pub fn say_root<W: Write>(writer: &mut Counted<W>, root: &Digest) -> Result<(), WriteFault>
     ensures { Writes W.contents writer.old writer.new (root_text root.now) result }
 {
     writer.put(b"root ")?;
-    say_digits(writer, root)
+    say_digits(writer, root.as_bytes())
 }
 
 /// `salt HEX`, or `salt -` where it is empty; at most 256 bytes.

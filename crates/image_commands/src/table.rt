@@ -9,6 +9,7 @@ ghost use Rattle.image_commands.specs.SuperblockTexts.{SaysSuperblock, line_text
 
 use block_device::BlockDev;
 use command_faults::{CommandFault, open_file};
+use hash_tree::Digest;
 use stack_session::Counted;
 use std::alloc::Global;
 use std::fs::File;
@@ -19,7 +20,7 @@ use verity_format::{read_superblock, table_line};
 /// What a table line names beside the image: the root digest, and the device arguments of data and hashes.
 #[derive(Clone, Copy)]
 pub struct LineWords<'a> {
-    pub root: &'a [u8; 32],
+    pub root: &'a Digest,
     pub data_name: &'a str,
     pub hash_name: &'a str,
 }

@@ -9,6 +9,7 @@ ghost use Rattle.image_commands.specs.ImageCommands.{IsVerifyFilesEnd, PrintsMat
 
 use block_device::BlockDev;
 use command_faults::{CommandFault, open_file};
+use hash_tree::Digest;
 use stack_session::Counted;
 use std::alloc::Global;
 use std::fs::File;
@@ -22,7 +23,7 @@ pub fn verify_files<'a, R: Files<File = File> + AllocGlobal, W: Write>(
     rt: &R,
     data_path: &'a str,
     hash_path: &'a str,
-    root: &[u8; 32],
+    root: &Digest,
     writer: &mut Counted<W>,
 ) -> Result<(), CommandFault<'a>>
     ensures ok { OnOk result (PrintsMatches root.now (W.contents writer.old.inner) (W.contents writer.new.inner)) }
@@ -40,7 +41,7 @@ fn compare<'a, D: BlockDev, H: BlockDev, W: Write>(
     alloc: Global,
     data_dev: &mut D,
     hash_dev: &mut H,
-    root: &[u8; 32],
+    root: &Digest,
     writer: &mut Counted<W>,
 ) -> Result<(), CommandFault<'a>>
     ensures read { IsOnlyRead (D.state data_dev.old) (D.state data_dev.new) × IsOnlyRead (H.state hash_dev.old) (H.state hash_dev.new) }

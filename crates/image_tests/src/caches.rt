@@ -1,4 +1,5 @@
 //! A row of calls against answers that are written down, and the largest capacities.
+use hash_tree::Digest;
 use std::test::Fail;
 use verified_cache::{BlockCache, Key};
 
@@ -14,7 +15,10 @@ fn key_of(line: u32, block: u64) -> Key {
 
 /// The first byte of what is found, under the digest of which each byte is that one.
 fn found(cache: &mut BlockCache, key: Key, digest: u8) -> Option<u8> {
-    cache.find(key, &[digest; 32])?.first().copied()
+    cache
+        .find(key, &Digest::new([digest; 32]))?
+        .first()
+        .copied()
 }
 
 /// What is kept, and under which digest; and what is then found of three blocks, in this order: where it was kept under
@@ -70,7 +74,7 @@ fn the_least_recently_used_block_goes(rt: HostRuntime) -> Result<(), Fail> {
     let mut cache = BlockCache::new(alloc, 2)?;
     for (line, block, digest, byte, finds) in CALLS {
         let bytes = [byte].to_vec(alloc)?;
-        cache.keep(key_of(line, block), [digest; 32], bytes)?;
+        cache.keep(key_of(line, block), Digest::new([digest; 32]), bytes)?;
         for (line, block, digest, wanted) in finds {
             assert!(rt;
                 found(&mut cache, key_of(line, block), digest) == wanted,
@@ -92,7 +96,7 @@ fn the_least_recently_used_block_goes(rt: HostRuntime) -> Result<(), Fail> {
         let mut cache = BlockCache::new(alloc, capacity)?;
         for block in 0..65_540 {
             let bytes = [1].to_vec(alloc)?;
-            cache.keep(key_of(0, block), [1; 32], bytes)?;
+            cache.keep(key_of(0, block), Digest::new([1; 32]), bytes)?;
         }
         assert!(rt; cache.len() == kept && cache.capacity() == capacity);
         assert!(rt; found(&mut cache, key_of(0, 3), 1).is_some() == (kept > 65_536));

@@ -21,7 +21,7 @@ mod verity;
 
 /// Whether the digest has these hexadecimal digits.
 #[cfg(test)]
-fn has_digits(digest: &[u8; 32], wanted: &str) -> bool {
+fn has_digits(digest: &[u8], wanted: &str) -> bool {
     let mut digits = [0u8; 64];
     hex::encode_to_slice(digest, &mut digits).is_ok() && digits.as_slice() == wanted.as_bytes()
 }

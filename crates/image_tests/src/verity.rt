@@ -1,7 +1,7 @@
 //! A `verity` line over a device that answers another block each time.
 use crate::stacks::{read, stack_of};
 use block_device::ScriptDev;
-use hash_tree::{Salt, digest};
+use hash_tree::Salt;
 use stack_engine::{Answer, Fault, IoFault};
 use std::alloc::Global;
 use std::test::Fail;
@@ -31,9 +31,9 @@ fn is_mismatch(answer: &Option<Result<Answer, IoFault>>) -> bool {
 
 /// A device of which the tree's block is read at first, and then one of which a byte is another.
 fn hash_dev(alloc: Global) -> Result<ScriptDev, Fail> {
-    let zeros = digest(&Salt::new(b"").ok_or("no salt")?, &[0; 512]);
-    let mut tree = Vec::from_slice(alloc, &zeros)?;
-    tree.extend_from_slice(&zeros)?;
+    let zeros = Salt::new(b"").ok_or("no salt")?.digest(&[0; 512]);
+    let mut tree = Vec::from_slice(alloc, zeros.as_bytes())?;
+    tree.extend_from_slice(zeros.as_bytes())?;
     let mut other = tree.clone()?;
     other.truncate(63);
     let mut blocks = Vec::new(alloc);

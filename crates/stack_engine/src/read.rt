@@ -17,7 +17,7 @@ use crate::buffer::{fill_zeros, zero_block, zero_sectors};
 use crate::reader::Reader;
 use block_device::BlockDev;
 use dm_table::Verity;
-use hash_tree::{Chain, Salt, digest, digest_in};
+use hash_tree::{Chain, Digest, Salt, digest_in};
 use stack_lines::tree::{
     Extent, Tree, copy_part, data_extent, find, hash_extent, hash_key, is_ignored, tree_at,
     verity_at,
@@ -256,7 +256,7 @@ fn read_data<D: BlockDev>(
     verity: &Verity,
     tree: &Tree,
     index: u64,
-    expected: &[u8; 32],
+    expected: &Digest,
 ) -> Result<Vec<u8>, IoFault>
     requires stack { IsStack config.now (map D.state reader.old.devices.items) reader.old.cache }
     requires block { HasDataBlock config.now verity.now tree.now index }
@@ -282,7 +282,7 @@ fn hash_block<D: BlockDev>(
     key: Key,
     extent: Extent,
     salt: &Salt,
-    expected: &[u8; 32],
+    expected: &Digest,
 ) -> Result<Vec<u8>, IoFault>
     requires stack { IsStack config.now (map D.state reader.old.devices.items) reader.old.cache }
     requires key { IsPlaceOf config.now salt.now key extent }
@@ -314,7 +314,7 @@ fn read_checked<D: BlockDev>(
     reader: &mut Reader<D>,
     extent: Extent,
     salt: &Salt,
-    expected: &[u8; 32],
+    expected: &Digest,
 ) -> Result<Vec<u8>, IoFault>
     requires stack { IsStack config.now (map D.state reader.old.devices.items) reader.old.cache }
     requires lies { LiesInside config.now extent }
@@ -338,7 +338,7 @@ fn read_checked<D: BlockDev>(
         Err(fault) => return Err(fault),
         Ok(()) => {}
     }
-    if digest(salt, block.as_slice()) == *expected {
+    if salt.digest(block.as_slice()) == *expected {
         Ok(block)
     } else {
         Err(IoFault::Stack(Fault::Mismatch))

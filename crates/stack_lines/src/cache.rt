@@ -9,6 +9,7 @@ ghost use Rattle.stack_lines.specs.Caches.{IsFresh};
 use crate::keys_on_leaf::KeysOnLeaf;
 use crate::leaf_set::LeafSet;
 use crate::leaf_sets::{leaf_sets, lower_leaves};
+use hash_tree::Digest;
 use stack_loader::{Config, Lower};
 use std::alloc::{AllocError, Global};
 use std::marker::Model;
@@ -61,7 +62,7 @@ impl Cache {
         &mut self,
         alloc: Global,
         key: Key,
-        digest: &[u8; 32],
+        digest: &Digest,
     ) -> Result<Option<Vec<u8>>, AllocError>
         ensures leaves { self.new ≡ record self.old { blocks = cache_after_find key digest.now self.old.blocks } }
         ensures answer { IfOk result (λ copy. option_map (λ block. block.items) copy ≡ option_map (λ b. b.bytes) (block_under key digest.now self.old.blocks)) }
@@ -89,7 +90,7 @@ impl Cache {
         &mut self,
         alloc: Global,
         key: Key,
-        digest: [u8; 32],
+        digest: Digest,
         block: &[u8],
     ) -> Result<(), AllocError>
         ensures ok { OnOk result (self.new ≡ record self.old { blocks = cache_after_keep (record { key = key; digest = digest; bytes = block.now }) self.old.blocks }) }

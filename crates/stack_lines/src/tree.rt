@@ -9,7 +9,7 @@ ghost use Rattle.stack_lines.specs.Extents.{IsExtent};
 ghost use Rattle.stack_lines.specs.Walks.{HasVerity, HasDataBlock, IsOnVerity, IsTreeOf};
 
 use dm_table::Verity;
-use hash_tree::Shape;
+use hash_tree::{Digest, Shape};
 use stack_loader::{Config, DevId, Lower, verity_of};
 use stack_meaning::Found;
 use verified_cache::Key;
@@ -117,7 +117,7 @@ pub fn data_extent(config: &Config, verity: &Verity, tree: &Tree, index: u64) ->
 }
 
 /// Whether the line ignores a data block of that digest, which is then one of zeros.
-pub fn is_ignored(config: &Config, verity: &Verity, tree: &Tree, expected: &[u8; 32]) -> bool
+pub fn is_ignored(config: &Config, verity: &Verity, tree: &Tree, expected: &Digest) -> bool
     requires { IsTreeOf config.now verity.now tree.now }
     ensures { result ≡ is_ignored verity.now expected.now }
 {

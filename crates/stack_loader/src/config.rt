@@ -13,6 +13,7 @@ use crate::facts::Facts;
 use crate::removal::is_in_use;
 use crate::sectors::line_of;
 use dm_table::{StackText, Table};
+use hash_tree::Digest;
 use stack_checks::leaves_fault;
 use stack_rules::{ConfigFault, DevId, Leaf, LoadFault, Lower, Mapped, RemoveFault, place_of};
 use std::alloc::Global;
@@ -204,7 +205,7 @@ impl Config {
 
     /// The digest of a data block of zeros under a line's salt, made at loading, where it is a `verity` line that
     /// ignores such blocks. Lines of a device count from 0.
-    pub fn zero_digest(&self, d: DevId, line: u32) -> Option<[u8; 32]>
+    pub fn zero_digest(&self, d: DevId, line: u32) -> Option<Digest>
         requires { d.0 < length self.now.devices }
         ensures { result ≡ zero_digest_at self.now d.0 line }
     {

@@ -7,7 +7,7 @@ ghost use Rattle.stack_rules.specs.Lines.{zero_digest_of};
 ghost use Rattle.stack_rules.specs.Trees.{zero_block};
 
 use dm_table::{Line, Target, Verity};
-use hash_tree::digest;
+use hash_tree::Digest;
 use stack_rules::{Planned, verity_of};
 use std::alloc::{AllocError, Global};
 use std::marker::Model;
@@ -15,7 +15,7 @@ use std::marker::Model;
 /// For each line of a device, in order: the digest, if it is such a line.
 #[derive(Drop)]
 pub(crate) struct ZeroDigests {
-    lines: Vec<Option<[u8; 32]>>,
+    lines: Vec<Option<Digest>>,
 }
 
 impl Model for ZeroDigests {
@@ -27,14 +27,14 @@ impl Model for ZeroDigests {
 }
 
 impl ZeroDigests {
-    fn new(lines: Vec<Option<[u8; 32]>>) -> ZeroDigests
+    fn new(lines: Vec<Option<Digest>>) -> ZeroDigests
         ensures { result ≡ lines.items }
     {
         ZeroDigests { lines }
     }
 
     /// That of a line, if there is such a line.
-    pub(crate) fn at(&self, line: u32) -> Option<[u8; 32]>
+    pub(crate) fn at(&self, line: u32) -> Option<Digest>
         ensures { result ≡ option_and_then (λ digest. digest) (slice_get self.now line) }
     {
         match self.lines.get(line as usize) {
@@ -44,15 +44,15 @@ impl ZeroDigests {
     }
 }
 
-fn digest_of_zeros(verity: &Verity) -> [u8; 32]
+fn digest_of_zeros(verity: &Verity) -> Digest
     requires { verity.now.data_block ≤ 4096 }
     ensures { result ≡ digest verity.now.salt (zero_block verity.now) }
 {
     let zeros = [0u8; 4096];
-    digest(&verity.salt, &zeros[..verity.data_block as usize])
+    verity.salt.digest(&zeros[..verity.data_block as usize])
 }
 
-fn zero_digest_of(target: &Target) -> Option<[u8; 32]>
+fn zero_digest_of(target: &Target) -> Option<Digest>
     requires { IsTargetOfGrammar target.now }
     ensures { result ≡ zero_digest_of target.now }
 {

@@ -24,7 +24,7 @@ pub(crate) fn print_verity(text: &mut Vec<u8>, verity: &Verity) -> Result<(), Al
     push_spaced_number(text, verity.blocks)?;
     push_spaced_number(text, verity.start)?;
     push_spaced(text, b"sha256")?;
-    push_digits(text, &verity.root)?;
+    push_digits(text, verity.root.as_bytes())?;
     print_salt(text, verity.salt.bytes())?;
     print_options(text, verity.ignore_zero_blocks)?;
     Ok(())

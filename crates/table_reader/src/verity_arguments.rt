@@ -11,7 +11,7 @@ use crate::line_fault::LineFault;
 use crate::numbers::{number, read_number};
 use crate::option_words::read_options;
 use dm_table::{Name, TextKind, Verity, is_device, is_kept};
-use hash_tree::{Salt, is_block_size};
+use hash_tree::{Digest, Salt, is_block_size};
 use std::alloc::Global;
 
 /// Two for each of 256 bytes.
@@ -132,12 +132,12 @@ fn check_algorithm(word: &[u8]) -> Result<(), TextKind>
     }
 }
 
-fn read_root(word: &[u8]) -> Result<[u8; 32], TextKind>
+fn read_root(word: &[u8]) -> Result<Digest, TextKind>
     ensures { result ≡ digest_at word.now }
 {
-    let mut root = [0u8; 32];
+    let mut root = [0u8; Digest::SIZE];
     decode_digits(word, &mut root, TextKind::Digest)?;
-    Ok(root)
+    Ok(Digest::new(root))
 }
 
 fn read_salt(word: &[u8]) -> Result<Salt, TextKind>

@@ -6,6 +6,7 @@ ghost use Rattle.verified_cache.specs.Cache.{IsCache, block_at, block_under, cac
 
 use crate::keys::KeysOfLine;
 use crate::{Key, Keys};
+use hash_tree::Digest;
 use lru::LruCache;
 use std::alloc::{AllocError, Global};
 use std::marker::Model;
@@ -14,7 +15,7 @@ use std::num::NonZeroUsize;
 /// A block and the digest that it is kept under.
 #[derive(Drop)]
 struct DigestedBlock {
-    digest: [u8; 32],
+    digest: Digest,
     bytes: Vec<u8>,
 }
 
@@ -54,7 +55,7 @@ impl BlockCache {
     }
 
     /// The block kept under this key and this digest, which is then the most recently used.
-    pub fn find(&mut self, key: Key, digest: &[u8; 32]) -> Option<&[u8]>
+    pub fn find(&mut self, key: Key, digest: &Digest) -> Option<&[u8]>
         ensures* leaves { sem 𝓛 (EndsAs self.entry (cache_after_find key digest.now self.old)) }
         ensures answer { option_copied result ≡ option_map (λ b. b.bytes) (block_under key digest.now self.old) }
     {
@@ -67,7 +68,7 @@ impl BlockCache {
     }
 
     /// Keeps the block as the most recently used, in place of what stands under its key.
-    pub fn keep(&mut self, key: Key, digest: [u8; 32], block: Vec<u8>) -> Result<(), AllocError>
+    pub fn keep(&mut self, key: Key, digest: Digest, block: Vec<u8>) -> Result<(), AllocError>
         ensures ok { OnOk result (self.new ≡ cache_after_keep (record { key = key; digest = digest; bytes = block.items }) self.old) }
         ensures err { OnErr result (self.new ≡ self.old) }
         ensures succeeds { (self.old.capacity ≡ 0) ⊎ IsSome (block_at key self.old) → IsOk result }

@@ -7,7 +7,7 @@ ghost use Rattle.verity_format.specs.Access.{IsRunRead};
 ghost use Rattle.verity_format.specs.Premises.{IsBlockOn, IsRunOn};
 
 use block_device::{BlockDev, DeviceFault};
-use hash_tree::{Salt, Shape};
+use hash_tree::{Digest, Salt, Shape};
 use std::alloc::{AllocError, Global};
 
 /// Why there is no tree over a device's blocks.
@@ -94,7 +94,7 @@ pub(crate) fn read_run<D: BlockDev>(
     size: usize,
     index: u64,
     run: &mut [u8],
-    digests: &mut [[u8; 32]],
+    digests: &mut [Digest],
 ) -> Result<(), DeviceFault>
     requires { IsRunOn (D.state device.old) size index (length digests.old) (length run.old) }
     ensures read { IsOnlyRead (D.state device.old) (D.state device.new) }
@@ -102,6 +102,6 @@ pub(crate) fn read_run<D: BlockDev>(
     ensures fault { OnErr result (HasFailed (D.state device.old) (D.state device.new)) }
 {
     device.read(index * (size / 512) as u64, run)?;
-    hash_tree::digests(salt, size, run, digests);
+    salt.digests(size, run, digests);
     Ok(())
 }

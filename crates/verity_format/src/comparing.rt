@@ -10,7 +10,7 @@ ghost use Rattle.verity_format.specs.Premises.{AreBlocksOn, HaveTree};
 use crate::access::{TreeFault, read_block, zeros};
 use crate::growth::{RUN, take_run};
 use block_device::{BlockDev, DeviceFault};
-use hash_tree::{LevelBuilder, Placed, Salt, Shape};
+use hash_tree::{Digest, LevelBuilder, Placed, Salt, Shape};
 use std::alloc::{AllocError, Global};
 
 /// The lesser of the two numbers.
@@ -53,7 +53,7 @@ pub(crate) fn compare_tree<D: BlockDev, H: BlockDev>(
     hash_dev: &mut H,
     shape: &Shape,
     salt: &Salt,
-) -> Result<(Option<u64>, [u8; 32]), TreeFault>
+) -> Result<(Option<u64>, Digest), TreeFault>
     requires { HaveTree shape.now (D.state data_dev.old) (H.state hash_dev.old) }
     ensures read { AreOnlyRead (D.state data_dev.old) (H.state hash_dev.old) (D.state data_dev.new) (H.state hash_dev.new) }
     ensures compared { IfOk result (λ r. IsTreeCompared shape.now salt.now (D.state data_dev.old) (H.state hash_dev.old) (D.state data_dev.new) (H.state hash_dev.new) r.0 r.1) }

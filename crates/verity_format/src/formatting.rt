@@ -13,7 +13,7 @@ use crate::access::{TreeFault, data_sectors, image_sectors, zeros};
 use crate::superblock::put;
 use crate::writing::write_tree;
 use block_device::{BlockDev, DeviceFault};
-use hash_tree::{Salt, Shape};
+use hash_tree::{Digest, Salt, Shape};
 use std::alloc::{AllocError, Global};
 use thiserror::Error;
 
@@ -116,7 +116,7 @@ pub fn format<D: BlockDev, H: BlockDev>(
     data_dev: &mut D,
     hash_dev: &mut H,
     params: Superblock,
-) -> Result<[u8; 32], FormatFault>
+) -> Result<Digest, FormatFault>
     ensures devices { IsOnlyRead (D.state data_dev.old) (D.state data_dev.new) × IsOnlyWritten (H.state hash_dev.old) (image_sectors (shape_of params)) (H.state hash_dev.new) }
     ensures ok { IfOk result (IsFormatted params (D.state data_dev.old) (H.state hash_dev.old) (D.state data_dev.new) (H.state hash_dev.new)) }
     ensures err { IfErr result (IsFormatCause params (D.state data_dev.old) (H.state hash_dev.old) (D.state data_dev.new) (H.state hash_dev.new)) }
@@ -152,7 +152,7 @@ pub fn format_with<D: BlockDev, H: BlockDev>(
     data_dev: &mut D,
     hash_dev: &mut H,
     options: FormatOptions,
-) -> Result<[u8; 32], FormatFault>
+) -> Result<Digest, FormatFault>
     ensures { IsFormatting (superblock_with options (D.state data_dev.old).size) (D.state data_dev.old) (H.state hash_dev.old) (D.state data_dev.new) (H.state hash_dev.new) result }
 {
     let FormatOptions {

@@ -7,7 +7,7 @@ ghost use Rattle.verity_format.specs.Premises.{CanTake};
 
 use crate::access::{TreeFault, read_run};
 use block_device::BlockDev;
-use hash_tree::{LevelBuilder, Placed, Salt, Shape};
+use hash_tree::{Digest, LevelBuilder, Placed, Salt, Shape};
 use std::alloc::{AllocError, Global};
 
 /// How many bytes of the data are read in one call.
@@ -31,7 +31,7 @@ pub(crate) fn take_run<D: BlockDev>(
     let left = builder.left();
     let index = shape.blocks() - left;
     let count = (run.len() / size).min(left as usize);
-    let mut digests = vec![in alloc; [0u8; 32]; count]?;
+    let mut digests = vec![in alloc; Digest::new([0; Digest::SIZE]); count]?;
     read_run(
         device,
         salt,

@@ -5,6 +5,7 @@ ghost use Rattle.verity_format.specs.Line.{table_text, salt_word, spaced};
 
 use crate::Superblock;
 use crate::access::data_sectors;
+use hash_tree::Digest;
 use std::alloc::{AllocError, Global};
 
 /// The table line of the image, `0 N verity 1 DATA HASH ..`, without a newline.
@@ -13,7 +14,7 @@ pub fn table_line(
     superblock: &Superblock,
     data_name: &[u8],
     hash_name: &[u8],
-    root: &[u8; 32],
+    root: &Digest,
 ) -> Result<Vec<u8>, AllocError>
     ensures { IfOk result (λ line. line.items ≡ table_text superblock.now data_name.now hash_name.now root.now) }
 {
@@ -31,7 +32,7 @@ pub fn table_line(
     push_number(alloc, &mut line, superblock.blocks())?;
     push_word(&mut line, b"1")?;
     push_word(&mut line, b"sha256")?;
-    push_digits(alloc, &mut line, root)?;
+    push_digits(alloc, &mut line, root.as_bytes())?;
     push_salt(alloc, &mut line, salt.bytes())?;
     Ok(line)
 }

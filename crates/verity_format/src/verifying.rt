@@ -9,6 +9,7 @@ use crate::access::{TreeFault, data_sectors, read_block, tree_sectors};
 use crate::comparing::compare_tree;
 use crate::{SuperFault, Superblock, decode};
 use block_device::{BlockDev, DeviceFault};
+use hash_tree::Digest;
 use std::alloc::{AllocError, Global};
 use thiserror::Error;
 
@@ -117,7 +118,7 @@ pub fn verify<D: BlockDev, H: BlockDev>(
     alloc: Global,
     data_dev: &mut D,
     hash_dev: &mut H,
-    root: &[u8; 32],
+    root: &Digest,
 ) -> Result<Verdict, VerifyFault>
     ensures data { IsOnlyRead (D.state data_dev.old) (D.state data_dev.new) }
     ensures hash { IsOnlyRead (H.state hash_dev.old) (H.state hash_dev.new) }
@@ -136,7 +137,7 @@ pub fn verify<D: BlockDev, H: BlockDev>(
     Ok(Verdict::Matches)
 }
 
-fn is_same(a: &[u8], b: &[u8]) -> bool
+fn is_same(a: &Digest, b: &Digest) -> bool
     ensures { result ≡ bytes_eq a.now b.now }
 {
     a == b

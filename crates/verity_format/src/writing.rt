@@ -7,7 +7,7 @@ ghost use Rattle.verity_format.specs.Writing.{StandsWithin, IsPartWritten, AreWr
 use crate::access::{TreeFault, zeros};
 use crate::growth::{RUN, take_run};
 use block_device::{BlockDev, DeviceFault};
-use hash_tree::{LevelBuilder, Placed, Salt, Shape};
+use hash_tree::{Digest, LevelBuilder, Placed, Salt, Shape};
 use std::alloc::{AllocError, Global};
 
 /// Writes the blocks, each at its place.
@@ -35,7 +35,7 @@ pub(crate) fn write_tree<D: BlockDev, H: BlockDev>(
     hash_dev: &mut H,
     shape: &Shape,
     salt: &Salt,
-) -> Result<[u8; 32], TreeFault>
+) -> Result<Digest, TreeFault>
     requires { CanWriteTree shape.now (D.state data_dev.old) (H.state hash_dev.old) }
     ensures devices { IsTreeMoved shape.now (D.state data_dev.old) (H.state hash_dev.old) (D.state data_dev.new) (H.state hash_dev.new) }
     ensures written { IfOk result (λ r. IsTreeWritten shape.now salt.now (D.state data_dev.old) (H.state hash_dev.old) (D.state data_dev.new) (H.state hash_dev.new) r) }

@@ -9,6 +9,6 @@ returns c =
     let size : ℕ = c.args.size in
     let at : ℕ = 8 * c.args.g * size in
     let n : ℕ = (8 * c.args.g + 8) * size - at in
-    digests_of_group c.digest_eight.result c.args.salt.now c.args.blocks.now size c.args.g n
+    c.whole.ensures ∙ digests_of_group c.digest_eight-made.result c.args.salt.now c.args.blocks.now size c.args.g n
     (omega arith) c.requires.some c.requires.whole c.requires.inside (omega arith)
-    (λ j lt. c.digest_eight.ensures j lt ∙ ap (λ (salt : List ℕ). sha256 (message salt (take n (drop at c.args.blocks.now)) size j)) c.bytes.ensures.value)
+    (λ j lt. c.digest_eight-made.ensures j lt ∙ ap (λ (salt : List ℕ). sha256 (message salt (take n (drop at c.args.blocks.now)) size j)) c.bytes.ensures.value)

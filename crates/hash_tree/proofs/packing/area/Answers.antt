@@ -1,10 +1,8 @@
 use Rattle.std.proofs.Common.{◌≡◌, ◌≤◌, ◌*◌, ◌^◌, [], length, sym, ap, ◌∙◌, arith}
 use Rattle.std.proofs.Math.Nat.{mul_comm}
-use Rattle.std.proofs.lemmas.List.Elements.{All-from_get_or}
 use Rattle.hash_tree.specs.Shape.{area_blocks}
 use Rattle.hash_tree.specs.Tree.{area}
 use Rattle.hash_tree.proofs.lemmas.ShapeFactLemmas.{area_bytes}
-use Rattle.hash_tree.proofs.lemmas.PackingLemmas.{AllOf}
 use Rattle.hash_tree.proofs.lemmas.TreeFactLemmas.{length-area_of}
 use Rattle.hash_tree.proofs.packing.area.Goals as goal
 
@@ -20,8 +18,7 @@ pub build-requires-clause-room : goal.build-requires-clause-room
 build-requires-clause-room c =
     let s = c.args.shape.now in
     let ds = c.args.digests.now in
-    let all : AllOf 32 ds = All-from_get_or (λ d. length d ≡ 32) ds [] c.told-digests in
-    let count : length (area s.hash_block c.args.salt.now ds) ≡ area_blocks s = length-area_of s c.hash_block-hash_block.ensures.valid c.args.salt.now ds all c.requires in
+    let count : length (area s.hash_block c.args.salt.now ds) ≡ area_blocks s = length-area_of s c.hash_block-hash_block.ensures.valid c.args.salt.now ds c.are_whole.ensures c.requires in
     let room : length c.deref_mut.result.now ≡ c.area_blocks.result * c.hash_block-hash_block.result = c.deref_mut.ensures.len ∙ c.in_ok-bytes.ensures.len in
     room
     ∙ mul_comm c.area_blocks.result c.hash_block-hash_block.result

@@ -1,4 +1,4 @@
-use Rattle.std.proofs.Common.{◌≡◌, ◌+◌, ◌*◌, ◌-◌, ◌++◌, ◌∷◌, ◌≤◌, take, drop, length, get_or, [], replicate, sym, ap, ◌∙◌, arith}
+use Rattle.std.proofs.Common.{◌≡◌, ◌+◌, ◌*◌, ◌-◌, ◌++◌, ◌∷◌, ◌≤◌, take, drop, length, [], replicate, sym, ap, ◌∙◌, arith}
 use Rattle.std.proofs.lemmas.List.{take_more, append-nil, take_all, length-drop, length-take-le}
 use Rattle.std.proofs.lemmas.List.Folds.{concat-append}
 use Rattle.std.proofs.lemmas.Slice.{take-put_mid}
@@ -10,18 +10,19 @@ pub loop-digest-preserved : goal.loop-digest-preserved
 loop-digest-preserved c =
     let i = c.loop-digest.digest-index in
     let ds = c.args.digests.now in
-    let d = get_or ds i [] in
+    let d = c.digest-item.result in
     let here = c.loop-digest.invariant in
-    let size : length d ≡ 32 = c.told-digests i c.loop-digest-test.true in
-    let new : length c.copy_from_slice.new.self ≡ 32 = ap length c.copy_from_slice.ensures.after ∙ size in
+    let read : c.as_bytes.result.now ≡ d = c.as_bytes.ensures.value in
+    let more : take (i + 1) ds ≡ take i ds ++ d ∷ [] = take_more ds i d c.loop-digest-test.true ∙ ap (λ x. take i ds ++ x ∷ []) (sym c.digest-item.is) in
+    let new : length c.copy_from_slice.new.self ≡ 32 = ap length c.copy_from_slice.ensures.after ∙ c.as_bytes.ensures.size in
     record {
       end = omega (arith, here.end);
       written =
           take-put_mid c.loop-digest.end _ c.loop-digest.out c.copy_from_slice.new.self (c.loop-digest.end + 32) (omega (arith, new)) (omega (arith, here.end, c.loop-digest.auto.out, c.requires, c.loop-digest-test.true))
           ∙ ap (λ front. front ++ c.copy_from_slice.new.self) here.written
-          ∙ ap (λ x. concat (take i ds) ++ x) (c.copy_from_slice.ensures.after ∙ sym (append-nil d))
+          ∙ ap (λ x. concat (take i ds) ++ x) (c.copy_from_slice.ensures.after ∙ read ∙ sym (append-nil d))
           ∙ sym (concat-append (take i ds) (d ∷ []))
-          ∙ sym (ap concat (take_more ds i [] c.loop-digest-test.true));
+          ∙ sym (ap concat more);
     }
 
 pub returns : goal.returns

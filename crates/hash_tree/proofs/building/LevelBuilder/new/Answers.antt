@@ -8,4 +8,4 @@ invariant_of-result c = λ well. rw (c.in_ok-begun_levels.ensures, c.blocks-left
 
 pub returns-clause-value : goal.returns-clause-value
 unfolding begun_builder
-returns-clause-value c = rw (c.in_ok-begun_levels.ensures, c.blocks-left.ensures.value, c.hash_block-hash_block.ensures.value) refl
+returns-clause-value c = rw (c.new.ensures, c.in_ok-begun_levels.ensures, c.blocks-left.ensures.value, c.hash_block-hash_block.ensures.value) refl

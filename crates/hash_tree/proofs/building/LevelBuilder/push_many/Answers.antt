@@ -1,4 +1,4 @@
-use Rattle.std.proofs.Common.{◌≡◌, ◌≤◌, ◌+◌, ◌-◌, ◌++◌, ◌∷◌, [], List, ℕ, length, get_or, take, drop, sym, ap, ◌∙◌, arith, subst, append_assoc}
+use Rattle.std.proofs.Common.{◌≡◌, ◌≤◌, ◌+◌, ◌-◌, ◌++◌, ◌∷◌, [], List, ℕ, length, take, drop, sym, ap, ◌∙◌, arith, subst, append_assoc}
 use Rattle.std.proofs.lemmas.List.{append-nil, take_more, take_all, take-append-drop, length-take-le}
 use Rattle.hash_tree.specs.Building.{BuilderRecord, pushed, completed, HasSome}
 use Rattle.hash_tree.proofs.lemmas.GrowLemmas.{HasSome-all, HasSome-later}
@@ -27,18 +27,19 @@ loop-digest-preserved c =
     let b = c.args.self.now in
     let i = c.loop-digest.digest-index in
     let ds = c.args.digests.now in
-    let d : List (List ℕ) = get_or ds i [] ∷ [] in
+    let d : List (List ℕ) = c.digest-item.result ∷ [] in
+    let more : take (i + 1) ds ≡ take i ds ++ d = take_more ds i c.digest-item.result c.loop-digest-test.true ∙ ap (λ x. take i ds ++ x ∷ []) (sym c.digest-item.is) in
     let here = c.loop-digest.invariant in
     let one = c.in_ok-push.ensures.ok in
     record {
       well = here.well;
-      self = one.0 ∙ ap (λ b. pushed b d) here.self ∙ sym (pushed-append b (take i ds) d) ∙ ap (pushed b) (sym (take_more ds i [] c.loop-digest-test.true));
+      self = one.0 ∙ ap (λ b. pushed b d) here.self ∙ sym (pushed-append b (take i ds) d) ∙ ap (pushed b) (sym more);
       out =
           one.1
           ∙ ap (λ xs. xs ++ completed c.loop-digest.self d) here.out
           ∙ append_assoc c.args.out.now.items (completed b (take i ds)) (completed c.loop-digest.self d)
           ∙ ap (λ b'. c.args.out.now.items ++ (completed b (take i ds) ++ completed b' d)) here.self
-          ∙ ap (λ ps. c.args.out.now.items ++ ps) (sym (completed-append b (take i ds) d) ∙ ap (completed b) (sym (take_more ds i [] c.loop-digest-test.true)));
+          ∙ ap (λ ps. c.args.out.now.items ++ ps) (sym (completed-append b (take i ds) d) ∙ ap (completed b) (sym more));
     }
 
 pub returns-in_err-push-clause-some : goal.returns-in_err-push-clause-some
@@ -46,10 +47,11 @@ returns-in_err-push-clause-some c =
     let b = c.args.self.now in
     let i = c.loop-digest.digest-index in
     let ds = c.args.digests.now in
-    let d : List (List ℕ) = get_or ds i [] ∷ [] in
+    let d : List (List ℕ) = c.digest-item.result ∷ [] in
+    let more : take (i + 1) ds ≡ take i ds ++ d = take_more ds i c.digest-item.result c.loop-digest-test.true ∙ ap (λ x. take i ds ++ x ∷ []) (sym c.digest-item.is) in
     let here = c.loop-digest.invariant in
     let split : ds ≡ take i ds ++ (d ++ drop (i + 1) ds) =
-    sym (take-append-drop (i + 1) ds) ∙ ap (λ xs. xs ++ drop (i + 1) ds) (take_more ds i [] c.loop-digest-test.true) ∙ append_assoc (take i ds) d (drop (i + 1) ds) in
+    sym (take-append-drop (i + 1) ds) ∙ ap (λ xs. xs ++ drop (i + 1) ds) more ∙ append_assoc (take i ds) d (drop (i + 1) ds) in
     let all : completed b ds ≡ completed b (take i ds) ++ (completed c.loop-digest.self d ++ completed (pushed c.loop-digest.self d) (drop (i + 1) ds)) =
     ap (completed b) split
     ∙ completed-append b (take i ds) (d ++ drop (i + 1) ds)

@@ -7,12 +7,12 @@ use Rattle.hash_tree.specs.Digests.{digest}
 use Rattle.hash_tree.specs.Tree.{cut}
 use Rattle.hash_tree.proofs.GroupLemmas.{length-cut_whole}
 use Rattle.hash_tree.proofs.lemmas.PackingLemmas.{get_or-cut_whole, take-put_mid}
-use Rattle.hash_tree.proofs.block_digests.digests.Goals as goal
+use Rattle.hash_tree.proofs.salt.Salt.digests.Goals as goal
 
 pub loop-g-preserved : goal.loop-g-preserved
 loop-g-preserved c =
     let cs : List (List ℕ) = cut c.args.size c.args.blocks.now in
-    let f = digest c.args.salt.now in
+    let f = digest c.args.self.now in
     let n : ℕ = 8 * c.loop-g.g in
     let put : List (List ℕ) = c.copy_from_slice.new.self in
     let is : put ≡ c.eight_digests-eight.result = c.copy_from_slice.ensures.after in
@@ -32,7 +32,7 @@ loop-i-preserved c =
     let size = c.args.size in
     let i = c.loop-i.i in
     let bytes = c.args.blocks.now in
-    let f = digest c.args.salt.now in
+    let f = digest c.args.self.now in
     let count : length (cut size bytes) ≡ length bytes / size = length-cut_whole size bytes c.requires.some c.requires.whole in
     let width : (i + 1) * size - i * size ≡ size = omega arith in
     let part : take ((i + 1) * size - i * size) (drop (i * size) bytes) ≡ get_or (cut size bytes) i [] =
@@ -52,4 +52,4 @@ returns c =
     let count : length (cut size bytes) ≡ length bytes / size = length-cut_whole size bytes c.requires.some c.requires.whole in
     sym (take_all c.loop-i.i c.loop-i.out (omega arith))
     ∙ c.loop-i.invariant
-    ∙ ap (map (digest c.args.salt.now)) (take_all c.loop-i.i (cut size bytes) (omega (arith, count)))
+    ∙ ap (map (digest c.args.self.now)) (take_all c.loop-i.i (cut size bytes) (omega (arith, count)))
