@@ -3,6 +3,7 @@ pub mod BlockListLemmas
 pub mod ChainLemmas
 pub mod BuildLemmas
 pub mod GroupLemmas
+pub mod PushGroupLemmas
 pub mod FormedLemmas
 pub mod CollisionLemmas
 mod WorkedTreeLemmas

@@ -1,5 +1,6 @@
 -- What callers may cite.
 pub mod AreaBlockLemmas
+pub mod BlockwiseLemmas
 pub mod BuilderLemmas
 pub mod BuildingLemmas
 pub mod GrowLemmas

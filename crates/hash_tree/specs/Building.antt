@@ -1,5 +1,5 @@
 -- A tree made digest by digest, with one block of each level under construction.
-use Rattle.std.specs.Prelude.{◌≡◌, ◌≤◌, ◌<◌, ◌^◌, ℕ, ◌+◌, ◌-◌, List, [], ◌∷◌, ◌++◌, length, map, replicate, take, Bool, false, if◌then◌else◌, nat_lt, Option, None, Some}
+use Rattle.std.specs.Prelude.{◌≡◌, ◌≤◌, ◌<◌, ◌^◌, ℕ, ◌+◌, ◌-◌, ◌/◌, ◌%◌, List, [], ◌∷◌, ◌++◌, length, map, replicate, take, Bool, false, not, ◌&&◌, ◌==◌, if◌then◌else◌, nat_lt, Option, None, Some}
 use Rattle.std.specs.Option.{unwrap_or}
 use Rattle.std.specs.List.{range_with_len, All}
 use Rattle.std.specs.List.Sorted.{IsPermutation}
@@ -110,6 +110,40 @@ pushed b ds = record b { left = b.left - length ds; levels = (grown b ds).levels
 
 unfoldable pub completed : BuilderRecord → List (List ℕ) → List PlacedRecord
 completed b ds = (grown b ds).placed
+
+-- the builder and the blocks put out, after some more digests
+pub record IsPushed (old : BuilderRecord) (ds : List (List ℕ)) (new : BuilderRecord) (before after : List PlacedRecord) : Type 0 where
+  pub builder : new ≡ pushed old ds
+  pub out : after ≡ before ++ completed old ds
+
+-- bytes of digests are a number of whole blocks of that size
+abbrev pub are_whole_blocks : ℕ → Bool
+are_whole_blocks size = not (size == 0) && (size % 32 == 0)
+
+-- there is a lowest level, and no block of it is begun
+abbrev pub is_between : List LevelRecord → Bool
+is_between [] = false
+is_between (l ∷ above) = length l.bytes == 0
+
+-- A whole block comes to the lowest level, where none is begun, and its digest to the level above.
+unfoldable pub grow_block : ℕ → List ℕ → List LevelRecord → List ℕ → List ℕ → List ℕ → Grown
+grow_block size salt [] root block d = record { levels = []; root = root; placed = [] }
+grow_block size salt (l ∷ above) root block d = record {
+  levels = record l { next = l.next + 1 } ∷ (grow size salt above root d).levels;
+  root = (grow size salt above root d).root;
+  placed = record { block = l.next; bytes = block } ∷ (grow size salt above root d).placed;
+}
+
+-- what comes of a whole block with its digest
+abbrev pub grown_block : BuilderRecord → List ℕ → List ℕ → Grown
+grown_block b block d = grow_block b.hash_block b.salt b.levels b.root block d
+
+-- the builder after a whole block of the lowest level, and the blocks that it completes
+unfoldable pub pushed_block : BuilderRecord → List ℕ → List ℕ → BuilderRecord
+pushed_block b block d = record b { left = b.left - b.hash_block / 32; levels = (grown_block b block d).levels; root = (grown_block b block d).root }
+
+unfoldable pub completed_block : BuilderRecord → List ℕ → List ℕ → List PlacedRecord
+completed_block b block d = (grown_block b block d).placed
 
 -- the blocks that the end completes, and the root
 unfoldable pub last_completed : BuilderRecord → List PlacedRecord

@@ -39,7 +39,7 @@ impl Salt {
 }
 
 /// The digests of eight blocks, from block 8 g on.
-fn eight_digests(salt: &Salt, size: usize, blocks: &[u8], g: usize) -> [Digest; 8]
+pub(crate) fn eight_digests(salt: &Salt, size: usize, blocks: &[u8], g: usize) -> [Digest; 8]
     requires some { 0 < size }
     requires whole { length blocks.now % size ≡ 0 }
     requires inside { 8 * g + 8 ≤ length blocks.now / size }

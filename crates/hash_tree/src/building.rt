@@ -5,6 +5,8 @@ ghost use Rattle.hash_tree.specs.Shape.{IsShape, levels};
 ghost use Rattle.hash_tree.specs.Tree.{filled};
 ghost use Rattle.hash_tree.specs.Building.{begun_builder, begun_levels, pushed, completed, last_completed, built_root, HasSome, grow, close};
 
+mod grouping;
+
 use crate::{Digest, Salt, Shape};
 use std::alloc::{AllocError, Global};
 use std::marker::Model;
@@ -136,8 +138,9 @@ impl LevelBuilder {
         if self.failed {
             return Err(AllocError);
         }
-        for digest in digests {
-            self.push(*digest, out)?;
+        let mut done = 0;
+        while done < digests.len() {
+            done += self.push_next(&digests[done..], out)?;
         }
         Ok(())
     }
@@ -244,12 +247,12 @@ fn close_up(
     close_up(hash_block, salt, above, root, Some(next), out)
 }
 
-/// A digest behind a block's bytes; the first one takes the memory for the whole block.
-fn append(bytes: &mut Vec<u8>, digest: &Digest, hash_block: usize) -> Result<(), AllocError>
+/// A digest behind the bytes; the first one takes the memory for `size` bytes.
+fn append(bytes: &mut Vec<u8>, digest: &Digest, size: usize) -> Result<(), AllocError>
     ensures { OnOk result (bytes.new.items ≡ bytes.old.items ++ digest.now) }
 {
     if bytes.is_empty() {
-        bytes.reserve_exact(hash_block)?;
+        bytes.reserve_exact(size)?;
     }
     bytes.extend_from_slice(digest.as_bytes())
 }

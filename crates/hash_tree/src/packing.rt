@@ -29,7 +29,7 @@ pub fn area(
 }
 
 /// Each digest has its 32 bytes.
-fn are_whole(digests: &[Digest])
+pub(crate) fn are_whole(digests: &[Digest])
     ensures { All (λ d. length d ≡ 32) digests.now }
 {
     for digest in digests {
@@ -96,9 +96,7 @@ fn digests_of(
     ensures { IfOk result (λ v. v.items ≡ map (digest salt.now) (cut hash_block blocks.now)) }
 {
     let count = blocks.len() / hash_block;
-    let mut digests = Vec::with_capacity(alloc, count)?;
-    for i in 0..count {
-        digests.push(salt.digest(&blocks[i * hash_block..(i + 1) * hash_block]))?;
-    }
+    let mut digests = vec![in alloc; Digest::new([0; Digest::SIZE]); count]?;
+    salt.digests(hash_block, blocks, &mut digests);
     Ok(digests)
 }

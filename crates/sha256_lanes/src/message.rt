@@ -1,5 +1,5 @@
 // The message blocks of a padded message that is given in two parts.
-ghost use Rattle.std.specs.Prelude.{◌≡◌, ℕ, ◌+◌, ◌-◌, ◌*◌, ◌/◌, ◌^◌, ◌<◌, ◌≤◌, ◌++◌, length, take, drop, slice_index};
+ghost use Rattle.std.specs.Prelude.{◌≡◌, ℕ, ◌+◌, ◌-◌, ◌*◌, ◌/◌, ◌^◌, ◌<◌, ◌≤◌, ◌++◌, List, length, take, drop, slice_index};
 ghost use Rattle.sha2.specs.Sha256.{padded_message};
 ghost use Rattle.sha256_lanes.specs.Lanes.{message};
 
@@ -18,22 +18,35 @@ fn overlay(out: &mut [u8; 64], at: usize, piece: &[u8], start: usize)
     }
 }
 
-// Message block `index` of a message in two parts.
-fn message_block(prefix: &[u8], block: &[u8], index: usize) -> [u8; 64]
-    requires room { length prefix.now + length block.now + 136 < 2 ^ 64 }
-    requires inside { index < (length prefix.now + length block.now + 72) / 64 }
-    ensures { (k : ℕ) → k < 64 → slice_index result k ≡ slice_index (padded_message (prefix.now ++ block.now)) (index * 64 + k) }
+// What message block `index` has in common with those of all blocks of that size: the prefix, and what stands behind a block.
+fn frame(prefix: &[u8], size: usize, index: usize) -> [u8; 64]
+    requires room { length prefix.now + size + 136 < 2 ^ 64 }
+    requires inside { index < (length prefix.now + size + 72) / 64 }
+    ensures before { (b : List ℕ) (k : ℕ) → k < 64 → index * 64 + k < length prefix.now → slice_index result k ≡ slice_index (padded_message (prefix.now ++ b)) (index * 64 + k) }
+    ensures behind { (b : List ℕ) (k : ℕ) → length b ≡ size → k < 64 → length prefix.now + size ≤ index * 64 + k → slice_index result k ≡ slice_index (padded_message (prefix.now ++ b)) (index * 64 + k) }
 {
     let at = index * 64;
     let start = prefix.len();
-    let len = start + block.len();
+    let len = start + size;
     let end = (len + 72) / 64 * 64 - 8;
     let bits = (len as u64).wrapping_mul(8).to_be_bytes();
     let mut out = [0u8; 64];
     overlay(&mut out, at, prefix, 0);
-    overlay(&mut out, at, block, start);
     overlay(&mut out, at, &[0x80], len);
     overlay(&mut out, at, &bits, end);
+    out
+}
+
+// Message block `index` of a message in two parts: what it has of the block, in its frame.
+fn message_block(frame: &[u8; 64], prefix: &[u8], block: &[u8], index: usize) -> [u8; 64]
+    requires room { length prefix.now + length block.now + 136 < 2 ^ 64 }
+    requires inside { index < (length prefix.now + length block.now + 72) / 64 }
+    requires before { (k : ℕ) → k < 64 → index * 64 + k < length prefix.now → slice_index frame.now k ≡ slice_index (padded_message (prefix.now ++ block.now)) (index * 64 + k) }
+    requires behind { (k : ℕ) → k < 64 → length prefix.now + length block.now ≤ index * 64 + k → slice_index frame.now k ≡ slice_index (padded_message (prefix.now ++ block.now)) (index * 64 + k) }
+    ensures { (k : ℕ) → k < 64 → slice_index result k ≡ slice_index (padded_message (prefix.now ++ block.now)) (index * 64 + k) }
+{
+    let mut out = *frame;
+    overlay(&mut out, index * 64, block, prefix.len());
     out
 }
 
@@ -55,9 +68,10 @@ pub(crate) fn message_blocks(prefix: &[u8], blocks: &[u8], size: usize, index: u
     requires inside { index < (length prefix.now + size + 72) / 64 }
     ensures { (j : ℕ) → j < 8 → take 64 (drop (j * 64) result) ≡ take 64 (drop (index * 64) (padded_message (message prefix.now blocks.now size j))) }
 {
+    let shared = frame(prefix, size, index);
     let mut out = [0u8; 512];
     for j in 0..8usize {
-        let row = message_block(prefix, block(blocks, size, j), index);
+        let row = message_block(&shared, prefix, block(blocks, size, j), index);
         out[j * 64..j * 64 + 64].copy_from_slice(&row);
     }
     out

@@ -36,6 +36,10 @@ module _ (size : ℕ) (salt : List ℕ) where
         | inr full ↦ rw (grow-full size salt l above root d full) (All-cons (Below n) _ _ (omega (arith, first)) (HaveRoom-grow n above root (digest salt (l.bytes ++ d)) (All-tail (Below (n + 1)) l above room)))
       ]
 
+-- fewer numbers
+pub HaveRoom-most : (m n : ℕ) (levels : List LevelRecord) → n ≤ m → HaveRoom m levels → HaveRoom n levels
+HaveRoom-most m n levels le room = λ k d inside. let one = room k d inside in omega (arith, one, le)
+
 -- the numbers of all levels lie within the area
 pub HaveRoom-begun : (s : ShapeRecord) → IsShape s → HaveRoom s.blocks (begun_levels s 0 (levels s))
 HaveRoom-begun s valid =

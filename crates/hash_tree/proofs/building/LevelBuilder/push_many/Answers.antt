@@ -1,67 +1,58 @@
-use Rattle.std.proofs.Common.{◌≡◌, ◌≤◌, ◌+◌, ◌-◌, ◌++◌, ◌∷◌, [], List, ℕ, length, take, drop, sym, ap, ◌∙◌, arith, subst, append_assoc}
-use Rattle.std.proofs.lemmas.List.{append-nil, take_more, take_all, take-append-drop, length-take-le}
-use Rattle.hash_tree.specs.Building.{BuilderRecord, pushed, completed, HasSome}
-use Rattle.hash_tree.proofs.lemmas.GrowLemmas.{HasSome-all, HasSome-later}
-use Rattle.hash_tree.proofs.lemmas.BuilderLemmas.{pushed-none, completed-none, pushed-append, completed-append, left-pushed}
+use Rattle.std.proofs.Common.{◌≡◌, ◌-◌, ◌++◌, List, ℕ, length, take, drop, ap, ◌∙◌, arith, subst}
+use Rattle.std.proofs.lemmas.List.{take_all, length-drop, length-take-le}
+use Rattle.hash_tree.specs.Building.{BuilderRecord, completed, HasSome, IsPushed}
+use Rattle.hash_tree.proofs.lemmas.GrowLemmas.{HasSome-all}
+use Rattle.hash_tree.proofs.lemmas.BuilderLemmas.{left-pushed, failed-pushed}
+use Rattle.hash_tree.proofs.lemmas.BlockwiseLemmas.{IsPushed-none, IsPushed-next, HasSome-rest}
 use Rattle.hash_tree.proofs.building.LevelBuilder.push_many.Goals as goal
 
-pub loop-digest-init : goal.loop-digest-init
-loop-digest-init c = record {
-  well = rw (← c.self.view_is) c.if-self.false;
-  self = sym (pushed-none c.args.self.now);
-  out = rw (completed-none c.args.self.now) (sym (append-nil c.args.out.now.items));
-}
+-- the digests that are left
+rest : (n : ℕ) (ds : List (List ℕ)) → take (length ds - n) (drop n ds) ≡ drop n ds
+rest n ds = take_all (length ds - n) (drop n ds) (omega (arith, length-drop n ds))
 
-pub push-requires : goal.push-requires
-push-requires c = λ well.
-    let b = c.args.self.now in
-    let i = c.loop-digest.digest-index in
-    let ds = c.args.digests.now in
-    let left : c.loop-digest.self.left ≡ b.left - length (take i ds) = ap (λ (b : BuilderRecord). b.left) c.loop-digest.invariant.self ∙ left-pushed b (take i ds) in
-    let count : length (take i ds) ≡ i = length-take-le i ds (omega (arith, c.loop-digest-test.true)) in
-    let room : length ds ≤ b.left = c.requires c.loop-digest.invariant.well in
-    omega (arith, left, count, room, c.loop-digest-test.true)
+pub loop-done-init : goal.loop-done-init
+loop-done-init c = record { well = rw (← c.self.view_is) c.if-self.false; few = omega arith; pushed = IsPushed-none c.args.self.now c.args.out.now.items }
 
-pub loop-digest-preserved : goal.loop-digest-preserved
-loop-digest-preserved c =
+pub push_next-requires-clause-working : goal.push_next-requires-clause-working
+push_next-requires-clause-working c =
+    let here = c.loop-done.invariant in
+    ap (λ (b : BuilderRecord). b.failed) here.pushed.builder ∙ failed-pushed c.args.self.now (take c.loop-done.done c.args.digests.now) ∙ here.well
+
+pub push_next-requires-clause-left : goal.push_next-requires-clause-left
+push_next-requires-clause-left c =
     let b = c.args.self.now in
-    let i = c.loop-digest.digest-index in
+    let n = c.loop-done.done in
     let ds = c.args.digests.now in
-    let d : List (List ℕ) = c.digest-item.result ∷ [] in
-    let more : take (i + 1) ds ≡ take i ds ++ d = take_more ds i c.digest-item.result c.loop-digest-test.true ∙ ap (λ x. take i ds ++ x ∷ []) (sym c.digest-item.is) in
-    let here = c.loop-digest.invariant in
-    let one = c.in_ok-push.ensures.ok in
+    let here = c.loop-done.invariant in
+    let left : c.loop-done.self.left ≡ b.left - length (take n ds) = ap (λ (b : BuilderRecord). b.left) here.pushed.builder ∙ left-pushed b (take n ds) in
+    let count : length (take n ds) ≡ n = length-take-le n ds here.few in
+    let some : length (take (length ds - n) (drop n ds)) ≡ length ds - n = ap length (rest n ds) ∙ length-drop n ds in
+    omega (arith, left, count, some, c.requires here.well)
+
+pub returns-in_err-done-clause-some : goal.returns-in_err-done-clause-some
+returns-in_err-done-clause-some c =
+    let ds = c.args.digests.now in
+    let n = c.loop-done.done in
+    HasSome-rest c.args.self.now c.loop-done.self n ds c.args.out.now.items c.loop-done.out.items c.push_next.new.out.items c.loop-done.invariant.pushed
+    (subst (λ xs. HasSome c.loop-done.out.items (completed c.loop-done.self xs) c.push_next.new.out.items) (rest n ds) c.in_err-done.ensures.some)
+
+pub loop-done-preserved : goal.loop-done-preserved
+loop-done-preserved c =
+    let ds = c.args.digests.now in
+    let m = c.loop-done.done in
+    let n = c.in_ok-done.field-0 in
+    let here = c.loop-done.invariant in
+    let part : length (take (length ds - m) (drop m ds)) ≡ length ds - m = ap length (rest m ds) ∙ length-drop m ds in
     record {
       well = here.well;
-      self = one.0 ∙ ap (λ b. pushed b d) here.self ∙ sym (pushed-append b (take i ds) d) ∙ ap (pushed b) (sym more);
-      out =
-          one.1
-          ∙ ap (λ xs. xs ++ completed c.loop-digest.self d) here.out
-          ∙ append_assoc c.args.out.now.items (completed b (take i ds)) (completed c.loop-digest.self d)
-          ∙ ap (λ b'. c.args.out.now.items ++ (completed b (take i ds) ++ completed b' d)) here.self
-          ∙ ap (λ ps. c.args.out.now.items ++ ps) (sym (completed-append b (take i ds) d) ∙ ap (completed b) (sym more));
+      few = omega (arith, here.few, part, c.in_ok-done.ensures.count.1);
+      pushed = IsPushed-next c.args.self.now c.loop-done.self c.push_next.new.self m n ds c.args.out.now.items c.loop-done.out.items c.push_next.new.out.items here.pushed
+          (subst (λ xs. IsPushed c.loop-done.self (take n xs) c.push_next.new.self c.loop-done.out.items c.push_next.new.out.items) (rest m ds) c.in_ok-done.ensures.ok);
     }
-
-pub returns-in_err-push-clause-some : goal.returns-in_err-push-clause-some
-returns-in_err-push-clause-some c =
-    let b = c.args.self.now in
-    let i = c.loop-digest.digest-index in
-    let ds = c.args.digests.now in
-    let d : List (List ℕ) = c.digest-item.result ∷ [] in
-    let more : take (i + 1) ds ≡ take i ds ++ d = take_more ds i c.digest-item.result c.loop-digest-test.true ∙ ap (λ x. take i ds ++ x ∷ []) (sym c.digest-item.is) in
-    let here = c.loop-digest.invariant in
-    let split : ds ≡ take i ds ++ (d ++ drop (i + 1) ds) =
-    sym (take-append-drop (i + 1) ds) ∙ ap (λ xs. xs ++ drop (i + 1) ds) more ∙ append_assoc (take i ds) d (drop (i + 1) ds) in
-    let all : completed b ds ≡ completed b (take i ds) ++ (completed c.loop-digest.self d ++ completed (pushed c.loop-digest.self d) (drop (i + 1) ds)) =
-    ap (completed b) split
-    ∙ completed-append b (take i ds) (d ++ drop (i + 1) ds)
-    ∙ ap (λ b'. completed b (take i ds) ++ completed b' (d ++ drop (i + 1) ds)) (sym here.self)
-    ∙ ap (λ ps. completed b (take i ds) ++ ps) (completed-append c.loop-digest.self d (drop (i + 1) ds)) in
-    subst (λ ps. HasSome c.args.out.now.items ps c.push.new.out.items) (sym all)
-    (HasSome-later c.args.out.now.items c.loop-digest.out.items c.push.new.out.items (completed b (take i ds)) (completed c.loop-digest.self d) _ here.out c.in_err-push.ensures.some)
 
 pub returns-clause-some : goal.returns-clause-some
 returns-clause-some c =
     let b = c.args.self.now in
-    let all : take c.loop-digest.digest-index c.args.digests.now ≡ c.args.digests.now = take_all c.loop-digest.digest-index c.args.digests.now c.loop-digest-test.false in
-    HasSome-all c.args.out.now.items (completed b c.args.digests.now) c.loop-digest.out.items (c.loop-digest.invariant.out ∙ ap (λ ds. c.args.out.now.items ++ completed b ds) all)
+    let ds = c.args.digests.now in
+    let all : take c.loop-done.done ds ≡ ds = take_all c.loop-done.done ds c.loop-done-test.false in
+    HasSome-all c.args.out.now.items (completed b ds) c.loop-done.out.items (c.loop-done.invariant.pushed.out ∙ ap (λ ds. c.args.out.now.items ++ completed b ds) all)

@@ -1,0 +1,157 @@
+// Digests pushed in groups: those of eight whole blocks of the lowest level, which are digested side by side.
+ghost use Rattle.std.specs.Prelude.{true, false, ◌≡◌, ◌+◌, ◌*◌, ◌/◌, ◌^◌, ◌<◌, ◌≤◌, ◌++◌, length, take, All, IfOk, OnOk, OnErr, IsTrue};
+ghost use Rattle.std.specs.List.{concat};
+ghost use Rattle.hash_tree.specs.Building.{completed, HasSome, IsPushed, are_whole_blocks, is_between, grow_block, pushed_block, completed_block};
+
+use super::{Level, LevelBuilder, Placed, append, rise};
+use crate::block_digests::eight_digests;
+use crate::packing::are_whole;
+use crate::{Digest, Salt};
+use std::alloc::{AllocError, Global};
+
+impl LevelBuilder {
+    /// The first of these digests, and how many those are: those of eight whole blocks of the lowest level, which are
+    /// digested side by side, where there are as many and none is begun; else one.
+    pub(super) fn push_next(
+        &mut self,
+        digests: &[Digest],
+        out: &mut Vec<Placed>,
+    ) -> Result<usize, AllocError>
+        requires working { self.old.failed ≡ false }
+        requires some { 0 < length digests.now }
+        requires left { length digests.now ≤ self.old.left }
+        ensures count { IfOk result (λ n. (0 < n) × (n ≤ length digests.now)) }
+        ensures ok { IfOk result (λ n. IsPushed self.old (take n digests.now) self.new out.old.items out.new.items) }
+        ensures err { OnErr result (self.new.failed ≡ true) }
+        ensures some { HasSome out.old.items (completed self.old digests.now) out.new.items }
+    {
+        let group = self.hash_block / Digest::SIZE * 8;
+        if group <= digests.len() && are_whole_blocks(self.hash_block) && is_between(&self.levels) {
+            self.push_group(&digests[..group], out)?;
+            return Ok(group);
+        }
+        self.push(digests[0], out)?;
+        Ok(1)
+    }
+
+    /// The digests of eight whole blocks of the lowest level, where none is begun.
+    fn push_group(&mut self, digests: &[Digest], out: &mut Vec<Placed>) -> Result<(), AllocError>
+        requires working { self.old.failed ≡ false }
+        requires size { IsTrue (are_whole_blocks self.old.hash_block) }
+        requires between { IsTrue (is_between self.old.levels) }
+        requires count { length digests.now ≡ self.old.hash_block / 32 * 8 }
+        requires left { length digests.now ≤ self.old.left }
+        ensures ok { OnOk result (IsPushed self.old digests.now self.new out.old.items out.new.items) }
+        ensures err { OnErr result (self.new.failed ≡ true) }
+        ensures some { HasSome out.old.items (completed self.old digests.now) out.new.items }
+    {
+        are_whole(digests);
+        let size = self.hash_block;
+        let alloc = *out.allocator();
+        let blocks = match joined(alloc, digests) {
+            Ok(blocks) => blocks,
+            Err(refused) => {
+                self.failed = true;
+                return Err(refused);
+            }
+        };
+        let eight = eight_digests(&self.salt, size, &blocks, 0);
+        for k in 0..8_usize {
+            self.push_block(&blocks[k * size..(k + 1) * size], eight[k], out)?;
+        }
+        Ok(())
+    }
+
+    /// A whole block of the lowest level, with its digest, where none is begun.
+    fn push_block(
+        &mut self,
+        block: &[u8],
+        digest: Digest,
+        out: &mut Vec<Placed>,
+    ) -> Result<(), AllocError>
+        requires working { self.old.failed ≡ false }
+        requires some { 32 ≤ self.old.hash_block }
+        requires left { self.old.hash_block / 32 ≤ self.old.left }
+        ensures ok { OnOk result ((self.new ≡ pushed_block self.old block.now digest) × (out.new.items ≡ out.old.items ++ completed_block self.old block.now digest)) }
+        ensures err { OnErr result (self.new.failed ≡ true) }
+        ensures some { HasSome out.old.items (completed_block self.old block.now digest) out.new.items }
+    {
+        match rise_block(
+            self.hash_block,
+            &self.salt,
+            &mut self.levels,
+            &mut self.root,
+            block,
+            digest,
+            out,
+        ) {
+            Ok(()) => {
+                self.left -= (self.hash_block / Digest::SIZE) as u64;
+                Ok(())
+            }
+            Err(refused) => {
+                self.failed = true;
+                Err(refused)
+            }
+        }
+    }
+}
+
+/// A whole block comes to the lowest of these levels, where none is begun, with its digest, which comes to the next level.
+fn rise_block(
+    hash_block: usize,
+    salt: &Salt,
+    levels: &mut [Level],
+    root: &mut Digest,
+    block: &[u8],
+    coming: Digest,
+    out: &mut Vec<Placed>,
+) -> Result<(), AllocError>
+    requires { All (λ l. l.next < 2 ^ 63) levels.old }
+    ensures levels { OnOk result (levels.new ≡ (grow_block hash_block salt.now levels.old root.old block.now coming).levels) }
+    ensures root { OnOk result (root.new ≡ (grow_block hash_block salt.now levels.old root.old block.now coming).root) }
+    ensures out { OnOk result (out.new.items ≡ out.old.items ++ (grow_block hash_block salt.now levels.old root.old block.now coming).placed) }
+    ensures some { HasSome out.old.items (grow_block hash_block salt.now levels.old root.old block.now coming).placed out.new.items }
+{
+    let Some((level, above)) = levels.split_first_mut() else {
+        return Ok(());
+    };
+    let alloc = *out.allocator();
+    let bytes = Vec::from_slice(alloc, block)?;
+    let number = level.next;
+    level.next += 1;
+    out.push(Placed {
+        block: number,
+        bytes,
+    })?;
+    rise(hash_block, salt, above, root, coming, out)
+}
+
+/// Whether digests fill blocks of that size.
+fn are_whole_blocks(size: usize) -> bool
+    ensures { result ≡ are_whole_blocks size }
+{
+    size != 0 && size % Digest::SIZE == 0
+}
+
+/// Whether there is a lowest level, and no block of it is begun.
+fn is_between(levels: &[Level]) -> bool
+    ensures { result ≡ is_between levels.now }
+{
+    match levels.first() {
+        Some(level) => level.bytes.is_empty(),
+        None => false,
+    }
+}
+
+/// The digests in a row.
+fn joined(alloc: Global, digests: &[Digest]) -> Result<Vec<u8>, AllocError>
+    ensures { IfOk result (λ bytes. bytes.items ≡ concat digests.now) }
+{
+    let size = digests.len().saturating_mul(Digest::SIZE);
+    let mut bytes = Vec::new(alloc);
+    for digest in digests {
+        append(&mut bytes, digest, size)?;
+    }
+    Ok(bytes)
+}
