@@ -15,7 +15,8 @@ OPENING_FAULTS = ["NotFound", "NotAllowed", "TooLarge", "OtherFault", "NoMemory"
 MOST_OF_A_TEXT = 1024 * 1024
 MOST_OF_MEMORY = 65536
 LONGEST_NAME = 255
-TARGETS = ("linear", "striped", "zero", "error", "crypt", "verity", "zero_blocks", "sector_size")
+TARGETS = ("linear", "striped", "zero", "error", "crypt", "verity", "zero_blocks", "sector_size",
+           "unstriped")
 OPTIONS = {
     "format": (b"data-block", b"hash-block", b"blocks", b"salt", b"uuid"),
     "verify": (), "dump": (), "table": (), "load": (),

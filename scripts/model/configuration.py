@@ -2,7 +2,7 @@
 
 from dataclasses import dataclass
 
-from tables import PREFIX, Crypt, Linear, Striped, Verity, is_leaf_name
+from tables import PREFIX, Crypt, Linear, Striped, Unstriped, Verity, is_leaf_name
 from verity import Tree
 
 LIMIT = 2**54
@@ -139,6 +139,8 @@ class Configuration:
         target = line.target
         if isinstance(target, Striped) and line.length % (len(target.stripes) * target.chunk):
             return "StripesDontDivide"
+        if isinstance(target, Unstriped) and line.length % target.chunk:
+            return "StripesDontDivide"
         if isinstance(target, Crypt):
             if line.length % target.unit():
                 return "UnitDoesntDivide"
@@ -170,6 +172,9 @@ class Configuration:
         if isinstance(target, Verity):
             sectors = target.blocks * target.data_block // 512
             return sectors > self.lower(target.device).sectors
+        if isinstance(target, Unstriped):
+            last = target.offset + target.place(length - 1)
+            return last >= self.lower(target.device).sectors
         return False
 
     def depth(self, device, heights=None):

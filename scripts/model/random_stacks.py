@@ -46,7 +46,7 @@ class Stacks(Dice):
 
     def target(self, lowers, writable):
         """The words of a line behind its start: length, type, arguments."""
-        kinds = [(b"linear", 8), (b"striped", 6), (b"zero", 2), (b"error", 2)]
+        kinds = [(b"linear", 8), (b"striped", 6), (b"unstriped", 4), (b"zero", 2), (b"error", 2)]
         if "crypt" in self.features["targets"] or self.chance(0.1):
             kinds.append((b"crypt", 3))
         kind, = self.random.choices([kind for kind, _ in kinds], [share for _, share in kinds])
@@ -54,6 +54,8 @@ class Stacks(Dice):
             return self.random.randint(1, 12), kind if kind == b"error" else b"zero"
         if kind == b"striped":
             return self.striped(lowers)
+        if kind == b"unstriped":
+            return self.unstriped(*self.pick(lowers))
         name, size = self.pick(lowers)
         first, length = self.range_of(size)
         if kind == b"linear":
@@ -69,6 +71,19 @@ class Stacks(Dice):
         pairs = b" ".join(
             b"%s %d" % (name, self.below(size - rows * chunk)) for name, size in chosen)
         return count * rows * chunk, b"striped %d %d %s" % (count, chunk, pairs)
+
+    def unstriped(self, name, size):
+        count = min(size, self.pick([1, 1, 2, 2, 3, 4, 5, 16, 17, size]))
+        chunk = min(size // count, self.pick([1, 1, 2, 3, 4, 7, 8, 16, size // count]))
+        most = size // (count * chunk)
+        rows = self.pick([1, most, self.random.randint(1, most)])
+        stripe = self.pick([0, count - 1, self.random.randrange(count)])
+        taken = ((rows - 1) * count + stripe + 1) * chunk
+        first = self.pick([0, size - taken, self.below(size - taken)])
+        if self.chance(0.04):
+            stripe = self.pick([count, 2**32 - 1, 2**32])
+        words = b"unstriped %d %d %d %s %d" % (count, chunk, stripe, name, first)
+        return rows * chunk, words
 
     def crypt(self, name, first, length):
         length = min(length, 12)
@@ -112,7 +127,7 @@ class Stacks(Dice):
         length, words = self.target(lowers, False)
         kinds = self.random.sample(range(9), self.pick([1, 2, 2, 3]))
         words = words.split(b" ")
-        places = {b"linear": 1, b"striped": 3, b"crypt": 4}.get(words[0])
+        places = {b"linear": 1, b"striped": 3, b"crypt": 4, b"unstriped": 4}.get(words[0])
         if 0 in kinds:
             length = 0
         if 1 in kinds:
@@ -121,7 +136,7 @@ class Stacks(Dice):
             length = LIMIT - start + self.pick([0, 1, 1, 2**60])
         if 3 in kinds:
             length += 1
-        if 4 in kinds and words[0] == b"striped":
+        if 4 in kinds and words[0] in (b"striped", b"unstriped"):
             words[2] = self.pick([b"%d" % (int(words[2]) + 1), b"18446744073709551615"])
         if 5 in kinds and places:
             offset = int(words[places + 1])

@@ -2,7 +2,7 @@
 
 from cipher import xts_decrypt, xts_encrypt
 from configuration import Leaf
-from tables import LARGE_UNITS, ZERO_BLOCKS, Crypt, Error, Linear, Striped, Verity, Zero
+from tables import LARGE_UNITS, ZERO_BLOCKS, Crypt, Error, Linear, Striped, Unstriped, Verity, Zero
 from verity import Tree, digest
 
 SECTOR = 512
@@ -130,11 +130,15 @@ class Stack:
             first, count = first + part, count - part
 
     def lower_runs(self, target, at, count):
-        """Where the sectors of a linear or striped line stand, in rising order."""
+        """Where the sectors of a linear, striped or unstriped line stand, in rising order."""
         lower = self.configuration.lower
         if isinstance(target, Linear):
             yield lower(target.device), target.offset + at, count
             return
+        while count and isinstance(target, Unstriped):
+            part = min(count, target.chunk - at % target.chunk)
+            yield lower(target.device), target.offset + target.place(at), part
+            at, count = at + part, count - part
         while count:
             chunk, inside = divmod(at, target.chunk)
             row, place = divmod(chunk, len(target.stripes))
@@ -159,7 +163,7 @@ class Stack:
             return bytes(count * SECTOR)
         if isinstance(target, Error):
             raise Fault(ERROR_TARGET)
-        if isinstance(target, (Linear, Striped)):
+        if isinstance(target, (Linear, Striped, Unstriped)):
             runs = self.lower_runs(target, at, count)
             return b"".join(self.read_run(*run) for run in runs)
         reader = self.read_unit if isinstance(target, Crypt) else self.read_block
@@ -213,7 +217,7 @@ class Stack:
     def write_line(self, target, at, data):
         if isinstance(target, Error):
             raise Fault(ERROR_TARGET)
-        if isinstance(target, (Linear, Striped)):
+        if isinstance(target, (Linear, Striped, Unstriped)):
             done = 0
             for lower, first, count in self.lower_runs(target, at, len(data) // SECTOR):
                 self.write_run(lower, first, data[done * SECTOR:(done + count) * SECTOR])

@@ -19,7 +19,7 @@ STRANGE_NUMBERS = [
 ]
 STRANGE_BYTES = [b"\x00", b"\x0b", b"\x0c", b"\x7f", b"\x80", b"\xff", b"\\", b"\x01", b"\xc2\xa0"]
 TARGET_WORDS = [
-    b"linear", b"striped", b"zero", b"error", b"crypt", b"verity", b"Linear", b"mirror", b"zer",
+    b"linear", b"striped", b"zero", b"error", b"crypt", b"verity", b"unstriped", b"Linear", b"mirror", b"zer",
     b"zeros", b"linear1",
 ]
 OPTION_WORDS = [

@@ -9,6 +9,7 @@ from dataclasses import dataclass, field
 KINDS = [
     "NotText", "Fields", "Name", "Flags", "Number", "Target", "ArgCount", "Cipher", "Key",
     "Version", "BlockSize", "Algorithm", "Digest", "Salt", "Option", "StripeCount", "ZeroChunk",
+    "StripeNumber",
 ]
 SPACE = b" \t\r\n"
 WORD = re.compile(rb"[^ \t\r\n]+")
@@ -124,6 +125,27 @@ class Verity:
         words = [b"verity", 1, self.device, self.hash_device, self.data_block, self.hash_block]
         words += [self.blocks, self.start, b"sha256", spelled(self.digest), spelled(self.salt)]
         return words + counted(self.options)
+
+
+@dataclass
+class Unstriped:
+    stripes: int
+    chunk: int
+    stripe: int
+    device: bytes
+    offset: int
+
+    def lower(self):
+        return [self.device]
+
+    def place(self, sector):
+        """Where a sector stands on the striped device, its offset not counted."""
+        chunk, inside = divmod(sector, self.chunk)
+        return (chunk * self.stripes + self.stripe) * self.chunk + inside
+
+    def words(self):
+        numbers = [self.stripes, self.chunk, self.stripe]
+        return [b"unstriped"] + numbers + [self.device, self.offset]
 
 
 @dataclass
@@ -298,9 +320,23 @@ def read_verity(words, features):
     return Verity(device, hash_device, data_block, hash_block, blocks, start, digest, salt, options)
 
 
+def read_unstriped(words, _features):
+    if len(words) != 5:
+        raise TextFault("ArgCount")
+    stripes = number(words[0], 2**32)
+    if not stripes:
+        raise TextFault("StripeCount")
+    chunk = number(words[1], 2**32)
+    if not chunk:
+        raise TextFault("ZeroChunk")
+    stripe = need(number(words[2], stripes), "StripeNumber")
+    return Unstriped(stripes, chunk, stripe, the_device(words[3]), the_number(words[4]))
+
+
 TARGETS = {
     b"linear": read_linear, b"striped": read_striped, b"zero": read_none(Zero),
     b"error": read_none(Error), b"crypt": read_crypt, b"verity": read_verity,
+    b"unstriped": read_unstriped,
 }
 
 

@@ -1,3 +1,4 @@
 -- What callers may cite.
 pub mod ReadLineLemmas
 pub mod SectorSizeLemmas
+pub mod UnstripedLineLemmas

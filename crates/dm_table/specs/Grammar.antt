@@ -4,10 +4,11 @@ use Rattle.hex.specs.Hex.{IsBytes}
 use Rattle.hash_tree.specs.Shape.{is_block_size}
 use Rattle.dm_table.specs.declared.crypt.Crypt.{Crypt}
 use Rattle.dm_table.specs.declared.verity.Verity.{Verity}
+use Rattle.dm_table.specs.declared.unstriped.Unstriped.{Unstriped}
 use Rattle.dm_table.specs.declared.table.Base.{Base}
 use Rattle.dm_table.specs.declared.table.Line.{Line}
 use Rattle.dm_table.specs.declared.table.Target.{Target}
-use Rattle.dm_table.specs.declared.table.Target.TheVariants.{Linear, Striped, Zero, Error, Crypt as crypt_target, Verity as verity_target}
+use Rattle.dm_table.specs.declared.table.Target.TheVariants.{Linear, Striped, Zero, Error, Crypt as crypt_target, Verity as verity_target, Unstriped as unstriped_target}
 use Rattle.dm_table.specs.Names.{is_device}
 use Rattle.dm_table.specs.Options.{AreOptionsOfGrammar}
 use Rattle.dm_table.specs.Crypt.{crypt_options}
@@ -54,6 +55,14 @@ pub record IsVerityOfGrammar (verity : Verity) : Type 0 where
   pub salt_size : length verity.salt ≤ 256
   pub salt_bytes : IsBytes verity.salt
 
+-- one of at least one stripe, and a chunk of at least one sector, in numbers of 32 bits
+pub record IsUnstripedOfGrammar (line : Unstriped) : Type 0 where
+  pub stripes : line.stripes < 2 ^ 32
+  pub chunk_some : 1 ≤ line.chunk
+  pub chunk_fits : line.chunk < 2 ^ 32
+  pub stripe : line.stripe < line.stripes
+  pub base : IsBaseOfGrammar line.base
+
 abbrev pub IsTargetOfGrammar : Target → Type 0
 IsTargetOfGrammar (Linear base) = IsBaseOfGrammar base
 IsTargetOfGrammar (Striped chunk bases) = IsStripedOfGrammar chunk bases
@@ -61,6 +70,7 @@ IsTargetOfGrammar Zero = Unit {0}
 IsTargetOfGrammar Error = Unit {0}
 IsTargetOfGrammar (crypt_target crypt) = IsCryptOfGrammar crypt
 IsTargetOfGrammar (verity_target verity) = IsVerityOfGrammar verity
+IsTargetOfGrammar (unstriped_target line) = IsUnstripedOfGrammar line
 
 pub record IsLineOfGrammar (line : Line) : Type 0 where
   pub start : line.start < 2 ^ 64

@@ -7,6 +7,7 @@ pub mod Arguments
 pub mod Options
 pub mod Crypt
 pub mod Verity
+pub mod Unstriped
 pub mod Lines
 pub mod Grammar
 pub mod TableText

@@ -4,7 +4,7 @@ use Rattle.std.specs.Str.{bytes_eq}
 use Rattle.dm_table.specs.declared.table.Base.{Base}
 use Rattle.dm_table.specs.declared.table.Line.{Line}
 use Rattle.dm_table.specs.declared.table.Target.{Target}
-use Rattle.dm_table.specs.declared.table.Target.TheVariants.{Linear, Striped, Zero, Error, Crypt, Verity}
+use Rattle.dm_table.specs.declared.table.Target.TheVariants.{Linear, Striped, Zero, Error, Crypt, Verity, Unstriped}
 use Rattle.dm_table.specs.declared.fault.TextKind.TheVariants as kinds
 use Rattle.dm_table.specs.Words.{Word}
 use Rattle.dm_table.specs.Numbers.{number, number_if}
@@ -12,6 +12,7 @@ use Rattle.dm_table.specs.Reading.{Read, ◌>>=◌}
 use Rattle.dm_table.specs.Arguments.{number_at, base_at}
 use Rattle.dm_table.specs.Crypt.{crypt_at}
 use Rattle.dm_table.specs.Verity.{verity_at}
+use Rattle.dm_table.specs.Unstriped.{unstriped_at}
 
 -- exactly `<dev> <offset>`
 unfoldable pub linear_at : List Word → Read Target
@@ -65,6 +66,11 @@ verity_target_at words = do
   verity ← verity_at words
   Ok (Verity verity)
 
+unfoldable pub unstriped_target_at : List Word → Read Target
+unstriped_target_at words = do
+  line ← unstriped_at words
+  Ok (Unstriped line)
+
 -- the target of that type with those arguments
 unfoldable pub target_at : Word → List Word → Read Target
 target_at type arguments =
@@ -74,6 +80,7 @@ target_at type arguments =
     else if bytes_eq type (codes "error") then bare_at Error arguments
     else if bytes_eq type (codes "crypt") then crypt_target_at arguments
     else if bytes_eq type (codes "verity") then verity_target_at arguments
+    else if bytes_eq type (codes "unstriped") then unstriped_target_at arguments
     else Err kinds.Target
 
 -- `<start_sector> <num_sectors> <target_type> <target_args>`

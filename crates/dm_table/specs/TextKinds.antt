@@ -21,6 +21,7 @@ text_number kinds.Salt = 14
 text_number kinds.Option = 15
 text_number kinds.StripeCount = 16
 text_number kinds.ZeroChunk = 17
+text_number kinds.StripeNumber = 18
 
 abbrev pub text_name : TextKind → List ℕ
 text_name kinds.NotText = codes "NotText"
@@ -40,3 +41,4 @@ text_name kinds.Salt = codes "Salt"
 text_name kinds.Option = codes "Option"
 text_name kinds.StripeCount = codes "StripeCount"
 text_name kinds.ZeroChunk = codes "ZeroChunk"
+text_name kinds.StripeNumber = codes "StripeNumber"

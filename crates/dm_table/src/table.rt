@@ -3,6 +3,7 @@ ghost use Rattle.std.specs.Prelude.{◌≡◌, List, ℕ, ◌∷◌, [], ◌++�
 ghost use Rattle.dm_table.specs.Grammar.{IsTableOfGrammar};
 
 use crate::crypt::Crypt;
+use crate::unstriped::Unstriped;
 use crate::verity::Verity;
 use std::alloc::{AllocError, Global};
 use std::marker::Model;
@@ -128,6 +129,8 @@ pub enum Target {
     Crypt(Crypt),
     /// `verity`: blocks of one device, checked against a hash tree on another.
     Verity(Verity),
+    /// `unstriped`: one stripe of a striped device.
+    Unstriped(Unstriped),
 }
 
 impl Target {
@@ -144,6 +147,7 @@ impl Target {
             Target::Error => Target::Error,
             Target::Crypt(crypt) => Target::Crypt(crypt.try_clone(alloc)?),
             Target::Verity(verity) => Target::Verity(verity.try_clone(alloc)?),
+            Target::Unstriped(unstriped) => Target::Unstriped(unstriped.try_clone(alloc)?),
         })
     }
 }

@@ -8,7 +8,7 @@ ghost use Rattle.stack_rules.specs.Passing.{Mean};
 ghost use Rattle.stack_rules.specs.Rules.{ends_beyond, is_beyond, is_uncovered, is_tree_beyond};
 
 use dm_table::{Base, Line, Target};
-use stack_rules::{Leaf, Lower, Planned, data_sectors, tree_sectors, verity_of};
+use stack_rules::{Leaf, Lower, Planned, data_sectors, striped_end, tree_sectors, verity_of};
 use std::slice;
 
 // How many sectors a lower device has.
@@ -68,6 +68,9 @@ pub fn is_beyond(leaves: &[Leaf], devices: &[Planned<'_>], lowers: &[Lower], lin
             are_beyond(leaves, devices, lowers, base, line.length)
         }
         Target::Verity(verity) => size_of(leaves, devices, lowers[0]) < data_sectors(verity),
+        Target::Unstriped(unstriped) => {
+            size_of(leaves, devices, lowers[0]) < striped_end(unstriped, line.length)
+        }
     }
 }
 

@@ -23,6 +23,7 @@ pub(crate) fn name_count(target: &Target) -> usize
         Target::Zero | Target::Error => 0,
         Target::Crypt(_) => 1,
         Target::Verity(_) => 2,
+        Target::Unstriped(_) => 1,
     }
 }
 
@@ -43,6 +44,7 @@ fn name_at(target: &Target, i: usize) -> &[u8]
                 verity.hash.as_slice()
             }
         }
+        Target::Unstriped(unstriped) => unstriped.base.device.as_slice(),
     }
 }
 

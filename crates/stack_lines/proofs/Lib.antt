@@ -1,5 +1,6 @@
 pub mod lemmas
 pub mod StripeLemmas
+pub mod UnstripedLemmas
 pub mod RunEndLemmas
 pub mod CutLemmas
 pub mod UnitsAtOnceLemmas

@@ -37,6 +37,7 @@ fn name_count(target: &Target) -> u32
         Target::Striped { chunk: _, bases } => bases.as_slice().len() as u32,
         Target::Zero | Target::Error => 0,
         Target::Verity(_) => 2,
+        Target::Unstriped(_) => 1,
     }
 }
 

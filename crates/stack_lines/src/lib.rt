@@ -11,6 +11,7 @@ mod serve;
 mod source;
 pub mod tree;
 pub mod units;
+mod unstriped;
 
 pub use cache::Cache;
 pub use cuts::{Steps, lower_cuts};

@@ -8,6 +8,7 @@ ghost use Rattle.stack_lines.specs.Sources.{ComeFrom, HasTarget};
 ghost use Rattle.stack_lines.specs.Runs.{HasSectors, IsRunOfLine, IsRunAt};
 
 use crate::source::{BlockPart, Run, Source};
+use crate::unstriped::unstriped_run;
 use dm_table::{Base, Crypt, Line, Target, Verity};
 use stack_loader::{Config, DevId, unit_sectors};
 
@@ -152,6 +153,7 @@ fn line_run(config: &Config, d: DevId, number: u32, line: &Line, within: u64, co
             count,
         },
         Target::Verity(verity) => verity_run(config, d, number, verity, within, count),
+        Target::Unstriped(line) => unstriped_run(config, d, number, line, within, count),
     }
 }
 

@@ -1,6 +1,6 @@
 -- The record of a target: the one match on its kinds.
 use Rattle.dm_table.specs.declared.table.Target.{Target}
-use Rattle.dm_table.specs.declared.table.Target.TheVariants.{Linear, Striped, Zero, Error, Crypt, Verity}
+use Rattle.dm_table.specs.declared.table.Target.TheVariants.{Linear, Striped, Zero, Error, Crypt, Verity, Unstriped}
 use Rattle.stack_meaning.specs.TargetMeaning.{TargetMeaning}
 use Rattle.stack_meaning.specs.targets.Mapped.{mapped, whole, in_chunk}
 use Rattle.stack_meaning.specs.targets.Zero.{zero}
@@ -15,3 +15,4 @@ meaning_of Zero = zero
 meaning_of Error = error
 meaning_of (Crypt line) = crypt line
 meaning_of (Verity line) = verity line
+meaning_of (Unstriped line) = mapped (in_chunk line.chunk)

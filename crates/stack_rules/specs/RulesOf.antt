@@ -1,6 +1,6 @@
 -- The record of a target: the one match on its kinds.
 use Rattle.dm_table.specs.declared.table.Target.{Target}
-use Rattle.dm_table.specs.declared.table.Target.TheVariants.{Linear, Striped, Zero, Error, Crypt, Verity}
+use Rattle.dm_table.specs.declared.table.Target.TheVariants.{Linear, Striped, Zero, Error, Crypt, Verity, Unstriped}
 use Rattle.stack_rules.specs.TargetRules.{TargetRules}
 use Rattle.stack_rules.specs.targets.Linear.{linear}
 use Rattle.stack_rules.specs.targets.Striped.{striped}
@@ -8,6 +8,7 @@ use Rattle.stack_rules.specs.targets.Zero.{zero}
 use Rattle.stack_rules.specs.targets.Error.{error}
 use Rattle.stack_rules.specs.targets.Crypt.{crypt}
 use Rattle.stack_rules.specs.targets.Verity.{verity}
+use Rattle.stack_rules.specs.targets.Unstriped.{unstriped}
 
 abbrev pub rules_of : Target → TargetRules
 rules_of (Linear base) = linear base
@@ -16,3 +17,4 @@ rules_of Zero = zero
 rules_of Error = error
 rules_of (Crypt line) = crypt line
 rules_of (Verity line) = verity line
+rules_of (Unstriped line) = unstriped line

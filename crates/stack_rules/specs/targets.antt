@@ -5,3 +5,4 @@ pub mod Zero
 pub mod Error
 pub mod Crypt
 pub mod Verity
+pub mod Unstriped

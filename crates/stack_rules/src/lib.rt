@@ -9,6 +9,7 @@ mod planned;
 mod refusal;
 mod tree;
 mod units;
+mod unstriped;
 
 pub use leaf::Leaf;
 pub use lower::{DevId, Lower};
@@ -18,3 +19,4 @@ pub use planned::Planned;
 pub use refusal::{ConfigFault, LoadFault, LoadKind, Refusal, RemoveFault};
 pub use tree::{block_sectors, data_sectors, path_sectors, tree_sectors, verity_of};
 pub use units::{crypt_of, unit_sectors};
+pub use unstriped::striped_end;

@@ -7,7 +7,7 @@ use Rattle.hex.specs.Hex.{IsBytes, encode_lower, encode_with}
 use Rattle.dm_table.specs.declared.crypt.Crypt.{Crypt}
 use Rattle.dm_table.specs.declared.table.Line.{Line}
 use Rattle.dm_table.specs.declared.table.Target.{Target}
-use Rattle.dm_table.specs.declared.table.Target.TheVariants.{Linear, Striped, Zero, Error, Crypt as crypt_target, Verity as verity_target}
+use Rattle.dm_table.specs.declared.table.Target.TheVariants.{Linear, Striped, Zero, Error, Crypt as crypt_target, Verity as verity_target, Unstriped}
 use Rattle.dm_table.specs.Grammar.{IsCryptOfGrammar, IsTargetOfGrammar, IsLineOfGrammar, IsTableOfGrammar}
 use Rattle.table_printer.specs.ArgumentWords.{crypt_words}
 use Rattle.dm_table.specs.TableText.{table_of}
@@ -45,6 +45,7 @@ target-without_key Zero h = h
 target-without_key Error h = h
 target-without_key (crypt_target crypt) h = crypt-without_key crypt h
 target-without_key (verity_target verity) h = h
+target-without_key (Unstriped line) h = h
 
 lines-without_key : (lines : List Line) → All IsLineOfGrammar lines → All IsLineOfGrammar (map line_without_key lines)
 lines-without_key [] h = h
@@ -63,6 +64,7 @@ target_words-hidden Zero = refl
 target_words-hidden Error = refl
 target_words-hidden (crypt_target crypt) = rw (digits-zeros (length crypt.key)) refl
 target_words-hidden (verity_target verity) = refl
+target_words-hidden (Unstriped line) = refl
 
 line_text-hidden : (line : Line) → line_text false line ≡ line_text true (line_without_key line)
 unfolding line_text

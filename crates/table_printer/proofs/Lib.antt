@@ -5,6 +5,7 @@ pub mod PrintedBytesLemmas
 pub mod PrintedOptionLemmas
 pub mod PrintedCryptLemmas
 pub mod PrintedVerityLemmas
+pub mod PrintedUnstripedLemmas
 pub mod RoundTripLemmas
 pub mod HiddenKeyLemmas
 mod WorkedPrintLemmas

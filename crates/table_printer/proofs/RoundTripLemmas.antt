@@ -9,21 +9,24 @@ use Rattle.std.proofs.lemmas.List.Splits.{slice_split_at, slice_split_none}
 use Rattle.dm_table.specs.declared.table.Base.{Base}
 use Rattle.dm_table.specs.declared.table.Line.{Line}
 use Rattle.dm_table.specs.declared.table.Target.{Target}
-use Rattle.dm_table.specs.declared.table.Target.TheVariants.{Linear, Striped, Zero, Error, Crypt, Verity}
+use Rattle.dm_table.specs.declared.table.Target.TheVariants.{Linear, Striped, Zero, Error, Crypt, Verity, Unstriped}
 use Rattle.dm_table.specs.declared.fault.TextKind.TheVariants as kinds
 use Rattle.dm_table.specs.Words.{Word, is_white, is_graphic, words, lines_of}
 use Rattle.dm_table.specs.Numbers.{number_if}
 use Rattle.dm_table.specs.Reading.{◌>>=◌, at_place}
-use Rattle.dm_table.specs.Lines.{linear_at, bases_at, stripes_at, chunk_at, bare_at, crypt_target_at, verity_target_at, target_at, line_of}
+use Rattle.dm_table.specs.Lines.{linear_at, bases_at, stripes_at, chunk_at, bare_at, crypt_target_at, verity_target_at, unstriped_target_at, target_at, line_of}
 use Rattle.dm_table.specs.Grammar.{IsBaseOfGrammar, IsTargetOfGrammar, IsLineOfGrammar, IsTableOfGrammar}
 use Rattle.dm_table.specs.TableText.{is_skipped, table_lines, some_lines, table_of}
 use Rattle.table_printer.specs.ArgumentWords.{crypt_words, verity_words}
+use Rattle.table_printer.specs.Unstriped.{unstriped_words}
 use Rattle.table_printer.specs.Print.{base_words, target_words, line_words, line_text, table_text}
 use Rattle.dm_table.proofs.lemmas.ReadLineLemmas.{striped-bases, target-linear, target-striped, target-zero, target-error, target-crypt, target-verity, line-target}
 use Rattle.dm_table.proofs.lemmas.ReadLineLemmas.{table-lines, table_lines-full, some_lines-some}
 use Rattle.table_printer.proofs.PrintedLemmas.{ArePrinted, words-joined, text-joined, one_line-joined, printed-decimal, number-decimal, number_at-decimal, digit-no_comment, printed-device, base_at-printed}
 use Rattle.table_printer.proofs.PrintedCryptLemmas.{crypt-printed, printed-crypt}
 use Rattle.table_printer.proofs.PrintedVerityLemmas.{verity-printed, printed-verity}
+use Rattle.dm_table.proofs.lemmas.UnstripedLineLemmas.{target-unstriped}
+use Rattle.table_printer.proofs.PrintedUnstripedLemmas.{unstriped-printed, printed-unstriped}
 
 -- targets
 bases_at-printed : (bases : List Base) → All IsBaseOfGrammar bases → bases_at (flat_map base_words bases) ≡ Ok bases
@@ -53,6 +56,7 @@ printed-target Zero h = ((omega arith, refl), tt)
 printed-target Error h = ((omega arith, refl), tt)
 printed-target (Crypt crypt) h = printed-crypt crypt h
 printed-target (Verity verity) h = printed-verity verity h
+printed-target (Unstriped line) h = printed-unstriped line h
 
 stripes_at-printed : (n : ℕ) → 1 ≤ n → n ≤ 16 → stripes_at (decimal n) ≡ Ok n
 stripes_at-printed n low high =
@@ -70,7 +74,7 @@ ReadsLine start count target [] = ⊥
 ReadsLine start count target (type ∷ arguments) = target_at type arguments ≡ Ok target
 
 target-printed : (start count : ℕ) (target : Target) → IsTargetOfGrammar target → ReadsLine start count target (target_words true target)
-unfolding target_words linear_at bare_at crypt_target_at verity_target_at
+unfolding target_words linear_at bare_at crypt_target_at verity_target_at unstriped_target_at
 target-printed start count (Linear base) h =
     target-linear (codes "linear") (base.device ∷ decimal base.offset ∷ []) refl
     ∙ ap (λ r. r >>= (λ base. Ok (Linear base))) (base_at-printed base h)
@@ -85,6 +89,8 @@ target-printed start count (Crypt crypt) h =
     target-crypt (codes "crypt") (crypt_words true crypt) refl refl refl refl refl ∙ ap (λ r. r >>= (λ crypt. Ok (Crypt crypt))) (crypt-printed crypt h)
 target-printed start count (Verity verity) h =
     target-verity (codes "verity") (verity_words verity) refl refl refl refl refl refl ∙ ap (λ r. r >>= (λ verity. Ok (Verity verity))) (verity-printed verity h)
+target-printed start count (Unstriped line) h =
+    target-unstriped (codes "unstriped") (unstriped_words line) refl refl refl refl refl refl refl ∙ ap (λ r. r >>= (λ line. Ok (Unstriped line))) (unstriped-printed line h)
 
 line-from_target : (start count : ℕ) (target : Target) (tail : List Word) → start < 2 ^ 64 → count < 2 ^ 64 → ReadsLine start count target tail
     → line_of (decimal start ∷ decimal count ∷ tail) ≡ Ok (record { start = start; length = count; target = target })

@@ -1,3 +1,4 @@
 pub mod ArgumentWords
+pub mod Unstriped
 pub mod Print
 pub mod Keys

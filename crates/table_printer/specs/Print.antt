@@ -4,9 +4,10 @@ use Rattle.std.specs.List.{join_with_byte}
 use Rattle.dm_table.specs.declared.table.Base.{Base}
 use Rattle.dm_table.specs.declared.table.Line.{Line}
 use Rattle.dm_table.specs.declared.table.Target.{Target}
-use Rattle.dm_table.specs.declared.table.Target.TheVariants.{Linear, Striped, Zero, Error, Crypt, Verity}
+use Rattle.dm_table.specs.declared.table.Target.TheVariants.{Linear, Striped, Zero, Error, Crypt, Verity, Unstriped}
 use Rattle.dm_table.specs.Words.{Word}
 use Rattle.table_printer.specs.ArgumentWords.{crypt_words, verity_words}
+use Rattle.table_printer.specs.Unstriped.{unstriped_words}
 
 abbrev pub base_words : Base → List Word
 base_words base = base.device ∷ decimal base.offset ∷ []
@@ -19,6 +20,7 @@ target_words show Zero = codes "zero" ∷ []
 target_words show Error = codes "error" ∷ []
 target_words show (Crypt crypt) = codes "crypt" ∷ crypt_words show crypt
 target_words show (Verity verity) = codes "verity" ∷ verity_words verity
+target_words show (Unstriped line) = codes "unstriped" ∷ unstriped_words line
 
 abbrev pub line_words : Bool → Line → List Word
 line_words show line = decimal line.start ∷ decimal line.length ∷ target_words show line.target

@@ -5,6 +5,7 @@ mod digits;
 mod print;
 mod print_crypt;
 mod print_options;
+mod print_unstriped;
 mod print_verity;
 
 pub use crate::print::print_table;

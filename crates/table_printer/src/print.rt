@@ -5,6 +5,7 @@ ghost use Rattle.dm_table.specs.TableText.{table_of};
 ghost use Rattle.table_printer.specs.Print.{base_words, line_text, spaced_word, table_text, target_words};
 
 use crate::print_crypt::print_crypt;
+use crate::print_unstriped::print_unstriped;
 use crate::print_verity::print_verity;
 use dm_table::{Base, Line, Table, Target};
 use itoa::Buffer;
@@ -49,6 +50,7 @@ fn print_target(text: &mut Vec<u8>, target: &Target, show_keys: bool) -> Result<
         Target::Error => push_spaced(text, b"error"),
         Target::Crypt(crypt) => print_crypt(text, crypt, show_keys),
         Target::Verity(verity) => print_verity(text, verity),
+        Target::Unstriped(line) => print_unstriped(text, line),
     }
 }
 

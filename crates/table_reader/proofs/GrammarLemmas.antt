@@ -15,7 +15,7 @@ use Rattle.dm_table.specs.Numbers.{number}
 use Rattle.dm_table.specs.Names.{is_mapped_name}
 use Rattle.dm_table.specs.Reading.{Read, ◌>>=◌, at_place}
 use Rattle.dm_table.specs.Arguments.{number_at, base_at}
-use Rattle.dm_table.specs.Lines.{linear_at, bases_at, stripes_at, chunk_at, pairs_at, striped_at, bare_at, crypt_target_at, verity_target_at, target_at, line_of}
+use Rattle.dm_table.specs.Lines.{linear_at, bases_at, stripes_at, chunk_at, pairs_at, striped_at, bare_at, crypt_target_at, verity_target_at, unstriped_target_at, target_at, line_of}
 use Rattle.dm_table.specs.Crypt.{crypt_at}
 use Rattle.dm_table.specs.Verity.{verity_at}
 use Rattle.dm_table.specs.Grammar.{IsBaseOfGrammar, IsTargetOfGrammar, IsLineOfGrammar, IsTableOfGrammar}
@@ -24,6 +24,7 @@ use Rattle.dm_table.specs.StackText.{name_at, minor_at, flags_at, entry_lines, H
 use Rattle.table_reader.proofs.ReadValueLemmas.{bind_ok, ok_same, ok_or_ok, chosen, number-fits, number_at-fits, number_if-some, base-grammar}
 use Rattle.table_reader.proofs.CryptLemmas.{crypt-grammar}
 use Rattle.table_reader.proofs.VerityLemmas.{verity-grammar}
+use Rattle.table_reader.proofs.UnstripedLemmas.{unstriped-grammar}
 
 linear-grammar : (arguments : List Word) (target : Target) → linear_at arguments ≡ Ok target → IsTargetOfGrammar target
 unfolding linear_at
@@ -100,7 +101,8 @@ target-grammar type arguments target e =
     (either IsTargetOfGrammar target (bytes_eq type (codes "zero")) (bare_at Zero arguments) _ (bare-grammar Zero arguments target tt)
     (either IsTargetOfGrammar target (bytes_eq type (codes "error")) (bare_at Error arguments) _ (bare-grammar Error arguments target tt)
     (either IsTargetOfGrammar target (bytes_eq type (codes "crypt")) (crypt_target_at arguments) _ (crypt_target-grammar arguments target)
-    (either IsTargetOfGrammar target (bytes_eq type (codes "verity")) (verity_target_at arguments) (Err kinds.Target) (verity_target-grammar arguments target) (λ h. cc)))))) e
+    (either IsTargetOfGrammar target (bytes_eq type (codes "verity")) (verity_target_at arguments) _ (verity_target-grammar arguments target)
+    (either IsTargetOfGrammar target (bytes_eq type (codes "unstriped")) (unstriped_target_at arguments) (Err kinds.Target) (unstriped-grammar arguments target) (λ h. cc))))))) e
 
 pub line-grammar : (ws : List Word) (line : Line) → line_of ws ≡ Ok line → IsLineOfGrammar line
 unfolding line_of

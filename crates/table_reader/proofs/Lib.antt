@@ -9,3 +9,4 @@ pub mod BytesLemmas
 pub mod OptionLemmas
 pub mod CryptLemmas
 pub mod VerityLemmas
+pub mod UnstripedLemmas

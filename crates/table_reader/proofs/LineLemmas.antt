@@ -40,6 +40,6 @@ line-length start count type arguments n kind e f =
     ap (λ r. r >>= (λ first. number_at count >>= (λ sectors. target_at type arguments >>= (λ target. Ok (record { start = first; length = sectors; target = target }))))) e
     ∙ ap (λ r. r >>= (λ sectors. target_at type arguments >>= (λ target. Ok (record { start = n; length = sectors; target = target })))) f
 
-pub target-other : (type : Word) (arguments : List Word) → bytes_eq type (codes "linear") ≡ false → bytes_eq type (codes "striped") ≡ false → bytes_eq type (codes "zero") ≡ false → bytes_eq type (codes "error") ≡ false → bytes_eq type (codes "crypt") ≡ false → bytes_eq type (codes "verity") ≡ false → target_at type arguments ≡ Err kinds.Target
+pub target-other : (type : Word) (arguments : List Word) → bytes_eq type (codes "linear") ≡ false → bytes_eq type (codes "striped") ≡ false → bytes_eq type (codes "zero") ≡ false → bytes_eq type (codes "error") ≡ false → bytes_eq type (codes "crypt") ≡ false → bytes_eq type (codes "verity") ≡ false → bytes_eq type (codes "unstriped") ≡ false → target_at type arguments ≡ Err kinds.Target
 unfolding target_at
-target-other type arguments linear striped zeros errors crypt verity = cond-false _ _ _ linear ∙ cond-false _ _ _ striped ∙ cond-false _ _ _ zeros ∙ cond-false _ _ _ errors ∙ cond-false _ _ _ crypt ∙ cond-false _ _ _ verity
+target-other type arguments linear striped zeros errors crypt verity unstriped = cond-false _ _ _ linear ∙ cond-false _ _ _ striped ∙ cond-false _ _ _ zeros ∙ cond-false _ _ _ errors ∙ cond-false _ _ _ crypt ∙ cond-false _ _ _ verity ∙ cond-false _ _ _ unstriped

@@ -11,6 +11,7 @@ mod option_words;
 mod stack_text;
 mod table_text;
 mod target;
+mod unstriped_arguments;
 mod verity_arguments;
 
 pub use crate::cut::{Words, white_len, word_len};

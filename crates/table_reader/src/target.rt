@@ -8,6 +8,7 @@ use crate::crypt_arguments::read_crypt;
 use crate::cut::Words;
 use crate::line_fault::LineFault;
 use crate::numbers::number;
+use crate::unstriped_arguments::read_unstriped;
 use crate::verity_arguments::read_verity;
 use dm_table::{Base, Bases, Name, Target, TextKind, is_device};
 use std::alloc::Global;
@@ -32,6 +33,8 @@ pub(crate) fn read_target(
         Ok(Target::Crypt(read_crypt(alloc, arguments)?))
     } else if kind == b"verity".as_slice() {
         Ok(Target::Verity(read_verity(alloc, arguments)?))
+    } else if kind == b"unstriped".as_slice() {
+        read_unstriped(alloc, arguments)
     } else {
         Err(LineFault::Kind(TextKind::Target))
     }

@@ -1,12 +1,13 @@
 -- The laws of a target: the one match on its kinds.
 use Rattle.dm_table.specs.declared.table.Target.{Target}
-use Rattle.dm_table.specs.declared.table.Target.TheVariants.{Linear, Striped, Zero, Error, Crypt, Verity}
+use Rattle.dm_table.specs.declared.table.Target.TheVariants.{Linear, Striped, Zero, Error, Crypt, Verity, Unstriped}
 use Rattle.stack_rules.specs.RulesOf.{rules_of}
 use Rattle.stack_rules.proofs.lemmas.TargetLaws.{TargetLaws, bare-laws}
 use Rattle.stack_rules.proofs.lemmas.targets.Linear.{linear-laws}
 use Rattle.stack_rules.proofs.lemmas.targets.Striped.{striped-laws}
 use Rattle.stack_rules.proofs.lemmas.targets.Crypt.{crypt-laws}
 use Rattle.stack_rules.proofs.lemmas.targets.Verity.{verity-laws}
+use Rattle.stack_rules.proofs.lemmas.targets.Unstriped.{unstriped-laws}
 
 pub rules-laws : (target : Target) → TargetLaws (rules_of target)
 rules-laws (Linear base) = linear-laws base
@@ -15,3 +16,4 @@ rules-laws Zero = bare-laws
 rules-laws Error = bare-laws
 rules-laws (Crypt line) = crypt-laws line
 rules-laws (Verity line) = verity-laws line
+rules-laws (Unstriped line) = unstriped-laws line

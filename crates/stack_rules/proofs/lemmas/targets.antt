@@ -3,3 +3,4 @@ pub mod Linear
 pub mod Striped
 pub mod Crypt
 pub mod Verity
+pub mod Unstriped

@@ -24,3 +24,7 @@ returns-in-Crypt c = rw c.in-Crypt.is c.print_crypt.ensures
 pub returns-in-Verity : goal.returns-in-Verity
 unfolding target_words
 returns-in-Verity c = rw c.in-Verity.is c.print_verity.ensures
+
+pub returns-in-Unstriped : goal.returns-in-Unstriped
+unfolding target_words
+returns-in-Unstriped c = rw c.in-Unstriped.is c.print_unstriped.ensures

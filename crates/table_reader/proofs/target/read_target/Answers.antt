@@ -5,6 +5,7 @@ use Rattle.dm_table.specs.Reading.{◌>>=◌}
 use Rattle.dm_table.specs.Lines.{crypt_target_at, verity_target_at}
 use Rattle.table_reader.proofs.ReadLemmas.{exit_part}
 use Rattle.dm_table.proofs.lemmas.ReadLineLemmas.{target-linear, target-striped, target-zero, target-error, target-crypt, target-verity}
+use Rattle.dm_table.proofs.lemmas.UnstripedLineLemmas.{target-unstriped}
 use Rattle.table_reader.proofs.LineLemmas.{target-other}
 use Rattle.table_reader.proofs.target.read_target.Goals as goal
 
@@ -86,8 +87,8 @@ returns-in_ok-read_verity c =
     let verity : bytes_eq type (codes "verity") ≡ true = sym (c.eq-else-eq-5.ensures ∙ ap (bytes_eq type) c.as_slice-else-eq-5.ensures) ∙ c.if-eq-6.true in
     target-verity type c.args.arguments linear striped zeros errors crypt verity ∙ ap (λ r. r >>= (λ verity. Ok (Verity verity))) c.in_ok-read_verity.ensures
 
-pub returns-else-eq-6 : goal.returns-else-eq-6
-returns-else-eq-6 c =
+pub returns-then-eq-7 : goal.returns-then-eq-7
+returns-then-eq-7 c =
     let type = c.args.kind.now in
     let linear : bytes_eq type (codes "linear") ≡ false = sym (c.eq.ensures ∙ ap (bytes_eq type) c.as_slice.ensures) ∙ c.if-eq.false in
     let striped : bytes_eq type (codes "striped") ≡ false = sym (c.eq-else-eq.ensures ∙ ap (bytes_eq type) c.as_slice-else-eq.ensures) ∙ c.if-eq-2.false in
@@ -95,4 +96,17 @@ returns-else-eq-6 c =
     let errors : bytes_eq type (codes "error") ≡ false = sym (c.eq-else-eq-3.ensures ∙ ap (bytes_eq type) c.as_slice-else-eq-3.ensures) ∙ c.if-eq-4.false in
     let crypt : bytes_eq type (codes "crypt") ≡ false = sym (c.eq-else-eq-4.ensures ∙ ap (bytes_eq type) c.as_slice-else-eq-4.ensures) ∙ c.if-eq-5.false in
     let verity : bytes_eq type (codes "verity") ≡ false = sym (c.eq-else-eq-5.ensures ∙ ap (bytes_eq type) c.as_slice-else-eq-5.ensures) ∙ c.if-eq-6.false in
-    target-other type c.args.arguments linear striped zeros errors crypt verity
+    let unstriped : bytes_eq type (codes "unstriped") ≡ true = sym (c.eq-else-eq-6.ensures ∙ ap (bytes_eq type) c.as_slice-else-eq-6.ensures) ∙ c.if-eq-7.true in
+    rw (target-unstriped type c.args.arguments linear striped zeros errors crypt verity unstriped) c.read_unstriped.ensures
+
+pub returns-else-eq-7 : goal.returns-else-eq-7
+returns-else-eq-7 c =
+    let type = c.args.kind.now in
+    let linear : bytes_eq type (codes "linear") ≡ false = sym (c.eq.ensures ∙ ap (bytes_eq type) c.as_slice.ensures) ∙ c.if-eq.false in
+    let striped : bytes_eq type (codes "striped") ≡ false = sym (c.eq-else-eq.ensures ∙ ap (bytes_eq type) c.as_slice-else-eq.ensures) ∙ c.if-eq-2.false in
+    let zeros : bytes_eq type (codes "zero") ≡ false = sym (c.eq-else-eq-2.ensures ∙ ap (bytes_eq type) c.as_slice-else-eq-2.ensures) ∙ c.if-eq-3.false in
+    let errors : bytes_eq type (codes "error") ≡ false = sym (c.eq-else-eq-3.ensures ∙ ap (bytes_eq type) c.as_slice-else-eq-3.ensures) ∙ c.if-eq-4.false in
+    let crypt : bytes_eq type (codes "crypt") ≡ false = sym (c.eq-else-eq-4.ensures ∙ ap (bytes_eq type) c.as_slice-else-eq-4.ensures) ∙ c.if-eq-5.false in
+    let verity : bytes_eq type (codes "verity") ≡ false = sym (c.eq-else-eq-5.ensures ∙ ap (bytes_eq type) c.as_slice-else-eq-5.ensures) ∙ c.if-eq-6.false in
+    let unstriped : bytes_eq type (codes "unstriped") ≡ false = sym (c.eq-else-eq-6.ensures ∙ ap (bytes_eq type) c.as_slice-else-eq-6.ensures) ∙ c.if-eq-7.false in
+    target-other type c.args.arguments linear striped zeros errors crypt verity unstriped

@@ -1,0 +1,32 @@
+//! The arguments of an `unstriped` line.
+ghost use Rattle.std.specs.Prelude.{◌≡◌, IfOk};
+
+use crate::table::Base;
+use std::alloc::{AllocError, Global};
+
+/// One stripe of a striped device: its chunks, side by side.
+#[derive(Drop)]
+pub struct Unstriped {
+    /// How many stripes there are, at least 1.
+    pub stripes: u32,
+    /// In sectors, at least 1.
+    pub chunk: u32,
+    /// The stripe, from 0.
+    pub stripe: u32,
+    /// The striped device, from its offset on.
+    pub base: Base,
+}
+
+impl Unstriped {
+    pub(crate) fn try_clone(&self, alloc: Global) -> Result<Unstriped, AllocError>
+        ensures { IfOk result (λ unstriped. unstriped ≡ self.now) }
+    {
+        let base = self.base.try_clone(alloc)?;
+        Ok(Unstriped {
+            stripes: self.stripes,
+            chunk: self.chunk,
+            stripe: self.stripe,
+            base,
+        })
+    }
+}

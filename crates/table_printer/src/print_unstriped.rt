@@ -1,0 +1,22 @@
+//! The arguments of an `unstriped` line, printed.
+ghost use Rattle.std.specs.Prelude.{◌≡◌, ◌∷◌, ◌++◌, OnOk, codes, flat_map};
+ghost use Rattle.table_printer.specs.Unstriped.{unstriped_words};
+ghost use Rattle.table_printer.specs.Print.{spaced_word};
+
+use crate::print::{print_base, push_spaced, push_spaced_number};
+use dm_table::Unstriped;
+use std::alloc::AllocError;
+
+/// Prints the target of an `unstriped` line.
+pub(crate) fn print_unstriped(text: &mut Vec<u8>, line: &Unstriped) -> Result<(), AllocError>
+    ensures { OnOk result
+        (text.new.items ≡ text.old.items
+        ++ flat_map spaced_word (codes "unstriped" ∷ unstriped_words line.now)) }
+{
+    push_spaced(text, b"unstriped")?;
+    push_spaced_number(text, u64::from(line.stripes))?;
+    push_spaced_number(text, u64::from(line.chunk))?;
+    push_spaced_number(text, u64::from(line.stripe))?;
+    print_base(text, &line.base)?;
+    Ok(())
+}
