@@ -1,71 +1,30 @@
 #!/usr/bin/env python3
-"""Checks docs/CALLS.md, the table of all public calls of the libraries, against their sources.
+"""Makes and checks docs/CALLS.md, the table of the public calls of the libraries that can refuse.
 
-    calls.py            checks every row
-    calls.py --missing  prints the rows that are missing, for the table
+    calls.py          checks the page
+    calls.py --write  writes it anew from the sources: what people wrote in the last two cells of a row stays, and a new row
+                      has a draft of them
 
-Each public call has a row, and each row a call: a row names the call's file, its refusals as the signature has them, and the
-clauses and tests that say when each comes and what it leaves. The files, clauses and tests stand there. A function of a
-public module is named behind the module. One of a module `laws` does nothing, and has no row. No call has a handle by which
-it might not return.
+Each public call that can refuse has a row, and each row a call. The script makes of each the call's file and its refusals as the
+signature has them; people say in two cells which clauses and tests show when each comes and what it leaves. The files, clauses
+and tests stand there. Of the others those with a `&mut` are named in a line. A function of a public module is named behind the
+module. One of a module `laws` does nothing, and has no row. No call has a handle by which it might not return.
 """
-import glob
 import os
 import re
 import sys
-from dataclasses import dataclass, field
 
-TOP = os.path.dirname(os.path.dirname(os.path.realpath(__file__)))
+sys.dont_write_bytecode = True
+from sources import TOP, files_of, functions, libraries, text_of
+
 TABLE = "docs/CALLS.md"
-CLAUSE = re.compile(r"\s*ensures\*? (?:(\w+) )?\{")
-FUNCTION = re.compile(r"( *)(pub )?fn (\w+)")
-OWNER = re.compile(r"(?:pub )?(impl|trait)(?:<[^{]*?>)? (?:.* for )?(\w+)")
-
-
-@dataclass
-class Call:
-    """A public function: its file, its signature in one line, and its clauses (an unnamed one is the empty name)."""
-
-    file: str
-    name: str
-    signature: str = ""
-    clauses: list = field(default_factory=list)
-
-    def refusals(self):
-        """What it answers where it refuses, as the signature has it."""
-        answer = self.signature.rsplit("->", 1)[1].strip() if "->" in self.signature else ""
-        if answer.startswith("Option<"):
-            return "None"
-        made = re.fullmatch(r"(io::)?Result<(.*)>", answer)
-        if not made:
-            return "none"
-        return "io::Error" if made[1] else parts_of(made[2])[1]
-
-    def may_change(self):
-        return re.search(r"&('\w+ )?mut\b", self.signature.rsplit("->", 1)[0]) is not None
-
-
-def parts_of(text):
-    """The parts of a list of types, cut at the commas that stand in no brackets."""
-    parts, depth = [""], 0
-    for letter in text:
-        depth += (letter in "<([") - (letter in ">)]")
-        if letter == "," and depth == 0:
-            parts.append("")
-        else:
-            parts[-1] += letter
-    return [it.strip() for it in parts]
-
-
-def text_of(path):
-    with open(f"{TOP}/{path}", encoding="utf-8") as it:
-        return it.read()
+HEAD = "| call | its refusals | when each comes | what is left then |\n| --- | --- | --- | --- |\n"
 
 
 def exported(crate):
     """The module of each name that the crate exports."""
     found = {}
-    text = text_of(f"{crate}/src/lib.rt")
+    text = text_of(f"crates/{crate}/src/lib.rt")
     for path, names, name in re.findall(r"^pub use (?:crate::)?(\w+)::(?:\{([^}]*)\}|(\w+));", text, re.M):
         for it in [*names.split(","), name]:
             if it.strip():
@@ -75,54 +34,20 @@ def exported(crate):
 
 def open_modules(crate):
     """The modules whose public functions are called by the module's name."""
-    return set(re.findall(r"^pub mod (\w+);", text_of(f"{crate}/src/lib.rt"), re.M)) - {"laws"}
-
-
-def functions(path):
-    """The functions of a file that may be public: their owner's kind and name, whether they are `pub`, and the call."""
-    kind, owner, call, is_head = "", "", None, False
-    for line in text_of(path).split("\n"):
-        opened = OWNER.match(line)
-        if opened and line.endswith("{"):
-            kind, owner = opened.groups() if " for " not in line else ("", "")
-        elif line == "}":
-            kind, owner = "", ""
-        elif line == "mod tests {":
-            return
-        found = FUNCTION.match(line)
-        if found and len(found[1]) in (0, 4):
-            call = Call(path, found[3])
-            where = (kind, owner) if found[1] else ("", "")
-            is_head = True
-            yield *where, bool(found[2]), call
-        if call is None:
-            continue
-        clause = CLAUSE.match(line)
-        if clause:
-            call.clauses.append(clause[1] or "")
-            is_head = False
-        elif re.match(r"\s*(requires|ensures)\b", line):
-            is_head = False
-        elif is_head:
-            call.signature += " " + line.strip().removesuffix("{").removesuffix(";")
-        if line.strip() in ("{", "}") or line.endswith((" {", ";")):
-            is_head = False
-            if line.strip() == "{" or line.endswith(" {"):
-                call = None
+    return set(re.findall(r"^pub mod (\w+);", text_of(f"crates/{crate}/src/lib.rt"), re.M)) - {"laws"}
 
 
 def calls_of(crate):
     """The public calls of a crate, by their names."""
     names, modules, found = exported(crate), open_modules(crate), {}
-    for file in sorted(glob.glob(f"{TOP}/{crate}/src/**/*.rt", recursive=True)):
-        path = os.path.relpath(file, TOP)
+    for path in files_of(crate):
         module = re.sub(r".*/src/|\.rt$", "", path)
-        for kind, owner, is_public, call in functions(path):
-            if owner and owner in names and (is_public or kind == "trait"):
-                found[f"{owner}::{call.name}"] = call
-            elif not owner and is_public and names.get(call.name) == module:
+        for call in functions(path):
+            if call.owner in names and call.is_public() and call.kind != "for":
+                found[f"{call.owner}::{call.name}"] = call
+            elif not call.owner and call.is_pub and names.get(call.name) == module:
                 found[call.name] = call
-            elif not owner and is_public and module in modules:
+            elif not call.owner and call.is_pub and module in modules:
                 found[f"{module}::{call.name}"] = call
     return found
 
@@ -154,65 +79,72 @@ def faults_of_evidence(call, cell):
     return faults
 
 
-def faults_of_row(call, path, refusals, evidence):
+def faults_of_call(call, cells):
+    """What is wrong with a call, whose cells those of its row are where it can refuse."""
     faults = []
-    if path != call.file:
-        faults.append(f"it stands in {call.file}")
     if re.search(r"\b(Abort|Wait|Threads|Net|Processes)\b", call.signature):
         faults.append("by a handle it may not return")
-    if refusals != call.refusals():
-        faults.append(f"its refusals are `{call.refusals()}`")
-    if refusals == "none":
-        return faults + ["it refuses nothing"] * any(evidence)
-    for cell in evidence:
+    for cell in cells if call.refusals() != "none" else []:
         faults += faults_of_evidence(call, cell)
     return faults
 
 
-def rows():
-    """The rows of the table: crate, call, file, refusals, and the cells behind these."""
-    crate = ""
-    for line in text_of(TABLE).split("\n"):
+def cells_of(page):
+    """What people wrote of each call, by its crate and name."""
+    crate, cells = "", {}
+    for line in page.split("\n"):
         if line.startswith("## "):
             crate = line.removeprefix("## ").strip("`")
-        made = re.match(r"\| \[`([^`]*)`\]\(\.\./([^)]*)\) \| (?:`([^`]*)`|(none)) \|(.*)\|$", line)
+        made = re.match(r"\| \[`([^`]*)`\]\([^)]*\) \| `[^`]*` \|(.*)\|(.*)\|$", line)
         if made:
-            yield crate, made[1], made[2], made[3] or made[4], [it.strip() for it in made[5].split("|")]
-        elif line.startswith("| [") or line.startswith("| `"):
-            yield crate, "", line, "", []
+            cells[crate, made[1]] = made[2].strip(), made[3].strip()
+    return cells
 
 
-def draft(name, call):
-    if call.refusals() == "none":
-        return f"| [`{name}`](../{call.file}) | none | | |"
-    return f"| [`{name}`](../{call.file}) | `{call.refusals()}` | {' '.join(call.clauses)} | {'' if call.may_change() else 'no `&mut`'} |"
+def draft(call):
+    return " ".join(f"`{it}`" if it else "its clause" for it in call.clauses), "" if call.may_change() else "no `&mut`"
+
+
+def section(crate, calls, cells):
+    """What the page says of a crate, or nothing where there is nothing to say."""
+    rows, others = [], []
+    for name, call in calls.items():
+        if call.refusals() != "none":
+            when, left = cells.get((crate, name)) or draft(call)
+            rows.append(f"| [`{name}`](../{call.file}) | `{call.refusals()}` | {when} | {left} |\n")
+        elif call.may_change():
+            others.append(f"`{name}`")
+    text = HEAD + "".join(rows) if rows else ""
+    text += "\n" * bool(rows and others) + (f"Without a refusal, on a `&mut`: {', '.join(others)}.\n" if others else "")
+    return f"\n## {crate}\n\n{text}" if text else ""
 
 
 def main():
-    crates = [os.path.dirname(os.path.dirname(it)) for it in sorted(glob.glob(f"{TOP}/crates/*/src/lib.rt"))]
-    calls = {os.path.basename(it): calls_of(os.path.relpath(it, TOP)) for it in crates}
-    passed, failed, seen = 0, 0, set()
-    is_draft = sys.argv[1:] == ["--missing"]
-    for crate, name, path, refusals, evidence in rows():
-        call = calls.get(crate, {}).get(name)
-        faults = ["no row of this form, or no such call"] if call is None else faults_of_row(call, path, refusals, evidence)
-        if (crate, name) in seen:
-            faults.append("a second row")
-        seen.add((crate, name))
-        passed, failed = passed + (not faults), failed + bool(faults)
-        for it in [] if is_draft else faults:
-            print(f"{TABLE}: {crate}: {name or path}: {it}")
+    page = text_of(TABLE)
+    calls = {it: calls_of(it) for it in libraries()}
+    cells = cells_of(page)
+    made = page.split("\n## ")[0].rstrip("\n") + "\n" + "".join(section(it, calls[it], cells) for it in calls)
+    if sys.argv[1:] == ["--write"]:
+        with open(f"{TOP}/{TABLE}", "w", encoding="utf-8") as it:
+            it.write(made)
+        page, cells = made, cells_of(made)
+    passed, faults = 0, []
     if text_of("HANDLES").strip() != "Handles allowed: none.":
-        failed += 1
-        print("HANDLES: a function may not return")
+        faults.append("HANDLES: a function may not return")
     for crate, found in calls.items():
         for name, call in found.items():
-            if (crate, name) not in seen:
-                failed += 1
-                print(draft(name, call) if is_draft else f"{TABLE}: {crate}: no row for {name} ({call.file})")
-    if not is_draft:
-        print(f"calls: {passed} passed, {failed} failed")
-    return 1 if failed or not passed else 0
+            here = faults_of_call(call, cells.get((crate, name), ("", "")))
+            passed += not here
+            faults += [f"{TABLE}: {crate}: {name}: {it}" for it in here]
+    stands, wanted = page.split("\n"), made.split("\n")
+    faults += [f"{TABLE}: there should be: {it}" for it in wanted if it not in stands]
+    faults += [f"{TABLE}: there shouldn't be: {it}" for it in stands if it not in wanted]
+    if page != made and not faults:
+        faults.append(f"{TABLE}: not in the order of the sources")
+    for it in faults:
+        print(it)
+    print(f"calls: {passed} passed, {len(faults)} failed" + (f" ({TABLE} is made by scripts/calls.py --write)" if page != made else ""))
+    return 1 if faults or not passed else 0
 
 
 if __name__ == "__main__":
