@@ -1,3 +1,4 @@
+# shellcheck shell=bash disable=SC2154,SC2034
 # Which sources a program was made from; read by dmstack and prove, which set `top` and `rt`.
 #
 # A record holds the sum of the sources, the program's size and time, and the sources' sizes and times: it stands where none of
@@ -10,14 +11,14 @@ for it in avx2 bmi1 bmi2 f16c fma abm movbe; do [[ " $flags " == *" $it "* ]] ||
 
 # The sources, the kit and the processor, by sizes and times.
 state() {
-    cd "$top"
+    cd "$top" || return
     echo "$cpu"
     find -L crates.txt crates/*/src crates/*/specs crates/*/proofs "$rt" -type f -printf '%p %s %T@ %C@\n' 2> /dev/null || :
 }
 
 # The same by content.
 sum() {
-    cd "$top"
+    cd "$top" || return
     {
         find crates.txt crates/*/src crates/*/specs crates/*/proofs -type f -print0 2> /dev/null | LC_ALL=C sort -z | xargs -0 sha256sum
         readlink -f "$rt"

@@ -1,3 +1,4 @@
+# shellcheck shell=bash disable=SC2154,SC2034
 # The form of a case, for scripts that run the program on one; they set `room`, a folder of their own, and source this.
 #
 # A case is a folder with `args` (the words, one a line), `stdin`, and, where there is one, a folder `files`, whose files

@@ -41,6 +41,7 @@ ask() {
 end() {
     local wanted=$1 reply status=0 process=$SESSION_PID
     shift
+    # shellcheck disable=SC1083,SC2093 # it closes the descriptor that the array names
     exec {SESSION[1]}>&-
     for line in "$@"; do
         read -r -t 30 reply <&"${SESSION[0]}" || reply='no answer'

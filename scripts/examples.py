@@ -10,7 +10,8 @@ import os
 import re
 import sys
 
-TOP = os.path.dirname(os.path.dirname(os.path.realpath(__file__)))
+sys.dont_write_bytecode = True
+from sources import TOP, files_of, functions, text_of
 
 
 def lines_of(text):
@@ -18,11 +19,7 @@ def lines_of(text):
 
 
 def sources(crate):
-    found = []
-    for path in sorted(glob.glob(f"{crate}/src/**/*.rt", recursive=True)):
-        with open(path, encoding="utf-8") as it:
-            found.append(it.read())
-    return found
+    return [text_of(it) for it in files_of(crate)]
 
 
 def stands_on():
@@ -39,18 +36,11 @@ def stands_on():
 def calls_of(crate):
     """Patterns of calls of the crate's public functions, methods of its traits and of their impls among them."""
     patterns = []
-    for text in sources(crate):
-        owner, is_trait = "", False
-        for line in text.splitlines():
-            free = re.match(r"pub (?:const )?fn (\w+)", line)
-            method = re.match(r"    (pub )?(?:const )?fn (\w+)", line)
-            block = re.match(r"(pub trait|impl)\b(?:<[^>]*>)? *(?:.*\bfor )?(\w+)", line)
-            if block:
-                owner, is_trait = block[2], block[1] == "pub trait" or " for " in line
-            elif free:
-                patterns.append(rf"(?<![\w.:]){free[1]}\(")
-            elif method and owner and (method[1] or is_trait):
-                patterns += [rf"\b{owner}::{method[2]}\(", rf"\.{method[2]}\("]
+    for it in (made for path in files_of(crate) for made in functions(path)):
+        if it.is_pub and not it.owner:
+            patterns.append(rf"(?<![\w.:]){it.name}\(")
+        elif it.owner and it.is_public():
+            patterns += [rf"\b{it.owner}::{it.name}\(", rf"\.{it.name}\("]
     return patterns
 
 
@@ -60,15 +50,15 @@ def stands_in(example, lines):
 
 def main():
     passed, failed = 0, 0
-    tests = [it for crate in sorted(glob.glob(f"{TOP}/crates/*_tests")) for it in sources(crate)]
+    tests = [it for crate in sorted(glob.glob(f"{TOP}/crates/*_tests")) for it in sources(os.path.basename(crate))]
     above = stands_on()
     for readme in sorted(glob.glob(f"{TOP}/crates/*/README.md")):
         with open(readme, encoding="utf-8") as it:
             text = it.read()
-        crate = os.path.dirname(readme)
-        callers = [it for name in above.get(os.path.basename(crate), []) for it in sources(f"{TOP}/crates/{name}")]
+        crate = readme.split("/")[-2]
+        callers = [it for name in above.get(crate, []) for it in sources(name)]
         files = [lines_of(it) for it in sources(crate) + tests + callers]
-        calls = calls_of(crate) if os.path.exists(f"{crate}/src/lib.rt") else [""]
+        calls = calls_of(crate) if os.path.exists(f"{TOP}/crates/{crate}/src/lib.rt") else [""]
         for block in re.finditer(r"^ *```rust\n(.*?)^ *```$", text, re.M | re.S):
             example = lines_of(block[1])
             wrong = ""

@@ -1,3 +1,4 @@
+# shellcheck shell=bash disable=SC2154
 # The parts of the gate: runs them in turn or side by side, says how long each took, and ends at the first that failed, also
 # where others still run beside it. It is read by a script that has made the folder $room.
 times=()

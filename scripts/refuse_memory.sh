@@ -12,7 +12,10 @@ room=$(mktemp -d)
 trap 'rm -rf "$room"' EXIT
 . "$top/scripts/case.sh"
 cc -shared -fPIC -O2 -o "$room/refuse.so" "$top/scripts/refuse_alloc.c" -ldl
-[ $# -gt 0 ] || set -- $(cd "$top/scripts/memory" && ls)
+if [ $# = 0 ]; then
+    set -- "$top"/scripts/memory/*
+    set -- "${@##*/}"
+fi
 
 # The program of case $1, built.
 program_of() {

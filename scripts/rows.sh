@@ -5,10 +5,9 @@
 # as scripts/case.sh says, with the file `stdout`, what is printed and what `after` prints behind it, and `status`, where that
 # isn't 0. Standard error stays empty.
 #
-# A row of several steps has `steps` in place of `args`, `stdin`, `stdout` and `status`: a transcript, as in the documents. A line
-# `$ COMMAND` is a command line for bash, for which `dmstack` is the program; the lines `> LINE` behind it are its input; the
-# other lines up to the next `$ ` are what it writes on standard output and standard error together, and where it ends with
-# a status N that isn't 0, a last line `status N`. Empty lines and lines that begin with `# ` say nothing.
+# A row of several steps has `steps` in place of `args`, `stdin`, `stdout` and `status`: a transcript as scripts/transcript.sh says.
+# `dmstack` is the program there; a step prints what it writes on standard output and standard error together, and where it
+# ends with a status N that isn't 0, a last line `status N`.
 set -eu
 top=$(dirname "$(dirname "$(readlink -f "$0")")")
 out=$top/crates/dmstack/out
@@ -22,7 +21,11 @@ fi
 room=$(mktemp -d)
 trap 'rm -rf "$room"' EXIT
 . "$top/scripts/case.sh"
-[ $# -gt 0 ] || set -- $(cd "$top/tests/rows" && ls)
+. "$top/scripts/transcript.sh"
+if [ $# = 0 ]; then
+    set -- "$top"/tests/rows/*
+    set -- "${@##*/}"
+fi
 passed=0 failed=0
 
 # check ROW PROGRAM: says how the run differs from the row's files, if it does.
@@ -43,10 +46,9 @@ check() {
     return 1
 }
 
-# finish NAME: runs the step that was gathered, and compares.
-finish() {
+# step NAME: runs the step that was read, and compares.
+step() {
     local status=0
-    [ -n "$command" ] || return 0
     printf %s "$input" > "$room/in"
     (cd "$room/files" && PATH=$room/bin:$PATH timeout 60 bash -c "$command") < "$room/in" > "$room/out" 2>&1 || status=$?
     [ $status = 0 ] || echo "status $status" >> "$room/out"
@@ -55,29 +57,17 @@ finish() {
         printf %s "$wanted" | diff -a - "$room/out" | head -n 20
         same=1
     fi
-    command='' input='' wanted=''
 }
 
 # check_steps ROW PROGRAM: says how the steps differ from what is wanted, if they do.
 check_steps() {
-    local row=$top/tests/rows/$1 command='' input='' wanted='' same=0 line
-    rm -rf "$room/files" "$room/bin"
+    local row=$top/tests/rows/$1 same=0
+    rm -rf "${room:?}/files" "${room:?}/bin"
     mkdir "$room/files" "$room/bin"
     ln -s "$2" "$room/bin/dmstack"
     [ ! -e "$row/files" ] || cp -R "$row/files/." "$room/files"
     [ ! -e "$row/before" ] || (cd "$room/files" && bash "$row/before")
-    while IFS= read -r line; do
-        case $line in
-        '$ '*)
-            finish "$1 (${2##*/})"
-            command=${line#'$ '}
-            ;;
-        '> '*) input+=${line#'> '}$'\n' ;;
-        '' | '# '*) ;;
-        *) wanted+=$line$'\n' ;;
-        esac
-    done < "$row/steps"
-    finish "$1 (${2##*/})"
+    each_step "$row/steps" '' step "$1 (${2##*/})"
     return $same
 }
 

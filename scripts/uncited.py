@@ -12,16 +12,13 @@ import os
 import re
 import sys
 
-TOP = os.path.dirname(os.path.dirname(os.path.realpath(__file__)))
+sys.dont_write_bytecode = True
+from sources import TOP, text_of
+
 BETWEEN = re.compile(r"[\s(){},;.:λ`\[\]]+")
 HEAD = re.compile(r"(?:(?:pub|unfoldable|abbrev|private) )*(?:record |data |ruleset )?(?:pub )?([^\s:(){},;]+)")
 NO_HEAD = ("mod ", "pub mod ", "unfolding", "infix", "where", "]", "→")
 ANSWERS = ("Answers.antt", "Invariants.antt", "Proof.antt", "Lib.antt", "/lemmas.antt")
-
-
-def text_of(path):
-    with open(path, encoding="utf-8") as it:
-        return it.read()
 
 
 def module_of(path):
