@@ -1,7 +1,7 @@
 //! A `verity` line over a device that answers another block each time.
 use crate::stacks::{read, stack_of};
 use block_device::ScriptDev;
-use hash_tree::{Digest, Salt};
+use hash_tree::Salt;
 use stack_engine::{Answer, Fault, IoFault};
 use std::alloc::Global;
 use std::test::Fail;
@@ -32,12 +32,13 @@ fn is_mismatch(answer: &Option<Result<Answer, IoFault>>) -> bool {
 /// A device of which the tree's block is read at first, and then one of which a byte is another.
 fn hash_dev(alloc: Global) -> Result<ScriptDev, Fail> {
     let zeros = Salt::new(b"").ok_or("no salt")?.digest(&[0; 512]);
-    let mut tree = [0u8; 2 * Digest::SIZE];
-    tree[..Digest::SIZE].copy_from_slice(zeros.as_bytes());
-    tree[Digest::SIZE..].copy_from_slice(zeros.as_bytes());
+    let mut tree = Vec::from_slice(alloc, zeros.as_bytes())?;
+    tree.extend_from_slice(zeros.as_bytes())?;
+    let mut other = tree.clone()?;
+    other.truncate(63);
     let mut blocks = Vec::new(alloc);
-    blocks.push(tree.to_vec(alloc)?)?;
-    blocks.push(tree[..63].to_vec(alloc)?)?;
+    blocks.push(tree)?;
+    blocks.push(other)?;
     Ok(ScriptDev::new(2, blocks))
 }
 
