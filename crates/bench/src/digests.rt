@@ -1,9 +1,10 @@
 // Digests of blocks side by side, beside the kit's SHA-256 of one block after the other, over 64 MiB of blocks of 4,096 bytes.
 use crate::medians::{RUNS, median};
 use anyhow::{Context, Result, bail};
-use hash_tree::{Digest, Salt};
+use hash_tree::digest_blocks;
 use sha2::{Digest as _, Sha256};
 use std::time::CpuClock;
+use tree_shape::{Digest, Salt};
 
 const BLOCK: usize = 4096;
 
@@ -21,7 +22,7 @@ pub fn measure<R: CpuClock + Print + AllocGlobal>(rt: &R) -> Result<()> {
             bail!("the sizes differ");
         }
         let start = rt.process_cpu_time()?;
-        salt.digests(BLOCK, &blocks, &mut made);
+        digest_blocks(&salt, BLOCK, &blocks, &mut made);
         let between = rt.process_cpu_time()?;
         // All blocks are equal and their number is even.
         if folded(&made) ^ folded_one_by_one(&blocks) != 0 {

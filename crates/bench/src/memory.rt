@@ -4,9 +4,10 @@ ghost use Rattle.std.specs.Prelude.{◌≡◌};
 use anyhow::{Context, Result, bail};
 use block_device::{BlockDev, MemoryDev};
 use dm_table::{ParseFault, StackText, Table};
-use hash_tree::{Chain, Digest, Salt, Shape, area};
+use hash_tree::{Chain, area};
 use std::alloc::Global;
 use table_reader::parse_table;
+use tree_shape::{Digest, Salt, Shape};
 use verity_format::{ChainFault, data_sectors, read_chain, tree_sectors};
 
 const TABLE: &[u8] = b"0 8 striped 2 4 A 0 B 0\n8 8 linear C 2\n16 1 error\n";

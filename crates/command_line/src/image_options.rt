@@ -9,9 +9,9 @@ ghost use Rattle.command_line.specs.FormatOptions.{AreSaid, block_size_of, salt_
 
 use crate::fault::WordsFault;
 use clap::ArgMatches;
-use hash_tree::Salt;
 use std::alloc::Global;
 use table_reader::number;
+use tree_shape::Salt;
 use uuid::Uuid;
 
 const BLOCK_SIZE: u32 = 4096;

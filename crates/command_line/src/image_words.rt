@@ -5,7 +5,7 @@ ghost use Rattle.command_line.specs.CommandWords.{IsUsage, dump_of, format_of, i
 use crate::fault::WordsFault;
 use crate::invocation::{ImageInvocation, Invocation};
 use dm_table::is_device;
-use hash_tree::Digest;
+use tree_shape::Digest;
 
 /// `DATA HASH`
 pub fn format_of<'a>(words: &[&'a str]) -> Result<Invocation<'a>, WordsFault>

@@ -1,6 +1,6 @@
 // Commands with their words.
 use crate::bindings::Binding;
-use hash_tree::Digest;
+use tree_shape::Digest;
 
 /// Sectors of a mapped device.
 #[derive(Clone, Copy, Debug, PartialEq, Eq)]

@@ -1,7 +1,7 @@
 -- What holds of every table and stack text that was read.
 use Rattle.std.specs.Prelude.{◌≡◌, ℕ, ◌^◌, ◌<◌, ◌≤◌, ◌⊎◌, IsTrue, List, length, All}
 use Rattle.hex.specs.Hex.{IsBytes}
-use Rattle.hash_tree.specs.Shape.{is_block_size}
+use Rattle.tree_shape.specs.Shape.{is_block_size}
 use Rattle.dm_table.specs.declared.crypt.Crypt.{Crypt}
 use Rattle.dm_table.specs.declared.verity.Verity.{Verity}
 use Rattle.dm_table.specs.declared.unstriped.Unstriped.{Unstriped}

@@ -1,7 +1,7 @@
 -- The arguments of a `verity` line, as the kernel's dm-verity page lists them.
 use Rattle.std.specs.Prelude.{ℕ, ◌/◌, Bool, true, false, ◌&&◌, ◌==◌, nat_le, if◌then◌else◌, List, [], ◌∷◌, length, codes, Ok, Err, ok_or}
 use Rattle.std.specs.Str.{bytes_eq}
-use Rattle.hash_tree.specs.Shape.{is_block_size}
+use Rattle.tree_shape.specs.Shape.{is_block_size}
 use Rattle.dm_table.specs.declared.verity.Verity.{Verity}
 use Rattle.dm_table.specs.declared.fault.TextKind.TheVariants as kinds
 use Rattle.dm_table.specs.Words.{Word}

@@ -2,8 +2,8 @@
 ghost use Rattle.std.specs.Prelude.{◌≡◌, IfOk};
 
 use crate::table::Name;
-use hash_tree::{Digest, Salt};
 use std::alloc::{AllocError, Global};
+use tree_shape::{Digest, Salt};
 
 /// Blocks of one device, checked against a hash tree on another.
 #[derive(Drop)]

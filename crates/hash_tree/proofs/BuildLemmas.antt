@@ -6,10 +6,10 @@ use borrow.Rule.Slice.PartMut.{put_mid}
 use Rattle.std.proofs.lemmas.List.Folds.{concat-append}
 use Rattle.std.specs.Int.{div_ceil}
 use Rattle.std.specs.List.{concat}
-use Rattle.hash_tree.specs.Digests.{digest}
-use Rattle.hash_tree.specs.Shape.{ShapeRecord, per_block, is_block_size}
+use Rattle.tree_shape.specs.Digests.{digest}
+use Rattle.tree_shape.specs.Shape.{ShapeRecord, per_block, is_block_size}
 use Rattle.hash_tree.specs.Tree.{cut, pack, digests_above, area, root}
-use Rattle.hash_tree.proofs.lemmas.ShapeFaultLemmas.{block_size-wide}
+use Rattle.tree_shape.proofs.lemmas.ShapeFaultLemmas.{block_size-wide}
 use Rattle.hash_tree.proofs.lemmas.PackingLemmas.{AllOf, length-concat, length-cut, cut-room, concat-cut, cut-concat, cut-sized}
 use Rattle.hash_tree.proofs.lemmas.TreeLemmas.{length-pack, length-above, area-up, root-up}
 

@@ -2,10 +2,10 @@
 use Rattle.std.proofs.Common.{◌≡◌, ◌↔◌, ℕ, List, [], ◌∷◌, Bool, IsTrue, length, sym, ◌∙◌}
 use Rattle.std.specs.Str.{bytes_eq}
 use Rattle.std.proofs.lemmas.Slice.Eq.{bytes_eq-Decides}
-use Rattle.hash_tree.specs.Digests.{digest, digest_in}
+use Rattle.tree_shape.specs.Digests.{digest, digest_in}
 use Rattle.std.specs.List.{All}
 use Rattle.std.proofs.lemmas.List.Elements.{All-nil, All-cons}
-use Rattle.hash_tree.specs.Shape.{ShapeRecord, levels, slot, ancestor}
+use Rattle.tree_shape.specs.Shape.{ShapeRecord, levels, slot, ancestor}
 use Rattle.hash_tree.specs.Chain.{ChainRecord, HangsFrom, IsGood}
 use Rattle.hash_tree.specs.Laws.{AreBlocks}
 

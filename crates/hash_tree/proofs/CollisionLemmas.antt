@@ -5,8 +5,8 @@ use Rattle.std.proofs.lemmas.Slice.Eq.{bytes_eq-Decides}
 use Rattle.std.proofs.lemmas.Bool.Decides.{not_from_Decides}
 use Rattle.hash_tree.specs.declared.difference.Place.{Place}
 use Rattle.hash_tree.specs.declared.difference.Place.TheVariants.{Hash, Content}
-use Rattle.hash_tree.specs.Digests.{digest, digest_in}
-use Rattle.hash_tree.specs.Shape.{ShapeRecord, IsShape, slot, ancestor}
+use Rattle.tree_shape.specs.Digests.{digest, digest_in}
+use Rattle.tree_shape.specs.Shape.{ShapeRecord, IsShape, slot, ancestor}
 use Rattle.hash_tree.specs.Tree.{root}
 use Rattle.hash_tree.specs.Chain.{ChainRecord, HangsFrom, IsGood, formed}
 use Rattle.std.specs.Prelude.{Option, Some, None, IfSome, IfNone, IsSome}

@@ -4,14 +4,14 @@ use Rattle.std.proofs.Math.Nat.{mod-add-div, mul_comm}
 use Rattle.std.proofs.lemmas.Nat.{mod_below}
 use Rattle.std.proofs.lemmas.List.{length-map, get_or-map}
 use Rattle.std.proofs.lemmas.List.Elements.{All-get_or, All-map}
-use Rattle.hash_tree.specs.Digests.{digest, digest_in}
-use Rattle.hash_tree.specs.Shape.{ShapeRecord, IsShape, per_block, levels, level_blocks, slot, ancestor}
+use Rattle.tree_shape.specs.Digests.{digest, digest_in}
+use Rattle.tree_shape.specs.Shape.{ShapeRecord, IsShape, per_block, levels, level_blocks, slot, ancestor}
 use Rattle.hash_tree.specs.Tree.{root, level}
 use Rattle.hash_tree.specs.Chain.{HangsFrom, IsGood, path_to, formed}
 use Rattle.hash_tree.specs.Laws.{AreBlocks}
-use Rattle.hash_tree.proofs.lemmas.ShapeLemmas.{over, pow_pos}
-use Rattle.hash_tree.proofs.lemmas.ShapeFaultLemmas.{per_block-wide}
-use Rattle.hash_tree.proofs.lemmas.ShapeFactLemmas.{quotient-le, two as two_of, over-same, ancestor-none, ancestor-more, ancestor-lt}
+use Rattle.tree_shape.proofs.lemmas.ShapeLemmas.{over, pow_pos}
+use Rattle.tree_shape.proofs.lemmas.ShapeFaultLemmas.{per_block-wide}
+use Rattle.tree_shape.proofs.lemmas.ShapeFactLemmas.{quotient-le, two as two_of, over-same, ancestor-none, ancestor-more, ancestor-lt}
 use Rattle.hash_tree.proofs.lemmas.PackingLemmas.{AllOf}
 use Rattle.hash_tree.proofs.lemmas.TreeLemmas.{length-digest, digest_in-pack}
 use Rattle.hash_tree.proofs.lemmas.TreeFactLemmas.{length-level, level-sized, packed_in, level-packed, packed_in-sized, length-packed_in, root-top, top-none}

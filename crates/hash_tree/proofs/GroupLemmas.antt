@@ -2,7 +2,7 @@
 use Rattle.std.proofs.Common.{◌≡◌, ℕ, ◌<◌, ◌≤◌, ◌+◌, ◌-◌, ◌*◌, ◌/◌, ◌%◌, ◌++◌, List, [], length, get_or, take, drop, map, sym, ap, ◌∙◌, arith}
 use Rattle.std.proofs.Math.Nat.{mul-le-mul_left}
 use Rattle.std.proofs.lemmas.List.{ext_get_or, get_or-map, get_or-take, get_or-drop, length-map, length-drop, length-take-le, drop-take, take-take, drop-drop}
-use Rattle.hash_tree.specs.Digests.{digest}
+use Rattle.tree_shape.specs.Digests.{digest}
 use Rattle.hash_tree.specs.Tree.{cut}
 use Rattle.hash_tree.proofs.lemmas.PackingLemmas.{length-cut, get_or-cut_whole, div_ceil-exact}
 use Rattle.sha2.specs.Sha256.{sha256}

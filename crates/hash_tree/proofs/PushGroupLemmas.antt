@@ -4,7 +4,7 @@ use Rattle.std.proofs.Math.Nat.{mul-mod_right, mul-div_cancel_left, mul-le-mul_l
 use Rattle.std.proofs.lemmas.List.{get_or-map, get_or-take, get_or-drop, length-drop, length-take-le}
 use Rattle.std.proofs.lemmas.List.Elements.{All-take, All-drop}
 use Rattle.std.specs.List.{concat}
-use Rattle.hash_tree.specs.Digests.{digest}
+use Rattle.tree_shape.specs.Digests.{digest}
 use Rattle.hash_tree.specs.Tree.{cut}
 use Rattle.hash_tree.specs.Building.{BuilderRecord, PlacedRecord, are_whole_blocks, is_between, pushed, completed, pushed_block, completed_block, HasSome, IsPushed}
 use Rattle.hash_tree.proofs.GroupLemmas.{length-cut_whole}

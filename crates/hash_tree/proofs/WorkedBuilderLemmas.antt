@@ -1,8 +1,8 @@
 -- A builder, computed.
 use Rattle.std.proofs.Common.{◌≡◌, ℕ, List, [], ◌∷◌, refl, replicate, map}
 use Rattle.sha2.specs.Sha256.{sha256, first_words, schedule, rounds, compress, hash_after, digest_bytes}
-use Rattle.hash_tree.specs.Digests.{digest}
-use Rattle.hash_tree.specs.Shape.{levels, level_blocks, blocks_above, position}
+use Rattle.tree_shape.specs.Digests.{digest}
+use Rattle.tree_shape.specs.Shape.{levels, level_blocks, blocks_above, position}
 use Rattle.hash_tree.specs.Tree.{cut, root}
 use Rattle.hash_tree.specs.Building.{PlacedRecord, BuilderRecord, begun_builder, grow, grow_all, close, pushed, completed, last_completed, built_root}
 

@@ -7,8 +7,5 @@ pub mod GrowLemmas
 pub mod LawLemmas
 pub mod PackingLemmas
 pub mod PlacingLemmas
-pub mod ShapeFactLemmas
-pub mod ShapeFaultLemmas
-pub mod ShapeLemmas
 pub mod TreeFactLemmas
 pub mod TreeLemmas

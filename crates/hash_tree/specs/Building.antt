@@ -3,8 +3,8 @@ use Rattle.std.specs.Prelude.{◌≡◌, ◌≤◌, ◌<◌, ◌^◌, ℕ, ◌+�
 use Rattle.std.specs.Option.{unwrap_or}
 use Rattle.std.specs.List.{range_with_len, All}
 use Rattle.std.specs.List.Sorted.{IsPermutation}
-use Rattle.hash_tree.specs.Digests.{digest}
-use Rattle.hash_tree.specs.Shape.{ShapeRecord, IsShape, levels, position, area_blocks}
+use Rattle.tree_shape.specs.Digests.{digest}
+use Rattle.tree_shape.specs.Shape.{ShapeRecord, IsShape, levels, position, area_blocks}
 use Rattle.hash_tree.specs.Tree.{filled, area, root}
 use Rattle.hash_tree.specs.Laws.{AreDigests}
 

@@ -1,8 +1,8 @@
 -- A data block with the hash blocks on the way to it.
 use Rattle.std.specs.Prelude.{◌≡◌, ℕ, zero, suc, ◌+◌, ◌<◌, List, [], ◌∷◌, length, map}
 use Rattle.std.specs.List.{slice_index_or}
-use Rattle.hash_tree.specs.Digests.{digest, digest_in}
-use Rattle.hash_tree.specs.Shape.{ShapeRecord, levels, slot, ancestor}
+use Rattle.tree_shape.specs.Digests.{digest, digest_in}
+use Rattle.tree_shape.specs.Shape.{ShapeRecord, levels, slot, ancestor}
 use Rattle.hash_tree.specs.Tree.{level}
 
 -- the number of a data block, the block, and the hash blocks from the top level down to level 0

@@ -2,8 +2,8 @@
 use Rattle.std.specs.Prelude.{◌≡◌, ◌≢◌, ℕ, ◌+◌, ◌-◌, ◌*◌, ◌/◌, ◌^◌, ◌<◌, ◌≤◌, List, [], length, map, slice_get, All}
 use Rattle.std.specs.List.{slice_index_or}
 use Rattle.hash_tree.specs.declared.difference.Place.{Place}
-use Rattle.hash_tree.specs.Digests.{digest}
-use Rattle.hash_tree.specs.Shape.{ShapeRecord, IsShape, per_block, levels, level_blocks, position, slot, ancestor, area_blocks, area_end}
+use Rattle.tree_shape.specs.Digests.{digest}
+use Rattle.tree_shape.specs.Shape.{ShapeRecord, IsShape, per_block, levels, level_blocks, position, slot, ancestor, area_blocks, area_end}
 use Rattle.hash_tree.specs.Tree.{root, area, level}
 use Rattle.hash_tree.specs.Chain.{ChainRecord, IsGood, formed}
 use Rattle.hash_tree.specs.Difference.{IsTopmostDifference, IsCollision, block_at}

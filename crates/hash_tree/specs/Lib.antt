@@ -1,6 +1,3 @@
-pub mod Digests
-pub mod Salt
-pub mod Shape
 pub mod Tree
 pub mod Chain
 pub mod Difference

@@ -1,16 +1,16 @@
 // The tree made digest by digest.
 ghost use Rattle.std.specs.Prelude.{true, false, ◌≡◌, ◌+◌, ◌*◌, ◌^◌, ◌<◌, ◌≤◌, ◌++◌, ◌∷◌, [], length, All, IfOk, OnOk, OnErr, is_err};
 ghost use Rattle.std.specs.Option.{unwrap_or};
-ghost use Rattle.hash_tree.specs.Shape.{IsShape, levels};
+ghost use Rattle.tree_shape.specs.Shape.{IsShape, levels};
 ghost use Rattle.hash_tree.specs.Tree.{filled};
 ghost use Rattle.hash_tree.specs.Building.{begun_builder, begun_levels, pushed, completed, last_completed, built_root, HasSome, grow, close};
 
 mod grouping;
 
-use crate::{Digest, Salt, Shape};
 use std::alloc::{AllocError, Global};
 use std::marker::Model;
 use std::mem;
+use tree_shape::{Digest, Salt, Shape};
 
 /// A hash block with its number on the hash device.
 #[derive(Drop)]

@@ -2,8 +2,8 @@
 ghost use Rattle.std.specs.Prelude.{◌↔◌, ◌<◌, ◌^◌, IsTrue, length, map};
 ghost use Rattle.hash_tree.specs.Chain.{IsGood, HangsFrom};
 
-use crate::{Digest, Salt, Shape, digest_in};
 use std::marker::Model;
+use tree_shape::{Digest, Salt, Shape, digest_in};
 
 /// A data block with its number, and the hash blocks on the way to it, from the top level down to level 0.
 #[derive(Drop)]

@@ -5,7 +5,8 @@ ghost use Rattle.hash_tree.specs.Difference.{IsTopmostDifference, IsCollision, b
 ghost use Rattle.hash_tree.specs.Laws.{LevelsAreLeast, PlacesLieInside, SlotsLieInside, AncestorsAreBlocks, PlacesAreTakenOnce, TreesStandInShape, FormedChainsAreGood, GoodChainsAreWhole, DifferencesCollide, GoodChainsCollide, ForgedBlocksCollide};
 ghost use Rattle.hash_tree.specs.Building.{BuildersMakeTheArea};
 
-use crate::{Chain, Digest, Place, Salt, Shape, collide};
+use crate::{Chain, Place, collide};
+use tree_shape::{Digest, Salt, Shape};
 
 /// The number of levels is the least that leaves one block at the top.
 pub fn levels_are_least()

@@ -1,12 +1,13 @@
 // The area: a tree's hash blocks as they are stored.
 ghost use Rattle.std.specs.Prelude.{◌≡◌, ◌+◌, ◌-◌, ◌*◌, ◌≤◌, ◌<◌, ◌/◌, ◌%◌, ◌++◌, length, map, replicate, All, IfOk, OnOk, IsTrue};
 ghost use Rattle.std.specs.List.{concat};
-ghost use Rattle.hash_tree.specs.Digests.{digest};
-ghost use Rattle.hash_tree.specs.Shape.{is_block_size};
+ghost use Rattle.tree_shape.specs.Digests.{digest};
+ghost use Rattle.tree_shape.specs.Shape.{is_block_size};
 ghost use Rattle.hash_tree.specs.Tree.{area, root, cut};
 
-use crate::{Digest, Salt, Shape};
+use crate::digest_blocks;
 use std::alloc::{AllocError, Global};
+use tree_shape::{Digest, Salt, Shape};
 
 /// The tree's hash blocks as they are stored, the top level first and each filled up with zeros, and the root
 /// digest. `digests` are those of the data blocks in their order; each hash block is made once.
@@ -97,6 +98,6 @@ fn digests_of(
 {
     let count = blocks.len() / hash_block;
     let mut digests = vec![in alloc; Digest::new([0; Digest::SIZE]); count]?;
-    salt.digests(hash_block, blocks, &mut digests);
+    digest_blocks(salt, hash_block, blocks, &mut digests);
     Ok(digests)
 }

@@ -13,7 +13,6 @@ use crate::superblock_text::{say_blocks, say_root, say_salt, say_uuid};
 use block_device::{BlockDev, FileDev, OpenFault, SyncDev};
 use command_faults::{CommandFault, is_one_file, open_file};
 use command_line::ImageOptions;
-use hash_tree::{Digest, Salt};
 use rand::make_rng;
 use rand::rngs::StdRng;
 use stack_session::{Counted, WriteFault};
@@ -22,6 +21,7 @@ use std::fs::File;
 use std::io::Write;
 use std::random::RandomSource;
 use std::rt::Files;
+use tree_shape::{Digest, Salt};
 use verity_format::{FormatFault, FormatOptions, format_with, given_blocks};
 
 /// What was made: the root digest, and what else is printed of the image.

@@ -3,8 +3,8 @@ ghost use Rattle.std.specs.Prelude.{◌≡◌};
 ghost use Rattle.rand_core.specs.Stream.{fill_bytes};
 ghost use Rattle.uuid.specs.Parts.{v4_of_fill};
 
-use hash_tree::Salt;
 use rand_core::Rng;
+use tree_shape::Salt;
 use uuid::Uuid;
 
 /// The stream's next 32 bytes as a salt, and a version 4 identifier from the stream that is left.

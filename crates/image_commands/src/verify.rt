@@ -9,12 +9,12 @@ ghost use Rattle.image_commands.specs.ImageCommands.{IsVerifyFilesEnd, PrintsMat
 
 use block_device::BlockDev;
 use command_faults::{CommandFault, open_file};
-use hash_tree::Digest;
 use stack_session::Counted;
 use std::alloc::Global;
 use std::fs::File;
 use std::io::Write;
 use std::rt::Files;
+use tree_shape::Digest;
 use verity_format::{Verdict, verify};
 
 /// `verify DATA HASH ROOT`: `matches`; a difference is the fault `Differs`.

@@ -1,6 +1,6 @@
 //! A row of calls against answers that are written down, and the largest capacities.
-use hash_tree::Digest;
 use std::test::Fail;
+use tree_shape::Digest;
 use verified_cache::{BlockCache, Key};
 
 /// Block `block` of line `line`.

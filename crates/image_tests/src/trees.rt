@@ -1,8 +1,9 @@
 //! Whole trees in memory, where two chains differ, and shapes: calls and sizes of which the program makes no use.
 use crate::has_digits;
-use hash_tree::{Chain, Place, Salt, Shape, ShapeFault, area, collide};
+use hash_tree::{Chain, Place, area, collide};
 use std::alloc::{AllocError, Global};
 use std::test::Fail;
+use tree_shape::{Salt, Shape, ShapeFault};
 
 /// The size of a hash block, the root and the digest of the area, by Python's hashlib: digest i is that of the eight bytes of i.
 static TREES: [(u32, &str, &str); 2] = [

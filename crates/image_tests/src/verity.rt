@@ -1,10 +1,10 @@
 //! A `verity` line over a device that answers another block each time.
 use crate::stacks::{read, stack_of};
 use block_device::ScriptDev;
-use hash_tree::Salt;
 use stack_engine::{Answer, Fault, IoFault};
 use std::alloc::Global;
 use std::test::Fail;
+use tree_shape::Salt;
 
 /// Two blocks of zeros, without a salt; the root is hashlib's.
 const TWO: &[u8] =

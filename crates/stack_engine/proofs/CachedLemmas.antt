@@ -4,7 +4,7 @@ use Rattle.std.specs.Prelude.{option_map, OnOk, OnErr}
 use Rattle.std.specs.Option.{option_map_or}
 use Rattle.std.specs.declared.alloc.AllocError.{AllocError}
 use Rattle.std.specs.Str.{bytes_eq}
-use Rattle.hash_tree.specs.Digests.{digest}
+use Rattle.tree_shape.specs.Digests.{digest}
 use Rattle.block_device.specs.Device.{Device}
 use Rattle.dm_table.specs.declared.verity.Verity.{Verity}
 use Rattle.stack_rules.specs.declared.lower.Lower.TheVariants.{Leaf as leaf}

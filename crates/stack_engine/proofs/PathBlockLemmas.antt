@@ -1,6 +1,6 @@
 -- The blocks on the way to a data block of a verity line, read where its tree says.
 use Rattle.std.proofs.Common.{◌≡◌, ◌<◌, ◌+◌, suc, List, [], ◌∷◌, ◌++◌, ℕ, Vec, Global, Some, Result, Ok, Err, refl, sym, ap, subst}
-use Rattle.hash_tree.specs.Shape.{ShapeRecord, ancestor}
+use Rattle.tree_shape.specs.Shape.{ShapeRecord, ancestor}
 use Rattle.block_device.specs.Device.{Device}
 use Rattle.dm_table.specs.declared.verity.Verity.{Verity}
 use Rattle.stack_rules.specs.declared.lower.Lower.{Lower}

@@ -2,7 +2,7 @@
 use Rattle.std.proofs.Common.{◌≡◌, ℕ, true, List, [], ◌∷◌, ◌++◌, flat_map, codes, decimal, refl, sym, ap, ◌∙◌, arith, append_assoc, append-nil}
 use Rattle.std.proofs.lemmas.Fmt.{decimal_digit}
 use Rattle.hex.specs.Hex.{encode_lower}
-use Rattle.hash_tree.proofs.lemmas.ShapeFaultLemmas.{blocks-le}
+use Rattle.tree_shape.proofs.lemmas.ShapeFaultLemmas.{blocks-le}
 use Rattle.verity_format.specs.Image.{data_sectors}
 use Rattle.verity_format.specs.Line.{table_text, spaced, salt_word}
 use Rattle.verity_format.specs.Superblock.{SuperRecord, shape_of}

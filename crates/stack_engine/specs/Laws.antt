@@ -5,9 +5,9 @@ use Rattle.sha2.specs.Sha256.{sha256}
 use Rattle.hash_tree.specs.declared.difference.Place.{Place}
 use Rattle.hash_tree.specs.Chain.{IsGood, formed}
 use Rattle.hash_tree.specs.Difference.{IsTopmostDifference, block_at as chain_block}
-use Rattle.hash_tree.specs.Digests.{digest}
+use Rattle.tree_shape.specs.Digests.{digest}
 use Rattle.hash_tree.specs.Laws.{AreBlocks}
-use Rattle.hash_tree.specs.Shape.{area_blocks}
+use Rattle.tree_shape.specs.Shape.{area_blocks}
 use Rattle.hash_tree.specs.Tree.{root, area}
 use Rattle.dm_table.specs.declared.table.Line.{Line}
 use Rattle.dm_table.specs.declared.table.Target.TheVariants.{Verity as verity_target}

@@ -1,8 +1,8 @@
 -- Contracts of reads of data blocks, from the root down.
 use Rattle.std.specs.Prelude.{◌≡◌, ◌⊎◌, ℕ, ◌+◌, ◌*◌, ◌<◌, List, ◌++◌, length, Some, Result}
 use Rattle.hash_tree.specs.Chain.{ChainRecord, HangsFrom, IsGood}
-use Rattle.hash_tree.specs.Digests.{digest}
-use Rattle.hash_tree.specs.Shape.{levels}
+use Rattle.tree_shape.specs.Digests.{digest}
+use Rattle.tree_shape.specs.Shape.{levels}
 use Rattle.block_device.specs.Device.{Device}
 use Rattle.dm_table.specs.declared.verity.Verity.{Verity}
 use Rattle.dm_table.specs.declared.table.Target.TheVariants.{Verity as verity_target}

@@ -9,10 +9,10 @@ ghost use Rattle.stack_lines.specs.Caches.{IsFresh};
 use crate::keys_on_leaf::KeysOnLeaf;
 use crate::leaf_set::LeafSet;
 use crate::leaf_sets::{leaf_sets, lower_leaves};
-use hash_tree::Digest;
 use stack_loader::{Config, Lower};
 use std::alloc::{AllocError, Global};
 use std::marker::Model;
+use tree_shape::Digest;
 use verified_cache::{BlockCache, Key};
 
 /// Hash blocks of `verity` lines, each of which was checked before it was kept.

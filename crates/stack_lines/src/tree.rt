@@ -1,6 +1,6 @@
 // What a read of a `verity` line's blocks uses.
 ghost use Rattle.std.specs.Prelude.{◌≡◌, ◌<◌, ◌≤◌, ◌+◌, ◌*◌, ℕ, length, take, drop, get_or, IfSome, IfNone};
-ghost use Rattle.hash_tree.specs.Shape.{ancestor, levels};
+ghost use Rattle.tree_shape.specs.Shape.{ancestor, levels};
 ghost use Rattle.stack_rules.specs.Rules.{IsLoaded};
 ghost use Rattle.stack_rules.specs.Trees.{tree_of, block_sectors};
 ghost use Rattle.stack_meaning.specs.Blocks.{hash_sectors, hash_start, is_ignored};
@@ -9,9 +9,9 @@ ghost use Rattle.stack_lines.specs.Extents.{IsExtent};
 ghost use Rattle.stack_lines.specs.Walks.{HasVerity, HasDataBlock, IsOnVerity, IsTreeOf};
 
 use dm_table::Verity;
-use hash_tree::{Digest, Shape};
 use stack_loader::{Config, DevId, Lower, verity_of};
 use stack_meaning::Found;
+use tree_shape::{Digest, Shape};
 use verified_cache::Key;
 
 /// Where the blocks of a `verity` line lie: the devices of its data blocks and of its hash blocks, and the shape.

@@ -13,11 +13,11 @@ use crate::facts::Facts;
 use crate::removal::is_in_use;
 use crate::sectors::line_of;
 use dm_table::{StackText, Table};
-use hash_tree::Digest;
 use stack_checks::leaves_fault;
 use stack_rules::{ConfigFault, DevId, Leaf, LoadFault, Lower, Mapped, RemoveFault, place_of};
 use std::alloc::Global;
 use std::marker::Model;
+use tree_shape::Digest;
 use xts_sector::XtsKey;
 
 /// Leaves, and the mapped devices that loads have put on them.

@@ -1,16 +1,16 @@
 // The digests of data blocks of zeros, made once at loading for the verity lines that ignore such blocks.
 ghost use Rattle.std.specs.Prelude.{◌≡◌, ◌≤◌, map, slice_get, option_and_then, All, IfOk};
 ghost use Rattle.dm_table.specs.Grammar.{IsTargetOfGrammar, IsLineOfGrammar};
-ghost use Rattle.hash_tree.specs.Digests.{digest};
+ghost use Rattle.tree_shape.specs.Digests.{digest};
 ghost use Rattle.stack_loader.specs.Keys.{zero_digests_of, AreZeroDigests};
 ghost use Rattle.stack_rules.specs.Lines.{zero_digest_of};
 ghost use Rattle.stack_rules.specs.Trees.{zero_block};
 
 use dm_table::{Line, Target, Verity};
-use hash_tree::Digest;
 use stack_rules::{Planned, verity_of};
 use std::alloc::{AllocError, Global};
 use std::marker::Model;
+use tree_shape::Digest;
 
 /// For each line of a device, in order: the digest, if it is such a line.
 #[derive(Drop)]

@@ -1,8 +1,8 @@
 -- Data blocks of a verity line, each checked from the root down.
 use Rattle.std.specs.Prelude.{◌≡◌, ◌⊎◌, ℕ, zero, suc, ◌+◌, ◌*◌, ◌/◌, ◌<◌, Bool, ◌&&◌, List, Ok, Err, if◌then◌else◌}
 use Rattle.std.specs.Str.{bytes_eq}
-use Rattle.hash_tree.specs.Digests.{digest, digest_in}
-use Rattle.hash_tree.specs.Shape.{levels, position, slot, ancestor}
+use Rattle.tree_shape.specs.Digests.{digest, digest_in}
+use Rattle.tree_shape.specs.Shape.{levels, position, slot, ancestor}
 use Rattle.dm_table.specs.declared.verity.Verity.{Verity}
 use Rattle.stack_rules.specs.Trees.{tree_of, block_sectors, zero_block}
 use Rattle.stack_meaning.specs.Sectors.{SomeOf}

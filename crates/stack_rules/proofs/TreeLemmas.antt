@@ -1,7 +1,7 @@
 -- Trees over any number of blocks, counted level by level.
 use Rattle.std.proofs.Common.{◌≡◌, ◌+◌, ◌-◌, ◌*◌, ◌/◌, ◌^◌, ◌≤◌, ◌<◌, ℕ, zero, suc, refl, ap, arith, add-one}
-use Rattle.hash_tree.specs.Shape.{ShapeRecord, per_block, levels, area_blocks, area_end, end_of}
-use Rattle.hash_tree.proofs.lemmas.ShapeLemmas.{over, levels-one, levels-up, levels-le, area_blocks-one, thrice}
+use Rattle.tree_shape.specs.Shape.{ShapeRecord, per_block, levels, area_blocks, area_end, end_of}
+use Rattle.tree_shape.proofs.lemmas.ShapeLemmas.{over, levels-one, levels-up, levels-le, area_blocks-one, thrice}
 
 -- one level fewer stands over the blocks of level 0
 pub levels-step : (s : ShapeRecord) (n : ℕ) → 2 ≤ per_block s → 1 < n → levels (over s n) ≡ suc (levels (over s ((n - 1) / per_block s + 1)))

@@ -4,7 +4,7 @@ use Rattle.dm_table.specs.declared.crypt.Crypt.{Crypt as CryptRecord}
 use Rattle.dm_table.specs.declared.stack.Entry.{Entry}
 use Rattle.dm_table.specs.declared.table.Target.{Target}
 use Rattle.dm_table.specs.declared.table.Target.TheVariants.{Crypt, Verity}
-use Rattle.hash_tree.specs.Shape.{levels, level_blocks, area_blocks, area_end}
+use Rattle.tree_shape.specs.Shape.{levels, level_blocks, area_blocks, area_end}
 use Rattle.dm_table.specs.Crypt.{sector_size}
 use Rattle.stack_rules.specs.declared.refusal.LoadKind.{LoadKind}
 use Rattle.stack_rules.specs.declared.refusal.LoadKind.TheVariants.{BeyondDevice, LineBeyondTree, TreeBeyondDevice, NeedsReadOnly, LowerReadOnly, CostTooLarge}

@@ -1,6 +1,6 @@
 -- The data blocks of a verity line, and the hash tree over them.
 use Rattle.std.specs.Prelude.{ℕ, ◌*◌, ◌/◌, List, replicate, Option, Some, None}
-use Rattle.hash_tree.specs.Shape.{ShapeRecord, shape_of, sectors_of, levels, area_end}
+use Rattle.tree_shape.specs.Shape.{ShapeRecord, shape_of, sectors_of, levels, area_end}
 use Rattle.dm_table.specs.declared.table.Target.{Target}
 use Rattle.dm_table.specs.declared.table.Target.TheVariants.{Verity as verity_target}
 use Rattle.dm_table.specs.declared.verity.Verity.{Verity}

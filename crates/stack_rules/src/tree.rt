@@ -1,7 +1,7 @@
 // The data blocks of a verity line and the hash tree over them, of whatever size they are said to be.
 ghost use Rattle.std.specs.Prelude.{◌≡◌, ◌≤◌, ◌<◌, ◌^◌, option_copied};
 ghost use Rattle.dm_table.specs.Grammar.{IsVerityOfGrammar};
-ghost use Rattle.hash_tree.specs.Shape.{levels, area_blocks};
+ghost use Rattle.tree_shape.specs.Shape.{levels, area_blocks};
 ghost use Rattle.stack_rules.specs.Trees.{tree_of, data_sectors, tree_sectors, block_sectors, path_sectors, verity_of};
 
 use dm_table::{Target, Verity};

@@ -5,8 +5,8 @@ use Rattle.std.proofs.lemmas.Slice.Eq.{bytes_eq-Decides}
 use Rattle.std.proofs.lemmas.Bool.{cases_Bool, cond-true}
 use Rattle.hex.specs.Hex.{IsBytes, encode_lower, lower_digits}
 use Rattle.hex.proofs.HexLemmas.{length-encode_with}
-use Rattle.hash_tree.specs.Shape.{is_block_size}
-use Rattle.hash_tree.proofs.lemmas.ShapeFaultLemmas.{is_block_size-cases}
+use Rattle.tree_shape.specs.Shape.{is_block_size}
+use Rattle.tree_shape.proofs.lemmas.ShapeFaultLemmas.{is_block_size-cases}
 use Rattle.dm_table.specs.declared.verity.Verity.{Verity}
 use Rattle.dm_table.specs.declared.fault.TextKind.TheVariants as kinds
 use Rattle.dm_table.specs.Words.{Word}

@@ -11,8 +11,8 @@ use crate::line_fault::LineFault;
 use crate::numbers::{number, read_number};
 use crate::option_words::read_options;
 use dm_table::{Name, TextKind, Verity, is_device, is_kept};
-use hash_tree::{Digest, Salt, is_block_size};
 use std::alloc::Global;
+use tree_shape::{Digest, Salt, is_block_size};
 
 /// Two for each of 256 bytes.
 const MOST_SALT_DIGITS: usize = 512;

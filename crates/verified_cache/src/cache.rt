@@ -6,11 +6,11 @@ ghost use Rattle.verified_cache.specs.Cache.{IsCache, block_at, block_under, cac
 
 use crate::keys::KeysOfLine;
 use crate::{Key, Keys};
-use hash_tree::Digest;
 use lru::LruCache;
 use std::alloc::{AllocError, Global};
 use std::marker::Model;
 use std::num::NonZeroUsize;
+use tree_shape::Digest;
 
 /// A block and the digest that it is kept under.
 #[derive(Drop)]

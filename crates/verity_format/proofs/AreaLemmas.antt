@@ -3,8 +3,8 @@ use Rattle.std.proofs.Common.{◌≡◌, ℕ, List, length, ◌∙◌}
 use Rattle.std.proofs.lemmas.List.{length-map}
 use Rattle.std.proofs.lemmas.List.Elements.{All-map}
 use Rattle.std.proofs.lemmas.List.FromFn.{length-map-range_with_len}
-use Rattle.hash_tree.specs.Digests.{digest}
-use Rattle.hash_tree.specs.Shape.{ShapeRecord, IsShape}
+use Rattle.tree_shape.specs.Digests.{digest}
+use Rattle.tree_shape.specs.Shape.{ShapeRecord, IsShape}
 use Rattle.hash_tree.specs.Laws.{StandsInShape}
 use Rattle.hash_tree.proofs.lemmas.TreeLemmas.{length-digest}
 use Rattle.hash_tree.proofs.lemmas.LawLemmas.{stands-in_shape}

@@ -3,7 +3,7 @@ use Rattle.std.proofs.Common.{◌≡◌, ◌<◌, ◌+◌, ◌-◌, ◌*◌, ◌
 use Rattle.std.specs.Prelude.{slice_set}
 use Rattle.std.specs.Vec.{with_items}
 use Rattle.std.proofs.lemmas.List.{map-append, take_more_set, with_items_is}
-use Rattle.hash_tree.specs.Shape.{ShapeRecord, position, ancestor}
+use Rattle.tree_shape.specs.Shape.{ShapeRecord, position, ancestor}
 use Rattle.verity_format.specs.Blocks.{block_at}
 use Rattle.verity_format.specs.Chain.{stored_path}
 

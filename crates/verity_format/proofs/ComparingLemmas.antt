@@ -10,7 +10,7 @@ use Rattle.std.proofs.lemmas.Bool.Decides.{not_from_Decides}
 use Rattle.std.specs.Str.{bytes_eq}
 use Rattle.block_device.specs.Device.{Device}
 use Rattle.hash_tree.specs.Difference.{FirstDiffer}
-use Rattle.hash_tree.specs.Shape.{ShapeRecord, IsShape, area_blocks}
+use Rattle.tree_shape.specs.Shape.{ShapeRecord, IsShape, area_blocks}
 use Rattle.hash_tree.specs.Tree.{area, root}
 use Rattle.hash_tree.specs.Building.{BuilderRecord, PlacedRecord, IsAreaBlock, begun_builder, pushed, completed, last_completed, built_root, numbered}
 use Rattle.hash_tree.specs.Placing.{IsLeastDiffering}

@@ -7,10 +7,10 @@ use Rattle.std.proofs.lemmas.Bool.Decides.{nat_tests}
 use Rattle.std.proofs.lemmas.Slice.Eq.{bytes_eq-Decides}
 use Rattle.std.proofs.lemmas.List.{take_all, length-take-le, length-drop}
 use borrow.Author.Tests.{eqb-true}
-use Rattle.hash_tree.specs.declared.shape.ShapeFault.{ShapeFault}
-use Rattle.hash_tree.specs.declared.shape.ShapeFault.TheVariants.{BlockSize, NoBlocks, TooLarge}
-use Rattle.hash_tree.specs.Shape.{ShapeRecord, IsShape, first_fault, is_block_size, is_too_large, sectors_of, area_end}
-use Rattle.hash_tree.proofs.lemmas.ShapeFaultLemmas.{IsShape-from_no_fault}
+use Rattle.tree_shape.specs.declared.shape.ShapeFault.{ShapeFault}
+use Rattle.tree_shape.specs.declared.shape.ShapeFault.TheVariants.{BlockSize, NoBlocks, TooLarge}
+use Rattle.tree_shape.specs.Shape.{ShapeRecord, IsShape, first_fault, is_block_size, is_too_large, sectors_of, area_end}
+use Rattle.tree_shape.proofs.lemmas.ShapeFaultLemmas.{IsShape-from_no_fault}
 use Rattle.verity_format.specs.declared.decoding.SuperFault.TheVariants.{Signature, Version, HashType, Algorithm, DataBlockSize, HashBlockSize, DataBlocks, SaltSize}
 use Rattle.verity_format.specs.Superblock.{SuperRecord, shape_of, shape_after, Carries, number16, number32, number64, signature, algorithm_of, super_fault, read_of}
 

@@ -7,7 +7,7 @@ use Rattle.std.proofs.lemmas.List.Elements.{All-take, All-drop}
 use Rattle.block_device.specs.Device.{Device, IsSector, HasFailed, IsWritten, capped, run_of, spliced, sectors_of as cut_into}
 use Rattle.block_device.specs.Whole.{length-sectors_of}
 use Rattle.block_device.proofs.lemmas.SectorLemmas.{sectors_of-append, sectors_of-concat, drop-spliced}
-use Rattle.hash_tree.specs.Shape.{ShapeRecord, IsShape, sectors_of, area_blocks}
+use Rattle.tree_shape.specs.Shape.{ShapeRecord, IsShape, sectors_of, area_blocks}
 use Rattle.verity_format.specs.declared.access.TreeFault.{TreeFault}
 use Rattle.verity_format.specs.declared.access.TreeFault.TheVariants as tree
 use Rattle.verity_format.specs.Superblock.{SuperRecord, shape_of}

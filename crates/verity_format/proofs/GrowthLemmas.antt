@@ -5,9 +5,9 @@ use Rattle.std.proofs.lemmas.List.{length-append, map-append}
 use Rattle.std.proofs.lemmas.List.Elements.{All-append, All-nil}
 use Rattle.std.proofs.lemmas.List.Sorted.{length_permutation}
 use Rattle.block_device.specs.Device.{Device}
-use Rattle.hash_tree.specs.Digests.{digest}
+use Rattle.tree_shape.specs.Digests.{digest}
 use Rattle.hash_tree.specs.Laws.{AreDigests}
-use Rattle.hash_tree.specs.Shape.{ShapeRecord, IsShape, area_blocks}
+use Rattle.tree_shape.specs.Shape.{ShapeRecord, IsShape, area_blocks}
 use Rattle.hash_tree.specs.Tree.{area}
 use Rattle.hash_tree.specs.Building.{BuilderRecord, PlacedRecord, IsAreaBlock, begun_builder, pushed, completed, last_completed, numbered}
 use Rattle.hash_tree.proofs.lemmas.BuilderLemmas.{pushed-none, pushed-append, completed-append, left-pushed, left-begun, failed-pushed, failed-begun}

@@ -3,8 +3,8 @@ use Rattle.std.proofs.Common.{◌≡◌, ◌≤◌, ◌<◌, ◌==◌, ◌||◌,
 use Rattle.std.specs.Prelude.{is_some}
 use Rattle.std.proofs.lemmas.Bool.Decides.{nat_tests}
 use Rattle.block_device.specs.Device.{Device}
-use Rattle.hash_tree.specs.Shape.{IsShape, first_fault}
-use Rattle.hash_tree.specs.declared.shape.ShapeFault.{ShapeFault}
+use Rattle.tree_shape.specs.Shape.{IsShape, first_fault}
+use Rattle.tree_shape.specs.declared.shape.ShapeFault.{ShapeFault}
 use Rattle.verity_format.specs.declared.decoding.SuperFault.{SuperFault}
 use Rattle.verity_format.specs.declared.formatting.FormatFault.{FormatFault}
 use Rattle.verity_format.specs.declared.formatting.FormatFault.TheVariants as format

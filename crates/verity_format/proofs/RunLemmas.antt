@@ -9,8 +9,8 @@ use Rattle.std.proofs.lemmas.List.Elements.{All-from_get_or, All-take, All-drop}
 use Rattle.std.proofs.lemmas.List.Folds.{concat-append}
 use Rattle.std.proofs.lemmas.List.FromFn.{map-range_with_len_more, get_or-map-range_with_len, length-map-range_with_len}
 use Rattle.block_device.specs.Device.{IsSector, run_of}
-use Rattle.hash_tree.specs.Digests.{digest}
-use Rattle.hash_tree.specs.Shape.{is_block_size}
+use Rattle.tree_shape.specs.Digests.{digest}
+use Rattle.tree_shape.specs.Shape.{is_block_size}
 use Rattle.hash_tree.specs.Tree.{cut}
 use Rattle.hash_tree.proofs.lemmas.PackingLemmas.{AllOf, length-concat, cut-concat}
 use Rattle.verity_format.specs.Blocks.{block_at, blocks_at}

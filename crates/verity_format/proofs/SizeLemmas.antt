@@ -1,9 +1,9 @@
 -- Block sizes, and how many sectors blocks take.
 use Rattle.std.proofs.Common.{◌≡◌, ◌≤◌, ◌<◌, ◌+◌, ◌*◌, ◌/◌, ◌%◌, ℕ, suc, IsTrue, refl, ap, ◌∙◌, arith, inl, inr}
 use Rattle.std.proofs.Math.Nat.{mul-le-mul_right}
-use Rattle.hash_tree.specs.Shape.{ShapeRecord, IsShape, is_block_size, sectors_of, area_blocks, area_end}
-use Rattle.hash_tree.proofs.lemmas.ShapeFaultLemmas.{is_block_size-cases}
-use Rattle.hash_tree.proofs.lemmas.ShapeFactLemmas.{area_end-is}
+use Rattle.tree_shape.specs.Shape.{ShapeRecord, IsShape, is_block_size, sectors_of, area_blocks, area_end}
+use Rattle.tree_shape.proofs.lemmas.ShapeFaultLemmas.{is_block_size-cases}
+use Rattle.tree_shape.proofs.lemmas.ShapeFactLemmas.{area_end-is}
 use Rattle.std.proofs.Math.Numerals.{one-add}
 
 -- a block is one to eight whole sectors

@@ -6,8 +6,8 @@ use Rattle.std.specs.Int.{w16, w32, w64, from_le_bytes, to_le_bytes}
 use Rattle.std.proofs.Math.Seq.{drop-append-add}
 use Rattle.std.proofs.lemmas.List.{length-append, length-replicate, take_at, drop-replicate, replicate-append-replicate}
 use Rattle.std.proofs.lemmas.Nat.{from_le_bytes-to_le_bytes_2, from_le_bytes-to_le_bytes_4, from_le_bytes-to_le_bytes_8}
-use Rattle.hash_tree.specs.Shape.{is_block_size}
-use Rattle.hash_tree.proofs.lemmas.ShapeFaultLemmas.{is_block_size-cases, blocks-le}
+use Rattle.tree_shape.specs.Shape.{is_block_size}
+use Rattle.tree_shape.proofs.lemmas.ShapeFaultLemmas.{is_block_size-cases, blocks-le}
 use Rattle.verity_format.specs.Superblock.{SuperRecord, shape_of, IsSuperblock, Carries, signature, spelling}
 
 -- 512 bytes that begin so, with zeros behind

@@ -1,7 +1,7 @@
 -- What was read of the devices that are compared, and the verdict.
 use Rattle.std.proofs.Common.{◌≡◌, ◌∙◌, ℕ, List, Option, Some, None, IsTrue, refl, subst, inl, inr}
 use Rattle.block_device.specs.Device.{Device}
-use Rattle.hash_tree.specs.Shape.{ShapeRecord, IsShape, sectors_of, area_blocks}
+use Rattle.tree_shape.specs.Shape.{ShapeRecord, IsShape, sectors_of, area_blocks}
 use Rattle.hash_tree.specs.Building.{numbered}
 use Rattle.hash_tree.specs.Placing.{IsLeastDiffering}
 use Rattle.verity_format.specs.declared.access.TreeFault.{TreeFault}

@@ -1,7 +1,7 @@
 -- Worked values: a superblock's bytes, the faults of changed bytes, and sizes.
 use Rattle.std.proofs.Common.{◌≡◌, [], ◌∷◌, refl, length, replicate, Some, None}
 use Rattle.std.specs.Prelude.{slice_range, slice_set, take}
-use Rattle.hash_tree.specs.Shape.{first_fault, levels, area_blocks, area_end, level_blocks}
+use Rattle.tree_shape.specs.Shape.{first_fault, levels, area_blocks, area_end, level_blocks}
 use Rattle.verity_format.specs.declared.decoding.SuperFault.TheVariants.{Version, HashType, DataBlockSize, SaltSize}
 use Rattle.verity_format.specs.Superblock.{SuperRecord, spelling, super_fault, read_of, shape_of}
 use Rattle.verity_format.specs.Image.{data_sectors, image_sectors, tree_sectors}

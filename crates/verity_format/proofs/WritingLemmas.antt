@@ -8,7 +8,7 @@ use Rattle.std.proofs.lemmas.List.FromFn.{get_or-map-range_with_len, length-map-
 use Rattle.block_device.specs.Device.{Device, IsSameDevice, IsWritten, capped, spliced, sectors_of as cut_into, run_of}
 use Rattle.block_device.specs.Whole.{length-sectors_of}
 use Rattle.block_device.proofs.lemmas.SectorLemmas.{concat-sectors_of, take-spliced, drop-spliced}
-use Rattle.hash_tree.specs.Shape.{ShapeRecord, IsShape, is_block_size, area_blocks}
+use Rattle.tree_shape.specs.Shape.{ShapeRecord, IsShape, is_block_size, area_blocks}
 use Rattle.hash_tree.specs.Tree.{area, root}
 use Rattle.hash_tree.specs.Building.{BuilderRecord, PlacedRecord, IsAreaBlock, begun_builder, pushed, completed, last_completed, built_root}
 use Rattle.hash_tree.specs.Placing.{put, written}

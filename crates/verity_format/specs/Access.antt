@@ -1,7 +1,7 @@
 -- Digests of a device's blocks, and why they were not taken.
 use Rattle.std.specs.Prelude.{◌≡◌, ℕ, ◌*◌, ◌/◌, IsTrue, List, length, map, All}
 use Rattle.block_device.specs.Device.{Device, HasFailed}
-use Rattle.hash_tree.specs.Digests.{digest}
+use Rattle.tree_shape.specs.Digests.{digest}
 use Rattle.verity_format.specs.declared.access.TreeFault.{TreeFault}
 use Rattle.verity_format.specs.declared.access.TreeFault.TheVariants.{Device as DeviceFailed, NoMemory}
 use Rattle.verity_format.specs.Blocks.{IsFullRead, blocks_at}

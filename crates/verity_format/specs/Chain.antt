@@ -1,7 +1,7 @@
 -- The chain of a data block as it stands on two devices.
 use Rattle.std.specs.Prelude.{◌≡◌, ◌⊎◌, ℕ, zero, suc, ◌+◌, ◌*◌, ◌/◌, IsTrue, List, [], ◌∷◌}
 use Rattle.block_device.specs.Device.{Device, HasFailed}
-use Rattle.hash_tree.specs.Shape.{ShapeRecord, levels, position, ancestor}
+use Rattle.tree_shape.specs.Shape.{ShapeRecord, levels, position, ancestor}
 use Rattle.hash_tree.specs.Chain.{ChainRecord}
 use Rattle.verity_format.specs.declared.chains.ChainFault.{ChainFault}
 use Rattle.verity_format.specs.declared.chains.ChainFault.TheVariants.{Device as DeviceFailed, NoMemory}

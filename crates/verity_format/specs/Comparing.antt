@@ -1,7 +1,7 @@
 -- Hash blocks compared with those that stand on a device.
 use Rattle.std.specs.Prelude.{◌≡◌, ℕ, ◌+◌, ◌*◌, ◌/◌, ◌^◌, ◌≤◌, min, IsTrue, Option, List, ◌++◌, length}
 use Rattle.block_device.specs.Device.{Device}
-use Rattle.hash_tree.specs.Shape.{ShapeRecord, sectors_of, area_blocks}
+use Rattle.tree_shape.specs.Shape.{ShapeRecord, sectors_of, area_blocks}
 use Rattle.hash_tree.specs.Building.{BuilderRecord, PlacedRecord, begun_builder, completed, numbered}
 use Rattle.hash_tree.specs.Placing.{IsLeastDiffering}
 use Rattle.verity_format.specs.Blocks.{IsFullRead, block_at}

@@ -1,7 +1,7 @@
 -- When formatting is refused, and what each fault says.
 use Rattle.std.specs.Prelude.{◌≡◌, ◌⊎◌, ℕ, ◌/◌, true, false, not, nat_lt, Option, Some, None, is_some, if◌then◌else◌, IsTrue, List, drop, Result, Err, IfOk, IfErr}
 use Rattle.block_device.specs.Device.{Device, HasFailed, IsWritten}
-use Rattle.hash_tree.specs.Shape.{first_fault}
+use Rattle.tree_shape.specs.Shape.{first_fault}
 use Rattle.verity_format.specs.declared.access.TreeFault.{TreeFault}
 use Rattle.verity_format.specs.declared.access.TreeFault.TheVariants as tree
 use Rattle.verity_format.specs.declared.formatting.FormatFault.{FormatFault}

@@ -1,8 +1,8 @@
 -- A tree made of a device's data blocks, run by run.
 use Rattle.std.specs.Prelude.{◌≡◌, ◌⊎◌, ℕ, ◌-◌, ◌*◌, ◌/◌, ◌<◌, ◌≤◌, IsTrue, List, length, map, All}
 use Rattle.block_device.specs.Device.{Device, HasFailed}
-use Rattle.hash_tree.specs.Digests.{digest}
-use Rattle.hash_tree.specs.Shape.{ShapeRecord}
+use Rattle.tree_shape.specs.Digests.{digest}
+use Rattle.tree_shape.specs.Shape.{ShapeRecord}
 use Rattle.hash_tree.specs.Building.{BuilderRecord, PlacedRecord, begun_builder, pushed, completed}
 use Rattle.verity_format.specs.declared.access.TreeFault.{TreeFault}
 use Rattle.verity_format.specs.declared.access.TreeFault.TheVariants.{Device as DeviceFailed, NoMemory}

@@ -2,8 +2,8 @@
 use Rattle.std.specs.Prelude.{ℕ, ◌+◌, ◌-◌, ◌/◌, List, ◌++◌, map, replicate}
 use Rattle.std.specs.List.{concat}
 use Rattle.block_device.specs.Device.{spliced, sectors_of as cut_into}
-use Rattle.hash_tree.specs.Digests.{digest}
-use Rattle.hash_tree.specs.Shape.{ShapeRecord, sectors_of, area_blocks, area_end}
+use Rattle.tree_shape.specs.Digests.{digest}
+use Rattle.tree_shape.specs.Shape.{ShapeRecord, sectors_of, area_blocks, area_end}
 use Rattle.hash_tree.specs.Tree.{area, root}
 use Rattle.verity_format.specs.Superblock.{SuperRecord, shape_of, spelling}
 use Rattle.verity_format.specs.Blocks.{blocks_at}

@@ -1,7 +1,7 @@
 -- A superblock's fields and what contracts see of them.
 use Rattle.std.specs.Prelude.{◌≡◌, ℕ, length}
 use Rattle.std.proofs.Common.{ap, sym}
-use Rattle.hash_tree.specs.Shape.{IsShape}
+use Rattle.tree_shape.specs.Shape.{IsShape}
 use Rattle.verity_format.specs.declared.superblock.Superblock.TheInside.{Inside}
 use Rattle.verity_format.specs.Superblock.{SuperRecord, shape_of}
 

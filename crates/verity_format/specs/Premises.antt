@@ -2,7 +2,7 @@
 use Rattle.std.specs.Prelude.{false, ◌≡◌, ℕ, ◌+◌, ◌*◌, ◌/◌, ◌%◌, ◌^◌, ◌<◌, ◌≤◌, All, IsTrue, List, Vec, length, min}
 use Rattle.std.specs.Global.{Global}
 use Rattle.block_device.specs.Device.{Device}
-use Rattle.hash_tree.specs.Shape.{ShapeRecord, IsShape, is_block_size, levels}
+use Rattle.tree_shape.specs.Shape.{ShapeRecord, IsShape, is_block_size, levels}
 use Rattle.hash_tree.specs.Building.{BuilderRecord, PlacedRecord}
 use Rattle.verity_format.specs.Comparing.{LiesOn}
 use Rattle.verity_format.specs.Image.{data_sectors, tree_sectors, image_sectors}

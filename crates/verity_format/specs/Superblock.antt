@@ -3,7 +3,7 @@ use Rattle.std.specs.Prelude.{◌≡◌, ℕ, ◌+◌, ◌-◌, ◌≤◌, not, 
 use Rattle.std.specs.List.{before_first}
 use Rattle.std.specs.Str.{bytes_eq}
 use Rattle.std.specs.Int.{w16, w32, w64, from_le_bytes, to_le_bytes}
-use Rattle.hash_tree.specs.Shape.{ShapeRecord, IsShape, first_fault, is_block_size}
+use Rattle.tree_shape.specs.Shape.{ShapeRecord, IsShape, first_fault, is_block_size}
 use Rattle.verity_format.specs.declared.decoding.SuperFault.{SuperFault}
 use Rattle.verity_format.specs.declared.decoding.SuperFault.TheVariants.{Signature, Version, HashType, Algorithm, DataBlockSize, HashBlockSize, DataBlocks, SaltSize}
 

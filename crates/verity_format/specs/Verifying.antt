@@ -1,7 +1,7 @@
 -- What is found on a data device and a hash device, and when they cannot be compared.
 use Rattle.std.specs.Prelude.{◌≡◌, ◌≢◌, ◌⊎◌, ℕ, ◌+◌, ◌<◌, ◌≤◌, ◌==◌, ◌||◌, nat_lt, Bool, Option, Some, None, if◌then◌else◌, IsTrue, List}
 use Rattle.block_device.specs.Device.{Device, HasFailed}
-use Rattle.hash_tree.specs.Shape.{sectors_of, area_blocks}
+use Rattle.tree_shape.specs.Shape.{sectors_of, area_blocks}
 use Rattle.hash_tree.specs.Difference.{FirstDiffer}
 use Rattle.verity_format.specs.declared.access.TreeFault.{TreeFault}
 use Rattle.verity_format.specs.declared.access.TreeFault.TheVariants as tree

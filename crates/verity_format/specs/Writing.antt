@@ -1,7 +1,7 @@
 -- Hash blocks written to a device.
 use Rattle.std.specs.Prelude.{◌≡◌, ◌⊎◌, ℕ, ◌+◌, ◌*◌, ◌/◌, ◌≤◌, IsTrue, List, length, take, drop}
 use Rattle.block_device.specs.Device.{Device, IsSameDevice, HasFailed, capped}
-use Rattle.hash_tree.specs.Shape.{ShapeRecord, sectors_of, area_blocks}
+use Rattle.tree_shape.specs.Shape.{ShapeRecord, sectors_of, area_blocks}
 use Rattle.hash_tree.specs.Building.{BuilderRecord, PlacedRecord, begun_builder, completed}
 use Rattle.hash_tree.specs.Placing.{written}
 use Rattle.verity_format.specs.declared.access.TreeFault.{TreeFault}

@@ -7,8 +7,9 @@ ghost use Rattle.verity_format.specs.Access.{IsRunRead};
 ghost use Rattle.verity_format.specs.Premises.{IsBlockOn, IsRunOn};
 
 use block_device::{BlockDev, DeviceFault};
-use hash_tree::{Digest, Salt, Shape};
+use hash_tree::digest_blocks;
 use std::alloc::{AllocError, Global};
+use tree_shape::{Digest, Salt, Shape};
 
 /// Why there is no tree over a device's blocks.
 #[derive(Clone, Copy, Debug, PartialEq, Eq)]
@@ -102,6 +103,6 @@ pub(crate) fn read_run<D: BlockDev>(
     ensures fault { OnErr result (HasFailed (D.state device.old) (D.state device.new)) }
 {
     device.read(index * (size / 512) as u64, run)?;
-    salt.digests(size, run, digests);
+    digest_blocks(salt, size, run, digests);
     Ok(())
 }

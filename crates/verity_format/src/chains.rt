@@ -8,9 +8,10 @@ ghost use Rattle.verity_format.specs.Premises.{IsPathOn};
 
 use crate::access::{read_block, zeros};
 use block_device::{BlockDev, DeviceFault};
-use hash_tree::{Chain, Shape};
+use hash_tree::Chain;
 use std::alloc::{AllocError, Global};
 use thiserror::Error;
+use tree_shape::Shape;
 
 /// Why a chain was not read.
 #[derive(Clone, Copy, Debug, PartialEq, Eq, Error)]

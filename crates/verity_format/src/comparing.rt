@@ -10,8 +10,9 @@ ghost use Rattle.verity_format.specs.Premises.{AreBlocksOn, HaveTree};
 use crate::access::{TreeFault, read_block, zeros};
 use crate::growth::{RUN, take_run};
 use block_device::{BlockDev, DeviceFault};
-use hash_tree::{Digest, LevelBuilder, Placed, Salt, Shape};
+use hash_tree::{LevelBuilder, Placed};
 use std::alloc::{AllocError, Global};
+use tree_shape::{Digest, Salt, Shape};
 
 /// The lesser of the two numbers.
 fn lesser(least: Option<u64>, block: u64) -> u64

@@ -7,8 +7,8 @@ ghost use Rattle.verity_format.specs.FaultNames.{super_number, super_name};
 ghost use Rattle.verity_format.specs.Superblock.{SuperRecord, IsSuperblock, Carries, number16, number32, number64, spelling, super_fault, read_of};
 
 use crate::Superblock;
-use hash_tree::{Salt, Shape, is_block_size};
 use thiserror::Error;
+use tree_shape::{Salt, Shape, is_block_size};
 
 /// The first field that is wrong, in the order in which the fields are looked at.
 #[derive(Clone, Copy, Debug, PartialEq, Eq, Error)]

@@ -13,9 +13,9 @@ use crate::access::{TreeFault, data_sectors, image_sectors, zeros};
 use crate::superblock::put;
 use crate::writing::write_tree;
 use block_device::{BlockDev, DeviceFault};
-use hash_tree::{Digest, Salt, Shape};
 use std::alloc::{AllocError, Global};
 use thiserror::Error;
+use tree_shape::{Digest, Salt, Shape};
 
 /// Why nothing was formatted, or not all of it.
 #[derive(Clone, Copy, Debug, PartialEq, Eq, Error)]

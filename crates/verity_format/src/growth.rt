@@ -7,8 +7,9 @@ ghost use Rattle.verity_format.specs.Premises.{CanTake};
 
 use crate::access::{TreeFault, read_run};
 use block_device::BlockDev;
-use hash_tree::{Digest, LevelBuilder, Placed, Salt, Shape};
+use hash_tree::{LevelBuilder, Placed};
 use std::alloc::{AllocError, Global};
+use tree_shape::{Digest, Salt, Shape};
 
 /// How many bytes of the data are read in one call.
 pub(crate) const RUN: usize = 1 << 16;

@@ -1,11 +1,11 @@
 // The superblock, and how it is written.
 ghost use Rattle.std.specs.Prelude.{◌≡◌, ◌+◌, ◌≤◌, ◌++◌, length, take, drop, IfOk};
 ghost use Rattle.std.specs.Result.{result_err};
-ghost use Rattle.hash_tree.specs.Shape.{IsShape, first_fault};
+ghost use Rattle.tree_shape.specs.Shape.{IsShape, first_fault};
 ghost use Rattle.verity_format.specs.Superblock.{shape_of, shape_after, IsSuperblock, Carries, spelling};
 
-use hash_tree::{Salt, Shape, ShapeFault};
 use std::marker::Model;
+use tree_shape::{Salt, Shape, ShapeFault};
 
 /// What stands before the tree of a hash image: an identifier, the block sizes in bytes, the number of
 /// data blocks, and the salt. The tree begins at hash block 1.

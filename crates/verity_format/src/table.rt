@@ -5,8 +5,8 @@ ghost use Rattle.verity_format.specs.Line.{table_text, salt_word, spaced};
 
 use crate::Superblock;
 use crate::access::data_sectors;
-use hash_tree::Digest;
 use std::alloc::{AllocError, Global};
+use tree_shape::Digest;
 
 /// The table line of the image, `0 N verity 1 DATA HASH ..`, without a newline.
 pub fn table_line(

@@ -9,9 +9,9 @@ use crate::access::{TreeFault, data_sectors, read_block, tree_sectors};
 use crate::comparing::compare_tree;
 use crate::{SuperFault, Superblock, decode};
 use block_device::{BlockDev, DeviceFault};
-use hash_tree::Digest;
 use std::alloc::{AllocError, Global};
 use thiserror::Error;
+use tree_shape::Digest;
 
 /// What was found.
 #[derive(Clone, Copy, Debug, PartialEq, Eq)]

@@ -7,8 +7,9 @@ ghost use Rattle.verity_format.specs.Writing.{StandsWithin, IsPartWritten, AreWr
 use crate::access::{TreeFault, zeros};
 use crate::growth::{RUN, take_run};
 use block_device::{BlockDev, DeviceFault};
-use hash_tree::{Digest, LevelBuilder, Placed, Salt, Shape};
+use hash_tree::{LevelBuilder, Placed};
 use std::alloc::{AllocError, Global};
+use tree_shape::{Digest, Salt, Shape};
 
 /// Writes the blocks, each at its place.
 fn write_blocks<H: BlockDev>(

@@ -5,7 +5,7 @@ use Rattle.std.proofs.lemmas.List.Elements.{All-append, All-replicate, All-take,
 use Rattle.std.proofs.Math.Seq.{take-append_seam, drop-append_seam}
 use Rattle.std.proofs.lemmas.List.Sorted.{All-permutation, IsPermutation-sym, length_permutation}
 use Rattle.std.specs.List.{All}
-use Rattle.hash_tree.specs.Shape.{ShapeRecord, IsShape, area_blocks}
+use Rattle.tree_shape.specs.Shape.{ShapeRecord, IsShape, area_blocks}
 use Rattle.hash_tree.specs.Tree.{area}
 use Rattle.hash_tree.specs.Laws.{AreDigests}
 use Rattle.hash_tree.proofs.lemmas.LawLemmas.{stands-in_shape}

@@ -5,7 +5,7 @@ use Rattle.std.proofs.Math.Seq.{take-add, take-append-add, drop-append-add}
 use Rattle.std.proofs.lemmas.List.{append-nil, length-append, nil_from_length, take-append-drop}
 use Rattle.std.proofs.lemmas.List.Elements.{All-head, All-tail, All-cons, All-nil}
 use Rattle.std.specs.List.{concat}
-use Rattle.hash_tree.specs.Digests.{digest}
+use Rattle.tree_shape.specs.Digests.{digest}
 use Rattle.hash_tree.specs.Building.{LevelRecord, PlacedRecord, BuilderRecord, Grown, grow, grow_all, grow_block, grown, grown_block, done, then_, pushed, completed, pushed_block, completed_block, is_between, HaveRoom, HasSome, IsPushed}
 use Rattle.hash_tree.proofs.lemmas.GrowLemmas.{grow-short, grow-full, HasSome-later}
 use Rattle.hash_tree.proofs.lemmas.PackingLemmas.{AllOf, length-concat}

@@ -4,10 +4,10 @@ use Rattle.std.proofs.lemmas.Bool.{cases_lt}
 use Rattle.std.proofs.lemmas.List.{append-nil, length-append}
 use Rattle.std.proofs.lemmas.List.FromFn.{length-map-range_with_len, get_or-map-range_with_len}
 use Rattle.std.proofs.lemmas.List.Elements.{All-head, All-tail, All-cons, All-nil, All-from_get_or}
-use Rattle.hash_tree.specs.Digests.{digest}
-use Rattle.hash_tree.specs.Shape.{ShapeRecord, IsShape, levels, level_blocks, position, area_end}
-use Rattle.hash_tree.proofs.lemmas.ShapeFactLemmas.{position-lt, level_blocks-is}
-use Rattle.hash_tree.proofs.lemmas.ShapeFaultLemmas.{blocks-le, area_end-le}
+use Rattle.tree_shape.specs.Digests.{digest}
+use Rattle.tree_shape.specs.Shape.{ShapeRecord, IsShape, levels, level_blocks, position, area_end}
+use Rattle.tree_shape.proofs.lemmas.ShapeFactLemmas.{position-lt, level_blocks-is}
+use Rattle.tree_shape.proofs.lemmas.ShapeFaultLemmas.{blocks-le, area_end-le}
 use Rattle.hash_tree.proofs.lemmas.GrowLemmas.{grow-none, grow-short, grow-full}
 use Rattle.hash_tree.specs.Building.{LevelRecord, Grown, BuilderRecord, grow, grow_all, begun_levels, begun_builder, HaveRoom, then_, pushed, completed}
 

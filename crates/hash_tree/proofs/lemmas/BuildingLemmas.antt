@@ -10,14 +10,14 @@ use Rattle.std.specs.Int.{div_ceil}
 use Rattle.std.specs.Option.{unwrap_or}
 use Rattle.std.specs.List.{concat, range_with_len}
 use Rattle.std.specs.List.Sorted.{IsPermutation}
-use Rattle.hash_tree.specs.Digests.{digest}
-use Rattle.hash_tree.specs.Shape.{ShapeRecord, IsShape, per_block, levels, position, area_blocks}
+use Rattle.tree_shape.specs.Digests.{digest}
+use Rattle.tree_shape.specs.Shape.{ShapeRecord, IsShape, per_block, levels, position, area_blocks}
 use Rattle.hash_tree.specs.Tree.{filled, cut, pack, digests_above, area, root}
 use Rattle.hash_tree.specs.Building.{LevelRecord, PlacedRecord, Grown, Closed, grow, grow_all, then_, close, close_block, numbered, begun_levels, begun_builder, pushed, completed, last_completed, built_root, IsBuilt}
 use Rattle.hash_tree.proofs.lemmas.GrowLemmas.{grow-short, grow-full, close-none}
-use Rattle.hash_tree.proofs.lemmas.ShapeLemmas.{over, div_ceil-suc, levels-one, levels-up, blocks_above-first, blocks_above-up}
-use Rattle.hash_tree.proofs.lemmas.ShapeFaultLemmas.{per_block-wide}
-use Rattle.hash_tree.proofs.lemmas.ShapeFactLemmas.{two as two_of, over-same}
+use Rattle.tree_shape.proofs.lemmas.ShapeLemmas.{over, div_ceil-suc, levels-one, levels-up, blocks_above-first, blocks_above-up}
+use Rattle.tree_shape.proofs.lemmas.ShapeFaultLemmas.{per_block-wide}
+use Rattle.tree_shape.proofs.lemmas.ShapeFactLemmas.{two as two_of, over-same}
 use Rattle.hash_tree.specs.Laws.{AreDigests}
 use Rattle.hash_tree.proofs.lemmas.PackingLemmas.{AllOf, length-cut, div_ceil-whole}
 use Rattle.hash_tree.proofs.lemmas.TreeLemmas.{length-digest, length-above, above-sized, length-area, root-one, root-up, area-one, area-up}

@@ -4,12 +4,12 @@ use Rattle.std.specs.Prelude.{slice_get}
 use Rattle.std.proofs.Math.Nat.{div-lt_self, div-div-eq-div-mul, pow-zero, div-one, pow-succ'}
 use Rattle.std.proofs.lemmas.Bool.{cases_lt}
 use Rattle.std.proofs.lemmas.Option.{slice_get-get_or}
-use Rattle.hash_tree.specs.Shape.{ShapeRecord, IsShape, per_block, levels, level_blocks, blocks_above, position, area_blocks, area_end}
+use Rattle.tree_shape.specs.Shape.{ShapeRecord, IsShape, per_block, levels, level_blocks, blocks_above, position, area_blocks, area_end}
 use Rattle.hash_tree.specs.Tree.{area, level}
 use Rattle.hash_tree.specs.Laws.{HasBlock, AreDigests, StandsInShape}
-use Rattle.hash_tree.proofs.lemmas.ShapeLemmas.{over, levels-one, levels-up, level_blocks-first, level_blocks-up, area_blocks-one, area_blocks-up, blocks_above-first, blocks_above-up, place-lt}
-use Rattle.hash_tree.proofs.lemmas.ShapeFaultLemmas.{per_block-wide}
-use Rattle.hash_tree.proofs.lemmas.ShapeFactLemmas.{two as two_of, over-same, position-lt, above-lt}
+use Rattle.tree_shape.proofs.lemmas.ShapeLemmas.{over, levels-one, levels-up, level_blocks-first, level_blocks-up, area_blocks-one, area_blocks-up, blocks_above-first, blocks_above-up, place-lt}
+use Rattle.tree_shape.proofs.lemmas.ShapeFaultLemmas.{per_block-wide}
+use Rattle.tree_shape.proofs.lemmas.ShapeFactLemmas.{two as two_of, over-same, position-lt, above-lt}
 use Rattle.hash_tree.proofs.lemmas.TreeLemmas.{area-sized}
 use Rattle.hash_tree.proofs.lemmas.TreeFactLemmas.{top-none, length-area_of, length-level, area-place}
 

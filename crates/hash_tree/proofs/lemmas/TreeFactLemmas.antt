@@ -3,12 +3,12 @@ use Rattle.std.proofs.Common.{◌≡◌, ◌≤◌, ◌<◌, ◌/◌, ◌*◌, �
 use Rattle.std.proofs.Math.Nat.{div-div-eq-div-mul, pow-zero, div-one, zero-div, pow-succ'}
 use Rattle.std.proofs.lemmas.List.{length-map, get_or_append_left, get_or-append-add}
 use Rattle.std.proofs.lemmas.List.Elements.{All-map}
-use Rattle.hash_tree.specs.Digests.{digest}
-use Rattle.hash_tree.specs.Shape.{ShapeRecord, IsShape, per_block, levels, level_blocks, blocks_above, area_blocks}
+use Rattle.tree_shape.specs.Digests.{digest}
+use Rattle.tree_shape.specs.Shape.{ShapeRecord, IsShape, per_block, levels, level_blocks, blocks_above, area_blocks}
 use Rattle.hash_tree.specs.Tree.{pack, digests_above, root, area, level}
-use Rattle.hash_tree.proofs.lemmas.ShapeLemmas.{over, levels-one, levels-up, level_blocks-over, level_blocks-first, level_blocks-up, blocks_above-first, blocks_above-up, place-lt}
-use Rattle.hash_tree.proofs.lemmas.ShapeFaultLemmas.{per_block-wide}
-use Rattle.hash_tree.proofs.lemmas.ShapeFactLemmas.{two as two_of, over-same}
+use Rattle.tree_shape.proofs.lemmas.ShapeLemmas.{over, levels-one, levels-up, level_blocks-over, level_blocks-first, level_blocks-up, blocks_above-first, blocks_above-up, place-lt}
+use Rattle.tree_shape.proofs.lemmas.ShapeFaultLemmas.{per_block-wide}
+use Rattle.tree_shape.proofs.lemmas.ShapeFactLemmas.{two as two_of, over-same}
 use Rattle.hash_tree.proofs.lemmas.PackingLemmas.{AllOf}
 use Rattle.hash_tree.proofs.lemmas.TreeLemmas.{length-digest, length-pack, pack-sized, above-sized, length-above, root-one, root-up, area-up, length-area}
 

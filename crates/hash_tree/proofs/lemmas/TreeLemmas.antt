@@ -7,10 +7,10 @@ use Rattle.std.proofs.lemmas.List.Elements.{All-map, All-same, All-nil, All-appe
 use Rattle.std.specs.Int.{div_ceil}
 use Rattle.std.specs.List.{concat}
 use Rattle.sha2.proofs.Facts256.{length-sha256}
-use Rattle.hash_tree.specs.Digests.{digest, digest_in}
-use Rattle.hash_tree.specs.Shape.{ShapeRecord, per_block, area_blocks}
+use Rattle.tree_shape.specs.Digests.{digest, digest_in}
+use Rattle.tree_shape.specs.Shape.{ShapeRecord, per_block, area_blocks}
 use Rattle.hash_tree.specs.Tree.{pack, digests_above, root_in, root, area_in, area}
-use Rattle.hash_tree.proofs.lemmas.ShapeLemmas.{over, div_ceil-suc, area_blocks-one, area_blocks-up}
+use Rattle.tree_shape.proofs.lemmas.ShapeLemmas.{over, div_ceil-suc, area_blocks-one, area_blocks-up}
 use Rattle.hash_tree.proofs.lemmas.PackingLemmas.{AllOf, length-concat, piece-concat, padded, cut-sized, length-cut, get_or-cut}
 
 pub length-digest : (salt block : List ℕ) → length (digest salt block) ≡ 32

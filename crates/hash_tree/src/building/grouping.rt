@@ -6,8 +6,8 @@ ghost use Rattle.hash_tree.specs.Building.{completed, HasSome, IsPushed, are_who
 use super::{Level, LevelBuilder, Placed, append, rise};
 use crate::block_digests::eight_digests;
 use crate::packing::are_whole;
-use crate::{Digest, Salt};
 use std::alloc::{AllocError, Global};
+use tree_shape::{Digest, Salt};
 
 impl LevelBuilder {
     /// The first of these digests, and how many those are: those of eight whole blocks of the lowest level, which are

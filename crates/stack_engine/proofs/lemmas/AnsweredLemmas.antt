@@ -5,7 +5,7 @@ use Rattle.std.proofs.lemmas.Bool.{cases_lt}
 use Rattle.hash_tree.specs.declared.difference.Place.{Place}
 use Rattle.hash_tree.specs.Chain.{IsGood, formed}
 use Rattle.hash_tree.specs.Difference.{IsTopmostDifference, IsCollision, block_at as chain_block}
-use Rattle.hash_tree.specs.Digests.{digest}
+use Rattle.tree_shape.specs.Digests.{digest}
 use Rattle.hash_tree.specs.Laws.{AreBlocks, ForgedBlocksCollide}
 use Rattle.hash_tree.specs.Tree.{root}
 use Rattle.dm_table.specs.declared.verity.Verity.{Verity}

@@ -6,7 +6,7 @@ use Rattle.std.proofs.lemmas.Bool.{cases_lt}
 use Rattle.std.proofs.lemmas.Nat.{div-mul-add, mod-mul-add, div-add-mod'}
 use Rattle.std.proofs.Math.Nat.{mul-le-mul_right}
 use Rattle.hash_tree.specs.Chain.{ChainRecord, HangsFrom, IsGood}
-use Rattle.hash_tree.specs.Shape.{ShapeRecord}
+use Rattle.tree_shape.specs.Shape.{ShapeRecord}
 use Rattle.block_device.specs.Device.{Device}
 use Rattle.dm_table.specs.declared.verity.Verity.{Verity}
 use Rattle.stack_rules.specs.Records.{Configuration}

@@ -10,12 +10,12 @@ use Rattle.std.proofs.lemmas.List.Elements.{All-head, All-tail, All-get_or, All-
 use Rattle.std.proofs.lemmas.Option.{get_or_from_slice_get, slice_get-get_or}
 use Rattle.std.proofs.lemmas.Nat.{div_below, mod_below}
 use Rattle.hash_tree.specs.Chain.{HangsFrom, path_to, formed}
-use Rattle.hash_tree.specs.Digests.{digest}
+use Rattle.tree_shape.specs.Digests.{digest}
 use Rattle.hash_tree.specs.Laws.{AreBlocks, HasBlock, FormedChainsAreGood, StandsInShape}
-use Rattle.hash_tree.specs.Shape.{ShapeRecord, IsShape, levels, blocks_above, position, ancestor, area_blocks}
+use Rattle.tree_shape.specs.Shape.{ShapeRecord, IsShape, levels, blocks_above, position, ancestor, area_blocks}
 use Rattle.hash_tree.specs.Tree.{root, area, level}
 use Rattle.hash_tree.proofs.lemmas.LawLemmas.{stands-in_shape}
-use Rattle.hash_tree.proofs.lemmas.ShapeFactLemmas.{ancestor-lt, above-lt}
+use Rattle.tree_shape.proofs.lemmas.ShapeFactLemmas.{ancestor-lt, above-lt}
 use Rattle.hash_tree.proofs.lemmas.TreeLemmas.{length-digest}
 use Rattle.dm_table.specs.declared.verity.Verity.{Verity}
 use Rattle.dm_table.specs.declared.table.Target.{Target}

@@ -5,8 +5,8 @@ use Rattle.std.proofs.lemmas.Slice.Eq.{bytes_eq-Decides}
 use Rattle.std.proofs.lemmas.List.{append_assoc, append-nil, length-append, length-replicate}
 use Rattle.std.proofs.Math.Nat.{mul-le-mul_right, mul_assoc}
 use Rattle.hash_tree.specs.Chain.{HangsFrom}
-use Rattle.hash_tree.specs.Digests.{digest}
-use Rattle.hash_tree.specs.Shape.{levels}
+use Rattle.tree_shape.specs.Digests.{digest}
+use Rattle.tree_shape.specs.Shape.{levels}
 use Rattle.block_device.specs.Device.{Device}
 use Rattle.dm_table.specs.declared.verity.Verity.{Verity}
 use Rattle.stack_rules.specs.Trees.{tree_of, block_sectors, zero_block}

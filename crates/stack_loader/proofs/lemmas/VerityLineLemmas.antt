@@ -2,8 +2,8 @@
 use Rattle.std.proofs.Common.{subst, ◌≡◌, ◌+◌, ◌*◌, ◌/◌, ◌≤◌, ◌<◌, ℕ, zero, suc, refl, sym, ap, ◌∙◌, Bool, true, false, ◌&&◌, Some, None, arith}
 use Rattle.std.proofs.Math.Nat.{mul-le-mul_right}
 use Rattle.std.proofs.lemmas.Bool.{ltb-false}
-use Rattle.hash_tree.specs.Shape.{IsShape, first_fault, area_end, sectors_of}
-use Rattle.hash_tree.proofs.lemmas.ShapeFaultLemmas.{first_fault-none}
+use Rattle.tree_shape.specs.Shape.{IsShape, first_fault, area_end, sectors_of}
+use Rattle.tree_shape.proofs.lemmas.ShapeFaultLemmas.{first_fault-none}
 use Rattle.dm_table.specs.Grammar.{IsTargetOfGrammar, IsVerityOfGrammar}
 use Rattle.dm_table.specs.declared.table.Line.{Line}
 use Rattle.dm_table.specs.declared.table.Target.TheVariants.{Verity}

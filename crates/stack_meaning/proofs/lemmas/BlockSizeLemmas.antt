@@ -1,7 +1,7 @@
 -- The sizes of blocks.
 use Rattle.std.proofs.Common.{◌≡◌, ℕ, ◌*◌, ◌/◌, ◌≤◌, Bool, true, false, IsTrue, ◌||◌, ◌==◌, refl, arith}
 use Rattle.std.proofs.lemmas.Bool.{eqb-true}
-use Rattle.hash_tree.specs.Shape.{is_block_size}
+use Rattle.tree_shape.specs.Shape.{is_block_size}
 
 -- a block is whole sectors, 1 to 8
 pub record IsWholeSectors (size : ℕ) : Type 0 where

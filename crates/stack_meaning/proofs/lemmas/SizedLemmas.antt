@@ -63,7 +63,7 @@ then-parts (Ok b) next bytes e = (b, refl, e)
 then-parts (Err f) next bytes e = cc
 
 checked-is : (salt expected block bytes : List ℕ) → checked salt expected block ≡ Ok bytes → block ≡ bytes
-checked-is salt expected block bytes e = go (Rattle.std.specs.Str.bytes_eq (Rattle.hash_tree.specs.Digests.digest salt block) expected) e
+checked-is salt expected block bytes e = go (Rattle.std.specs.Str.bytes_eq (Rattle.tree_shape.specs.Digests.digest salt block) expected) e
   where
     go : (t : Rattle.std.proofs.Common.Bool) → Rattle.std.proofs.Common.cond t (Ok block) (Err mismatch) ≡ Ok bytes → block ≡ bytes
     go Rattle.std.proofs.Common.true h = cc

@@ -1,6 +1,6 @@
 -- `verity`: data blocks of one device, checked by a tree on another.
 use Rattle.std.specs.Prelude.{[], ◌∷◌, ◌+◌, ◌*◌, true, nat_lt, Some, None, if◌then◌else◌}
-use Rattle.hash_tree.specs.Digests.{digest}
+use Rattle.tree_shape.specs.Digests.{digest}
 use Rattle.dm_table.specs.declared.verity.Verity.{Verity}
 use Rattle.stack_rules.specs.declared.refusal.LoadKind.TheVariants.{LineBeyondTree, NeedsReadOnly}
 use Rattle.stack_rules.specs.TargetRules.{TargetRules, bare, cost_at}

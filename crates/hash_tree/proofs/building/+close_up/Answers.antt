@@ -2,7 +2,7 @@ use Rattle.std.proofs.Common.{rules, ◌≡◌, ◌++◌, ◌∷◌, [], List, �
 use Rattle.std.proofs.lemmas.Bool.{eqb-false}
 use Rattle.std.proofs.lemmas.Result.{on_ok_weaker}
 use Rattle.std.specs.Option.{unwrap_or}
-use Rattle.hash_tree.specs.Digests.{digest}
+use Rattle.tree_shape.specs.Digests.{digest}
 use Rattle.hash_tree.specs.Building.{LevelRecord, close, Closed}
 use Rattle.hash_tree.proofs.lemmas.GrowLemmas.{close-none, close-empty, close-begun, HasSome-more, put-more}
 use Rattle.hash_tree.proofs.building.+close_up.Goals as goal

@@ -1,6 +1,6 @@
 use Rattle.std.proofs.Common.{rules, ◌≡◌, ◌++◌, ◌∷◌, [], ℕ, suc, length, sym, ap, ◌∙◌, arith, refl}
 use Rattle.std.proofs.lemmas.Result.{on_ok_weaker}
-use Rattle.hash_tree.specs.Digests.{digest}
+use Rattle.tree_shape.specs.Digests.{digest}
 use Rattle.hash_tree.specs.Building.{LevelRecord, grow, done}
 use Rattle.hash_tree.proofs.lemmas.GrowLemmas.{grow-none, grow-short, grow-full, HasSome-more, put-more, cons-same}
 use Rattle.hash_tree.proofs.building.+rise.Goals as goal

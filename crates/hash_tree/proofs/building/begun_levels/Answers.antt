@@ -1,7 +1,7 @@
 use Rattle.std.proofs.Common.{[], sym, ◌∙◌, arith, ℕ, zero-add}
 use Rattle.std.proofs.lemmas.List.FromFn.{map-range_with_len_more}
-use Rattle.hash_tree.specs.Shape.{position}
-use Rattle.hash_tree.proofs.lemmas.ShapeFactLemmas.{level_blocks-is}
+use Rattle.tree_shape.specs.Shape.{position}
+use Rattle.tree_shape.proofs.lemmas.ShapeFactLemmas.{level_blocks-is}
 use Rattle.hash_tree.specs.Building.{LevelRecord}
 use Rattle.hash_tree.proofs.building.begun_levels.Goals as goal
 

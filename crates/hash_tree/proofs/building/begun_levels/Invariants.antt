@@ -1,5 +1,5 @@
 use Rattle.std.proofs.Common.{◌≡◌}
-use Rattle.hash_tree.specs.Shape.{levels}
+use Rattle.tree_shape.specs.Shape.{levels}
 use Rattle.hash_tree.specs.Building.{begun_levels}
 use Rattle.hash_tree.proofs.building.begun_levels.Given as goal
 

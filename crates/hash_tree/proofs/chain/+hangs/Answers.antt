@@ -1,7 +1,7 @@
 use Rattle.std.proofs.Common.{◌≡◌, [], length, sym, ap, ◌∙◌, arith}
 use Rattle.std.proofs.lemmas.List.{nil_from_length, length-map}
-use Rattle.hash_tree.specs.Digests.{digest, digest_in}
-use Rattle.hash_tree.specs.Shape.{slot, ancestor}
+use Rattle.tree_shape.specs.Digests.{digest, digest_in}
+use Rattle.tree_shape.specs.Shape.{slot, ancestor}
 use Rattle.hash_tree.proofs.BlockListLemmas.{blocks_of, ne_same}
 use Rattle.hash_tree.proofs.ChainLemmas.{hangs_last, hangs_step}
 use Rattle.hash_tree.proofs.chain.+hangs.Goals as goal

@@ -1,4 +1,4 @@
-use Rattle.hash_tree.proofs.lemmas.ShapeFactLemmas.{slot-inside}
+use Rattle.tree_shape.proofs.lemmas.ShapeFactLemmas.{slot-inside}
 use Rattle.hash_tree.proofs.laws.slots_lie_inside.Goals as goal
 
 pub returns : goal.returns

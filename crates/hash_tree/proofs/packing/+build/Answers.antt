@@ -3,7 +3,7 @@ use Rattle.std.proofs.lemmas.List.{nil_from_length, get_or_read_under}
 use Rattle.std.proofs.lemmas.List.Elements.{All-map}
 use Rattle.std.proofs.lemmas.Result.{on_ok_weaker, IfOk-weaker}
 use Rattle.std.specs.List.{concat}
-use Rattle.hash_tree.specs.Digests.{digest}
+use Rattle.tree_shape.specs.Digests.{digest}
 use Rattle.hash_tree.specs.Tree.{area, root, pack, digests_above}
 use Rattle.hash_tree.proofs.lemmas.PackingLemmas.{AllOf}
 use Rattle.hash_tree.proofs.lemmas.TreeLemmas.{length-digest}

@@ -1,8 +1,8 @@
 use Rattle.std.proofs.Common.{◌≡◌, ◌≤◌, ◌*◌, ◌^◌, [], length, sym, ap, ◌∙◌, arith}
 use Rattle.std.proofs.Math.Nat.{mul_comm}
-use Rattle.hash_tree.specs.Shape.{area_blocks}
+use Rattle.tree_shape.specs.Shape.{area_blocks}
 use Rattle.hash_tree.specs.Tree.{area}
-use Rattle.hash_tree.proofs.lemmas.ShapeFactLemmas.{area_bytes}
+use Rattle.tree_shape.proofs.lemmas.ShapeFactLemmas.{area_bytes}
 use Rattle.hash_tree.proofs.lemmas.TreeFactLemmas.{length-area_of}
 use Rattle.hash_tree.proofs.packing.area.Goals as goal
 

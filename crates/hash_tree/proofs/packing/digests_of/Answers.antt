@@ -5,6 +5,6 @@ use Rattle.hash_tree.proofs.packing.digests_of.Goals as goal
 pub returns : goal.returns
 returns c =
     let v = c.in_ok-digests.digests in
-    let put : List (List ℕ) = c.digests.new.out in
-    let kept : length put ≡ v.len = c.digests.auto.out ∙ c.deref_mut.ensures.len in
-    take_at put (drop (length put) v.items) v.len kept ∙ c.digests.ensures
+    let put : List (List ℕ) = c.digest_blocks.new.out in
+    let kept : length put ≡ v.len = c.digest_blocks.auto.out ∙ c.deref_mut.ensures.len in
+    take_at put (drop (length put) v.items) v.len kept ∙ c.digest_blocks.ensures

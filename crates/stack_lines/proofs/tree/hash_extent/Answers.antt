@@ -1,5 +1,5 @@
 use Rattle.std.proofs.Common.{◌≡◌, ◌<◌, ◌+◌, ◌*◌, ◌∙◌, ℕ, ap, subst, arith}
-use Rattle.hash_tree.specs.Shape.{ShapeRecord, area_end, position, ancestor}
+use Rattle.tree_shape.specs.Shape.{ShapeRecord, area_end, position, ancestor}
 use Rattle.stack_rules.specs.Trees.{tree_of}
 use Rattle.stack_meaning.specs.Blocks.{hash_sectors}
 use Rattle.stack_lines.specs.declared.tree.Extent.{Extent}

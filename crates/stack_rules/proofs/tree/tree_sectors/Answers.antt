@@ -1,5 +1,5 @@
 use Rattle.std.proofs.Common.{◌≡◌, refl, sym, ◌∙◌, arith}
-use Rattle.hash_tree.specs.Shape.{area_end}
+use Rattle.tree_shape.specs.Shape.{area_end}
 use Rattle.stack_rules.specs.Trees.{tree_of}
 use Rattle.stack_rules.proofs.TreeLemmas.{area_end-none, area_end-some}
 use Rattle.stack_rules.proofs.tree.tree_sectors.Goals as goal

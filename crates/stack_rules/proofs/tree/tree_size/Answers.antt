@@ -1,7 +1,7 @@
 use Rattle.std.proofs.Common.{◌≤◌, arith}
-use Rattle.hash_tree.specs.Shape.{ShapeRecord, per_block}
-use Rattle.hash_tree.proofs.lemmas.ShapeLemmas.{area_blocks-step}
-use Rattle.hash_tree.proofs.lemmas.ShapeFaultLemmas.{block_size-wide}
+use Rattle.tree_shape.specs.Shape.{ShapeRecord, per_block}
+use Rattle.tree_shape.proofs.lemmas.ShapeLemmas.{area_blocks-step}
+use Rattle.tree_shape.proofs.lemmas.ShapeFaultLemmas.{block_size-wide}
 use Rattle.stack_rules.specs.Trees.{tree_of}
 use Rattle.stack_rules.proofs.TreeLemmas.{levels-step, levels-end, levels-few, area_blocks-few, fewer-blocks}
 use Rattle.stack_rules.proofs.tree.tree_size.Goals as goal

@@ -1,6 +1,6 @@
 use Rattle.std.proofs.Common.{◌≡◌, ◌+◌, ◌≤◌, ◌/◌}
-use Rattle.hash_tree.specs.Shape.{levels, area_blocks}
-use Rattle.hash_tree.proofs.lemmas.ShapeLemmas.{over}
+use Rattle.tree_shape.specs.Shape.{levels, area_blocks}
+use Rattle.tree_shape.proofs.lemmas.ShapeLemmas.{over}
 use Rattle.stack_rules.specs.Trees.{tree_of}
 use Rattle.stack_rules.proofs.tree.tree_size.Given as goal
 

@@ -1,5 +1,5 @@
 use Rattle.std.proofs.Common.{arith}
-use Rattle.hash_tree.proofs.lemmas.ShapeFaultLemmas.{blocks-le}
+use Rattle.tree_shape.proofs.lemmas.ShapeFaultLemmas.{blocks-le}
 use Rattle.verity_format.proofs.access.image_sectors.Goals as goal
 
 pub overflow_add-result : goal.overflow_add-result

@@ -1,7 +1,7 @@
 use Rattle.std.proofs.Common.{◌≡◌, ◌∙◌, ℕ, List, length, map, ap}
 use Rattle.std.specs.Vec.{with_items}
 use Rattle.std.proofs.lemmas.List.{with_items_is, length-replicate}
-use Rattle.hash_tree.specs.Shape.{levels}
+use Rattle.tree_shape.specs.Shape.{levels}
 use Rattle.hash_tree.specs.Chain.{ChainRecord}
 use Rattle.verity_format.specs.Blocks.{block_at}
 use Rattle.verity_format.specs.Chain.{stored_chain, stored_path}

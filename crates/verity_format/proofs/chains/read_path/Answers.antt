@@ -2,7 +2,7 @@ use Rattle.std.proofs.Common.{◌≡◌, ◌+◌, ◌-◌, ◌*◌, ◌/◌, ◌
 use Rattle.std.specs.Vec.{with_items}
 use Rattle.std.proofs.lemmas.List.{with_items_is, take_all, append-nil}
 use Rattle.std.proofs.lemmas.List.Elements.{All-set}
-use Rattle.hash_tree.specs.Shape.{position, ancestor, area_end, levels}
+use Rattle.tree_shape.specs.Shape.{position, ancestor, area_end, levels}
 use Rattle.verity_format.specs.Blocks.{block_at, IsFullRead}
 use Rattle.verity_format.specs.Chain.{stored_path}
 use Rattle.verity_format.proofs.DeviceLemmas.{only_read-then, full_read-then, steady-then}

@@ -1,5 +1,5 @@
 use Rattle.std.proofs.Common.{◌≡◌, ◌+◌, ◌*◌, ◌/◌, ◌++◌, IsTrue, All, length, map, take}
-use Rattle.hash_tree.specs.Shape.{levels}
+use Rattle.tree_shape.specs.Shape.{levels}
 use Rattle.verity_format.specs.Blocks.{IsOnlyRead, IsFullRead}
 use Rattle.verity_format.specs.Chain.{stored_path}
 use Rattle.verity_format.proofs.chains.read_path.Given as goal

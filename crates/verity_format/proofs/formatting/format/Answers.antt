@@ -1,7 +1,7 @@
 use Rattle.std.proofs.Common.{◌≡◌, ◌≤◌, ◌+◌, ◌/◌, ◌%◌, ◌∙◌, ℕ, IsTrue, true, refl, sym, ap, subst, length, arith, inr}
 use Rattle.std.proofs.lemmas.Result.{err_from_is_err_and}
 use Rattle.block_device.specs.Device.{spliced, sectors_of}
-use Rattle.hash_tree.specs.Shape.{ShapeRecord}
+use Rattle.tree_shape.specs.Shape.{ShapeRecord}
 use Rattle.verity_format.specs.Superblock.{SuperRecord, shape_of}
 use Rattle.verity_format.specs.Image.{data_sectors, image_sectors, formatted}
 use Rattle.verity_format.specs.Writing.{IsPartOfTree, IsTreeWritten}

@@ -1,7 +1,7 @@
 use Rattle.std.proofs.Common.{◌≡◌, ◌≤◌, ◌-◌, ◌*◌, ◌/◌, ◌++◌, ◌∙◌, ℕ, List, All, sym, ap, subst, arith, length, drop, map}
 use Rattle.std.proofs.lemmas.List.{take_at}
 use Rattle.hash_tree.specs.Building.{completed}
-use Rattle.hash_tree.specs.Digests.{digest}
+use Rattle.tree_shape.specs.Digests.{digest}
 use Rattle.verity_format.specs.Blocks.{IsFullRead, blocks_at}
 use Rattle.verity_format.specs.Growth.{IsDigest}
 use Rattle.verity_format.proofs.RunLemmas.{quotient-some}

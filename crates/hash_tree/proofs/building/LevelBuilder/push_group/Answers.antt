@@ -2,7 +2,7 @@ use Rattle.std.proofs.Common.{◌≡◌, ◌<◌, ◌≤◌, ◌+◌, ◌-◌, �
 use Rattle.std.proofs.Math.Nat.{mul-le-mul_left, mul_comm, mul-zero}
 use Rattle.std.proofs.lemmas.List.{take_all, length-take-le}
 use Rattle.std.specs.List.{concat}
-use Rattle.hash_tree.specs.Digests.{digest}
+use Rattle.tree_shape.specs.Digests.{digest}
 use Rattle.hash_tree.specs.Building.{BuilderRecord, completed, IsPushed}
 use Rattle.hash_tree.proofs.lemmas.GrowLemmas.{HasSome-all}
 use Rattle.hash_tree.proofs.lemmas.BuilderLemmas.{left-pushed, failed-pushed}

@@ -1,0 +1,4 @@
+-- What callers may cite.
+pub mod ShapeFactLemmas
+pub mod ShapeFaultLemmas
+pub mod ShapeLemmas

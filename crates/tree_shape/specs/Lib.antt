@@ -1,0 +1,3 @@
+pub mod Digests
+pub mod Salt
+pub mod Shape
