@@ -1,6 +1,8 @@
 -- The arguments of a `verity` line, as the kernel's dm-verity page lists them.
 use Rattle.std.specs.Prelude.{ℕ, ◌/◌, Bool, true, false, ◌&&◌, ◌==◌, nat_le, if◌then◌else◌, List, [], ◌∷◌, length, codes, Ok, Err, ok_or}
 use Rattle.std.specs.Str.{bytes_eq}
+use Rattle.tree_shape.specs.declared.algorithm.Algorithm.{Algorithm}
+use Rattle.tree_shape.specs.Algorithms.{algorithm_named}
 use Rattle.tree_shape.specs.Shape.{is_block_size}
 use Rattle.dm_table.specs.declared.verity.Verity.{Verity}
 use Rattle.dm_table.specs.declared.fault.TextKind.TheVariants as kinds
@@ -18,8 +20,8 @@ version_at word = ok_or (number_if (λ n. n == 1) (number word)) kinds.Version
 abbrev pub block_size_at : Word → Read ℕ
 block_size_at word = ok_or (number_if is_block_size (number word)) kinds.BlockSize
 
-abbrev pub algorithm_at : Word → Read Unit
-algorithm_at word = if bytes_eq word (codes "sha256") then Ok tt else Err kinds.Algorithm
+abbrev pub algorithm_at : Word → Read Algorithm
+algorithm_at word = ok_or (algorithm_named word) kinds.Algorithm
 
 -- a root digest of 32 bytes
 abbrev pub digest_at : Word → Read (List ℕ)

@@ -2,6 +2,8 @@
 use Rattle.std.specs.Prelude.{ℕ, Bool, if◌then◌else◌, List, [], ◌∷◌, length, decimal, ◌*◌, replicate, codes}
 use Rattle.dm_table.specs.Words.{Word}
 use Rattle.hex.specs.Hex.{encode_lower}
+use Rattle.tree_shape.specs.declared.algorithm.Algorithm.TheVariants.{Sha256}
+use Rattle.tree_shape.specs.Algorithms.{algorithm_name}
 use Rattle.dm_table.specs.declared.crypt.Crypt.{Crypt}
 use Rattle.dm_table.specs.declared.verity.Verity.{Verity}
 use Rattle.dm_table.specs.Crypt.{cipher}
@@ -30,4 +32,4 @@ salt_word (byte ∷ more) = encode_lower (byte ∷ more)
 unfoldable pub verity_words : Verity → List Word
 verity_words verity =
     codes "1" ∷ verity.data ∷ verity.hash ∷ decimal verity.data_block ∷ decimal verity.hash_block ∷ decimal verity.blocks ∷ decimal verity.start
-    ∷ codes "sha256" ∷ encode_lower verity.root ∷ salt_word verity.salt ∷ options_words (verity_options verity.ignore_zero_blocks)
+    ∷ algorithm_name Sha256 ∷ encode_lower verity.root ∷ salt_word verity.salt ∷ options_words (verity_options verity.ignore_zero_blocks)

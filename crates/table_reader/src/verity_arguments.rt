@@ -12,7 +12,7 @@ use crate::numbers::{number, read_number};
 use crate::option_words::read_options;
 use dm_table::{Name, TextKind, Verity, is_device, is_kept};
 use std::alloc::Global;
-use tree_shape::{Digest, Salt, is_block_size};
+use tree_shape::{Algorithm, Digest, Salt, is_block_size};
 
 /// Two for each of 256 bytes.
 const MOST_SALT_DIGITS: usize = 512;
@@ -122,14 +122,10 @@ fn read_block_size(word: &[u8]) -> Result<u32, TextKind>
     }
 }
 
-fn check_algorithm(word: &[u8]) -> Result<(), TextKind>
+fn check_algorithm(word: &[u8]) -> Result<Algorithm, TextKind>
     ensures { result ≡ algorithm_at word.now }
 {
-    if word == b"sha256".as_slice() {
-        Ok(())
-    } else {
-        Err(TextKind::Algorithm)
-    }
+    Algorithm::named(word).ok_or(TextKind::Algorithm)
 }
 
 fn read_root(word: &[u8]) -> Result<Digest, TextKind>

@@ -1,3 +1,4 @@
+pub mod Algorithms
 pub mod Digests
 pub mod Salt
 pub mod Shape

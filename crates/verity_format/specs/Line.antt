@@ -1,6 +1,8 @@
 -- The table line that opens a formatted image.
 use Rattle.std.specs.Prelude.{ℕ, List, [], ◌∷◌, ◌++◌, codes, decimal}
 use Rattle.hex.specs.Hex.{encode_lower}
+use Rattle.tree_shape.specs.declared.algorithm.Algorithm.TheVariants.{Sha256}
+use Rattle.tree_shape.specs.Algorithms.{algorithm_name}
 use Rattle.verity_format.specs.Superblock.{SuperRecord, shape_of}
 use Rattle.verity_format.specs.Image.{data_sectors}
 
@@ -18,5 +20,5 @@ spaced word = 32 ∷ word
 abbrev pub table_text : SuperRecord → List ℕ → List ℕ → List ℕ → List ℕ
 table_text s data_name hash_name root =
     codes "0" ++ spaced (decimal (data_sectors (shape_of s))) ++ spaced (codes "verity") ++ spaced (codes "1") ++ spaced data_name ++ spaced hash_name
-    ++ spaced (decimal s.data_block) ++ spaced (decimal s.hash_block) ++ spaced (decimal s.blocks) ++ spaced (codes "1") ++ spaced (codes "sha256")
+    ++ spaced (decimal s.data_block) ++ spaced (decimal s.hash_block) ++ spaced (decimal s.blocks) ++ spaced (codes "1") ++ spaced (algorithm_name Sha256)
     ++ spaced (encode_lower root) ++ spaced (salt_word s.salt)

@@ -3,6 +3,8 @@ use Rattle.std.specs.Prelude.{◌≡◌, ℕ, ◌+◌, ◌-◌, ◌≤◌, not, 
 use Rattle.std.specs.List.{before_first}
 use Rattle.std.specs.Str.{bytes_eq}
 use Rattle.std.specs.Int.{w16, w32, w64, from_le_bytes, to_le_bytes}
+use Rattle.tree_shape.specs.declared.algorithm.Algorithm.TheVariants.{Sha256}
+use Rattle.tree_shape.specs.Algorithms.{algorithm_name}
 use Rattle.tree_shape.specs.Shape.{ShapeRecord, IsShape, first_fault, is_block_size}
 use Rattle.verity_format.specs.declared.decoding.SuperFault.{SuperFault}
 use Rattle.verity_format.specs.declared.decoding.SuperFault.TheVariants.{Signature, Version, HashType, Algorithm, DataBlockSize, HashBlockSize, DataBlocks, SaltSize}
@@ -55,7 +57,7 @@ pub record Carries (s : SuperRecord) (bytes : List ℕ) : Type 0 where
   pub version : number32 bytes 8 ≡ 1
   pub hash_type : number32 bytes 12 ≡ 1
   pub uuid : slice_range bytes 16 32 ≡ s.uuid
-  pub algorithm : algorithm_of bytes ≡ codes "sha256"
+  pub algorithm : algorithm_of bytes ≡ algorithm_name Sha256
   pub data_block : number32 bytes 64 ≡ s.data_block
   pub hash_block : number32 bytes 68 ≡ s.hash_block
   pub blocks : number64 bytes 72 ≡ s.blocks
@@ -64,7 +66,7 @@ pub record Carries (s : SuperRecord) (bytes : List ℕ) : Type 0 where
 
 -- the spelling in which every free byte is zero
 unfoldable pub spelling : SuperRecord → List ℕ
-spelling s = signature ++ to_le_bytes w32 1 ++ to_le_bytes w32 1 ++ s.uuid ++ codes "sha256" ++ replicate 26 0
+spelling s = signature ++ to_le_bytes w32 1 ++ to_le_bytes w32 1 ++ s.uuid ++ algorithm_name Sha256 ++ replicate 26 0
     ++ to_le_bytes w32 s.data_block ++ to_le_bytes w32 s.hash_block ++ to_le_bytes w64 s.blocks ++ to_le_bytes w16 (length s.salt) ++ replicate 6 0
     ++ s.salt ++ replicate (424 - length s.salt) 0
 
@@ -75,7 +77,7 @@ super_fault bytes =
     if not (bytes_eq (slice_range bytes 0 8) signature) then Some Signature
     else if not (number32 bytes 8 == 1) then Some Version
     else if not (number32 bytes 12 == 1) then Some HashType
-    else if not (bytes_eq (algorithm_of bytes) (codes "sha256")) then Some Algorithm
+    else if not (bytes_eq (algorithm_of bytes) (algorithm_name Sha256)) then Some Algorithm
     else if not (is_block_size (number32 bytes 64)) then Some DataBlockSize
     else if not (is_block_size (number32 bytes 68)) then Some HashBlockSize
     else if is_some (first_fault (shape_after (number32 bytes 64) (number32 bytes 68) (number64 bytes 72))) then Some DataBlocks

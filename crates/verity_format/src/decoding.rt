@@ -1,14 +1,16 @@
 // Reading a superblock.
-ghost use Rattle.std.specs.Prelude.{◌≡◌, ◌+◌, ◌≤◌, ◌==◌, ◌↔◌, length, IfOk, IsSome, IfSome, slice_range, codes, position};
+ghost use Rattle.std.specs.Prelude.{◌≡◌, ◌+◌, ◌≤◌, ◌==◌, ◌↔◌, length, IfOk, IsSome, IfSome, slice_range, position};
 ghost use Rattle.std.specs.Result.{result_err};
 ghost use Rattle.std.specs.Str.{bytes_eq};
 ghost use Rattle.std.specs.List.{before_first};
+ghost use Rattle.tree_shape.specs.declared.algorithm.Algorithm.TheVariants.{Sha256};
+ghost use Rattle.tree_shape.specs.Algorithms.{algorithm_name};
 ghost use Rattle.verity_format.specs.FaultNames.{super_number, super_name};
 ghost use Rattle.verity_format.specs.Superblock.{SuperRecord, IsSuperblock, Carries, number16, number32, number64, spelling, super_fault, read_of};
 
 use crate::Superblock;
 use thiserror::Error;
-use tree_shape::{Salt, Shape, is_block_size};
+use tree_shape::{Algorithm, Salt, Shape, is_block_size};
 
 /// The first field that is wrong, in the order in which the fields are looked at.
 #[derive(Clone, Copy, Debug, PartialEq, Eq, Error)]
@@ -152,9 +154,9 @@ fn number64(bytes: &[u8], at: usize) -> u64
 
 // Whether the field holds `sha256` up to its first zero byte.
 fn is_sha256(field: &[u8]) -> bool
-    ensures { result ≡ bytes_eq (before_first (λ b. b == 0) field.now) (codes "sha256") }
+    ensures { result ≡ bytes_eq (before_first (λ b. b == 0) field.now) (algorithm_name Sha256) }
 {
-    before_zero(field) == b"sha256".as_slice()
+    before_zero(field) == Algorithm::Sha256.name()
 }
 
 // What stands before the first zero byte, or all where there is none.
