@@ -4,7 +4,7 @@ use anyhow::{Context, Result, bail};
 use hash_tree::digest_blocks;
 use sha2::{Digest as _, Sha256};
 use std::time::CpuClock;
-use tree_shape::{Digest, Salt};
+use tree_shape::{Algorithm, Digest, Salt};
 
 const BLOCK: usize = 4096;
 
@@ -12,7 +12,7 @@ const BLOCKS: usize = 16384;
 
 /// Runs both in turn, and prints how many times as fast ours are, by the medians of processor time, and our time.
 pub fn measure<R: CpuClock + Print + AllocGlobal>(rt: &R) -> Result<()> {
-    let salt = Salt::new(&[0xa5; 32]).context("the salt is too long")?;
+    let salt = Salt::new(Algorithm::Sha256, &[0xa5; 32]).context("the salt is too long")?;
     let blocks = vec![in rt.alloc(); 0x5au8; BLOCKS * BLOCK]?;
     let mut made = vec![in rt.alloc(); Digest::new([0; Digest::SIZE]); BLOCKS]?;
     let mut ours = Vec::new(rt.alloc());

@@ -7,7 +7,7 @@ use dm_table::{ParseFault, StackText, Table};
 use hash_tree::{Chain, area};
 use std::alloc::Global;
 use table_reader::parse_table;
-use tree_shape::{Digest, Salt, Shape};
+use tree_shape::{Algorithm, Digest, Salt, Shape};
 use verity_format::{ChainFault, data_sectors, read_chain, tree_sectors};
 
 const TABLE: &[u8] = b"0 8 striped 2 4 A 0 B 0\n8 8 linear C 2\n16 1 error\n";
@@ -72,7 +72,7 @@ fn stack_of<R: Print + AllocGlobal>(rt: &R, table: Table) -> Result<StackText> {
 }
 
 fn area_of<R: Print + AllocGlobal>(rt: &R, shape: &Shape) -> Result<(Vec<u8>, Digest)> {
-    let salt = Salt::new(b"salt").context("the salt was refused")?;
+    let salt = Salt::new(Algorithm::Sha256, b"salt").context("the salt was refused")?;
     if shape.blocks() != 17 {
         bail!("another shape");
     }

@@ -11,7 +11,7 @@ use crate::fault::WordsFault;
 use clap::ArgMatches;
 use std::alloc::Global;
 use table_reader::number;
-use tree_shape::Salt;
+use tree_shape::{Algorithm, Salt};
 use uuid::Uuid;
 
 const BLOCK_SIZE: u32 = 4096;
@@ -105,7 +105,7 @@ fn salt_of(alloc: Global, word: Option<&str>) -> Result<Option<Salt>, WordsFault
         return Ok(None);
     };
     if word == "-" {
-        return Ok(Salt::new(&[]));
+        return Ok(Salt::new(Algorithm::Sha256, &[]));
     }
     if word.is_empty() {
         return Err(WordsFault::Usage);
@@ -115,7 +115,7 @@ fn salt_of(alloc: Global, word: Option<&str>) -> Result<Option<Salt>, WordsFault
         Err(hex::FromHexError::OutOfMemory) => return Err(WordsFault::NoMemory),
         Err(_) => return Err(WordsFault::Usage),
     };
-    match Salt::new(bytes.as_slice()) {
+    match Salt::new(Algorithm::Sha256, bytes.as_slice()) {
         Some(salt) => Ok(Some(salt)),
         None => Err(WordsFault::Usage),
     }

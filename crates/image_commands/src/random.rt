@@ -4,7 +4,7 @@ ghost use Rattle.rand_core.specs.Stream.{fill_bytes};
 ghost use Rattle.uuid.specs.Parts.{v4_of_fill};
 
 use rand_core::Rng;
-use tree_shape::Salt;
+use tree_shape::{Algorithm, Salt};
 use uuid::Uuid;
 
 /// The stream's next 32 bytes as a salt, and a version 4 identifier from the stream that is left.
@@ -15,5 +15,8 @@ pub fn draw<R: Rng>(random: &mut R) -> (Salt, [u8; 16])
     let mut bytes = [0u8; 32];
     random.fill_bytes(&mut bytes);
     let uuid = Uuid::new_v4(random);
-    (Salt::new(&bytes).unwrap(), uuid.into_bytes())
+    (
+        Salt::new(Algorithm::Sha256, &bytes).unwrap(),
+        uuid.into_bytes(),
+    )
 }

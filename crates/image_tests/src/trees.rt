@@ -3,7 +3,7 @@ use crate::has_digits;
 use hash_tree::{Chain, Place, area, collide};
 use std::alloc::{AllocError, Global};
 use std::test::Fail;
-use tree_shape::{Salt, Shape, ShapeFault};
+use tree_shape::{Algorithm, Salt, Shape, ShapeFault};
 
 /// The size of a hash block, the root and the digest of the area, by Python's hashlib: digest i is that of the eight bytes of i.
 static TREES: [(u32, &str, &str); 2] = [
@@ -22,8 +22,8 @@ static TREES: [(u32, &str, &str); 2] = [
 #[test]
 fn areas_of_20001_digests(rt: HostRuntime) -> Result<(), Fail> {
     let alloc = rt.alloc();
-    let salt = Salt::new(&[0xab; 7]).ok_or("salt")?;
-    let empty = Salt::new(&[]).ok_or("salt")?;
+    let salt = Salt::new(Algorithm::Sha256, &[0xab; 7]).ok_or("salt")?;
+    let empty = Salt::new(Algorithm::Sha256, &[]).ok_or("salt")?;
     let mut digests = Vec::new(alloc);
     for i in 0..20_001_u64 {
         digests.push(salt.digest(&i.to_le_bytes()))?;

@@ -4,7 +4,7 @@ use block_device::ScriptDev;
 use stack_engine::{Answer, Fault, IoFault};
 use std::alloc::Global;
 use std::test::Fail;
-use tree_shape::Salt;
+use tree_shape::{Algorithm, Salt};
 
 /// Two blocks of zeros, without a salt; the root is hashlib's.
 const TWO: &[u8] =
@@ -31,7 +31,9 @@ fn is_mismatch(answer: &Option<Result<Answer, IoFault>>) -> bool {
 
 /// A device of which the tree's block is read at first, and then one of which a byte is another.
 fn hash_dev(alloc: Global) -> Result<ScriptDev, Fail> {
-    let zeros = Salt::new(b"").ok_or("no salt")?.digest(&[0; 512]);
+    let zeros = Salt::new(Algorithm::Sha256, b"")
+        .ok_or("no salt")?
+        .digest(&[0; 512]);
     let mut tree = Vec::from_slice(alloc, zeros.as_bytes())?;
     tree.extend_from_slice(zeros.as_bytes())?;
     let mut other = tree.clone()?;

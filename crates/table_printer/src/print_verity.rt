@@ -8,7 +8,6 @@ use crate::digits::push_digits;
 use crate::print::{push_spaced, push_spaced_number};
 use dm_table::Verity;
 use std::alloc::AllocError;
-use tree_shape::Algorithm;
 
 /// Prints the target of a `verity` line.
 pub(crate) fn print_verity(text: &mut Vec<u8>, verity: &Verity) -> Result<(), AllocError>
@@ -24,7 +23,7 @@ pub(crate) fn print_verity(text: &mut Vec<u8>, verity: &Verity) -> Result<(), Al
     push_spaced_number(text, u64::from(verity.hash_block))?;
     push_spaced_number(text, verity.blocks)?;
     push_spaced_number(text, verity.start)?;
-    push_spaced(text, Algorithm::Sha256.name())?;
+    push_spaced(text, verity.salt.algorithm().name())?;
     push_digits(text, verity.root.as_bytes())?;
     print_salt(text, verity.salt.bytes())?;
     print_options(text, verity.ignore_zero_blocks)?;

@@ -44,9 +44,9 @@ pub(crate) fn read_verity(alloc: Global, mut arguments: Words<'_>) -> Result<Ver
     let hash_block = read_block_size(words.hash_block)?;
     let blocks = read_number(words.blocks)?;
     let start = read_number(words.start)?;
-    check_algorithm(words.algorithm)?;
+    let algorithm = read_algorithm(words.algorithm)?;
     let root = read_root(words.root)?;
-    let salt = read_salt(words.salt)?;
+    let salt = read_salt(algorithm, words.salt)?;
     let options = read_options(alloc, arguments, &["ignore_zero_blocks"])?;
     let ignore_zero_blocks = is_kept(&options, b"ignore_zero_blocks");
     let data = Name::new(alloc, words.device)?;
@@ -122,7 +122,7 @@ fn read_block_size(word: &[u8]) -> Result<u32, TextKind>
     }
 }
 
-fn check_algorithm(word: &[u8]) -> Result<Algorithm, TextKind>
+fn read_algorithm(word: &[u8]) -> Result<Algorithm, TextKind>
     ensures { result ≡ algorithm_at word.now }
 {
     Algorithm::named(word).ok_or(TextKind::Algorithm)
@@ -136,25 +136,25 @@ fn read_root(word: &[u8]) -> Result<Digest, TextKind>
     Ok(Digest::new(root))
 }
 
-fn read_salt(word: &[u8]) -> Result<Salt, TextKind>
+fn read_salt(algorithm: Algorithm, word: &[u8]) -> Result<Salt, TextKind>
     ensures { result ≡ salt_at word.now }
 {
     if word == b"-".as_slice() {
-        return Salt::new(&[]).ok_or(TextKind::Salt);
+        return Salt::new(algorithm, &[]).ok_or(TextKind::Salt);
     }
     if word.len() < 2 || word.len() > MOST_SALT_DIGITS {
         return Err(TextKind::Salt);
     }
     let mut bytes = [0u8; 256];
-    decode_salt(word, &mut bytes[..word.len() / 2])
+    decode_salt(algorithm, word, &mut bytes[..word.len() / 2])
 }
 
 // The salt of those digits, which is decoded where there is room for half as many bytes.
-fn decode_salt(word: &[u8], room: &mut [u8]) -> Result<Salt, TextKind>
+fn decode_salt(algorithm: Algorithm, word: &[u8], room: &mut [u8]) -> Result<Salt, TextKind>
     requires half { length room.old ≡ length word.now / 2 }
     requires fits { length room.old ≤ 256 }
     ensures { result ≡ bytes_at (length word.now / 2) kinds.Salt word.now }
 {
     decode_digits(word, room, TextKind::Salt)?;
-    Salt::new(room).ok_or(TextKind::Salt)
+    Salt::new(algorithm, room).ok_or(TextKind::Salt)
 }

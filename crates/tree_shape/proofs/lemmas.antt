@@ -1,4 +1,5 @@
 -- What callers may cite.
+pub mod AlgorithmLemmas
 pub mod ShapeFactLemmas
 pub mod ShapeFaultLemmas
 pub mod ShapeLemmas

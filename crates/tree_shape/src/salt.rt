@@ -1,14 +1,17 @@
-// A salt, in place.
+// A salt and its algorithm, in place.
 ghost use Rattle.std.specs.Prelude.{◌≡◌, ◌-◌, ◌++◌, ◌↔◌, ◌≤◌, length, replicate, IsSome, IfSome};
 ghost use Rattle.tree_shape.specs.Digests.{digest};
+ghost use Rattle.tree_shape.specs.declared.algorithm.Algorithm.TheVariants.{Sha256 as sha256_algorithm};
 
-use crate::Digest;
+use crate::{Algorithm, Digest};
 use sha2::{Digest as _, Sha256};
 use std::marker::Model;
 
-/// At most 256 bytes, which contracts see as the list of those bytes.
+/// What stands before each block as it is hashed, at most 256 bytes, and by which algorithm. Contracts see the list
+/// of those bytes, since there is one algorithm.
 #[derive(Clone, Copy)]
 pub struct Salt {
+    algorithm: Algorithm,
     bytes: [u8; 256],
     len: usize,
 }
@@ -31,7 +34,7 @@ impl Model for Salt {
 
 impl Salt {
     /// A salt of these bytes, if there are at most 256.
-    pub fn new(salt: &[u8]) -> Option<Salt>
+    pub fn new(algorithm: Algorithm, salt: &[u8]) -> Option<Salt>
         ensures found { IsSome result ↔ (length salt.now ≤ 256) }
         ensures value { IfSome result (λ s. s ≡ salt.now) }
     {
@@ -39,9 +42,17 @@ impl Salt {
             return None;
         }
         Some(Salt {
+            algorithm,
             bytes: padded(salt),
             len: salt.len(),
         })
+    }
+
+    /// The algorithm of the digests.
+    pub fn algorithm(&self) -> Algorithm
+        ensures { result ≡ sha256_algorithm }
+    {
+        self.algorithm
     }
 
     /// The bytes.
@@ -52,16 +63,25 @@ impl Salt {
         &self.bytes[..self.len]
     }
 
-    /// SHA-256 of the salt followed by the block, both read as they lie.
-    #[tactic(auto, unfolding(crate::specs::Digests::digest))]
+    /// The digest of the salt followed by the block, both read as they lie.
     pub fn digest(&self, block: &[u8]) -> Digest
         ensures { result ≡ digest self.now block.now }
     {
-        let mut hasher = Sha256::new();
-        hasher.update(self.bytes());
-        hasher.update(block);
-        Digest::new(hasher.finalize())
+        match self.algorithm {
+            Algorithm::Sha256 => sha256(self.bytes(), block),
+        }
     }
+}
+
+/// SHA-256 of the one followed by the other.
+#[tactic(auto, unfolding(crate::specs::Digests::digest))]
+fn sha256(salt: &[u8], block: &[u8]) -> Digest
+    ensures { result ≡ digest salt.now block.now }
+{
+    let mut hasher = Sha256::new();
+    hasher.update(salt);
+    hasher.update(block);
+    Digest::new(hasher.finalize())
 }
 
 /// The bytes, and zeros to the array's end.

@@ -1,5 +1,5 @@
 // Reading a superblock.
-ghost use Rattle.std.specs.Prelude.{◌≡◌, ◌+◌, ◌≤◌, ◌==◌, ◌↔◌, length, IfOk, IsSome, IfSome, slice_range, position};
+ghost use Rattle.std.specs.Prelude.{◌≡◌, ◌+◌, ◌≤◌, ◌==◌, ◌↔◌, length, IfOk, IsSome, IfSome, is_some, slice_range, position};
 ghost use Rattle.std.specs.Result.{result_err};
 ghost use Rattle.std.specs.Str.{bytes_eq};
 ghost use Rattle.std.specs.List.{before_first};
@@ -85,9 +85,9 @@ fn fields(bytes: &[u8; 512]) -> Result<Superblock, SuperFault>
     if number32(bytes, 12) != 1 {
         return Err(SuperFault::HashType);
     }
-    if !is_sha256(&bytes[32..64]) {
+    let Some(algorithm) = algorithm_of(&bytes[32..64]) else {
         return Err(SuperFault::Algorithm);
-    }
+    };
     let data_block = number32(bytes, 64);
     if !is_block_size(data_block) {
         return Err(SuperFault::DataBlockSize);
@@ -99,14 +99,14 @@ fn fields(bytes: &[u8; 512]) -> Result<Superblock, SuperFault>
     let Ok(shape) = Shape::new(data_block, hash_block, number64(bytes, 72), 1) else {
         return Err(SuperFault::DataBlocks);
     };
-    let Some(salt) = salt_of(bytes) else {
+    let Some(salt) = salt_of(algorithm, bytes) else {
         return Err(SuperFault::SaltSize);
     };
     Ok(Superblock::with_shape(uuid_of(bytes), shape, salt))
 }
 
 // The salt, unless it is too long.
-fn salt_of(bytes: &[u8; 512]) -> Option<Salt>
+fn salt_of(algorithm: Algorithm, bytes: &[u8; 512]) -> Option<Salt>
     ensures found { IsSome result ↔ (number16 bytes.now 80 ≤ 256) }
     ensures value { IfSome result (λ s. s ≡ slice_range bytes.now 88 (88 + number16 bytes.now 80)) }
 {
@@ -114,7 +114,7 @@ fn salt_of(bytes: &[u8; 512]) -> Option<Salt>
     if size > 256 {
         return None;
     }
-    Salt::new(&bytes[88..88 + size])
+    Salt::new(algorithm, &bytes[88..88 + size])
 }
 
 fn uuid_of(bytes: &[u8; 512]) -> [u8; 16]
@@ -152,11 +152,11 @@ fn number64(bytes: &[u8], at: usize) -> u64
     u64::from_le_bytes(number)
 }
 
-// Whether the field holds `sha256` up to its first zero byte.
-fn is_sha256(field: &[u8]) -> bool
-    ensures { result ≡ bytes_eq (before_first (λ b. b == 0) field.now) (algorithm_name Sha256) }
+// The algorithm that the field names up to its first zero byte.
+fn algorithm_of(field: &[u8]) -> Option<Algorithm>
+    ensures { is_some result ≡ bytes_eq (before_first (λ b. b == 0) field.now) (algorithm_name Sha256) }
 {
-    before_zero(field) == Algorithm::Sha256.name()
+    Algorithm::named(before_zero(field))
 }
 
 // What stands before the first zero byte, or all where there is none.

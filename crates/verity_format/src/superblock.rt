@@ -5,7 +5,7 @@ ghost use Rattle.tree_shape.specs.Shape.{IsShape, first_fault};
 ghost use Rattle.verity_format.specs.Superblock.{shape_of, shape_after, IsSuperblock, Carries, spelling};
 
 use std::marker::Model;
-use tree_shape::{Algorithm, Salt, Shape, ShapeFault};
+use tree_shape::{Salt, Shape, ShapeFault};
 
 /// What stands before the tree of a hash image: an identifier, the block sizes in bytes, the number of
 /// data blocks, and the salt. The tree begins at hash block 1.
@@ -107,6 +107,7 @@ impl Superblock {
         ensures carried { Carries self.now result }
     {
         let shape = self.shape();
+        let algorithm = self.salt.algorithm();
         let salt = self.salt();
         let salt = salt.bytes();
         let mut bytes = [0; 512];
@@ -114,7 +115,7 @@ impl Superblock {
         put(&mut bytes, 8, &1u32.to_le_bytes());
         put(&mut bytes, 12, &1u32.to_le_bytes());
         put(&mut bytes, 16, &self.uuid());
-        put(&mut bytes, 32, Algorithm::Sha256.name());
+        put(&mut bytes, 32, algorithm.name());
         put(&mut bytes, 64, &shape.data_block().to_le_bytes());
         put(&mut bytes, 68, &shape.hash_block().to_le_bytes());
         put(&mut bytes, 72, &shape.blocks().to_le_bytes());

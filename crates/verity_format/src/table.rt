@@ -6,7 +6,7 @@ ghost use Rattle.verity_format.specs.Line.{table_text, salt_word, spaced};
 use crate::Superblock;
 use crate::access::data_sectors;
 use std::alloc::{AllocError, Global};
-use tree_shape::{Algorithm, Digest};
+use tree_shape::Digest;
 
 /// The table line of the image, `0 N verity 1 DATA HASH ..`, without a newline.
 pub fn table_line(
@@ -31,7 +31,7 @@ pub fn table_line(
     push_number(alloc, &mut line, u64::from(superblock.hash_block()))?;
     push_number(alloc, &mut line, superblock.blocks())?;
     push_word(&mut line, b"1")?;
-    push_word(&mut line, Algorithm::Sha256.name())?;
+    push_word(&mut line, salt.algorithm().name())?;
     push_digits(alloc, &mut line, root.as_bytes())?;
     push_salt(alloc, &mut line, salt.bytes())?;
     Ok(line)

@@ -1,5 +1,6 @@
-use Rattle.std.proofs.Common.{List, ◌∷◌, codes, decimal, refl, ap}
+use Rattle.std.proofs.Common.{List, ◌∷◌, codes, decimal, refl, ap, ◌∙◌}
 use Rattle.hex.specs.Hex.{encode_lower}
+use Rattle.tree_shape.specs.Algorithms.{algorithm_name}
 use Rattle.dm_table.specs.Words.{Word}
 use Rattle.table_printer.specs.ArgumentWords.{options_words, salt_word, verity_words}
 use Rattle.dm_table.specs.Verity.{verity_options}
@@ -30,7 +31,7 @@ returns c =
     then_word c.push_spaced_number.new.text.items c.push_spaced_number-2.new.text.items last (decimal v.hash_block) (decimal c.from-2.result) w6 (ap decimal c.from-2.ensures) c.in_ok-push_spaced_number-2.ensures (
     then_word c.push_spaced_number-2.new.text.items c.push_spaced_number-3.new.text.items last (decimal v.blocks) (decimal v.blocks) w7 refl c.in_ok-push_spaced_number-3.ensures (
     then_word c.push_spaced_number-3.new.text.items c.push_spaced_number-4.new.text.items last (decimal v.start) (decimal v.start) w8 refl c.in_ok-push_spaced_number-4.ensures (
-    then_word c.push_spaced_number-4.new.text.items c.push_spaced-5.new.text.items last (codes "sha256") c.name.result.now w9 c.name.ensures.value c.in_ok-push_spaced-5.ensures (
+    then_word c.push_spaced_number-4.new.text.items c.push_spaced-5.new.text.items last (codes "sha256") c.name.result.now w9 (c.name.ensures.value ∙ ap algorithm_name c.algorithm.ensures) c.in_ok-push_spaced-5.ensures (
     then_word c.push_spaced-5.new.text.items c.push_digits.new.text.items last (encode_lower v.root) (encode_lower c.as_bytes.result.now) w10 (ap encode_lower c.as_bytes.ensures.value) c.in_ok-push_digits.ensures (
     then_word c.push_digits.new.text.items c.print_salt.new.text.items last (salt_word v.salt) (salt_word c.bytes.result.now) w11 (ap salt_word c.bytes.ensures.value) c.in_ok-print_salt.ensures
     c.in_ok-print_options.ensures))))))))))

@@ -44,26 +44,26 @@ unfolding verity_at
 returns-in_err-start c =
     exit_kind _ _ _ c.from_residual-in_err-start.ensures.1 (rw (c.in_ok-words.ensures, sym c.in_ok-check_version.ensures, c.in_ok-check_device.ensures, c.in_ok-check_device-2.ensures, sym c.in_ok-data_block.ensures, sym c.in_ok-hash_block.ensures, sym c.in_ok-blocks.ensures, sym c.in_err-start.ensures) refl)
 
-pub returns-in_err-check_algorithm : goal.returns-in_err-check_algorithm
+pub returns-in_err-algorithm : goal.returns-in_err-algorithm
 unfolding verity_at
-returns-in_err-check_algorithm c =
-    exit_kind _ _ _ c.from_residual-in_err-check_algorithm.ensures.1 (rw (c.in_ok-words.ensures, sym c.in_ok-check_version.ensures, c.in_ok-check_device.ensures, c.in_ok-check_device-2.ensures, sym c.in_ok-data_block.ensures, sym c.in_ok-hash_block.ensures, sym c.in_ok-blocks.ensures, sym c.in_ok-start.ensures, sym c.in_err-check_algorithm.ensures) refl)
+returns-in_err-algorithm c =
+    exit_kind _ _ _ c.from_residual-in_err-algorithm.ensures.1 (rw (c.in_ok-words.ensures, sym c.in_ok-check_version.ensures, c.in_ok-check_device.ensures, c.in_ok-check_device-2.ensures, sym c.in_ok-data_block.ensures, sym c.in_ok-hash_block.ensures, sym c.in_ok-blocks.ensures, sym c.in_ok-start.ensures, sym c.in_err-algorithm.ensures) refl)
 
 pub returns-in_err-root : goal.returns-in_err-root
 unfolding verity_at
 returns-in_err-root c =
-    exit_kind _ _ _ c.from_residual-in_err-root.ensures.1 (rw (c.in_ok-words.ensures, sym c.in_ok-check_version.ensures, c.in_ok-check_device.ensures, c.in_ok-check_device-2.ensures, sym c.in_ok-data_block.ensures, sym c.in_ok-hash_block.ensures, sym c.in_ok-blocks.ensures, sym c.in_ok-start.ensures, sym c.in_ok-check_algorithm.ensures, sym c.in_err-root.ensures) refl)
+    exit_kind _ _ _ c.from_residual-in_err-root.ensures.1 (rw (c.in_ok-words.ensures, sym c.in_ok-check_version.ensures, c.in_ok-check_device.ensures, c.in_ok-check_device-2.ensures, sym c.in_ok-data_block.ensures, sym c.in_ok-hash_block.ensures, sym c.in_ok-blocks.ensures, sym c.in_ok-start.ensures, sym c.in_ok-algorithm.ensures, sym c.in_err-root.ensures) refl)
 
 pub returns-in_err-salt : goal.returns-in_err-salt
 unfolding verity_at
 returns-in_err-salt c =
-    exit_kind _ _ _ c.from_residual-in_err-salt.ensures.1 (rw (c.in_ok-words.ensures, sym c.in_ok-check_version.ensures, c.in_ok-check_device.ensures, c.in_ok-check_device-2.ensures, sym c.in_ok-data_block.ensures, sym c.in_ok-hash_block.ensures, sym c.in_ok-blocks.ensures, sym c.in_ok-start.ensures, sym c.in_ok-check_algorithm.ensures, sym c.in_ok-root.ensures, sym c.in_err-salt.ensures) refl)
+    exit_kind _ _ _ c.from_residual-in_err-salt.ensures.1 (rw (c.in_ok-words.ensures, sym c.in_ok-check_version.ensures, c.in_ok-check_device.ensures, c.in_ok-check_device-2.ensures, sym c.in_ok-data_block.ensures, sym c.in_ok-hash_block.ensures, sym c.in_ok-blocks.ensures, sym c.in_ok-start.ensures, sym c.in_ok-algorithm.ensures, sym c.in_ok-root.ensures, sym c.in_err-salt.ensures) refl)
 
 pub returns-in_err-options : goal.returns-in_err-options
 unfolding verity_at
 returns-in_err-options c =
-    exit_part _ _ _ _ c.from_residual-in_err-options.ensures.1 c.in_err-options.ensures (λ kind e. rw (c.in_ok-words.ensures, sym c.in_ok-check_version.ensures, c.in_ok-check_device.ensures, c.in_ok-check_device-2.ensures, sym c.in_ok-data_block.ensures, sym c.in_ok-hash_block.ensures, sym c.in_ok-blocks.ensures, sym c.in_ok-start.ensures, sym c.in_ok-check_algorithm.ensures, sym c.in_ok-root.ensures, sym c.in_ok-salt.ensures, e) refl)
+    exit_part _ _ _ _ c.from_residual-in_err-options.ensures.1 c.in_err-options.ensures (λ kind e. rw (c.in_ok-words.ensures, sym c.in_ok-check_version.ensures, c.in_ok-check_device.ensures, c.in_ok-check_device-2.ensures, sym c.in_ok-data_block.ensures, sym c.in_ok-hash_block.ensures, sym c.in_ok-blocks.ensures, sym c.in_ok-start.ensures, sym c.in_ok-algorithm.ensures, sym c.in_ok-root.ensures, sym c.in_ok-salt.ensures, e) refl)
 
 pub returns : goal.returns
 unfolding verity_at
-returns c = rw (c.in_ok-words.ensures, sym c.in_ok-check_version.ensures, c.in_ok-check_device.ensures, c.in_ok-check_device-2.ensures, sym c.in_ok-data_block.ensures, sym c.in_ok-hash_block.ensures, sym c.in_ok-blocks.ensures, sym c.in_ok-start.ensures, sym c.in_ok-check_algorithm.ensures, sym c.in_ok-root.ensures, sym c.in_ok-salt.ensures, c.in_ok-options.ensures, c.in_ok-data.ensures, c.in_ok-hash.ensures, c.is_kept-ignore_zero_blocks.ensures) refl
+returns c = rw (c.in_ok-words.ensures, sym c.in_ok-check_version.ensures, c.in_ok-check_device.ensures, c.in_ok-check_device-2.ensures, sym c.in_ok-data_block.ensures, sym c.in_ok-hash_block.ensures, sym c.in_ok-blocks.ensures, sym c.in_ok-start.ensures, sym c.in_ok-algorithm.ensures, sym c.in_ok-root.ensures, sym c.in_ok-salt.ensures, c.in_ok-options.ensures, c.in_ok-data.ensures, c.in_ok-hash.ensures, c.is_kept-ignore_zero_blocks.ensures) refl
