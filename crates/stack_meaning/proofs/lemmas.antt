@@ -18,5 +18,6 @@ pub mod RunLemmas
 pub mod SectorLemmas
 pub mod SizedLemmas
 pub mod SpanLemmas
+pub mod StripesLemmas
 pub mod UnitLemmas
 pub mod targets

@@ -9,7 +9,7 @@ use Rattle.stack_meaning.specs.declared.fault.IoFault.TheVariants.{Stack, Device
 use Rattle.stack_meaning.specs.Leaves.{AreRead, images_of}
 use Rattle.stack_meaning.specs.Meaning.{sector}
 use Rattle.stack_meaning.specs.declared.fault.Fault.{Fault}
-use Rattle.stack_meaning.specs.Outcomes.{Images, Outcome, error_target, joint_outcome, mismatch, span}
+use Rattle.stack_meaning.specs.Outcomes.{Images, Outcome, joint_outcome, span}
 use Rattle.stack_engine.specs.Pieces.{EachPiece}
 use Rattle.stack_engine.specs.Stacks.{StackRecord}
 use Rattle.stack_meaning.proofs.lemmas.LeafListLemmas.{AllSteady-kept, images-kept, same_length}

@@ -1,5 +1,5 @@
 -- The chains of an answer.
-use Rattle.std.proofs.Common.{◌≡◌, ◌≢◌, ℕ, ◌+◌, ◌/◌, List, [], ◌∷◌, ◌++◌, get_or, Contains, Option, Some, None, refl, sym, ap, ◌∙◌, subst, arith, inl, inr, true}
+use Rattle.std.proofs.Common.{◌≡◌, ◌≢◌, ℕ, ◌+◌, List, [], ◌++◌, get_or, Contains, Option, Some, None, sym, ap, ◌∙◌, subst, arith, inl, inr, true}
 use Rattle.std.proofs.lemmas.List.{append_cancel_left, get_or_default}
 use Rattle.std.proofs.lemmas.Bool.{cases_lt}
 use Rattle.hash_tree.specs.declared.difference.Place.{Place}

@@ -1,6 +1,6 @@
 -- What a device means depends on the leaves beneath it alone.
-use Rattle.std.proofs.Common.{◌≡◌, ℕ, zero, suc, ◌+◌, List, [], ◌∷◌, get_or, All, map, Option, Some, None, Ok, refl, ap}
-use Rattle.std.specs.Prelude.{flat_map, slice_get, option_map, option_and_then}
+use Rattle.std.proofs.Common.{◌≡◌, ℕ, zero, suc, ◌+◌, List, [], ◌∷◌, get_or, All, Option, Some, None, Ok, refl, ap}
+use Rattle.std.specs.Prelude.{flat_map}
 use Rattle.std.specs.List.{AllByRecursion}
 use Rattle.std.proofs.lemmas.List.Elements.{recursion_from_All}
 use Rattle.dm_table.specs.declared.table.Line.{Line}

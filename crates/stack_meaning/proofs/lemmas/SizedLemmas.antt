@@ -14,10 +14,10 @@ use Rattle.stack_rules.specs.Units.{unit_sectors}
 use Rattle.stack_rules.proofs.lemmas.UnitLemmas.{unit_sectors-some}
 use Rattle.stack_meaning.specs.Units.{unit_number, decrypted_unit, unit_part, unit_first}
 use Rattle.stack_meaning.specs.Beneath.{said_or}
-use Rattle.stack_meaning.specs.Blocks.{hash_sectors, hash_start, next_digest, checked, checked_span, is_ignored, data_block_at, block_below, block_at}
+use Rattle.stack_meaning.specs.Blocks.{hash_sectors, hash_start, next_digest, checked, checked_span, is_ignored, data_block_at, block_below}
 use Rattle.stack_meaning.specs.Said.{Said, none_said, leaf_said}
 use Rattle.stack_meaning.specs.targets.Crypt.{crypt_said}
-use Rattle.stack_meaning.specs.Outcomes.{Images, Outcome, mismatch, changed_outcome, joint_outcome, span, then_outcome, part, zero_sector, AreWhole}
+use Rattle.stack_meaning.specs.Outcomes.{Images, Outcome, mismatch, changed_outcome, joint_outcome, span, then_outcome, zero_sector, AreWhole}
 use Rattle.stack_meaning.proofs.lemmas.MeaningLaws.{IsSized}
 use Rattle.stack_meaning.proofs.lemmas.SpanLemmas.{span-add}
 

@@ -1,5 +1,5 @@
 -- The laws of `crypt`.
-use Rattle.std.proofs.Common.{◌≡◌, ◌+◌, ◌*◌, ◌≤◌, ◌==◌, ℕ, min, Bool, true, false, cond, List, Some, subst, arith}
+use Rattle.std.proofs.Common.{◌≡◌, ◌+◌, ◌*◌, ◌≤◌, ◌==◌, ℕ, min, Bool, true, false, cond, List, Some, refl, subst, arith}
 use Rattle.std.proofs.Math.Nat.{mul-le-mul_right}
 use Rattle.dm_table.specs.declared.crypt.Crypt.{Crypt}
 use Rattle.stack_rules.specs.TargetRules.{cost_at}
@@ -33,6 +33,7 @@ crypt-laws line =
     record {
       ranges = λ P len all. (all.0, tt);
       tree = λ P all. tt;
+      asked = λ len. ((refl, refl), ((refl, refl), tt));
       costs = record {
         read_covers = λ costs s p e. first-covers (u * cost_at costs 0) costs s p e (times-some u (cost_at costs 0) (unit_sectors-some line));
         write_covers = λ reads costs s p e.

@@ -6,4 +6,4 @@ use Rattle.stack_rules.proofs.lemmas.CostLaws.{dearest-laws}
 use Rattle.stack_rules.proofs.lemmas.TargetLaws.{TargetLaws}
 
 pub linear-laws : (base : Base) → TargetLaws (linear base)
-linear-laws base = record { ranges = λ P len all. (all.0, tt); tree = λ P all. tt; costs = dearest-laws (λ s. Some (0, s)) }
+linear-laws base = record { ranges = λ P len all. (all.0, tt); tree = λ P all. tt; asked = λ len. tt; costs = dearest-laws (λ s. Some (0, s)) }

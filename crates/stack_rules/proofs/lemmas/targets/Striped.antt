@@ -1,5 +1,5 @@
 -- The laws of `striped`.
-use Rattle.std.proofs.Common.{◌/◌, ℕ, List, [], ◌∷◌, length, map}
+use Rattle.std.proofs.Common.{◌/◌, ℕ, List, [], ◌∷◌, length, map, refl}
 use Rattle.std.specs.List.{AllByRecursion}
 use Rattle.dm_table.specs.declared.table.Base.{Base}
 use Rattle.stack_rules.specs.TargetRules.{Range, range_from}
@@ -15,5 +15,6 @@ pub striped-laws : (chunk : ℕ) (bases : List Base) → TargetLaws (striped chu
 striped-laws chunk bases = record {
   ranges = λ P len. each-range P (len / length bases) bases;
   tree = λ P all. tt;
+  asked = λ len. ((refl, refl), tt);
   costs = dearest-laws (striped chunk bases).lies;
 }

@@ -12,6 +12,7 @@ pub verity-laws : (line : Verity) → TargetLaws (verity line)
 verity-laws line = record {
   ranges = λ P len all. (all.0, tt);
   tree = λ P all. all.1.0;
+  asked = λ len. ((refl, refl), ((refl, refl), tt));
   costs = record {
     read_covers = λ costs s p e. cc;
     write_covers = λ reads costs s p e. cc;
