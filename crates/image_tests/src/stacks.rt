@@ -2,8 +2,9 @@
 ghost use Rattle.std.specs.Prelude.{◌≡◌, ◌∷◌, [], IfOk};
 
 use block_device::BlockDev;
+use stack_config::Leaf;
 use stack_engine::{Answer, IoFault, Stack};
-use stack_loader::{Config, Leaf};
+use stack_loader::config_over;
 use std::alloc::{AllocError, Global};
 use std::test::Fail;
 use table_reader::parse_stack;
@@ -41,7 +42,7 @@ pub fn stack_of<D: BlockDev + Drop>(
     }
     let leaves = pair(alloc, leaf_of(alloc, b"A", &a)?, leaf_of(alloc, b"B", &b)?)?;
     let devices = pair(alloc, a, b)?;
-    let config = Config::new(alloc, leaves)?;
+    let config = config_over(alloc, leaves)?;
     let mut stack = Stack::new(alloc, config, devices, capacity).map_err(|_| "no stack")?;
     let text = parse_stack(alloc, text)?;
     stack.load(&text).map_err(|_| "not loaded")?;

@@ -2,7 +2,7 @@
 ghost use Rattle.std.specs.Prelude.{◌≡◌, IfNone, IfSome};
 ghost use Rattle.nbd_server.specs.Exports.{HasNoExport, IsExport, export_record, is_asked, transmission_flags};
 
-use stack_loader::{Config, DevId};
+use stack_config::{Config, DevId};
 
 // The most bytes of a string of the protocol.
 const MOST_NAME: usize = 4096;

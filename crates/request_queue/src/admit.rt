@@ -7,7 +7,7 @@ ghost use Rattle.request_queue.specs.Requests.{request_record, sectors_for, writ
 use crate::fault::SubmitFault;
 use crate::range::{SectorRange, range_of};
 use crate::request::Request;
-use stack_loader::Config;
+use stack_config::Config;
 
 /// The sectors of a write, unless its bytes aren't whole sectors or its device may not be written.
 fn writable_sectors(

@@ -4,7 +4,7 @@ ghost use Rattle.stack_rules.specs.Names.{mapped, size};
 ghost use Rattle.request_queue.specs.Ranges.{IsInside, piece_len, range_of};
 
 use crate::fault::SubmitFault;
-use stack_loader::{Config, DevId};
+use stack_config::{Config, DevId};
 
 const MOST_PIECE: u64 = 128;
 

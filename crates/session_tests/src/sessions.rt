@@ -2,7 +2,7 @@
 use block_device::MemoryDev;
 use request_queue::{Queue, Request};
 use stack_engine::Stack;
-use stack_loader::Config;
+use stack_loader::config_over;
 use stack_session::{Counted, LIMIT, SessionFault, session};
 use std::alloc::Global;
 use std::io;
@@ -277,7 +277,7 @@ fn queue_of(alloc: Global, text: &[u8]) -> Result<Queue<MemoryDev>, Fail> {
     if text.len() > 1 << 20 {
         return Err(Fail::from("the text is too long"));
     }
-    let config = Config::new(alloc, Vec::new(alloc))?;
+    let config = config_over(alloc, Vec::new(alloc))?;
     let stack = Stack::new(alloc, config, Vec::new(alloc), 0).map_err(|_| "no stack")?;
     let mut queue = Queue::new(alloc, stack);
     let text = parse_stack(alloc, text)?;

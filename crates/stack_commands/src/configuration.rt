@@ -9,8 +9,9 @@ ghost use Rattle.stack_commands.specs.StackCommands.{FailsToLoad};
 use crate::opening::OpenLeaves;
 use block_device::{AnyDev, BlockDev};
 use command_faults::CommandFault;
+use stack_config::{Config, Leaf};
 use stack_engine::Stack;
-use stack_loader::{Config, Leaf};
+use stack_loader::{config_over, load};
 use std::alloc::Global;
 use table_reader::parse_stack;
 
@@ -25,9 +26,9 @@ pub fn configuration_of<'a>(
     ensures leaves { IfOk result (λ config. config.leaves ≡ leaves.items) }
     ensures err { IfErr result (λ fault. (configuration_of leaves.items text.now ≡ Err fault) ⊎ (fault ≡ CommandFault.NoMemory)) }
 {
-    let mut config = Config::new(alloc, leaves)?;
+    let mut config = config_over(alloc, leaves)?;
     let entries = parse_stack(alloc, text)?;
-    config.load(&entries)?;
+    load(&mut config, &entries)?;
     Ok(config)
 }
 

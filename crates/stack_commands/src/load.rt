@@ -13,7 +13,7 @@ use crate::opening::{OpenLeaves, open_all};
 use crate::source::read_stack;
 use command_faults::CommandFault;
 use command_line::Binding;
-use stack_loader::{Config, DevId, Leaf};
+use stack_config::{Config, DevId, Leaf};
 use stack_session::{Counted, WriteFault};
 use std::alloc::Global;
 use std::fs::File;

@@ -10,7 +10,7 @@ use crate::file_use::{FileUse, has_clash};
 use block_device::{AnyDev, BlockDev, MemoryDev, OpenFault};
 use command_faults::{CommandFault, open_file};
 use command_line::{Backing, Binding};
-use stack_loader::Leaf;
+use stack_config::Leaf;
 use std::alloc::{AllocError, Global};
 use std::fs::File;
 use std::rt::Files;

@@ -9,7 +9,7 @@ use command_faults::CommandFault;
 use command_line::Binding;
 use request_queue::Queue;
 use stack_engine::Stack;
-use stack_loader::Config;
+use stack_loader::config_over;
 use stack_session::{Counted, session};
 use std::fs::File;
 use std::io::{Read, Write};
@@ -29,7 +29,7 @@ pub fn serve_files<'a, R: Files<File = File> + AllocGlobal, S: Read, W: Write>(
     ensures err { IfErr result (IsServeEnd (map binding_record bindings.now) (streams (S.remaining reader.old.inner) (W.contents writer.old.inner)) (streams (S.remaining reader.new.inner) (W.contents writer.new.inner)) writer.new.failed) }
 {
     let OpenLeaves { leaves, devices } = open_all(rt, &[], bindings)?;
-    let config = Config::new(rt.alloc(), leaves)?;
+    let config = config_over(rt.alloc(), leaves)?;
     let Ok(stack) = Stack::new(rt.alloc(), config, devices, cache) else {
         return Err(CommandFault::NoMemory);
     };

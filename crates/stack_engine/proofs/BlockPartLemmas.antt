@@ -15,7 +15,7 @@ use Rattle.stack_rules.specs.Names.{mapped, lines_of}
 use Rattle.stack_rules.specs.Descend.{by_name, read_cost, line_read_cost}
 use Rattle.stack_rules.specs.Rules.{IsLoaded}
 use Rattle.stack_rules.specs.Trees.{block_sectors}
-use Rattle.stack_loader.proofs.lemmas.LoadedLineLemmas.{line-read-cost}
+use Rattle.stack_config.proofs.lemmas.LoadedLineLemmas.{line-read-cost}
 use Rattle.stack_meaning.specs.declared.fault.IoFault.{IoFault}
 use Rattle.stack_meaning.specs.declared.fault.IoFault.TheVariants as io
 use Rattle.stack_lines.specs.declared.source.BlockPart.{BlockPart}

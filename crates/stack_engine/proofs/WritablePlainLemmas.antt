@@ -9,7 +9,7 @@ use Rattle.stack_rules.specs.Names.{mapped, named, names, may_write}
 use Rattle.stack_rules.specs.Descend.{depth, known}
 use Rattle.stack_rules.specs.Lines.{line_at, IsLine}
 use Rattle.stack_rules.specs.Rules.{IsLoaded, needs_read_only}
-use Rattle.stack_loader.proofs.lemmas.LoadedLineLemmas.{sound-line, names-shallower, names-writable}
+use Rattle.stack_config.proofs.lemmas.LoadedLineLemmas.{sound-line, names-shallower, names-writable}
 use Rattle.stack_meaning.specs.Sectors.{on_found}
 use Rattle.stack_meaning.specs.Outcomes.{mismatch}
 use Rattle.stack_meaning.specs.Beneath.{beneath, below, said_or}

@@ -5,8 +5,8 @@ ghost use Rattle.stack_rules.specs.Rules.{IsLoaded};
 ghost use Rattle.stack_meaning.specs.Meaning.{said_at};
 ghost use Rattle.stack_lines.specs.Writing.{SomeEncrypt, IsBufferFor};
 
+use stack_config::{Config, DevId};
 use stack_lines::device_encrypts;
-use stack_loader::{Config, DevId};
 use std::alloc::{AllocError, Global};
 
 pub(crate) fn fill_zeros(out: &mut [u8])

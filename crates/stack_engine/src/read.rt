@@ -18,13 +18,13 @@ use crate::reader::Reader;
 use block_device::BlockDev;
 use dm_table::Verity;
 use hash_tree::Chain;
+use stack_config::{Config, DevId, Lower};
 use stack_lines::tree::{
     Extent, Tree, copy_part, data_extent, find, hash_extent, hash_key, is_ignored, tree_at,
     verity_at,
 };
 use stack_lines::units::{MOST, crypt_at, decrypt, take_sectors, unit_at, whole_unit};
 use stack_lines::{BlockPart, Source, run_at};
-use stack_loader::{Config, DevId, Lower};
 use stack_meaning::{Fault, Found, IoFault};
 use tree_shape::{Digest, Salt, digest_in};
 use verified_cache::Key;

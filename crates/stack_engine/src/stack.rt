@@ -22,8 +22,9 @@ use crate::sync::sync_leaves;
 use crate::write::write_device;
 use block_device::{BlockDev, SyncDev};
 use dm_table::StackText;
+use stack_config::{Config, DevId};
 use stack_lines::Cache;
-use stack_loader::{Config, DevId, LoadFault, RemoveFault};
+use stack_loader::{LoadFault, RemoveFault, load, remove};
 use stack_meaning::IoFault;
 use std::alloc::Global;
 use std::marker::Model;
@@ -143,7 +144,7 @@ impl<D: BlockDev> Stack<D> {
         ensures refused { (r : Refusal) → result ≡ Err (LoadFault.Refused r) → IsRefusal self.old.config text.now r }
         ensures same { OnErr result (self.new ≡ self.old) }
     {
-        let outcome = self.config.load(text);
+        let outcome = load(&mut self.config, text);
         // As in `new`.
         let _loaded = self.config.count();
         if outcome.is_ok() {
@@ -159,7 +160,7 @@ impl<D: BlockDev> Stack<D> {
         ensures err { IfErr result (λ fault. removal_fault self.old.config name.now ≡ Some fault) }
         ensures same { OnErr result (self.new ≡ self.old) }
     {
-        let outcome = self.config.remove(name);
+        let outcome = remove(&mut self.config, name);
         // As in `new`.
         let _loaded = self.config.count();
         if outcome.is_ok() {

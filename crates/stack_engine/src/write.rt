@@ -12,9 +12,9 @@ ghost use Rattle.stack_engine.specs.Premises.{FitsIn, CanWrite};
 use crate::read::read_units;
 use crate::reader::Reader;
 use block_device::BlockDev;
+use stack_config::{Config, DevId, Lower, unit_sectors};
 use stack_lines::units::{MOST, crypt_at, encrypt, put_sectors, unit_at, whole_unit};
 use stack_lines::{BlockPart, Source, Steps, lower_cuts, run_at};
-use stack_loader::{Config, DevId, Lower, unit_sectors};
 use stack_meaning::{Fault, IoFault};
 
 /// The sectors of a leaf, by one call of its device.

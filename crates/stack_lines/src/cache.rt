@@ -9,7 +9,7 @@ ghost use Rattle.stack_lines.specs.Caches.{IsFresh};
 use crate::keys_on_leaf::KeysOnLeaf;
 use crate::leaf_set::LeafSet;
 use crate::leaf_sets::{leaf_sets, lower_leaves};
-use stack_loader::{Config, Lower};
+use stack_config::{Config, Lower};
 use std::alloc::{AllocError, Global};
 use std::marker::Model;
 use tree_shape::Digest;

@@ -11,7 +11,7 @@ ghost use Rattle.stack_lines.specs.Writing.{source_put};
 use crate::serve::run_at;
 use crate::source::{BlockPart, Source};
 use crate::units::crypt_at;
-use stack_loader::{Config, DevId, Lower, unit_sectors};
+use stack_config::{Config, DevId, Lower, unit_sectors};
 
 /// Steps of so many sectors, one after another. Of the first one, `skip` sectors lie before those that are asked for.
 #[derive(Clone, Copy)]

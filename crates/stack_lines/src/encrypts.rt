@@ -8,7 +8,7 @@ ghost use Rattle.stack_lines.specs.Writing.{SomeEncrypt};
 
 use crate::serve::run_at;
 use crate::source::Source;
-use stack_loader::{Config, DevId, Lower};
+use stack_config::{Config, DevId, Lower};
 
 /// Whether a write of some sectors of a leaf or a mapped device encrypts one of them.
 #[cycle(encrypts)]

@@ -6,7 +6,7 @@ ghost use Rattle.stack_lines.specs.Standing.{AreLeafSets, key_stands_on, line_st
 
 use crate::leaf_set::LeafSet;
 use crate::leaf_sets::{is_verity, lower_leaves};
-use stack_loader::{Config, DevId};
+use stack_config::{Config, DevId};
 use verified_cache::{Key, Keys};
 
 /// The keys of the `verity` lines whose hash device is a leaf, or stands on it.

@@ -11,7 +11,7 @@ ghost use Rattle.stack_lines.specs.Standing.{contains, is_verity, name_stands_on
 
 use crate::leaf_set::LeafSet;
 use dm_table::Target;
-use stack_loader::{Config, DevId, Lower, verity_of};
+use stack_config::{Config, DevId, Lower, verity_of};
 
 /// The depth of the deepest.
 const MOST_DEPTH: u32 = 8;

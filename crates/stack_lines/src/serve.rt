@@ -10,7 +10,7 @@ ghost use Rattle.stack_lines.specs.Runs.{HasSectors, IsRunOfLine, IsRunAt};
 use crate::source::{BlockPart, Run, Source};
 use crate::unstriped::unstriped_run;
 use dm_table::{Base, Crypt, Line, Target, Verity};
-use stack_loader::{Config, DevId, unit_sectors};
+use stack_config::{Config, DevId, unit_sectors};
 
 fn linear_run(config: &Config, d: DevId, line: u32, base: &Base, within: u64, count: u64) -> Run
     requires loaded { IsLoaded config.now }

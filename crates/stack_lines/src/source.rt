@@ -1,5 +1,5 @@
 // Where the sectors of a device come from and go to.
-use stack_loader::{DevId, Lower};
+use stack_config::{DevId, Lower};
 
 /// What gives and takes the sectors of a run, from its first to its last alike.
 #[derive(Clone, Copy)]

@@ -9,7 +9,7 @@ ghost use Rattle.stack_lines.specs.Extents.{IsExtent};
 ghost use Rattle.stack_lines.specs.Walks.{HasVerity, HasDataBlock, IsOnVerity, IsTreeOf};
 
 use dm_table::Verity;
-use stack_loader::{Config, DevId, Lower, verity_of};
+use stack_config::{Config, DevId, Lower, verity_of};
 use stack_meaning::Found;
 use tree_shape::{Digest, Shape};
 use verified_cache::Key;

@@ -8,7 +8,7 @@ ghost use Rattle.stack_lines.specs.Sources.{HasTarget, HasCrypt, IsOnCrypt, IsUn
 
 use crate::source::BlockPart;
 use dm_table::{Crypt, Target};
-use stack_loader::{Config, DevId, Lower, crypt_of, unit_sectors};
+use stack_config::{Config, DevId, Lower, crypt_of, unit_sectors};
 use xts_sector::XtsKey;
 
 /// The most bytes of a unit.

@@ -6,7 +6,7 @@ ghost use Rattle.stack_lines.specs.Runs.{HasSectors, IsRunOfLine};
 
 use crate::source::{Run, Source};
 use dm_table::{Target, Unstriped};
-use stack_loader::{Config, DevId};
+use stack_config::{Config, DevId};
 
 /// The sectors that lie in one chunk, from that one of the line on.
 pub(crate) fn unstriped_run(

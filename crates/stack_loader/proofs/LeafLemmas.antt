@@ -1,18 +1,15 @@
--- Leaves that no rule refuses, and the configuration of them alone.
+-- Leaves that no rule refuses.
 use Rattle.std.proofs.Common.{◌≡◌, ◌≤◌, List, [], ◌∷◌, refl, Bool, true, false, not, ◌||◌, cond, Option, Some, None, length, map, nat_lt}
 use Rattle.std.specs.Prelude.{IsTrue}
 use Rattle.std.specs.List.{AllByRecursion, IsDistinct, list_any}
 use Rattle.std.specs.Str.{bytes_eq}
 use Rattle.std.proofs.lemmas.Bool.{ltb-false}
-use Rattle.std.proofs.lemmas.List.Elements.{All-from_recursion, All-nil}
+use Rattle.std.proofs.lemmas.List.Elements.{All-from_recursion}
 use Rattle.stack_rules.specs.declared.refusal.ConfigFault.{ConfigFault}
 use Rattle.stack_rules.specs.declared.refusal.ConfigFault.TheVariants.{DuplicateLeaf, TooMany, BadName, TooLarge}
-use Rattle.stack_rules.specs.Records.{LeafRecord, DeviceRecord}
+use Rattle.stack_rules.specs.Records.{LeafRecord}
 use Rattle.stack_rules.specs.Leaves.{has_duplicate, first_fault}
-use Rattle.stack_loader.specs.declared.facts.Facts.{Facts}
-use Rattle.stack_loader.specs.Facts.{IsLoadedWith}
-use Rattle.stack_rules.proofs.lemmas.CycleLemmas.{acyclic}
-use Rattle.stack_rules.specs.Rules.{AreLeaves, IsValid, is_leaf_name, most_leaves, most_sectors}
+use Rattle.stack_rules.specs.Rules.{AreLeaves, is_leaf_name, most_leaves, most_sectors}
 
 none-or : (a b : Bool) → (a || b) ≡ false → (a ≡ false) × (b ≡ false)
 none-or true b h = let clash : true ≡ false = h in cc
@@ -63,25 +60,3 @@ leaves-sound leaves h =
       sizes = All-from_recursion (λ (l : LeafRecord). l.sectors ≤ most_sectors) leaves
           (change (λ (l : LeafRecord). nat_lt most_sectors l.sectors ≡ false) (λ (l : LeafRecord). l.sectors ≤ most_sectors) (λ l. ltb-false most_sectors l.sectors) leaves (none-all (λ (l : LeafRecord). nat_lt most_sectors l.sectors) leaves all.3));
     }
-
-empty-valid : (leaves : List LeafRecord) → IsValid (record { leaves = leaves; devices = [] })
-unfolding IsValid
-empty-valid leaves = refl
-
-empty-distinct : IsDistinct bytes_eq []
-unfolding IsDistinct
-empty-distinct = tt
-
-pub kept-empty : (leaves : List LeafRecord) (facts : Facts) → first_fault leaves ≡ None → facts.depths.items ≡ [] → facts.read_costs.items ≡ [] → facts.write_costs.items ≡ [] → facts.lowers.items ≡ [] → facts.keys.items ≡ [] → facts.zero_digests.items ≡ []
-    → IsLoadedWith (record { leaves = leaves; devices = [] }) facts
-kept-empty leaves facts h no_depth no_read no_write no_name no_key no_digest = record {
-  loaded = record {
-    leaves = leaves-sound leaves h;
-    distinct = empty-distinct;
-    mapped = All-nil (λ (d : DeviceRecord). IsTrue (Rattle.dm_table.specs.Names.is_mapped_name d.name));
-    tables = All-nil (λ (d : DeviceRecord). Rattle.dm_table.specs.Grammar.IsTableOfGrammar d.table);
-    valid = empty-valid leaves;
-    acyclic = acyclic (record { leaves = leaves; devices = [] }) (empty-valid leaves);
-  };
-  facts = record { depths = no_depth; reads = no_read; writes = no_write; lowers = rw no_name refl; keys = no_key; zero_digests = no_digest };
-}

@@ -1,6 +1,4 @@
 pub mod lemmas
-pub mod KeyLemmas
-pub mod LineOfLemmas
 pub mod LeafLemmas
 pub mod CycleRefusalLemmas
 pub mod DuplicateNameLemmas

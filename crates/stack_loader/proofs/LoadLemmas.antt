@@ -2,13 +2,13 @@
 use Rattle.std.proofs.Common.{◌≡◌, List, Option, Some, None, sym, subst}
 use Rattle.dm_table.specs.declared.stack.Entry.{Entry}
 use Rattle.dm_table.specs.StackText.{IsStackOfGrammar}
-use Rattle.stack_loader.specs.declared.facts.Facts.{Facts}
+use Rattle.stack_config.specs.declared.facts.Facts.{Facts}
 use Rattle.stack_loader.specs.declared.check.Next.{Next}
 use Rattle.stack_rules.specs.declared.refusal.LoadFault.{LoadFault}
 use Rattle.stack_rules.specs.declared.refusal.LoadFault.TheVariants.{Refused}
 use Rattle.stack_rules.specs.declared.refusal.Refusal.{Refusal}
 use Rattle.stack_rules.specs.Records.{Configuration, DeviceRecord, LeafRecord, configuration}
-use Rattle.stack_loader.specs.Facts.{AreFacts, IsLoadedWith}
+use Rattle.stack_config.specs.Facts.{AreFacts, IsLoadedWith}
 use Rattle.stack_loader.specs.Next.{IsNext}
 use Rattle.stack_rules.specs.Passing.{IsFirst}
 use Rattle.stack_rules.specs.Rules.{first, rules, after_load, IsLoaded}

@@ -12,16 +12,16 @@ use Rattle.std.proofs.lemmas.List.FromFn.{fill_by_all, get_or-map-range_with_len
 use Rattle.dm_table.specs.Grammar.{IsTableOfGrammar}
 use Rattle.dm_table.specs.Names.{is_mapped_name}
 use Rattle.dm_table.specs.declared.table.Line.{Line}
-use Rattle.stack_loader.specs.declared.facts.Facts.{Facts}
+use Rattle.stack_config.specs.declared.facts.Facts.{Facts}
 use Rattle.stack_rules.specs.declared.lower.Lower.{Lower}
 use Rattle.stack_rules.specs.declared.refusal.RemoveFault.TheVariants.{NoSuchDevice, InUse}
 use Rattle.stack_rules.specs.Records.{Configuration, DeviceRecord}
 use Rattle.stack_rules.specs.Names.{mapped, named, names, device_named}
 use Rattle.stack_rules.specs.Descend.{depth, read_cost, write_cost}
 use Rattle.stack_rules.specs.Cycles.{is_mapped, names_device}
-use Rattle.stack_loader.specs.Facts.{AreFacts, IsLoadedWith, AreWithout}
+use Rattle.stack_config.specs.Facts.{AreFacts, IsLoadedWith, AreWithout}
 use Rattle.stack_rules.specs.Kept.{AreLowers, meanings, each_mapped}
-use Rattle.stack_loader.specs.Keys.{keys_from, zero_digests_of}
+use Rattle.stack_config.specs.Keys.{keys_from, zero_digests_of}
 use Rattle.stack_rules.specs.Removal.{is_in_use, removal_fault, after_removal, lower_after}
 use Rattle.stack_rules.specs.Rules.{IsLoaded}
 use Rattle.stack_rules.proofs.lemmas.KeptLemmas.{length-each_mapped, length-lowers, lines_of-read}

@@ -1,8 +1,4 @@
 -- What callers may cite.
-pub mod LoadedLineLemmas
-pub mod WriteCostLemmas
-pub mod CryptLineLemmas
-pub mod VerityLineLemmas
 pub mod RenumberLemmas
 pub mod RemovalLemmas
 pub mod RemovedDeviceLemmas

@@ -1,4 +1,1 @@
-pub mod LastStart
-pub mod Keys
-pub mod Facts
 pub mod Next

@@ -4,7 +4,7 @@ use Rattle.dm_table.specs.declared.stack.Entry.{Entry}
 use Rattle.stack_loader.specs.declared.check.Next.{Next}
 use Rattle.stack_rules.specs.Records.{Configuration}
 use Rattle.stack_rules.specs.Rules.{first, rules, duplicate_names, after_load}
-use Rattle.stack_loader.specs.Facts.{AreFacts}
+use Rattle.stack_config.specs.Facts.{AreFacts}
 
 -- the devices after a load, with what is computed of them
 pub record IsNext (c : Configuration) (text : List Entry) (next : Next) : Type 0 where

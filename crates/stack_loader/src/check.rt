@@ -3,17 +3,17 @@ ghost use Rattle.std.specs.Prelude.{◌≡◌, ◌≤◌, length, nat_lt};
 ghost use Rattle.std.specs.List.{list_any};
 ghost use Rattle.stack_rules.specs.Records.{configuration};
 ghost use Rattle.stack_rules.specs.Passing.{IsPassed, above};
-ghost use Rattle.stack_loader.specs.Facts.{AreFacts};
+ghost use Rattle.stack_config.specs.Facts.{AreFacts};
 ghost use Rattle.stack_loader.specs.Next.{IsNext};
 ghost use Rattle.stack_rules.specs.Descend.{most_devices};
 ghost use Rattle.stack_rules.specs.Rules.{first, rules, load_rules, is_too_many, most_leaves, most_lines};
 
-use crate::facts::Facts;
 use crate::keys::device_keys;
 use crate::next::{copied_devices, duplicate, planned_devices};
 use crate::zero_digests::device_digests;
 use dm_table::Entry;
 use stack_checks::{lines_refusal, lowers_of};
+use stack_config::Facts;
 use stack_costs::{
     Direction, MOST_COST, MOST_DEPTH, MOST_DEVICES, costs, cycle_refusal, depths, lower_sets,
 };

@@ -1,63 +1,15 @@
 // The keys of crypt lines, made ready once at loading.
-ghost use Rattle.std.specs.Prelude.{◌≡◌, ◌≤◌, ◌<◌, ◌^◌, ◌==◌, IsTrue, is_some, find, Some, option_copied, length, All, IfOk};
-ghost use Rattle.std.specs.Option.{option_map};
+ghost use Rattle.std.specs.Prelude.{◌≡◌, ◌≤◌, ◌<◌, ◌^◌, length, All, IfOk};
 ghost use Rattle.dm_table.specs.Grammar.{IsTargetOfGrammar, IsLineOfGrammar};
-ghost use Rattle.stack_loader.specs.Keys.{keys_from, AreKeys};
+ghost use Rattle.stack_config.specs.Keys.{keys_from, AreKeys};
 ghost use Rattle.stack_rules.specs.Lines.{key_of};
 ghost use Rattle.stack_rules.specs.Rules.{most_lines};
 
 use dm_table::{Line, Target};
+use stack_config::{DeviceKeys, LineKey};
 use stack_rules::{Planned, crypt_of};
 use std::alloc::{AllocError, Global};
-use std::marker::Model;
 use xts_sector::XtsKey;
-
-/// The key of a line, after the line's number in its device.
-#[derive(Drop)]
-pub(crate) struct LineKey {
-    pub(crate) line: u32,
-    pub(crate) key: XtsKey,
-}
-
-/// The keys of a device's crypt lines, in the order of the lines.
-#[derive(Drop)]
-pub(crate) struct DeviceKeys {
-    list: Vec<LineKey>,
-}
-
-impl Model for DeviceKeys {
-    ghost use Rattle.std.specs.Prelude.{List};
-    ghost use Rattle.stack_loader.specs.declared.keys.LineKey.{LineKey};
-
-    ghost Value = { List LineKey };
-
-    ghost view = { λ k. k.list.items };
-}
-
-impl DeviceKeys {
-    pub(crate) fn new(list: Vec<LineKey>) -> DeviceKeys
-        ensures { result ≡ list.items }
-    {
-        DeviceKeys { list }
-    }
-
-    fn find(&self, line: u32) -> Option<&LineKey>
-        ensures { option_copied result ≡ find (λ k. k.line == line) self.now }
-    {
-        self.list.iter().find(|key| key.line == line)
-    }
-
-    /// The key of that line.
-    pub(crate) fn at(&self, line: u32) -> &XtsKey
-        requires { IsTrue (is_some (find (λ k. k.line == line) self.now)) }
-        ensures { option_map (λ k. k.key) (find (λ k. k.line == line) self.now) ≡ Some result.now }
-    {
-        match self.find(line) {
-            Some(found) => &found.key,
-            None => unreachable!(),
-        }
-    }
-}
 
 /// The key that a target has.
 fn key_of(target: &Target) -> Option<XtsKey>

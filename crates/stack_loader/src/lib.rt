@@ -2,16 +2,12 @@
 #![tactic(auto)]
 
 mod check;
-mod config;
-mod facts;
 mod keys;
+mod loading;
 mod next;
 mod removal;
-mod sectors;
 mod zero_digests;
 
-pub use config::Config;
-pub use stack_rules::{
-    ConfigFault, DevId, Leaf, LoadFault, LoadKind, Lower, Refusal, RemoveFault, crypt_of,
-    unit_sectors, verity_of,
-};
+pub use loading::{config_over, load};
+pub use removal::remove;
+pub use stack_rules::{ConfigFault, LoadFault, LoadKind, Refusal, RemoveFault};

@@ -1,13 +1,37 @@
-// Whether a mapped device may be removed.
-ghost use Rattle.std.specs.Prelude.{◌≡◌};
+// The removal of a mapped device.
+ghost use Rattle.std.specs.Prelude.{◌≡◌, None, Some, IfErr, OnOk, OnErr};
 ghost use Rattle.std.specs.List.{list_any};
 ghost use Rattle.stack_rules.specs.Cycles.{is_mapped};
+ghost use Rattle.stack_rules.specs.Removal.{after_removal, removal_fault};
 
-use stack_rules::DeviceLowers;
+use stack_config::Config;
+use stack_rules::{DeviceLowers, RemoveFault, place_of};
 
 /// Whether a device names the one of that place.
-pub(crate) fn is_in_use(lowers: &[DeviceLowers], place: usize) -> bool
+fn is_in_use(lowers: &[DeviceLowers], place: usize) -> bool
     ensures { result ≡ list_any (list_any (list_any (is_mapped place))) lowers.now }
 {
     lowers.iter().any(|device| device.names(place))
+}
+
+/// Removes the mapped device of that name; later ones move up by one place.
+pub fn remove(config: &mut Config, name: &[u8]) -> Result<(), RemoveFault>
+    ensures ok { OnOk result (removal_fault config.old name.now ≡ None) }
+    ensures after { OnOk result (config.new ≡ after_removal config.old name.now) }
+    ensures err { IfErr result (λ fault. removal_fault config.old name.now ≡ Some fault) }
+    ensures same { OnErr result (config.new ≡ config.old) }
+{
+    match place_of(config.devices(), name) {
+        None => Err(RemoveFault::NoSuchDevice),
+        Some(place) => {
+            if is_in_use(config.facts().lowers.as_slice(), place) {
+                return Err(RemoveFault::InUse);
+            }
+            let (mut devices, mut facts) = config.take();
+            drop(devices.remove(place));
+            facts.remove(place);
+            config.put(devices, facts);
+            Ok(())
+        }
+    }
 }

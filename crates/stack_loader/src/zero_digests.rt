@@ -1,48 +1,16 @@
 // The digests of data blocks of zeros, made once at loading for the verity lines that ignore such blocks.
-ghost use Rattle.std.specs.Prelude.{◌≡◌, ◌≤◌, map, slice_get, option_and_then, All, IfOk};
+ghost use Rattle.std.specs.Prelude.{◌≡◌, ◌≤◌, All, IfOk};
 ghost use Rattle.dm_table.specs.Grammar.{IsTargetOfGrammar, IsLineOfGrammar};
 ghost use Rattle.tree_shape.specs.Digests.{digest};
-ghost use Rattle.stack_loader.specs.Keys.{zero_digests_of, AreZeroDigests};
+ghost use Rattle.stack_config.specs.Keys.{zero_digests_of, AreZeroDigests};
 ghost use Rattle.stack_rules.specs.Lines.{zero_digest_of};
 ghost use Rattle.stack_rules.specs.Trees.{zero_block};
 
 use dm_table::{Line, Target, Verity};
+use stack_config::ZeroDigests;
 use stack_rules::{Planned, verity_of};
 use std::alloc::{AllocError, Global};
-use std::marker::Model;
 use tree_shape::Digest;
-
-/// For each line of a device, in order: the digest, if it is such a line.
-#[derive(Drop)]
-pub(crate) struct ZeroDigests {
-    lines: Vec<Option<Digest>>,
-}
-
-impl Model for ZeroDigests {
-    ghost use Rattle.std.specs.Prelude.{List, Option, ℕ};
-
-    ghost Value = { List (Option (List ℕ)) };
-
-    ghost view = { λ z. z.lines.items };
-}
-
-impl ZeroDigests {
-    fn new(lines: Vec<Option<Digest>>) -> ZeroDigests
-        ensures { result ≡ lines.items }
-    {
-        ZeroDigests { lines }
-    }
-
-    /// That of a line, if there is such a line.
-    pub(crate) fn at(&self, line: u32) -> Option<Digest>
-        ensures { result ≡ option_and_then (λ digest. digest) (slice_get self.now line) }
-    {
-        match self.lines.get(line as usize) {
-            Some(digest) => *digest,
-            None => None,
-        }
-    }
-}
 
 fn digest_of_zeros(verity: &Verity) -> Digest
     requires { verity.now.data_block ≤ 4096 }

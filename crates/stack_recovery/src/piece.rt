@@ -5,7 +5,7 @@ ghost use Rattle.stack_rules.specs.Names.{mapped, size};
 ghost use Rattle.stack_recovery.specs.Pieces.{AreLostTogether, IsPace, IsPiece};
 
 use dm_table::Target;
-use stack_loader::{Config, DevId};
+use stack_config::{Config, DevId};
 
 const MOST_PIECE: u64 = 128;
 

@@ -9,8 +9,8 @@ use crate::pace::Pace;
 use crate::piece::piece_at;
 use crate::tally::Tally;
 use block_device::BlockDev;
+use stack_config::DevId;
 use stack_engine::{IoFault, Stack};
-use stack_loader::DevId;
 use stack_session::Counted;
 use std::io::Write;
 

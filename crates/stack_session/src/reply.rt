@@ -9,8 +9,9 @@ use crate::counted::Counted;
 use crate::fault::WriteFault;
 use dm_table::TextFault;
 use request_queue::{Reply, SubmitFault, Ticket};
+use stack_config::{Config, DevId};
 use stack_engine::IoFault;
-use stack_loader::{Config, DevId, Refusal, RemoveFault};
+use stack_loader::{Refusal, RemoveFault};
 use std::io::Write;
 
 const SECTOR: usize = 512;

@@ -23,7 +23,7 @@ use Rattle.dm_table.specs.declared.table.Target.TheVariants.{Verity as verity_ta
 use Rattle.stack_rules.specs.Names.{mapped}
 use Rattle.stack_rules.specs.Lines.{IsLine}
 use Rattle.stack_rules.specs.Trees.{tree_of, data_sectors, block_sectors, zero_block}
-use Rattle.stack_loader.proofs.lemmas.VerityLineLemmas.{verity-line}
+use Rattle.stack_config.proofs.lemmas.VerityLineLemmas.{verity-line}
 use Rattle.stack_engine.specs.Laws.{named_sector, formatted_sector, FormattedDataIsRead}
 use Rattle.stack_meaning.specs.Meaning.{Said, line_said, said_by_name, sector}
 use Rattle.stack_meaning.proofs.lemmas.BlockSizeLemmas.{whole-sectors}

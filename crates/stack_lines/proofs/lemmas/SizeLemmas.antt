@@ -3,7 +3,7 @@ use Rattle.std.proofs.Common.{ℕ, List}
 use Rattle.stack_rules.specs.declared.lower.Lower.{Lower}
 use Rattle.stack_rules.specs.Records.{Configuration}
 use Rattle.stack_rules.specs.Rules.{IsLoaded}
-use Rattle.stack_loader.proofs.lemmas.LoadedLineLemmas.{line-grammar}
+use Rattle.stack_config.proofs.lemmas.LoadedLineLemmas.{line-grammar}
 use Rattle.stack_meaning.specs.Beneath.{beneath, below, said_or}
 use Rattle.stack_meaning.specs.TargetMeaning.{Meant, handed, own, said_as}
 use Rattle.stack_meaning.specs.MeaningOf.{meaning_of}

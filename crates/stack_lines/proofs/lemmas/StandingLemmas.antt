@@ -25,7 +25,7 @@ use Rattle.stack_rules.specs.Descend.{descend, depth, depth_rule, known, most_de
 use Rattle.stack_rules.specs.Lines.{IsLine, names_at, lower_at}
 use Rattle.stack_rules.specs.Rules.{IsLoaded, most_depth}
 use Rattle.stack_rules.specs.Trees.{verity_of}
-use Rattle.stack_loader.proofs.lemmas.LoadedLineLemmas.{names-shallower}
+use Rattle.stack_config.proofs.lemmas.LoadedLineLemmas.{names-shallower}
 use Rattle.stack_rules.proofs.lemmas.UnrollLemmas.{AllOf, all_and, IsLocal, descend-rule, depth-rule, falls-at}
 use Rattle.stack_rules.proofs.lemmas.ValidLemmas.{depth-low}
 use Rattle.stack_rules.proofs.lemmas.ValidLineLemmas.{few, few_lines}

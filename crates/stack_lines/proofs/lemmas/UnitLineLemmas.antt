@@ -14,7 +14,7 @@ use Rattle.stack_rules.specs.Names.{mapped, named, lines_of}
 use Rattle.stack_rules.specs.Descend.{by_name, known, read_cost, write_cost}
 use Rattle.stack_rules.specs.Lines.{lower_at, key_at}
 use Rattle.stack_rules.specs.Rules.{IsLoaded}
-use Rattle.stack_loader.proofs.lemmas.CryptLineLemmas.{IsCryptLine, crypt-line, crypt-key}
+use Rattle.stack_config.proofs.lemmas.CryptLineLemmas.{IsCryptLine, crypt-line, crypt-key}
 use Rattle.stack_rules.specs.Units.{unit_sectors, unit_write_cost, crypt_of}
 use Rattle.stack_meaning.specs.Meaning.{Said, none_said, crypt_said, line_said, said_at, said_by_name}
 use Rattle.stack_lines.specs.Sources.{HasTarget, cost_of_crypt, said_of_line}

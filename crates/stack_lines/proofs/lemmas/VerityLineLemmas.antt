@@ -12,7 +12,7 @@ use Rattle.stack_rules.specs.Names.{mapped, named, size, may_write}
 use Rattle.stack_rules.specs.Descend.{depth, known, read_cost}
 use Rattle.stack_rules.specs.Rules.{IsLoaded}
 use Rattle.stack_rules.specs.Trees.{tree_of, data_sectors, block_sectors}
-use Rattle.stack_loader.proofs.lemmas.VerityLineLemmas.{IsVerityLine, verity-line, data_block-inside, hash_block-inside}
+use Rattle.stack_config.proofs.lemmas.VerityLineLemmas.{IsVerityLine, verity-line, data_block-inside, hash_block-inside}
 use Rattle.stack_lines.specs.declared.tree.Tree.{Tree}
 use Rattle.stack_meaning.specs.Blocks.{hash_sectors}
 use Rattle.stack_meaning.specs.Meaning.{Said, none_said, said_at}

@@ -23,5 +23,5 @@ returns-in_err-load-clause-err c =
 
 pub returns-clause-ok : goal.returns-clause-ok
 returns-clause-ok c =
-    configuration_of-passes c.args.leaves.items c.args.text.now c.in_ok-entries.entries c.in_ok-config.config c.load.new.self c.in_ok-config.ensures.ok c.in_ok-config.ensures.leaves
+    configuration_of-passes c.args.leaves.items c.args.text.now c.in_ok-entries.entries c.in_ok-config.config c.load.new.config c.in_ok-config.ensures.ok c.in_ok-config.ensures.leaves
     c.in_ok-entries.ensures c.in_ok-load.ensures.ok c.in_ok-load.ensures.after

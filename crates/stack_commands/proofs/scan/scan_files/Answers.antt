@@ -2,7 +2,7 @@ use Rattle.std.proofs.Common.{map, inr, refl, ap, ◌∙◌, arith}
 use Rattle.std.proofs.lemmas.Result.{IfErr-weaker, on_ok_weaker}
 use Rattle.stack_rules.specs.Names.{mapped, size}
 use Rattle.stack_rules.specs.Records.{Configuration}
-use Rattle.stack_loader.proofs.lemmas.LoadedLineLemmas.{size-most}
+use Rattle.stack_config.proofs.lemmas.LoadedLineLemmas.{size-most}
 use Rattle.command_line.specs.Bindings.{binding_record}
 use Rattle.stack_commands.proofs.OpeningLemmas.{err-from}
 use Rattle.stack_commands.proofs.RecoveryLemmas.{IsHad, counts-end, counts-told, runs-printed, scan-ends}

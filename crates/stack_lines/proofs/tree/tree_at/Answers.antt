@@ -1,6 +1,6 @@
 use Rattle.std.proofs.Common.{◌≡◌, Result, Err, Some, None, sym, ap, ◌∙◌}
 use Rattle.std.specs.Result.{result_err}
-use Rattle.stack_loader.proofs.lemmas.VerityLineLemmas.{verity-shape}
+use Rattle.stack_config.proofs.lemmas.VerityLineLemmas.{verity-shape}
 use Rattle.stack_lines.proofs.lemmas.VerityLineLemmas.{line-facts}
 use Rattle.stack_lines.proofs.tree.tree_at.Goals as goal
 

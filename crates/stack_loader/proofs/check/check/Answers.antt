@@ -6,7 +6,7 @@ use Rattle.stack_rules.specs.declared.refusal.LoadFault.TheVariants.{Refused}
 use Rattle.stack_rules.specs.declared.refusal.LoadKind.TheVariants.{TooDeep, CostTooLarge}
 use Rattle.stack_rules.specs.Records.{Configuration, configuration}
 use Rattle.stack_rules.specs.Descend.{most_devices, depth, read_cost, write_cost}
-use Rattle.stack_loader.specs.Facts.{AreFacts}
+use Rattle.stack_config.specs.Facts.{AreFacts}
 use Rattle.stack_costs.specs.Depths.{rounds}
 use Rattle.stack_rules.specs.Kept.{AreLowers}
 use Rattle.stack_rules.specs.Passing.{above}
@@ -16,7 +16,7 @@ use Rattle.stack_rules.proofs.lemmas.ValidLineLemmas.{or-false}
 use Rattle.stack_costs.specs.Costs.{AreMeasured, capped, cost}
 use Rattle.stack_costs.proofs.lemmas.DepthLemmas.{rounds-depths}
 use Rattle.stack_costs.proofs.lemmas.CappedLemmas.{each-exact}
-use Rattle.stack_loader.proofs.lemmas.WriteCostLemmas.{write_cost-low}
+use Rattle.stack_config.proofs.lemmas.WriteCostLemmas.{write_cost-low}
 use Rattle.stack_costs.proofs.lemmas.CostLemmas.{lowers-rows, write_cost-given}
 use Rattle.stack_costs.specs.declared.cost.Direction.TheVariants.{Read, Write}
 use Rattle.stack_rules.proofs.lemmas.PassingLemmas.{IsFirst-passed, passed-IsFirst}

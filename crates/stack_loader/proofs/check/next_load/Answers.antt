@@ -1,7 +1,7 @@
 use Rattle.std.proofs.Common.{[], ◌++◌, sym, ◌∙◌}
 use Rattle.std.proofs.lemmas.Result.{err_from_is_err_and}
 use Rattle.stack_rules.specs.Records.{Configuration, configuration}
-use Rattle.stack_loader.specs.Facts.{AreFacts}
+use Rattle.stack_config.specs.Facts.{AreFacts}
 use Rattle.stack_loader.specs.Next.{IsNext}
 use Rattle.stack_rules.specs.Rules.{rules, duplicate_names, after_load}
 use Rattle.stack_loader.proofs.LoadLemmas.{checked-moved, fault-moved}

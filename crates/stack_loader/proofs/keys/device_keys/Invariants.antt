@@ -1,5 +1,5 @@
 use Rattle.std.proofs.Common.{◌≡◌, map, take}
-use Rattle.stack_loader.specs.Keys.{keys_from}
+use Rattle.stack_config.specs.Keys.{keys_from}
 use Rattle.stack_loader.proofs.keys.device_keys.Given as goal
 
 abbrev pub invariant-loop-device : goal.invariant-loop-device

@@ -1,5 +1,5 @@
 use Rattle.std.proofs.Common.{◌≡◌, ◌++◌, drop}
-use Rattle.stack_loader.specs.Keys.{keys_from}
+use Rattle.stack_config.specs.Keys.{keys_from}
 use Rattle.stack_loader.proofs.keys.line_keys.Given as goal
 
 -- the keys that were made, and those that are left

@@ -1,5 +1,5 @@
 use Rattle.std.proofs.Common.{◌≡◌, map, take}
-use Rattle.stack_loader.specs.Keys.{zero_digests_of}
+use Rattle.stack_config.specs.Keys.{zero_digests_of}
 use Rattle.stack_loader.proofs.zero_digests.device_digests.Given as goal
 
 abbrev pub invariant-loop-device : goal.invariant-loop-device

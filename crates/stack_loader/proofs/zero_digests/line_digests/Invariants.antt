@@ -1,5 +1,5 @@
 use Rattle.std.proofs.Common.{◌≡◌, take}
-use Rattle.stack_loader.specs.Keys.{zero_digests_of}
+use Rattle.stack_config.specs.Keys.{zero_digests_of}
 use Rattle.stack_loader.proofs.zero_digests.line_digests.Given as goal
 
 abbrev pub invariant-loop-line : goal.invariant-loop-line

@@ -1,0 +1,4 @@
+pub mod lemmas
+pub mod KeyLemmas
+pub mod LineOfLemmas
+pub mod EmptyLemmas

@@ -1,0 +1,3 @@
+pub mod LastStart
+pub mod Keys
+pub mod Facts

@@ -1,0 +1,210 @@
+// A loaded configuration.
+ghost use Rattle.std.specs.Prelude.{◌≡◌, ◌<◌, length, Some, [], option_map, IsTrue, is_some};
+ghost use Rattle.stack_rules.specs.Names.{device_named, name_of, lines_of, mapped, size, may_write};
+ghost use Rattle.stack_rules.specs.Descend.{depth, read_cost, write_cost};
+ghost use Rattle.stack_rules.specs.Lines.{IsIn, names_at, lower_at, key_at, zero_digest_at};
+ghost use Rattle.stack_rules.specs.Rules.{AreLeaves, IsLoaded};
+
+use crate::facts::Facts;
+use crate::sectors::line_of;
+use dm_table::Table;
+use stack_rules::{DevId, Leaf, Lower, Mapped, place_of};
+use std::alloc::Global;
+use std::marker::Model;
+use std::mem;
+use tree_shape::Digest;
+use xts_sector::XtsKey;
+
+/// Leaves, and the mapped devices that loads have put on them.
+#[derive(Drop)]
+pub struct Config {
+    alloc: Global,
+    leaves: Vec<Leaf>,
+    devices: Vec<Mapped>,
+    facts: Facts,
+}
+
+impl Model for Config {
+    ghost use Rattle.stack_rules.specs.Records.{Configuration};
+    ghost use Rattle.stack_config.specs.Facts.{IsLoadedWith};
+
+    ghost Value = { Configuration };
+
+    ghost view = { λ c. record { leaves = c.leaves.items; devices = c.devices.items } };
+
+    ghost invariant = { λ c. IsLoadedWith (record { leaves = c.leaves.items; devices = c.devices.items }) c.facts };
+}
+
+impl Config {
+    ghost use Rattle.stack_config.specs.Facts.{IsLoadedWith};
+
+    /// A configuration of these leaves and no mapped device.
+    pub fn new(alloc: Global, leaves: Vec<Leaf>) -> Config
+        requires { AreLeaves leaves.items }
+        ensures { result ≡ record { leaves = leaves.items; devices = [] } }
+    {
+        Config {
+            alloc,
+            leaves,
+            devices: Vec::new(alloc),
+            facts: Facts::none(alloc),
+        }
+    }
+
+    /// The allocator of all that it holds.
+    pub fn alloc(&self) -> Global {
+        self.alloc
+    }
+
+    /// Its leaves, in order.
+    pub fn leaves(&self) -> &[Leaf]
+        ensures { result.now ≡ self.now.leaves }
+    {
+        self.leaves.as_slice()
+    }
+
+    /// Its mapped devices, in the order in which they were created.
+    pub fn devices(&self) -> &[Mapped]
+        ensures value { result.now ≡ self.now.devices }
+        ensures loaded { IsLoaded self.now }
+    {
+        self.devices.as_slice()
+    }
+
+    /// What is computed of them.
+    pub fn facts(&self) -> &Facts
+        ensures { IsLoadedWith self.now result.now }
+    {
+        &self.facts
+    }
+
+    /// Takes the mapped devices out, with what is computed of them. None is left.
+    pub fn take(&mut self) -> (Vec<Mapped>, Facts)
+        ensures devices { result.0.items ≡ self.old.devices }
+        ensures facts { IsLoadedWith self.old result.1 }
+        ensures left { self.new ≡ record self.old { devices = [] } }
+    {
+        let devices = mem::replace(&mut self.devices, Vec::new(self.alloc));
+        let facts = mem::replace(&mut self.facts, Facts::none(self.alloc));
+        (devices, facts)
+    }
+
+    /// Puts mapped devices in the place of those that there are, with what is computed of them. All that changes a
+    /// configuration ends here.
+    pub fn put(&mut self, devices: Vec<Mapped>, facts: Facts)
+        requires { IsLoadedWith (record self.old { devices = devices.items }) facts }
+        ensures { self.new ≡ record self.old { devices = devices.items } }
+    {
+        self.devices = devices;
+        self.facts = facts;
+    }
+
+    /// How many mapped devices there are.
+    pub fn count(&self) -> usize
+        ensures value { result ≡ length self.now.devices }
+        ensures loaded { IsLoaded self.now }
+    {
+        self.devices.len()
+    }
+
+    /// The mapped device of that name, without `/dev/mapper/`. Devices count from 0, in the order in which they were created.
+    pub fn device(&self, name: &[u8]) -> Option<DevId>
+        ensures { result ≡ option_map (λ d. record { 0 = d }) (device_named self.now name.now) }
+    {
+        let place = place_of(self.devices.as_slice(), name)?;
+        Some(DevId(place as u32))
+    }
+
+    /// The bytes of its name, without `/dev/mapper/`.
+    pub fn name(&self, d: DevId) -> &[u8]
+        requires { d.0 < length self.now.devices }
+        ensures { result.now ≡ name_of self.now d.0 }
+    {
+        self.devices[d.0 as usize].name()
+    }
+
+    /// Its size in sectors.
+    pub fn sectors(&self, d: DevId) -> u64
+        requires { d.0 < length self.now.devices }
+        ensures { result ≡ size self.now (mapped d.0) }
+    {
+        self.devices[d.0 as usize].size() as u64
+    }
+
+    /// Whether it may be written: the flag of the entry that made it last.
+    pub fn writable(&self, d: DevId) -> bool
+        requires { d.0 < length self.now.devices }
+        ensures { result ≡ may_write self.now (mapped d.0) }
+    {
+        self.devices[d.0 as usize].writable()
+    }
+
+    /// One more than the depth of the deepest device that it names; a leaf has depth 0.
+    pub fn depth(&self, d: DevId) -> u32
+        requires { d.0 < length self.now.devices }
+        ensures { result ≡ depth self.now (mapped d.0) }
+    {
+        self.facts.depths[d.0 as usize] as u32
+    }
+
+    /// The most leaf sectors that reading one sector moves.
+    pub fn read_cost(&self, d: DevId) -> u64
+        requires { d.0 < length self.now.devices }
+        ensures { result ≡ read_cost self.now (mapped d.0) }
+    {
+        self.facts.read_costs[d.0 as usize]
+    }
+
+    /// The most leaf sectors that writing one sector moves.
+    pub fn write_cost(&self, d: DevId) -> u64
+        requires { d.0 < length self.now.devices }
+        ensures { result ≡ write_cost self.now (mapped d.0) }
+    {
+        self.facts.write_costs[d.0 as usize]
+    }
+
+    /// Its lines, in the order of their sectors.
+    pub fn table(&self, d: DevId) -> &Table
+        requires { d.0 < length self.now.devices }
+        ensures { result.now ≡ lines_of self.now d.0 }
+    {
+        self.devices[d.0 as usize].table()
+    }
+
+    /// The number of the line in which a sector lies, and the sectors left in it from there on. Sectors and lines
+    /// of a device count from 0.
+    pub fn line_at(&self, d: DevId, sector: u64) -> (u32, u64)
+        requires device { d.0 < length self.now.devices }
+        requires sector { sector < size self.now (mapped d.0) }
+        ensures { IsIn (lines_of self.now d.0) sector result.0 result.1 }
+    {
+        line_of(self.devices[d.0 as usize].table(), sector)
+    }
+
+    /// What the i-th name of a line means. Lines of a device and names of a line count from 0.
+    pub fn lower(&self, d: DevId, line: u32, i: u32) -> Lower
+        requires device { d.0 < length self.now.devices }
+        requires name { i < length (names_at self.now d.0 line) }
+        ensures { lower_at self.now d.0 line i ≡ Some result }
+    {
+        self.facts.lowers[d.0 as usize].at(line as usize, i as usize)
+    }
+
+    /// The key of a `crypt` line, made ready at loading. Lines of a device count from 0.
+    pub fn key(&self, d: DevId, line: u32) -> &XtsKey
+        requires device { d.0 < length self.now.devices }
+        requires crypt { IsTrue (is_some (key_at self.now d.0 line)) }
+        ensures { key_at self.now d.0 line ≡ Some result.now }
+    {
+        self.facts.keys[d.0 as usize].at(line)
+    }
+
+    /// The digest of a data block of zeros under a line's salt, made at loading, where it is a `verity` line that
+    /// ignores such blocks. Lines of a device count from 0.
+    pub fn zero_digest(&self, d: DevId, line: u32) -> Option<Digest>
+        requires { d.0 < length self.now.devices }
+        ensures { result ≡ zero_digest_at self.now d.0 line }
+    {
+        self.facts.zero_digests[d.0 as usize].at(line)
+    }
+}

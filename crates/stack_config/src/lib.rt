@@ -1,0 +1,14 @@
+//! A loaded configuration of stacked devices: what it says of each, and what is computed of it once.
+#![tactic(auto)]
+
+mod config;
+mod facts;
+mod keys;
+mod sectors;
+mod zero_digests;
+
+pub use config::Config;
+pub use facts::Facts;
+pub use keys::{DeviceKeys, LineKey};
+pub use stack_rules::{DevId, Leaf, Lower, crypt_of, unit_sectors, verity_of};
+pub use zero_digests::ZeroDigests;

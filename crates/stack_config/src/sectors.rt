@@ -1,0 +1,39 @@
+// The line of a sector.
+ghost use Rattle.std.specs.Prelude.{◌<◌, ◌^◌, length};
+ghost use Rattle.stack_rules.specs.Names.{sectors_of};
+ghost use Rattle.stack_rules.specs.Lines.{IsIn, Follow, StartsBy};
+ghost use Rattle.stack_config.specs.LastStart.{IsLastStart};
+
+use dm_table::{Line, Table};
+
+/// The place of the last line that starts at or before the sector.
+fn last_start(lines: &[Line], sector: u64) -> usize
+    requires some { 0 < length lines.now }
+    requires first { StartsBy lines.now 0 sector }
+    ensures { IsLastStart lines.now sector result }
+{
+    let mut low = 0;
+    let mut high = lines.len();
+    while high - low > 1 {
+        let middle = low + (high - low) / 2;
+        if lines[middle].start <= sector {
+            low = middle;
+        } else {
+            high = middle;
+        }
+    }
+    low
+}
+
+/// The number of the line in which a sector lies, and the sectors left in it from there on.
+pub(crate) fn line_of(table: &Table, sector: u64) -> (u32, u64)
+    requires follow { Follow 0 table.now }
+    requires sector { sector < sectors_of table.now }
+    requires few { length table.now < 2 ^ 32 }
+    ensures { IsIn table.now sector result.0 result.1 }
+{
+    let lines = table.lines();
+    let place = last_start(lines, sector);
+    let line = &lines[place];
+    (place as u32, line.length - (sector - line.start))
+}

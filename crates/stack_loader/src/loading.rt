@@ -1,0 +1,41 @@
+// New configurations, and loads into them.
+ghost use Rattle.std.specs.Prelude.{◌≡◌, None, Some, [], IfOk, IfErr, OnOk, OnErr, Err};
+ghost use Rattle.stack_rules.specs.Leaves.{first_fault};
+ghost use Rattle.stack_rules.specs.declared.refusal.Refusal.{Refusal};
+ghost use Rattle.stack_rules.specs.Rules.{IsRefusal, after_load, first_refusal};
+
+use crate::check::next_load;
+use dm_table::StackText;
+use stack_checks::leaves_fault;
+use stack_config::Config;
+use stack_rules::{ConfigFault, Leaf, LoadFault};
+use std::alloc::Global;
+
+/// A configuration of these leaves and no mapped device.
+pub fn config_over(alloc: Global, leaves: Vec<Leaf>) -> Result<Config, ConfigFault>
+    ensures ok { IfOk result (λ c. c ≡ record { leaves = leaves.items; devices = [] }) }
+    ensures leaves { OnOk result (first_fault leaves.items ≡ None) }
+    ensures err { IfErr result (λ fault. first_fault leaves.items ≡ Some fault) }
+{
+    match leaves_fault(leaves.as_slice()) {
+        Some(fault) => Err(fault),
+        None => Ok(Config::new(alloc, leaves)),
+    }
+}
+
+/// Creates each device that the text names, or replaces its table and flag: all or none.
+pub fn load(config: &mut Config, text: &StackText) -> Result<(), LoadFault>
+    ensures ok { OnOk result (first_refusal config.old text.now ≡ None) }
+    ensures after { OnOk result (config.new ≡ after_load config.old text.now) }
+    ensures refused { (r : Refusal) → result ≡ Err (LoadFault.Refused r) → IsRefusal config.old text.now r }
+    ensures same { OnErr result (config.new ≡ config.old) }
+{
+    let next = next_load(
+        config.alloc(),
+        config.leaves(),
+        config.devices(),
+        text.as_slice(),
+    )?;
+    config.put(next.devices, next.facts);
+    Ok(())
+}
