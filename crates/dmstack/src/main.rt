@@ -1,9 +1,8 @@
 //! The program: hands the command line, standard input and standard output to `stack_commands`.
 #![tactic(auto)]
 
-use command_faults::{CommandFault, end};
-use stack_commands::command;
-use stack_session::Counted;
+use counted_io::Counted;
+use stack_commands::{CommandFault, command, end};
 use std::fs::File;
 use std::io::{BufWriter, ErrorKind};
 use std::process::ExitCode;

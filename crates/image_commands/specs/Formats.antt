@@ -6,8 +6,8 @@ use Rattle.verity_format.specs.declared.formatting.FormatFault.TheVariants.{Devi
 use Rattle.verity_format.specs.declared.formatting.FormatOptions.{FormatOptions}
 use Rattle.verity_format.specs.Formatting.{IsFormatting, given_blocks}
 use Rattle.verity_format.specs.Options.{superblock_with}
-use Rattle.command_faults.specs.declared.fault.CommandFault.{CommandFault}
-use Rattle.command_faults.specs.declared.fault.CommandFault.TheVariants.{Format}
+use Rattle.image_commands.specs.declared.fault.ImageFault.{ImageFault}
+use Rattle.image_commands.specs.declared.fault.ImageFault.TheVariants.{Format}
 use Rattle.image_commands.specs.declared.format.MadeImage.{MadeImage}
 use Rattle.image_commands.specs.SuperblockTexts.{blocks_text, root_text, salt_text, uuid_text}
 
@@ -31,7 +31,7 @@ pub record IsNotKept (options : FormatOptions) (data_dev hash_dev data_dev' hash
   pub is : fault ≡ DeviceFailed
 
 -- it was refused, not finished, or not synced
-abbrev pub IsFormatEnd : FormatOptions → Device → Device → Device → Device → CommandFault → Type 0
+abbrev pub IsFormatEnd : FormatOptions → Device → Device → Device → Device → ImageFault → Type 0
 IsFormatEnd options data_dev hash_dev data_dev' hash_dev' (Format fault) =
     IsFormatting (superblock_with options data_dev.size) data_dev hash_dev data_dev' hash_dev' (Err fault) ⊎ IsNotKept options data_dev hash_dev data_dev' hash_dev' fault
 IsFormatEnd options data_dev hash_dev data_dev' hash_dev' fault = ⊥

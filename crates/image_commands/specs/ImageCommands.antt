@@ -6,10 +6,10 @@ use Rattle.verity_format.specs.declared.formatting.FormatOptions.{FormatOptions}
 use Rattle.verity_format.specs.declared.verifying.Verdict.TheVariants.{Matches}
 use Rattle.verity_format.specs.Superblock.{SuperRecord}
 use Rattle.verity_format.specs.Verifying.{IsFound, IsReadCause, IsVerifyCause}
-use Rattle.command_faults.specs.declared.fault.CommandFault.{CommandFault}
-use Rattle.command_faults.specs.declared.fault.CommandFault.TheVariants.{Random}
-use Rattle.command_faults.specs.Endings.{IsComparisonEnd, IsUnwritten, IsVerifyEnd}
-use Rattle.command_faults.specs.Opened.{IsOpened, IsUnopened}
+use Rattle.image_commands.specs.declared.fault.ImageFault.{ImageFault}
+use Rattle.image_commands.specs.declared.fault.ImageFault.TheVariants.{Random}
+use Rattle.image_files.specs.Opened.{IsOpened}
+use Rattle.image_commands.specs.Endings.{IsComparisonEnd, IsUnopened, IsUnwritten, IsVerifyEnd}
 use Rattle.image_commands.specs.declared.format.MadeImage.{MadeImage}
 use Rattle.command_line.specs.declared.image_options.ImageOptions.{ImageOptions}
 use Rattle.image_commands.specs.Formats.{IsFormatEnd, IsMade, made_text}
@@ -20,7 +20,7 @@ abbrev pub PrintsSuperblock : (SuperRecord → List ℕ) → Option (List ℕ) �
 PrintsSuperblock text old new = (image : Device) × IsOpened image false × SaysSuperblock image text old new
 
 -- its file isn't opened, its superblock isn't read, memory ran out, or the text can't be written
-abbrev pub IsSuperblockEnd : List ℕ → Bool → CommandFault → Type 0
+abbrev pub IsSuperblockEnd : List ℕ → Bool → ImageFault → Type 0
 IsSuperblockEnd path failed fault =
     IsUnopened path fault ⊎ ((image image' : Device) × IsOpened image false × IsVerifyEnd (IsReadCause image image') failed fault)
 
@@ -36,7 +36,7 @@ pub record PrintsMatches (root : List ℕ) (old new : Option (List ℕ)) : Type 
   pub printed : Appends old new (codes "matches\n")
 
 -- a comparison that was made of two images ends early
-pub record EndsComparison (root : List ℕ) (failed : Bool) (fault : CommandFault) : Type 0 where
+pub record EndsComparison (root : List ℕ) (failed : Bool) (fault : ImageFault) : Type 0 where
   pub data_dev : Device
   pub hash_dev : Device
   pub data_dev' : Device
@@ -46,7 +46,7 @@ pub record EndsComparison (root : List ℕ) (failed : Bool) (fault : CommandFaul
   pub ends : IsComparisonEnd (IsVerifyCause data_dev hash_dev data_dev' hash_dev') (IsFound data_dev hash_dev data_dev' hash_dev' root) failed fault
 
 -- one of the two files isn't opened, or the comparison ends early
-abbrev pub IsVerifyFilesEnd : List ℕ → List ℕ → List ℕ → Bool → CommandFault → Type 0
+abbrev pub IsVerifyFilesEnd : List ℕ → List ℕ → List ℕ → Bool → ImageFault → Type 0
 IsVerifyFilesEnd data_path hash_path root failed fault = IsUnopened data_path fault ⊎ (IsUnopened hash_path fault ⊎ EndsComparison root failed fault)
 
 -- the options as they are given, with some salt and some identifier where none is
@@ -72,7 +72,7 @@ pub record PrintsMade (options : ImageOptions) (old new : Option (List ℕ)) : T
   pub printed : Appends old new (made_text image)
 
 -- a formatting of two images ends early
-pub record EndsFormat (options : ImageOptions) (fault : CommandFault) : Type 0 where
+pub record EndsFormat (options : ImageOptions) (fault : ImageFault) : Type 0 where
   pub given : FormatOptions
   pub data_dev : Device
   pub hash_dev : Device
@@ -84,6 +84,6 @@ pub record EndsFormat (options : ImageOptions) (fault : CommandFault) : Type 0 w
   pub ends : IsFormatEnd given data_dev hash_dev data_dev' hash_dev' fault
 
 -- one of the two files isn't opened, there are no random bytes, the formatting ends early, or its text can't be written
-abbrev pub IsFormatFilesEnd : List ℕ → List ℕ → ImageOptions → Bool → CommandFault → Type 0
+abbrev pub IsFormatFilesEnd : List ℕ → List ℕ → ImageOptions → Bool → ImageFault → Type 0
 IsFormatFilesEnd data_path hash_path options failed fault =
     IsUnopened data_path fault ⊎ (IsUnopened hash_path fault ⊎ ((fault ≡ Random) ⊎ (EndsFormat options fault ⊎ IsUnwritten failed fault)))

@@ -1,3 +1,4 @@
+pub mod Endings
 pub mod Formats
 pub mod ImageCommands
 pub mod SuperblockTexts

@@ -3,26 +3,27 @@ ghost use Rattle.std.specs.Prelude.{◌≡◌, OnOk, IfErr};
 ghost use Rattle.block_device.specs.Device.{Device};
 ghost use Rattle.verity_format.specs.Blocks.{IsOnlyRead};
 ghost use Rattle.verity_format.specs.Verifying.{IsReadCause};
-ghost use Rattle.command_faults.specs.Endings.{IsQuiet, IsVerifyEnd};
+ghost use Rattle.image_commands.specs.Endings.{IsQuiet, IsVerifyEnd};
 ghost use Rattle.image_commands.specs.ImageCommands.{IsSuperblockEnd, PrintsSuperblock};
 ghost use Rattle.image_commands.specs.SuperblockTexts.{SaysSuperblock, superblock_text};
 
+use crate::fault::ImageFault;
 use crate::superblock_text::say_superblock;
 use block_device::BlockDev;
-use command_faults::{CommandFault, open_file};
-use stack_session::Counted;
+use counted_io::Counted;
+use image_files::open_file;
 use std::fs::File;
 use std::io::Write;
 use std::rt::Files;
 use verity_format::read_superblock;
 
 /// `dump HASH`: the fields of the file's superblock.
-#[tactic(auto, using(command_faults::proofs::lemmas::EndingLemmas::quiet))]
+#[tactic(auto, using(crate::proofs::lemmas::EndingLemmas::quiet))]
 pub fn dump_file<'a, R: Files<File = File>, W: Write>(
     rt: &R,
     hash: &'a str,
     writer: &mut Counted<W>,
-) -> Result<(), CommandFault<'a>>
+) -> Result<(), ImageFault<'a>>
     ensures ok { OnOk result (PrintsSuperblock superblock_text (W.contents writer.old.inner) (W.contents writer.new.inner)) }
     ensures err { IfErr result (IsSuperblockEnd hash.now writer.new.failed) }
     ensures quiet { IfErr result (λ fault. IsQuiet fault (W.contents writer.old.inner) (W.contents writer.new.inner)) }
@@ -32,11 +33,11 @@ pub fn dump_file<'a, R: Files<File = File>, W: Write>(
 }
 
 // Writes the fields of the device's superblock.
-#[tactic(auto, using(command_faults::proofs::lemmas::EndingLemmas::quiet))]
+#[tactic(auto, using(crate::proofs::lemmas::EndingLemmas::quiet))]
 fn dump<'a, H: BlockDev, W: Write>(
     hash_dev: &mut H,
     writer: &mut Counted<W>,
-) -> Result<(), CommandFault<'a>>
+) -> Result<(), ImageFault<'a>>
     ensures read { IsOnlyRead (H.state hash_dev.old) (H.state hash_dev.new) }
     ensures ok { OnOk result (SaysSuperblock (H.state hash_dev.old) superblock_text (W.contents writer.old.inner) (W.contents writer.new.inner)) }
     ensures err { IfErr result (IsVerifyEnd (IsReadCause (H.state hash_dev.old) (H.state hash_dev.new)) writer.new.failed) }

@@ -1,21 +1,22 @@
 // The command `format`: makes a hash image over a data image.
 ghost use Rattle.std.specs.Prelude.{false, true, ◌≡◌, IfErr, IfOk, OnOk};
 ghost use Rattle.block_device.specs.FileId.{file_id};
-ghost use Rattle.command_faults.specs.OneFile.{is_one_file};
-ghost use Rattle.stack_session.specs.Counted.{Writes};
-ghost use Rattle.command_faults.specs.Endings.{IsQuiet};
-ghost use Rattle.command_faults.specs.Opened.{IsOpened, IsUnopened};
+ghost use Rattle.image_files.specs.OneFile.{is_one_file};
+ghost use Rattle.counted_io.specs.Counted.{Writes};
+ghost use Rattle.image_commands.specs.Endings.{IsQuiet};
+ghost use Rattle.image_files.specs.Opened.{IsOpened};
 ghost use Rattle.image_commands.specs.Formats.{IsFormatEnd, IsMade, made_text};
 ghost use Rattle.image_commands.specs.ImageCommands.{AreGiven, IsFormatFilesEnd, PrintsMade};
 
+use crate::fault::ImageFault;
 use crate::random::draw;
 use crate::superblock_text::{say_blocks, say_root, say_salt, say_uuid};
 use block_device::{BlockDev, FileDev, OpenFault, SyncDev};
-use command_faults::{CommandFault, is_one_file, open_file};
 use command_line::ImageOptions;
+use counted_io::{Counted, WriteFault};
+use image_files::{UnopenedFile, is_one_file, open_file};
 use rand::make_rng;
 use rand::rngs::StdRng;
-use stack_session::{Counted, WriteFault};
 use std::alloc::Global;
 use std::fs::File;
 use std::io::Write;
@@ -35,14 +36,14 @@ pub struct MadeImage {
 
 /// `format [OPTIONS] DATA HASH`: formats the hash image, and writes its root, salt, identifier and number of blocks.
 /// The hash image is synced before anything is written.
-#[tactic(auto, using(command_faults::proofs::lemmas::EndingLemmas::quiet))]
+#[tactic(auto, using(crate::proofs::lemmas::EndingLemmas::quiet))]
 pub fn format_files<'a, R: Files<File = File> + AllocGlobal + RandomSource, W: Write>(
     rt: &R,
     options: ImageOptions,
     data_path: &'a str,
     hash_path: &'a str,
     writer: &mut Counted<W>,
-) -> Result<(), CommandFault<'a>>
+) -> Result<(), ImageFault<'a>>
     ensures ok { OnOk result (PrintsMade options (W.contents writer.old.inner) (W.contents writer.new.inner)) }
     ensures err { IfErr result (IsFormatFilesEnd data_path.now hash_path.now options writer.new.failed) }
     ensures quiet { IfErr result (λ fault. IsQuiet fault (W.contents writer.old.inner) (W.contents writer.new.inner)) }
@@ -59,15 +60,15 @@ fn open_hash<'a, R: Files<File = File>>(
     rt: &R,
     path: &'a str,
     data_dev: &FileDev,
-) -> Result<FileDev, CommandFault<'a>>
+) -> Result<FileDev, UnopenedFile<'a>>
     ensures opened { IfOk result (λ hash_dev. IsOpened (⟦<FileDev as BlockDev>⟧.state hash_dev) true) }
     ensures apart { IfOk result (λ hash_dev. is_one_file (file_id data_dev.now) (file_id hash_dev) ≡ false) }
-    ensures err { IfErr result (IsUnopened path.now) }
+    ensures err { IfErr result (λ file. file.path.now ≡ path.now) }
 {
     let hash_dev = open_file(rt, path, true)?;
     if is_one_file(data_dev.id(), hash_dev.id()) {
         let fault = OpenFault::SameFile;
-        return Err(CommandFault::Open { fault, path });
+        return Err(UnopenedFile { fault, path });
     }
     Ok(hash_dev)
 }
@@ -78,7 +79,7 @@ fn make<'a, D: BlockDev, H: SyncDev>(
     data_dev: &mut D,
     hash_dev: &mut H,
     options: FormatOptions,
-) -> Result<MadeImage, CommandFault<'a>>
+) -> Result<MadeImage, ImageFault<'a>>
     ensures ok { IfOk result (IsMade options (D.state data_dev.old) (H.state hash_dev.old) (D.state data_dev.new) (H.state hash_dev.new)) }
     ensures err { IfErr result (IsFormatEnd options (D.state data_dev.old) (H.state hash_dev.old) (D.state data_dev.new) (H.state hash_dev.new)) }
 {
@@ -93,7 +94,7 @@ fn make<'a, D: BlockDev, H: SyncDev>(
             uuid,
             blocks,
         }),
-        Err(_) => Err(CommandFault::Format(FormatFault::Device)),
+        Err(_) => Err(ImageFault::Format(FormatFault::Device)),
     }
 }
 
@@ -111,9 +112,9 @@ fn say_made<W: Write>(writer: &mut Counted<W>, made: &MadeImage) -> Result<(), W
 fn given_or_drawn<'a, R: RandomSource>(
     rt: &R,
     options: ImageOptions,
-) -> Result<FormatOptions, CommandFault<'a>>
+) -> Result<FormatOptions, ImageFault<'a>>
     ensures ok { IfOk result (AreGiven options) }
-    ensures err { IfErr result (λ fault. fault ≡ CommandFault.Random) }
+    ensures err { IfErr result (λ fault. fault ≡ ImageFault.Random) }
 {
     let ImageOptions {
         data_block,
@@ -127,7 +128,7 @@ fn given_or_drawn<'a, R: RandomSource>(
         (salt, uuid) => {
             let mut random: StdRng = match make_rng(rt) {
                 Ok(random) => random,
-                Err(_) => return Err(CommandFault::Random),
+                Err(_) => return Err(ImageFault::Random),
             };
             let (drawn_salt, drawn_uuid) = draw(&mut random);
             (salt.unwrap_or(drawn_salt), uuid.unwrap_or(drawn_uuid))

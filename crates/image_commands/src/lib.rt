@@ -2,6 +2,7 @@
 #![tactic(auto)]
 
 mod dump;
+mod fault;
 mod format;
 mod random;
 mod superblock_text;
@@ -9,6 +10,7 @@ mod table;
 mod verify;
 
 pub use dump::dump_file;
+pub use fault::ImageFault;
 pub use format::format_files;
 pub use random::draw;
 pub use table::{LineWords, print_table_of_file};

@@ -3,13 +3,14 @@ ghost use Rattle.std.specs.Prelude.{◌≡◌, OnOk, IfErr};
 ghost use Rattle.block_device.specs.Device.{Device};
 ghost use Rattle.verity_format.specs.Blocks.{IsOnlyRead};
 ghost use Rattle.verity_format.specs.Verifying.{IsReadCause};
-ghost use Rattle.command_faults.specs.Endings.{IsQuiet, IsVerifyEnd};
+ghost use Rattle.image_commands.specs.Endings.{IsQuiet, IsVerifyEnd};
 ghost use Rattle.image_commands.specs.ImageCommands.{IsSuperblockEnd, PrintsSuperblock};
 ghost use Rattle.image_commands.specs.SuperblockTexts.{SaysSuperblock, line_text};
 
+use crate::fault::ImageFault;
 use block_device::BlockDev;
-use command_faults::{CommandFault, open_file};
-use stack_session::Counted;
+use counted_io::Counted;
+use image_files::open_file;
 use std::alloc::Global;
 use std::fs::File;
 use std::io::Write;
@@ -26,13 +27,13 @@ pub struct LineWords<'a> {
 }
 
 /// `table HASH ROOT DATANAME HASHNAME`: the table line of the file.
-#[tactic(auto, using(command_faults::proofs::lemmas::EndingLemmas::quiet))]
+#[tactic(auto, using(crate::proofs::lemmas::EndingLemmas::quiet))]
 pub fn print_table_of_file<'a, R: Files<File = File> + AllocGlobal, W: Write>(
     rt: &R,
     hash: &'a str,
     words: LineWords<'_>,
     writer: &mut Counted<W>,
-) -> Result<(), CommandFault<'a>>
+) -> Result<(), ImageFault<'a>>
     ensures ok { OnOk result (PrintsSuperblock (λ s. line_text s words.entry.data_name.now words.entry.hash_name.now words.entry.root.now) (W.contents writer.old.inner) (W.contents writer.new.inner)) }
     ensures err { IfErr result (IsSuperblockEnd hash.now writer.new.failed) }
     ensures quiet { IfErr result (λ fault. IsQuiet fault (W.contents writer.old.inner) (W.contents writer.new.inner)) }
@@ -42,13 +43,13 @@ pub fn print_table_of_file<'a, R: Files<File = File> + AllocGlobal, W: Write>(
 }
 
 // Writes the table line by the device's superblock.
-#[tactic(auto, using(command_faults::proofs::lemmas::EndingLemmas::quiet))]
+#[tactic(auto, using(crate::proofs::lemmas::EndingLemmas::quiet))]
 fn print_table<'a, H: BlockDev, W: Write>(
     alloc: Global,
     hash_dev: &mut H,
     words: LineWords<'_>,
     writer: &mut Counted<W>,
-) -> Result<(), CommandFault<'a>>
+) -> Result<(), ImageFault<'a>>
     ensures read { IsOnlyRead (H.state hash_dev.old) (H.state hash_dev.new) }
     ensures ok { OnOk result (SaysSuperblock (H.state hash_dev.old) (λ s. line_text s words.entry.data_name.now words.entry.hash_name.now words.entry.root.now) (W.contents writer.old.inner) (W.contents writer.new.inner)) }
     ensures err { IfErr result (IsVerifyEnd (IsReadCause (H.state hash_dev.old) (H.state hash_dev.new)) writer.new.failed) }

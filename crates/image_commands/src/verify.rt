@@ -4,12 +4,13 @@ ghost use Rattle.std.specs.Io.KnownBytes.{Appends};
 ghost use Rattle.block_device.specs.Device.{Device};
 ghost use Rattle.verity_format.specs.Blocks.{IsOnlyRead};
 ghost use Rattle.verity_format.specs.Verifying.{IsFound, IsVerifyCause};
-ghost use Rattle.command_faults.specs.Endings.{IsComparisonEnd, IsQuiet};
+ghost use Rattle.image_commands.specs.Endings.{IsComparisonEnd, IsQuiet};
 ghost use Rattle.image_commands.specs.ImageCommands.{IsVerifyFilesEnd, PrintsMatches};
 
+use crate::fault::ImageFault;
 use block_device::BlockDev;
-use command_faults::{CommandFault, open_file};
-use stack_session::Counted;
+use counted_io::Counted;
+use image_files::open_file;
 use std::alloc::Global;
 use std::fs::File;
 use std::io::Write;
@@ -18,14 +19,14 @@ use tree_shape::Digest;
 use verity_format::{Verdict, verify};
 
 /// `verify DATA HASH ROOT`: `matches`; a difference is the fault `Differs`.
-#[tactic(auto, using(command_faults::proofs::lemmas::EndingLemmas::quiet))]
+#[tactic(auto, using(crate::proofs::lemmas::EndingLemmas::quiet))]
 pub fn verify_files<'a, R: Files<File = File> + AllocGlobal, W: Write>(
     rt: &R,
     data_path: &'a str,
     hash_path: &'a str,
     root: &Digest,
     writer: &mut Counted<W>,
-) -> Result<(), CommandFault<'a>>
+) -> Result<(), ImageFault<'a>>
     ensures ok { OnOk result (PrintsMatches root.now (W.contents writer.old.inner) (W.contents writer.new.inner)) }
     ensures err { IfErr result (IsVerifyFilesEnd data_path.now hash_path.now root.now writer.new.failed) }
     ensures quiet { IfErr result (λ fault. IsQuiet fault (W.contents writer.old.inner) (W.contents writer.new.inner)) }
@@ -36,14 +37,14 @@ pub fn verify_files<'a, R: Files<File = File> + AllocGlobal, W: Write>(
 }
 
 // Compares the tree over the data device with the one on the hash device.
-#[tactic(auto, using(command_faults::proofs::lemmas::EndingLemmas::quiet))]
+#[tactic(auto, using(crate::proofs::lemmas::EndingLemmas::quiet))]
 fn compare<'a, D: BlockDev, H: BlockDev, W: Write>(
     alloc: Global,
     data_dev: &mut D,
     hash_dev: &mut H,
     root: &Digest,
     writer: &mut Counted<W>,
-) -> Result<(), CommandFault<'a>>
+) -> Result<(), ImageFault<'a>>
     ensures read { IsOnlyRead (D.state data_dev.old) (D.state data_dev.new) × IsOnlyRead (H.state hash_dev.old) (H.state hash_dev.new) }
     ensures ok { OnOk result (IsFound (D.state data_dev.old) (H.state hash_dev.old) (D.state data_dev.new) (H.state hash_dev.new) root.now Verdict.Matches
         × Appends (W.contents writer.old.inner) (W.contents writer.new.inner) (codes "matches\n")) }
@@ -56,6 +57,6 @@ fn compare<'a, D: BlockDev, H: BlockDev, W: Write>(
             writer.put(b"matches\n")?;
             Ok(())
         }
-        verdict => Err(CommandFault::Differs(verdict)),
+        verdict => Err(ImageFault::Differs(verdict)),
     }
 }

@@ -1,6 +1,6 @@
 -- Readers and writers that are called one time after another.
 use Rattle.std.proofs.Common.{◌≡◌, ◌≢◌, ◌≤◌, ℕ, ◌+◌, ◌-◌, ◌^◌, min, true, ◌∙◌, refl, arith, inr, Option, Some, None, List, Result, Ok, Err}
-use Rattle.stack_session.specs.Counted.{CountedRecord}
+use Rattle.counted_io.specs.Counted.{CountedRecord}
 use Rattle.nbd_server.specs.declared.fault.ServiceFault.{ServiceFault}
 use Rattle.nbd_server.specs.declared.fault.ServiceFault.TheVariants as fault
 use Rattle.nbd_server.specs.Streaming.{HasRead, HasWritten, Stops, fault_of}

@@ -28,7 +28,7 @@ use Rattle.request_queue.proofs.lemmas.AdmissionLemmas.{unless-ok}
 use Rattle.nbd_server.specs.declared.request_error.RequestError.{RequestError}
 use Rattle.nbd_server.specs.declared.request_error.RequestError.TheVariants.{NoMemory}
 use Rattle.nbd_server.specs.Sectors.{IsFetched, FailsToFetch, EndsIn, StopsAfter, error_of}
-use Rattle.nbd_server.proofs.LedLemmas.{led-none, led-one, led-then}
+use Rattle.request_queue.proofs.lemmas.LedLemmas.{led-none, led-one, led-then}
 
 -- ---- which sectors a request is for
 

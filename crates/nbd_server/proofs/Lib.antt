@@ -2,7 +2,6 @@ pub mod ByteLemmas
 pub mod CountedLemmas
 pub mod FetchLemmas
 pub mod IntakeLemmas
-pub mod LedLemmas
 pub mod ServiceLemmas
 pub mod StoreLemmas
 pub mod MessageLemmas

@@ -4,7 +4,7 @@ use Rattle.std.specs.Prelude.{◌⊎◌}
 use Rattle.std.specs.Io.KnownBytes.{Appends, Keeps}
 use Rattle.std.proofs.KnownBytes.{Appends-nil, Appends-trans, Appends-kept, Consumes-nil, Consumes-trans}
 use Rattle.request_queue.specs.World.{World}
-use Rattle.stack_session.specs.Session.{Streams, streams}
+use Rattle.counted_io.specs.Streams.{Streams, streams}
 use Rattle.nbd_server.specs.declared.fault.ServiceFault.{ServiceFault}
 use Rattle.nbd_server.specs.declared.fault.ServiceFault.TheVariants as fault
 use Rattle.nbd_server.specs.declared.phase.Phase.{Phase}

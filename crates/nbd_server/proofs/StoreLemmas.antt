@@ -34,7 +34,7 @@ use Rattle.nbd_server.specs.declared.request_error.RequestError.{RequestError}
 use Rattle.nbd_server.specs.declared.request_error.RequestError.TheVariants.{NoMemory, InputOutput}
 use Rattle.nbd_server.specs.Sectors.{IsStored, FailsToStore, EndsPut, StopsPut, error_of}
 use Rattle.nbd_server.proofs.FetchLemmas.{named-range}
-use Rattle.nbd_server.proofs.LedLemmas.{led-none, led-one, led-then}
+use Rattle.request_queue.proofs.lemmas.LedLemmas.{led-none, led-one, led-then}
 
 -- ---- a write, and one behind it
 

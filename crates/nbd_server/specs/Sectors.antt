@@ -6,9 +6,9 @@ use Rattle.stack_meaning.specs.Found.{FoundRecord}
 use Rattle.stack_engine.specs.WritePieces.{WritesInPieces}
 use Rattle.request_queue.specs.Parts.{EachPart}
 use Rattle.request_queue.specs.Ranges.{range_at}
+use Rattle.request_queue.specs.Runs.{IsLed}
 use Rattle.request_queue.specs.WholeRuns.{ReadsWhole}
 use Rattle.request_queue.specs.World.{World}
-use Rattle.stack_session.specs.QueueSessions.{IsLed}
 use Rattle.nbd_server.specs.declared.request_error.RequestError.{RequestError}
 use Rattle.nbd_server.specs.declared.request_error.RequestError.TheVariants.{NoMemory, InputOutput}
 

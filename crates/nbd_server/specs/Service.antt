@@ -2,7 +2,7 @@
 use Rattle.std.specs.Prelude.{◌≡◌, ◌≢◌, ◌⊎◌, ℕ, ◌<◌, ◌≤◌, nat_le, Bool, true, false, List, [], ◌++◌, length, take, codes, Option, Some, None, Result, Ok, Err}
 use Rattle.std.specs.Io.KnownBytes.{Appends, IsAtEnd, Keeps}
 use Rattle.request_queue.specs.World.{World}
-use Rattle.stack_session.specs.Session.{Streams}
+use Rattle.counted_io.specs.Streams.{Streams}
 use Rattle.nbd_server.specs.Numbers.{number32}
 use Rattle.nbd_server.specs.Exports.{ExportRecord, is_asked}
 use Rattle.nbd_server.specs.Handshake.{greeting, answer_to, phase_after, names_export, most_data, refused}

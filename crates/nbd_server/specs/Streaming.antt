@@ -3,8 +3,8 @@ use Rattle.std.specs.Prelude.{◌≡◌, ◌≢◌, ◌⊎◌, ◌<◌, ◌≤�
 use Rattle.std.specs.Global.{Global}
 use Rattle.std.specs.Io.KnownBytes.{Appends, Consumes, IsAtEnd}
 use Rattle.block_device.specs.Device.{capped}
-use Rattle.stack_session.specs.Counted.{CountedRecord}
-use Rattle.stack_session.specs.Session.{Streams}
+use Rattle.counted_io.specs.Counted.{CountedRecord}
+use Rattle.counted_io.specs.Streams.{Streams}
 use Rattle.nbd_server.specs.declared.fault.ServiceFault.{ServiceFault}
 use Rattle.nbd_server.specs.declared.fault.ServiceFault.TheVariants.{Lost, ReadFault, WriteFault}
 

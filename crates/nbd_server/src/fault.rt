@@ -2,7 +2,7 @@
 ghost use Rattle.std.specs.Prelude.{◌≡◌};
 ghost use Rattle.nbd_server.specs.declared.fault.ServiceFault.TheVariants as service_fault;
 
-use stack_session::WriteFault;
+use counted_io::WriteFault;
 use thiserror::Error;
 
 /// Why the service of a client ended early.

@@ -1,6 +1,6 @@
 // The handshake's messages: the client's flags, and the options that it haggles over.
 ghost use Rattle.std.specs.Prelude.{◌≡◌, ◌≢◌, ◌<◌, ◌≤◌, ◌^◌, ℕ, List, length, MatchOption, Option, option_map, IfOk, IfErr};
-ghost use Rattle.stack_session.specs.Session.{streams};
+ghost use Rattle.counted_io.specs.Streams.{streams};
 ghost use Rattle.request_queue.specs.World.{World};
 ghost use Rattle.nbd_server.specs.Exports.{ExportRecord, export_record};
 ghost use Rattle.nbd_server.specs.Service.{Answers, HasNoRoom, IsAnswered, IsUnnamed, IsUnread, Turns};
@@ -14,7 +14,7 @@ use crate::numbers::number32;
 use crate::option::{EXPORT_NAME, names_export, phase_after, say_answer};
 use crate::option_reply::{Refusal, refuse};
 use crate::phase::Phase;
-use stack_session::Counted;
+use counted_io::Counted;
 use std::alloc::Global;
 use std::io::{Read, Write};
 

@@ -4,7 +4,7 @@ ghost use Rattle.nbd_server.specs.Premises.{HavePlace};
 ghost use Rattle.nbd_server.specs.Streaming.{Fills, HasRead, IsShort, Takes, TakesInto, TakesToPlace, fault_of};
 
 use crate::fault::ServiceFault;
-use stack_session::Counted;
+use counted_io::Counted;
 use std::alloc::{AllocError, Global};
 use std::io::{ErrorKind, Read};
 

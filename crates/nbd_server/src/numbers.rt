@@ -1,9 +1,9 @@
 // Numbers in network byte order.
 ghost use Rattle.std.specs.Prelude.{◌≡◌, ◌+◌, ◌≤◌, length};
-ghost use Rattle.stack_session.specs.Counted.{Writes};
+ghost use Rattle.counted_io.specs.Counted.{Writes};
 ghost use Rattle.nbd_server.specs.Numbers.{bytes16, bytes32, bytes64, number16, number32, number64};
 
-use stack_session::{Counted, WriteFault};
+use counted_io::{Counted, WriteFault};
 use std::io::Write;
 
 /// The number in two bytes from a place on.

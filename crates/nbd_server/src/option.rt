@@ -1,6 +1,6 @@
 // Options that a client haggles over.
 ghost use Rattle.std.specs.Prelude.{◌≡◌, ◌≤◌, ◌<◌, ◌^◌, length, true};
-ghost use Rattle.stack_session.specs.Counted.{Writes};
+ghost use Rattle.counted_io.specs.Counted.{Writes};
 ghost use Rattle.nbd_server.specs.Exports.{export_record};
 ghost use Rattle.nbd_server.specs.Handshake.{answer_to, info_reply, is_info, name_in, names_export, phase_after, wanted_in};
 
@@ -8,7 +8,7 @@ use crate::export::Export;
 use crate::numbers::{number16, number32};
 use crate::option_reply::{LIST, Refusal, acknowledge, refuse, say_export, say_list, say_told};
 use crate::phase::Phase;
-use stack_session::{Counted, WriteFault};
+use counted_io::{Counted, WriteFault};
 use std::io::Write;
 
 /// The option that ends the handshake and has no reply but the export's.

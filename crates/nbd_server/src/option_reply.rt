@@ -1,13 +1,13 @@
 // Writes the replies to options.
 ghost use Rattle.std.specs.Prelude.{◌≡◌, ◌<◌, ◌^◌, length};
-ghost use Rattle.stack_session.specs.Counted.{Writes};
+ghost use Rattle.counted_io.specs.Counted.{Writes};
 ghost use Rattle.nbd_server.specs.Exports.{export_record};
 ghost use Rattle.nbd_server.specs.Handshake.{acknowledged, export_fields, export_info, list_reply, many_zeros, name_field, refused, reply_head, reply_magic, size_info, told, wanted_sizes, wants_sizes};
 
 use crate::export::Export;
 use crate::header::MOST_LENGTH;
 use crate::numbers::{put16, put32, put64};
-use stack_session::{Counted, WriteFault};
+use counted_io::{Counted, WriteFault};
 use std::io::Write;
 
 const MAGIC: [u8; 8] = [0, 3, 0xe8, 0x89, 4, 0x55, 0x65, 0xa9];

@@ -1,12 +1,12 @@
 // Replies to requests.
 ghost use Rattle.std.specs.Prelude.{◌≡◌, ◌≤◌, ◌+◌, [], ◌++◌, length};
-ghost use Rattle.stack_session.specs.Counted.{Writes};
+ghost use Rattle.counted_io.specs.Counted.{Writes};
 ghost use Rattle.nbd_server.specs.Numbers.{bytes32, bytes64};
 ghost use Rattle.nbd_server.specs.Transmission.{IsInside, data_of, outcome_of, simple_reply};
 
 use crate::numbers::{put32, put64};
 use crate::request_error::RequestError;
-use stack_session::{Counted, WriteFault};
+use counted_io::{Counted, WriteFault};
 use std::alloc::Global;
 use std::io::Write;
 

@@ -1,6 +1,6 @@
 // The service of a client: its messages one after another, and what is replied to each.
 ghost use Rattle.std.specs.Prelude.{◌≢◌};
-ghost use Rattle.stack_session.specs.Session.{streams};
+ghost use Rattle.counted_io.specs.Streams.{streams};
 ghost use Rattle.nbd_server.specs.Exports.{IsExport, export_record};
 ghost use Rattle.nbd_server.specs.Premises.{IsGoing};
 ghost use Rattle.nbd_server.specs.Service.{IsService, Turns};
@@ -13,8 +13,8 @@ use crate::haggling::{take_flags, take_option};
 use crate::phase::Phase;
 use crate::transmission::take_request;
 use block_device::SyncDev;
+use counted_io::Counted;
 use request_queue::Queue;
-use stack_session::Counted;
 use std::alloc::Global;
 use std::io::{Read, Write};
 

@@ -1,7 +1,7 @@
 // The requests of the transmission phase.
 ghost use Rattle.std.specs.Prelude.{◌≡◌, ◌<◌, ◌+◌, ◌^◌, ℕ, List, length, Ok, IfOk, IfErr};
 ghost use Rattle.std.specs.Io.KnownBytes.{Consumes};
-ghost use Rattle.stack_session.specs.Session.{streams};
+ghost use Rattle.counted_io.specs.Streams.{streams};
 ghost use Rattle.nbd_server.specs.Exports.{IsExport, export_record};
 ghost use Rattle.nbd_server.specs.Headers.{payload_len};
 ghost use Rattle.nbd_server.specs.Premises.{AreBytesOf};
@@ -21,8 +21,8 @@ use crate::phase::Phase;
 use crate::reply::{Data, say_reply};
 use crate::request_error::RequestError;
 use block_device::{BlockDev, SyncDev};
+use counted_io::Counted;
 use request_queue::Queue;
-use stack_session::Counted;
 use std::alloc::Global;
 use std::io::{Read, Write};
 

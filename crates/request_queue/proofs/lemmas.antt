@@ -7,3 +7,4 @@ pub mod BudgetLemmas
 pub mod ChainLemmas
 pub mod ServedLemmas
 pub mod WholeRunLemmas
+pub mod LedLemmas

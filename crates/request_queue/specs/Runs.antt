@@ -1,5 +1,5 @@
 -- Runs: one event after another, each with the world that it leaves.
-use Rattle.std.specs.Prelude.{ℕ, ◌+◌, ◌-◌, ◌*◌, ◌==◌, Bool, false, List, [], ◌∷◌, find, Option, Some, None, Ok, Err, if◌then◌else◌}
+use Rattle.std.specs.Prelude.{◌≡◌, ℕ, ◌+◌, ◌-◌, ◌*◌, ◌==◌, Bool, false, List, [], ◌∷◌, find, Option, Some, None, Ok, Err, if◌then◌else◌}
 use Rattle.stack_rules.specs.Records.{Configuration}
 use Rattle.stack_meaning.specs.Leaves.{reads_of, writes_of}
 use Rattle.stack_engine.specs.Stacks.{StackRecord}
@@ -20,6 +20,12 @@ Run part w (x ∷ more) = Step part w x.event x.after × Run part x.after more
 abbrev pub last : World → List Turn → World
 last w [] = w
 last w (x ∷ more) = last x.after more
+
+-- turns lead from the first world to the last
+pub record IsLed (part : PartRelation) (w w' : World) : Type 0 where
+  pub turns : List Turn
+  pub run : Run part w turns
+  pub ends : last w turns ≡ w'
 
 -- a count of each turn, added up
 abbrev pub total : (World → Turn → ℕ) → World → List Turn → ℕ

@@ -1,12 +1,13 @@
 // Sessions over readers and writers that fail, and what no line of a session can ask of a queue.
 use block_device::MemoryDev;
+use counted_io::Counted;
 use request_queue::{Queue, Request};
 use stack_engine::Stack;
 use stack_loader::config_over;
-use stack_session::{Counted, LIMIT, SessionFault, session};
+use stack_session::{LIMIT, SessionFault, session};
 use std::alloc::Global;
-use std::io;
 use std::io::{Read, Write};
+use std::io;
 use std::rt::HostRuntime;
 use std::test::Fail;
 use table_reader::parse_stack;

@@ -14,9 +14,9 @@ use Rattle.stack_rules.specs.declared.refusal.Refusal.{Refusal}
 use Rattle.stack_rules.specs.Records.{Configuration, LeafRecord}
 use Rattle.stack_rules.specs.Leaves.{first_fault}
 use Rattle.stack_rules.specs.Rules.{first_refusal, after_load}
-use Rattle.command_faults.specs.declared.fault.CommandFault.{CommandFault}
-use Rattle.command_faults.specs.declared.fault.CommandFault.TheVariants.{Leaves, Text, Load, NoMemory}
-use Rattle.command_faults.specs.Endings.{text_ending, load_ending}
+use Rattle.stack_commands.specs.declared.fault.CommandFault.{CommandFault}
+use Rattle.stack_commands.specs.declared.fault.CommandFault.TheVariants.{Leaves, Text, Load, NoMemory}
+use Rattle.stack_commands.specs.Endings.{text_ending, load_ending}
 use Rattle.stack_commands.specs.Configuration.{leaves_alone, with_entries, with_text, with_leaves, configuration_of}
 
 pub configuration_of-leaves : (leaves : List LeafRecord) (text : List ℕ) (fault : ConfigFault) → first_fault leaves ≡ Some fault → configuration_of leaves text ≡ Err (Leaves fault)

@@ -1,6 +1,6 @@
 pub mod BindingLemmas
 pub mod ConfigurationLemmas
-pub mod FileUseLemmas
+pub mod EndingLemmas
 pub mod OpeningLemmas
 pub mod RecoveryLemmas
 pub mod ServeLemmas

@@ -6,10 +6,10 @@ use Rattle.block_device.specs.Device.{Device}
 use Rattle.stack_rules.specs.Records.{LeafRecord}
 use Rattle.stack_engine.specs.Pieces.{stack_over}
 use Rattle.stack_engine.specs.Stacks.{StackRecord}
-use Rattle.command_faults.specs.declared.fault.CommandFault.{CommandFault}
-use Rattle.command_faults.specs.declared.fault.CommandFault.TheVariants.{Usage, NoMemory, TooLong, Open, Leaves, Text, Load, Submit, Io, Format, Verify, Differs, Random, Lost, OutputTooSmall, OutputFailed, Session, Service}
-use Rattle.command_faults.specs.Endings.{counts_text}
-use Rattle.command_faults.specs.Opened.{IsOpened}
+use Rattle.stack_commands.specs.declared.fault.CommandFault.{CommandFault}
+use Rattle.stack_commands.specs.declared.fault.CommandFault.TheVariants.{Usage, NoMemory, TooLong, Open, Leaves, Text, Load, Submit, Io, Image, Lost, OutputTooSmall, OutputFailed, Session, Service}
+use Rattle.stack_commands.specs.Endings.{counts_text}
+use Rattle.image_files.specs.Opened.{IsOpened}
 use Rattle.stack_recovery.specs.declared.recovery.Counts.{Counts}
 use Rattle.stack_recovery.specs.LostRuns.{lost_in, lost_runs}
 use Rattle.stack_recovery.specs.Recoveries.{IsBegun, Recovers, Sides}
@@ -80,16 +80,13 @@ module _ (bindings : List BindingRecord) (name : List ℕ) (stack : StackRecord)
     scan-ends sure (Session fault) e = e
     scan-ends sure Usage e = e
     scan-ends sure TooLong e = e
-    scan-ends sure (Open fault path) e = e
+    scan-ends sure (Open file) e = e
     scan-ends sure (Leaves fault) e = e
     scan-ends sure (Text fault) e = e
     scan-ends sure (Load refusal) e = e
     scan-ends sure (Submit fault) e = e
     scan-ends sure (Io fault) e = e
-    scan-ends sure (Format fault) e = e
-    scan-ends sure (Verify fault) e = e
-    scan-ends sure (Differs verdict) e = e
-    scan-ends sure Random e = e
+    scan-ends sure (Image fault) e = e
     scan-ends sure (Lost read lost) e = absurd e
     scan-ends sure (OutputTooSmall needed) e = e
     scan-ends sure (Service fault) e = absurd e
@@ -126,16 +123,13 @@ module _ (bindings : List BindingRecord) (name : List ℕ) (old mid new : Option
   counts-end failed OutputFailed e = e
   counts-end failed Usage e = e
   counts-end failed TooLong e = e
-  counts-end failed (Open fault path) e = e
+  counts-end failed (Open file) e = e
   counts-end failed (Leaves fault) e = e
   counts-end failed (Text fault) e = e
   counts-end failed (Load refusal) e = e
   counts-end failed (Submit fault) e = e
   counts-end failed (Io fault) e = e
-  counts-end failed (Format fault) e = e
-  counts-end failed (Verify fault) e = e
-  counts-end failed (Differs verdict) e = e
-  counts-end failed Random e = e
+  counts-end failed (Image fault) e = e
   counts-end failed (OutputTooSmall needed) e = e
   counts-end failed (Service fault) e = absurd e
 
@@ -149,15 +143,12 @@ copy-ends words path stack d had out opened printed new failed (Session fault) e
 copy-ends words path stack d had out opened printed new failed Usage e = absurd e
 copy-ends words path stack d had out opened printed new failed (Service fault) e = absurd e
 copy-ends words path stack d had out opened printed new failed TooLong e = absurd e
-copy-ends words path stack d had out opened printed new failed (Open fault other) e = absurd e
+copy-ends words path stack d had out opened printed new failed (Open file) e = absurd e
 copy-ends words path stack d had out opened printed new failed (Leaves fault) e = absurd e
 copy-ends words path stack d had out opened printed new failed (Text fault) e = absurd e
 copy-ends words path stack d had out opened printed new failed (Load refusal) e = absurd e
 copy-ends words path stack d had out opened printed new failed (Submit fault) e = absurd e
 copy-ends words path stack d had out opened printed new failed (Io fault) e = absurd e
-copy-ends words path stack d had out opened printed new failed (Format fault) e = absurd e
-copy-ends words path stack d had out opened printed new failed (Verify fault) e = absurd e
-copy-ends words path stack d had out opened printed new failed (Differs verdict) e = absurd e
-copy-ends words path stack d had out opened printed new failed Random e = absurd e
+copy-ends words path stack d had out opened printed new failed (Image fault) e = absurd e
 copy-ends words path stack d had out opened printed new failed (Lost read lost) e = absurd e
 copy-ends words path stack d had out opened printed new failed (OutputTooSmall needed) e = absurd e

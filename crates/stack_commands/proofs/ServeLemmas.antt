@@ -11,9 +11,9 @@ use Rattle.stack_engine.specs.Syncs.{FailsToSync}
 use Rattle.request_queue.specs.World.{World}
 use Rattle.stack_session.specs.declared.fault.SessionFault.{SessionFault}
 use Rattle.stack_session.specs.QueueSessions.{IsQueueSession}
-use Rattle.stack_session.specs.Session.{Streams}
-use Rattle.command_faults.specs.declared.fault.CommandFault.{CommandFault}
-use Rattle.command_faults.specs.declared.fault.CommandFault.TheVariants.{Usage, NoMemory, TooLong, Open, Leaves, Text, Load, Submit, Io, Format, Verify, Differs, Random, Lost, OutputTooSmall, OutputFailed, Session, Service}
+use Rattle.counted_io.specs.Streams.{Streams}
+use Rattle.stack_commands.specs.declared.fault.CommandFault.{CommandFault}
+use Rattle.stack_commands.specs.declared.fault.CommandFault.TheVariants.{Usage, NoMemory, TooLong, Open, Leaves, Text, Load, Submit, Io, Image, Lost, OutputTooSmall, OutputFailed, Session, Service}
 use Rattle.stack_commands.specs.Bindings.{AreBound}
 use Rattle.command_line.specs.Bindings.{BindingRecord}
 use Rattle.stack_commands.specs.Configuration.{configuration_of, leaves_alone}
@@ -36,16 +36,13 @@ pub IsServeEnd-unopened : (bindings : List BindingRecord) (s : Streams) (failed 
 IsServeEnd-unopened bindings s failed Usage ends = (refl, inl ends)
 IsServeEnd-unopened bindings s failed NoMemory ends = (refl, inl ends)
 IsServeEnd-unopened bindings s failed TooLong ends = (refl, inl ends)
-IsServeEnd-unopened bindings s failed (Open fault path) ends = (refl, inl ends)
+IsServeEnd-unopened bindings s failed (Open file) ends = (refl, inl ends)
 IsServeEnd-unopened bindings s failed (Leaves fault) ends = (refl, inl ends)
 IsServeEnd-unopened bindings s failed (Text fault) ends = (refl, inl ends)
 IsServeEnd-unopened bindings s failed (Load refusal) ends = (refl, inl ends)
 IsServeEnd-unopened bindings s failed (Submit fault) ends = (refl, inl ends)
 IsServeEnd-unopened bindings s failed (Io fault) ends = absurd (no-io bindings fault ends)
-IsServeEnd-unopened bindings s failed (Format fault) ends = (refl, inl ends)
-IsServeEnd-unopened bindings s failed (Verify fault) ends = (refl, inl ends)
-IsServeEnd-unopened bindings s failed (Differs verdict) ends = (refl, inl ends)
-IsServeEnd-unopened bindings s failed Random ends = (refl, inl ends)
+IsServeEnd-unopened bindings s failed (Image fault) ends = (refl, inl ends)
 IsServeEnd-unopened bindings s failed (Lost read lost) ends = (refl, inl ends)
 IsServeEnd-unopened bindings s failed (OutputTooSmall needed) ends = (refl, inl ends)
 IsServeEnd-unopened bindings s failed OutputFailed ends = (refl, inl ends)

@@ -2,7 +2,7 @@
 use Rattle.command_line.specs.declared.fault.WordsFault.{WordsFault}
 use Rattle.command_line.specs.declared.fault.WordsFault.TheVariants.{NoMemory, Usage}
 use Rattle.command_line.specs.CommandWords.{IsUsage}
-use Rattle.command_faults.specs.Endings.{words_ending}
+use Rattle.stack_commands.specs.Endings.{words_ending}
 use Rattle.stack_commands.specs.Commands.{IsUsageEnd}
 
 -- what a fault of the words says is what it says as a command's

@@ -1,13 +1,14 @@
 -- What the program does: which command prints what where it succeeds, and how it ends early.
 use Rattle.std.specs.Prelude.{◌≡◌, ◌⊎◌, ℕ, Bool, true, List, Some, Ok}
-use Rattle.command_faults.specs.declared.fault.CommandFault.{CommandFault}
-use Rattle.command_faults.specs.declared.fault.CommandFault.TheVariants.{NoMemory, Usage}
-use Rattle.command_faults.specs.Endings.{IsEnd, IsQuiet}
+use Rattle.stack_commands.specs.declared.fault.CommandFault.{CommandFault}
+use Rattle.stack_commands.specs.declared.fault.CommandFault.TheVariants.{Image, NoMemory, Usage}
+use Rattle.stack_commands.specs.Endings.{IsEnd, IsQuiet}
 use Rattle.command_line.specs.declared.image_options.ImageOptions.{ImageOptions}
+use Rattle.image_commands.specs.declared.fault.ImageFault.{ImageFault}
 use Rattle.image_commands.specs.ImageCommands.{IsFormatFilesEnd, IsSuperblockEnd, IsVerifyFilesEnd, PrintsMade, PrintsMatches, PrintsSuperblock}
 use Rattle.image_commands.specs.SuperblockTexts.{line_text, superblock_text}
 use Rattle.request_queue.specs.Requests.{a_read, a_write}
-use Rattle.stack_session.specs.Session.{Streams}
+use Rattle.counted_io.specs.Streams.{Streams}
 use Rattle.command_line.specs.CommandWords.{InvocationRecord, copy, dump, format, load, nbd, read, scan, session, table, verify, write}
 use Rattle.command_line.specs.CommandLines.{IsNoCommand, invoked}
 use Rattle.stack_commands.specs.Recoveries.{IsCopyEnd, IsScanEnd, PrintsStates, device_words}
@@ -18,6 +19,11 @@ abbrev pub IsUsageEnd : CommandFault → Type 0 → Type 0
 IsUsageEnd Usage Cause = Cause
 IsUsageEnd NoMemory Cause = Unit {0}
 IsUsageEnd fault Cause = ⊥
+
+-- a command on images ended so
+abbrev pub IsImageEnd : (ImageFault → Type 0) → CommandFault → Type 0
+IsImageEnd Ends (Image fault) = Ends fault
+IsImageEnd Ends fault = ⊥
 
 -- what each command prints where it succeeds
 abbrev pub Succeeds : InvocationRecord → Streams → Streams → Type 0
@@ -42,10 +48,10 @@ IsCauseOf (session cache bindings) failed fault = ⊥
 IsCauseOf (nbd cache stack name bindings) failed fault = ⊥
 IsCauseOf (scan stack name bindings) failed fault = ⊥
 IsCauseOf (copy stack name out bindings) failed fault = ⊥
-IsCauseOf (format image hash) failed fault = IsUsageEnd fault (Unit {0}) ⊎ ((options : ImageOptions) × IsFormatFilesEnd image hash options failed fault)
-IsCauseOf (verify image hash root) failed fault = IsVerifyFilesEnd image hash root failed fault
-IsCauseOf (dump hash) failed fault = IsSuperblockEnd hash failed fault
-IsCauseOf (table hash root image_name hash_name) failed fault = IsSuperblockEnd hash failed fault
+IsCauseOf (format image hash) failed fault = IsUsageEnd fault (Unit {0}) ⊎ ((options : ImageOptions) × IsImageEnd (IsFormatFilesEnd image hash options failed) fault)
+IsCauseOf (verify image hash root) failed fault = IsImageEnd (IsVerifyFilesEnd image hash root failed) fault
+IsCauseOf (dump hash) failed fault = IsImageEnd (IsSuperblockEnd hash failed) fault
+IsCauseOf (table hash root image_name hash_name) failed fault = IsImageEnd (IsSuperblockEnd hash failed) fault
 
 -- and that nothing is printed before; a session and the service of a client have printed their replies, and what goes over
 -- a device some lost runs

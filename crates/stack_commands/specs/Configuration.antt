@@ -10,8 +10,8 @@ use Rattle.stack_rules.specs.Leaves.{first_fault}
 use Rattle.stack_rules.specs.Names.{mapped, name_of, size, may_write}
 use Rattle.stack_rules.specs.Descend.{depth, read_cost, write_cost}
 use Rattle.stack_rules.specs.Rules.{first_refusal, after_load}
-use Rattle.command_faults.specs.declared.fault.CommandFault.{CommandFault}
-use Rattle.command_faults.specs.declared.fault.CommandFault.TheVariants.{Leaves, Text, Load}
+use Rattle.stack_commands.specs.declared.fault.CommandFault.{CommandFault}
+use Rattle.stack_commands.specs.declared.fault.CommandFault.TheVariants.{Leaves, Text, Load}
 
 -- leaves with no mapped device
 abbrev pub leaves_alone : List LeafRecord → Configuration

@@ -1,7 +1,8 @@
 pub mod Bindings
 pub mod Commands
 pub mod Configuration
-pub mod FileUses
+pub mod Endings
+pub mod ImageTexts
 pub mod Openings
 pub mod Recoveries
 pub mod Recovering

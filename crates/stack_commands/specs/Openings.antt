@@ -1,12 +1,17 @@
 -- How a command ends where a file that it names isn't opened or read.
 use Rattle.std.specs.Prelude.{◌≡◌, ◌⊎◌, ℕ, List, [], ◌∷◌}
-use Rattle.command_faults.specs.declared.fault.CommandFault.{CommandFault}
-use Rattle.command_faults.specs.declared.fault.CommandFault.TheVariants.{NoMemory, Open, TooLong}
+use Rattle.stack_commands.specs.declared.fault.CommandFault.{CommandFault}
+use Rattle.stack_commands.specs.declared.fault.CommandFault.TheVariants.{NoMemory, Open, TooLong}
 use Rattle.command_line.specs.Bindings.{BackingRecord, BindingRecord, file, ramp, zeros}
 
--- the file at this path isn't opened or can't be read, or memory ran out
+-- the file at this path isn't opened
+abbrev pub IsUnopened : List ℕ → CommandFault → Type 0
+IsUnopened path (Open unopened) = unopened.path.now ≡ path
+IsUnopened path fault = ⊥
+
+-- the same, or it can't be read, or memory ran out
 abbrev pub IsReadEnd : List ℕ → CommandFault → Type 0
-IsReadEnd path (Open fault other) = other.now ≡ path
+IsReadEnd path (Open unopened) = unopened.path.now ≡ path
 IsReadEnd path NoMemory = Unit {0}
 IsReadEnd path fault = ⊥
 
@@ -23,7 +28,7 @@ IsPathOf path (ramp n) = ⊥
 
 -- the file behind a name isn't opened, or memory ran out
 abbrev pub IsBackingEnd : BackingRecord → CommandFault → Type 0
-IsBackingEnd backing (Open fault path) = IsPathOf path.now backing
+IsBackingEnd backing (Open unopened) = IsPathOf unopened.path.now backing
 IsBackingEnd backing NoMemory = Unit {0}
 IsBackingEnd backing fault = ⊥
 

@@ -8,10 +8,11 @@ use Rattle.stack_engine.specs.Pieces.{stack_over}
 use Rattle.stack_engine.specs.Stacks.{StackRecord}
 use Rattle.request_queue.specs.declared.fault.SubmitFault.TheVariants.{NoSuchDevice}
 use Rattle.stack_session.specs.declared.fault.SessionFault.TheVariants.{WriteFault}
-use Rattle.command_faults.specs.declared.fault.CommandFault.{CommandFault}
-use Rattle.command_faults.specs.declared.fault.CommandFault.TheVariants.{Lost, NoMemory, OutputFailed, OutputTooSmall, Session, Submit}
-use Rattle.command_faults.specs.Endings.{counts_text}
-use Rattle.command_faults.specs.Opened.{IsOpened, IsUnopened}
+use Rattle.stack_commands.specs.declared.fault.CommandFault.{CommandFault}
+use Rattle.stack_commands.specs.declared.fault.CommandFault.TheVariants.{Lost, NoMemory, OutputFailed, OutputTooSmall, Session, Submit}
+use Rattle.stack_commands.specs.Endings.{counts_text}
+use Rattle.image_files.specs.Opened.{IsOpened}
+use Rattle.stack_commands.specs.Openings.{IsUnopened}
 use Rattle.stack_recovery.specs.declared.lost_run.LostRun.{LostRun}
 use Rattle.stack_recovery.specs.LostRuns.{lost_in, lost_runs}
 use Rattle.stack_recovery.specs.Surveys.{IsSurvey, PieceRead, State, all_states}

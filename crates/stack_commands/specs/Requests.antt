@@ -5,8 +5,8 @@ use Rattle.request_queue.specs.declared.reply.Reply.{Reply}
 use Rattle.request_queue.specs.Requests.{RequestRecord, a_read, a_write}
 use Rattle.request_queue.specs.World.{World, world, run}
 use Rattle.stack_session.specs.Replies.{WholeStep}
-use Rattle.command_faults.specs.declared.fault.CommandFault.{CommandFault}
-use Rattle.command_faults.specs.declared.fault.CommandFault.TheVariants.{NoMemory, Submit, Io}
+use Rattle.stack_commands.specs.declared.fault.CommandFault.{CommandFault}
+use Rattle.stack_commands.specs.declared.fault.CommandFault.TheVariants.{NoMemory, Submit, Io}
 use Rattle.command_line.specs.declared.invocation.Sectors.{Sectors}
 use Rattle.command_line.specs.declared.invocation.Transfer.{Transfer}
 

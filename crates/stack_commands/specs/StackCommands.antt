@@ -18,14 +18,14 @@ use Rattle.stack_session.specs.declared.fault.SessionFault.{SessionFault}
 use Rattle.stack_session.specs.declared.fault.SessionFault.TheVariants.{WriteFault}
 use Rattle.stack_session.specs.Accesses.{first_of}
 use Rattle.stack_session.specs.QueueSessions.{IsQueueSession}
-use Rattle.stack_session.specs.Session.{Streams}
+use Rattle.counted_io.specs.Streams.{Streams}
 use Rattle.stack_session.specs.Texts.{reply_text, written_text}
-use Rattle.command_faults.specs.declared.fault.CommandFault.{CommandFault}
-use Rattle.command_faults.specs.declared.fault.CommandFault.TheVariants.{Io, Leaves, NoMemory, Service, Session, Submit}
+use Rattle.stack_commands.specs.declared.fault.CommandFault.{CommandFault}
+use Rattle.stack_commands.specs.declared.fault.CommandFault.TheVariants.{Io, Leaves, NoMemory, Service, Session, Submit}
 use Rattle.stack_commands.specs.Bindings.{AreBound}
 use Rattle.command_line.specs.Bindings.{BindingRecord}
 use Rattle.stack_commands.specs.Configuration.{configuration_of, devices_text, leaves_alone}
-use Rattle.command_faults.specs.Endings.{IsUnwritten}
+use Rattle.stack_commands.specs.Endings.{IsUnwritten}
 use Rattle.stack_commands.specs.Openings.{IsBindingEnd, IsReadEnd, IsTextEnd}
 use Rattle.stack_commands.specs.Requests.{FailsToServe, IsServed, new_world}
 

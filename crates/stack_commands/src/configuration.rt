@@ -6,9 +6,9 @@ ghost use Rattle.stack_engine.specs.Pieces.{stack_over};
 ghost use Rattle.stack_commands.specs.Configuration.{configuration_of};
 ghost use Rattle.stack_commands.specs.StackCommands.{FailsToLoad};
 
+use crate::fault::CommandFault;
 use crate::opening::OpenLeaves;
 use block_device::{AnyDev, BlockDev};
-use command_faults::CommandFault;
 use stack_config::{Config, Leaf};
 use stack_engine::Stack;
 use stack_loader::{config_over, load};

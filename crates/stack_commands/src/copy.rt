@@ -2,23 +2,23 @@
 ghost use Rattle.std.specs.Prelude.{◌≡◌, ◌≤◌, ◌<◌, false, true, length, map, IsTrue, OnOk, IfOk, IfErr};
 ghost use Rattle.stack_rules.specs.Names.{mapped, size};
 ghost use Rattle.command_line.specs.Bindings.{binding_record};
-ghost use Rattle.command_faults.specs.Opened.{IsOpened, IsUnopened};
+ghost use Rattle.image_files.specs.Opened.{IsOpened};
 ghost use Rattle.stack_recovery.specs.Recoveries.{Recovers, sides};
-ghost use Rattle.stack_commands.specs.FileUses.{is_clash, output_use};
+ghost use Rattle.image_files.specs.FileUses.{is_clash, output_use};
 ghost use Rattle.stack_commands.specs.Recoveries.{IsCopyEnd, PrintsStates, device_words};
 ghost use Rattle.stack_commands.specs.Recovering.{IsRecoverEnd};
 
 use crate::device::{load_device, recover_device, tell_counts};
-use crate::file_use::{FileUse, is_clash, output_use};
+use crate::fault::CommandFault;
 use crate::opening::open_all;
 use crate::source::read_stack;
 use block_device::{AnyDev, BlockDev, FileDev, OpenFault, SyncDev};
-use command_faults::{CommandFault, open_file};
 use command_line::Binding;
+use counted_io::Counted;
+use image_files::{FileUse, UnopenedFile, is_clash, open_file, output_use};
 use stack_config::DevId;
 use stack_engine::Stack;
 use stack_recovery::Counts;
-use stack_session::Counted;
 use std::fs::File;
 use std::io::Write;
 use std::rt::Files;
@@ -53,15 +53,15 @@ fn open_output<'a, R: Files<File = File>>(
     rt: &R,
     path: &'a str,
     stack: FileUse,
-) -> Result<FileDev, CommandFault<'a>>
+) -> Result<FileDev, UnopenedFile<'a>>
     ensures opened { IfOk result (λ image. IsOpened (⟦<FileDev as BlockDev>⟧.state image) true) }
     ensures apart { IfOk result (λ image. is_clash stack (output_use image) ≡ false) }
-    ensures err { IfErr result (IsUnopened path.now) }
+    ensures err { IfErr result (λ file. file.path.now ≡ path.now) }
 {
     let image = open_file(rt, path, true)?;
     if is_clash(stack, output_use(&image)) {
         let fault = OpenFault::SameFile;
-        return Err(CommandFault::Open { fault, path });
+        return Err(UnopenedFile { fault, path });
     }
     Ok(image)
 }

@@ -7,14 +7,16 @@ ghost use Rattle.stack_commands.specs.Recoveries.{FailsToFind, HasDevice};
 ghost use Rattle.stack_commands.specs.Recovering.{IsCountsEnd, IsRecoverEnd, TellsCounts};
 
 use crate::configuration::{configuration_of, stack_on};
+use crate::ending::say_counts;
+use crate::fault::CommandFault;
 use crate::opening::OpenLeaves;
 use block_device::{AnyDev, BlockDev};
-use command_faults::{CommandFault, say_counts};
+use counted_io::Counted;
 use request_queue::SubmitFault;
 use stack_config::DevId;
 use stack_engine::Stack;
 use stack_recovery::{Counts, RecoveryFault, recover};
-use stack_session::{Counted, SessionFault};
+use stack_session::SessionFault;
 use std::alloc::Global;
 use std::io::Write;
 

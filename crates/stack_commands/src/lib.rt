@@ -4,7 +4,8 @@
 mod configuration;
 mod copy;
 mod device;
-mod file_use;
+mod ending;
+mod fault;
 mod load;
 mod nbd;
 mod opening;
@@ -16,4 +17,6 @@ mod serve;
 mod source;
 mod write;
 
+pub use ending::end;
+pub use fault::CommandFault;
 pub use program::command;

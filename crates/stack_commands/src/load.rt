@@ -2,26 +2,26 @@
 ghost use Rattle.std.specs.Prelude.{◌≡◌, ◌⊎◌, ◌≤◌, ◌<◌, ◌^◌, codes, if◌then◌else◌, length, map, Ok, IfErr, OnOk};
 ghost use Rattle.std.specs.Io.KnownBytes.{Appends};
 ghost use Rattle.stack_rules.specs.Records.{Configuration};
-ghost use Rattle.stack_session.specs.Counted.{Writes};
-ghost use Rattle.command_faults.specs.Endings.{IsQuiet, IsUnwritten};
+ghost use Rattle.counted_io.specs.Counted.{Writes};
+ghost use Rattle.stack_commands.specs.Endings.{IsQuiet, IsUnwritten};
 ghost use Rattle.command_line.specs.Bindings.{binding_record};
 ghost use Rattle.stack_commands.specs.Configuration.{configuration_of, device_facts, device_line, devices_text};
 ghost use Rattle.stack_commands.specs.StackCommands.{FailsToList, FailsToLoad, IsStackEnd, PrintsDevices};
 
 use crate::configuration::configuration_of;
+use crate::fault::CommandFault;
 use crate::opening::{OpenLeaves, open_all};
 use crate::source::read_stack;
-use command_faults::CommandFault;
 use command_line::Binding;
+use counted_io::{Counted, WriteFault};
 use stack_config::{Config, DevId, Leaf};
-use stack_session::{Counted, WriteFault};
 use std::alloc::Global;
 use std::fs::File;
 use std::io::Write;
 use std::rt::Files;
 
 /// `load STACK BINDING...`: the devices of a stack file over the bindings.
-#[tactic(auto, using(command_faults::proofs::lemmas::EndingLemmas::quiet))]
+#[tactic(auto, using(crate::proofs::EndingLemmas::quiet))]
 pub fn load_files<'a, R: Files<File = File> + AllocGlobal, W: Write>(
     rt: &R,
     stack: &'a str,
@@ -38,7 +38,7 @@ pub fn load_files<'a, R: Files<File = File> + AllocGlobal, W: Write>(
 }
 
 // Loads a text over the leaves, and writes a line for each mapped device.
-#[tactic(auto, using(command_faults::proofs::lemmas::EndingLemmas::quiet))]
+#[tactic(auto, using(crate::proofs::EndingLemmas::quiet))]
 fn load<'a, W: Write>(
     alloc: Global,
     leaves: Vec<Leaf>,

@@ -3,21 +3,21 @@ ghost use Rattle.std.specs.Prelude.{◌≡◌, ◌≤◌, ◌^◌, length, map, 
 ghost use Rattle.stack_rules.specs.Records.{Configuration};
 ghost use Rattle.stack_meaning.specs.Leaves.{ServeLeaves};
 ghost use Rattle.stack_engine.specs.Pieces.{stack_over};
-ghost use Rattle.stack_session.specs.Session.{streams};
+ghost use Rattle.counted_io.specs.Streams.{streams};
 ghost use Rattle.command_line.specs.Bindings.{binding_record};
 ghost use Rattle.stack_commands.specs.Configuration.{configuration_of};
 ghost use Rattle.stack_commands.specs.Requests.{new_world};
 ghost use Rattle.stack_commands.specs.StackCommands.{FailsToLoad, IsClientEnd, ServesClient};
 
 use crate::configuration::load_stack;
+use crate::fault::CommandFault;
 use crate::opening::{OpenLeaves, open_all};
 use crate::source::read_stack;
 use block_device::{AnyDev, BlockDev};
-use command_faults::CommandFault;
 use command_line::{Binding, ServedDevice};
+use counted_io::Counted;
 use nbd_server::{Export, serve};
 use request_queue::{Queue, SubmitFault};
-use stack_session::Counted;
 use std::alloc::Global;
 use std::fs::File;
 use std::io::{Read, Write};

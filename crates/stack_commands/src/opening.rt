@@ -3,13 +3,13 @@ ghost use Rattle.std.specs.Prelude.{false, ◌≡◌, ◌++◌, [], ◌∷◌, m
 ghost use Rattle.stack_meaning.specs.Leaves.{ServeLeaves};
 ghost use Rattle.stack_commands.specs.Bindings.{AreBound, IsDeviceOf};
 ghost use Rattle.command_line.specs.Bindings.{backing_record, binding_record};
-ghost use Rattle.stack_commands.specs.FileUses.{AreApart, AreApartBeside, has_clash, use_of};
+ghost use Rattle.image_files.specs.FileUses.{AreApart, AreApartBeside, has_clash, use_of};
 ghost use Rattle.stack_commands.specs.Openings.{IsBackingEnd, IsBindingEnd};
 
-use crate::file_use::{FileUse, has_clash};
+use crate::fault::CommandFault;
 use block_device::{AnyDev, BlockDev, MemoryDev, OpenFault};
-use command_faults::{CommandFault, open_file};
 use command_line::{Backing, Binding};
+use image_files::{FileUse, UnopenedFile, has_clash, open_file};
 use stack_config::Leaf;
 use std::alloc::{AllocError, Global};
 use std::fs::File;
@@ -68,7 +68,7 @@ fn open_backing<'a, R: Files<File = File> + AllocGlobal>(
             let device = AnyDev::File(open_file(rt, path, writable)?);
             if has_clash(files, devices, &device) {
                 let fault = OpenFault::SameFile;
-                return Err(CommandFault::Open { fault, path });
+                return Err(CommandFault::Open(UnopenedFile { fault, path }));
             }
             Ok(device)
         }

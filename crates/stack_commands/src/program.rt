@@ -1,20 +1,21 @@
 // The whole program: its words, a reader and a writer in, the status out.
 ghost use Rattle.std.specs.Prelude.{false, ◌≡◌, ◌⊎◌, ℕ, List, Option, map, string_bytes, OnOk, IfErr};
-ghost use Rattle.stack_session.specs.Session.{streams};
+ghost use Rattle.counted_io.specs.Streams.{streams};
 ghost use Rattle.command_line.specs.CommandWords.{image_record, invocation_record};
 ghost use Rattle.stack_commands.specs.Commands.{EndsEarly, Fails, IsDone, IsRunEnd, Succeeds};
 
 use crate::copy::copy_files;
+use crate::ending::end;
+use crate::fault::CommandFault;
 use crate::load::load_files;
 use crate::nbd::serve_client;
 use crate::read::read_files;
 use crate::scan::scan_files;
 use crate::serve::serve_files;
 use crate::write::write_files;
-use command_faults::{CommandFault, end};
 use command_line::{CommandLine, ImageInvocation, Invocation, OptionWords, options_of, parse};
+use counted_io::Counted;
 use image_commands::{LineWords, dump_file, format_files, print_table_of_file, verify_files};
-use stack_session::Counted;
 use std::fs::File;
 use std::io::{Read, Write};
 use std::random::RandomSource;
@@ -121,12 +122,12 @@ fn invoke_on_images<'a, R: Files<File = File> + AllocGlobal + RandomSource, W: W
     match invocation {
         ImageInvocation::Format { data, hash } => {
             let options = options_of(rt.alloc(), options)?;
-            format_files(rt, options, data, hash, writer)
+            Ok(format_files(rt, options, data, hash, writer)?)
         }
         ImageInvocation::Verify { data, hash, root } => {
-            verify_files(rt, data, hash, &root, writer)
+            Ok(verify_files(rt, data, hash, &root, writer)?)
         }
-        ImageInvocation::Dump { hash } => dump_file(rt, hash, writer),
+        ImageInvocation::Dump { hash } => Ok(dump_file(rt, hash, writer)?),
         ImageInvocation::Table {
             hash,
             root,
@@ -138,7 +139,7 @@ fn invoke_on_images<'a, R: Files<File = File> + AllocGlobal + RandomSource, W: W
                 data_name,
                 hash_name,
             };
-            print_table_of_file(rt, hash, words, writer)
+            Ok(print_table_of_file(rt, hash, words, writer)?)
         }
     }
 }

@@ -10,25 +10,26 @@ ghost use Rattle.stack_session.specs.Texts.{reply_text};
 ghost use Rattle.command_line.specs.Bindings.{binding_record};
 ghost use Rattle.stack_commands.specs.Requests.{FailsToServe, IsServed, new_world, read_request};
 ghost use Rattle.stack_commands.specs.Configuration.{configuration_of};
-ghost use Rattle.command_faults.specs.Endings.{IsQuiet};
+ghost use Rattle.stack_commands.specs.Endings.{IsQuiet};
 ghost use Rattle.stack_commands.specs.StackCommands.{FailsToShow, IsStackEnd, PrintsReply};
 
 use crate::configuration::load_stack;
+use crate::fault::CommandFault;
 use crate::opening::{OpenLeaves, open_all};
 use crate::request::serve_request;
 use crate::source::read_stack;
 use block_device::{AnyDev, BlockDev};
-use command_faults::CommandFault;
 use command_line::{Binding, Sectors};
+use counted_io::Counted;
 use request_queue::{Queue, Reply, Request};
-use stack_session::{Counted, say_reply};
+use stack_session::say_reply;
 use std::alloc::Global;
 use std::fs::File;
 use std::io::Write;
 use std::rt::Files;
 
 /// `read [--cache N] STACK NAME FIRST COUNT BINDING...`: sectors of a device of a stack file over the bindings.
-#[tactic(auto, using(command_faults::proofs::lemmas::EndingLemmas::quiet))]
+#[tactic(auto, using(crate::proofs::EndingLemmas::quiet))]
 pub fn read_files<'a, R: Files<File = File> + AllocGlobal, W: Write>(
     rt: &R,
     cache: u32,
@@ -54,7 +55,7 @@ pub fn read_files<'a, R: Files<File = File> + AllocGlobal, W: Write>(
 }
 
 // Loads a text over the leaves, and writes the sectors as a session does.
-#[tactic(auto, using(command_faults::proofs::lemmas::EndingLemmas::quiet))]
+#[tactic(auto, using(crate::proofs::EndingLemmas::quiet))]
 fn read<'a, W: Write>(
     alloc: Global,
     over: OpenLeaves,

@@ -3,8 +3,8 @@ ghost use Rattle.std.specs.Prelude.{◌≡◌, IfOk, IfErr};
 ghost use Rattle.request_queue.specs.Requests.{request_record};
 ghost use Rattle.stack_commands.specs.Requests.{FailsToServe, IsServed};
 
+use crate::fault::CommandFault;
 use block_device::AnyDev;
-use command_faults::CommandFault;
 use request_queue::{Queue, Reply, Request, RunFault};
 
 /// Serves a request to its end.

@@ -4,12 +4,12 @@ ghost use Rattle.command_line.specs.Bindings.{binding_record};
 ghost use Rattle.stack_commands.specs.Recoveries.{IsScanEnd, PrintsStates, device_words};
 
 use crate::device::{load_device, recover_device, tell_counts};
+use crate::fault::CommandFault;
 use crate::opening::open_all;
 use crate::source::read_stack;
-use command_faults::CommandFault;
 use command_line::Binding;
+use counted_io::Counted;
 use stack_recovery::Discard;
-use stack_session::Counted;
 use std::fs::File;
 use std::io::Write;
 use std::rt::Files;

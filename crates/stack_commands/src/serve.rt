@@ -1,16 +1,17 @@
 // The command `session`: serves the lines of a reader.
 ghost use Rattle.std.specs.Prelude.{false, ◌≡◌, map, Ok, OnOk, IfErr};
-ghost use Rattle.stack_session.specs.Session.{streams};
+ghost use Rattle.counted_io.specs.Streams.{streams};
 ghost use Rattle.command_line.specs.Bindings.{binding_record};
 ghost use Rattle.stack_commands.specs.StackCommands.{IsServeEnd, Serves};
 
+use crate::fault::CommandFault;
 use crate::opening::{OpenLeaves, open_all};
-use command_faults::CommandFault;
 use command_line::Binding;
+use counted_io::Counted;
 use request_queue::Queue;
 use stack_engine::Stack;
 use stack_loader::config_over;
-use stack_session::{Counted, session};
+use stack_session::session;
 use std::fs::File;
 use std::io::{Read, Write};
 use std::rt::Files;

@@ -2,9 +2,9 @@
 ghost use Rattle.std.specs.Prelude.{false, ◌≡◌, ◌≤◌, ◌^◌, length, IfOk, IfErr};
 ghost use Rattle.stack_commands.specs.Openings.{IsReadEnd, IsTextEnd};
 
-use crate::file_use::FileUse;
+use crate::fault::CommandFault;
 use block_device::{FileId, OpenFault};
-use command_faults::CommandFault;
+use image_files::{FileUse, UnopenedFile};
 use std::fs;
 use std::io::{ErrorKind, Read};
 use std::rt::Files;
@@ -76,10 +76,10 @@ fn read_file<'a, R: Files<File = fs::File> + AllocGlobal>(
             bytes,
         }),
         Err(error) if error.kind() == ErrorKind::OutOfMemory => Err(CommandFault::NoMemory),
-        Err(_) => Err(CommandFault::Open {
+        Err(_) => Err(CommandFault::Open(UnopenedFile {
             fault: OpenFault::OtherFault,
             path,
-        }),
+        })),
     }
 }
 
@@ -87,8 +87,8 @@ fn read_file<'a, R: Files<File = fs::File> + AllocGlobal>(
 fn not_read(kind: ErrorKind, path: &str) -> CommandFault<'_>
     ensures { IsReadEnd path.now result }
 {
-    CommandFault::Open {
+    CommandFault::Open(UnopenedFile {
         fault: OpenFault::from(kind),
         path,
-    }
+    })
 }

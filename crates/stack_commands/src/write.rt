@@ -7,22 +7,23 @@ ghost use Rattle.stack_engine.specs.Pieces.{stack_over};
 ghost use Rattle.stack_engine.specs.Syncs.{FailsToSync};
 ghost use Rattle.request_queue.specs.declared.reply.Reply.{Reply as Told};
 ghost use Rattle.request_queue.specs.World.{World};
-ghost use Rattle.command_faults.specs.Endings.{IsQuiet};
+ghost use Rattle.stack_commands.specs.Endings.{IsQuiet};
 ghost use Rattle.command_line.specs.Bindings.{binding_record};
 ghost use Rattle.stack_commands.specs.Requests.{FailsToServe, IsServed, new_world, write_request};
 ghost use Rattle.stack_commands.specs.Configuration.{configuration_of};
 ghost use Rattle.stack_commands.specs.StackCommands.{FailsToAsk, IsWriteFilesEnd, PrintsWritten};
 
 use crate::configuration::load_stack;
+use crate::fault::CommandFault;
 use crate::opening::{OpenLeaves, open_all};
 use crate::request::serve_request;
 use crate::source::{FileStart, read_source, read_stack};
 use block_device::{AnyDev, BlockDev};
-use command_faults::CommandFault;
 use command_line::{Binding, Transfer};
+use counted_io::Counted;
 use request_queue::{Queue, Reply, Request};
 use stack_engine::{IoFault, Stack};
-use stack_session::{Counted, say_written};
+use stack_session::say_written;
 use std::alloc::Global;
 use std::fs::File;
 use std::io::Write;
@@ -30,7 +31,7 @@ use std::rt::Files;
 
 /// `write [--cache N] STACK NAME FIRST SOURCE BINDING..`: the bytes of the source file to a device of a stack file
 /// over the bindings, whose images are synced before anything is printed.
-#[tactic(auto, using(command_faults::proofs::lemmas::EndingLemmas::quiet))]
+#[tactic(auto, using(crate::proofs::EndingLemmas::quiet))]
 pub fn write_files<'a, R: Files<File = File> + AllocGlobal, W: Write>(
     rt: &R,
     cache: u32,

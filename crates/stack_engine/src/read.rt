@@ -17,7 +17,7 @@ use crate::buffer::{fill_zeros, zero_block, zero_sectors};
 use crate::reader::Reader;
 use block_device::BlockDev;
 use dm_table::Verity;
-use hash_tree::Chain;
+use hash_tree::{Chain, digest_blocks};
 use stack_config::{Config, DevId, Lower};
 use stack_lines::tree::{
     Extent, Tree, copy_part, data_extent, find, hash_extent, hash_key, is_ignored, tree_at,

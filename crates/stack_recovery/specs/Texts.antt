@@ -1,7 +1,7 @@
 -- What is printed of lost sectors.
 use Rattle.std.specs.Prelude.{ℕ, List, ◌++◌, codes, decimal}
 use Rattle.std.specs.List.{flat_map}
-use Rattle.stack_session.specs.Texts.{io_words}
+use Rattle.io_fault_text.specs.Texts.{io_words}
 use Rattle.stack_recovery.specs.declared.lost_run.LostRun.{LostRun}
 
 -- `lost FIRST COUNT FAULT`

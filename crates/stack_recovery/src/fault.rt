@@ -3,7 +3,7 @@ ghost use Rattle.std.specs.Prelude.{◌≡◌};
 ghost use Rattle.stack_recovery.specs.declared.fault.RecoveryFault.TheVariants as recovery_fault;
 
 use block_device::DeviceFault;
-use stack_session::WriteFault;
+use counted_io::WriteFault;
 use thiserror::Error;
 
 /// Why a device isn't gone over to its end.

@@ -1,11 +1,12 @@
 // A run of sectors that are lost by one fault.
 ghost use Rattle.std.specs.Prelude.{◌≡◌};
-ghost use Rattle.stack_session.specs.Counted.{Writes};
+ghost use Rattle.counted_io.specs.Counted.{Writes};
 ghost use Rattle.stack_recovery.specs.LostRuns.{is_same};
 ghost use Rattle.stack_recovery.specs.Texts.{run_text};
 
+use counted_io::{Counted, WriteFault};
+use io_fault_text::say_io_words;
 use stack_engine::{Fault, IoFault};
-use stack_session::{Counted, WriteFault, say_io_words};
 use std::io::Write;
 
 /// So many sectors from one on, counted from 0, and the fault in which a read of them ends.

@@ -9,9 +9,9 @@ use crate::pace::Pace;
 use crate::piece::piece_at;
 use crate::tally::Tally;
 use block_device::BlockDev;
+use counted_io::Counted;
 use stack_config::DevId;
 use stack_engine::{IoFault, Stack};
-use stack_session::Counted;
 use std::io::Write;
 
 /// How many sectors were had, and how many are lost.

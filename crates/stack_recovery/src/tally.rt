@@ -1,11 +1,11 @@
 // The lost sectors of a device, while it is gone over.
 ghost use Rattle.std.specs.Prelude.{◌≡◌, ◌+◌, ◌<◌, ◌≤◌, ◌^◌, None, Some, OnOk};
-ghost use Rattle.stack_session.specs.Counted.{Writes};
+ghost use Rattle.counted_io.specs.Counted.{Writes};
 ghost use Rattle.stack_recovery.specs.Tallies.{EndsAt, closed_by, joined, listed, opened_by};
 ghost use Rattle.stack_recovery.specs.Texts.{runs_text};
 
 use crate::lost_run::{LostRun, is_same, say_run};
-use stack_session::{Counted, WriteFault};
+use counted_io::{Counted, WriteFault};
 use std::io::Write;
 
 /// The lost run that may still grow, and how many sectors are lost.

@@ -3,10 +3,11 @@ use Rattle.std.proofs.Common.{◌≡◌, ℕ, ◌+◌, ◌<◌, ◌≤◌, List,
 use Rattle.std.specs.Prelude.{Some, None, Option, IfSome}
 use Rattle.std.specs.Io.KnownBytes.{Consumes, Keeps, IsAtEnd}
 use Rattle.std.proofs.KnownBytes.{Consumes-nil, Consumes-trans, Consumes-kept}
-use Rattle.stack_session.specs.Counted.{Grows}
-use Rattle.stack_session.specs.Session.{Replying, ServesWhole, ServesAll, Streams, WritesWhole}
+use Rattle.counted_io.specs.Counted.{Grows}
+use Rattle.stack_session.specs.Session.{Replying, ServesWhole, ServesAll, WritesWhole}
+use Rattle.counted_io.specs.Streams.{Streams}
 use Rattle.stack_session.proofs.SessionLemmas.{serves_nothing, serves_more, serves_end}
-use Rattle.stack_session.proofs.lemmas.CountedLemmas.{Grows-kept}
+use Rattle.counted_io.proofs.lemmas.CountedLemmas.{Grows-kept}
 use Rattle.std.proofs.lemmas.List.Elements.{All-nil}
 use Rattle.std.proofs.lemmas.List.{take-append-le}
 use Rattle.std.proofs.Math.Seq.{take-append-add}

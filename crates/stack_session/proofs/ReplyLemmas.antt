@@ -12,12 +12,12 @@ use Rattle.request_queue.specs.Parts.{EachPart}
 use Rattle.request_queue.specs.Requests.{RequestRecord}
 use Rattle.request_queue.specs.World.{World, Step}
 use Rattle.request_queue.specs.World as event
-use Rattle.stack_session.specs.declared.fault.WriteFault.{WriteFault}
+use Rattle.counted_io.specs.declared.fault.WriteFault.{WriteFault}
 use Rattle.stack_session.specs.Commands.{submit}
-use Rattle.stack_session.specs.Counted.{CountedRecord, Grows, Writes, WritesSome}
+use Rattle.counted_io.specs.Counted.{CountedRecord, Grows, Writes, WritesSome}
 use Rattle.stack_session.specs.Texts.{submit_text, submission_text}
 use Rattle.stack_session.specs.Replies.{device_text, RepliesTo, WholeStep}
-use Rattle.stack_session.proofs.lemmas.CountedLemmas.{Writing-as}
+use Rattle.counted_io.proofs.lemmas.CountedLemmas.{Writing-as}
 
 named-none : (o : Option ℕ) → None ≡ option_map {U = DevId} (λ d. record { 0 = d }) o → o ≡ None
 named-none None e = refl

@@ -2,8 +2,9 @@
 use Rattle.std.proofs.Common.{◌<◌, ◌≤◌, length, take, ℕ, List, [], ◌∷◌, ◌++◌, Result, Ok, Err, Option}
 use Rattle.std.specs.Prelude.{IfSome, OnOk}
 use Rattle.stack_session.specs.declared.fault.SessionFault.{SessionFault}
-use Rattle.stack_session.specs.Counted.{Grows}
-use Rattle.stack_session.specs.Session.{Replying, ServesLines, ServesWhole, ServesAll, WritesWhole, Streams, IsSession}
+use Rattle.counted_io.specs.Counted.{Grows}
+use Rattle.stack_session.specs.Session.{Replying, ServesLines, ServesWhole, ServesAll, WritesWhole, IsSession}
+use Rattle.counted_io.specs.Streams.{Streams}
 use Rattle.stack_session.proofs.IntakeLemmas.{if_some_map}
 
 -- each reply of one way is one of the other, and a fact about the states goes on

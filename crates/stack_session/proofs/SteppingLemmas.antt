@@ -6,14 +6,15 @@ use Rattle.dm_table.specs.declared.fault.TextFault.{TextFault}
 use Rattle.dm_table.specs.StackText.{stack_of}
 use Rattle.stack_meaning.specs.Leaves.{AllSteady}
 use Rattle.request_queue.specs.Parts.{AnyPart, SteadyPart, EachPart}
-use Rattle.request_queue.specs.Runs.{Turn}
+use Rattle.request_queue.specs.Runs.{IsLed, Turn}
 use Rattle.request_queue.specs.World.{World, Event, Step}
 use Rattle.request_queue.proofs.lemmas.PremiseLemmas.{step-any, run-steady}
 use Rattle.stack_session.specs.declared.fault.SessionFault.{SessionFault}
 use Rattle.std.specs.Prelude.{IfSome, OnOk}
-use Rattle.stack_session.specs.Counted.{Grows}
-use Rattle.stack_session.specs.Session.{Streams, ServesAll, IsSession}
-use Rattle.stack_session.specs.QueueSessions.{IsLed, IsQueueSession}
+use Rattle.counted_io.specs.Counted.{Grows}
+use Rattle.stack_session.specs.Session.{ServesAll, IsSession}
+use Rattle.counted_io.specs.Streams.{Streams}
+use Rattle.stack_session.specs.QueueSessions.{IsQueueSession}
 use Rattle.stack_session.specs.Commands.{CommandRecord, nothing, load, run, submit, step, remove, cost, table, moved, usage, command_of}
 use Rattle.stack_session.specs.Replies.{Stepping, WholeStep, RepliesToText, RepliesTo, Replies}
 use Rattle.stack_session.proofs.IntakeLemmas.{if_some_map}

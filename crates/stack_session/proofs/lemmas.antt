@@ -1,3 +1,2 @@
 -- What callers may cite.
-pub mod CountedLemmas
 pub mod QueueRunLemmas

@@ -1,6 +1,5 @@
 pub mod Accesses
 pub mod Commands
-pub mod Counted
 pub mod QueueSessions
 pub mod Replies
 pub mod Session

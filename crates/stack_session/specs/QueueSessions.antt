@@ -1,18 +1,13 @@
 -- A session whose lines are served by a queue.
-use Rattle.std.specs.Prelude.{◌≡◌, List, Result, IfSome, OnOk}
+use Rattle.std.specs.Prelude.{Result, IfSome, OnOk}
 use Rattle.stack_meaning.specs.Leaves.{AllSteady}
-use Rattle.request_queue.specs.Parts.{PartRelation, AnyPart, SteadyPart, EachPart}
-use Rattle.request_queue.specs.Runs.{Turn, Run, last}
+use Rattle.request_queue.specs.Parts.{AnyPart, SteadyPart, EachPart}
+use Rattle.request_queue.specs.Runs.{IsLed}
 use Rattle.request_queue.specs.World.{World, Step}
 use Rattle.stack_session.specs.declared.fault.SessionFault.{SessionFault}
-use Rattle.stack_session.specs.Session.{Streams, IsSession}
+use Rattle.counted_io.specs.Streams.{Streams}
+use Rattle.stack_session.specs.Session.{IsSession}
 use Rattle.stack_session.specs.Replies.{Replies, WholeStep}
-
--- events of the queue lead from the first world to the last
-pub record IsLed (part : PartRelation) (w w' : World) : Type 0 where
-  pub turns : List Turn
-  pub run : Run part w turns
-  pub ends : last w turns ≡ w'
 
 -- What a session read and wrote, from the first world of its queue to the last.
 pub record IsQueueSession (first end : World) (old new : Streams) (result : Result Unit SessionFault) : Type 0 where

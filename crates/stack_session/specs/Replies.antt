@@ -25,9 +25,10 @@ use Rattle.request_queue.specs.Runs.{flight_of}
 use Rattle.request_queue.specs.WholeRuns.{RunAnswers}
 use Rattle.request_queue.specs.World.{World, Event, Step}
 use Rattle.request_queue.specs.World as event
+use Rattle.io_fault_text.specs.Texts.{no_memory}
 use Rattle.stack_session.specs.Accesses.{first_of}
 use Rattle.stack_session.specs.Commands.{CommandRecord, nothing, load, run, submit, step, remove, cost, table, moved, usage, command_of}
-use Rattle.stack_session.specs.Texts.{usage_text, no_memory, fault_text, submit_text, load_text, remove_text, submission_text, run_text, step_text, cost_text, moved_text}
+use Rattle.stack_session.specs.Texts.{usage_text, fault_text, submit_text, load_text, remove_text, submission_text, run_text, step_text, cost_text, moved_text}
 
 -- How an event leads from one world of a queue to the next.
 abbrev pub Stepping : Type 1

@@ -6,7 +6,8 @@ use Rattle.block_device.specs.Device.{capped}
 use Rattle.stack_session.specs.declared.fault.SessionFault.{SessionFault}
 use Rattle.stack_session.specs.declared.fault.SessionFault.TheVariants.{TooLong, ReadFault, WriteFault, NoMemory}
 use Rattle.stack_session.specs.declared.lines.TheConstants.{LIMIT}
-use Rattle.stack_session.specs.Counted.{CountedRecord, Grows}
+use Rattle.counted_io.specs.Counted.{CountedRecord, Grows}
+use Rattle.counted_io.specs.Streams.{Streams}
 
 -- a text with its newline
 abbrev pub ended : List ℕ → List ℕ
@@ -48,14 +49,6 @@ pub record ServesAll {S : Type 0} (replies : Replying S) (first : S) (input : Li
   pub cut : Splits input whole rest
   pub run : ServesLines replies first (whole ++ rest ∷ []) texts last
   pub joined : output ≡ flat_map (λ text. text) texts
-
--- what a reader has left and a writer holds, where that is known
-pub record Streams : Type 0 where
-  pub input : Option (List ℕ)
-  pub output : Option (List ℕ)
-
-abbrev pub streams : Option (List ℕ) → Option (List ℕ) → Streams
-streams input output = record { input = input; output = output }
 
 -- the replies to the whole lines of the input were written, and the server is as they left it
 abbrev pub WritesWhole : {S : Type 0} → Replying S → S → List ℕ → S → Streams → Streams → Type 0

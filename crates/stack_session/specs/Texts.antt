@@ -8,8 +8,7 @@ use Rattle.stack_rules.specs.declared.refusal.LoadFault.TheVariants as load
 use Rattle.stack_rules.specs.declared.refusal.Refusal.{Refusal}
 use Rattle.stack_rules.specs.declared.refusal.RemoveFault.{RemoveFault}
 use Rattle.stack_meaning.specs.declared.fault.IoFault.{IoFault}
-use Rattle.stack_meaning.specs.declared.fault.IoFault.TheVariants as io
-use Rattle.stack_meaning.specs.IoFaults.{io_number, io_name}
+use Rattle.io_fault_text.specs.Texts.{io_text, kind_then, no_memory}
 use Rattle.dm_table.specs.TextKinds.{text_number, text_name}
 use Rattle.stack_rules.specs.FaultKinds.{load_number, load_name, removal_number, removal_name}
 use Rattle.request_queue.specs.declared.fault.Held.{Held}
@@ -26,9 +25,6 @@ use Rattle.request_queue.specs.SubmitFaults.{submit_number, submit_name}
 abbrev pub usage_text : List ℕ
 usage_text = codes "usage\n"
 
-abbrev pub no_memory : List ℕ
-no_memory = codes "no memory\n"
-
 -- sector n: one byte where all its bytes are equal, else all digits
 unfoldable pub sector_line : ℕ → List ℕ → List ℕ
 sector_line n bytes =
@@ -39,10 +35,6 @@ sector_line n bytes =
 abbrev pub sector_lines : ℕ → ℕ → List ℕ → List ℕ
 sector_lines zero n bytes = []
 sector_lines (suc count) n bytes = sector_line n (take 512 bytes) ++ sector_lines count (n + 1) (drop 512 bytes)
-
--- number and name, and then a rest
-abbrev pub kind_then : ℕ → List ℕ → List ℕ → List ℕ
-kind_then number name rest = decimal number ++ (codes " " ++ (name ++ rest))
 
 -- what is refused, with a number and a name
 abbrev pub refused_text : ℕ → List ℕ → List ℕ
@@ -98,15 +90,6 @@ ticket_text ticket = codes "ticket " ++ (decimal ticket ++ codes "\n")
 abbrev pub submission_text : Result ℕ SubmitFault → List ℕ
 submission_text (Ok ticket) = ticket_text ticket
 submission_text (Err fault) = submit_text fault
-
--- a fault's number and name, and of a device the leaf's number
-abbrev pub io_words : IoFault → List ℕ
-io_words (io.Device leaf) = kind_then (io_number (io.Device leaf)) (io_name (io.Device leaf)) (codes " " ++ (decimal leaf ++ codes "\n"))
-io_words fault = kind_then (io_number fault) (io_name fault) (codes "\n")
-
-abbrev pub io_text : IoFault → List ℕ
-io_text io.NoMemory = no_memory
-io_text fault = codes "fault " ++ io_words fault
 
 abbrev pub written_text : List ℕ
 written_text = codes "written\n"

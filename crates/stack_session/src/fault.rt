@@ -2,12 +2,8 @@
 ghost use Rattle.std.specs.Prelude.{◌≡◌};
 ghost use Rattle.stack_session.specs.declared.fault.SessionFault.TheVariants as session_fault;
 
+use counted_io::WriteFault;
 use thiserror::Error;
-
-/// The writer failed.
-#[derive(Clone, Copy, Debug, PartialEq, Eq, Error)]
-#[error("the writer failed")]
-pub struct WriteFault;
 
 /// Why a session ended early.
 #[derive(Clone, Copy, Debug, PartialEq, Eq, Error)]

@@ -3,18 +3,15 @@
 
 mod access;
 mod command;
-mod counted;
 mod fault;
 mod lines;
 mod reply;
 mod server;
 mod verb;
 
-pub use counted::Counted;
-pub use fault::{SessionFault, WriteFault};
+pub use fault::SessionFault;
 pub use lines::LIMIT;
 pub use reply::{
-    say_io_fault, say_io_words, say_no_memory, say_refusal, say_refused, say_reply,
-    say_submit_fault, say_text_fault, say_usage, say_written,
+    say_refusal, say_refused, say_reply, say_submit_fault, say_text_fault, say_usage, say_written,
 };
 pub use server::session;

@@ -1,10 +1,11 @@
 // A session over any server of lines: reads the input, cuts it into lines, and has each line served.
 ghost use Rattle.std.specs.Prelude.{true, false, ◌≡◌, ◌≢◌, ℕ, ◌+◌, ◌≤◌, ◌<◌, List, [], ◌∷◌, ◌++◌, length, take, IfOk, OnOk, OnErr, MatchOption, IsErrOf, ◌⊎◌};
-ghost use Rattle.stack_session.specs.Counted.{Grows, WritesSome};
-ghost use Rattle.stack_session.specs.Session.{IsOneLine, ServesWhole, IsRemembered, IsSession, IsEnding, streams};
+ghost use Rattle.counted_io.specs.Counted.{Grows, WritesSome};
+ghost use Rattle.stack_session.specs.Session.{IsOneLine, ServesWhole, IsRemembered, IsSession, IsEnding};
+ghost use Rattle.counted_io.specs.Streams.{streams};
 
-use crate::counted::Counted;
-use crate::fault::{SessionFault, WriteFault};
+use crate::fault::SessionFault;
+use counted_io::{Counted, WriteFault};
 use std::alloc::Global;
 use std::io;
 use std::io::{Read, Write};

@@ -1,16 +1,15 @@
 // Writes the replies.
 ghost use Rattle.std.specs.Prelude.{◌≡◌, ◌+◌, ◌*◌, ◌/◌, ◌%◌, ◌<◌, decimal, ◌^◌, ◌==◌, ◌++◌, codes, length, slice_index};
 ghost use Rattle.std.specs.List.{list_all};
-ghost use Rattle.stack_session.specs.Counted.{Writes};
-ghost use Rattle.stack_session.specs.Texts.{usage_text, no_memory, busy_text, loaded_text, fault_text, refusal_text, refused_text, removed_text, removal_text, ticket_text, more_text, no_ticket_text, written_text, submit_text, io_text, io_words, reply_text, sector_line, sector_lines, moved_text};
+ghost use Rattle.counted_io.specs.Counted.{Writes};
+ghost use Rattle.stack_session.specs.Texts.{usage_text, busy_text, loaded_text, fault_text, refusal_text, refused_text, removed_text, removal_text, ticket_text, more_text, no_ticket_text, written_text, submit_text, reply_text, sector_line, sector_lines, moved_text};
 ghost use Rattle.stack_session.specs.Replies.{cost_of};
 
-use crate::counted::Counted;
-use crate::fault::WriteFault;
+use counted_io::{Counted, WriteFault};
 use dm_table::TextFault;
+use io_fault_text::say_no_memory;
 use request_queue::{Reply, SubmitFault, Ticket};
 use stack_config::{Config, DevId};
-use stack_engine::IoFault;
 use stack_loader::{Refusal, RemoveFault};
 use std::io::Write;
 
@@ -35,13 +34,6 @@ pub fn say_busy<W: Write>(writer: &mut Counted<W>) -> Result<(), WriteFault>
     ensures { Writes W.contents writer.old writer.new busy_text result }
 {
     writer.put(b"busy\n")
-}
-
-/// `no memory`
-pub fn say_no_memory<W: Write>(writer: &mut Counted<W>) -> Result<(), WriteFault>
-    ensures { Writes W.contents writer.old writer.new no_memory result }
-{
-    writer.put(b"no memory\n")
 }
 
 /// `text fault E L K NAME`
@@ -130,30 +122,6 @@ pub fn say_written<W: Write>(writer: &mut Counted<W>) -> Result<(), WriteFault>
     ensures { Writes W.contents writer.old writer.new written_text result }
 {
     writer.put(b"written\n")
-}
-
-/// `fault K NAME`, and for a device its number.
-pub fn say_io_fault<W: Write>(writer: &mut Counted<W>, fault: IoFault) -> Result<(), WriteFault>
-    ensures { Writes W.contents writer.old writer.new (io_text fault) result }
-{
-    match fault {
-        IoFault::NoMemory => say_no_memory(writer),
-        IoFault::Stack(_) | IoFault::Device(_) => {
-            writer.put(b"fault ")?;
-            say_io_words(writer, fault)
-        }
-    }
-}
-
-/// `K NAME`, and for a device its number.
-pub fn say_io_words<W: Write>(writer: &mut Counted<W>, fault: IoFault) -> Result<(), WriteFault>
-    ensures { Writes W.contents writer.old writer.new (io_words fault) result }
-{
-    let (number, name) = (fault.number(), fault.name());
-    match fault {
-        IoFault::Device(leaf) => writer.print(format_args!("{number} {name} {leaf}\n")),
-        IoFault::Stack(_) | IoFault::NoMemory => { writer.print(format_args!("{number} {name}\n")) }
-    }
 }
 
 // Writes a number.

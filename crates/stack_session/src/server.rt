@@ -2,23 +2,25 @@
 ghost use Rattle.std.specs.Prelude.{true, false, ◌≡◌, ◌≤◌, ℕ, List, length};
 ghost use Rattle.stack_session.specs.Accesses.{IsSmall, access_record};
 ghost use Rattle.stack_session.specs.Commands.{load, run, submit, step, remove, cost, table, moved};
-ghost use Rattle.stack_session.specs.Counted.{WritesSome};
+ghost use Rattle.counted_io.specs.Counted.{WritesSome};
 ghost use Rattle.stack_session.specs.Replies.{Replies, RepliesTo, WholeStep};
 ghost use Rattle.stack_session.specs.QueueSessions.{IsQueueSession};
-ghost use Rattle.stack_session.specs.Session.{IsEnding, streams};
+ghost use Rattle.stack_session.specs.Session.{IsEnding};
+ghost use Rattle.counted_io.specs.Streams.{streams};
 
 use crate::access::Access;
 use crate::command::{Command, command_of};
-use crate::counted::Counted;
-use crate::fault::{SessionFault, WriteFault};
+use crate::fault::SessionFault;
 use crate::lines::{LIMIT, LineServer, serve_lines};
 use crate::reply::{
-    say_busy, say_cost, say_io_fault, say_loaded, say_more, say_moved, say_no_memory,
-    say_no_ticket, say_refusal, say_removal_fault, say_removed, say_reply, say_submit_fault,
-    say_text_fault, say_ticket, say_usage,
+    say_busy, say_cost, say_loaded, say_more, say_moved, say_no_ticket, say_refusal,
+    say_removal_fault, say_removed, say_reply, say_submit_fault, say_text_fault, say_ticket,
+    say_usage,
 };
 use block_device::BlockDev;
+use counted_io::{Counted, WriteFault};
 use dm_table::ParseFault;
+use io_fault_text::{say_io_fault, say_no_memory};
 use request_queue::{Held, NoSuchTicket, Progress, Queue, RunFault, SubmitFault, Ticket};
 use stack_loader::LoadFault;
 use std::alloc::Global;

@@ -1,47 +1,36 @@
 -- A session's lines as a run of the queue, of which its law speaks.
-use Rattle.std.proofs.Common.{◌≡◌, ℕ, List, [], ◌∷◌, ◌++◌, refl, sym, ◌∙◌, subst, inl, inr, Result, Ok, Err}
+use Rattle.std.proofs.Common.{◌≡◌, ℕ, List, [], ◌∷◌, sym, subst, inl, inr, Result, Ok, Err}
 use Rattle.dm_table.specs.declared.stack.Entry.{Entry}
 use Rattle.dm_table.specs.declared.fault.TextFault.{TextFault}
 use Rattle.dm_table.specs.StackText.{stack_of}
 use Rattle.request_queue.specs.Parts.{PartRelation}
-use Rattle.request_queue.specs.Runs.{Turn, Run, last}
-use Rattle.request_queue.specs.World.{World, Event, Step}
+use Rattle.request_queue.specs.Runs.{IsLed}
+use Rattle.request_queue.specs.World.{World, Step}
 use Rattle.request_queue.specs.World as event
+use Rattle.request_queue.proofs.lemmas.LedLemmas.{led-none, led-one, led-then}
 use Rattle.stack_session.specs.Session.{ServesLines}
 use Rattle.stack_session.specs.Commands.{CommandRecord, nothing, load, run, submit, step, remove, cost, table, moved, usage, command_of}
-use Rattle.stack_session.specs.QueueSessions.{IsLed}
 use Rattle.stack_session.specs.Replies.{RepliesToText, RepliesTo, Replies}
-
-run-append : (part : PartRelation) (w : World) (xs ys : List Turn) → Run part w xs → Run part (last w xs) ys → Run part w (xs ++ ys)
-run-append part w [] ys r s = s
-run-append part w (x ∷ xs) ys r s = (r.0, run-append part x.after xs ys r.1 s)
-
-last-append : (w : World) (xs ys : List Turn) → last w (xs ++ ys) ≡ last (last w xs) ys
-last-append w [] ys = refl
-last-append w (x ∷ xs) ys = last-append x.after xs ys
 
 module _ (part : PartRelation) where
   no-turn : (w w' : World) → w' ≡ w → IsLed part w w'
-  no-turn w w' same = record { turns = []; run = tt; ends = sym same }
-
-  one-turn : (w : World) (e : Event) (w' : World) → Step part w e w' → IsLed part w w'
-  one-turn w e w' s = let turn : Turn = record { event = e; after = w' } in record { turns = turn ∷ []; run = (s, tt); ends = refl }
+  no-turn w w' same = subst (IsLed part w) (sym same) (led-none part w)
 
   text-led : (w : World) (r : Result (List Entry) TextFault) (reply : List ℕ) (w' : World) → RepliesToText (Step part) w r reply w' → IsLed part w w'
   text-led w (Err fault) reply w' r = no-turn w w' r.1
-  text-led w (Ok entries) reply w' r = one-turn w (event.load entries r.0) w' r.1
+  text-led w (Ok entries) reply w' r = led-one part w (event.load entries r.0) w' r.1
 
   command-led : (w : World) (c : CommandRecord) (reply : List ℕ) (w' : World) → RepliesTo (Step part) w c reply w' → IsLed part w w'
   command-led w nothing reply w' r = no-turn w w' r.1
   command-led w usage reply w' r = no-turn w w' r.1
   command-led w (load text) reply w' (inl r) = text-led w (stack_of text) reply w' r
   command-led w (load text) reply w' (inr none) = no-turn w w' none.1
-  command-led w (run r) reply w' (inl s) = one-turn w (event.run r s.0) w' s.1
+  command-led w (run r) reply w' (inl s) = led-one part w (event.run r s.0) w' s.1
   command-led w (run r) reply w' (inr none) = no-turn w w' none.1
-  command-led w (submit r) reply w' (inl s) = one-turn w (event.submit r s.0) w' s.1
+  command-led w (submit r) reply w' (inl s) = led-one part w (event.submit r s.0) w' s.1
   command-led w (submit r) reply w' (inr none) = no-turn w w' none.1
-  command-led w (step ticket) reply w' s = one-turn w (event.step ticket s.0) w' s.1
-  command-led w (remove name) reply w' s = one-turn w (event.remove_device name s.0) w' s.1
+  command-led w (step ticket) reply w' s = led-one part w (event.step ticket s.0) w' s.1
+  command-led w (remove name) reply w' s = led-one part w (event.remove_device name s.0) w' s.1
   command-led w (cost name) reply w' r = no-turn w w' r.1
   command-led w (table name) reply w' (inl r) = no-turn w w' r.1
   command-led w (table name) reply w' (inr none) = no-turn w w' none.1
@@ -53,10 +42,4 @@ module _ (part : PartRelation) where
   lines-led w [] (reply ∷ more) w' r = absurd r
   lines-led w (line ∷ lines) [] w' r = absurd r
   lines-led w (line ∷ lines) (reply ∷ more) w' r =
-      let first = command-led w (command_of line) reply r.0 r.1.to in
-      let then = lines-led r.0 lines more w' r.2 in
-      record {
-        turns = first.turns ++ then.turns;
-        run = run-append part w first.turns then.turns first.run (subst (λ (x : World). Run part x then.turns) (sym first.ends) then.run);
-        ends = last-append w first.turns then.turns ∙ subst (λ (x : World). last x then.turns ≡ w') (sym first.ends) then.ends;
-      }
+      led-then part w r.0 w' (command-led w (command_of line) reply r.0 r.1.to) (lines-led r.0 lines more w' r.2)

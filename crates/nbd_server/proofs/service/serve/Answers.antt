@@ -1,6 +1,6 @@
 use Rattle.std.proofs.Common.{arith}
 use Rattle.std.proofs.lemmas.Result.{err_from_is_err_and}
-use Rattle.stack_session.specs.Session.{streams}
+use Rattle.counted_io.specs.Streams.{streams}
 use Rattle.nbd_server.specs.declared.fault.ServiceFault.TheVariants as fault
 use Rattle.nbd_server.specs.Exports.{export_record}
 use Rattle.nbd_server.proofs.CountedLemmas.{read-none, read-then, read-fewer, read-over, read-other, written-ok, written-other, written-then, written-failed}

@@ -1,5 +1,5 @@
 use Rattle.std.proofs.Common.{None}
-use Rattle.stack_session.specs.Session.{streams}
+use Rattle.counted_io.specs.Streams.{streams}
 use Rattle.nbd_server.specs.Exports.{IsExport, export_record}
 use Rattle.nbd_server.specs.Streaming.{HasRead, HasWritten}
 use Rattle.nbd_server.proofs.ServiceLemmas.{Held}

@@ -1,5 +1,5 @@
 use Rattle.std.proofs.Common.{Err, ap}
-use Rattle.command_faults.specs.declared.fault.CommandFault.TheVariants.{Leaves}
+use Rattle.stack_commands.specs.declared.fault.CommandFault.TheVariants.{Leaves}
 use Rattle.stack_commands.specs.Configuration.{configuration_of}
 use Rattle.stack_commands.proofs.ConfigurationLemmas.{configuration_of-leaves, configuration_of-passes, err-is, err-text, err-load}
 use Rattle.stack_commands.proofs.configuration.configuration_of.Goals as goal

@@ -1,11 +1,11 @@
 use Rattle.std.proofs.Common.{ℕ, List, map, ap, ◌∙◌, subst, inl, inr, refl, Some, Ok, Err}
 use Rattle.std.specs.Borrow.{Bor}
 use Rattle.block_device.specs.contracts.any.AnyDevBlockDev.TheImpl.{ghosts}
-use Rattle.command_faults.specs.declared.fault.CommandFault.TheVariants.{Io, Service}
+use Rattle.stack_commands.specs.declared.fault.CommandFault.TheVariants.{Io, Service}
 use Rattle.stack_rules.specs.Records.{Configuration}
 use Rattle.stack_engine.specs.Stacks.{StackRecord}
 use Rattle.request_queue.specs.World.{World}
-use Rattle.stack_session.specs.Session.{streams}
+use Rattle.counted_io.specs.Streams.{streams}
 use Rattle.nbd_server.specs.Exports.{HasNoExport, IsExport, export_record}
 use Rattle.command_line.specs.Bindings.{binding_record}
 use Rattle.stack_commands.specs.StackCommands.{IsSyncEnd, ServesClient}

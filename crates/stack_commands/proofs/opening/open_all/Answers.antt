@@ -1,9 +1,9 @@
 use Rattle.std.proofs.Common.{sym, subst}
 use Rattle.block_device.specs.contracts.any.AnyDevBlockDev.TheImpl.{ghosts}
-use Rattle.command_faults.specs.declared.fault.CommandFault.TheVariants.{NoMemory}
-use Rattle.stack_commands.specs.FileUses.{AreApartBeside}
+use Rattle.stack_commands.specs.declared.fault.CommandFault.TheVariants.{NoMemory}
+use Rattle.image_files.specs.FileUses.{AreApartBeside}
 use Rattle.stack_commands.proofs.BindingLemmas.{AreBound-more}
-use Rattle.stack_commands.proofs.FileUseLemmas.{AreApartBeside-last}
+use Rattle.image_files.proofs.lemmas.FileUseLemmas.{AreApartBeside-last}
 use Rattle.stack_commands.proofs.OpeningLemmas.{IsBindingEnd-at, IsBindingEnd-memory, err-from}
 use Rattle.stack_commands.proofs.opening.open_all.Goals as goal
 

@@ -2,7 +2,7 @@ use Rattle.std.proofs.Common.{map, take}
 use Rattle.block_device.specs.contracts.any.AnyDevBlockDev.TheImpl.{ghosts}
 use Rattle.stack_commands.specs.Bindings.{AreBound}
 use Rattle.command_line.specs.Bindings.{binding_record}
-use Rattle.stack_commands.specs.FileUses.{AreApartBeside}
+use Rattle.image_files.specs.FileUses.{AreApartBeside}
 use Rattle.stack_commands.proofs.opening.open_all.Given as goal
 
 -- the leaves and devices so far are those of the bindings so far

@@ -1,4 +1,4 @@
-use Rattle.stack_commands.proofs.FileUseLemmas.{clash-none}
+use Rattle.image_files.proofs.lemmas.FileUseLemmas.{clash-none}
 use Rattle.stack_commands.proofs.opening.open_backing.Goals as goal
 
 pub returns-in_ok-zeros-in-Zeros-clause-apart : goal.returns-in_ok-zeros-in-Zeros-clause-apart

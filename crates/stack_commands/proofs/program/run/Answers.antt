@@ -3,7 +3,7 @@ use Rattle.std.specs.Prelude.{string_bytes}
 use Rattle.std.proofs.lemmas.Result.{IfErr-weaker, on_ok_weaker}
 use Rattle.command_line.specs.CommandLines.{IsNoCommand}
 use Rattle.command_line.specs.CommandWords.{invocation_record}
-use Rattle.command_faults.specs.Endings.{words_ending}
+use Rattle.stack_commands.specs.Endings.{words_ending}
 use Rattle.stack_commands.proofs.OpeningLemmas.{err-from}
 use Rattle.stack_commands.proofs.UsageLemmas.{IsUsageEnd-words}
 use Rattle.stack_commands.proofs.program.run.Goals as goal

@@ -2,7 +2,7 @@ use Rattle.std.proofs.Common.{map, ap, ◌∙◌, Err}
 use Rattle.block_device.specs.contracts.any.AnyDevBlockDev.TheImpl.{ghosts}
 use Rattle.stack_engine.specs.Pieces.{stack_over}
 use Rattle.stack_session.specs.declared.fault.SessionFault.{SessionFault}
-use Rattle.command_faults.specs.declared.fault.CommandFault.TheVariants.{Io, Session}
+use Rattle.stack_commands.specs.declared.fault.CommandFault.TheVariants.{Io, Session}
 use Rattle.command_line.specs.Bindings.{binding_record}
 use Rattle.stack_commands.specs.Requests.{new_world}
 use Rattle.stack_commands.proofs.OpeningLemmas.{err-from}

@@ -1,5 +1,5 @@
 use Rattle.std.proofs.Common.{inl, inr, refl, subst}
-use Rattle.command_faults.specs.declared.fault.CommandFault.TheVariants.{Io, Session}
+use Rattle.stack_commands.specs.declared.fault.CommandFault.TheVariants.{Io, Session}
 use Rattle.stack_engine.specs.Stacks.{StackRecord}
 use Rattle.stack_engine.specs.Syncs.{FailsToSync}
 use Rattle.stack_session.specs.declared.fault.SessionFault.TheVariants.{WriteFault}

@@ -2,8 +2,8 @@ use Rattle.std.proofs.Common.{rules, ◌≡◌, ◌<◌, length, take, arith, �
 use Rattle.std.specs.Io.KnownBytes.{Consumes}
 use Rattle.std.proofs.lemmas.Grind.{common_steps}
 use Rattle.stack_session.specs.declared.fault.SessionFault.TheVariants.{TooLong, ReadFault}
-use Rattle.stack_session.specs.Session.{streams}
-use Rattle.stack_session.proofs.lemmas.CountedLemmas.{Grows-kept, Keeps-refl}
+use Rattle.counted_io.specs.Streams.{streams}
+use Rattle.counted_io.proofs.lemmas.CountedLemmas.{Grows-kept, Keeps-refl}
 use Rattle.stack_session.proofs.SessionLemmas.{same_error}
 use Rattle.stack_session.proofs.IntakeLemmas.{intake_starts, intake_more, intake_kept, intake_ends, intake_too_long}
 use Rattle.stack_session.proofs.lines.serve_lines.Goals as goal

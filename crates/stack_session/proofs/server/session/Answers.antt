@@ -1,4 +1,4 @@
-use Rattle.stack_session.specs.Session.{streams}
+use Rattle.counted_io.specs.Streams.{streams}
 use Rattle.stack_session.proofs.SteppingLemmas.{queue-session}
 use Rattle.stack_session.proofs.server.session.Goals as goal
 

@@ -1,4 +1,0 @@
-pub mod Endings
-pub mod OneFile
-pub mod Opened
-pub mod VerityTexts

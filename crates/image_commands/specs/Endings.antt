@@ -1,0 +1,38 @@
+-- How the commands on verity images end early.
+use Rattle.std.specs.Prelude.{◌≡◌, ◌≢◌, ℕ, Bool, true, List, Option}
+use Rattle.verity_format.specs.declared.verifying.VerifyFault.{VerifyFault}
+use Rattle.verity_format.specs.declared.verifying.Verdict.{Verdict}
+use Rattle.verity_format.specs.declared.verifying.Verdict.TheVariants as verdicts
+use Rattle.image_commands.specs.declared.fault.ImageFault.{ImageFault}
+use Rattle.image_commands.specs.declared.fault.ImageFault.TheVariants.{NoMemory, Open, Verify, Differs, Write}
+
+-- the file at this path isn't opened
+abbrev pub IsUnopened : List ℕ → ImageFault → Type 0
+IsUnopened path (Open file) = file.path.now ≡ path
+IsUnopened path fault = ⊥
+
+-- a line can't be written: the writer failed
+abbrev pub IsUnwritten : Bool → ImageFault → Type 0
+IsUnwritten failed Write = failed ≡ true
+IsUnwritten failed fault = ⊥
+
+-- want of memory, or a line that can't be written
+abbrev pub MayEnd : Bool → ImageFault → Type 0
+MayEnd failed NoMemory = Unit {0}
+MayEnd failed Write = failed ≡ true
+MayEnd failed fault = ⊥
+
+-- a fault of reading a superblock with its cause, or want of memory, or a line that can't be written
+abbrev pub IsVerifyEnd : (VerifyFault → Type 0) → Bool → ImageFault → Type 0
+IsVerifyEnd Cause failed (Verify fault) = Cause fault
+IsVerifyEnd Cause failed fault = MayEnd failed fault
+
+-- the same of a comparison, or the difference that was found
+abbrev pub IsComparisonEnd : (VerifyFault → Type 0) → (Verdict → Type 0) → Bool → ImageFault → Type 0
+IsComparisonEnd Cause Finding failed (Differs verdict) = (verdict ≢ verdicts.Matches) × Finding verdict
+IsComparisonEnd Cause Finding failed fault = IsVerifyEnd Cause failed fault
+
+-- nothing is written ahead of what ends a command, unless it is the writing that fails
+abbrev pub IsQuiet : ImageFault → Option (List ℕ) → Option (List ℕ) → Type 0
+IsQuiet Write old new = Unit {0}
+IsQuiet fault old new = new ≡ old

@@ -1,0 +1,75 @@
+// Why a command on verity images ends early.
+ghost use Rattle.std.specs.Prelude.{◌≡◌};
+ghost use Rattle.image_commands.specs.declared.fault.ImageFault.TheVariants as image_fault;
+
+use counted_io::WriteFault;
+use image_files::UnopenedFile;
+use std::alloc::{AllocError, AllocFailed};
+use verity_format::{FormatFault, Verdict, VerifyFault};
+
+/// Why a command on verity images ends early.
+#[derive(Clone, Copy, Debug, PartialEq, Eq)]
+pub enum ImageFault<'a> {
+    /// Memory ran out.
+    NoMemory,
+    /// A file isn't opened.
+    Open(UnopenedFile<'a>),
+    /// The image isn't made.
+    Format(FormatFault),
+    /// The images aren't compared, or there is no superblock.
+    Verify(VerifyFault),
+    /// The images were compared and differ.
+    Differs(Verdict),
+    /// There are no random bytes.
+    Random,
+    /// A line can't be written.
+    Write,
+}
+
+impl From<AllocError> for ImageFault<'_> {
+    ghost from_gives = { λ _ fault. fault ≡ image_fault.NoMemory };
+
+    fn from(_error: AllocError) -> Self {
+        ImageFault::NoMemory
+    }
+}
+
+impl<T: Drop> From<AllocFailed<T>> for ImageFault<'_> {
+    ghost from_gives = { λ _ fault. fault ≡ image_fault.NoMemory };
+
+    fn from(_refused: AllocFailed<T>) -> Self {
+        ImageFault::NoMemory
+    }
+}
+
+impl<'a> From<UnopenedFile<'a>> for ImageFault<'a> {
+    ghost from_gives = { λ file given. given ≡ image_fault.Open file };
+
+    fn from(file: UnopenedFile<'a>) -> Self {
+        ImageFault::Open(file)
+    }
+}
+
+impl From<FormatFault> for ImageFault<'_> {
+    ghost from_gives = { λ fault given. given ≡ image_fault.Format fault };
+
+    fn from(fault: FormatFault) -> Self {
+        ImageFault::Format(fault)
+    }
+}
+
+impl From<VerifyFault> for ImageFault<'_> {
+    ghost from_gives = { λ fault given. given ≡ image_fault.Verify fault };
+
+    fn from(fault: VerifyFault) -> Self {
+        ImageFault::Verify(fault)
+    }
+}
+
+impl From<WriteFault> for ImageFault<'_> {
+    ghost from_gives = { λ _ given. given ≡ image_fault.Write };
+
+    fn from(_fault: WriteFault) -> Self {
+        ImageFault::Write
+    }
+}

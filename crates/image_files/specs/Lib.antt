@@ -1,0 +1,3 @@
+pub mod FileUses
+pub mod OneFile
+pub mod Opened

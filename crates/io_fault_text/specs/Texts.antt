@@ -1,0 +1,21 @@
+-- The texts of the faults of a read or a write.
+use Rattle.std.specs.Prelude.{ℕ, List, ◌++◌, codes, decimal}
+use Rattle.stack_meaning.specs.declared.fault.IoFault.{IoFault}
+use Rattle.stack_meaning.specs.declared.fault.IoFault.TheVariants as io
+use Rattle.stack_meaning.specs.IoFaults.{io_number, io_name}
+
+abbrev pub no_memory : List ℕ
+no_memory = codes "no memory\n"
+
+-- number and name, and then a rest
+abbrev pub kind_then : ℕ → List ℕ → List ℕ → List ℕ
+kind_then number name rest = decimal number ++ (codes " " ++ (name ++ rest))
+
+-- a fault's number and name, and of a device the leaf's number
+abbrev pub io_words : IoFault → List ℕ
+io_words (io.Device leaf) = kind_then (io_number (io.Device leaf)) (io_name (io.Device leaf)) (codes " " ++ (decimal leaf ++ codes "\n"))
+io_words fault = kind_then (io_number fault) (io_name fault) (codes "\n")
+
+abbrev pub io_text : IoFault → List ℕ
+io_text io.NoMemory = no_memory
+io_text fault = codes "fault " ++ io_words fault

@@ -1,0 +1,6 @@
+//! What is printed of the fault in which an access to a stack ends.
+#![tactic(auto)]
+
+mod say;
+
+pub use say::{say_io_fault, say_io_words, say_no_memory};

@@ -1,0 +1,38 @@
+// Writes faults.
+ghost use Rattle.counted_io.specs.Counted.{Writes};
+ghost use Rattle.io_fault_text.specs.Texts.{io_text, io_words, no_memory};
+
+use counted_io::{Counted, WriteFault};
+use stack_meaning::IoFault;
+use std::io::Write;
+
+/// `no memory`
+pub fn say_no_memory<W: Write>(writer: &mut Counted<W>) -> Result<(), WriteFault>
+    ensures { Writes W.contents writer.old writer.new no_memory result }
+{
+    writer.put(b"no memory\n")
+}
+
+/// `fault K NAME`, and for a device its number; or `no memory`.
+pub fn say_io_fault<W: Write>(writer: &mut Counted<W>, fault: IoFault) -> Result<(), WriteFault>
+    ensures { Writes W.contents writer.old writer.new (io_text fault) result }
+{
+    match fault {
+        IoFault::NoMemory => say_no_memory(writer),
+        IoFault::Stack(_) | IoFault::Device(_) => {
+            writer.put(b"fault ")?;
+            say_io_words(writer, fault)
+        }
+    }
+}
+
+/// `K NAME`, and for a device its number.
+pub fn say_io_words<W: Write>(writer: &mut Counted<W>, fault: IoFault) -> Result<(), WriteFault>
+    ensures { Writes W.contents writer.old writer.new (io_words fault) result }
+{
+    let (number, name) = (fault.number(), fault.name());
+    match fault {
+        IoFault::Device(leaf) => writer.print(format_args!("{number} {name} {leaf}\n")),
+        IoFault::Stack(_) | IoFault::NoMemory => { writer.print(format_args!("{number} {name}\n")) }
+    }
+}

@@ -1,0 +1,157 @@
+// Why a command of the program ends early.
+ghost use Rattle.std.specs.Prelude.{◌≡◌};
+ghost use Rattle.stack_commands.specs.declared.fault.CommandFault.TheVariants as command_fault;
+ghost use Rattle.stack_session.specs.declared.fault.SessionFault.TheVariants as session_fault;
+ghost use Rattle.stack_commands.specs.Endings.{load_ending, text_ending, words_ending};
+
+use command_line::WordsFault;
+use counted_io::WriteFault;
+use dm_table::{ParseFault, TextFault};
+use image_commands::ImageFault;
+use image_files::UnopenedFile;
+use nbd_server::ServiceFault;
+use request_queue::SubmitFault;
+use stack_engine::IoFault;
+use stack_loader::{ConfigFault, LoadFault, Refusal};
+use stack_session::SessionFault;
+use std::alloc::{AllocError, AllocFailed};
+
+/// Why a command ends early.
+#[derive(Clone, Copy, Debug, PartialEq, Eq)]
+pub enum CommandFault<'a> {
+    /// The words are no command.
+    Usage,
+    /// Memory ran out.
+    NoMemory,
+    /// A stack file has more than 1 MiB.
+    TooLong,
+    /// A file isn't opened, or can't be read.
+    Open(UnopenedFile<'a>),
+    /// The leaves aren't taken.
+    Leaves(ConfigFault),
+    /// The stack text has a fault.
+    Text(TextFault),
+    /// The stack isn't loaded.
+    Load(Refusal),
+    /// The sectors can't be asked for.
+    Submit(SubmitFault),
+    /// The stack answered a fault.
+    Io(IoFault),
+    /// A command on verity images ended early.
+    Image(ImageFault<'a>),
+    /// So many sectors of a device were had, and so many are lost.
+    Lost { read: u64, lost: u64 },
+    /// The image to which a device is copied has fewer sectors than the device.
+    OutputTooSmall { needed: u64 },
+    /// The image to which a device is copied failed.
+    OutputFailed,
+    /// The session failed, or a line can't be written.
+    Session(SessionFault),
+    /// The service of a client ended early.
+    Service(ServiceFault),
+}
+
+impl From<AllocError> for CommandFault<'_> {
+    ghost from_gives = { λ _ fault. fault ≡ command_fault.NoMemory };
+
+    fn from(_error: AllocError) -> Self {
+        CommandFault::NoMemory
+    }
+}
+
+impl<T: Drop> From<AllocFailed<T>> for CommandFault<'_> {
+    ghost from_gives = { λ _ fault. fault ≡ command_fault.NoMemory };
+
+    fn from(_refused: AllocFailed<T>) -> Self {
+        CommandFault::NoMemory
+    }
+}
+
+impl From<WordsFault> for CommandFault<'_> {
+    ghost from_gives = { λ fault given. given ≡ words_ending fault };
+
+    fn from(fault: WordsFault) -> Self {
+        match fault {
+            WordsFault::Usage => CommandFault::Usage,
+            WordsFault::NoMemory => CommandFault::NoMemory,
+        }
+    }
+}
+
+impl From<ConfigFault> for CommandFault<'_> {
+    ghost from_gives = { λ fault given. given ≡ command_fault.Leaves fault };
+
+    fn from(fault: ConfigFault) -> Self {
+        CommandFault::Leaves(fault)
+    }
+}
+
+impl From<ParseFault> for CommandFault<'_> {
+    ghost from_gives = { λ fault given. given ≡ text_ending fault };
+
+    fn from(fault: ParseFault) -> Self {
+        match fault {
+            ParseFault::Text(fault) => CommandFault::Text(fault),
+            ParseFault::NoMemory => CommandFault::NoMemory,
+        }
+    }
+}
+
+impl From<LoadFault> for CommandFault<'_> {
+    ghost from_gives = { λ fault given. given ≡ load_ending fault };
+
+    fn from(fault: LoadFault) -> Self {
+        match fault {
+            LoadFault::Refused(refusal) => CommandFault::Load(refusal),
+            LoadFault::NoMemory => CommandFault::NoMemory,
+        }
+    }
+}
+
+impl From<IoFault> for CommandFault<'_> {
+    ghost from_gives = { λ fault given. given ≡ command_fault.Io fault };
+
+    fn from(fault: IoFault) -> Self {
+        CommandFault::Io(fault)
+    }
+}
+
+impl<'a> From<UnopenedFile<'a>> for CommandFault<'a> {
+    ghost from_gives = { λ file given. given ≡ command_fault.Open file };
+
+    fn from(file: UnopenedFile<'a>) -> Self {
+        CommandFault::Open(file)
+    }
+}
+
+impl<'a> From<ImageFault<'a>> for CommandFault<'a> {
+    ghost from_gives = { λ fault given. given ≡ command_fault.Image fault };
+
+    fn from(fault: ImageFault<'a>) -> Self {
+        CommandFault::Image(fault)
+    }
+}
+
+impl From<SessionFault> for CommandFault<'_> {
+    ghost from_gives = { λ fault given. given ≡ command_fault.Session fault };
+
+    fn from(fault: SessionFault) -> Self {
+        CommandFault::Session(fault)
+    }
+}
+
+impl From<ServiceFault> for CommandFault<'_> {
+    ghost from_gives = { λ fault given. given ≡ command_fault.Service fault };
+
+    fn from(fault: ServiceFault) -> Self {
+        CommandFault::Service(fault)
+    }
+}
+
+impl From<WriteFault> for CommandFault<'_> {
+    ghost from_gives = { λ _ given. given ≡ command_fault.Session session_fault.WriteFault };
+
+    fn from(_fault: WriteFault) -> Self {
+        CommandFault::Session(SessionFault::WriteFault)
+    }
+}
