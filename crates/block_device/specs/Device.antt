@@ -1,14 +1,16 @@
 -- Block devices: sectors of 512 bytes, and what a read and a write do to them.
-use Rattle.std.specs.Prelude.{◌≡◌, ◌⊎◌, ℕ, ◌+◌, ◌-◌, ◌/◌, ◌%◌, ◌^◌, ◌<◌, ◌≤◌, zero, suc, min, Bool, true, IsTrue, List, [], ◌∷◌, ◌++◌, length, take, drop, map, replicate, All, if◌then◌else◌}
+use Rattle.std.specs.Prelude.{◌≡◌, ◌⊎◌, ℕ, ◌+◌, ◌-◌, ◌/◌, ◌%◌, ◌^◌, ◌<◌, ◌≤◌, zero, suc, min, Bool, true, false, IsTrue, List, [], ◌∷◌, ◌++◌, length, take, drop, map, replicate, All, if◌then◌else◌}
 use Rattle.std.specs.List.{range_with_len}
 
 -- What a proof sees of a device. The image is its sectors. It is steady if a read gives the image and a
--- successful write changes its range to the bytes written and nothing else.
+-- successful write changes its range to the bytes written and nothing else. It is dirty from a write on, also one
+-- that failed, to a sync that ended well: what it was given may not be on its medium.
 pub record Device : Type 0 where
   pub size : ℕ
   pub may_write : Bool
   pub steady : Bool
   pub never_fails : Bool
+  pub dirty : Bool
   pub image : List (List ℕ)
   pub reads : ℕ
   pub writes : ℕ
@@ -66,6 +68,7 @@ pub record IsRead (old : Device) (n : ℕ) (ok : Bool) (new : Device) : Type 0 w
   pub reads : new.reads ≡ capped (old.reads + n)
   pub writes : new.writes ≡ old.writes
   pub failures : new.failures ≡ failures_after old ok
+  pub dirty : new.dirty ≡ old.dirty
   pub image : IsTrue old.steady → new.image ≡ old.image
 
 -- what a write of n sectors does to a device, whether it succeeds or not
@@ -74,8 +77,13 @@ pub record IsWritten (old : Device) (first n : ℕ) (ok : Bool) (new : Device) :
   pub reads : new.reads ≡ old.reads
   pub writes : new.writes ≡ capped (old.writes + n)
   pub failures : new.failures ≡ failures_after old ok
+  pub dirty : new.dirty ≡ true
   pub before : IsTrue old.steady → take first new.image ≡ take first old.image
   pub after : IsTrue old.steady → drop (first + n) new.image ≡ drop (first + n) old.image
+
+-- a device whose writes were put on the medium
+abbrev pub synced : Device → Device
+synced device = record device { dirty = false }
 
 -- A device whose writes couldn't be put on the medium: it failed, and counted the failure. Nothing else changes, but
 -- that one which was to fail once may be sure from then on.
@@ -102,6 +110,7 @@ in_memory image writable = record {
   may_write = writable;
   steady = true;
   never_fails = true;
+  dirty = false;
   image = image;
   reads = 0;
   writes = 0;

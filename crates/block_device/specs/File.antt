@@ -26,6 +26,7 @@ opened sectors writable = record {
   may_write = writable;
   steady = false;
   never_fails = false;
+  dirty = false;
   image = zeros_image sectors;
   reads = 0;
   writes = 0;

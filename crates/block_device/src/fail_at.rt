@@ -1,7 +1,7 @@
 // A device that fails once.
-ghost use Rattle.std.specs.Prelude.{◌≡◌, ◌≢◌, ◌/◌, ◌-◌, length, is_ok, IsTrue, IsOk, IsErr, OnOk, OnErr};
+ghost use Rattle.std.specs.Prelude.{◌≡◌, ◌≢◌, ◌/◌, ◌-◌, false, length, is_ok, IsTrue, IsOk, IsErr, OnOk, OnErr};
 ghost use Rattle.std.specs.List.{concat};
-ghost use Rattle.block_device.specs.Device.{IsInside, IsRead, IsUnsynced, IsWritten, HasFailed, capped, run_of, spliced, sectors_of};
+ghost use Rattle.block_device.specs.Device.{IsInside, IsRead, IsUnsynced, IsWritten, synced, HasFailed, capped, run_of, spliced, sectors_of};
 ghost use Rattle.block_device.specs.Failing.{failing, IsInnerRead, IsInnerSync, IsInnerWrite};
 
 use crate::{BlockDev, DeviceFault, SyncDev};
@@ -20,12 +20,14 @@ pub struct FailAt<D> {
     pub sectors_of_failed_reads: u64,
     pub sectors_of_failed_writes: u64,
     pub failed_calls: u64,
+    /// A write has failed here since the last sync that ended well.
+    pub has_failed_write: bool,
 }
 
 impl<D> FailAt<D> {
     /// The `k`-th call fails, and none where `k` is 0.
     pub fn new(inner: D, k: u64) -> FailAt<D>
-        ensures { result ≡ record { inner = inner; calls_to_failure = k; sectors_of_failed_reads = 0; sectors_of_failed_writes = 0; failed_calls = 0 } }
+        ensures { result ≡ record { inner = inner; calls_to_failure = k; sectors_of_failed_reads = 0; sectors_of_failed_writes = 0; failed_calls = 0; has_failed_write = false } }
     {
         FailAt {
             inner,
@@ -33,12 +35,13 @@ impl<D> FailAt<D> {
             sectors_of_failed_reads: 0,
             sectors_of_failed_writes: 0,
             failed_calls: 0,
+            has_failed_write: false,
         }
     }
 }
 
 impl<D: BlockDev> BlockDev for FailAt<D> {
-    ghost state = { λ f. failing (D.state f.inner) f.calls_to_failure f.sectors_of_failed_reads f.sectors_of_failed_writes f.failed_calls };
+    ghost state = { λ f. failing (D.state f.inner) f.calls_to_failure f.sectors_of_failed_reads f.sectors_of_failed_writes f.failed_calls f.has_failed_write };
 
     ghost whole = { λ f. record { length = (D.whole f.inner).length; sectors = (D.whole f.inner).sectors } };
 
@@ -92,6 +95,7 @@ impl<D: BlockDev> BlockDev for FailAt<D> {
             self.sectors_of_failed_writes = self
                 .sectors_of_failed_writes
                 .saturating_add(bytes.len() as u64 / 512);
+            self.has_failed_write = true;
             self.failed_calls = self.failed_calls.saturating_add(1);
             return Err(DeviceFault);
         }
@@ -117,8 +121,12 @@ impl<D: BlockDev> BlockDev for FailAt<D> {
 }
 
 impl<D: SyncDev> SyncDev for FailAt<D> {
+    fn is_dirty(&self) -> bool {
+        self.has_failed_write || self.inner.is_dirty()
+    }
+
     fn sync(&mut self) -> Result<(), DeviceFault>
-        ensures ok { OnOk result (⟦<FailAt<D> as BlockDev>⟧.state self.new ≡ ⟦<FailAt<D> as BlockDev>⟧.state self.old) }
+        ensures ok { OnOk result (⟦<FailAt<D> as BlockDev>⟧.state self.new ≡ synced (⟦<FailAt<D> as BlockDev>⟧.state self.old)) }
         ensures err { OnErr result (IsUnsynced (⟦<FailAt<D> as BlockDev>⟧.state self.old) (⟦<FailAt<D> as BlockDev>⟧.state self.new)) }
         ensures sure { IsTrue (⟦<FailAt<D> as BlockDev>⟧.state self.old).never_fails → IsOk result }
 
@@ -133,6 +141,8 @@ impl<D: SyncDev> SyncDev for FailAt<D> {
             return Err(DeviceFault);
         }
         self.calls_to_failure = self.calls_to_failure.saturating_sub(1);
-        self.inner.sync()
+        self.inner.sync()?;
+        self.has_failed_write = false;
+        Ok(())
     }
 }

@@ -1,7 +1,7 @@
 // A device in a file.
 ghost use Rattle.std.specs.Prelude.{◌≡◌, ◌≤◌, ◌^◌, ◌/◌, ◌↔◌, ℕ, false, refl, IfOk, IfErr, IsOk, IsTrue, OnErr, OnOk, Ok};
 ghost use Rattle.std.specs.Fs.{metadata_len, file_type, IsFile};
-ghost use Rattle.block_device.specs.Device.{Device, IsUnsynced, zeros_image};
+ghost use Rattle.block_device.specs.Device.{Device, IsUnsynced, synced, zeros_image};
 ghost use Rattle.block_device.specs.File.{opened, IsRefused, IsImage, IsBlockDevice};
 ghost use Rattle.block_device.specs.Whole.{whole_zeros};
 
@@ -32,6 +32,7 @@ pub struct FileDev {
     id: Option<FileId>,
     sectors: u64,
     writable: bool,
+    dirty: bool,
     reads: u64,
     writes: u64,
     failures: u64,
@@ -113,6 +114,7 @@ fn device_of(mut file: File, metadata: &Metadata, writable: bool) -> Result<File
         id: FileId::of(metadata),
         sectors,
         writable,
+        dirty: false,
         reads: 0,
         writes: 0,
         failures: 0,
@@ -125,6 +127,7 @@ impl BlockDev for FileDev {
       may_write = f.writable;
       steady = false;
       never_fails = false;
+      dirty = f.dirty;
       image = zeros_image f.sectors;
       reads = f.reads;
       writes = f.writes;
@@ -153,6 +156,7 @@ impl BlockDev for FileDev {
     }
 
     fn write(&mut self, first: u64, bytes: &[u8]) -> Result<(), DeviceFault> {
+        self.dirty = true;
         self.writes = self.writes.saturating_add(bytes.len() as u64 / 512);
         match self.file.write_all_at(bytes, first * 512) {
             Ok(()) => Ok(()),
@@ -179,15 +183,22 @@ impl BlockDev for FileDev {
 impl SyncDev for FileDev {
     ghost use Rattle.block_device.specs.FileId.{file_id};
 
+    fn is_dirty(&self) -> bool {
+        self.dirty
+    }
+
     // It stays the file that it is.
     fn sync(&mut self) -> Result<(), DeviceFault>
-        ensures ok { OnOk result (⟦<FileDev as BlockDev>⟧.state self.new ≡ ⟦<FileDev as BlockDev>⟧.state self.old) }
+        ensures ok { OnOk result (⟦<FileDev as BlockDev>⟧.state self.new ≡ synced (⟦<FileDev as BlockDev>⟧.state self.old)) }
         ensures err { OnErr result (IsUnsynced (⟦<FileDev as BlockDev>⟧.state self.old) (⟦<FileDev as BlockDev>⟧.state self.new)) }
         ensures sure { IsTrue (⟦<FileDev as BlockDev>⟧.state self.old).never_fails → IsOk result }
         ensures same { file_id self.new ≡ file_id self.old }
     {
         match self.file.sync_all() {
-            Ok(()) => Ok(()),
+            Ok(()) => {
+                self.dirty = false;
+                Ok(())
+            }
             Err(_) => {
                 self.failures = self.failures.saturating_add(1);
                 Err(DeviceFault)

@@ -1,7 +1,7 @@
 // A device in memory.
-ghost use Rattle.std.specs.Prelude.{◌≡◌, ◌≤◌, ◌^◌, ◌/◌, ◌*◌, ◌+◌, ◌%◌, ℕ, ◌++◌, take, drop, length, replicate, true, refl, IfOk, map};
+ghost use Rattle.std.specs.Prelude.{◌≡◌, ◌≤◌, ◌^◌, ◌/◌, ◌*◌, ◌+◌, ◌%◌, ℕ, ◌++◌, take, drop, length, replicate, true, refl, is_ok, IfOk, IsOk, IsTrue, OnErr, OnOk, map};
 ghost use Rattle.std.specs.List.{concat, range_with_len};
-ghost use Rattle.block_device.specs.Device.{sectors_of, in_memory, zeros_image, ramp_image, filled};
+ghost use Rattle.block_device.specs.Device.{HasFailed, IsInside, IsWritten, sectors_of, spliced, in_memory, zeros_image, ramp_image, filled};
 ghost use Rattle.block_device.specs.Whole.{whole_bytes};
 
 use crate::{BlockDev, DeviceFault, SyncDev};
@@ -13,18 +13,23 @@ use std::alloc::{AllocError, Global};
 pub struct MemoryDev {
     bytes: Vec<u8>,
     writable: bool,
+    dirty: bool,
     reads: u64,
     writes: u64,
 }
 
 impl MemoryDev {
+    ghost use Rattle.block_device.specs.Memory.{memory_bytes};
+
     /// A device of the whole sectors of `bytes`.
     pub fn new(bytes: Vec<u8>, writable: bool) -> MemoryDev
-        ensures { ⟦<MemoryDev as BlockDev>⟧.state result ≡ in_memory (sectors_of (length bytes.items / 512) bytes.items) writable }
+        ensures state { ⟦<MemoryDev as BlockDev>⟧.state result ≡ in_memory (sectors_of (length bytes.items / 512) bytes.items) writable }
+        ensures bytes { memory_bytes result ≡ bytes.items }
     {
         MemoryDev {
             bytes,
             writable,
+            dirty: false,
             reads: 0,
             writes: 0,
         }
@@ -48,12 +53,14 @@ impl MemoryDev {
 
     /// The bytes that it holds, a trailing part of a sector too.
     pub fn into_bytes(self) -> Vec<u8>
+        ensures bytes { result.items ≡ memory_bytes self }
         ensures size { length result.items / 512 ≡ (⟦<MemoryDev as BlockDev>⟧.state self).size }
         ensures image { sectors_of (length result.items / 512) result.items ≡ (⟦<MemoryDev as BlockDev>⟧.state self).image }
     {
         let MemoryDev {
             bytes,
             writable: _,
+            dirty: _,
             reads: _,
             writes: _,
         } = self;
@@ -79,11 +86,14 @@ fn ramp_bytes(alloc: Global, sectors: u32) -> Result<Vec<u8>, AllocError>
 }
 
 impl BlockDev for MemoryDev {
+    ghost use Rattle.block_device.specs.Memory.{memory_bytes};
+
     ghost state = { λ m. record {
       size = length m.bytes.items / 512;
       may_write = m.writable;
       steady = true;
       never_fails = true;
+      dirty = m.dirty;
       image = sectors_of (length m.bytes.items / 512) m.bytes.items;
       reads = m.reads;
       writes = m.writes;
@@ -108,8 +118,18 @@ impl BlockDev for MemoryDev {
         Ok(())
     }
 
-    fn write(&mut self, first: u64, bytes: &[u8]) -> Result<(), DeviceFault> {
+    // A trailing part of a sector stays as it is.
+    fn write(&mut self, first: u64, bytes: &[u8]) -> Result<(), DeviceFault>
+        requires range { IsInside (⟦<MemoryDev as BlockDev>⟧.state self.old) first (length bytes.now) }
+        requires allowed { IsTrue (⟦<MemoryDev as BlockDev>⟧.state self.old).may_write }
+        ensures moved { IsWritten (⟦<MemoryDev as BlockDev>⟧.state self.old) first (length bytes.now / 512) (is_ok result) (⟦<MemoryDev as BlockDev>⟧.state self.new) }
+        ensures image { OnOk result (IsTrue (⟦<MemoryDev as BlockDev>⟧.state self.old).steady → (⟦<MemoryDev as BlockDev>⟧.state self.new).image ≡ spliced (⟦<MemoryDev as BlockDev>⟧.state self.old).image first (sectors_of (length bytes.now / 512) bytes.now)) }
+        ensures sure { IsTrue (⟦<MemoryDev as BlockDev>⟧.state self.old).never_fails → IsOk result }
+        ensures fault { OnErr result (HasFailed (⟦<MemoryDev as BlockDev>⟧.state self.old) (⟦<MemoryDev as BlockDev>⟧.state self.new)) }
+        ensures bytes { memory_bytes self.new ≡ take (first * 512) (memory_bytes self.old) ++ bytes.now ++ drop (first * 512 + length bytes.now) (memory_bytes self.old) }
+    {
         let start = first as usize * 512;
+        self.dirty = true;
         self.writes = self.writes.saturating_add(bytes.len() as u64 / 512);
         put(&mut self.bytes, start, bytes);
         Ok(())
@@ -129,8 +149,13 @@ impl BlockDev for MemoryDev {
 }
 
 impl SyncDev for MemoryDev {
+    fn is_dirty(&self) -> bool {
+        self.dirty
+    }
+
     // Memory is all the medium there is.
     fn sync(&mut self) -> Result<(), DeviceFault> {
+        self.dirty = false;
         Ok(())
     }
 }

@@ -62,6 +62,7 @@ impl BlockDev for ScriptDev {
       may_write = false;
       steady = false;
       never_fails = true;
+      dirty = false;
       image = zeros_image s.sectors;
       reads = s.reads;
       writes = 0;
@@ -115,6 +116,10 @@ impl BlockDev for ScriptDev {
 }
 
 impl SyncDev for ScriptDev {
+    fn is_dirty(&self) -> bool {
+        false
+    }
+
     fn sync(&mut self) -> Result<(), DeviceFault> {
         Ok(())
     }

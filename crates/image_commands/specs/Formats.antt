@@ -1,6 +1,6 @@
 -- What `format` makes and prints, and how it ends early.
 use Rattle.std.specs.Prelude.{◌≡◌, ◌⊎◌, ℕ, List, ◌++◌, Ok, Err}
-use Rattle.block_device.specs.Device.{Device, IsUnsynced}
+use Rattle.block_device.specs.Device.{Device, IsUnsynced, synced}
 use Rattle.verity_format.specs.declared.formatting.FormatFault.{FormatFault}
 use Rattle.verity_format.specs.declared.formatting.FormatFault.TheVariants.{Device as DeviceFailed}
 use Rattle.verity_format.specs.declared.formatting.FormatOptions.{FormatOptions}
@@ -15,9 +15,11 @@ use Rattle.image_commands.specs.SuperblockTexts.{blocks_text, root_text, salt_te
 unfoldable pub made_text : MadeImage → List ℕ
 made_text made = root_text made.root ++ (salt_text made.salt ++ (uuid_text made.uuid ++ blocks_text made.blocks))
 
--- the hash device was formatted over the data device, and that is what was made
+-- the hash device was formatted over the data device and synced, and that is what was made
 pub record IsMade (options : FormatOptions) (data_dev hash_dev data_dev' hash_dev' : Device) (made : MadeImage) : Type 0 where
-  pub formatting : IsFormatting (superblock_with options data_dev.size) data_dev hash_dev data_dev' hash_dev' (Ok made.root)
+  pub written : Device
+  pub formatting : IsFormatting (superblock_with options data_dev.size) data_dev hash_dev data_dev' written (Ok made.root)
+  pub kept : hash_dev' ≡ synced written
   pub salt : made.salt ≡ options.salt
   pub uuid : made.uuid ≡ options.uuid
   pub blocks : made.blocks ≡ given_blocks options.blocks options.data_block data_dev.size

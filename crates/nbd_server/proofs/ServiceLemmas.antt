@@ -155,7 +155,7 @@ command-config e w (Err error) payload outcome w' p = same-config w w' p.1
 command-config e w (Ok (Read offset length)) payload outcome w' p = read-config e w offset length outcome w' p
 command-config e w (Ok (Write offset length)) payload outcome w' (inl p) = same-config w w' p.1
 command-config e w (Ok (Write offset length)) payload outcome w' (inr p) = write-config e w offset payload outcome w' p
-command-config e w (Ok Flush) payload (Ok content) w' p = same-config w w' p.1
+command-config e w (Ok Flush) payload (Ok content) w' p = ap (λ (x : World). x.stack.config) p.1
 command-config e w (Ok Flush) payload (Err error) w' p = ap (λ (x : World). x.stack.config) p.2.leaves
 
 request-config : (e : ExportRecord) (w : World) (header payload reply : List ℕ) (next : Phase) (w' : World) → IsLast w header reply next w' ⊎ ((header_of header).kind ≢ 2) × IsServed e w header payload reply next w' → w'.stack.config ≡ w.stack.config

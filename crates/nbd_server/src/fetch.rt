@@ -1,5 +1,5 @@
 // Reads sectors of the export.
-ghost use Rattle.std.specs.Prelude.{◌≡◌, ◌≤◌, ◌+◌, ◌*◌, ◌++◌, ◌^◌, Some, length, IfOk, IfErr, OnOk};
+ghost use Rattle.std.specs.Prelude.{◌≡◌, ◌≤◌, ◌+◌, ◌^◌, Some, IfOk, IfErr};
 ghost use Rattle.stack_rules.specs.Names.{device_named};
 ghost use Rattle.nbd_server.specs.Sectors.{FailsToFetch, IsFetched};
 ghost use Rattle.nbd_server.specs.Exports.{IsExport, export_record};
@@ -8,7 +8,7 @@ use crate::export::Export;
 use crate::request_error::RequestError;
 use block_device::BlockDev;
 use request_queue::{Queue, Reply, Request, RunFault};
-use std::alloc::{AllocError, Global};
+use std::alloc::Global;
 
 // The most sectors of one run: those of a piece, so that its chains are dropped before the next is read.
 const MOST_COUNT: u64 = 128;
@@ -42,18 +42,8 @@ fn read_run<D: BlockDev>(
     }
 }
 
-// Puts the bytes of a run behind those before. The first run's are moved.
-fn join(bytes: &mut Vec<u8>, more: Vec<u8>) -> Result<(), AllocError>
-    ensures { OnOk result (bytes.new.items ≡ bytes.old.items ++ more.items) }
-{
-    if bytes.is_empty() {
-        *bytes = more;
-        return Ok(());
-    }
-    bytes.extend_from_slice(more.as_slice())
-}
-
-/// The sectors from `first` on, read by runs one after another.
+/// The sectors from `first` on, read by runs one after another, for which memory is asked once. The bytes of one run
+/// alone are handed on as they are.
 pub(crate) fn fetch<D: BlockDev>(
     alloc: Global,
     queue: &mut Queue<D>,
@@ -66,12 +56,15 @@ pub(crate) fn fetch<D: BlockDev>(
     ensures ok { IfOk result (λ bytes. IsFetched queue.old export.now.device.0 first count bytes.items queue.new) }
     ensures err { IfErr result (λ error. FailsToFetch queue.old export.now.device.0 first count error queue.new) }
 {
-    let mut bytes = Vec::new(alloc);
+    if 1 <= count && count <= MOST_COUNT {
+        return read_run(alloc, queue, export, first, count);
+    }
+    let mut bytes = Vec::with_capacity(alloc, (count as usize).saturating_mul(512))?;
     let mut done = 0;
     'runs: while done < count {
         let part = (count - done).min(MOST_COUNT);
         let more = read_run(alloc, queue, export, first + done, part)?;
-        join(&mut bytes, more)?;
+        bytes.extend_from_slice(more.as_slice())?;
         done += part;
     }
     Ok(bytes)

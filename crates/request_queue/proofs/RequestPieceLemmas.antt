@@ -1,6 +1,7 @@
 -- One piece of a request and a sync, as steps of the world.
-use Rattle.std.proofs.Common.{◌≡◌, ◌<◌, ◌≤◌, ◌-◌, ℕ, List, get_or, set, ap, sym, ◌∙◌, subst, arith, Some, Result, Ok, Err}
+use Rattle.std.proofs.Common.{◌≡◌, ◌<◌, ◌≤◌, ◌-◌, ℕ, List, map, get_or, set, ap, sym, ◌∙◌, subst, arith, Some, Result, Ok, Err}
 use Rattle.std.specs.Prelude.{IfErr, OnOk, position, remove}
+use Rattle.block_device.specs.Device.{Device, synced}
 use Rattle.stack_rules.specs.Records.{Configuration}
 use Rattle.stack_meaning.specs.declared.fault.IoFault.{IoFault}
 use Rattle.stack_engine.specs.Stacks.{StackRecord, AnswerRecord}
@@ -82,10 +83,12 @@ sound-done v v' given fs fs' i f f' p r s =
 
 -- ---- a sync
 
-pub synced : (w : World) (v : StackRecord) (result : Result Unit IoFault) → OnOk result (v ≡ w.stack) → v.config ≡ w.stack.config → IfErr result (FailsToSync w.stack.leaves v.leaves)
+pub is-synced : (w : World) (v : StackRecord) (result : Result Unit IoFault) → OnOk result (v.leaves ≡ map synced w.stack.leaves) → v.config ≡ w.stack.config → IfErr result (FailsToSync w.stack.leaves v.leaves)
     → Syncs w result (world v w.given w.in_flight)
-synced w v (Ok done) same config fails = ap (λ (s : StackRecord). world s w.given w.in_flight) same
-synced w v (Err fault) same config fails = record {
+is-synced w v (Ok done) same config fails =
+    ap (λ (l : List Device). world (record { config = v.config; leaves = l }) w.given w.in_flight) same
+    ∙ ap (λ (c : Configuration). world (record { config = c; leaves = map synced w.stack.leaves }) w.given w.in_flight) config
+is-synced w v (Err fault) same config fails = record {
   after = v.leaves;
   fails = fails;
   leaves = ap (λ (c : Configuration). world (record { config = c; leaves = v.leaves }) w.given w.in_flight) config;

@@ -1,5 +1,5 @@
 -- What runs give the requests that are in flight in them.
-use Rattle.std.specs.Prelude.{◌≡◌, ℕ, ◌*◌, ◌<◌, ◌≤◌, Bool, true, false, List, [], ◌∷◌, length, All, Option, Some, None, Result, Ok, Err, if◌then◌else◌}
+use Rattle.std.specs.Prelude.{◌≡◌, ℕ, ◌+◌, ◌*◌, ◌<◌, ◌≤◌, Bool, true, false, List, [], ◌∷◌, length, All, Option, Some, None, Result, Ok, Err, if◌then◌else◌}
 use Rattle.stack_rules.specs.Records.{Configuration}
 use Rattle.stack_meaning.specs.declared.fault.IoFault.{IoFault}
 use Rattle.stack_meaning.specs.Leaves.{AllSteady}
@@ -10,7 +10,7 @@ use Rattle.request_queue.specs.declared.range.SectorRange.{SectorRange}
 use Rattle.request_queue.specs.Chains.{chains_of, IsVerified}
 use Rattle.request_queue.specs.Flights.{FlightRecord, first_flight, next_flight, reply_to, work_cost, first_work}
 use Rattle.request_queue.specs.Parts.{PartRelation, AnyPart, SteadyPart, EachPart, Asks}
-use Rattle.request_queue.specs.Ranges.{piece_len}
+use Rattle.request_queue.specs.Ranges.{IsCut, piece_len}
 use Rattle.request_queue.specs.Requests.{RequestRecord}
 use Rattle.request_queue.specs.Runs.{Turn, Run, last, total, is_step, flight_of, moved_for}
 use Rattle.request_queue.specs.World.{World, Event, submit, step, load, remove_device, run, sync, Step, Begins}
@@ -70,14 +70,24 @@ IsOver c p = p.before.config ≡ c
 
 -- A request that was begun from world w, as world v, and the turns after it. Whatever the leaves answer and whatever
 -- is served in between, its own steps serve it; over steady leaves each piece is what the stack means at its step.
--- All its steps are over the configuration in which it was begun. It takes no more steps than it has sectors, and
--- these move no more than its budget.
+-- All its steps are over the configuration in which it was begun. It takes no more steps than its range has pieces,
+-- and these move no more than its budget.
 pub record RequestLaw (w : World) (r : RequestRecord) (t : ℕ) (range : SectorRange) (v : World) (turns : List Turn) : Type 0 where
   pub any : IsServed AnyPart (first_flight t range r) (passages t v turns) (answer_to t turns)
   pub steady : AllSteady w.stack.leaves → IsServed SteadyPart (first_flight t range r) (passages t v turns) (answer_to t turns)
   pub config : All (IsOver w.stack.config) (passages t v turns)
   pub steps : length (passages t v turns) ≤ range.count
+  pub pieces : (n : ℕ) → IsCut w.stack.config range n → length (passages t v turns) ≤ n
   pub moved : total (moved_for t) v turns ≤ range.count * work_cost w.stack.config range.device.0 (first_work r)
+
+-- A request that is run is begun as the next ticket, and these turns serve it to its answer.
+pub record RunLaw (w : World) (r : RequestRecord) (answer : Result Reply IoFault) (w' : World) : Type 0 where
+  pub begun : World
+  pub begins : Begins w r (w.given + 1) begun
+  pub turns : List Turn
+  pub law : RequestLaw w r (w.given + 1) begins.range begun turns
+  pub answered : answer_to (w.given + 1) turns ≡ Some answer
+  pub ends : last begun turns ≡ w'
 
 -- The event is a refusal. A sync that fails is none: the leaf counts its failure.
 abbrev pub is_refusal : Event → Bool
@@ -103,5 +113,7 @@ pub record TurnLaw (w : World) (x : Turn) : Type 0 where
 pub record QueueLaw (w : World) : Type 0 where
   pub requests : (before : List Turn) → Run EachPart w before → (r : RequestRecord) (t : ℕ) (v : World) → (b : Begins (last w before) r t v)
       → (turns : List Turn) → Run EachPart v turns → RequestLaw (last w before) r t b.range v turns
+  pub runs : (before : List Turn) → Run EachPart w before → (r : RequestRecord) (answer : Result Reply IoFault) (w' : World) → Step EachPart (last w before) (run r (Ok answer)) w'
+      → RunLaw (last w before) r answer w'
   pub turns : (before : List Turn) → Run EachPart w before → (x : Turn) → Step EachPart (last w before) x.event x.after → TurnLaw (last w before) x
   pub chains : (before : List Turn) → Run EachPart w before → (x : Turn) → Step EachPart (last w before) x.event x.after → All (IsVerified (last w before).stack.config) (chains_of x.event)

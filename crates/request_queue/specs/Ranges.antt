@@ -1,5 +1,5 @@
 -- Ranges of a mapped device's sectors, and their pieces.
-use Rattle.std.specs.Prelude.{ℕ, ◌+◌, ◌-◌, ◌^◌, ◌<◌, ◌≤◌, ◌||◌, ◌==◌, nat_lt, min, List, length, Option, Some, None, Result, Ok, Err, if◌then◌else◌}
+use Rattle.std.specs.Prelude.{ℕ, suc, ◌+◌, ◌-◌, ◌^◌, ◌<◌, ◌≤◌, ◌||◌, ◌==◌, nat_lt, min, List, length, Option, Some, None, Result, Ok, Err, if◌then◌else◌}
 use Rattle.std.specs.Option.{option_map_or}
 use Rattle.stack_rules.specs.Records.{Configuration}
 use Rattle.stack_rules.specs.Names.{mapped, device_named, size}
@@ -45,3 +45,8 @@ range_after range n = record { device = range.device; first = range.first + n; c
 abbrev pub piece_len : Configuration → SectorRange → ℕ
 piece_len c range =
     min most_piece (min range.count (option_map_or (λ p. p.1.start + p.1.length - range.first) (line_at c range.device.0 range.first) 0))
+
+-- a range is cut into so many pieces
+pub data IsCut (c : Configuration) : SectorRange → ℕ → Type 0 where
+  last_piece : {range : SectorRange} → range.count ≤ piece_len c range → IsCut c range 1
+  next_piece : {range : SectorRange} {n : ℕ} → piece_len c range < range.count → IsCut c (range_after range (piece_len c range)) n → IsCut c range (suc n)

@@ -1,6 +1,6 @@
 -- Worlds, and the steps between them.
-use Rattle.std.specs.Prelude.{◌≡◌, ◌≢◌, ◌⊎◌, ℕ, ◌+◌, ◌-◌, ◌^◌, ◌<◌, ◌≤◌, ◌||◌, ◌==◌, nat_le, Bool, List, [], ◌∷◌, ◌++◌, length, position, slice_get, set, remove, Some, None, Result, Ok, Err, All, if◌then◌else◌}
-use Rattle.block_device.specs.Device.{Device}
+use Rattle.std.specs.Prelude.{◌≡◌, ◌≢◌, ◌⊎◌, ℕ, ◌+◌, ◌-◌, ◌^◌, ◌<◌, ◌≤◌, ◌||◌, ◌==◌, nat_le, Bool, List, [], ◌∷◌, ◌++◌, length, map, position, slice_get, set, remove, Some, None, Result, Ok, Err, All, if◌then◌else◌}
+use Rattle.block_device.specs.Device.{Device, synced}
 use Rattle.dm_table.specs.declared.stack.Entry.{Entry}
 use Rattle.stack_rules.specs.declared.refusal.LoadFault.{LoadFault}
 use Rattle.stack_rules.specs.declared.refusal.LoadFault.TheVariants as load_fault
@@ -154,9 +154,13 @@ pub record SyncFails (w : World) (fault : IoFault) (w' : World) : Type 0 where
   pub fails : FailsToSync w.stack.leaves after fault
   pub leaves : w' ≡ world (record { config = w.stack.config; leaves = after }) w.given w.in_flight
 
+-- all that was written to the leaves is on their media: none is dirty
+abbrev pub flushed : World → World
+flushed w = world (record { config = w.stack.config; leaves = map synced w.stack.leaves }) w.given w.in_flight
+
 -- where what was written is put on the media, nothing else changes
 abbrev pub Syncs : World → Result Unit IoFault → World → Type 0
-Syncs w (Ok done) w' = w' ≡ w
+Syncs w (Ok done) w' = w' ≡ flushed w
 Syncs w (Err fault) w' = SyncFails w fault w'
 
 -- ---- runs of one request

@@ -1,5 +1,6 @@
 // The command `copy`: copies what can be had of a device.
 ghost use Rattle.std.specs.Prelude.{◌≡◌, ◌≤◌, ◌<◌, false, true, length, map, IsTrue, OnOk, IfOk, IfErr};
+ghost use Rattle.block_device.specs.Device.{Device, synced};
 ghost use Rattle.stack_rules.specs.Names.{mapped, size};
 ghost use Rattle.command_line.specs.Bindings.{binding_record};
 ghost use Rattle.image_files.specs.Opened.{IsOpened};
@@ -76,7 +77,7 @@ fn copy_device<'a, O: SyncDev, W: Write>(
     requires device { device.0 < length stack.old.config.devices }
     requires room { size stack.old.config (mapped device.0) ≤ (O.state out.old).size }
     requires allowed { IsTrue (O.state out.old).may_write }
-    ensures ok { IfOk result (λ counts. Recovers device.0 (sides stack.old (O.state out.old) (W.contents writer.old.inner)) counts (sides stack.new (O.state out.new) (W.contents writer.new.inner))) }
+    ensures ok { IfOk result (λ counts. (image : Device) × Recovers device.0 (sides stack.old (O.state out.old) (W.contents writer.old.inner)) counts (sides stack.new image (W.contents writer.new.inner)) × (O.state out.new ≡ synced image)) }
     ensures err { IfErr result (IsRecoverEnd device.0 (sides stack.old (O.state out.old) (W.contents writer.old.inner)) (sides stack.new (O.state out.new) (W.contents writer.new.inner)) writer.new.failed) }
 {
     let counts = recover_device(stack, device, out, writer)?;

@@ -1,6 +1,6 @@
 // A stack: a configuration, and the devices of its leaves.
 ghost use Rattle.std.specs.Prelude.{◌≡◌, ◌<◌, ◌≤◌, ◌+◌, ◌/◌, length, map, IsTrue, IsOk, IfOk, IfErr, OnOk, OnErr, None, Some, Err};
-ghost use Rattle.block_device.specs.Device.{capped};
+ghost use Rattle.block_device.specs.Device.{capped, synced};
 ghost use Rattle.stack_rules.specs.Names.{mapped, size, may_write};
 ghost use Rattle.stack_rules.specs.Rules.{after_load, IsRefusal, first_refusal};
 ghost use Rattle.stack_rules.specs.Removal.{removal_fault, after_removal};
@@ -186,10 +186,10 @@ impl<D: BlockDev> Stack<D> {
 }
 
 impl<D: SyncDev> Stack<D> {
-    /// Has what was written to the leaves put on their media: leaf by leaf in order, those that were written. The
-    /// fault names the first leaf of which that failed, counted from 1; those behind it aren't asked then.
+    /// Has what was written to the leaves put on their media: leaf by leaf in order, those that are dirty. Behind Ok
+    /// none is. The fault names the first leaf of which that failed, counted from 1; those behind it aren't asked then.
     pub fn sync(&mut self) -> Result<(), IoFault>
-        ensures ok { OnOk result (self.new ≡ self.old) }
+        ensures ok { OnOk result (self.new.leaves ≡ map synced self.old.leaves) }
         ensures config { self.new.config ≡ self.old.config }
         ensures err { IfErr result (FailsToSync self.old.leaves self.new.leaves) }
         ensures sure { NeverFail self.old.leaves → IsOk result }

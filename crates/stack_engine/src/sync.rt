@@ -1,15 +1,15 @@
 // Has what was written to the leaves put on their media.
-ghost use Rattle.std.specs.Prelude.{◌≡◌, ◌≢◌, ◌≤◌, IsOk, IsTrue, OnErr, OnOk, IfErr, length, map};
-ghost use Rattle.block_device.specs.Device.{IsUnsynced};
+ghost use Rattle.std.specs.Prelude.{◌≡◌, ◌≤◌, IsOk, IsTrue, OnErr, OnOk, IfErr, length, map};
+ghost use Rattle.block_device.specs.Device.{IsUnsynced, synced};
 ghost use Rattle.stack_engine.specs.Syncs.{FailsToSync};
 
 use block_device::{DeviceFault, SyncDev};
 use stack_meaning::IoFault;
 
-/// Syncs each leaf that was written, in order up to the first of which that fails.
+/// Syncs each dirty leaf, in order up to the first of which that fails.
 pub(crate) fn sync_leaves<D: SyncDev>(devices: &mut [D]) -> Result<(), IoFault>
     requires { length devices.old ≤ 64 }
-    ensures ok { OnOk result (map D.state devices.new ≡ map D.state devices.old) }
+    ensures ok { OnOk result (map D.state devices.new ≡ map synced (map D.state devices.old)) }
     ensures err { IfErr result (FailsToSync (map D.state devices.old) (map D.state devices.new)) }
 {
     'leaves: for i in 0..devices.len() {
@@ -21,14 +21,14 @@ pub(crate) fn sync_leaves<D: SyncDev>(devices: &mut [D]) -> Result<(), IoFault>
     Ok(())
 }
 
-// Syncs a device, unless nothing was written to it.
+// Syncs a device, unless all that was written to it is on its medium.
 fn sync_leaf<D: SyncDev>(device: &mut D) -> Result<(), DeviceFault>
-    ensures ok { OnOk result (D.state device.new ≡ D.state device.old) }
+    ensures ok { OnOk result (D.state device.new ≡ synced (D.state device.old)) }
     ensures err { OnErr result (IsUnsynced (D.state device.old) (D.state device.new)) }
-    ensures written { OnErr result ((D.state device.old).writes ≢ 0) }
+    ensures dirty { OnErr result (IsTrue (D.state device.old).dirty) }
     ensures sure { IsTrue (D.state device.old).never_fails → IsOk result }
 {
-    if device.writes() == 0 {
+    if !device.is_dirty() {
         return Ok(());
     }
     device.sync()

@@ -1,5 +1,5 @@
 // A device that keeps nothing.
-ghost use Rattle.std.specs.Prelude.{◌≡◌, ◌≤◌, ◌^◌, false, true, refl};
+ghost use Rattle.std.specs.Prelude.{◌≡◌, ◌≤◌, ◌^◌, ◌==◌, false, true, not, refl};
 ghost use Rattle.block_device.specs.Device.{zeros_image};
 ghost use Rattle.block_device.specs.Whole.{whole_zeros};
 
@@ -36,6 +36,7 @@ impl BlockDev for Discard {
       may_write = true;
       steady = false;
       never_fails = true;
+      dirty = not (f.writes == 0);
       image = zeros_image f.sectors;
       reads = f.reads;
       writes = f.writes;

@@ -40,6 +40,7 @@ first-then s a b c k ok count part writes failures w =
       reads = w.reads ∙ part.reads;
       writes = omega (arith, w.writes, writes, split, count);
       failures = w.failures ∙ ap (λ n. if ok then n else capped (n + 1)) failures;
+      dirty = w.dirty;
       before = λ h. refl;
       after = λ h. drop-same (0 + k) (0 + n) c.image b.image (omega (arith, split, count)) (w.after (steady-then part.same h)) ∙ drop-same n (0 + n) b.image a.image (omega arith) (part.after h);
     }

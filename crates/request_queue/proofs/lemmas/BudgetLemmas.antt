@@ -181,7 +181,7 @@ kept-removal w w' name (Err Busy) t order s = kept-same w w' t order s.1
 kept-removal w w' name (Err (Fault fault)) t order s = kept-same w w' t order s.2
 
 kept-sync : (w w' : World) (reply : Result Unit IoFault) (t : ℕ) → InOrder w → Syncs w reply w' → Kept w t w'
-kept-sync w w' (Ok done) t order s = kept-same w w' t order s
+kept-sync w w' (Ok done) t order s = subst (Kept w t) (sym s) (record { same = refl; config = inr refl; given = omega arith; order = order })
 kept-sync w w' (Err fault) t order s = subst (Kept w t) (sym s.leaves) (record { same = refl; config = inr refl; given = omega arith; order = order })
 
 kept-ends : (t u : ℕ) (answer : Result Reply IoFault) (w w' : World) → u ≢ t → InOrder w → Ends AnyPart u answer w w' → Kept w t w'

@@ -1,6 +1,7 @@
 -- The chains that answers hand out.
-use Rattle.std.proofs.Common.{◌≡◌, ℕ, ◌+◌, suc, List, [], ◌∷◌, ◌++◌, get_or, set, take, drop, All, Contains, refl, sym, ap, ◌∙◌, subst, Result, Ok, Err}
+use Rattle.std.proofs.Common.{◌≡◌, ℕ, ◌+◌, suc, List, [], ◌∷◌, ◌++◌, map, get_or, set, take, drop, All, Contains, refl, sym, ap, ◌∙◌, subst, Result, Ok, Err}
 use Rattle.std.specs.Prelude.{remove}
+use Rattle.block_device.specs.Device.{synced}
 use Rattle.std.proofs.lemmas.List.{get_or_default}
 use Rattle.std.proofs.lemmas.List.Elements.{All-append, All-take, All-drop, All-set, All-cons, All-nil}
 use Rattle.std.proofs.lemmas.Option.{slice_get_within, get_or_from_slice_get}
@@ -170,7 +171,9 @@ module _ (good : AnsweredChainsAreGood) (forged : ForgedAnswersCollide) where
       let first = begun w r (w.given + 1) s.begun honest s.begins in
       turn-of w (run r (Ok answer)) w' (after-another w s.begun w' (answer_chains answer) first.config (ended (w.given + 1) answer s.begun w' first.honest s.ends))
   honest-turn w (run r (Err fault)) w' honest s = turn-of w (run r (Err fault)) w' (same-world w w' honest s.same)
-  honest-turn w (sync (Ok done)) w' honest s = turn-of w (sync (Ok done)) w' (same-world w w' honest s)
+  honest-turn w (sync (Ok done)) w' honest s =
+      let stack : StackRecord = record { config = w.stack.config; leaves = map synced w.stack.leaves } in
+      turn-of w (sync (Ok done)) w' (hands-out w [] stack w.in_flight w' s refl honest.loaded honest.flights (All-nil _))
   honest-turn w (sync (Err fault)) w' honest s =
       let stack : StackRecord = record { config = w.stack.config; leaves = s.after } in
       turn-of w (sync (Err fault)) w' (hands-out w [] stack w.in_flight w' s.leaves refl honest.loaded honest.flights (All-nil _))

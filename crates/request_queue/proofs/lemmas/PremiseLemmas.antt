@@ -1,6 +1,6 @@
 -- From what holds of each part: what holds over any leaves, and what holds over steady ones.
-use Rattle.std.proofs.Common.{◌≡◌, ℕ, ◌+◌, List, [], ◌∷◌, sym, subst, Result, Ok, Err}
-use Rattle.block_device.specs.Device.{Device}
+use Rattle.std.proofs.Common.{◌≡◌, ℕ, ◌+◌, List, [], ◌∷◌, map, sym, subst, Result, Ok, Err}
+use Rattle.block_device.specs.Device.{Device, synced}
 use Rattle.dm_table.specs.declared.stack.Entry.{Entry}
 use Rattle.stack_rules.specs.declared.refusal.LoadFault.{LoadFault}
 use Rattle.stack_rules.specs.declared.refusal.RemoveFault.{RemoveFault}
@@ -9,7 +9,7 @@ use Rattle.stack_meaning.specs.Leaves.{AllSteady}
 use Rattle.stack_engine.specs.Stacks.{StackRecord, AnswerRecord}
 use Rattle.stack_engine.specs.Syncs.{FailsToSync}
 use Rattle.stack_meaning.proofs.lemmas.LeafListLemmas.{AllSteady-kept}
-use Rattle.stack_engine.proofs.lemmas.SyncLemmas.{unsynced-steady}
+use Rattle.stack_engine.proofs.lemmas.SyncLemmas.{synced-steady, unsynced-steady}
 use Rattle.request_queue.specs.declared.fault.Held.{Held}
 use Rattle.request_queue.specs.declared.fault.Held.TheVariants.{Busy, Fault}
 use Rattle.request_queue.specs.declared.fault.SubmitFault.{SubmitFault}
@@ -27,9 +27,10 @@ use Rattle.request_queue.proofs.lemmas.PartLemmas.{any-keeps, each-any, each-ste
 abbrev pub Passes : PartRelation → PartRelation → (List Device → Type 0) → Type 0
 Passes P Q F = (v : StackRecord) (d first : ℕ) (part : Part) (answer : Result AnswerRecord IoFault) (v' : StackRecord) → F v.leaves → P v d first part answer v' → Q v d first part answer v' × F v'.leaves
 
--- a fact about the leaves goes on where one isn't synced
-abbrev pub OutlivesSyncs : (List Device → Type 0) → Type 0
-OutlivesSyncs F = (old new : List Device) (fault : IoFault) → FailsToSync old new fault → F old → F new
+-- a fact about the leaves goes on where they are synced, and where one isn't
+pub record OutlivesSyncs (F : List Device → Type 0) : Type 0 where
+  pub synced : (leaves : List Device) → F leaves → F (map synced leaves)
+  pub unsynced : (old new : List Device) (fault : IoFault) → FailsToSync old new fault → F old → F new
 
 module _ (P Q : PartRelation) (F : List Device → Type 0) (pass : Passes P Q F) (outlives : OutlivesSyncs F) where
   answers-as : (w : World) (i : ℕ) (f : FlightRecord) (progress : Progress) (w' : World) → F w.stack.leaves → Answers P w i f progress w' → Answers Q w i f progress w' × F w'.stack.leaves
@@ -72,8 +73,8 @@ module _ (P Q : PartRelation) (F : List Device → Type 0) (pass : Passes P Q F)
   removes-leaves w name (Err (Fault fault)) w' s h = same-leaves w w' s.2 h
 
   syncs-leaves : (w : World) (reply : Result Unit IoFault) (w' : World) → Syncs w reply w' → F w.stack.leaves → F w'.stack.leaves
-  syncs-leaves w (Ok done) w' s h = same-leaves w w' s h
-  syncs-leaves w (Err fault) w' s h = subst (λ (x : World). F x.stack.leaves) (sym s.leaves) (outlives w.stack.leaves s.after fault s.fails h)
+  syncs-leaves w (Ok done) w' s h = subst (λ (x : World). F x.stack.leaves) (sym s) (outlives.synced w.stack.leaves h)
+  syncs-leaves w (Err fault) w' s h = subst (λ (x : World). F x.stack.leaves) (sym s.leaves) (outlives.unsynced w.stack.leaves s.after fault s.fails h)
 
   runs-as : (w : World) (r : RequestRecord) (reply : Result (Result Reply IoFault) SubmitFault) (w' : World) → F w.stack.leaves → Runs P w r reply w' → Runs Q w r reply w' × F w'.stack.leaves
   runs-as w r (Err fault) w' h s = (s, same-leaves w w' s.same h)
@@ -105,10 +106,13 @@ abbrev Anything : List Device → Type 0
 Anything leaves = Unit {0}
 
 outlives-any : OutlivesSyncs Anything
-outlives-any old new fault fails h = tt
+outlives-any = record { synced = λ leaves h. tt; unsynced = λ old new fault fails h. tt }
 
 pass-any : Passes EachPart AnyPart Anything
 pass-any v d first part answer v' h p = (each-any v d first part answer v' p, tt)
+
+outlives-steady : OutlivesSyncs AllSteady
+outlives-steady = record { synced = synced-steady; unsynced = unsynced-steady }
 
 pass-steady : Passes EachPart SteadyPart AllSteady
 pass-steady v d first part answer v' h p = (each-steady v d first part answer v' h p, AllSteady-kept v.leaves v'.leaves (any-keeps v d first part answer v' (each-any v d first part answer v' p)).fixed h)
@@ -125,7 +129,7 @@ run-any w turns r = (run-as EachPart AnyPart Anything pass-any outlives-any w tu
 
 -- a run over steady leaves
 pub run-steady : (w : World) (turns : List Turn) → AllSteady w.stack.leaves → Run EachPart w turns → Run SteadyPart w turns × AllSteady (last w turns).stack.leaves
-run-steady w turns h r = run-as EachPart SteadyPart AllSteady pass-steady unsynced-steady w turns h r
+run-steady w turns h r = run-as EachPart SteadyPart AllSteady pass-steady outlives-steady w turns h r
 
 pass-steady-any : Passes SteadyPart AnyPart Anything
 pass-steady-any v d first part answer v' h p = (steady-any-part v d first part answer v' p, tt)

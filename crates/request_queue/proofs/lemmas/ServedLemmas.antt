@@ -1,20 +1,24 @@
 -- A request's own steps in a run, whatever is served in between.
-use Rattle.std.proofs.Common.{◌≡◌, ℕ, true, false, Bool, List, [], ◌∷◌, length, refl, ap, sym, ◌∙◌, subst, arith, inl, inr, ◌⊎◌, All, Some, None, Ok, Err}
+use Rattle.std.proofs.Common.{◌≡◌, ◌==◌, ◌+◌, ◌<◌, ◌≤◌, ℕ, zero, suc, true, false, Bool, List, [], ◌∷◌, length, refl, ap, sym, ◌∙◌, subst, arith, inl, inr, ◌⊎◌, All, Option, Some, None, Result, Ok, Err}
 use Rattle.std.specs.Prelude.{remove}
-use Rattle.std.proofs.lemmas.List.Elements.{All-cons, All-nil}
+use Rattle.std.proofs.lemmas.List.Elements.{All-cons, All-head, All-nil, All-tail}
 use Rattle.stack_rules.specs.Records.{Configuration}
 use Rattle.stack_engine.specs.Laws.{AnsweredChainsAreGood, ForgedAnswersCollide}
+use Rattle.stack_meaning.specs.declared.fault.IoFault.{IoFault}
 use Rattle.stack_meaning.specs.Leaves.{AllSteady}
 use Rattle.stack_engine.specs.Stacks.{StackRecord}
 use Rattle.request_queue.specs.declared.fault.Held.TheVariants.{Busy, Fault}
 use Rattle.request_queue.specs.declared.reply.Progress.{Progress}
+use Rattle.request_queue.specs.declared.range.SectorRange.{SectorRange}
 use Rattle.request_queue.specs.declared.reply.Progress.TheVariants.{More, Done}
+use Rattle.request_queue.specs.declared.reply.Reply.{Reply}
+use Rattle.request_queue.specs.Ranges.{IsCut, last_piece, next_piece, piece_len, range_after}
 use Rattle.request_queue.specs.Requests.{RequestRecord}
 use Rattle.request_queue.specs.Flights.{FlightRecord, first_flight, next_flight}
 use Rattle.request_queue.specs.Parts.{PartRelation, AnyPart, SteadyPart, EachPart, Asks}
-use Rattle.request_queue.specs.World.{World, world, Event, submit, step, load, remove_device, run, sync, Step, Serves, Begins, next_count}
+use Rattle.request_queue.specs.World.{World, world, Event, submit, step, load, remove_device, run, sync, Step, Serves, Begins, Ends, at_once, later, next_count}
 use Rattle.request_queue.specs.Runs.{Turn, Run, last, total, is_step, flight_of, served_for}
-use Rattle.request_queue.specs.Laws.{passage, passages, end_of, answer_to, IsServed, waits, goes_on, finishes, fails, IsOver, RequestLaw, is_refusal, TurnLaw, QueueLaw}
+use Rattle.request_queue.specs.Laws.{Passage, passage, passages, end_of, answer_to, IsServed, waits, goes_on, finishes, fails, IsOver, RequestLaw, RunLaw, is_refusal, TurnLaw, QueueLaw}
 use Rattle.request_queue.proofs.lemmas.TicketLemmas.{test-same, at-ticket, find-at, find-changed, find-removed}
 use Rattle.request_queue.proofs.lemmas.PremiseLemmas.{step-any, run-any, run-steady}
 use Rattle.request_queue.proofs.lemmas.ChainLemmas.{IsHonest, honest-run, honest-turn}
@@ -156,6 +160,25 @@ passages-count t v (x ∷ more) = by (is_step t x.event) refl (passages-count t 
     by true is same = rw is (omega (arith, same))
     by false is same = rw is (omega (arith, same))
 
+some-pieces : (c : Configuration) (range : SectorRange) (n : ℕ) → IsCut c range n → 1 ≤ n
+some-pieces c range zero cut = elim cut [ ]
+some-pieces c range (suc zero) (last_piece whole) = omega arith
+some-pieces c range (suc n) (next_piece less rest) = omega arith
+
+-- a request is served in at most as many steps as its range has pieces
+few-pieces : (part : PartRelation) (c : Configuration) (f : FlightRecord) (ps : List Passage) (answer : Option (Result Reply IoFault)) (n : ℕ)
+    → IsServed part f ps answer → All (IsOver c) ps → IsCut c f.rest n → length ps ≤ n
+few-pieces part c f [] answer n waits over cut = omega arith
+few-pieces part c f (p ∷ more) answer n (goes_on got asks less rest) over cut =
+    by n (All-head (IsOver c) p more over) cut (λ m after. few-pieces part c (next_flight f (piece_len p.before.config f.rest) got) more answer m rest (All-tail (IsOver c) p more over) after)
+  where
+    by : (k : ℕ) → p.before.config ≡ c → IsCut c f.rest k → ((m : ℕ) → IsCut c (next_flight f (piece_len p.before.config f.rest) got).rest m → length more ≤ m) → length (p ∷ more) ≤ k
+    by zero same cut next = elim cut [ ]
+    by (suc zero) same (last_piece whole) next = let long : piece_len c f.rest < f.rest.count = subst (λ x. piece_len x f.rest < f.rest.count) same less in absurd (omega (arith, whole, long))
+    by (suc m) same (next_piece left cut) next = let after : IsCut c (range_after f.rest (piece_len p.before.config f.rest)) m = subst (λ x. IsCut c (range_after f.rest (piece_len x f.rest)) m) (sym same) cut in omega (arith, next m after)
+few-pieces part c f (p ∷ []) answer n (finishes got asks end replies) over cut = some-pieces c f.rest n cut
+few-pieces part c f (p ∷ []) answer n (fails asks) over cut = some-pieces c f.rest n cut
+
 steady-any : Includes SteadyPart
 steady-any w e w' s = Rattle.request_queue.proofs.lemmas.PremiseLemmas.step-steady-any w e w' s
 
@@ -166,13 +189,45 @@ request-law w r t v turns order b each =
     let knows : Knows t v = (new.order, new.old) in
     let low = run-any v turns each in
     let few = whole-steps w r t v turns order b low in
+    let any = is-served AnyPart (λ w' e v' s. s) t v turns (first_flight t b.range r) knows new.flight low in
+    let over : All (IsOver w.stack.config) (passages t v turns) = subst (λ (s : StackRecord). All (IsOver s.config) (passages t v turns)) new.stack (one-configuration t v turns knows low) in
     record {
-      any = is-served AnyPart (λ w' e v' s. s) t v turns (first_flight t b.range r) knows new.flight low;
+      any = any;
       steady = λ steady.
           is-served SteadyPart steady-any t v turns (first_flight t b.range r) knows new.flight (run-steady v turns (subst (λ (s : StackRecord). AllSteady s.leaves) (sym new.stack) steady) each).0;
-      config = subst (λ (s : StackRecord). All (IsOver s.config) (passages t v turns)) new.stack (one-configuration t v turns knows low);
+      config = over;
       steps = omega (arith, few, passages-count t v turns);
+      pieces = λ n cut. few-pieces AnyPart w.stack.config (first_flight t b.range r) (passages t v turns) (answer_to t turns) n any over cut;
       moved = whole-budget w r t v turns order b low;
+    }
+
+-- the steps of a run, one turn after another
+record StepsAlone (t : ℕ) (answer : Result Reply IoFault) (v w' : World) : Type 0 where
+  turns : List Turn
+  run : Run EachPart v turns
+  answered : answer_to t turns ≡ Some answer
+  ends : last v turns ≡ w'
+
+steps-alone : (t : ℕ) (answer : Result Reply IoFault) (v w' : World) → Ends EachPart t answer v w' → StepsAlone t answer v w'
+steps-alone t answer v w' (at_once s) =
+    let own : (t == t) ≡ true = grind arith in
+    record { turns = record { event = step t (Ok (Done answer)); after = w' } ∷ []; run = (s, tt); answered = rw own refl; ends = refl }
+steps-alone t answer v w' (later {v = mid} s more) =
+    let own : (t == t) ≡ true = grind arith in
+    let rest = steps-alone t answer mid w' more in
+    record { turns = record { event = step t (Ok More); after = mid } ∷ rest.turns; run = (s, rest.run); answered = rw own rest.answered; ends = rest.ends }
+
+-- what a request gets that is run
+pub run-law : (w : World) (r : RequestRecord) (answer : Result Reply IoFault) (w' : World) → InOrder w → Step EachPart w (run r (Ok answer)) w' → RunLaw w r answer w'
+run-law w r answer w' order s =
+    let alone = steps-alone (w.given + 1) answer s.begun w' s.ends in
+    record {
+      begun = s.begun;
+      begins = s.begins;
+      turns = alone.turns;
+      law = request-law w r (w.given + 1) s.begun alone.turns order s.begins alone.run;
+      answered = alone.answered;
+      ends = alone.ends;
     }
 
 -- a refusal leaves all as it was
@@ -207,6 +262,7 @@ turn-law w x order s = record {
 pub queue-law : AnsweredChainsAreGood → ForgedAnswersCollide → (w : World) → InOrder w → IsHonest w → QueueLaw w
 queue-law good forged w order honest = record {
   requests = λ before done r t v b turns each. request-law (last w before) r t v turns (order-kept w before order done) b each;
+  runs = λ before done r answer w' s. run-law (last w before) r answer w' (order-kept w before order done) s;
   turns = λ before done x s. turn-law (last w before) x (order-kept w before order done) s;
   chains = λ before done x s.
       (honest-turn good forged (last w before) x.event x.after (honest-run good forged w before honest (run-any w before done)) (step-any (last w before) x.event x.after s)).chains;

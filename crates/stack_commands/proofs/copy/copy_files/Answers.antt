@@ -29,7 +29,7 @@ returns-clause-ok g c =
       short = rw c.as_slice.ensures.value c.in_ok-text.ensures.ok;
       has = c.in_ok-stack.ensures.ok;
     } in
-    let done = c.in_ok-counts.ensures.ok in
+    let done = c.in_ok-counts.ensures.ok.1 in
     on_ok_weaker c.tell_counts.result
     (counts-told _ _ _ _ _ _ c.in_ok-counts.counts (runs-printed _ _ c.in_ok-stack.stack c.in_ok-stack.device.0 had _ _ c.in_ok-counts.counts _ done) done.counted) c.tell_counts.ensures.ok
 
@@ -43,6 +43,6 @@ returns-clause-err g c =
       short = rw c.as_slice.ensures.value c.in_ok-text.ensures.ok;
       has = c.in_ok-stack.ensures.ok;
     } in
-    let done = c.in_ok-counts.ensures.ok in
+    let done = c.in_ok-counts.ensures.ok.1 in
     IfErr-weaker c.tell_counts.result _ _
     (λ fault e. inr (inr (inr (counts-end _ _ _ _ _ _ c.in_ok-counts.counts (runs-printed _ _ c.in_ok-stack.stack c.in_ok-stack.device.0 had _ _ c.in_ok-counts.counts _ done) done.counted _ fault e)))) c.tell_counts.ensures.err

@@ -7,5 +7,5 @@ use Rattle.block_device.proofs.memory.MemoryDev.ramp.Goals as goal
 pub returns : goal.returns
 returns c =
     let n = c.args.sectors in
-    c.new.ensures
+    c.new.ensures.state
     ∙ in_memory-concat (ramp_image n) c.in_ok-bytes.bytes.items n c.args.writable c.in_ok-bytes.ensures (each-ramp n) (length-map-range_with_len (λ (k : ℕ). filled (k % 256)) 0 n)

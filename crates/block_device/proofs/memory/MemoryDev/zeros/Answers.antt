@@ -8,5 +8,5 @@ use Rattle.block_device.proofs.memory.MemoryDev.zeros.Goals as goal
 pub returns : goal.returns
 returns c =
     let n = c.args.sectors in
-    c.new.ensures
+    c.new.ensures.state
     ∙ in_memory-concat (zeros_image n) c.in_ok-bytes.bytes.items n c.args.writable (c.in_ok-bytes.ensures ∙ sym (concat-zeros n)) (each-replicate n) (length-replicate n (filled 0))

@@ -13,6 +13,7 @@ returns-clause-moved c =
       reads = refl;
       writes = omega arith;
       failures = refl;
+      dirty = refl;
       before = λ _. ap (take c.args.first) p.1 ∙ take-spliced _ _ c.args.first (omega arith);
       after = λ _. ap (drop (c.args.first + length c.args.bytes.now / 512)) p.1 ∙ drop-spliced _ _ c.args.first _ (omega arith) (sym (length-sectors_of _ c.args.bytes.now));
     }

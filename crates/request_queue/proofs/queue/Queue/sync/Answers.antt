@@ -1,10 +1,10 @@
 use Rattle.std.proofs.Common.{subst}
 use Rattle.request_queue.specs.World.{world, Syncs}
-use Rattle.request_queue.proofs.RequestPieceLemmas.{synced}
+use Rattle.request_queue.proofs.RequestPieceLemmas.{is-synced}
 use Rattle.request_queue.proofs.queue.Queue.sync.Goals as goal
 
 pub returns : goal.returns
 returns g c =
     let q = c.self.inside in
     subst (λ w. Syncs w c.sync.result (world c.sync.new.self q.given q.flights.items)) c.self.view_is
-    (synced (world q.stack q.given q.flights.items) c.sync.new.self c.sync.result c.sync.ensures.ok c.sync.ensures.config c.sync.ensures.err)
+    (is-synced (world q.stack q.given q.flights.items) c.sync.new.self c.sync.result c.sync.ensures.ok c.sync.ensures.config c.sync.ensures.err)
