@@ -1,4 +1,4 @@
-// Digests of blocks side by side, beside the kit's SHA-256 of one block after the other, over 64 MiB of blocks of 4,096 bytes.
+//! Digests of blocks side by side, beside the kit's SHA-256 of one block after the other, over 64 MiB of blocks of 4,096 bytes.
 use crate::medians::{RUNS, median};
 use anyhow::{Context, Result, bail};
 use hash_tree::digest_blocks;

@@ -1,4 +1,4 @@
-// The time that is reported of several runs.
+//! The time that is reported of several runs.
 
 pub const RUNS: usize = 15;
 

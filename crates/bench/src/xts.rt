@@ -1,4 +1,4 @@
-// XTS over 16 MiB of units under keys of 32 bytes each, in megabytes a second of processor time.
+//! XTS over 16 MiB of units under keys of 32 bytes each, in megabytes a second of processor time.
 ghost use Rattle.std.specs.Prelude.{◌≡◌, ◌<◌, ◌%◌};
 
 use crate::medians::{RUNS, median};

@@ -1,4 +1,4 @@
-// A device in memory or in a file.
+//! A device in memory or in a file.
 ghost use Rattle.std.specs.Prelude.{◌≡◌, ◌/◌, length, refl, IsOk, IsTrue, OnErr, OnOk};
 ghost use Rattle.block_device.specs.Any.{any_id};
 ghost use Rattle.block_device.specs.Device.{IsUnsynced, synced};

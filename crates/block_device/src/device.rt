@@ -1,4 +1,4 @@
-// A device of sectors, as the layers above see it.
+//! A device of sectors, as the layers above see it.
 ghost use Rattle.std.specs.Prelude.{◌≡◌, ◌≤◌, ◌^◌, ◌/◌, length, is_ok, OnOk, OnErr, IsOk, IsTrue};
 ghost use Rattle.std.specs.List.{concat};
 ghost use Rattle.block_device.specs.Device.{Device, IsInside, IsWhole, IsRead, IsWritten, HasFailed, run_of, spliced, sectors_of};

@@ -1,4 +1,4 @@
-// A device that fails once.
+//! A device that fails once.
 ghost use Rattle.std.specs.Prelude.{◌≡◌, ◌≢◌, ◌/◌, ◌-◌, false, length, is_ok, IsTrue, IsOk, IsErr, OnOk, OnErr};
 ghost use Rattle.std.specs.List.{concat};
 ghost use Rattle.block_device.specs.Device.{IsInside, IsRead, IsUnsynced, IsWritten, synced, HasFailed, capped, run_of, spliced, sectors_of};

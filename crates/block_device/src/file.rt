@@ -1,4 +1,4 @@
-// A device in a file.
+//! A device in a file.
 ghost use Rattle.std.specs.Prelude.{◌≡◌, ◌≤◌, ◌^◌, ◌/◌, ◌↔◌, ℕ, false, refl, IfOk, IfErr, IsOk, IsTrue, OnErr, OnOk, Ok};
 ghost use Rattle.std.specs.Fs.{metadata_len, file_type, IsFile};
 ghost use Rattle.block_device.specs.Device.{Device, IsUnsynced, synced, zeros_image};

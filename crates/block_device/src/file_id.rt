@@ -1,4 +1,4 @@
-// Which file an open one is.
+//! Which file an open one is.
 use crate::file::is_block_device;
 use std::fs::Metadata;
 use std::os::unix::fs::MetadataExt;

@@ -1,4 +1,4 @@
-// A device in memory.
+//! A device in memory.
 ghost use Rattle.std.specs.Prelude.{◌≡◌, ◌≤◌, ◌^◌, ◌/◌, ◌*◌, ◌+◌, ◌%◌, ℕ, ◌++◌, take, drop, length, replicate, true, refl, is_ok, IfOk, IsOk, IsTrue, OnErr, OnOk, map};
 ghost use Rattle.std.specs.List.{concat, range_with_len};
 ghost use Rattle.block_device.specs.Device.{HasFailed, IsInside, IsWritten, sectors_of, spliced, in_memory, zeros_image, ramp_image, filled};

@@ -1,4 +1,4 @@
-// A device that answers what a script says.
+//! A device that answers what a script says.
 ghost use Rattle.std.specs.Prelude.{◌≡◌, ◌≤◌, ◌^◌, ◌/◌, ◌+◌, ℕ, length, true, false, refl, is_ok, IsOk, IsErr, IsTrue, OnErr, OnOk, map};
 ghost use Rattle.std.specs.List.{concat};
 ghost use Rattle.block_device.specs.Device.{IsInside, IsRead, HasFailed, capped, run_of, zeros_image};

@@ -1,4 +1,4 @@
-// A device whose writes can be put on its medium.
+//! A device whose writes can be put on its medium.
 ghost use Rattle.std.specs.Prelude.{◌≡◌, IsOk, IsTrue, OnErr, OnOk};
 ghost use Rattle.block_device.specs.Device.{IsUnsynced, synced};
 

@@ -1,4 +1,4 @@
-// The names that a command line binds to devices.
+//! The names that a command line binds to devices.
 ghost use Rattle.std.specs.Prelude.{◌≡◌, option_map};
 ghost use Rattle.command_line.specs.Bindings.{backing_by, backing_record, backing_of, binding_record, binding_of, sectors_at};
 

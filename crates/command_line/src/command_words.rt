@@ -1,4 +1,4 @@
-// What the words of a command line invoke.
+//! What the words of a command line invoke.
 ghost use Rattle.std.specs.Prelude.{◌≡◌, map, drop, Some, None, IfOk, IfErr, option_map};
 ghost use Rattle.std.specs.List.{list_any};
 ghost use Rattle.command_line.specs.Bindings.{binding_record};

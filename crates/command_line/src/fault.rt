@@ -1,4 +1,4 @@
-// Why words are no command.
+//! Why words are no command.
 ghost use Rattle.std.specs.Prelude.{◌≡◌};
 ghost use Rattle.command_line.specs.declared.fault.WordsFault.TheVariants as words_fault;
 

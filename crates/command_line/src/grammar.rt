@@ -1,4 +1,4 @@
-// What clap is told of the command line.
+//! What clap is told of the command line.
 ghost use Rattle.std.specs.Prelude.{false, true, ◌≡◌, map, string_bytes, IfOk, IfErr};
 ghost use Rattle.clap.specs.Simple.{app_of, subcommand_of, subcommand_rows_of, with_subcommand};
 ghost use Rattle.clap.specs.Takes.{takes};

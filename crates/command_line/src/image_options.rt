@@ -1,4 +1,4 @@
-// The options of `format`, as words and as what they say.
+//! The options of `format`, as words and as what they say.
 ghost use Rattle.std.specs.Prelude.{◌≡◌, IfErr, IfOk, Some, option_map};
 ghost use Rattle.clap.specs.Matches.{found_of};
 ghost use Rattle.uuid.specs.Text.{parsed};

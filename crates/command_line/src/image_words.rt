@@ -1,4 +1,4 @@
-// What the words of the commands on images invoke.
+//! What the words of the commands on images invoke.
 ghost use Rattle.std.specs.Prelude.{◌≡◌, map, Some, None, IfOk, IfErr};
 ghost use Rattle.command_line.specs.CommandWords.{IsUsage, dump_of, format_of, invocation_record, root_of, table_of, verify_of};
 

@@ -1,4 +1,4 @@
-// Commands with their words.
+//! Commands with their words.
 use crate::bindings::Binding;
 use tree_shape::Digest;
 

@@ -1,4 +1,4 @@
-// Reads the words behind the program's name.
+//! Reads the words behind the program's name.
 ghost use Rattle.std.specs.Prelude.{◌≡◌, map, string_bytes, Some, IfOk, IfErr};
 ghost use Rattle.command_line.specs.CommandLines.{IsNoCommand, invoked};
 ghost use Rattle.command_line.specs.CommandWords.{IsUsage, invocation_record};

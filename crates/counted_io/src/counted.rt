@@ -1,4 +1,4 @@
-// A reader or a writer that counts its reads, remembers a failure, and knows what it still has to hand on.
+//! A reader or a writer that counts its reads, remembers a failure, and knows what it still has to hand on.
 ghost use Rattle.std.specs.Prelude.{◌≡◌, ◌+◌, min, true, false, IsOk, IfSome};
 ghost use Rattle.std.specs.Io.{ReadsAtMost};
 ghost use Rattle.std.specs.Io.KnownBytes.{ReadConsumes, Appends, Keeps};

@@ -1,4 +1,4 @@
-// What a writing may end in.
+//! What a writing may end in.
 use thiserror::Error;
 
 /// The writer failed.

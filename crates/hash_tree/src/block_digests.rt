@@ -1,4 +1,4 @@
-// Digests of blocks.
+//! Digests of blocks.
 ghost use Rattle.std.specs.Prelude.{◌≡◌, ◌<◌, ◌≤◌, ◌+◌, ◌*◌, ◌/◌, ◌%◌, length, map, take, drop};
 ghost use Rattle.tree_shape.specs.Digests.{digest};
 ghost use Rattle.hash_tree.specs.Tree.{cut};

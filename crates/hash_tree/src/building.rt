@@ -1,4 +1,4 @@
-// The tree made digest by digest.
+//! The tree made digest by digest.
 ghost use Rattle.std.specs.Prelude.{true, false, ◌≡◌, ◌+◌, ◌*◌, ◌^◌, ◌<◌, ◌≤◌, ◌++◌, ◌∷◌, [], length, All, IfOk, OnOk, OnErr, is_err};
 ghost use Rattle.std.specs.Option.{unwrap_or};
 ghost use Rattle.tree_shape.specs.Shape.{IsShape, levels};

@@ -1,4 +1,4 @@
-// A data block with the hash blocks on the way to it.
+//! A data block with the hash blocks on the way to it.
 ghost use Rattle.std.specs.Prelude.{◌↔◌, ◌<◌, ◌^◌, IsTrue, length, map};
 ghost use Rattle.hash_tree.specs.Chain.{IsGood, HangsFrom};
 

@@ -1,4 +1,4 @@
-// Where two chains differ.
+//! Where two chains differ.
 ghost use Rattle.std.specs.Prelude.{◌≡◌, IfSome, IfNone, length, map};
 ghost use Rattle.hash_tree.specs.Difference.{IsTopmostDifference, HaveNoDifference, FirstDiffer};
 

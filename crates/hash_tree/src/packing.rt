@@ -1,4 +1,4 @@
-// The area: a tree's hash blocks as they are stored.
+//! The area: a tree's hash blocks as they are stored.
 ghost use Rattle.std.specs.Prelude.{◌≡◌, ◌+◌, ◌-◌, ◌*◌, ◌≤◌, ◌<◌, ◌/◌, ◌%◌, ◌++◌, length, map, replicate, All, IfOk, OnOk, IsTrue};
 ghost use Rattle.std.specs.List.{concat};
 ghost use Rattle.tree_shape.specs.Digests.{digest};

@@ -1,4 +1,4 @@
-// The command `dump`: what a superblock says.
+//! The command `dump`: what a superblock says.
 ghost use Rattle.std.specs.Prelude.{◌≡◌, OnOk, IfErr};
 ghost use Rattle.block_device.specs.Device.{Device};
 ghost use Rattle.verity_format.specs.Blocks.{IsOnlyRead};

@@ -1,4 +1,4 @@
-// Why a command on verity images ends early.
+//! Why a command on verity images ends early.
 ghost use Rattle.std.specs.Prelude.{◌≡◌};
 ghost use Rattle.image_commands.specs.declared.fault.ImageFault.TheVariants as image_fault;
 

@@ -1,4 +1,4 @@
-// The command `format`: makes a hash image over a data image.
+//! The command `format`: makes a hash image over a data image.
 ghost use Rattle.std.specs.Prelude.{false, true, ◌≡◌, IfErr, IfOk, OnOk};
 ghost use Rattle.block_device.specs.FileId.{file_id};
 ghost use Rattle.image_files.specs.OneFile.{is_one_file};

@@ -1,4 +1,4 @@
-// A salt and an identifier drawn from random bytes.
+//! A salt and an identifier drawn from random bytes.
 ghost use Rattle.std.specs.Prelude.{◌≡◌};
 ghost use Rattle.rand_core.specs.Stream.{fill_bytes};
 ghost use Rattle.uuid.specs.Parts.{v4_of_fill};

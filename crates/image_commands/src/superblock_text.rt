@@ -1,4 +1,4 @@
-// The printed fields of a superblock.
+//! The printed fields of a superblock.
 ghost use Rattle.std.specs.Prelude.{◌≤◌, ◌++◌, codes, length};
 ghost use Rattle.hex.specs.Hex.{encode_lower};
 ghost use Rattle.counted_io.specs.Counted.{Writes};

@@ -1,4 +1,4 @@
-// The command `table`: the table line of a hash image.
+//! The command `table`: the table line of a hash image.
 ghost use Rattle.std.specs.Prelude.{◌≡◌, OnOk, IfErr};
 ghost use Rattle.block_device.specs.Device.{Device};
 ghost use Rattle.verity_format.specs.Blocks.{IsOnlyRead};

@@ -1,4 +1,4 @@
-// The command `verify`: compares a hash image with a data image.
+//! The command `verify`: compares a hash image with a data image.
 ghost use Rattle.std.specs.Prelude.{◌≡◌, OnOk, IfErr, codes};
 ghost use Rattle.std.specs.Io.KnownBytes.{Appends};
 ghost use Rattle.block_device.specs.Device.{Device};

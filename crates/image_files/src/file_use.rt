@@ -1,4 +1,4 @@
-// Which files are open, and how.
+//! Which files are open, and how.
 ghost use Rattle.std.specs.Prelude.{◌≡◌};
 ghost use Rattle.std.specs.List.{list_any};
 ghost use Rattle.image_files.specs.FileUses.{has_clash, is_clash, output_use, use_of};

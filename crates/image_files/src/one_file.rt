@@ -1,4 +1,4 @@
-// Whether two open files are one.
+//! Whether two open files are one.
 ghost use Rattle.std.specs.Prelude.{◌≡◌};
 ghost use Rattle.image_files.specs.OneFile.{is_id, is_one_file};
 

@@ -1,4 +1,4 @@
-// Opens the images that a command line names.
+//! Opens the images that a command line names.
 ghost use Rattle.std.specs.Prelude.{◌≡◌, IfOk, IfErr};
 ghost use Rattle.image_files.specs.Opened.{IsOpened};
 

@@ -1,4 +1,4 @@
-// Writes faults.
+//! Writes faults.
 ghost use Rattle.counted_io.specs.Counted.{Writes};
 ghost use Rattle.io_fault_text.specs.Texts.{io_text, io_words, no_memory};
 

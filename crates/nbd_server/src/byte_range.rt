@@ -1,4 +1,4 @@
-// Bytes of the export, read and written by the sectors that they touch.
+//! Bytes of the export, read and written by the sectors that they touch.
 ghost use Rattle.std.specs.Prelude.{◌≡◌, ◌<◌, ◌≤◌, ◌+◌, ◌*◌, ◌%◌, ◌^◌, [], drop, length, take, Ok, IfErr, IfOk, OnOk};
 ghost use Rattle.nbd_server.specs.Exports.{IsExport, export_record};
 ghost use Rattle.nbd_server.specs.Premises.{AreBytesOf};

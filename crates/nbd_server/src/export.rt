@@ -1,4 +1,4 @@
-// What is served: a mapped device as a run of bytes.
+//! What is served: a mapped device as a run of bytes.
 ghost use Rattle.std.specs.Prelude.{◌≡◌, IfNone, IfSome};
 ghost use Rattle.nbd_server.specs.Exports.{HasNoExport, IsExport, export_record, is_asked, transmission_flags};
 

@@ -1,4 +1,4 @@
-// Why the service of a client ends early.
+//! Why the service of a client ends early.
 ghost use Rattle.std.specs.Prelude.{◌≡◌};
 ghost use Rattle.nbd_server.specs.declared.fault.ServiceFault.TheVariants as service_fault;
 

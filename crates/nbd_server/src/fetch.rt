@@ -1,4 +1,4 @@
-// Reads sectors of the export.
+//! Reads sectors of the export.
 ghost use Rattle.std.specs.Prelude.{◌≡◌, ◌≤◌, ◌+◌, ◌^◌, Some, IfOk, IfErr};
 ghost use Rattle.stack_rules.specs.Names.{device_named};
 ghost use Rattle.nbd_server.specs.Sectors.{FailsToFetch, IsFetched};

@@ -1,4 +1,4 @@
-// The handshake's messages: the client's flags, and the options that it haggles over.
+//! The handshake's messages: the client's flags, and the options that it haggles over.
 ghost use Rattle.std.specs.Prelude.{◌≡◌, ◌≢◌, ◌<◌, ◌≤◌, ◌^◌, ℕ, List, length, MatchOption, Option, option_map, IfOk, IfErr};
 ghost use Rattle.counted_io.specs.Streams.{streams};
 ghost use Rattle.request_queue.specs.World.{World};

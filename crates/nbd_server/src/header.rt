@@ -1,4 +1,4 @@
-// Requests of the transmission phase.
+//! Requests of the transmission phase.
 ghost use Rattle.std.specs.Prelude.{◌≡◌, ◌+◌, IfOk, length, nat_lt};
 ghost use Rattle.nbd_server.specs.Exports.{export_record};
 ghost use Rattle.nbd_server.specs.Headers.{IsWithin, command_of, flush_command, header_of, payload_len, read_command, write_command};

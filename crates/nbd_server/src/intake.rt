@@ -1,4 +1,4 @@
-// Takes bytes from a client.
+//! Takes bytes from a client.
 ghost use Rattle.std.specs.Prelude.{◌≡◌, ℕ, ◌<◌, ◌≤◌, ◌+◌, ◌*◌, ◌^◌, drop, length, take, OnOk, IfOk, IfErr, IfSome, MatchOption, option_map};
 ghost use Rattle.nbd_server.specs.Premises.{HavePlace};
 ghost use Rattle.nbd_server.specs.Streaming.{Fills, HasRead, IsShort, Takes, TakesInto, TakesToPlace, fault_of};

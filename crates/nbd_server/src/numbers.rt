@@ -1,4 +1,4 @@
-// Numbers in network byte order.
+//! Numbers in network byte order.
 ghost use Rattle.std.specs.Prelude.{◌≡◌, ◌+◌, ◌≤◌, length};
 ghost use Rattle.counted_io.specs.Counted.{Writes};
 ghost use Rattle.nbd_server.specs.Numbers.{bytes16, bytes32, bytes64, number16, number32, number64};

@@ -1,4 +1,4 @@
-// Options that a client haggles over.
+//! Options that a client haggles over.
 ghost use Rattle.std.specs.Prelude.{◌≡◌, ◌≤◌, ◌<◌, ◌^◌, length, true};
 ghost use Rattle.counted_io.specs.Counted.{Writes};
 ghost use Rattle.nbd_server.specs.Exports.{export_record};

@@ -1,4 +1,4 @@
-// Writes the replies to options.
+//! Writes the replies to options.
 ghost use Rattle.std.specs.Prelude.{◌≡◌, ◌<◌, ◌^◌, length};
 ghost use Rattle.counted_io.specs.Counted.{Writes};
 ghost use Rattle.nbd_server.specs.Exports.{export_record};

@@ -1,4 +1,4 @@
-// Where the service of a client stands.
+//! Where the service of a client stands.
 
 /// What the client may say next.
 #[derive(Clone, Copy, Debug, PartialEq, Eq)]

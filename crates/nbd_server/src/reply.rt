@@ -1,4 +1,4 @@
-// Replies to requests.
+//! Replies to requests.
 ghost use Rattle.std.specs.Prelude.{◌≡◌, ◌≤◌, ◌+◌, [], ◌++◌, length};
 ghost use Rattle.counted_io.specs.Counted.{Writes};
 ghost use Rattle.nbd_server.specs.Numbers.{bytes32, bytes64};

@@ -1,4 +1,4 @@
-// Why a request fails.
+//! Why a request fails.
 ghost use Rattle.std.specs.Prelude.{◌≡◌};
 ghost use Rattle.nbd_server.specs.Headers.{error_number};
 ghost use Rattle.nbd_server.specs.Sectors.{error_of};

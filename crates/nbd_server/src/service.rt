@@ -1,4 +1,4 @@
-// The service of a client: its messages one after another, and what is replied to each.
+//! The service of a client: its messages one after another, and what is replied to each.
 ghost use Rattle.std.specs.Prelude.{◌≢◌};
 ghost use Rattle.counted_io.specs.Streams.{streams};
 ghost use Rattle.nbd_server.specs.Exports.{IsExport, export_record};

@@ -1,4 +1,4 @@
-// Puts sectors of the export.
+//! Puts sectors of the export.
 ghost use Rattle.std.specs.Prelude.{◌≡◌, ◌≤◌, ◌+◌, ◌/◌, ◌%◌, ◌^◌, Some, length, IfErr, OnOk};
 ghost use Rattle.stack_rules.specs.Names.{device_named};
 ghost use Rattle.nbd_server.specs.Sectors.{FailsToStore, IsStored};

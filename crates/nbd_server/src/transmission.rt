@@ -1,4 +1,4 @@
-// The requests of the transmission phase.
+//! The requests of the transmission phase.
 ghost use Rattle.std.specs.Prelude.{◌≡◌, ◌<◌, ◌+◌, ◌^◌, ℕ, List, length, Ok, IfOk, IfErr};
 ghost use Rattle.std.specs.Io.KnownBytes.{Consumes};
 ghost use Rattle.counted_io.specs.Streams.{streams};

@@ -1,4 +1,4 @@
-// Which requests are begun.
+//! Which requests are begun.
 ghost use Rattle.std.specs.Prelude.{◌≡◌, IfOk, length, Err, Ok};
 ghost use Rattle.request_queue.specs.Flights.{IsAdmissible, IsWorkOn, writes};
 ghost use Rattle.request_queue.specs.Ranges.{IsInside};

@@ -1,4 +1,4 @@
-// Why calls of a queue are refused, and how a run fails.
+//! Why calls of a queue are refused, and how a run fails.
 ghost use Rattle.std.specs.Prelude.{◌≡◌};
 ghost use Rattle.request_queue.specs.SubmitFaults.{submit_name, submit_number};
 

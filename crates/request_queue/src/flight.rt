@@ -1,4 +1,4 @@
-// Requests in flight.
+//! Requests in flight.
 ghost use Rattle.std.specs.Prelude.{◌≡◌, OnOk, IfErr, find, option_map, position};
 ghost use Rattle.request_queue.specs.Flights.{FlightRecord, has_ticket, reply_to, work_record};
 ghost use Rattle.request_queue.specs.Flights.{IsSoundFlight};

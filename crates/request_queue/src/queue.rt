@@ -1,4 +1,4 @@
-// A queue of requests over a stack.
+//! A queue of requests over a stack.
 ghost use Rattle.std.specs.Prelude.{◌≡◌, ◌≢◌, [], length, option_map, IfOk, IfErr, Ok, Err, None};
 ghost use Rattle.request_queue.specs.Laws.{QueueLaw};
 ghost use Rattle.request_queue.specs.Parts.{EachPart};

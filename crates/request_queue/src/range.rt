@@ -1,4 +1,4 @@
-// Ranges of a mapped device's sectors.
+//! Ranges of a mapped device's sectors.
 ghost use Rattle.std.specs.Prelude.{◌≡◌, ◌+◌, ◌≤◌, ◌<◌, length, IfOk};
 ghost use Rattle.stack_rules.specs.Names.{mapped, size};
 ghost use Rattle.request_queue.specs.Ranges.{IsInside, piece_len, range_of};

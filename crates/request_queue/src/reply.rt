@@ -1,4 +1,4 @@
-// What is answered to a request.
+//! What is answered to a request.
 use stack_engine::{Answer, IoFault};
 
 /// The number of a request, from 1. None is given twice.

@@ -1,4 +1,4 @@
-// What a request in flight does.
+//! What a request in flight does.
 ghost use Rattle.std.specs.Prelude.{ℕ, ◌≡◌, ◌≤◌, ◌+◌, ◌++◌, OnOk, IfOk, IfErr};
 ghost use Rattle.stack_rules.specs.Names.{mapped, size};
 ghost use Rattle.request_queue.specs.Flights.{IsWorkOn, first_work, joint_answer, reply_to, work_record};

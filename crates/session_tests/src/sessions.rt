@@ -1,4 +1,4 @@
-// Sessions over readers and writers that fail, and what no line of a session can ask of a queue.
+//! Sessions over readers and writers that fail, and what no line of a session can ask of a queue.
 use block_device::MemoryDev;
 use counted_io::Counted;
 use request_queue::{Queue, Request};
@@ -6,8 +6,8 @@ use stack_engine::Stack;
 use stack_loader::config_over;
 use stack_session::{LIMIT, SessionFault, session};
 use std::alloc::Global;
-use std::io::{Read, Write};
 use std::io;
+use std::io::{Read, Write};
 use std::rt::HostRuntime;
 use std::test::Fail;
 use table_reader::parse_stack;

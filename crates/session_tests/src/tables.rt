@@ -1,4 +1,4 @@
-// What no command prints or reads: tables as texts of their own, keys, and the stack of one table.
+//! What no command prints or reads: tables as texts of their own, keys, and the stack of one table.
 use dm_table::StackText;
 use std::alloc::Global;
 use std::rt::HostRuntime;

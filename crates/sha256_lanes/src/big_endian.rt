@@ -1,4 +1,4 @@
-// Words of bytes, the first byte the highest.
+//! Words of bytes, the first byte the highest.
 ghost use Rattle.std.specs.Prelude.{◌≡◌, ℕ, ◌+◌, ◌*◌, ◌<◌, ◌≤◌, ◌∷◌, [], length, slice_index};
 ghost use Rattle.sha2.specs.Sha256.{word_at};
 ghost use Rattle.sha256_lanes.specs.Lanes.{word_of_lane};

@@ -1,4 +1,4 @@
-// The digests of eight states.
+//! The digests of eight states.
 ghost use Rattle.std.specs.Prelude.{◌≡◌, ℕ, ◌<◌, [], slice_index_or};
 ghost use Rattle.sha2.specs.Sha256.{digest_bytes};
 ghost use Rattle.sha256_lanes.specs.Lanes.{state_of_lane};

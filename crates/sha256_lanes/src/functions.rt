@@ -1,4 +1,4 @@
-// The functions of FIPS 180-4, section 4.1.2, on vectors of eight words.
+//! The functions of FIPS 180-4, section 4.1.2, on vectors of eight words.
 ghost use Rattle.std.specs.Prelude.{◌≡◌, ℕ, ◌<◌, slice_index};
 ghost use Rattle.sha2.specs.Sha256.{ch, maj, big_sigma0, big_sigma1, small_sigma0, small_sigma1};
 

@@ -1,4 +1,4 @@
-// The hash of eight messages, FIPS 180-4, section 6.2.
+//! The hash of eight messages, FIPS 180-4, section 6.2.
 ghost use Rattle.std.specs.Prelude.{◌≡◌, ℕ, ◌*◌, ◌/◌, ◌+◌, ◌^◌, ◌<◌, [], length, take, drop, slice_index_or};
 ghost use Rattle.sha2.specs.Sha256.{sha256, compress, padded_message};
 ghost use Rattle.sha256_lanes.specs.Lanes.{state_of_lane, message};

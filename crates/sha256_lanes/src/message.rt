@@ -1,4 +1,4 @@
-// The message blocks of a padded message that is given in two parts.
+//! The message blocks of a padded message that is given in two parts.
 ghost use Rattle.std.specs.Prelude.{◌≡◌, ℕ, ◌+◌, ◌-◌, ◌*◌, ◌/◌, ◌^◌, ◌<◌, ◌≤◌, ◌++◌, List, length, take, drop, slice_index};
 ghost use Rattle.sha2.specs.Sha256.{padded_message};
 ghost use Rattle.sha256_lanes.specs.Lanes.{message};

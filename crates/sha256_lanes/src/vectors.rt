@@ -1,4 +1,4 @@
-// Operations on vectors of eight words, lane by lane.
+//! Operations on vectors of eight words, lane by lane.
 ghost use Rattle.std.specs.Prelude.{◌≡◌, ℕ, ◌/◌, ◌^◌, ◌<◌, slice_index, bit_and, bit_xor};
 ghost use Rattle.std.specs.Int.{rotate_right, w32};
 ghost use Rattle.sha2.specs.Sha256.{add32};

@@ -1,4 +1,4 @@
-// The rules on leaves.
+//! The rules on leaves.
 ghost use Rattle.std.specs.Prelude.{◌≡◌, ◌==◌, not, nat_lt};
 ghost use Rattle.std.specs.List.{list_any, starts_with};
 ghost use Rattle.std.specs.Str.{bytes_eq};

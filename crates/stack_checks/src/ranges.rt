@@ -1,4 +1,4 @@
-// The rules on the sectors that a line reaches.
+//! The rules on the sectors that a line reaches.
 ghost use Rattle.std.specs.Prelude.{◌≡◌, map};
 ghost use Rattle.std.specs.List.{list_any};
 ghost use Rattle.dm_table.specs.Grammar.{IsTargetOfGrammar};

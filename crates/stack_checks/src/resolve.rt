@@ -1,4 +1,4 @@
-// What the names of each line mean.
+//! What the names of each line mean.
 ghost use Rattle.std.specs.Prelude.{◌≡◌, ◌<◌, ◌≤◌, ◌^◌, length, slice_index_or, All, IfOk};
 ghost use Rattle.stack_rules.specs.Records.{Configuration, configuration};
 ghost use Rattle.stack_rules.specs.Descend.{most_devices};

@@ -1,4 +1,4 @@
-// The rules on each line.
+//! The rules on each line.
 ghost use Rattle.std.specs.Prelude.{◌≡◌, ◌≤◌, ◌∷◌, [], not, ℕ, option_map, length, All};
 ghost use Rattle.std.specs.List.{list_any};
 ghost use Rattle.dm_table.specs.Grammar.{IsTargetOfGrammar};

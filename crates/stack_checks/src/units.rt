@@ -1,4 +1,4 @@
-// The rules on a line's stripes and units.
+//! The rules on a line's stripes and units.
 ghost use Rattle.std.specs.Prelude.{◌≡◌, ◌∷◌, [], ℕ, option_map};
 ghost use Rattle.dm_table.specs.Grammar.{IsTargetOfGrammar};
 ghost use Rattle.stack_rules.specs.Passing.{refusal_at};

@@ -1,4 +1,4 @@
-// Configurations and stacks from stack texts over leaves.
+//! Configurations and stacks from stack texts over leaves.
 ghost use Rattle.std.specs.Prelude.{◌≡◌, ◌⊎◌, ◌≤◌, ◌^◌, length, map, Ok, Err, IfOk, IfErr};
 ghost use Rattle.stack_rules.specs.Records.{Configuration};
 ghost use Rattle.stack_meaning.specs.Leaves.{ServeLeaves};

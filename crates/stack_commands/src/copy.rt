@@ -1,4 +1,4 @@
-// The command `copy`: copies what can be had of a device.
+//! The command `copy`: copies what can be had of a device.
 ghost use Rattle.std.specs.Prelude.{◌≡◌, ◌≤◌, ◌<◌, false, true, length, map, IsTrue, OnOk, IfOk, IfErr};
 ghost use Rattle.block_device.specs.Device.{Device, synced};
 ghost use Rattle.stack_rules.specs.Names.{mapped, size};

@@ -1,4 +1,4 @@
-// The mapped device that a command goes over.
+//! The mapped device that a command goes over.
 ghost use Rattle.std.specs.Prelude.{◌≡◌, ◌≤◌, ◌<◌, ◌^◌, length, map, IsTrue, IfOk, IfErr, OnOk};
 ghost use Rattle.stack_rules.specs.Names.{mapped, size};
 ghost use Rattle.stack_meaning.specs.Leaves.{ServeLeaves};

@@ -1,4 +1,4 @@
-// How a command ends early: what is printed, and the status.
+//! How a command ends early: what is printed, and the status.
 ghost use Rattle.std.specs.Prelude.{true, ◌≡◌, ◌⊎◌};
 ghost use Rattle.counted_io.specs.Counted.{Writes};
 ghost use Rattle.stack_commands.specs.Endings.{IsEnd, config_text, counts_text, ending_status, ending_text, too_small_text};

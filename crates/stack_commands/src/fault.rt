@@ -1,4 +1,4 @@
-// Why a command of the program ends early.
+//! Why a command of the program ends early.
 ghost use Rattle.std.specs.Prelude.{◌≡◌};
 ghost use Rattle.stack_commands.specs.declared.fault.CommandFault.TheVariants as command_fault;
 ghost use Rattle.stack_session.specs.declared.fault.SessionFault.TheVariants as session_fault;

@@ -1,4 +1,4 @@
-// The command `load`: checks a stack, and says what its devices are.
+//! The command `load`: checks a stack, and says what its devices are.
 ghost use Rattle.std.specs.Prelude.{◌≡◌, ◌⊎◌, ◌≤◌, ◌<◌, ◌^◌, codes, if◌then◌else◌, length, map, Ok, IfErr, OnOk};
 ghost use Rattle.std.specs.Io.KnownBytes.{Appends};
 ghost use Rattle.stack_rules.specs.Records.{Configuration};

@@ -1,4 +1,4 @@
-// The command `nbd`: serves a device to a client of the NBD protocol.
+//! The command `nbd`: serves a device to a client of the NBD protocol.
 ghost use Rattle.std.specs.Prelude.{◌≡◌, ◌≤◌, ◌^◌, length, map, Ok, OnOk, IfOk, IfErr};
 ghost use Rattle.stack_rules.specs.Records.{Configuration};
 ghost use Rattle.stack_meaning.specs.Leaves.{ServeLeaves};

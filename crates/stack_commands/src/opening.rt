@@ -1,4 +1,4 @@
-// Opens what a command line names.
+//! Opens what a command line names.
 ghost use Rattle.std.specs.Prelude.{false, ◌≡◌, ◌++◌, [], ◌∷◌, map, IfOk, IfErr, OnOk};
 ghost use Rattle.stack_meaning.specs.Leaves.{ServeLeaves};
 ghost use Rattle.stack_commands.specs.Bindings.{AreBound, IsDeviceOf};

@@ -1,4 +1,4 @@
-// The whole program: its words, a reader and a writer in, the status out.
+//! The whole program: its words, a reader and a writer in, the status out.
 ghost use Rattle.std.specs.Prelude.{false, ◌≡◌, ◌⊎◌, ℕ, List, Option, map, string_bytes, OnOk, IfErr};
 ghost use Rattle.counted_io.specs.Streams.{streams};
 ghost use Rattle.command_line.specs.CommandWords.{image_record, invocation_record};

@@ -1,4 +1,4 @@
-// The command `read`: loads a stack, and prints sectors of one of its devices.
+//! The command `read`: loads a stack, and prints sectors of one of its devices.
 ghost use Rattle.std.specs.Prelude.{◌≡◌, ◌≤◌, ◌^◌, length, map, Ok, OnOk, IfOk, IfErr};
 ghost use Rattle.std.specs.Io.KnownBytes.{Appends};
 ghost use Rattle.stack_rules.specs.Records.{Configuration};

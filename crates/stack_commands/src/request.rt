@@ -1,4 +1,4 @@
-// Requests that a command makes of a stack.
+//! Requests that a command makes of a stack.
 ghost use Rattle.std.specs.Prelude.{◌≡◌, IfOk, IfErr};
 ghost use Rattle.request_queue.specs.Requests.{request_record};
 ghost use Rattle.stack_commands.specs.Requests.{FailsToServe, IsServed};

@@ -1,4 +1,4 @@
-// The command `scan`: says which sectors of a device are lost.
+//! The command `scan`: says which sectors of a device are lost.
 ghost use Rattle.std.specs.Prelude.{map, OnOk, IfErr};
 ghost use Rattle.command_line.specs.Bindings.{binding_record};
 ghost use Rattle.stack_commands.specs.Recoveries.{IsScanEnd, PrintsStates, device_words};

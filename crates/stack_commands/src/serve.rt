@@ -1,4 +1,4 @@
-// The command `session`: serves the lines of a reader.
+//! The command `session`: serves the lines of a reader.
 ghost use Rattle.std.specs.Prelude.{false, ◌≡◌, map, Ok, OnOk, IfErr};
 ghost use Rattle.counted_io.specs.Streams.{streams};
 ghost use Rattle.command_line.specs.Bindings.{binding_record};

@@ -1,4 +1,4 @@
-// Files of which the first bytes are taken: stack texts, and what is written.
+//! Files of which the first bytes are taken: stack texts, and what is written.
 ghost use Rattle.std.specs.Prelude.{false, ◌≡◌, ◌≤◌, ◌^◌, length, IfOk, IfErr};
 ghost use Rattle.stack_commands.specs.Openings.{IsReadEnd, IsTextEnd};
 

@@ -1,4 +1,4 @@
-// The command `write`: loads a stack, and writes a file's bytes to one of its devices.
+//! The command `write`: loads a stack, and writes a file's bytes to one of its devices.
 ghost use Rattle.std.specs.Prelude.{◌≡◌, ◌≤◌, ◌^◌, List, length, map, Ok, OnOk, IfOk, IfErr};
 ghost use Rattle.block_device.specs.Device.{Device};
 ghost use Rattle.stack_rules.specs.Records.{Configuration};

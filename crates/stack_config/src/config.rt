@@ -1,4 +1,4 @@
-// A loaded configuration.
+//! A loaded configuration.
 ghost use Rattle.std.specs.Prelude.{◌≡◌, ◌<◌, length, Some, [], option_map, IsTrue, is_some};
 ghost use Rattle.stack_rules.specs.Names.{device_named, name_of, lines_of, mapped, size, may_write};
 ghost use Rattle.stack_rules.specs.Descend.{depth, read_cost, write_cost};

@@ -1,4 +1,4 @@
-// What is computed once of a configuration.
+//! What is computed once of a configuration.
 use crate::keys::DeviceKeys;
 use crate::zero_digests::ZeroDigests;
 use stack_rules::DeviceLowers;

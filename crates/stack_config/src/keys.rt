@@ -1,4 +1,4 @@
-// The keys of crypt lines.
+//! The keys of crypt lines.
 ghost use Rattle.std.specs.Prelude.{◌≡◌, ◌==◌, IsTrue, is_some, find, Some, option_copied};
 ghost use Rattle.std.specs.Option.{option_map};
 

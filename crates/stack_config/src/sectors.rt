@@ -1,4 +1,4 @@
-// The line of a sector.
+//! The line of a sector.
 ghost use Rattle.std.specs.Prelude.{◌<◌, ◌^◌, length};
 ghost use Rattle.stack_rules.specs.Names.{sectors_of};
 ghost use Rattle.stack_rules.specs.Lines.{IsIn, Follow, StartsBy};

@@ -1,4 +1,4 @@
-// The digests of data blocks of zeros, of the verity lines that ignore such blocks.
+//! The digests of data blocks of zeros, of the verity lines that ignore such blocks.
 ghost use Rattle.std.specs.Prelude.{◌≡◌, slice_get, option_and_then};
 
 use std::marker::Model;

@@ -1,4 +1,4 @@
-// Costs of all devices.
+//! Costs of all devices.
 ghost use Rattle.std.specs.Prelude.{◌≡◌, ◌<◌, ◌≤◌, ◌+◌, ◌^◌, ℕ, List, length, map, slice_index, slice_get, All, IfOk};
 ghost use Rattle.std.specs.Option.{option_map_or};
 ghost use Rattle.dm_table.specs.declared.table.Target.TheVariants as target;

@@ -1,4 +1,4 @@
-// Devices that stand on themselves.
+//! Devices that stand on themselves.
 ghost use Rattle.std.specs.Prelude.{◌≡◌, ◌<◌, ◌≤◌, ◌+◌, ◌&&◌, ◌||◌, ℕ, Bool, zero, length, IfOk};
 ghost use Rattle.stack_rules.specs.Records.{Configuration};
 ghost use Rattle.stack_rules.specs.Descend.{most_devices};

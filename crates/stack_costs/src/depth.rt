@@ -1,4 +1,4 @@
-// Depths of all devices.
+//! Depths of all devices.
 ghost use Rattle.std.specs.Prelude.{◌≡◌, ◌<◌, ◌≤◌, ◌+◌, ℕ, length, map, replicate, slice_index, IfOk};
 ghost use Rattle.stack_rules.specs.Descend.{most_devices};
 ghost use Rattle.stack_costs.specs.Depths.{greatest_in, round, rounds};

@@ -1,4 +1,4 @@
-// A set of mapped devices.
+//! A set of mapped devices.
 
 /// Some of the mapped devices of a configuration, by their places: a bit for each of 64.
 #[derive(Clone, Copy)]

@@ -1,4 +1,4 @@
-// Which devices each device names.
+//! Which devices each device names.
 ghost use Rattle.std.specs.Prelude.{◌≡◌, ◌<◌, ◌≤◌, ◌||◌, ℕ, length, IfOk};
 ghost use Rattle.std.specs.List.{list_any};
 ghost use Rattle.stack_rules.specs.Records.{Configuration};

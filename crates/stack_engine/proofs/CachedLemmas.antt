@@ -44,7 +44,7 @@ found_capacity cache None = refl
 found_capacity cache (Some b) = refl
 
 module _ (c : Configuration) where
-  kept-read : {old new : List Device} {n : ℕ} (cache : CacheRecord) → AreRead old n new → All (IsCached c old) cache.blocks → All (IsCached c new) cache.blocks
+  pub kept-read : {old new : List Device} {n : ℕ} (cache : CacheRecord) → AreRead old n new → All (IsCached c old) cache.blocks → All (IsCached c new) cache.blocks
   kept-read {old = old} {new = new} cache a all i d h =
       let one = all i d h in
       let key = (get_or cache.blocks i d).key in
@@ -71,7 +71,7 @@ module _ (c : Configuration) where
         ∙ ap (λ (k : ℕ). span (λ s. ((place_of c extent.lower).said s).means images) extent.first k) (sym at.sectors)
 
     -- a block that is kept answers a read of its place
-    hit : {A : Type 0} (bytes_of : A → List ℕ) (x : A) (expected : List ℕ) (leaves : List Device) (b : CachedBlock) → b.key ≡ key → b.digest ≡ expected → bytes_of x ≡ b.bytes → IsCached c leaves b
+    pub hit : {A : Type 0} (bytes_of : A → List ℕ) (x : A) (expected : List ℕ) (leaves : List Device) (b : CachedBlock) → b.key ≡ key → b.digest ≡ expected → bytes_of x ≡ b.bytes → IsCached c leaves b
         → Gets (checked_expected bytes_of (place_of c extent.lower) extent.first extent.sectors salt expected) leaves leaves (Ok x)
     hit bytes_of x expected leaves b same_key same_digest is one =
         let line : HasVerity c key.device key.line one.verity = subst (λ (k : Key). HasVerity c k.device k.line one.verity) same_key one.line in
@@ -102,22 +102,27 @@ module _ (c : Configuration) where
         → Gets (checked_expected bytes_of (place_of c extent.lower) extent.first extent.sectors salt expected) leaves leaves (Ok x)
     cached-hit bytes_of x expected leaves cache all is = hit_of bytes_of x expected leaves cache.blocks all.kept (block_under key expected cache.blocks) refl is
 
+    -- a block that was read and checked
+    pub cached-one : {A : Type 0} (bytes_of : A → List ℕ) (x : A) (expected : List ℕ) {old new : List Device}
+        → Gets (checked_expected bytes_of (place_of c extent.lower) extent.first extent.sectors salt expected) old new (Ok x) → IsCached c new (record { key = key; digest = expected; bytes = bytes_of x })
+    cached-one bytes_of x expected {old = old} {new = new} got = record {
+      verity = at.verity;
+      line = at.line;
+      block = (got.may.0 ∙ ap (λ (k : ℕ). 512 * k) at.sectors, ap (λ (s : List ℕ). digest s (bytes_of x)) at.salt_is ∙ got.may.1);
+      exact = λ steady.
+          let before : AllSteady old = AllSteady-kept new old (sym got.moved.moved.fixed) steady in
+          spans (images_of new)
+          ∙ ap (λ (m : Images). span (λ s. ((place_of c extent.lower).said s).means m) extent.first extent.sectors) (images-kept got.moved before)
+          ∙ passed salt expected (span (λ s. ((place_of c extent.lower).said s).means (images_of old)) extent.first extent.sectors) (bytes_of x) (got.exact before);
+    }
+
     -- a block that was read and checked may be kept
     cached-kept : {A : Type 0} (bytes_of : A → List ℕ) (x : A) (expected : List ℕ) {old new : List Device} (cache : CacheRecord)
         → Gets (checked_expected bytes_of (place_of c extent.lower) extent.first extent.sectors salt expected) old new (Ok x) → All (IsCached c new) cache.blocks
         → All (IsCached c new) (cache_after_keep (record { key = key; digest = expected; bytes = bytes_of x }) cache).blocks
     cached-kept bytes_of x expected {old = old} {new = new} cache got all =
         All-after_keep (IsCached c new) (record { key = key; digest = expected; bytes = bytes_of x }) cache
-        (record {
-          verity = at.verity;
-          line = at.line;
-          block = (got.may.0 ∙ ap (λ (k : ℕ). 512 * k) at.sectors, ap (λ (s : List ℕ). digest s (bytes_of x)) at.salt_is ∙ got.may.1);
-          exact = λ steady.
-              let before : AllSteady old = AllSteady-kept new old (sym got.moved.moved.fixed) steady in
-              spans (images_of new)
-              ∙ ap (λ (m : Images). span (λ s. ((place_of c extent.lower).said s).means m) extent.first extent.sectors) (images-kept got.moved before)
-              ∙ passed salt expected (span (λ s. ((place_of c extent.lower).said s).means (images_of old)) extent.first extent.sectors) (bytes_of x) (got.exact before);
-        }) all
+        (cached-one bytes_of x expected got) all
 
     -- that leaves are noted for its line
     noted : (cache after : StackCache) → ((i : ℕ) → contains after.covered i ≡ (contains cache.covered i || stands_on c i extent.lower)) → CoversBlocks c cache.covered cache.blocks.blocks

@@ -1,6 +1,9 @@
 pub mod lemmas
 pub mod PathBlockLemmas
 pub mod CachedLemmas
+pub mod PathLemmas
+pub mod BlocksLemmas
+pub mod NextBlockLemmas
 pub mod StackLemmas
 pub mod BlockPartLemmas
 pub mod WritablePlainLemmas

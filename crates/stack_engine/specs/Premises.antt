@@ -5,6 +5,7 @@ use Rattle.stack_rules.specs.Records.{Configuration}
 use Rattle.stack_lines.specs.declared.source.Source.{Source}
 use Rattle.stack_meaning.specs.Found.{FoundRecord}
 use Rattle.stack_meaning.specs.Kept.{AllKept}
+use Rattle.stack_lines.specs.AtOnce.{CanGo}
 use Rattle.stack_lines.specs.Sources.{SourceHolds}
 use Rattle.stack_lines.specs.Writing.{AreSectors, SourceMayWrite}
 use Rattle.stack_lines.specs.Caches.{StackCache}
@@ -20,6 +21,7 @@ pub record CanRead (c : Configuration) (leaves : List Device) (cache : StackCach
   pub stack : IsStack c leaves cache
   pub kept : AllKept c leaves found
   pub fits : FitsIn c source buffer
+  pub can_go : CanGo c source (length buffer / 512) found
 
 -- those bytes can be written to the source
 pub record CanWrite (c : Configuration) (leaves : List Device) (cache : StackCache) (source : Source) (bytes : List ℕ) : Type 0 where

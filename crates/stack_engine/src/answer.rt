@@ -1,4 +1,4 @@
-// What a read answers.
+//! What a read answers.
 use stack_meaning::Found;
 use std::marker::Model;
 

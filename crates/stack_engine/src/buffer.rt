@@ -1,4 +1,4 @@
-// The buffers of pieces.
+//! The buffers of pieces.
 ghost use Rattle.std.specs.Prelude.{◌≡◌, ◌≤◌, ◌+◌, ◌*◌, ◌/◌, length, replicate, IfOk, OnErr, vec_len};
 ghost use Rattle.stack_rules.specs.Names.{mapped, size};
 ghost use Rattle.stack_rules.specs.Rules.{IsLoaded};

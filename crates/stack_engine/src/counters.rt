@@ -1,4 +1,4 @@
-// What the leaves have counted.
+//! What the leaves have counted.
 ghost use Rattle.std.specs.Prelude.{◌≡◌, map};
 ghost use Rattle.block_device.specs.Device.{capped};
 ghost use Rattle.stack_meaning.specs.Leaves.{reads_of, writes_of};

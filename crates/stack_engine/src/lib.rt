@@ -5,6 +5,7 @@ mod answer;
 mod buffer;
 mod counters;
 pub mod laws;
+mod path;
 mod read;
 mod reader;
 mod stack;

@@ -1,5 +1,9 @@
-// Reads through the lines of a stack, down to its leaves.
-ghost use Rattle.std.specs.Prelude.{◌/◌, List, length, map};
+//! Reads through the lines of a stack, down to its leaves.
+ghost use Rattle.std.specs.Prelude.{◌≡◌, ◌≤◌, ◌<◌, ◌*◌, ◌/◌, List, length, map, take, get_or, All, OnOk, IfOk, IfErr, Err};
+ghost use Rattle.tree_shape.specs.Shape.{levels};
+ghost use Rattle.stack_rules.specs.Trees.{tree_of};
+ghost use Rattle.stack_meaning.specs.Blocks.{hash_sectors};
+ghost use Rattle.stack_meaning.specs.Leaves.{AreRead};
 ghost use Rattle.stack_rules.specs.Names.{mapped};
 ghost use Rattle.stack_lines.specs.declared.source.Source.TheVariants.{Below};
 ghost use Rattle.stack_meaning.specs.Found.{FoundRecord};
@@ -8,12 +12,14 @@ ghost use Rattle.stack_meaning.specs.Meaning.{said_at};
 ghost use Rattle.stack_meaning.specs.Reading.{Gets, Reads, IsPlain, buffer_answer};
 ghost use Rattle.stack_lines.specs.Sources.{ReadsSource, source_said};
 ghost use Rattle.stack_lines.specs.Extents.{LiesInside};
-ghost use Rattle.stack_lines.specs.Walks.{HasDataBlock, block_in, checked_expected, data_expected, GetsChain};
-ghost use Rattle.stack_lines.specs.Caches.{KeepsCache, IsPlaceOf};
+ghost use Rattle.stack_lines.specs.Walks.{HasDataBlock, block_in, checked_expected, data_expected, GetsChain, IsWalked};
+ghost use Rattle.stack_lines.specs.Caches.{IsCached, KeepsCache, IsPlaceOf};
+ghost use Rattle.verified_cache.specs.Cache.{CachedBlock};
 ghost use Rattle.stack_engine.specs.Stacks.{IsSound, IsStack};
 ghost use Rattle.stack_engine.specs.Premises.{FitsIn, CanRead};
 
 use crate::buffer::{fill_zeros, zero_block, zero_sectors};
+use crate::path::{PathBlock, WantedBlock, keep_chain, put, stands};
 use crate::reader::Reader;
 use block_device::BlockDev;
 use dm_table::Verity;
@@ -24,7 +30,7 @@ use stack_lines::tree::{
     verity_at,
 };
 use stack_lines::units::{MOST, crypt_at, decrypt, take_sectors, unit_at, whole_unit};
-use stack_lines::{BlockPart, Source, run_at};
+use stack_lines::{BlockPart, Source, run_to_read};
 use stack_meaning::{Fault, Found, IoFault};
 use tree_shape::{Digest, Salt, digest_in};
 use verified_cache::Key;
@@ -98,6 +104,7 @@ fn read_run<D: BlockDev>(
         }
         Source::Fails => Err(IoFault::Stack(Fault::ErrorTarget)),
         Source::Block(part) => read_block(config, reader, part, out, found),
+        Source::Blocks(part) => read_blocks(config, reader, part, out, found),
     }
 }
 
@@ -206,6 +213,64 @@ fn read_block<D: BlockDev>(
     }
 }
 
+/// Whole data blocks of a verity line, of their chains, which are found here. The way to the first is read before them;
+/// the blocks are read at once, and each is checked once the way to it was read.
+#[cycle(read)]
+fn read_blocks<D: BlockDev>(
+    config: &Config,
+    reader: &mut Reader<D>,
+    part: BlockPart,
+    out: &mut [u8],
+    found: &mut Vec<Found>,
+) -> Result<(), IoFault>
+    requires { CanRead config.now (map D.state reader.old.devices.items) reader.old.cache found.old.items (Source.Blocks part) out.old }
+    ensures reads { ReadsSource config.now (Source.Blocks part) (length out.old / 512)
+        (record { old = map D.state reader.old.devices.items; new = map D.state reader.new.devices.items; before = found.old.items; after = found.new.items })
+        (buffer_answer result out.new) }
+    ensures cached { KeepsCache config.now (map D.state reader.new.devices.items) reader.old.cache reader.new.cache }
+    ensures plain { IsPlain (source_said config.now (Source.Blocks part)) 0 (length out.old / 512) (map D.state reader.old.devices.items) (map D.state reader.new.devices.items) result }
+{
+    let verity = verity_at(config, part.device, part.line);
+    let tree = tree_at(config, part.device, part.line, verity);
+    let levels = tree.shape.levels() as usize;
+    let size = verity.data_block as usize;
+    let mut index = part.first / u64::from(verity.data_block / 512);
+    let mut path = Vec::new(reader.alloc);
+    let mut expected = match walk_path(config, reader, verity, &tree, index, &mut path) {
+        Err(fault) => return Err(fault),
+        Ok(expected) => expected,
+    };
+    let mut beneath = Vec::new(reader.alloc);
+    match read_lower(config, reader, tree.data, part.first, out, &mut beneath) {
+        Err(fault) => return Err(fault),
+        Ok(()) => {}
+    }
+    let mut room = [Digest::new([0; Digest::SIZE]); 128];
+    let got = &mut room[..out.len() / size];
+    digest_blocks(&verity.salt, size, out, got);
+    let mut at = 0;
+    'checks: loop {
+        if got[at] != expected {
+            return Err(IoFault::Stack(Fault::Mismatch));
+        }
+        let way = &path.as_slice()[..levels];
+        let content = &out[at * size..(at + 1) * size];
+        match keep_chain(reader.alloc, part, index, way, content, found) {
+            Err(_) => return Err(IoFault::NoMemory),
+            Ok(()) => {}
+        }
+        at += 1;
+        if at == got.len() {
+            return Ok(());
+        }
+        index += 1;
+        match walk_path(config, reader, verity, &tree, index, &mut path) {
+            Err(first) => return Err(first),
+            Ok(next) => expected = next,
+        }
+    }
+}
+
 /// The chain of a data block, from the root down to the first block that has another digest.
 #[cycle(read)]
 fn walk<D: BlockDev>(
@@ -308,6 +373,84 @@ fn hash_block<D: BlockDev>(
     }
 }
 
+/// A hash block of a path: the one that stands there, or it is got, and then stands there.
+#[cycle(read)]
+fn path_block<D: BlockDev>(
+    config: &Config,
+    reader: &mut Reader<D>,
+    path: &mut Vec<PathBlock>,
+    at: usize,
+    wanted: &WantedBlock,
+    salt: &Salt,
+) -> Result<(), IoFault>
+    requires stack { IsStack config.now (map D.state reader.old.devices.items) reader.old.cache }
+    requires key { IsPlaceOf config.now salt.now wanted.now.key wanted.now.extent }
+    requires held { All (IsCached config.now (map D.state reader.old.devices.items)) path.old.items }
+    requires at { at ≤ length path.old.items }
+    ensures reads { (x : CachedBlock) → Gets (checked_expected (λ block. block) (place_of config.now wanted.now.extent.lower) wanted.now.extent.first wanted.now.extent.sectors salt.now wanted.now.digest)
+        (map D.state reader.old.devices.items) (map D.state reader.new.devices.items) (buffer_answer result ((get_or path.new.items at x).bytes)) }
+    ensures there { OnOk result (at < length path.new.items) }
+    ensures above { take at path.new.items ≡ take at path.old.items }
+    ensures held { All (IsCached config.now (map D.state reader.new.devices.items)) path.new.items }
+    ensures cached { KeepsCache config.now (map D.state reader.new.devices.items) reader.old.cache reader.new.cache }
+{
+    let key = wanted.key;
+    let digest = wanted.digest;
+    if stands(path.as_slice(), at, key, &digest) {
+        return Ok(());
+    }
+    match hash_block(config, reader, key, wanted.extent, salt, &digest) {
+        Err(fault) => Err(fault),
+        Ok(bytes) => match put(path, at, PathBlock { key, digest, bytes }) {
+            Err(_) => Err(IoFault::NoMemory),
+            Ok(()) => Ok(()),
+        },
+    }
+}
+
+/// The digest that is expected of a data block. Hash blocks that stand on the path of the block before aren't got again.
+#[cycle(read)]
+fn walk_path<D: BlockDev>(
+    config: &Config,
+    reader: &mut Reader<D>,
+    verity: &Verity,
+    tree: &Tree,
+    index: u64,
+    path: &mut Vec<PathBlock>,
+) -> Result<Digest, IoFault>
+    requires stack { IsStack config.now (map D.state reader.old.devices.items) reader.old.cache }
+    requires block { HasDataBlock config.now verity.now tree.now index }
+    requires held { All (IsCached config.now (map D.state reader.old.devices.items)) path.old.items }
+    ensures ok { IfOk result (λ expected. IsWalked (block_in config.now verity.now index) 0 expected (map (λ b. b.bytes) (take (levels (tree_of verity.now)) path.new.items)) (map D.state reader.old.devices.items) (map D.state reader.new.devices.items)) }
+    ensures err { IfErr result (λ fault. GetsChain (block_in config.now verity.now index) (map D.state reader.old.devices.items) (map D.state reader.new.devices.items) (Err fault)) }
+    ensures moved { AreRead (map D.state reader.old.devices.items) (levels (tree_of verity.now) * (hash_sectors verity.now * (block_in config.now verity.now index).on_hash.cost)) (map D.state reader.new.devices.items) }
+    ensures held { All (IsCached config.now (map D.state reader.new.devices.items)) path.new.items }
+    ensures cached { KeepsCache config.now (map D.state reader.new.devices.items) reader.old.cache reader.new.cache }
+{
+    let mut digest = verity.root;
+    let mut at = 0usize;
+    let mut left = tree.shape.levels();
+    while left > 0 {
+        left -= 1;
+        let extent = hash_extent(config, verity, tree, left, index);
+        let key = hash_key(tree, left, index);
+        let wanted = WantedBlock {
+            key,
+            extent,
+            digest,
+        };
+        match path_block(config, reader, path, at, &wanted, &verity.salt) {
+            Err(first) => return Err(first),
+            Ok(()) => {
+                let block = &path.as_slice()[at];
+                digest = digest_in(block.bytes.as_slice(), tree.shape.slot_on_path(left, index));
+                at += 1;
+            }
+        }
+    }
+    Ok(digest)
+}
+
 /// Those sectors as one block, if it has the digest. Chains of lines beneath are dropped.
 #[cycle(read)]
 fn read_checked<D: BlockDev>(
@@ -366,7 +509,7 @@ pub(crate) fn read_device<D: BlockDev>(
     let mut at = 0;
     while at < out.len() {
         let rest = (out.len() - at) as u64 / 512;
-        let run = run_at(config, d, first + at as u64 / 512, rest);
+        let run = run_to_read(config, d, first + at as u64 / 512, rest, found.as_slice());
         let end = at + run.count as usize * 512;
         match read_run(config, reader, run.source, &mut out[at..end], found) {
             Ok(()) => at = end,

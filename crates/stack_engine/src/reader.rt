@@ -1,4 +1,4 @@
-// What reads and writes use beside the configuration.
+//! What reads and writes use beside the configuration.
 use block_device::BlockDev;
 use stack_lines::Cache;
 use std::alloc::Global;

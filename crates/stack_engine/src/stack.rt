@@ -1,4 +1,4 @@
-// A stack: a configuration, and the devices of its leaves.
+//! A stack: a configuration, and the devices of its leaves.
 ghost use Rattle.std.specs.Prelude.{◌≡◌, ◌<◌, ◌≤◌, ◌+◌, ◌/◌, length, map, IsTrue, IsOk, IfOk, IfErr, OnOk, OnErr, None, Some, Err};
 ghost use Rattle.block_device.specs.Device.{capped, synced};
 ghost use Rattle.stack_rules.specs.Names.{mapped, size, may_write};

@@ -1,4 +1,4 @@
-// Has what was written to the leaves put on their media.
+//! Has what was written to the leaves put on their media.
 ghost use Rattle.std.specs.Prelude.{◌≡◌, ◌≤◌, IsOk, IsTrue, OnErr, OnOk, IfErr, length, map};
 ghost use Rattle.block_device.specs.Device.{IsUnsynced, synced};
 ghost use Rattle.stack_engine.specs.Syncs.{FailsToSync};

@@ -1,4 +1,4 @@
-// Writes through the lines of a stack, down to its leaves.
+//! Writes through the lines of a stack, down to its leaves.
 ghost use Rattle.std.specs.Prelude.{◌≡◌, ◌≤◌, ◌-◌, ◌⊎◌, ◌++◌, [], IsTrue, map, take, drop};
 ghost use Rattle.stack_rules.specs.Names.{mapped, may_write};
 ghost use Rattle.stack_lines.specs.declared.source.Source.TheVariants.{Below};
@@ -116,7 +116,7 @@ fn write_run<D: BlockDev>(
         Source::UnitPart(part) => write_unit_part(config, reader, part, buffer),
         Source::Zeros => Ok(()),
         Source::Fails => Err(IoFault::Stack(Fault::ErrorTarget)),
-        Source::Block(_) => unreachable!(),
+        Source::Block(_) | Source::Blocks(_) => unreachable!(),
     }
 }
 

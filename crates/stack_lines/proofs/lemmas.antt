@@ -2,6 +2,7 @@
 pub mod EncryptLemmas
 pub mod ForgetLemmas
 pub mod PutLemmas
+pub mod ReadRunLemmas
 pub mod SizeLemmas
 pub mod SourceLemmas
 pub mod StandingLemmas

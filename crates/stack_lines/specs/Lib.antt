@@ -6,3 +6,4 @@ pub mod Standing
 pub mod Caches
 pub mod Writing
 pub mod Cuts
+pub mod AtOnce

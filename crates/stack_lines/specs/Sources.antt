@@ -19,7 +19,7 @@ use Rattle.stack_lines.specs.declared.source.BlockPart.{BlockPart}
 use Rattle.stack_lines.specs.declared.source.Source.{Source}
 use Rattle.stack_lines.specs.declared.units.UnitAt.{UnitAt}
 use Rattle.stack_lines.specs.declared.units.WholeUnit.{WholeUnit}
-use Rattle.stack_lines.specs.declared.source.Source.TheVariants.{Below, Units, UnitPart, Zeros, Fails, Block}
+use Rattle.stack_lines.specs.declared.source.Source.TheVariants.{Below, Units, UnitPart, Zeros, Fails, Block, Blocks}
 use Rattle.stack_meaning.specs.Units.{unit_first}
 use Rattle.stack_meaning.specs.Puts.{together}
 use Rattle.stack_meaning.specs.Beneath.{beneath, HandsOn}
@@ -46,6 +46,13 @@ pub record LieInBlock (c : Configuration) (d l w n : ℕ) : Type 0 where
   pub verity : Verity
   pub has : HasTarget c d l (verity_target verity) (w + n)
   pub within : w % block_sectors verity + n ≤ block_sectors verity
+
+-- n sectors of a verity line, the l-th of device d, from its sector w on are whole data blocks
+pub record AreBlocks (c : Configuration) (d l w n : ℕ) : Type 0 where
+  pub verity : Verity
+  pub has : HasTarget c d l (verity_target verity) (w + n)
+  pub aligned : w % block_sectors verity ≡ 0
+  pub whole : n % block_sectors verity ≡ 0
 
 -- line l of device d is a crypt line of these arguments
 abbrev pub HasCrypt : Configuration → ℕ → ℕ → Crypt → Type 0
@@ -103,6 +110,7 @@ ComeFrom c at target w n (UnitPart b) = BeginsAt at.0 at.1 w b × LieInUnit c at
 ComeFrom c at target w n Zeros = target ≡ Zero
 ComeFrom c at target w n Fails = target ≡ Error
 ComeFrom c at target w n (Block b) = BeginsAt at.0 at.1 w b × LieInBlock c at.0 at.1 w n
+ComeFrom c at target w n (Blocks b) = BeginsAt at.0 at.1 w b × AreBlocks c at.0 at.1 w n
 
 -- n sectors of device d from s on lie in one line, and come from there
 pub record IsServed (c : Configuration) (d s n : ℕ) (source : Source) : Type 0 where
@@ -130,6 +138,7 @@ source_said c (UnitPart b) j = part_said c b j
 source_said c Zeros j = zero_said
 source_said c Fails j = error_said
 source_said c (Block b) j = part_said c b j
+source_said c (Blocks b) j = part_said c b j
 
 -- what a sector of the device beneath a part of a crypt line costs
 abbrev pub cost_of_crypt : Configuration → (Lower → ℕ) → Option Line → ℕ
@@ -147,6 +156,7 @@ source_cost c (UnitPart b) = read_cost c (mapped b.device.0)
 source_cost c Zeros = 0
 source_cost c Fails = 0
 source_cost c (Block b) = read_cost c (mapped b.device.0)
+source_cost c (Blocks b) = read_cost c (mapped b.device.0)
 
 abbrev pub source_place : Configuration → Source → Place
 source_place c source = record { said = source_said c source; cost = source_cost c source }
@@ -159,8 +169,9 @@ source_depth c (UnitPart b) = depth c (mapped b.device.0)
 source_depth c Zeros = 0
 source_depth c Fails = 0
 source_depth c (Block b) = depth c (mapped b.device.0)
+source_depth c (Blocks b) = depth c (mapped b.device.0)
 
--- n sectors of it lie inside the lower device, are units, or lie in one unit or data block
+-- n sectors of it lie inside the lower device, are units or data blocks, or lie in one of these
 abbrev pub SourceHolds : Configuration → Source → ℕ → Type 0
 SourceHolds c (Below lower first) n = first + n ≤ size c lower
 SourceHolds c (Units b) n = AreUnits c b.device.0 b.line b.first n
@@ -168,6 +179,7 @@ SourceHolds c (UnitPart b) n = LieInUnit c b.device.0 b.line b.first n
 SourceHolds c Zeros n = Unit {0}
 SourceHolds c Fails n = Unit {0}
 SourceHolds c (Block b) n = LieInBlock c b.device.0 b.line b.first n
+SourceHolds c (Blocks b) n = AreBlocks c b.device.0 b.line b.first n
 
 -- a read of its first n sectors
 abbrev pub ReadsSource : Configuration → Source → ℕ → Read → Result (List ℕ) IoFault → Type 0

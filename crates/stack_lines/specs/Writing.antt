@@ -11,7 +11,7 @@ use Rattle.stack_meaning.specs.declared.fault.Fault.TheVariants as why
 use Rattle.stack_meaning.specs.declared.fault.IoFault.TheVariants as io
 use Rattle.stack_lines.specs.declared.source.BlockPart.{BlockPart}
 use Rattle.stack_lines.specs.declared.source.Source.{Source}
-use Rattle.stack_lines.specs.declared.source.Source.TheVariants.{Below, Units, UnitPart, Zeros, Fails, Block}
+use Rattle.stack_lines.specs.declared.source.Source.TheVariants.{Below, Units, UnitPart, Zeros, Fails, Block, Blocks}
 use Rattle.stack_meaning.specs.Sectors.{SomeOf}
 use Rattle.stack_meaning.specs.declared.fault.Fault.{Fault}
 use Rattle.stack_meaning.specs.Outcomes.{error_target, Images}
@@ -100,6 +100,7 @@ source_put c (UnitPart b) j sectors images = part_put c b j sectors images
 source_put c Zeros j sectors images = done images
 source_put c Fails j sectors images = stopped error_target images
 source_put c (Block b) j sectors images = done images
+source_put c (Blocks b) j sectors images = done images
 
 -- the leaf sectors that are written for one of its sectors at most
 abbrev pub source_write_cost : Configuration → Source → ℕ
@@ -109,6 +110,7 @@ source_write_cost c (UnitPart b) = write_cost c (mapped b.device.0)
 source_write_cost c Zeros = 0
 source_write_cost c Fails = 0
 source_write_cost c (Block b) = 0
+source_write_cost c (Blocks b) = 0
 
 -- what it lies on may be written; a verity line's block never is
 abbrev pub SourceMayWrite : Configuration → Source → Type 0
@@ -118,6 +120,7 @@ SourceMayWrite c (UnitPart b) = IsTrue (may_write c (mapped b.device.0))
 SourceMayWrite c Zeros = Unit {0}
 SourceMayWrite c Fails = Unit {0}
 SourceMayWrite c (Block b) = ⊥
+SourceMayWrite c (Blocks b) = ⊥
 
 abbrev pub source_destination : Configuration → Source → Destination
 source_destination c source = record { said = source_said c source; puts = source_put c source; cost = source_write_cost c source }

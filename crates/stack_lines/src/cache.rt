@@ -1,4 +1,4 @@
-// The hash blocks that a stack keeps.
+//! The hash blocks that a stack keeps.
 ghost use Rattle.std.specs.Prelude.{◌≡◌, ◌<◌, ◌||◌, ℕ, option_map, IfOk, OnOk, OnErr};
 ghost use Rattle.stack_rules.specs.Records.{Configuration};
 ghost use Rattle.stack_rules.specs.Rules.{IsLoaded, most_leaves};

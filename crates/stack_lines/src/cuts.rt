@@ -1,4 +1,4 @@
-// Whether a write may be cut in two, which asks no device.
+//! Whether a write may be cut in two, which asks no device.
 ghost use Rattle.std.specs.Prelude.{IsTrue};
 ghost use Rattle.stack_rules.specs.Names.{mapped};
 ghost use Rattle.stack_rules.specs.Rules.{IsLoaded};
@@ -66,7 +66,7 @@ fn run_cuts(config: &Config, source: Source, count: u64, steps: Steps) -> bool
         Source::Units(part) => units_cut(config, part, count, steps),
         Source::UnitPart(_) => false,
         Source::Zeros | Source::Fails => true,
-        Source::Block(_) => false,
+        Source::Block(_) | Source::Blocks(_) => false,
     }
 }
 

@@ -1,4 +1,4 @@
-// Whether a write of sectors encrypts some of them, which asks no device.
+//! Whether a write of sectors encrypts some of them, which asks no device.
 ghost use Rattle.std.specs.Prelude.{◌↔◌, ◌<◌, ◌≤◌, ◌+◌, IsTrue};
 ghost use Rattle.stack_rules.specs.Names.{mapped, size};
 ghost use Rattle.stack_rules.specs.Rules.{IsLoaded};
@@ -37,6 +37,7 @@ fn run_encrypts(config: &Config, source: Source, count: u64) -> bool
         Source::UnitPart(_) => true,
         Source::Zeros | Source::Fails => false,
         Source::Block(_) => false,
+        Source::Blocks(_) => false,
     }
 }
 

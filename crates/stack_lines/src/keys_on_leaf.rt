@@ -1,4 +1,4 @@
-// The keys of the hash blocks that stand on a leaf.
+//! The keys of the hash blocks that stand on a leaf.
 ghost use Rattle.std.specs.Prelude.{◌≡◌, ◌<◌, length};
 ghost use Rattle.stack_rules.specs.Names.{lines_of};
 ghost use Rattle.stack_rules.specs.Rules.{IsLoaded, most_leaves};

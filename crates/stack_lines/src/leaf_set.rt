@@ -1,4 +1,4 @@
-// A set of leaves.
+//! A set of leaves.
 
 /// Some of the leaves of a configuration, by their places: a bit for each of 64.
 #[derive(Clone, Copy)]

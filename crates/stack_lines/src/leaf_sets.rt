@@ -1,4 +1,4 @@
-// The leaves on which each mapped device stands.
+//! The leaves on which each mapped device stands.
 ghost use Rattle.std.specs.Prelude.{◌≡◌, ◌<◌, ◌+◌, ℕ, length};
 ghost use Rattle.std.specs.List.{list_any};
 ghost use Rattle.dm_table.specs.Grammar.{IsTargetOfGrammar};

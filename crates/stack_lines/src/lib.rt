@@ -2,11 +2,13 @@
 #![tactic(auto)]
 
 mod cache;
+mod clear;
 mod cuts;
 mod encrypts;
 mod keys_on_leaf;
 mod leaf_set;
 mod leaf_sets;
+mod read_runs;
 mod serve;
 mod source;
 pub mod tree;
@@ -16,5 +18,6 @@ mod unstriped;
 pub use cache::Cache;
 pub use cuts::{Steps, lower_cuts};
 pub use encrypts::device_encrypts;
+pub use read_runs::run_to_read;
 pub use serve::run_at;
 pub use source::{BlockPart, Run, Source};

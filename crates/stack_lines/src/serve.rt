@@ -1,8 +1,9 @@
-// The run of sectors at a place of a device.
+//! The run of sectors at a place of a device.
 ghost use Rattle.std.specs.Prelude.{◌≡◌, ◌<◌, ◌≤◌, ◌+◌, ◌%◌};
 ghost use Rattle.dm_table.specs.Grammar.{IsStripedOfGrammar, IsTargetOfGrammar, IsVerityOfGrammar};
 ghost use Rattle.stack_rules.specs.Names.{mapped, size};
 ghost use Rattle.stack_rules.specs.Rules.{IsLoaded};
+ghost use Rattle.stack_rules.specs.Trees.{block_sectors};
 ghost use Rattle.stack_rules.specs.Units.{unit_sectors};
 ghost use Rattle.stack_lines.specs.Sources.{ComeFrom, HasTarget};
 ghost use Rattle.stack_lines.specs.Runs.{HasSectors, IsRunOfLine, IsRunAt};
@@ -106,14 +107,39 @@ fn striped_run(config: &Config, from: BlockPart, chunk: u64, bases: &[Base], cou
     }
 }
 
+/// The whole data blocks from that sector on.
+fn blocks_run(config: &Config, d: DevId, line: u32, verity: &Verity, within: u64, count: u64) -> Run
+    requires loaded { IsLoaded config.now }
+    requires line { HasTarget config.now d.0 line (Target.Verity verity.now) (within + count) }
+    requires some { 0 < block_sectors verity.now }
+    requires aligned { within % block_sectors verity.now ≡ 0 }
+    requires enough { block_sectors verity.now ≤ count }
+    ensures { IsRunOfLine config.now (d.0, line) (Target.Verity verity.now) within count result }
+{
+    let _config = config;
+    let sectors = u64::from(verity.data_block / 512);
+    let count = count - count % sectors;
+    let part = BlockPart {
+        device: d,
+        line,
+        first: within,
+    };
+    Run {
+        source: Source::Blocks(part),
+        count,
+    }
+}
+
 /// The sectors that lie in one data block.
-fn verity_run(config: &Config, d: DevId, line: u32, verity: &Verity, within: u64, count: u64) -> Run
+fn block_run(config: &Config, d: DevId, line: u32, verity: &Verity, within: u64, count: u64) -> Run
     requires loaded { IsLoaded config.now }
     requires grammar { IsVerityOfGrammar verity.now }
     requires line { HasSectors config.now d.0 line (Target.Verity verity.now) within count }
     ensures { IsRunOfLine config.now (d.0, line) (Target.Verity verity.now) within count result }
 {
-    let sectors = u64::from(verity.data_block / 512);
+    let _config = config;
+    let few = verity.data_block / 512;
+    let sectors = u64::from(few);
     let count = count.min(sectors - within % sectors);
     let part = BlockPart {
         device: d,
@@ -124,6 +150,23 @@ fn verity_run(config: &Config, d: DevId, line: u32, verity: &Verity, within: u64
         source: Source::Block(part),
         count,
     }
+}
+
+/// Whole data blocks, or sectors of one block.
+fn verity_run(config: &Config, d: DevId, line: u32, verity: &Verity, within: u64, count: u64) -> Run
+    requires loaded { IsLoaded config.now }
+    requires grammar { IsVerityOfGrammar verity.now }
+    requires line { HasSectors config.now d.0 line (Target.Verity verity.now) within count }
+    ensures { IsRunOfLine config.now (d.0, line) (Target.Verity verity.now) within count result }
+{
+    let sectors = u64::from(verity.data_block / 512);
+    if within % sectors != 0 {
+        return block_run(config, d, line, verity, within, count);
+    }
+    if count < sectors {
+        return block_run(config, d, line, verity, within, count);
+    }
+    blocks_run(config, d, line, verity, within, count)
 }
 
 /// The longest run of so many sectors of a line at most.

@@ -1,4 +1,4 @@
-// Where the sectors of a device come from and go to.
+//! Where the sectors of a device come from and go to.
 use stack_config::{DevId, Lower};
 
 /// What gives and takes the sectors of a run, from its first to its last alike.
@@ -16,6 +16,8 @@ pub enum Source {
     Fails,
     /// Sectors of one data block of a `verity` line, which is never written.
     Block(BlockPart),
+    /// Whole data blocks of a `verity` line, which are never written.
+    Blocks(BlockPart),
 }
 
 /// The sectors of a line from that one on, in the data block or the units that have them. Lines of a device and

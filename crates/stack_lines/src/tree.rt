@@ -1,4 +1,4 @@
-// What a read of a `verity` line's blocks uses.
+//! What a read of a `verity` line's blocks uses.
 ghost use Rattle.std.specs.Prelude.{◌≡◌, ◌<◌, ◌≤◌, ◌+◌, ◌*◌, ℕ, length, take, drop, get_or, IfSome, IfNone};
 ghost use Rattle.tree_shape.specs.Shape.{ancestor, levels};
 ghost use Rattle.stack_rules.specs.Rules.{IsLoaded};

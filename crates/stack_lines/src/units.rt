@@ -1,4 +1,4 @@
-// The units of `crypt` lines.
+//! The units of `crypt` lines.
 ghost use Rattle.std.specs.Prelude.{◌≡◌, ℕ, ◌<◌, ◌≤◌, ◌+◌, ◌*◌, ◌%◌, ◌^◌, ◌++◌, length, slice_index, take, drop};
 ghost use Rattle.stack_rules.specs.Rules.{IsLoaded};
 ghost use Rattle.dm_table.specs.Crypt.{sector_size};

@@ -1,4 +1,4 @@
-// The run of sectors of an unstriped line.
+//! The run of sectors of an unstriped line.
 ghost use Rattle.std.specs.Prelude.{◌≡◌};
 ghost use Rattle.dm_table.specs.Grammar.{IsUnstripedOfGrammar};
 ghost use Rattle.stack_rules.specs.Rules.{IsLoaded};

@@ -1,4 +1,4 @@
-// A configuration to come, checked by all rules.
+//! A configuration to come, checked by all rules.
 ghost use Rattle.std.specs.Prelude.{◌≡◌, ◌≤◌, length, nat_lt};
 ghost use Rattle.std.specs.List.{list_any};
 ghost use Rattle.stack_rules.specs.Records.{configuration};

@@ -1,4 +1,4 @@
-// The keys of crypt lines, made ready once at loading.
+//! The keys of crypt lines, made ready once at loading.
 ghost use Rattle.std.specs.Prelude.{◌≡◌, ◌≤◌, ◌<◌, ◌^◌, length, All, IfOk};
 ghost use Rattle.dm_table.specs.Grammar.{IsTargetOfGrammar, IsLineOfGrammar};
 ghost use Rattle.stack_config.specs.Keys.{keys_from, AreKeys};

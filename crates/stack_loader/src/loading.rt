@@ -1,4 +1,4 @@
-// New configurations, and loads into them.
+//! New configurations, and loads into them.
 ghost use Rattle.std.specs.Prelude.{◌≡◌, None, Some, [], IfOk, IfErr, OnOk, OnErr, Err};
 ghost use Rattle.stack_rules.specs.Leaves.{first_fault};
 ghost use Rattle.stack_rules.specs.declared.refusal.Refusal.{Refusal};

@@ -1,4 +1,4 @@
-// The devices after a load.
+//! The devices after a load.
 ghost use Rattle.std.specs.Prelude.{◌≡◌, ◌++◌, [], is_none, map, filter, find, position, option_copied, IfOk};
 ghost use Rattle.std.specs.Str.{bytes_eq};
 ghost use Rattle.stack_rules.specs.Rules.{replacement, new_device, first, duplicate_names};

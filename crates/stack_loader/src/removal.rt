@@ -1,4 +1,4 @@
-// The removal of a mapped device.
+//! The removal of a mapped device.
 ghost use Rattle.std.specs.Prelude.{◌≡◌, None, Some, IfErr, OnOk, OnErr};
 ghost use Rattle.std.specs.List.{list_any};
 ghost use Rattle.stack_rules.specs.Cycles.{is_mapped};

@@ -1,4 +1,4 @@
-// The digests of data blocks of zeros, made once at loading for the verity lines that ignore such blocks.
+//! The digests of data blocks of zeros, made once at loading for the verity lines that ignore such blocks.
 ghost use Rattle.std.specs.Prelude.{◌≡◌, ◌≤◌, All, IfOk};
 ghost use Rattle.dm_table.specs.Grammar.{IsTargetOfGrammar, IsLineOfGrammar};
 ghost use Rattle.tree_shape.specs.Digests.{digest};

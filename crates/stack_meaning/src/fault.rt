@@ -1,4 +1,4 @@
-// How an access to a stack ends where it doesn't succeed.
+//! How an access to a stack ends where it doesn't succeed.
 use thiserror::Error;
 
 /// Why a sector has no bytes, over leaves that don't fail.

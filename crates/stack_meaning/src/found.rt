@@ -1,4 +1,4 @@
-// What a read finds on its way through a stack.
+//! What a read finds on its way through a stack.
 use hash_tree::Chain;
 use std::marker::Model;
 

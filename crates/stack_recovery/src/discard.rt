@@ -1,4 +1,4 @@
-// A device that keeps nothing.
+//! A device that keeps nothing.
 ghost use Rattle.std.specs.Prelude.{◌≡◌, ◌≤◌, ◌^◌, ◌==◌, false, true, not, refl};
 ghost use Rattle.block_device.specs.Device.{zeros_image};
 ghost use Rattle.block_device.specs.Whole.{whole_zeros};

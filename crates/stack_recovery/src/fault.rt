@@ -1,4 +1,4 @@
-// Why a device isn't gone over to its end.
+//! Why a device isn't gone over to its end.
 ghost use Rattle.std.specs.Prelude.{◌≡◌};
 ghost use Rattle.stack_recovery.specs.declared.fault.RecoveryFault.TheVariants as recovery_fault;
 

@@ -1,4 +1,4 @@
-// A run of sectors that are lost by one fault.
+//! A run of sectors that are lost by one fault.
 ghost use Rattle.std.specs.Prelude.{◌≡◌};
 ghost use Rattle.counted_io.specs.Counted.{Writes};
 ghost use Rattle.stack_recovery.specs.LostRuns.{is_same};

@@ -1,4 +1,4 @@
-// How long the next pieces of a device are.
+//! How long the next pieces of a device are.
 ghost use Rattle.std.specs.Prelude.{◌≡◌, ◌≤◌, ◌<◌, ◌/◌};
 ghost use Rattle.stack_recovery.specs.Pieces.{IsPace};
 

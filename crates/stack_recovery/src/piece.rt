@@ -1,4 +1,4 @@
-// The next piece of a device that is gone over.
+//! The next piece of a device that is gone over.
 ghost use Rattle.std.specs.Prelude.{◌≡◌, ◌+◌, ◌≤◌, ◌<◌, length};
 ghost use Rattle.dm_table.specs.Grammar.{IsTargetOfGrammar};
 ghost use Rattle.stack_rules.specs.Names.{mapped, size};

@@ -1,4 +1,4 @@
-// Going over a mapped device from its first sector to its last.
+//! Going over a mapped device from its first sector to its last.
 ghost use Rattle.std.specs.Prelude.{◌≡◌, ◌≤◌, ◌<◌, length, IsTrue, IfOk, IfErr};
 ghost use Rattle.stack_rules.specs.Names.{mapped, size};
 ghost use Rattle.stack_recovery.specs.Recoveries.{IsRecoveryEnd, Recovers, sides};

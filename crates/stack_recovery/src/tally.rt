@@ -1,4 +1,4 @@
-// The lost sectors of a device, while it is gone over.
+//! The lost sectors of a device, while it is gone over.
 ghost use Rattle.std.specs.Prelude.{◌≡◌, ◌+◌, ◌<◌, ◌≤◌, ◌^◌, None, Some, OnOk};
 ghost use Rattle.counted_io.specs.Counted.{Writes};
 ghost use Rattle.stack_recovery.specs.Tallies.{EndsAt, closed_by, joined, listed, opened_by};

@@ -1,4 +1,4 @@
-// The leaves of a stack.
+//! The leaves of a stack.
 use std::marker::Model;
 
 /// A device at the bottom of a stack, by the name that tables give it.

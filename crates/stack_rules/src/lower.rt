@@ -1,4 +1,4 @@
-// What a line stands on.
+//! What a line stands on.
 
 /// The place of a mapped device in its configuration, from 0.
 #[derive(Clone, Copy, Debug, PartialEq, Eq)]

@@ -1,4 +1,4 @@
-// What the names in a table mean, found once at loading.
+//! What the names in a table mean, found once at loading.
 ghost use Rattle.std.specs.Prelude.{◌≡◌, ◌<◌, length, map, slice_get, get_or, []};
 ghost use Rattle.std.specs.List.{list_any};
 ghost use Rattle.stack_rules.specs.Cycles.{is_mapped};

@@ -1,4 +1,4 @@
-// A mapped device of a configuration.
+//! A mapped device of a configuration.
 ghost use Rattle.std.specs.Prelude.{◌≡◌, IfOk, position};
 ghost use Rattle.std.specs.Str.{bytes_eq};
 ghost use Rattle.stack_rules.specs.Names.{sectors_of};

@@ -1,4 +1,4 @@
-// A mapped device of a configuration to come, of which nothing is copied yet.
+//! A mapped device of a configuration to come, of which nothing is copied yet.
 ghost use Rattle.std.specs.Prelude.{◌≡◌};
 ghost use Rattle.stack_rules.specs.Names.{sectors_of};
 

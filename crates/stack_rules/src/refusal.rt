@@ -1,4 +1,4 @@
-// Why leaves, a load or a removal are refused.
+//! Why leaves, a load or a removal are refused.
 ghost use Rattle.std.specs.Prelude.{◌≡◌};
 ghost use Rattle.stack_rules.specs.declared.refusal.LoadFault.TheVariants as load_fault;
 

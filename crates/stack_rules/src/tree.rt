@@ -1,4 +1,4 @@
-// The data blocks of a verity line and the hash tree over them, of whatever size they are said to be.
+//! The data blocks of a verity line and the hash tree over them, of whatever size they are said to be.
 ghost use Rattle.std.specs.Prelude.{◌≡◌, ◌≤◌, ◌<◌, ◌^◌, option_copied};
 ghost use Rattle.dm_table.specs.Grammar.{IsVerityOfGrammar};
 ghost use Rattle.tree_shape.specs.Shape.{levels, area_blocks};

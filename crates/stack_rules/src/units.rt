@@ -1,4 +1,4 @@
-// The units of a crypt line.
+//! The units of a crypt line.
 ghost use Rattle.std.specs.Prelude.{◌≡◌, ◌≤◌, option_copied};
 ghost use Rattle.stack_rules.specs.Units.{crypt_of, unit_sectors};
 

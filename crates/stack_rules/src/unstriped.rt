@@ -1,4 +1,4 @@
-// The range of an unstriped line.
+//! The range of an unstriped line.
 ghost use Rattle.std.specs.Prelude.{◌≡◌, ◌+◌};
 ghost use Rattle.dm_table.specs.Grammar.{IsUnstripedOfGrammar};
 ghost use Rattle.stack_rules.specs.targets.Unstriped.{striped_span};

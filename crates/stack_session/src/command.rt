@@ -1,4 +1,4 @@
-// What a line of a session asks for.
+//! What a line of a session asks for.
 ghost use Rattle.std.specs.Prelude.{◌≡◌, ◌≤◌, length, option_map, IfSome};
 ghost use Rattle.stack_session.specs.Accesses.{IsSmall, access_record};
 ghost use Rattle.stack_session.specs.Commands.{IsWithin, access_in, access_of, after_word, byte_of, command_of, command_record, command_with, cost, lone_command, moved, only_word, read_of, remove, step, submit, table, ticket_of, write_count, write_of};

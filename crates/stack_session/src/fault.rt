@@ -1,4 +1,4 @@
-// Why a session ends early.
+//! Why a session ends early.
 ghost use Rattle.std.specs.Prelude.{◌≡◌};
 ghost use Rattle.stack_session.specs.declared.fault.SessionFault.TheVariants as session_fault;
 

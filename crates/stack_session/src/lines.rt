@@ -1,4 +1,4 @@
-// A session over any server of lines: reads the input, cuts it into lines, and has each line served.
+//! A session over any server of lines: reads the input, cuts it into lines, and has each line served.
 ghost use Rattle.std.specs.Prelude.{true, false, ◌≡◌, ◌≢◌, ℕ, ◌+◌, ◌≤◌, ◌<◌, List, [], ◌∷◌, ◌++◌, length, take, IfOk, OnOk, OnErr, MatchOption, IsErrOf, ◌⊎◌};
 ghost use Rattle.counted_io.specs.Counted.{Grows, WritesSome};
 ghost use Rattle.stack_session.specs.Session.{IsOneLine, ServesWhole, IsRemembered, IsSession, IsEnding};

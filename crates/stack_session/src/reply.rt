@@ -1,4 +1,4 @@
-// Writes the replies.
+//! Writes the replies.
 ghost use Rattle.std.specs.Prelude.{◌≡◌, ◌+◌, ◌*◌, ◌/◌, ◌%◌, ◌<◌, decimal, ◌^◌, ◌==◌, ◌++◌, codes, length, slice_index};
 ghost use Rattle.std.specs.List.{list_all};
 ghost use Rattle.counted_io.specs.Counted.{Writes};

@@ -1,4 +1,4 @@
-// The lines of a session, served by a queue over a stack.
+//! The lines of a session, served by a queue over a stack.
 ghost use Rattle.std.specs.Prelude.{true, false, ◌≡◌, ◌≤◌, ℕ, List, length};
 ghost use Rattle.stack_session.specs.Accesses.{IsSmall, access_record};
 ghost use Rattle.stack_session.specs.Commands.{load, run, submit, step, remove, cost, table, moved};

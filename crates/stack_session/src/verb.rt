@@ -1,4 +1,4 @@
-// The names of a session's commands.
+//! The names of a session's commands.
 ghost use Rattle.std.specs.Prelude.{◌≡◌};
 ghost use Rattle.stack_session.specs.Commands.{verb_of};
 

@@ -1,4 +1,4 @@
-// The algorithms of digests.
+//! The algorithms of digests.
 ghost use Rattle.std.specs.Prelude.{◌≡◌, ◌≤◌, length};
 ghost use Rattle.tree_shape.specs.Algorithms.{algorithm_name, algorithm_named};
 

@@ -1,4 +1,4 @@
-// A digest, in place.
+//! A digest, in place.
 ghost use Rattle.std.specs.Prelude.{◌≡◌, ◌≤◌, ◌+◌, ◌*◌, length};
 ghost use Rattle.tree_shape.specs.Digests.{digest_in};
 

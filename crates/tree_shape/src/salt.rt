@@ -1,4 +1,4 @@
-// A salt and its algorithm, in place.
+//! A salt and its algorithm, in place.
 ghost use Rattle.std.specs.Prelude.{◌≡◌, ◌-◌, ◌++◌, ◌↔◌, ◌≤◌, length, replicate, IsSome, IfSome};
 ghost use Rattle.tree_shape.specs.Digests.{digest};
 ghost use Rattle.tree_shape.specs.declared.algorithm.Algorithm.TheVariants.{Sha256 as sha256_algorithm};

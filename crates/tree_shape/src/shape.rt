@@ -1,4 +1,4 @@
-// The shape of a tree.
+//! The shape of a tree.
 ghost use Rattle.std.specs.Prelude.{◌≡◌, ◌+◌, ◌*◌, ◌^◌, ◌<◌, ◌≤◌, IfOk};
 ghost use Rattle.std.specs.Result.{result_err};
 ghost use Rattle.tree_shape.specs.Shape.{IsShape, shape_of, first_fault, is_block_size, is_too_large, sectors_of, per_block, levels, level_blocks, position, slot, ancestor, area_blocks, area_end, end_of};

@@ -1,4 +1,4 @@
-// The cache itself.
+//! The cache itself.
 ghost use Rattle.std.specs.Prelude.{◌≡◌, ◌⊎◌, [], length, option_map, IfOk, OnOk, OnErr, IsOk, IsSome};
 ghost use Rattle.std.specs.Option.{option_copied};
 ghost use Rattle.std.specs.Borrow.{sem};

@@ -1,4 +1,4 @@
-// Which hash block a cached block is.
+//! Which hash block a cached block is.
 /// Which hash block: of which mapped device's which table line, at which level of its tree, which block of that level.
 #[derive(Clone, Copy, PartialEq, Eq, Hash, Debug)]
 pub struct Key {

@@ -1,4 +1,4 @@
-// Some of all keys.
+//! Some of all keys.
 ghost use Rattle.std.specs.Prelude.{◌≡◌, Bool};
 ghost use Rattle.verified_cache.specs.declared.key.Key.{Key};
 

@@ -1,4 +1,4 @@
-// Blocks read from a device, and the tree over a device's blocks.
+//! Blocks read from a device, and the tree over a device's blocks.
 ghost use Rattle.std.specs.Prelude.{◌≡◌, ◌^◌, ◌≤◌, OnOk, OnErr, IfOk, length, replicate};
 ghost use Rattle.block_device.specs.Device.{HasFailed};
 ghost use Rattle.verity_format.specs.Blocks.{IsBlockRead, IsOnlyRead};

@@ -1,4 +1,4 @@
-// Reading a data block with the hash blocks on the way to it.
+//! Reading a data block with the hash blocks on the way to it.
 ghost use Rattle.std.specs.Prelude.{◌≡◌, ◌<◌, ◌≤◌, IsTrue, OnOk, OnErr, IfOk, IfErr, All, length, map};
 ghost use Rattle.block_device.specs.Device.{HasFailed};
 ghost use Rattle.verity_format.specs.Blocks.{IsOnlyRead};

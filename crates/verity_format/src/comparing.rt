@@ -1,4 +1,4 @@
-// Hash blocks compared with those that stand on a device.
+//! Hash blocks compared with those that stand on a device.
 ghost use Rattle.std.specs.Prelude.{◌≡◌, OnErr, IfOk, IfErr, length};
 ghost use Rattle.block_device.specs.Device.{HasFailed};
 ghost use Rattle.hash_tree.specs.Placing.{lesser};

@@ -1,4 +1,4 @@
-// Reading a superblock.
+//! Reading a superblock.
 ghost use Rattle.std.specs.Prelude.{◌≡◌, ◌+◌, ◌≤◌, ◌==◌, ◌↔◌, length, IfOk, IsSome, IfSome, is_some, slice_range, position};
 ghost use Rattle.std.specs.Result.{result_err};
 ghost use Rattle.std.specs.Str.{bytes_eq};

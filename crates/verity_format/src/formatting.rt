@@ -1,4 +1,4 @@
-// Making a hash image over a data image.
+//! Making a hash image over a data image.
 ghost use Rattle.std.specs.Prelude.{◌≡◌, IfOk, IfErr, length, Some};
 ghost use Rattle.std.specs.Result.{result_err};
 ghost use Rattle.verity_format.specs.Superblock.{shape_of};

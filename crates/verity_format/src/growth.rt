@@ -1,4 +1,4 @@
-// A tree made of a device's data blocks, run by run.
+//! A tree made of a device's data blocks, run by run.
 ghost use Rattle.std.specs.Prelude.{IfOk, IfErr, length};
 ghost use Rattle.verity_format.specs.Access.{IsTreeCause};
 ghost use Rattle.verity_format.specs.Blocks.{IsOnlyRead};

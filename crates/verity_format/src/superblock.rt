@@ -1,4 +1,4 @@
-// The superblock, and how it is written.
+//! The superblock, and how it is written.
 ghost use Rattle.std.specs.Prelude.{◌≡◌, ◌+◌, ◌≤◌, ◌++◌, length, take, drop, IfOk};
 ghost use Rattle.std.specs.Result.{result_err};
 ghost use Rattle.tree_shape.specs.Shape.{IsShape, first_fault};

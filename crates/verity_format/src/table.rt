@@ -1,4 +1,4 @@
-// The table line of a formatted image.
+//! The table line of a formatted image.
 ghost use Rattle.std.specs.Prelude.{◌≡◌, ◌++◌, IfOk, OnOk, decimal, string_bytes};
 ghost use Rattle.hex.specs.Hex.{encode_lower};
 ghost use Rattle.verity_format.specs.Line.{table_text, salt_word, spaced};

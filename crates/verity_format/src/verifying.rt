@@ -1,4 +1,4 @@
-// Comparing a hash image with a data image.
+//! Comparing a hash image with a data image.
 ghost use Rattle.std.specs.Prelude.{◌≡◌, List, ℕ, OnOk, IfOk, IfErr};
 ghost use Rattle.std.specs.Str.{bytes_eq};
 ghost use Rattle.verity_format.specs.Blocks.{IsOnlyRead, IsFullRead};

@@ -1,4 +1,4 @@
-// A tree written as it grows.
+//! A tree written as it grows.
 ghost use Rattle.std.specs.Prelude.{ℕ, All, OnOk, OnErr, IfOk, IfErr, length};
 ghost use Rattle.block_device.specs.Device.{HasFailed};
 ghost use Rattle.verity_format.specs.Premises.{CanPutBlocks, CanWriteTree};

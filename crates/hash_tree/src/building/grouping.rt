@@ -1,4 +1,4 @@
-// Digests pushed in groups: those of eight whole blocks of the lowest level, which are digested side by side.
+//! Digests pushed in groups: those of eight whole blocks of the lowest level, which are digested side by side.
 ghost use Rattle.std.specs.Prelude.{true, false, ◌≡◌, ◌+◌, ◌*◌, ◌/◌, ◌^◌, ◌<◌, ◌≤◌, ◌++◌, length, take, All, IfOk, OnOk, OnErr, IsTrue};
 ghost use Rattle.std.specs.List.{concat};
 ghost use Rattle.hash_tree.specs.Building.{completed, HasSome, IsPushed, are_whole_blocks, is_between, grow_block, pushed_block, completed_block};

@@ -16,7 +16,7 @@ use Rattle.stack_meaning.specs.declared.fault.IoFault.{IoFault}
 use Rattle.stack_meaning.specs.declared.fault.IoFault.TheVariants as io
 use Rattle.stack_lines.specs.declared.source.BlockPart.{BlockPart}
 use Rattle.stack_lines.specs.declared.source.Source.{Source}
-use Rattle.stack_lines.specs.declared.source.Source.TheVariants.{Below, Units, UnitPart, Zeros, Fails, Block}
+use Rattle.stack_lines.specs.declared.source.Source.TheVariants.{Below, Units, UnitPart, Zeros, Fails, Block, Blocks}
 use Rattle.stack_rules.specs.Units.{unit_sectors}
 use Rattle.stack_rules.proofs.lemmas.UnitLemmas.{unit_sectors-some}
 use Rattle.stack_lines.proofs.lemmas.UnitLineLemmas.{unit-line, cost-beneath}
@@ -27,7 +27,7 @@ use Rattle.stack_meaning.specs.Kept.{AllKept}
 use Rattle.stack_meaning.specs.Meaning.{Said, none_said, line_said, said_at, said_by_name}
 use Rattle.stack_meaning.specs.Leaves.{images_of}
 use Rattle.stack_meaning.specs.Places.{place_of, run_expected, Read}
-use Rattle.stack_lines.specs.Sources.{LieInBlock, AreUnits, LieInUnit, BeginsAt, ComeFrom, IsServed, said_of_line, part_said, source_said, source_cost, source_place, source_depth, SourceHolds, ReadsSource}
+use Rattle.stack_lines.specs.Sources.{LieInBlock, AreBlocks, AreUnits, LieInUnit, BeginsAt, ComeFrom, IsServed, said_of_line, part_said, source_said, source_cost, source_place, source_depth, SourceHolds, ReadsSource}
 use Rattle.stack_meaning.specs.Reading.{Gets, Reads, IsPlain}
 use Rattle.stack_meaning.proofs.lemmas.SectorLemmas.{said_at-line, line_said-beneath}
 use Rattle.stack_meaning.proofs.lemmas.CostLemmas.{cost-falls}
@@ -59,6 +59,7 @@ module _ (c : Configuration) (d l : ℕ) (line : Line) (is : IsLine c d l line) 
   come-said Zeros come = ap (λ (t : Target). line_said (said_by_name c) d l t (w + j)) come
   come-said Fails come = ap (λ (t : Target). line_said (said_by_name c) d l t (w + j)) come
   come-said (Block b) come = sym (part-said c d l w j line b is come.0)
+  come-said (Blocks b) come = sym (part-said c d l w j line b is come.0)
 
 pub served-said : (c : Configuration) (d s n j : ℕ) (source : Source) → IsLoaded c → j < n → IsServed c d s n source → source_said c source j ≡ said_at c (mapped d) (s + j)
 served-said c d s n j source loaded below r =
@@ -70,6 +71,13 @@ units-at c d l w n b begins units =
     subst (λ (k : ℕ). AreUnits c k b.line b.first n) (sym begins.0)
     (subst (λ (k : ℕ). AreUnits c d k b.first n) (sym begins.1)
     (subst (λ (k : ℕ). AreUnits c d l k n) (sym begins.2) units))
+
+-- the data blocks of a part that begins at a sector
+blocks-at : (c : Configuration) (d l w n : ℕ) (b : BlockPart) → BeginsAt d l w b → AreBlocks c d l w n → AreBlocks c b.device.0 b.line b.first n
+blocks-at c d l w n b begins blocks =
+    subst (λ (k : ℕ). AreBlocks c k b.line b.first n) (sym begins.0)
+    (subst (λ (k : ℕ). AreBlocks c d k b.first n) (sym begins.1)
+    (subst (λ (k : ℕ). AreBlocks c d l k n) (sym begins.2) blocks))
 
 pub unit-at : (c : Configuration) (d l w n : ℕ) (b : BlockPart) → BeginsAt d l w b → LieInUnit c d l w n → LieInUnit c b.device.0 b.line b.first n
 unit-at c d l w n b begins unit =
@@ -92,6 +100,7 @@ served-cost c d s n (UnitPart b) loaded some r = let same : read_cost c (mapped 
 served-cost c d s n Zeros loaded some r = omega arith
 served-cost c d s n Fails loaded some r = omega arith
 served-cost c d s n (Block b) loaded some r = let same : read_cost c (mapped b.device.0) ≡ read_cost c (mapped d) = ap (λ (k : ℕ). read_cost c (mapped k)) r.come.0.0 in omega (arith, same)
+served-cost c d s n (Blocks b) loaded some r = let same : read_cost c (mapped b.device.0) ≡ read_cost c (mapped d) = ap (λ (k : ℕ). read_cost c (mapped k)) r.come.0.0 in omega (arith, same)
 
 -- the lower device stands less deep
 pub served-depth : (c : Configuration) (d s n : ℕ) (source : Source) → IsLoaded c → 0 < n → IsServed c d s n source → source_depth c source ≤ depth c (mapped d)
@@ -103,6 +112,7 @@ served-depth c d s n (UnitPart b) loaded some r = let same : depth c (mapped b.d
 served-depth c d s n Zeros loaded some r = omega arith
 served-depth c d s n Fails loaded some r = omega arith
 served-depth c d s n (Block b) loaded some r = let same : depth c (mapped b.device.0) ≡ depth c (mapped d) = ap (λ (k : ℕ). depth c (mapped k)) r.come.0.0 in omega (arith, same)
+served-depth c d s n (Blocks b) loaded some r = let same : depth c (mapped b.device.0) ≡ depth c (mapped d) = ap (λ (k : ℕ). depth c (mapped k)) r.come.0.0 in omega (arith, same)
 
 pub served-holds : (c : Configuration) (d s n : ℕ) (source : Source) → IsServed c d s n source → SourceHolds c source n
 served-holds c d s n (Below lower first) r = r.come.1.inside
@@ -115,6 +125,7 @@ served-holds c d s n (Block b) r =
     subst (λ (k : ℕ). LieInBlock c k b.line b.first n) (sym r.come.0.0)
     (subst (λ (k : ℕ). LieInBlock c d k b.first n) (sym r.come.0.1)
     (subst (λ (k : ℕ). LieInBlock c d r.number k n) (sym r.come.0.2) r.come.1))
+served-holds c d s n (Blocks b) r = blocks-at c d r.number (s - r.line.start) n b r.come.0 r.come.1
 
 -- ---- reads
 

@@ -66,8 +66,8 @@ module _ (c : Configuration) (v : Verity) (tree : Tree) (loaded : IsLoaded c) (i
 -- ---- parts of blocks
 
 -- a verity line's device isn't written
-pub part-read_only : (c : Configuration) (d l w n : ℕ) → IsLoaded c → LieInBlock c d l w n → may_write c (mapped d) ≡ false
-part-read_only c d l w n loaded lies = (verity-line c d l lies.has.line lies.verity loaded lies.has.is lies.has.has).2.read_only
+pub line-read_only : (c : Configuration) (d l n : ℕ) (v : Verity) → IsLoaded c → HasTarget c d l (verity_target v) n → may_write c (mapped d) ≡ false
+line-read_only c d l n v loaded has = (verity-line c d l has.line v loaded has.is has.has).2.read_only
 
 module _ (c : Configuration) (d l w n : ℕ) (v : Verity) (loaded : IsLoaded c) (has : HasVerity c d l v) where
   pub data-whole : IsWholeSectors v.data_block

@@ -14,7 +14,7 @@ use Rattle.stack_meaning.specs.declared.fault.IoFault.{IoFault}
 use Rattle.stack_meaning.specs.declared.fault.Fault.TheVariants as why
 use Rattle.stack_meaning.specs.declared.fault.IoFault.TheVariants as io
 use Rattle.stack_lines.specs.declared.source.Source.{Source}
-use Rattle.stack_lines.specs.declared.source.Source.TheVariants.{Below, Units, UnitPart, Zeros, Fails, Block}
+use Rattle.stack_lines.specs.declared.source.Source.TheVariants.{Below, Units, UnitPart, Zeros, Fails, Block, Blocks}
 use Rattle.stack_rules.specs.Units.{unit_sectors}
 use Rattle.stack_lines.specs.declared.source.BlockPart.{BlockPart}
 use Rattle.stack_rules.proofs.lemmas.UnitLemmas.{unit_sectors-some}
@@ -28,7 +28,7 @@ use Rattle.stack_lines.specs.Sources.{BeginsAt, ComeFrom, IsServed}
 use Rattle.stack_lines.specs.Writing.{sectors_in, destination_of, Writes, put_by_name, put_on_line, part_put, source_put, source_write_cost, SourceMayWrite, source_destination}
 use Rattle.stack_meaning.proofs.lemmas.CostLemmas.{write_cost-falls}
 use Rattle.stack_lines.proofs.lemmas.SourceLemmas.{units-at, served-said}
-use Rattle.stack_lines.proofs.lemmas.VerityLineLemmas.{part-read_only}
+use Rattle.stack_lines.proofs.lemmas.VerityLineLemmas.{line-read_only}
 use Rattle.stack_lines.proofs.lemmas.WritableLemmas.{writable-falls}
 use Rattle.stack_meaning.proofs.lemmas.ChangeLemmas.{AreWritten-none}
 use Rattle.stack_meaning.proofs.lemmas.LineLemmas.{found-more}
@@ -68,6 +68,7 @@ module _ (c : Configuration) (d l : ℕ) (line : Line) (is : IsLine c d l line) 
   come-put Zeros may come = one-run Zero (λ i. refl) come
   come-put Fails may come = one-run Error (λ i. refl) come
   come-put (Block b) may come = absurd may
+  come-put (Blocks b) may come = absurd may
 
 -- of n sectors of a device from s on, those from the j-th on
 pub served-put : (c : Configuration) (d s n j : ℕ) (source : Source) (sectors : List (List ℕ)) (images : Images) → IsLoaded c → 0 < length sectors → j + length sectors ≤ n → SourceMayWrite c source → IsServed c d s n source
@@ -95,6 +96,7 @@ served-write-cost c d s n (UnitPart b) loaded some r = let same : write_cost c (
 served-write-cost c d s n Zeros loaded some r = omega arith
 served-write-cost c d s n Fails loaded some r = omega arith
 served-write-cost c d s n (Block b) loaded some r = omega arith
+served-write-cost c d s n (Blocks b) loaded some r = omega arith
 
 pub served-may_write : (c : Configuration) (d s n : ℕ) (source : Source) → IsLoaded c → 0 < n → IsTrue (may_write c (mapped d)) → IsServed c d s n source → SourceMayWrite c source
 served-may_write c d s n (Below lower first) loaded some writable r =
@@ -105,7 +107,10 @@ served-may_write c d s n (UnitPart b) loaded some writable r = subst (λ (k : �
 served-may_write c d s n Zeros loaded some writable r = tt
 served-may_write c d s n Fails loaded some writable r = tt
 served-may_write c d s n (Block b) loaded some writable r =
-    let none = part-read_only c d r.number (s - r.line.start) n loaded r.come.1 in
+    let none = line-read_only c d r.number (s - r.line.start + n) r.come.1.verity loaded r.come.1.has in
+    let clash : true ≡ false = sym writable ∙ none in cc
+served-may_write c d s n (Blocks b) loaded some writable r =
+    let none = line-read_only c d r.number (s - r.line.start + n) r.come.1.verity loaded r.come.1.has in
     let clash : true ≡ false = sym writable ∙ none in cc
 
 served-alike : (c : Configuration) (d s : ℕ) (source : Source) (sectors : List (List ℕ)) → IsLoaded c → 0 < length sectors → SourceMayWrite c source → IsServed c d s (length sectors) source

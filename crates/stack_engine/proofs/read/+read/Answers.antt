@@ -1,5 +1,6 @@
-use Rattle.std.proofs.Common.{◌≡◌, ◌<◌, ◌≤◌, ◌+◌, ◌/◌, ◌*◌, ◌-◌, ◌%◌, length, take, drop, map, replicate, get_or, ℕ, List, [], ◌∷◌, ◌++◌, Vec, Global, Option, Result, Ok, Err, refl, sym, ap, ◌∙◌, subst, arith}
-use Rattle.std.proofs.lemmas.List.{length-take, length-append, map-append}
+use Rattle.std.proofs.Common.{All, ◌≡◌, ◌<◌, ◌≤◌, ◌+◌, ◌/◌, ◌*◌, ◌-◌, ◌%◌, length, take, drop, map, replicate, get_or, ℕ, List, [], ◌∷◌, ◌++◌, Vec, Global, Option, Result, Ok, Err, refl, sym, ap, ◌∙◌, subst, arith}
+use Rattle.std.proofs.lemmas.List.{length-take, length-take-le, length-append, map-append}
+use Rattle.std.proofs.Math.Nat.{mul-le-mul_right}
 use Rattle.std.proofs.Math.Seq.{get_or-append_seam}
 use Rattle.std.proofs.lemmas.Slice.Eq.{bytes_eq-Decides}
 use Rattle.std.proofs.lemmas.Slice.{take-put_mid}
@@ -8,18 +9,19 @@ use Rattle.std.specs.Prelude.{option_map}
 use Rattle.std.specs.Vec.{with_items}
 use borrow.Rule.Slice.PartMut.{put_mid}
 use Rattle.tree_shape.specs.Digests.{digest, digest_in}
-use Rattle.tree_shape.specs.Shape.{ShapeRecord, slot, ancestor}
+use Rattle.tree_shape.specs.Shape.{ShapeRecord, slot, ancestor, levels}
 use Rattle.stack_rules.specs.Names.{mapped}
 use Rattle.stack_rules.specs.Descend.{depth}
-use Rattle.stack_rules.specs.Trees.{block_sectors}
+use Rattle.stack_rules.specs.Trees.{tree_of, block_sectors}
 use Rattle.stack_rules.specs.declared.lower.DevId.{DevId}
 use Rattle.stack_rules.specs.declared.lower.Lower.TheVariants.{Leaf}
 use Rattle.stack_rules.specs.declared.lower.Lower.{Lower}
 use Rattle.stack_meaning.specs.declared.fault.Fault.TheVariants.{ErrorTarget}
-use Rattle.stack_meaning.specs.declared.fault.IoFault.TheVariants.{Stack}
+use Rattle.stack_meaning.specs.declared.fault.IoFault.TheVariants.{Stack, NoMemory}
 use Rattle.stack_lines.specs.declared.source.Source.{Source}
-use Rattle.stack_lines.specs.declared.source.Source.TheVariants.{Units, UnitPart, Block}
+use Rattle.stack_lines.specs.declared.source.Source.TheVariants.{Units, UnitPart, Block, Blocks}
 use Rattle.stack_meaning.specs.Found.{FoundRecord, entry_of}
+use Rattle.stack_meaning.specs.Kept.{IsKept, AllKept}
 use Rattle.stack_lines.specs.declared.tree.Extent.{Extent}
 use Rattle.stack_lines.specs.Caches.{IsCacheOf}
 use Rattle.stack_meaning.specs.Blocks.{hash_sectors, next_digest}
@@ -49,6 +51,14 @@ use Rattle.stack_meaning.specs.Meaning.{said_at}
 use Rattle.stack_meaning.proofs.lemmas.PlainLemmas.{plain-none}
 use Rattle.stack_lines.proofs.lemmas.UnitLineLemmas.{unit-line-on}
 use Rattle.stack_lines.proofs.lemmas.UnitSourceLemmas.{units-inside, units-small, units-bytes, lies_in, whole-units, part-read, part-failed, part-plain, units-read, units-failed, units-plain}
+use Rattle.std.proofs.lemmas.List.{take_more, get_or_default}
+use Rattle.std.proofs.lemmas.List.Elements.{All-take, All-nil}
+use Rattle.verified_cache.specs.Cache.{CachedBlock}
+use Rattle.stack_lines.specs.AtOnce.{CanGo}
+use Rattle.stack_lines.specs.Caches.{IsCached}
+use Rattle.stack_engine.proofs.PathLemmas.{path-read, path-hit, path-put, path-down, path-failed, path-stopped, path-ended, path-whole, no_block}
+use Rattle.stack_engine.proofs.BlocksLemmas.{blocks-at, blocks_plain}
+use Rattle.stack_engine.proofs.NextBlockLemmas.{WereHad, way-whole, same-digest, other-digest, block-slice, few-blocks, digest-count, whole-blocks, digests-are, block-ends, small-index, first-next, first-fails, data-fails, had-all, had-next, had-fails, next-had, next-differs, next-full}
 use Rattle.stack_engine.proofs.read.+read.Goals as goal
 
 pub read_device-overflow_add-first : goal.read_device-overflow_add-first
@@ -59,13 +69,13 @@ pub read_device-read_run-requires : goal.read_device-read_run-requires
 read_device-read_run-requires g t c κs within =
     let config = c.args.config.now in
     let at = c.loop-at.at in
-    let source = c.run_at-run.result.source in
-    let count = c.run_at-run.result.count in
-    let served = c.run_at-run.ensures.served in
-    let fits : at + count * 512 ≤ length c.loop-at.out = omega (arith, c.run_at-run.ensures.most, c.loop-at-test.true) in
+    let source = c.run_to_read-run.result.source in
+    let count = c.run_to_read-run.result.count in
+    let served = c.run_to_read-run.ensures.served in
+    let fits : at + count * 512 ≤ length c.loop-at.out = omega (arith, c.run_to_read-run.ensures.most, c.loop-at-test.true) in
     let len = run_length c.loop-at.out at count fits in
     let number : count ≡ length (take (at + count * 512 - at) (drop at c.loop-at.out)) / 512 = omega (arith, len) in
-    let deep = served-depth config c.args.d.0 (c.args.first + at / 512) count source c.requires.stack.sound.loaded c.run_at-run.ensures.some served in (
+    let deep = served-depth config c.args.d.0 (c.args.first + at / 512) count source c.requires.stack.sound.loaded c.run_to_read-run.ensures.some served in (
       omega (arith, deep),
       (
         within,
@@ -73,9 +83,10 @@ read_device-read_run-requires g t c κs within =
           stack = stack-later config c.loop-at.invariant.so_far.got.moved.moved.fixed c.requires.stack c.loop-at.invariant.cached;
           kept = c.loop-at.invariant.so_far.kept;
           fits = record {
-            sectors = record { some = omega (arith, len, c.run_at-run.ensures.some); whole = omega (arith, len) };
+            sectors = record { some = omega (arith, len, c.run_to_read-run.ensures.some); whole = omega (arith, len) };
             holds = subst (SourceHolds config source) number (served-holds config c.args.d.0 (c.args.first + at / 512) count source served);
           };
+          can_go = subst (λ (k : ℕ). CanGo config source k c.loop-at.found.items) number (subst (CanGo config source count) c.as_slice.ensures.value c.run_to_read-run.ensures.can_go);
         },
       ),
     )
@@ -86,10 +97,10 @@ read_device-loop-at-preserved g t c =
     let state = g.D.BlockDev.state in
     let at = c.loop-at.at in
     let out = c.loop-at.out in
-    let source = c.run_at-run.result.source in
-    let count = c.run_at-run.result.count in
+    let source = c.run_to_read-run.result.source in
+    let count = c.run_to_read-run.result.count in
     let end : ℕ = at + count * 512 in
-    let fits : at + count * 512 ≤ length out = omega (arith, c.run_at-run.ensures.most, c.loop-at-test.true) in
+    let fits : at + count * 512 ≤ length out = omega (arith, c.run_to_read-run.ensures.most, c.loop-at-test.true) in
     let len = run_length out at count fits in
     let number : length (take (at + count * 512 - at) (drop at out)) / 512 ≡ count = omega (arith, len) in
     let front : take end (put_mid at (end - at) out c.read_run.new.out) ≡ take at out ++ c.read_run.new.out = take-put_mid at (end - at) out c.read_run.new.out end (omega (arith, c.read_run.auto.out, len)) c.loop-at.invariant.within in
@@ -99,10 +110,10 @@ read_device-loop-at-preserved g t c =
       whole = omega (arith, c.loop-at.invariant.whole);
       within = omega (arith, length-take end (put_mid at (end - at) out c.read_run.new.out), ap length front, length-append (take at out) c.read_run.new.out, length-take at out, c.read_run.auto.out, len, c.loop-at.invariant.within);
       so_far = same_reads config (mapped c.args.d.0) c.args.first _ (omega (arith, c.loop-at.invariant.whole)) (sym front)
-          (device_ok config c.args.d.0 c.args.first (at / 512) count source c.requires.stack.sound.loaded c.run_at-run.ensures.some c.run_at-run.ensures.served c.loop-at.invariant.so_far more);
+          (device_ok config c.args.d.0 c.args.first (at / 512) count source c.requires.stack.sound.loaded c.run_to_read-run.ensures.some c.run_to_read-run.ensures.served c.loop-at.invariant.so_far more);
       cached = record { capacity = c.in-Ok.ensures.cached.capacity ∙ c.loop-at.invariant.cached.capacity; sound = c.in-Ok.ensures.cached.sound };
       plain = subst (λ (n : ℕ). IsPlain (said_at config (mapped c.args.d.0)) c.args.first n (map state c.args.reader.now.devices.items) (map state c.read_run.new.reader.devices.items) (Ok tt)) (omega (arith, c.loop-at.invariant.whole))
-          (device_plain config c.args.d.0 c.args.first (at / 512) count (at / 512 + count) source c.requires.stack.sound.loaded (omega arith) c.run_at-run.ensures.served c.loop-at.invariant.plain
+          (device_plain config c.args.d.0 c.args.first (at / 512) count (at / 512 + count) source c.requires.stack.sound.loaded (omega arith) c.run_to_read-run.ensures.served c.loop-at.invariant.plain
           (subst (λ (n : ℕ). IsPlain (source_said config source) 0 n (map state c.loop-at.reader.devices.items) (map state c.read_run.new.reader.devices.items) (Ok tt)) number c.in-Ok.ensures.plain));
     }
 
@@ -111,14 +122,14 @@ read_device-returns-in-Err-clause-reads g t c =
     let config = c.args.config.now in
     let state = g.D.BlockDev.state in
     let at = c.loop-at.at in
-    let source = c.run_at-run.result.source in
-    let count = c.run_at-run.result.count in
-    let fits : at + count * 512 ≤ length c.loop-at.out = omega (arith, c.run_at-run.ensures.most, c.loop-at-test.true) in
+    let source = c.run_to_read-run.result.source in
+    let count = c.run_to_read-run.result.count in
+    let fits : at + count * 512 ≤ length c.loop-at.out = omega (arith, c.run_to_read-run.ensures.most, c.loop-at-test.true) in
     let len = run_length c.loop-at.out at count fits in
     let number : length (take (at + count * 512 - at) (drop at c.loop-at.out)) / 512 ≡ count = omega (arith, len) in
     let did : Read = record { old = map state c.loop-at.reader.devices.items; new = map state c.read_run.new.reader.devices.items; before = c.loop-at.found.items; after = c.read_run.new.found.items } in
     let more = subst (λ (n : ℕ). ReadsSource config source n did (Err c.in-Err.fault)) number c.in-Err.ensures.reads in
-    device_err config c.args.d.0 c.args.first (at / 512) count source c.requires.stack.sound.loaded c.run_at-run.ensures.some c.run_at-run.ensures.served c.loop-at.invariant.so_far _ c.in-Err.fault (omega (arith, fits, c.loop-at.auto.out)) more
+    device_err config c.args.d.0 c.args.first (at / 512) count source c.requires.stack.sound.loaded c.run_to_read-run.ensures.some c.run_to_read-run.ensures.served c.loop-at.invariant.so_far _ c.in-Err.fault (omega (arith, fits, c.loop-at.auto.out)) more
 
 pub read_device-returns-clause-plain : goal.read_device-returns-clause-plain
 read_device-returns-clause-plain g t c =
@@ -230,12 +241,12 @@ read_device-returns-in-Err-clause-plain g t c =
     let config = c.args.config.now in
     let state = g.D.BlockDev.state in
     let at = c.loop-at.at in
-    let source = c.run_at-run.result.source in
-    let count = c.run_at-run.result.count in
-    let fits : at + count * 512 ≤ length c.loop-at.out = omega (arith, c.run_at-run.ensures.most, c.loop-at-test.true) in
+    let source = c.run_to_read-run.result.source in
+    let count = c.run_to_read-run.result.count in
+    let fits : at + count * 512 ≤ length c.loop-at.out = omega (arith, c.run_to_read-run.ensures.most, c.loop-at-test.true) in
     let len = run_length c.loop-at.out at count fits in
     let number : length (take (at + count * 512 - at) (drop at c.loop-at.out)) / 512 ≡ count = omega (arith, len) in
-    device_plain config c.args.d.0 c.args.first (at / 512) count (length c.args.out.now / 512) source c.requires.stack.sound.loaded (omega (arith, fits, c.loop-at.auto.out)) c.run_at-run.ensures.served c.loop-at.invariant.plain
+    device_plain config c.args.d.0 c.args.first (at / 512) count (length c.args.out.now / 512) source c.requires.stack.sound.loaded (omega (arith, fits, c.loop-at.auto.out)) c.run_to_read-run.ensures.served c.loop-at.invariant.plain
     (subst (λ (n : ℕ). IsPlain (source_said config source) 0 n (map state c.loop-at.reader.devices.items) (map state c.read_run.new.reader.devices.items) (Err c.in-Err.fault)) number c.in-Err.ensures.plain)
 
 -- ---- units of crypt lines
@@ -250,7 +261,7 @@ read_units-read_lower-requires g t c κs within =
     let line = unit-line-on config p.device.0 p.line 0 crypt c.requires.stack.sound.loaded c.crypt_at-crypt.ensures unit.result.lower unit.ensures.lower in
     let inside = units-inside config p.device.0 p.line p.first n crypt c.requires.stack.sound.loaded c.crypt_at-crypt.ensures c.requires.fits.holds unit.result.lower unit.ensures.lower in (
       omega (arith, line.crypt_line.shallower),
-      (within, record { stack = c.requires.stack; kept = c.requires.kept; fits = record { sectors = c.requires.fits.sectors; holds = omega (arith, inside, unit.ensures.first) } }),
+      (within, record { stack = c.requires.stack; kept = c.requires.kept; fits = record { sectors = c.requires.fits.sectors; holds = omega (arith, inside, unit.ensures.first) }; can_go = tt }),
     )
 
 pub read_units-decrypt-requires-clause-fits : goal.read_units-decrypt-requires-clause-fits
@@ -331,6 +342,7 @@ read_unit_part-read_units-requires g t c κs within =
             sectors = record { some = omega (arith, size, whole.ensures.some); whole = omega (arith, size) };
             holds = subst (λ (k : ℕ). AreUnits config whole.result.from.device.0 whole.result.from.line whole.result.from.first k) (sym count) units;
           };
+          can_go = tt;
         },
       ),
     )
@@ -679,3 +691,576 @@ hash_block-returns-in-Ok-clause-cached g t c =
     let kept = keeps-noted config at (map g.D.BlockDev.state c.read_checked.new.reader.devices.items) c.args.reader.now.cache mid noted c.cover.ensures.rest is (record { capacity = read.capacity ∙ found.capacity; sound = read.sound }) in
     keeps-kept config at bytes c.in-Ok.block c.args.expected.now c.args.reader.now.cache noted _ c.in-Ok.ensures.reads (noted_key config at mid noted is) kept
     c.keep_copy-kept.result c.as_slice.result.now c.as_slice.ensures.value c.keep_copy-kept.ensures.ok c.keep_copy-kept.ensures.err
+
+-- ---- the way to a block, beside that to the block before
+
+pub path_block-returns-then-stands-clause-reads : goal.path_block-returns-then-stands-clause-reads
+path_block-returns-then-stands-clause-reads g t c x =
+    let stands = c.stands.ensures c.if-stands.true in
+    let value = c.as_slice.ensures.value in
+    let there = subst (λ (l : List CachedBlock). c.args.at < length l) value stands.0 in
+    let key = subst (λ (l : List CachedBlock). (get_or l c.args.at x).key ≡ c.args.wanted.now.key) value (stands.1 x).0 in
+    let digest = subst (λ (l : List CachedBlock). (get_or l c.args.at x).digest ≡ c.args.wanted.now.digest) value (stands.1 x).1 in
+    path-hit c.args.config.now c.requires.key _ c.args.path.now.items c.args.at x c.args.wanted.now.digest c.requires.held there key digest
+
+pub path_block-returns-in-Err-clause-held : goal.path_block-returns-in-Err-clause-held
+path_block-returns-in-Err-clause-held g t c = path-read c.args.config.now c.args.path.now.items c.in-Err.ensures.reads.moved c.requires.held
+
+pub path_block-returns-in-Err-put-clause-held : goal.path_block-returns-in-Err-put-clause-held
+path_block-returns-in-Err-put-clause-held g t c =
+    subst (All (IsCached c.args.config.now _)) (sym c.in-Err-put.ensures.err) (All-take (IsCached c.args.config.now _) c.args.at c.args.path.now.items (path-read c.args.config.now c.args.path.now.items c.in-Ok.ensures.reads.moved c.requires.held))
+
+pub path_block-returns-in-Ok-put-clause-held : goal.path_block-returns-in-Ok-put-clause-held
+path_block-returns-in-Ok-put-clause-held g t c =
+    subst (All (IsCached c.args.config.now _)) (sym c.in-Ok-put.ensures.ok) (path-put c.args.config.now c.requires.key bytes c.in-Ok.bytes c.args.wanted.now.digest c.args.path.now.items c.args.at c.requires.held c.in-Ok.ensures.reads)
+
+pub walk_path-path_block-requires : goal.walk_path-path_block-requires
+walk_path-path_block-requires g t c κs within =
+    let config = c.args.config.now in
+    let extent = c.hash_extent-extent in
+    let deep = hash-depth config c.args.verity.now c.args.tree.now c.requires.stack.sound.loaded c.requires.block.lies in
+    let same : depth config extent.result.lower ≡ depth config c.args.tree.now.hash = ap (λ (e : Extent). depth config e.lower) extent.ensures.value in
+    let key = place_key config c.args.verity.now c.args.tree.now _ c.args.index c.hash_key-key.result extent.result c.requires.block.lies c.hash_key-key.ensures extent.ensures in
+    let stack = stack-later config c.loop-left.invariant.walked.moved.moved.fixed c.requires.stack c.loop-left.invariant.cached in
+    (omega (arith, deep, same), (within, (stack, (key, (c.loop-left.invariant.held, c.loop-left.invariant.within)))))
+
+pub walk_path-hash_key-key-requires : goal.walk_path-hash_key-key-requires
+walk_path-hash_key-key-requires g t c = subst (λ (k : ℕ). c.args.index < k) (sym (ap (λ (s : ShapeRecord). s.blocks) c.requires.block.lies.shape_is)) c.requires.block.there
+
+pub walk_path-returns-in-Err-clause-moved : goal.walk_path-returns-in-Err-clause-moved
+walk_path-returns-in-Err-clause-moved g t c =
+    path-stopped c.args.config.now c.args.verity.now c.args.tree.now c.args.index c.requires.stack.sound.loaded c.requires.block.lies c.loop-left.left (c.loop-left.left - 1) (omega (arith, c.loop-left-test.true)) c.loop-left.invariant.walked c.hash_extent-extent.result c.hash_extent-extent.ensures (c.in-Err.first) (c.in-Err.ensures.reads no_block)
+
+pub walk_path-returns-clause-moved : goal.walk_path-returns-clause-moved
+walk_path-returns-clause-moved g t c = path-ended (block_in c.args.config.now c.args.verity.now c.args.index) c.loop-left.left c.loop-left.invariant.walked
+
+pub walk_path-returns-clause-ok : goal.walk_path-returns-clause-ok
+walk_path-returns-clause-ok g t c =
+    let old = map g.D.BlockDev.state c.args.reader.now.devices.items in
+    let new = map g.D.BlockDev.state c.loop-left.reader.devices.items in
+    let b = block_in c.args.config.now c.args.verity.now c.args.index in
+    path-whole b c.loop-left.left (omega (arith, c.loop-left-test.false)) c.loop-left.at c.loop-left.path.items c.loop-left.invariant.within c.loop-left.invariant.walked
+
+pub walk_path-returns-in-Err-clause-err : goal.walk_path-returns-in-Err-clause-err
+walk_path-returns-in-Err-clause-err g t c =
+    path-failed c.args.config.now c.args.verity.now c.args.tree.now c.args.index c.requires.stack.sound.loaded c.requires.block.lies c.loop-left.left (c.loop-left.left - 1) (omega (arith, c.loop-left-test.true)) c.loop-left.invariant.walked c.hash_extent-extent.result c.hash_extent-extent.ensures c.in-Err.first (c.in-Err.ensures.reads no_block)
+
+pub walk_path-digest_in-digest-requires : goal.walk_path-digest_in-digest-requires
+walk_path-digest_in-digest-requires g t c =
+    let v = c.args.verity.now in
+    let tree = c.args.tree.now in
+    let is = c.requires.block.lies in
+    let size = hash-whole c.args.config.now tree.device.0 tree.line 0 0 v c.requires.stack.sound.loaded is.is in
+    let sectors : c.hash_extent-extent.result.sectors ≡ hash_sectors v = ap (λ (e : Extent). e.sectors) c.hash_extent-extent.ensures.value in
+    let one = c.in-Ok.ensures.reads no_block in
+    let here : c.as_slice-in-Ok.result.now ≡ (get_or c.path_block.new.path.items c.loop-left.at no_block).bytes =
+    c.as_slice-in-Ok.ensures.value ∙ ap (λ (b : CachedBlock). b.bytes) (c.block.view_is ∙ c.index-as_slice-at.is
+    ∙ ap (λ (l : List CachedBlock). get_or l c.loop-left.at c.index-as_slice-at.result) c.as_slice.ensures.value
+    ∙ get_or_default c.path_block.new.path.items c.loop-left.at c.index-as_slice-at.result no_block c.in-Ok.ensures.there) in
+    let len : length c.as_slice-in-Ok.result.now ≡ 512 * c.hash_extent-extent.result.sectors = ap (λ (l : List ℕ). length l) here ∙ one.may.0 in
+    let block : tree.shape.hash_block ≡ v.hash_block = ap (λ (t : ShapeRecord). t.hash_block) is.shape_is in
+    omega (arith, len, sectors, size.whole, block, c.slot_on_path.ensures.inside)
+
+pub walk_path-loop-left-preserved : goal.walk_path-loop-left-preserved
+walk_path-loop-left-preserved g t c =
+    let v = c.args.verity.now in
+    let tree = c.args.tree.now in
+    let index : ℕ = c.args.index in
+    let state = g.D.BlockDev.state in
+    let b = block_in c.args.config.now v index in
+    let level : ℕ = c.loop-left.left - 1 in
+    let at : ℕ = c.loop-left.at in
+    let old = map state c.args.reader.now.devices.items in
+    let new = map state c.path_block.new.reader.devices.items in
+    let before = c.loop-left.path.items in
+    let after = c.path_block.new.path.items in
+    let bytes_of : CachedBlock → List ℕ = λ b. b.bytes in
+    let block : List ℕ = (get_or after at no_block).bytes in
+    let down = path-down c.args.config.now v tree index c.requires.stack.sound.loaded c.requires.block.lies c.loop-left.left level (omega (arith, c.loop-left-test.true)) c.loop-left.invariant.walked c.hash_extent-extent.result c.hash_extent-extent.ensures block (c.in-Ok.ensures.reads no_block) in
+    let here : c.as_slice-in-Ok.result.now ≡ block =
+    c.as_slice-in-Ok.ensures.value ∙ ap (λ (b : CachedBlock). b.bytes) (c.block.view_is ∙ c.index-as_slice-at.is
+    ∙ ap (λ (l : List CachedBlock). get_or l c.loop-left.at c.index-as_slice-at.result) c.as_slice.ensures.value
+    ∙ get_or_default c.path_block.new.path.items c.loop-left.at c.index-as_slice-at.result no_block c.in-Ok.ensures.there) in
+    let expected : c.digest_in-digest.result ≡ next_digest v level index block =
+    c.digest_in-digest.ensures ∙ ap (λ (b : List ℕ). digest_in b c.slot_on_path.result) here
+    ∙ ap (digest_in block) (c.slot_on_path.ensures.value ∙ ap (λ (t : ShapeRecord). slot t (ancestor t level index)) c.requires.block.lies.shape_is) in
+    let longer : map bytes_of (take (at + 1) after) ≡ map bytes_of (take at before) ++ (block ∷ []) =
+    ap (map bytes_of) (take_more after at no_block c.in-Ok.ensures.there) ∙ map-append bytes_of (take at after) (get_or after at no_block ∷ [])
+    ∙ ap (λ (l : List CachedBlock). map bytes_of l ++ (block ∷ [])) c.in-Ok.ensures.above in
+    record {
+      within = omega (arith, c.in-Ok.ensures.there);
+      walked = subst (λ (p : List (List ℕ)). IsWalked b level c.digest_in-digest.result p old new) (sym longer)
+          (subst (λ (e : List ℕ). IsWalked b level e (map bytes_of (take at before) ++ (block ∷ [])) old new) (sym expected) down);
+      held = c.in-Ok.ensures.held;
+      cached = record { capacity = c.in-Ok.ensures.cached.capacity ∙ c.loop-left.invariant.cached.capacity; sound = c.in-Ok.ensures.cached.sound };
+    }
+
+-- ---- whole data blocks
+
+abbrev block_bytes : CachedBlock → List ℕ
+block_bytes b = b.bytes
+
+pub read_run-returns-in-Blocks-clause-reads : goal.read_run-returns-in-Blocks-clause-reads
+read_run-returns-in-Blocks-clause-reads g t c = rw c.in-Blocks.is c.read_blocks.ensures.reads
+
+pub read_run-returns-in-Blocks-clause-plain : goal.read_run-returns-in-Blocks-clause-plain
+read_run-returns-in-Blocks-clause-plain g t c = rw c.in-Blocks.is c.read_blocks.ensures.plain
+
+pub read_blocks-walk_path-requires : goal.read_blocks-walk_path-requires
+read_blocks-walk_path-requires g t c κs within =
+    let config = c.args.config.now in
+    let p = c.args.part in
+    let n : ℕ = length c.args.out.now / 512 in
+    let v = c.verity_at-verity.result.now in
+    let tree = c.tree_at-tree.result in
+    let old = map g.D.BlockDev.state c.args.reader.now.devices.items in
+    let found = c.args.found.now.items in
+    let loaded = c.requires.stack.sound.loaded in
+    let line = c.verity_at-verity.ensures in
+    let is = c.tree_at-tree.ensures.tree.on_data in
+    let at = blocks-at config v p n found tree.data loaded (omega (arith, c.requires.fits.sectors.some, c.requires.fits.sectors.whole)) line c.requires.fits.holds c.requires.can_go is in
+    let sectors : c.from.result ≡ block_sectors v = c.from.ensures in
+    let depths : depth config (mapped tree.device.0) ≡ depth config (mapped p.device.0) = ap (λ (x : DevId). depth config (mapped x.0)) c.tree_at-tree.ensures.at in
+    let there : p.first / block_sectors v < v.blocks = omega (arith, at.there 0 at.some) in
+    let index = subst (λ (k : ℕ). p.first / k < v.blocks) (sym sectors) there in
+    let held = subst (All (IsCached config old)) (sym c.new-path.ensures.items) (All-nil (IsCached config old)) in
+    (omega (arith, depths), (within, (c.requires.stack, (record { lies = c.tree_at-tree.ensures.tree; there = index }, held))))
+
+pub read_blocks-returns-in-Err-clause-reads : goal.read_blocks-returns-in-Err-clause-reads
+read_blocks-returns-in-Err-clause-reads g t c =
+    let config = c.args.config.now in
+    let p = c.args.part in
+    let n : ℕ = length c.args.out.now / 512 in
+    let v = c.verity_at-verity.result.now in
+    let tree = c.tree_at-tree.result in
+    let old = map g.D.BlockDev.state c.args.reader.now.devices.items in
+    let found = c.args.found.now.items in
+    let loaded = c.requires.stack.sound.loaded in
+    let line = c.verity_at-verity.ensures in
+    let is = c.tree_at-tree.ensures.tree.on_data in
+    let at = blocks-at config v p n found tree.data loaded (omega (arith, c.requires.fits.sectors.some, c.requires.fits.sectors.whole)) line c.requires.fits.holds c.requires.can_go is in
+    let sectors : c.from.result ≡ block_sectors v = c.from.ensures in
+    let got = subst (λ (k : ℕ). GetsChain (block_in config v (p.first / k)) old (map g.D.BlockDev.state c.walk_path.new.reader.devices.items) (Err c.in-Err.fault)) sectors c.in-Err.ensures.err in
+    first-fails config v p n tree.data found loaded line is at c.in-Err.fault c.requires.kept c.in-Err.ensures.moved got
+
+pub read_blocks-read_lower-requires : goal.read_blocks-read_lower-requires
+read_blocks-read_lower-requires g t c κs within =
+    let config = c.args.config.now in
+    let p = c.args.part in
+    let n : ℕ = length c.args.out.now / 512 in
+    let v = c.verity_at-verity.result.now in
+    let tree = c.tree_at-tree.result in
+    let old = map g.D.BlockDev.state c.args.reader.now.devices.items in
+    let found = c.args.found.now.items in
+    let loaded = c.requires.stack.sound.loaded in
+    let line = c.verity_at-verity.ensures in
+    let is = c.tree_at-tree.ensures.tree.on_data in
+    let at = blocks-at config v p n found tree.data loaded (omega (arith, c.requires.fits.sectors.some, c.requires.fits.sectors.whole)) line c.requires.fits.holds c.requires.can_go is in
+    let depths : depth config (mapped tree.device.0) ≡ depth config (mapped p.device.0) = ap (λ (x : DevId). depth config (mapped x.0)) c.tree_at-tree.ensures.at in
+    let deep = data-depth config v tree loaded c.tree_at-tree.ensures.tree in
+    let leaves = map g.D.BlockDev.state c.walk_path.new.reader.devices.items in (
+      omega (arith, deep, depths),
+      (
+        within,
+        record {
+          stack = stack-later config c.in-Ok.ensures.moved.moved.fixed c.requires.stack c.in-Ok.ensures.cached;
+          kept = subst (AllKept config leaves) (sym c.new-beneath.ensures.items) (All-nil (IsKept config leaves));
+          fits = record { sectors = c.requires.fits.sectors; holds = at.below };
+          can_go = tt;
+        },
+      ),
+    )
+
+pub read_blocks-returns-in-Err-read_lower-clause-reads : goal.read_blocks-returns-in-Err-read_lower-clause-reads
+read_blocks-returns-in-Err-read_lower-clause-reads g t c =
+    let config = c.args.config.now in
+    let p = c.args.part in
+    let n : ℕ = length c.args.out.now / 512 in
+    let v = c.verity_at-verity.result.now in
+    let tree = c.tree_at-tree.result in
+    let old = map g.D.BlockDev.state c.args.reader.now.devices.items in
+    let found = c.args.found.now.items in
+    let loaded = c.requires.stack.sound.loaded in
+    let line = c.verity_at-verity.ensures in
+    let is = c.tree_at-tree.ensures.tree.on_data in
+    let at = blocks-at config v p n found tree.data loaded (omega (arith, c.requires.fits.sectors.some, c.requires.fits.sectors.whole)) line c.requires.fits.holds c.requires.can_go is in
+    data-fails config v p n tree.data found loaded line is at c.read_lower.new.found.items c.in-Err-read_lower.fault c.requires.kept c.in-Ok.ensures.moved c.in-Err-read_lower.ensures.reads.got
+
+pub read_blocks-slice_bounds-got-end : goal.read_blocks-slice_bounds-got-end
+read_blocks-slice_bounds-got-end g t c =
+    let config = c.args.config.now in
+    let p = c.args.part in
+    let n : ℕ = length c.args.out.now / 512 in
+    let v = c.verity_at-verity.result.now in
+    let tree = c.tree_at-tree.result in
+    let old = map g.D.BlockDev.state c.args.reader.now.devices.items in
+    let found = c.args.found.now.items in
+    let loaded = c.requires.stack.sound.loaded in
+    let line = c.verity_at-verity.ensures in
+    let is = c.tree_at-tree.ensures.tree.on_data in
+    let at = blocks-at config v p n found tree.data loaded (omega (arith, c.requires.fits.sectors.some, c.requires.fits.sectors.whole)) line c.requires.fits.holds c.requires.can_go is in
+    let bytes_read : List ℕ = c.read_lower.new.out in
+    let len : length bytes_read ≡ 512 * n = omega (arith, c.read_lower.auto.out, c.requires.fits.sectors.whole) in
+    let many = digest-count config v p n tree.data found loaded line is at bytes_read len in
+    omega (arith, many, few-blocks config v p n tree.data found loaded line is at, at.few)
+
+pub read_blocks-digest_blocks-requires-clause-whole : goal.read_blocks-digest_blocks-requires-clause-whole
+read_blocks-digest_blocks-requires-clause-whole g t c =
+    let config = c.args.config.now in
+    let p = c.args.part in
+    let n : ℕ = length c.args.out.now / 512 in
+    let v = c.verity_at-verity.result.now in
+    let tree = c.tree_at-tree.result in
+    let old = map g.D.BlockDev.state c.args.reader.now.devices.items in
+    let found = c.args.found.now.items in
+    let loaded = c.requires.stack.sound.loaded in
+    let line = c.verity_at-verity.ensures in
+    let is = c.tree_at-tree.ensures.tree.on_data in
+    let at = blocks-at config v p n found tree.data loaded (omega (arith, c.requires.fits.sectors.some, c.requires.fits.sectors.whole)) line c.requires.fits.holds c.requires.can_go is in
+    let bytes_read : List ℕ = c.read_lower.new.out in
+    let len : length bytes_read ≡ 512 * n = omega (arith, c.read_lower.auto.out, c.requires.fits.sectors.whole) in
+    whole-blocks config v p n tree.data found loaded line is at bytes_read len
+
+pub read_blocks-digest_blocks-requires-clause-count : goal.read_blocks-digest_blocks-requires-clause-count
+read_blocks-digest_blocks-requires-clause-count g t c =
+    let config = c.args.config.now in
+    let p = c.args.part in
+    let n : ℕ = length c.args.out.now / 512 in
+    let v = c.verity_at-verity.result.now in
+    let tree = c.tree_at-tree.result in
+    let old = map g.D.BlockDev.state c.args.reader.now.devices.items in
+    let found = c.args.found.now.items in
+    let loaded = c.requires.stack.sound.loaded in
+    let line = c.verity_at-verity.ensures in
+    let is = c.tree_at-tree.ensures.tree.on_data in
+    let at = blocks-at config v p n found tree.data loaded (omega (arith, c.requires.fits.sectors.some, c.requires.fits.sectors.whole)) line c.requires.fits.holds c.requires.can_go is in
+    let bytes_read : List ℕ = c.read_lower.new.out in
+    let len : length bytes_read ≡ 512 * n = omega (arith, c.read_lower.auto.out, c.requires.fits.sectors.whole) in
+    let many = digest-count config v p n tree.data found loaded line is at bytes_read len in
+    let few = few-blocks config v p n tree.data found loaded line is at in
+    length-take-le (length bytes_read / v.data_block) _ (omega (arith, many, few, at.few))
+
+pub read_blocks-checks-init : goal.read_blocks-checks-init
+read_blocks-checks-init g t c =
+    let config = c.args.config.now in
+    let p = c.args.part in
+    let n : ℕ = length c.args.out.now / 512 in
+    let v = c.verity_at-verity.result.now in
+    let tree = c.tree_at-tree.result in
+    let old = map g.D.BlockDev.state c.args.reader.now.devices.items in
+    let found = c.args.found.now.items in
+    let loaded = c.requires.stack.sound.loaded in
+    let line = c.verity_at-verity.ensures in
+    let is = c.tree_at-tree.ensures.tree.on_data in
+    let at = blocks-at config v p n found tree.data loaded (omega (arith, c.requires.fits.sectors.some, c.requires.fits.sectors.whole)) line c.requires.fits.holds c.requires.can_go is in
+    let sectors : c.from.result ≡ block_sectors v = c.from.ensures in
+    let bytes_read : List ℕ = c.read_lower.new.out in
+    let len : length bytes_read ≡ 512 * n = omega (arith, c.read_lower.auto.out, c.requires.fits.sectors.whole) in
+    let moved = c.in-Ok.ensures.moved in
+    let got = c.in-Ok-read_lower.ensures.reads.got in
+    let from = map g.D.BlockDev.state c.walk_path.new.reader.devices.items in
+    let way = map block_bytes (take (levels (tree_of v)) c.walk_path.new.path.items) in
+    let walked = subst (λ (k : ℕ). IsWalked (block_in config v (p.first / k)) 0 c.in-Ok.expected way old from) sectors c.in-Ok.ensures.ok in
+    let are = digests-are config v p n tree.data found loaded line is at bytes_read _ len c.digest_blocks.ensures in
+    record {
+      inside = omega (arith, are.0, at.some);
+      index = let e : p.first / c.from.result ≡ p.first / block_sectors v = ap (λ (k : ℕ). p.first / k) sectors in omega (arith, e);
+      all = c.digest_blocks.ensures;
+      held = path-read config c.walk_path.new.path.items got.moved c.in-Ok.ensures.held;
+      were = record { from = from; to = _; chains = c.read_lower.new.found.items; ways = _; first = moved; whole = all-whole g.D.BlockDev.state g.met.D.BlockDev.whole c.walk_path.new.reader.devices.items; got = got };
+      next = first-next config v p n tree.data found loaded line is at bytes_read c.in-Ok.expected way c.read_lower.new.found.items c.requires.kept walked moved got;
+      cached = record { capacity = c.in-Ok-read_lower.ensures.cached.capacity ∙ c.in-Ok.ensures.cached.capacity; sound = c.in-Ok-read_lower.ensures.cached.sound };
+    }
+
+pub read_blocks-returns-then-ne-clause-reads : goal.read_blocks-returns-then-ne-clause-reads
+read_blocks-returns-then-ne-clause-reads g t c =
+    let config = c.args.config.now in
+    let p = c.args.part in
+    let n : ℕ = length c.args.out.now / 512 in
+    let v = c.verity_at-verity.result.now in
+    let tree = c.tree_at-tree.result in
+    let old = map g.D.BlockDev.state c.args.reader.now.devices.items in
+    let found = c.args.found.now.items in
+    let loaded = c.requires.stack.sound.loaded in
+    let line = c.verity_at-verity.ensures in
+    let is = c.tree_at-tree.ensures.tree.on_data in
+    let at = blocks-at config v p n found tree.data loaded (omega (arith, c.requires.fits.sectors.some, c.requires.fits.sectors.whole)) line c.requires.fits.holds c.requires.can_go is in
+    let bytes_read : List ℕ = c.read_lower.new.out in
+    let len : length bytes_read ≡ 512 * n = omega (arith, c.read_lower.auto.out, c.requires.fits.sectors.whole) in
+    let inv = c.checks.invariant in
+    let j : ℕ = c.checks.at in
+    let are = digests-are config v p n tree.data found loaded line is at bytes_read _ len inv.all in
+    let inside : j < n / block_sectors v = omega (arith, inv.inside, are.0) in
+    let did : Read = record { old = old; new = map g.D.BlockDev.state c.checks.reader.devices.items; before = found; after = c.checks.found.items } in
+    let way = map block_bytes (take (levels (tree_of v)) c.checks.path.items) in
+    next-differs config v p n tree.data found loaded line is at j bytes_read c.checks.expected way did inside inv.were inv.next (other-digest _ c.checks.expected _ v.salt (are.1 j _ inside) c.if-ne.ensures)
+
+pub read_blocks-slice_bounds-way-end : goal.read_blocks-slice_bounds-way-end
+read_blocks-slice_bounds-way-end g t c =
+    let config = c.args.config.now in
+    let p = c.args.part in
+    let n : ℕ = length c.args.out.now / 512 in
+    let v = c.verity_at-verity.result.now in
+    let tree = c.tree_at-tree.result in
+    let old = map g.D.BlockDev.state c.args.reader.now.devices.items in
+    let found = c.args.found.now.items in
+    let loaded = c.requires.stack.sound.loaded in
+    let line = c.verity_at-verity.ensures in
+    let is = c.tree_at-tree.ensures.tree.on_data in
+    let at = blocks-at config v p n found tree.data loaded (omega (arith, c.requires.fits.sectors.some, c.requires.fits.sectors.whole)) line c.requires.fits.holds c.requires.can_go is in
+    let inv = c.checks.invariant in
+    let levels_are : c.levels-levels.result ≡ levels (tree_of v) = c.levels-levels.ensures.value ∙ ap levels c.tree_at-tree.ensures.tree.shape_is in
+    let long = way-whole config v (p.first / block_sectors v + c.checks.at) c.checks.path.items inv.next.walked in
+    let value : length c.as_slice.result.now ≡ length c.checks.path.items = ap (λ (l : List CachedBlock). length l) c.as_slice.ensures.value in
+    sym (length-take-le c.levels-levels.result c.as_slice.result.now (omega (arith, long, levels_are, value)))
+
+pub read_blocks-overflow_mul-content : goal.read_blocks-overflow_mul-content
+read_blocks-overflow_mul-content g t c =
+    let config = c.args.config.now in
+    let p = c.args.part in
+    let n : ℕ = length c.args.out.now / 512 in
+    let v = c.verity_at-verity.result.now in
+    let tree = c.tree_at-tree.result in
+    let old = map g.D.BlockDev.state c.args.reader.now.devices.items in
+    let found = c.args.found.now.items in
+    let loaded = c.requires.stack.sound.loaded in
+    let line = c.verity_at-verity.ensures in
+    let is = c.tree_at-tree.ensures.tree.on_data in
+    let at = blocks-at config v p n found tree.data loaded (omega (arith, c.requires.fits.sectors.some, c.requires.fits.sectors.whole)) line c.requires.fits.holds c.requires.can_go is in
+    let bytes_read : List ℕ = c.read_lower.new.out in
+    let len : length bytes_read ≡ 512 * n = omega (arith, c.read_lower.auto.out, c.requires.fits.sectors.whole) in
+    let inv = c.checks.invariant in
+    let j : ℕ = c.checks.at in
+    let are = digests-are config v p n tree.data found loaded line is at bytes_read _ len inv.all in
+    let inside : j < n / block_sectors v = omega (arith, inv.inside, are.0) in
+    let did : Read = record { old = old; new = map g.D.BlockDev.state c.checks.reader.devices.items; before = found; after = c.checks.found.items } in
+    let way = map block_bytes (take (levels (tree_of v)) c.checks.path.items) in
+    let ends = block-ends config v p n tree.data found loaded line is at bytes_read j len inside in
+    let starts : j * v.data_block ≤ (j + 1) * v.data_block = mul-le-mul_right v.data_block (omega arith) in
+    omega (arith, ends, starts, c.read_lower.auto.out)
+
+pub read_blocks-slice_bounds-content-end : goal.read_blocks-slice_bounds-content-end
+read_blocks-slice_bounds-content-end g t c =
+    let config = c.args.config.now in
+    let p = c.args.part in
+    let n : ℕ = length c.args.out.now / 512 in
+    let v = c.verity_at-verity.result.now in
+    let tree = c.tree_at-tree.result in
+    let old = map g.D.BlockDev.state c.args.reader.now.devices.items in
+    let found = c.args.found.now.items in
+    let loaded = c.requires.stack.sound.loaded in
+    let line = c.verity_at-verity.ensures in
+    let is = c.tree_at-tree.ensures.tree.on_data in
+    let at = blocks-at config v p n found tree.data loaded (omega (arith, c.requires.fits.sectors.some, c.requires.fits.sectors.whole)) line c.requires.fits.holds c.requires.can_go is in
+    let bytes_read : List ℕ = c.read_lower.new.out in
+    let len : length bytes_read ≡ 512 * n = omega (arith, c.read_lower.auto.out, c.requires.fits.sectors.whole) in
+    let inv = c.checks.invariant in
+    let j : ℕ = c.checks.at in
+    let are = digests-are config v p n tree.data found loaded line is at bytes_read _ len inv.all in
+    let inside : j < n / block_sectors v = omega (arith, inv.inside, are.0) in
+    let did : Read = record { old = old; new = map g.D.BlockDev.state c.checks.reader.devices.items; before = found; after = c.checks.found.items } in
+    let way = map block_bytes (take (levels (tree_of v)) c.checks.path.items) in
+    let ends = block-ends config v p n tree.data found loaded line is at bytes_read j len inside in
+    let starts : j * v.data_block ≤ (j + 1) * v.data_block = mul-le-mul_right v.data_block (omega arith) in
+    omega (arith, ends, starts, c.read_lower.auto.out)
+
+pub read_blocks-returns-in-Err-keep_chain-clause-reads : goal.read_blocks-returns-in-Err-keep_chain-clause-reads
+read_blocks-returns-in-Err-keep_chain-clause-reads g t c =
+    let config = c.args.config.now in
+    let p = c.args.part in
+    let n : ℕ = length c.args.out.now / 512 in
+    let v = c.verity_at-verity.result.now in
+    let tree = c.tree_at-tree.result in
+    let old = map g.D.BlockDev.state c.args.reader.now.devices.items in
+    let found = c.args.found.now.items in
+    let loaded = c.requires.stack.sound.loaded in
+    let line = c.verity_at-verity.ensures in
+    let is = c.tree_at-tree.ensures.tree.on_data in
+    let at = blocks-at config v p n found tree.data loaded (omega (arith, c.requires.fits.sectors.some, c.requires.fits.sectors.whole)) line c.requires.fits.holds c.requires.can_go is in
+    let bytes_read : List ℕ = c.read_lower.new.out in
+    let len : length bytes_read ≡ 512 * n = omega (arith, c.read_lower.auto.out, c.requires.fits.sectors.whole) in
+    let inv = c.checks.invariant in
+    let j : ℕ = c.checks.at in
+    let are = digests-are config v p n tree.data found loaded line is at bytes_read _ len inv.all in
+    let inside : j < n / block_sectors v = omega (arith, inv.inside, are.0) in
+    let did : Read = record { old = old; new = map g.D.BlockDev.state c.checks.reader.devices.items; before = found; after = c.checks.found.items } in
+    let way = map block_bytes (take (levels (tree_of v)) c.checks.path.items) in
+    subst (λ (u : List FoundRecord). ReadsSource config (Blocks p) n (record { old = old; new = did.new; before = found; after = u }) (Err NoMemory)) (sym c.in-Err-keep_chain.ensures.err)
+    (next-full config v p n tree.data found loaded line is at j bytes_read c.checks.expected way did inside inv.were inv.next)
+
+pub read_blocks-returns-then-at-got-clause-reads : goal.read_blocks-returns-then-at-got-clause-reads
+read_blocks-returns-then-at-got-clause-reads g t c =
+    let config = c.args.config.now in
+    let p = c.args.part in
+    let n : ℕ = length c.args.out.now / 512 in
+    let v = c.verity_at-verity.result.now in
+    let tree = c.tree_at-tree.result in
+    let old = map g.D.BlockDev.state c.args.reader.now.devices.items in
+    let found = c.args.found.now.items in
+    let loaded = c.requires.stack.sound.loaded in
+    let line = c.verity_at-verity.ensures in
+    let is = c.tree_at-tree.ensures.tree.on_data in
+    let at = blocks-at config v p n found tree.data loaded (omega (arith, c.requires.fits.sectors.some, c.requires.fits.sectors.whole)) line c.requires.fits.holds c.requires.can_go is in
+    let bytes_read : List ℕ = c.read_lower.new.out in
+    let len : length bytes_read ≡ 512 * n = omega (arith, c.read_lower.auto.out, c.requires.fits.sectors.whole) in
+    let inv = c.checks.invariant in
+    let j : ℕ = c.checks.at in
+    let are = digests-are config v p n tree.data found loaded line is at bytes_read _ len inv.all in
+    let inside : j < n / block_sectors v = omega (arith, inv.inside, are.0) in
+    let did : Read = record { old = old; new = map g.D.BlockDev.state c.checks.reader.devices.items; before = found; after = c.checks.found.items } in
+    let way = map block_bytes (take (levels (tree_of v)) c.checks.path.items) in
+    let good = same-digest _ c.checks.expected _ v.salt (are.1 j _ inside) c.if-ne.ensures in
+    let content = c.as_slice.ensures.value in
+    let levels_are : c.levels-levels.result ≡ levels (tree_of v) = c.levels-levels.ensures.value ∙ ap levels c.tree_at-tree.ensures.tree.shape_is in
+    let goes : map block_bytes (take c.levels-levels.result c.as_slice.result.now) ≡ way =
+    ap (λ (l : List CachedBlock). map block_bytes (take c.levels-levels.result l)) c.as_slice.ensures.value ∙ ap (λ (k : ℕ). map block_bytes (take k c.checks.path.items)) levels_are in
+    let one = next-had config v p n tree.data found loaded line is at j bytes_read c.checks.expected way did inside inv.were inv.next c.checks.index _ _ inv.index (block-slice bytes_read (block_sectors v) v.data_block j at.size.whole) goes good in
+    let had = subst (λ (u : List FoundRecord). WereHad config v p n (j + 1) bytes_read (record { old = old; new = did.new; before = found; after = u })) (sym c.in-Ok-keep_chain.ensures.ok) one in
+    had-all config v p n tree.data found loaded line is at (j + 1) bytes_read _ (omega (arith, are.0, c.if-at-got.true)) len had
+
+pub read_blocks-overflow_add-index : goal.read_blocks-overflow_add-index
+read_blocks-overflow_add-index g t c =
+    let config = c.args.config.now in
+    let p = c.args.part in
+    let n : ℕ = length c.args.out.now / 512 in
+    let v = c.verity_at-verity.result.now in
+    let tree = c.tree_at-tree.result in
+    let old = map g.D.BlockDev.state c.args.reader.now.devices.items in
+    let found = c.args.found.now.items in
+    let loaded = c.requires.stack.sound.loaded in
+    let line = c.verity_at-verity.ensures in
+    let is = c.tree_at-tree.ensures.tree.on_data in
+    let at = blocks-at config v p n found tree.data loaded (omega (arith, c.requires.fits.sectors.some, c.requires.fits.sectors.whole)) line c.requires.fits.holds c.requires.can_go is in
+    let bytes_read : List ℕ = c.read_lower.new.out in
+    let len : length bytes_read ≡ 512 * n = omega (arith, c.read_lower.auto.out, c.requires.fits.sectors.whole) in
+    let inv = c.checks.invariant in
+    let j : ℕ = c.checks.at in
+    let are = digests-are config v p n tree.data found loaded line is at bytes_read _ len inv.all in
+    let inside : j < n / block_sectors v = omega (arith, inv.inside, are.0) in
+    let did : Read = record { old = old; new = map g.D.BlockDev.state c.checks.reader.devices.items; before = found; after = c.checks.found.items } in
+    let way = map block_bytes (take (levels (tree_of v)) c.checks.path.items) in
+    let small = size-small config tree.data loaded in
+    let low = small-index config v p n tree.data found loaded line is at j inside in
+    omega (arith, small, low, at.below, inv.index)
+
+pub read_blocks-walk_path-requires-in-checks : goal.read_blocks-walk_path-requires-in-checks
+read_blocks-walk_path-requires-in-checks g t c κs within =
+    let config = c.args.config.now in
+    let p = c.args.part in
+    let n : ℕ = length c.args.out.now / 512 in
+    let v = c.verity_at-verity.result.now in
+    let tree = c.tree_at-tree.result in
+    let old = map g.D.BlockDev.state c.args.reader.now.devices.items in
+    let found = c.args.found.now.items in
+    let loaded = c.requires.stack.sound.loaded in
+    let line = c.verity_at-verity.ensures in
+    let is = c.tree_at-tree.ensures.tree.on_data in
+    let at = blocks-at config v p n found tree.data loaded (omega (arith, c.requires.fits.sectors.some, c.requires.fits.sectors.whole)) line c.requires.fits.holds c.requires.can_go is in
+    let bytes_read : List ℕ = c.read_lower.new.out in
+    let len : length bytes_read ≡ 512 * n = omega (arith, c.read_lower.auto.out, c.requires.fits.sectors.whole) in
+    let inv = c.checks.invariant in
+    let j : ℕ = c.checks.at in
+    let are = digests-are config v p n tree.data found loaded line is at bytes_read _ len inv.all in
+    let inside : j < n / block_sectors v = omega (arith, inv.inside, are.0) in
+    let did : Read = record { old = old; new = map g.D.BlockDev.state c.checks.reader.devices.items; before = found; after = c.checks.found.items } in
+    let way = map block_bytes (take (levels (tree_of v)) c.checks.path.items) in
+    let more : j + 1 < n / block_sectors v = omega (arith, are.0, inside, c.if-at-got.false) in
+    let depths : depth config (mapped tree.device.0) ≡ depth config (mapped p.device.0) = ap (λ (x : DevId). depth config (mapped x.0)) c.tree_at-tree.ensures.at in
+    let there : c.checks.index + 1 < v.blocks = omega (arith, at.there (j + 1) more, inv.index) in
+    let stack = stack-later config inv.next.moved.moved.fixed c.requires.stack inv.cached in
+    (omega (arith, depths), (within, (stack, (record { lies = c.tree_at-tree.ensures.tree; there = there }, inv.held))))
+
+pub read_blocks-returns-in-Err-walk_path-clause-reads : goal.read_blocks-returns-in-Err-walk_path-clause-reads
+read_blocks-returns-in-Err-walk_path-clause-reads g t c =
+    let config = c.args.config.now in
+    let p = c.args.part in
+    let n : ℕ = length c.args.out.now / 512 in
+    let v = c.verity_at-verity.result.now in
+    let tree = c.tree_at-tree.result in
+    let old = map g.D.BlockDev.state c.args.reader.now.devices.items in
+    let found = c.args.found.now.items in
+    let loaded = c.requires.stack.sound.loaded in
+    let line = c.verity_at-verity.ensures in
+    let is = c.tree_at-tree.ensures.tree.on_data in
+    let at = blocks-at config v p n found tree.data loaded (omega (arith, c.requires.fits.sectors.some, c.requires.fits.sectors.whole)) line c.requires.fits.holds c.requires.can_go is in
+    let bytes_read : List ℕ = c.read_lower.new.out in
+    let len : length bytes_read ≡ 512 * n = omega (arith, c.read_lower.auto.out, c.requires.fits.sectors.whole) in
+    let inv = c.checks.invariant in
+    let j : ℕ = c.checks.at in
+    let are = digests-are config v p n tree.data found loaded line is at bytes_read _ len inv.all in
+    let inside : j < n / block_sectors v = omega (arith, inv.inside, are.0) in
+    let did : Read = record { old = old; new = map g.D.BlockDev.state c.checks.reader.devices.items; before = found; after = c.checks.found.items } in
+    let way = map block_bytes (take (levels (tree_of v)) c.checks.path.items) in
+    let more : j + 1 < n / block_sectors v = omega (arith, are.0, inside, c.if-at-got.false) in
+    let good = same-digest _ c.checks.expected _ v.salt (are.1 j _ inside) c.if-ne.ensures in
+    let content = c.as_slice.ensures.value in
+    let levels_are : c.levels-levels.result ≡ levels (tree_of v) = c.levels-levels.ensures.value ∙ ap levels c.tree_at-tree.ensures.tree.shape_is in
+    let goes : map block_bytes (take c.levels-levels.result c.as_slice.result.now) ≡ way =
+    ap (λ (l : List CachedBlock). map block_bytes (take c.levels-levels.result l)) c.as_slice.ensures.value ∙ ap (λ (k : ℕ). map block_bytes (take k c.checks.path.items)) levels_are in
+    let one = next-had config v p n tree.data found loaded line is at j bytes_read c.checks.expected way did inside inv.were inv.next c.checks.index _ _ inv.index (block-slice bytes_read (block_sectors v) v.data_block j at.size.whole) goes good in
+    let had = subst (λ (u : List FoundRecord). WereHad config v p n (j + 1) bytes_read (record { old = old; new = did.new; before = found; after = u })) (sym c.in-Ok-keep_chain.ensures.ok) one in
+    let number : c.checks.index + 1 ≡ p.first / block_sectors v + (j + 1) = omega (arith, inv.index) in
+    let new = map g.D.BlockDev.state c.walk_path-in-checks.new.reader.devices.items in
+    let got = subst (λ (k : ℕ). GetsChain (block_in config v k) did.new new (Err c.in-Err-walk_path.first)) number c.in-Err-walk_path.ensures.err in
+    had-fails config v p n tree.data found loaded line is at (j + 1) bytes_read _ c.in-Err-walk_path.first more had c.in-Err-walk_path.ensures.moved got
+
+pub read_blocks-checks-preserved : goal.read_blocks-checks-preserved
+read_blocks-checks-preserved g t c =
+    let config = c.args.config.now in
+    let p = c.args.part in
+    let n : ℕ = length c.args.out.now / 512 in
+    let v = c.verity_at-verity.result.now in
+    let tree = c.tree_at-tree.result in
+    let old = map g.D.BlockDev.state c.args.reader.now.devices.items in
+    let found = c.args.found.now.items in
+    let loaded = c.requires.stack.sound.loaded in
+    let line = c.verity_at-verity.ensures in
+    let is = c.tree_at-tree.ensures.tree.on_data in
+    let at = blocks-at config v p n found tree.data loaded (omega (arith, c.requires.fits.sectors.some, c.requires.fits.sectors.whole)) line c.requires.fits.holds c.requires.can_go is in
+    let bytes_read : List ℕ = c.read_lower.new.out in
+    let len : length bytes_read ≡ 512 * n = omega (arith, c.read_lower.auto.out, c.requires.fits.sectors.whole) in
+    let inv = c.checks.invariant in
+    let j : ℕ = c.checks.at in
+    let are = digests-are config v p n tree.data found loaded line is at bytes_read _ len inv.all in
+    let inside : j < n / block_sectors v = omega (arith, inv.inside, are.0) in
+    let did : Read = record { old = old; new = map g.D.BlockDev.state c.checks.reader.devices.items; before = found; after = c.checks.found.items } in
+    let way = map block_bytes (take (levels (tree_of v)) c.checks.path.items) in
+    let more : j + 1 < n / block_sectors v = omega (arith, are.0, inside, c.if-at-got.false) in
+    let good = same-digest _ c.checks.expected _ v.salt (are.1 j _ inside) c.if-ne.ensures in
+    let content = c.as_slice.ensures.value in
+    let levels_are : c.levels-levels.result ≡ levels (tree_of v) = c.levels-levels.ensures.value ∙ ap levels c.tree_at-tree.ensures.tree.shape_is in
+    let goes : map block_bytes (take c.levels-levels.result c.as_slice.result.now) ≡ way =
+    ap (λ (l : List CachedBlock). map block_bytes (take c.levels-levels.result l)) c.as_slice.ensures.value ∙ ap (λ (k : ℕ). map block_bytes (take k c.checks.path.items)) levels_are in
+    let one = next-had config v p n tree.data found loaded line is at j bytes_read c.checks.expected way did inside inv.were inv.next c.checks.index _ _ inv.index (block-slice bytes_read (block_sectors v) v.data_block j at.size.whole) goes good in
+    let had = subst (λ (u : List FoundRecord). WereHad config v p n (j + 1) bytes_read (record { old = old; new = did.new; before = found; after = u })) (sym c.in-Ok-keep_chain.ensures.ok) one in
+    let number : c.checks.index + 1 ≡ p.first / block_sectors v + (j + 1) = omega (arith, inv.index) in
+    let new = map g.D.BlockDev.state c.walk_path-in-checks.new.reader.devices.items in
+    let next_way = map block_bytes (take (levels (tree_of v)) c.walk_path-in-checks.new.path.items) in
+    let walked = subst (λ (k : ℕ). IsWalked (block_in config v k) 0 c.in-Ok-walk_path.next next_way did.new new) number c.in-Ok-walk_path.ensures.ok in
+    record {
+      inside = omega (arith, are.0, more);
+      index = omega (arith, inv.index);
+      all = inv.all;
+      held = c.in-Ok-walk_path.ensures.held;
+      were = inv.were;
+      next = had-next config v p n tree.data found loaded line is at (j + 1) bytes_read c.in-Ok-walk_path.next next_way _ had walked c.in-Ok-walk_path.ensures.moved;
+      cached = record { capacity = c.in-Ok-walk_path.ensures.cached.capacity ∙ inv.cached.capacity; sound = c.in-Ok-walk_path.ensures.cached.sound };
+    }
+
+pub read_blocks-returns-in-Err-clause-plain : goal.read_blocks-returns-in-Err-clause-plain
+read_blocks-returns-in-Err-clause-plain g t c = blocks_plain c.args.config.now c.args.part (length c.args.out.now / 512) (omega (arith, c.requires.fits.sectors.some, c.requires.fits.sectors.whole)) c.requires.fits.holds
+
+pub read_blocks-returns-in-Err-read_lower-clause-plain : goal.read_blocks-returns-in-Err-read_lower-clause-plain
+read_blocks-returns-in-Err-read_lower-clause-plain g t c = blocks_plain c.args.config.now c.args.part (length c.args.out.now / 512) (omega (arith, c.requires.fits.sectors.some, c.requires.fits.sectors.whole)) c.requires.fits.holds
+
+pub read_blocks-returns-then-ne-clause-plain : goal.read_blocks-returns-then-ne-clause-plain
+read_blocks-returns-then-ne-clause-plain g t c = blocks_plain c.args.config.now c.args.part (length c.args.out.now / 512) (omega (arith, c.requires.fits.sectors.some, c.requires.fits.sectors.whole)) c.requires.fits.holds
+
+pub read_blocks-returns-in-Err-keep_chain-clause-plain : goal.read_blocks-returns-in-Err-keep_chain-clause-plain
+read_blocks-returns-in-Err-keep_chain-clause-plain g t c = blocks_plain c.args.config.now c.args.part (length c.args.out.now / 512) (omega (arith, c.requires.fits.sectors.some, c.requires.fits.sectors.whole)) c.requires.fits.holds
+
+pub read_blocks-returns-then-at-got-clause-plain : goal.read_blocks-returns-then-at-got-clause-plain
+read_blocks-returns-then-at-got-clause-plain g t c = blocks_plain c.args.config.now c.args.part (length c.args.out.now / 512) (omega (arith, c.requires.fits.sectors.some, c.requires.fits.sectors.whole)) c.requires.fits.holds
+
+pub read_blocks-returns-in-Err-walk_path-clause-plain : goal.read_blocks-returns-in-Err-walk_path-clause-plain
+read_blocks-returns-in-Err-walk_path-clause-plain g t c = blocks_plain c.args.config.now c.args.part (length c.args.out.now / 512) (omega (arith, c.requires.fits.sectors.some, c.requires.fits.sectors.whole)) c.requires.fits.holds

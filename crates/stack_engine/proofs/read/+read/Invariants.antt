@@ -1,11 +1,16 @@
-use Rattle.std.proofs.Common.{length, take, map, ◌-◌, ◌≡◌, ◌≤◌, ◌+◌, ◌/◌, ◌*◌, ◌%◌, Ok}
+use Rattle.std.proofs.Common.{All, length, take, map, ◌-◌, ◌≡◌, ◌<◌, ◌≤◌, ◌+◌, ◌/◌, ◌*◌, ◌%◌, Ok}
 use Rattle.stack_rules.specs.Names.{mapped}
 use Rattle.stack_rules.specs.Descend.{depth}
 use Rattle.stack_meaning.specs.Meaning.{said_at}
 use Rattle.stack_meaning.specs.Reading.{Reads, IsPlain}
 use Rattle.stack_lines.specs.Sources.{source_depth}
 use Rattle.stack_lines.specs.Walks.{block_in, IsWalked}
-use Rattle.stack_lines.specs.Caches.{KeepsCache}
+use Rattle.stack_lines.specs.Caches.{IsCached, KeepsCache}
+use Rattle.tree_shape.specs.Digests.{digest}
+use Rattle.hash_tree.specs.Tree.{cut}
+use Rattle.tree_shape.specs.Shape.{levels}
+use Rattle.stack_rules.specs.Trees.{tree_of, block_sectors}
+use Rattle.stack_engine.proofs.NextBlockLemmas.{WereRead, IsNext}
 use Rattle.stack_engine.proofs.read.+read.Given as goal
 
 -- 8 times the depth and a rank, of which 0 to 4 are left for the steps of a target: part of a unit takes 4, whole units 3,
@@ -66,3 +71,41 @@ invariant-walk-loop-level g l = record {
 
 abbrev pub decreases-walk-loop-level : goal.decreases-walk-loop-level
 decreases-walk-loop-level g l = l.level
+
+abbrev pub decreases-path_block : goal.decreases-path_block
+decreases-path_block g l = 8 * depth l.config.now l.wanted.now.extent.lower + 10
+
+abbrev pub decreases-walk_path : goal.decreases-walk_path
+decreases-walk_path g l = 8 * depth l.config.now (mapped l.tree.now.device.0) + 3
+
+abbrev pub decreases-read_blocks : goal.decreases-read_blocks
+decreases-read_blocks g l = 8 * depth l.config.now (mapped l.part.device.0) + 4
+
+-- what the blocks of the path so far show
+abbrev pub invariant-walk_path-loop-left : goal.invariant-walk_path-loop-left
+invariant-walk_path-loop-left g l = record {
+  within : l.at ≤ length l.path.items;
+  walked : IsWalked (block_in l.config l.verity l.index) l.left l.digest (map (λ b. b.bytes) (take l.at l.path.items))
+      (map g.D.BlockDev.state l.fn.reader.devices.items) (map g.D.BlockDev.state l.reader.devices.items);
+  held : All (IsCached l.config (map g.D.BlockDev.state l.reader.devices.items)) l.path.items;
+  cached : KeepsCache l.config (map g.D.BlockDev.state l.reader.devices.items) l.fn.reader.cache l.reader.cache;
+}
+
+abbrev pub decreases-walk_path-loop-left : goal.decreases-walk_path-loop-left
+decreases-walk_path-loop-left g l = l.left
+
+-- the next block is at hand, with the way to it, and those before it were had
+abbrev pub invariant-read_blocks-checks : goal.invariant-read_blocks-checks
+invariant-read_blocks-checks g l = record {
+  inside : l.at < length l.got;
+  index : l.index ≡ l.fn.part.first / block_sectors l.verity + l.at;
+  all : l.got ≡ map (digest l.verity.salt) (cut l.size l.out);
+  held : All (IsCached l.config (map g.D.BlockDev.state l.reader.devices.items)) l.path.items;
+  were : WereRead l.config l.fn.part (length l.fn.out / 512) l.tree.data l.out (map g.D.BlockDev.state l.fn.reader.devices.items);
+  next : IsNext l.config l.verity l.fn.part (length l.fn.out / 512) l.at l.out l.expected (map (λ b. b.bytes) (take (levels (tree_of l.verity)) l.path.items))
+      (record { old = map g.D.BlockDev.state l.fn.reader.devices.items; new = map g.D.BlockDev.state l.reader.devices.items; before = l.fn.found.items; after = l.found.items });
+  cached : KeepsCache l.config (map g.D.BlockDev.state l.reader.devices.items) l.fn.reader.cache l.reader.cache;
+}
+
+abbrev pub decreases-read_blocks-checks : goal.decreases-read_blocks-checks
+decreases-read_blocks-checks g l = length l.got - l.at

@@ -460,6 +460,7 @@ write_unit_part-read_units-requires g t c =
         sectors = record { some = omega (arith, size, whole.ensures.some); whole = omega (arith, size) };
         holds = subst (λ (k : ℕ). AreUnits config whole.result.from.device.0 whole.result.from.line whole.result.from.first k) (sym count) units;
       };
+      can_go = tt;
     }
 
 pub write_unit_part-returns-in-Err-clause-writes : goal.write_unit_part-returns-in-Err-clause-writes

@@ -7,7 +7,7 @@ use Rattle.stack_lines.specs.Sources.{source_said, SourceHolds}
 use Rattle.stack_lines.specs.Writing.{SomeEncrypt}
 use Rattle.stack_meaning.proofs.lemmas.LoadedLemmas.{size-small}
 use Rattle.stack_lines.proofs.lemmas.SourceLemmas.{served-depth, served-holds}
-use Rattle.stack_lines.proofs.lemmas.EncryptLemmas.{leaf-encrypts, block-encrypts, units-some, unit_part-some, below-some, some-below, run-some, none-more}
+use Rattle.stack_lines.proofs.lemmas.EncryptLemmas.{leaf-encrypts, block-encrypts, blocks-encrypt, units-some, unit_part-some, below-some, some-below, run-some, none-more}
 use Rattle.stack_lines.proofs.encrypts.+encrypts.Goals as goal
 
 pub device_encrypts-overflow_add-first : goal.device_encrypts-overflow_add-first
@@ -60,6 +60,13 @@ run_encrypts-returns-in-Block t c =
     let config = c.args.config.now in
     let none : SomeEncrypt (source_said config c.args.source) 0 c.args.count → ⊥ =
     subst (λ (s : Source). SomeEncrypt (source_said config s) 0 c.args.count → ⊥) (sym c.in-Block.is) (block-encrypts config c.in-Block.field-0 c.args.count (subst (λ (s : Source). SourceHolds config s c.args.count) c.in-Block.is c.requires.inside)) in
+    (λ yes. cc, λ some. absurd (none some))
+
+pub run_encrypts-returns-in-Blocks : goal.run_encrypts-returns-in-Blocks
+run_encrypts-returns-in-Blocks t c =
+    let config = c.args.config.now in
+    let none : SomeEncrypt (source_said config c.args.source) 0 c.args.count → ⊥ =
+    subst (λ (s : Source). SomeEncrypt (source_said config s) 0 c.args.count → ⊥) (sym c.in-Blocks.is) (blocks-encrypt config c.in-Blocks.field-0 c.args.count (subst (λ (s : Source). SourceHolds config s c.args.count) c.in-Blocks.is c.requires.inside)) in
     (λ yes. cc, λ some. absurd (none some))
 
 pub run_encrypts-returns-in-Units : goal.run_encrypts-returns-in-Units

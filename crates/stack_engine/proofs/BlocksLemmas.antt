@@ -1,0 +1,351 @@
+-- Whole data blocks of a verity line of a configuration, which are read at once.
+use Rattle.std.proofs.Common.{◌≡◌, ℕ, zero, suc, ◌+◌, ◌-◌, ◌*◌, ◌/◌, ◌%◌, ◌<◌, ◌≤◌, Bool, true, false, cond, List, [], ◌∷◌, ◌++◌, length, get_or, take, drop, Option, Some, Result, Ok, Err, inl, inr, refl, sym, ap, ◌∙◌, subst, arith}
+use Rattle.std.specs.Prelude.{◌&&◌}
+use Rattle.std.proofs.lemmas.Bool.{cases_lt}
+use Rattle.std.proofs.lemmas.List.{take_all, length-take-le, length-drop}
+use Rattle.std.proofs.lemmas.List.Elements.{All-cons, All-nil, All-append, Contains-push}
+use Rattle.std.proofs.lemmas.Slice.Eq.{bytes_eq-Decides}
+use Rattle.std.specs.Str.{bytes_eq}
+use Rattle.std.proofs.lemmas.Nat.{div-add-mod', div-mul-add, mod-mul-add}
+use Rattle.std.proofs.Math.Nat.{add-mul, mul_comm, mul_assoc, mul-le-mul_left, mul-le-mul_right}
+use Rattle.hash_tree.specs.Chain.{ChainRecord}
+use Rattle.tree_shape.specs.Digests.{digest}
+use Rattle.tree_shape.specs.Shape.{levels}
+use Rattle.block_device.specs.Device.{Device}
+use Rattle.dm_table.specs.declared.verity.Verity.{Verity}
+use Rattle.dm_table.specs.declared.table.Line.{Line}
+use Rattle.dm_table.specs.declared.table.Target.{Target}
+use Rattle.dm_table.specs.declared.table.Target.TheVariants.{Verity as verity_target}
+use Rattle.stack_rules.specs.declared.lower.Lower.{Lower}
+use Rattle.stack_rules.specs.Records.{Configuration}
+use Rattle.stack_rules.specs.Names.{mapped, named, size as lower_size}
+use Rattle.stack_rules.specs.Descend.{by_name, read_cost, line_read_cost}
+use Rattle.stack_rules.specs.Rules.{IsLoaded}
+use Rattle.stack_rules.specs.Trees.{tree_of, block_sectors, zero_block}
+use Rattle.stack_config.proofs.lemmas.LoadedLineLemmas.{line-read-cost}
+use Rattle.stack_meaning.specs.declared.fault.IoFault.{IoFault}
+use Rattle.stack_meaning.specs.declared.fault.IoFault.TheVariants as io
+use Rattle.stack_lines.specs.declared.source.BlockPart.{BlockPart}
+use Rattle.stack_lines.specs.declared.source.Source.TheVariants.{Blocks}
+use Rattle.stack_meaning.specs.Outcomes.{Images, Outcome, mismatch, span, then_outcome}
+use Rattle.stack_meaning.specs.Blocks.{hash_sectors, checked, is_ignored}
+use Rattle.stack_meaning.specs.Found.{FoundRecord, Entry, entry_of}
+use Rattle.stack_meaning.specs.Meaning.{Said, line_said, said_by_name}
+use Rattle.stack_meaning.specs.Places.{Place, place_of, run_expected, Read}
+use Rattle.stack_meaning.specs.Reading.{Gets, Finds, MeetVerity, IsPlain}
+use Rattle.stack_meaning.specs.Kept.{block_of, LineKeeps, IsOfVerity, AllKept}
+use Rattle.stack_meaning.specs.Leaves.{images_of, AllSteady, AreRead}
+use Rattle.stack_lines.specs.AtOnce.{AreBefore, GoAtOnce, MeetNone}
+use Rattle.stack_lines.specs.Sources.{AreBlocks, said_of_line, source_said, ReadsSource}
+use Rattle.stack_lines.specs.Walks.{HasVerity, block_in, checked_expected, chain_expected, GetsChain, IsWalked}
+use Rattle.stack_meaning.proofs.lemmas.LeafListLemmas.{AreRead-none, AreRead-more, AllSteady-kept, images-kept, failed_later}
+use Rattle.stack_meaning.proofs.lemmas.FoundLemmas.{IsMono, Grown-none, kept-later}
+use Rattle.stack_meaning.proofs.lemmas.RunLemmas.{Passes, pass, AllMono, run_ok, run_err}
+use Rattle.stack_lines.proofs.lemmas.VerityLineLemmas.{IsWholeSectors, same-verity, data-whole, place-named}
+use Rattle.stack_lines.proofs.lemmas.ReadRunLemmas.{blocks-aligned, blocks-whole, blocks-inside, blocks-below}
+use Rattle.stack_meaning.proofs.lemmas.SizedLemmas.{AreSized, span-part}
+use Rattle.stack_engine.proofs.lemmas.WalkLemmas.{checked-same, data_read, walk_ends, walk_fails}
+use Rattle.stack_engine.proofs.lemmas.BlockLemmas.{block_place, chain_fills, block_fails, AllKept-push, Grown-push}
+use Rattle.stack_engine.proofs.PathLemmas.{checked-at}
+
+-- n sectors of a part, where so much is read for each as for all together at most
+abbrev pub blocks_place : Configuration → BlockPart → ℕ → Place
+blocks_place c p n = record { said = source_said c (Blocks p); cost = n * read_cost c (mapped p.device.0) }
+
+-- what the way to a block costs
+abbrev pub path_cost : Configuration → Verity → ℕ
+path_cost c v = levels (tree_of v) * (hash_sectors v * (block_in c v 0).on_hash.cost)
+
+-- what n sectors and the ways to so many blocks cost
+abbrev pub read_cost_so_far : Configuration → Verity → ℕ → ℕ → ℕ
+read_cost_so_far c v n blocks = n * (block_in c v 0).on_data.cost + blocks * path_cost c v
+
+checked-other : (salt expected block : List ℕ) → (digest salt block ≡ expected → ⊥) → checked salt expected block ≡ Err mismatch
+checked-other salt expected block other = go (bytes_eq (digest salt block) expected) refl
+  where
+    go : (b : Bool) → bytes_eq (digest salt block) expected ≡ b → checked salt expected block ≡ Err mismatch
+    go true e = absurd (other ((bytes_eq-Decides (digest salt block) expected).0 e))
+    go false e = ap (λ (b : Bool). cond b (Ok block) (Err mismatch)) e
+
+-- leaves that were read twice have the same images
+same-images : {old a b : List Device} {q r : ℕ} → AreRead old q a → AreRead old r b → AllSteady b → AllSteady a × (images_of b ≡ images_of a)
+same-images {old = old} {a = a} {b = b} x y steady =
+    let before : AllSteady old = AllSteady-kept b old (sym y.moved.fixed) steady in
+    (AllSteady-kept old a x.moved.fixed before, images-kept y before ∙ sym (images-kept x before))
+
+module _ (c : Configuration) (v : Verity) (p : BlockPart) (n m : ℕ) (loaded : IsLoaded c) (line : HasVerity c p.device.0 p.line v) (aligned : p.first % block_sectors v ≡ 0) (size : IsWholeSectors v.data_block) (count : m * block_sectors v ≡ n) where
+  abbrev pub index : ℕ
+  index = p.first / block_sectors v
+
+  start : index * block_sectors v ≡ p.first
+  start = omega (arith, div-add-mod' p.first (block_sectors v), aligned)
+
+  -- block j begins where it does
+  at-index : (j : ℕ) → (p.first + j * block_sectors v) / block_sectors v ≡ index + j
+  at-index j =
+      let e : p.first + j * block_sectors v ≡ (index + j) * block_sectors v + 0 = omega (arith, start, add-mul index j (block_sectors v)) in
+      ap (λ (k : ℕ). k / block_sectors v) e ∙ div-mul-add (index + j) (block_sectors v) 0 (omega (arith, size.some))
+
+  at-begin : (j : ℕ) → (p.first + j * block_sectors v) % block_sectors v ≡ 0
+  at-begin j =
+      let e : p.first + j * block_sectors v ≡ (index + j) * block_sectors v + 0 = omega (arith, start, add-mul index j (block_sectors v)) in
+      ap (λ (k : ℕ). k % block_sectors v) e ∙ mod-mul-add (index + j) (block_sectors v) 0 (omega (arith, size.some))
+
+  passes : (j k : ℕ) → Passes (block_place (block_in c v (index + j)) (p.device.0, p.line) (p.first + j * block_sectors v) k) (record { said = source_said c (Blocks p); cost = k }) 0 (0 + j * block_sectors v) (block_sectors v)
+  passes j k = record {
+    said = λ t h.
+        let e : p.first + (0 + j * block_sectors v + t) ≡ p.first + j * block_sectors v + (0 + t) = omega arith in
+        sym (ap (λ (o : Option Line). said_of_line c p.device.0 p.line o (p.first + (0 + j * block_sectors v + t))) line.is
+        ∙ ap (λ (u : Target). line_said (said_by_name c) p.device.0 p.line u (p.first + (0 + j * block_sectors v + t))) line.has
+        ∙ ap (λ (s : ℕ). line_said (said_by_name c) p.device.0 p.line (verity_target v) s) e);
+    cost = omega arith;
+  }
+
+  -- ---- a block that was read with the others
+
+  -- block j of what was read
+  abbrev pub block : ℕ → List ℕ → List ℕ
+  block j bytes = take (512 * block_sectors v) (drop (512 * (j * block_sectors v)) bytes)
+
+  fits : (j : ℕ) → j < m → j * block_sectors v + block_sectors v ≤ n
+  fits j inside =
+      let below : (j + 1) * block_sectors v ≤ m * block_sectors v = mul-le-mul_right (block_sectors v) (omega (arith, inside)) in
+      omega (arith, below, count, add-mul j 1 (block_sectors v))
+
+  pub block-length : (j : ℕ) (bytes : List ℕ) → j < m → length bytes ≡ 512 * n → length (block j bytes) ≡ 512 * block_sectors v
+  block-length j bytes inside len = length-take-le (512 * block_sectors v) (drop (512 * (j * block_sectors v)) bytes) (omega (arith, fits j inside, len, length-drop (512 * (j * block_sectors v)) bytes))
+
+  module _ (lower : Lower) (is : named c v.data ≡ Some lower) (taken : v.ignore_zero_blocks ≡ false) {old a b : List Device} {q : ℕ} (first : AreRead old q a) (sized : AllSteady a → AreSized (λ s. ((place_of c lower).said s).means (images_of a)))
+      (chains : List FoundRecord) (bytes : List ℕ) (got : Gets (run_expected (place_of c lower) chains p.first n) a b (Ok bytes)) (j : ℕ) (inside : j < m) where
+    means : AllSteady a → span (λ s. ((place_of c lower).said s).means (images_of a)) (p.first + j * block_sectors v) (block_sectors v) ≡ Ok (block j bytes)
+    means steady =
+        let f : ℕ → Outcome = λ s. ((place_of c lower).said s).means (images_of a) in
+        let rest : j * block_sectors v + (block_sectors v + (n - (j * block_sectors v + block_sectors v))) ≡ n = omega (arith, fits j inside) in
+        span-part f (sized steady) p.first (j * block_sectors v) (block_sectors v) (n - (j * block_sectors v + block_sectors v)) bytes (ap (span f p.first) rest ∙ got.exact steady)
+
+    module _ {mid now : List Device} {r : ℕ} (later : AreRead old r now) {expected : List ℕ} {path : List (List ℕ)} (walked : IsWalked (block_in c v (index + j)) 0 expected path mid now) where
+      here : AllSteady now → span (λ s. ((place_of c lower).said s).means (images_of now)) (p.first + j * block_sectors v) (block_sectors v) ≡ Ok (block j bytes)
+      here steady =
+          let same = same-images first later steady in
+          ap (λ (i : Images). span (λ s. ((place_of c lower).said s).means i) (p.first + j * block_sectors v) (block_sectors v)) same.1 ∙ means same.0
+
+      at-place : (result : Result (List ℕ) IoFault) → Gets (checked_expected (λ (x : List ℕ). x) (place_of c lower) (p.first + j * block_sectors v) (block_sectors v) v.salt expected) now now result
+          → Gets (checked_expected (λ (x : List ℕ). x) (block_in c v (index + j)).on_data (block_sectors v * (index + j)) (block_sectors v) v.salt expected) now now result
+      at-place result one =
+          let e : p.first + j * block_sectors v ≡ block_sectors v * (index + j) = omega (arith, start, add-mul index j (block_sectors v), mul_comm (block_sectors v) (index + j)) in
+          checked-at c v.data lower (block_sectors v * (index + j)) (block_sectors v) v.salt expected result (record { lower = lower; first = block_sectors v * (index + j); sectors = block_sectors v }) is refl
+          (subst (λ (k : ℕ). Gets (checked_expected (λ (x : List ℕ). x) (place_of c lower) k (block_sectors v) v.salt expected) now now result) e one)
+
+      not-ignored : is_ignored v expected ≡ false
+      not-ignored = ap (λ (x : Bool). x && bytes_eq (digest v.salt (zero_block v)) expected) taken
+
+      pub block-had : index + j < v.blocks → digest v.salt (block j bytes) ≡ expected → GetsChain (block_in c v (index + j)) mid now (Ok (record { index = index + j; content = block j bytes; path = path }))
+      block-had there good =
+          walk_ends (λ (x : List ℕ). x) (block_in c v (index + j)) size.whole walked (block j bytes) there
+          (data_read (λ (x : List ℕ). x) (block_in c v (index + j)) expected (Ok (block j bytes)) not-ignored
+          (at-place (Ok (block j bytes)) (record {
+            moved = AreRead-none _ now;
+            may = (block-length j bytes inside got.may.len, good);
+            exact = λ steady. ap (λ (s : Outcome). then_outcome s (checked v.salt expected)) (here steady) ∙ checked-same v.salt expected (block j bytes) good;
+          })))
+
+      pub block-other : (digest v.salt (block j bytes) ≡ expected → ⊥) → GetsChain (block_in c v (index + j)) mid now (Err (io.Stack mismatch))
+      block-other other =
+          walk_fails (λ (x : List ℕ). x) (block_in c v (index + j)) size.whole walked (io.Stack mismatch)
+          (data_read (λ (x : List ℕ). x) (block_in c v (index + j)) expected (Err (io.Stack mismatch)) not-ignored
+          (at-place (Err (io.Stack mismatch)) (record {
+            moved = AreRead-none _ now;
+            may = inl refl;
+            exact = λ steady. ap (λ (s : Outcome). then_outcome s (checked v.salt expected)) (here steady) ∙ checked-other v.salt expected (block j bytes) other;
+          })))
+
+  -- ---- the read goes on
+
+  mono : AllMono (blocks_place c p n)
+  mono s =
+      subst IsMono (sym (ap (λ (o : Option Line). said_of_line c p.device.0 p.line o (p.first + s)) line.is ∙ ap (λ (u : Target). line_said (said_by_name c) p.device.0 p.line u (p.first + s)) line.has))
+      (λ u w more b h. (h.0, record { given = more h.0 h.1.given; at = h.1.at; good = h.1.good }, h.2))
+
+  -- ---- costs
+
+  chain-cost : (i : ℕ) → (chain_expected (block_in c v i)).cost ≤ read_cost c (mapped p.device.0)
+  chain-cost i = subst (λ (t : Target). line_read_cost (by_name c 0 (read_cost c)) t ≤ read_cost c (mapped p.device.0)) line.has (line-read-cost c p.device.0 p.line line.line loaded.valid line.is)
+
+  pub total-cost : (j : ℕ) → j ≤ m → read_cost_so_far c v n j ≤ n * read_cost c (mapped p.device.0)
+  total-cost j most =
+      let dc : ℕ = (block_in c v 0).on_data.cost in
+      let path : ℕ = path_cost c v in
+      let one : block_sectors v * dc + path ≤ read_cost c (mapped p.device.0) = omega (arith, chain-cost 0, mul_assoc (levels (tree_of v)) (hash_sectors v) (block_in c v 0).on_hash.cost) in
+      let all : n * (block_sectors v * dc + path) ≤ n * read_cost c (mapped p.device.0) = mul-le-mul_left n one in
+      let once : 1 * dc ≤ block_sectors v * dc = mul-le-mul_right dc size.some in
+      let blocks_cost : n * dc ≤ n * (block_sectors v * dc) = mul-le-mul_left n (omega (arith, once)) in
+      let each : m * 1 ≤ m * block_sectors v = mul-le-mul_left m size.some in
+      let ways : j * path ≤ n * path = mul-le-mul_right path (omega (arith, most, each, count)) in
+      omega (arith, all, blocks_cost, ways)
+
+  -- ---- the read goes on
+
+  none-more : (now : List FoundRecord) (j : ℕ) → AreBefore p.device.0 p.line (index + j) now → (k : ℕ) → k < length now → (y : FoundRecord) → entry_of (get_or now k y) ≡ (p.device.0, p.line, index + j) → ⊥
+  none-more now j before k below y same =
+      let number : (get_or now k y).chain.index ≡ index + j = ap (λ (e : Entry). e.2) same in
+      omega (arith, number, before k y below (ap (λ (e : Entry). e.0) same) (ap (λ (e : Entry). e.1) same))
+
+  pub before-more : (now : List FoundRecord) (j : ℕ) (content : List ℕ) (path : List (List ℕ)) → AreBefore p.device.0 p.line (index + j) now
+      → AreBefore p.device.0 p.line (index + (j + 1)) (now ++ (record { device = p.device.0; line = p.line; chain = record { index = index + j; content = content; path = path } } ∷ []))
+  before-more now j content path before =
+      let Before : FoundRecord → Type 0 = λ x. x.device ≡ p.device.0 → x.line ≡ p.line → x.chain.index < index + (j + 1) in
+      All-append Before now _ (λ k d below e f. let low = before k d below e f in omega (arith, low)) (All-cons Before _ [] (λ e f. omega arith) (All-nil Before))
+
+  -- none of them yet
+  pub none-read : {old : List Device} (w : List FoundRecord) → AllKept c old w → Finds (blocks_place c p n) c 0 (0 * block_sectors v) (record { old = old; new = old; before = w; after = w }) (Ok [])
+  none-read {old = old} w kept =
+      let zero_is : 0 ≡ 0 * block_sectors v = omega arith in
+      subst (λ (k : ℕ). Finds (blocks_place c p n) c 0 k (record { old = old; new = old; before = w; after = w }) (Ok [])) zero_is (record {
+        got = record {
+          moved = AreRead-none _ old;
+          may = record { len = refl; sectors = λ j h. absurd (omega (arith, h)) };
+          exact = λ steady. refl;
+        };
+        grown = Grown-none _ 0 0 w;
+        kept = kept;
+      })
+
+  module _ {old mid new : List Device} {u w : List FoundRecord} {k : ℕ} {x : List ℕ} (j : ℕ) (inside : j < m) (so_far : Finds (blocks_place c p n) c 0 (j * block_sectors v) (record { old = old; new = mid; before = u; after = w }) (Ok x))
+      (moved : AreRead mid k new) (few : k ≤ n * read_cost c (mapped p.device.0)) where
+    step-cost : k ≤ block_sectors v * (n * read_cost c (mapped p.device.0))
+    step-cost = let once : 1 * (n * read_cost c (mapped p.device.0)) ≤ block_sectors v * (n * read_cost c (mapped p.device.0)) = mul-le-mul_right (n * read_cost c (mapped p.device.0)) size.some in omega (arith, once, few)
+
+    within : (p.first + j * block_sectors v) % block_sectors v + block_sectors v ≤ block_sectors v
+    within = omega (arith, at-begin j)
+
+    -- by one block
+    pub blocks-more : (content : List ℕ) (path : List (List ℕ)) {now : List Device} → length content ≡ 512 * block_sectors v → AreBefore p.device.0 p.line (index + j) w
+        → GetsChain (block_in c v (index + j)) mid now (Ok (record { index = index + j; content = content; path = path }))
+        → Finds (blocks_place c p n) c 0 (j * block_sectors v + block_sectors v)
+        (record { old = old; new = new; before = u; after = w ++ (record { device = p.device.0; line = p.line; chain = record { index = index + j; content = content; path = path } } ∷ []) }) (Ok (x ++ content))
+    blocks-more content path len before got =
+        let chain : ChainRecord = record { index = index + j; content = content; path = path } in
+        let one : FoundRecord = record { device = p.device.0; line = p.line; chain = chain } in
+        let whole : IsOfVerity (said_by_name c v.data) (said_by_name c v.hash) new v chain = record {
+          good = got.may.1;
+          exact = λ steady.
+              let before : AllSteady mid = AllSteady-kept new mid (sym moved.moved.fixed) steady in
+              ap (λ (i : Images). block_of c i v (index + j)) (images-kept moved before) ∙ got.exact before;
+        } in
+        let is : content ≡ take (512 * block_sectors v) (drop (512 * ((p.first + j * block_sectors v) % block_sectors v)) content) =
+        sym (ap (λ (r : ℕ). take (512 * block_sectors v) (drop (512 * r) content)) (at-begin j) ∙ take_all (512 * block_sectors v) content (omega (arith, len))) in
+        run_ok (blocks_place c p n) c mono 0 (j * block_sectors v) (block_sectors v) so_far
+        (pass (passes j (n * read_cost c (mapped p.device.0))) (record { old = mid; new = new; before = w; after = w ++ (one ∷ []) }) (Ok content) (record {
+          got = chain_fills (block_in c v (index + j)) (p.device.0, p.line) (p.first + j * block_sectors v) (block_sectors v) (n * read_cost c (mapped p.device.0)) (sym (at-index j)) within size.whole (w ++ (one ∷ [])) one
+              (AreRead-more step-cost moved) got.exact got.may.1 refl (Contains-push w one) is;
+          grown = Grown-push _ 0 (block_sectors v) w one size.some
+              (0, omega arith, (let e : p.first + j * block_sectors v + 0 ≡ p.first + j * block_sectors v = omega arith in ap (λ (s : ℕ). (p.device.0, p.line, s / block_sectors v)) e ∙ ap (λ (i : ℕ). (p.device.0, p.line, i)) (at-index j)))
+              (none-more w j before);
+          kept = AllKept-push c new w one (kept-later c w moved so_far.kept) (record { line = line.line; is = line.is; keeps = subst (λ (t : Target). LineKeeps c new t chain) (sym line.has) whole });
+        }))
+
+    -- to a fault of the next one
+    stops : (fault : IoFault) → Gets (run_expected (block_place (block_in c v (index + j)) (p.device.0, p.line) (p.first + j * block_sectors v) (n * read_cost c (mapped p.device.0))) w 0 (block_sectors v)) mid new (Err fault)
+        → Finds (blocks_place c p n) c 0 n (record { old = old; new = new; before = u; after = w }) (Err fault)
+    stops fault got =
+        run_err (blocks_place c p n) c mono 0 (j * block_sectors v) (block_sectors v) so_far n fault (fits j inside)
+        (pass (passes j (n * read_cost c (mapped p.device.0))) (record { old = mid; new = new; before = w; after = w }) (Err fault) (record { got = got; grown = Grown-none _ 0 (block_sectors v) w; kept = kept-later c w moved so_far.kept }))
+
+    block-stops : (fault : IoFault) {now : List Device} → GetsChain (block_in c v (index + j)) mid now (Err fault)
+        → Gets (run_expected (block_place (block_in c v (index + j)) (p.device.0, p.line) (p.first + j * block_sectors v) (n * read_cost c (mapped p.device.0))) w 0 (block_sectors v)) mid now (Err fault)
+    block-stops fault got =
+        let one : 1 * read_cost c (mapped p.device.0) ≤ n * read_cost c (mapped p.device.0) = mul-le-mul_right (read_cost c (mapped p.device.0)) (omega (arith, fits j inside, size.some)) in
+        block_fails (block_in c v (index + j)) (p.device.0, p.line) (p.first + j * block_sectors v) (block_sectors v) (n * read_cost c (mapped p.device.0)) (sym (at-index j)) within size.whole w fault size.some (omega (arith, chain-cost (index + j), one)) got
+
+    pub blocks-stop : (fault : IoFault) → GetsChain (block_in c v (index + j)) mid new (Err fault) → Finds (blocks_place c p n) c 0 n (record { old = old; new = new; before = u; after = w }) (Err fault)
+    blocks-stop fault got = stops fault (block-stops fault got)
+
+    -- of its digest
+    pub blocks-differ : {now : List Device} → GetsChain (block_in c v (index + j)) mid now (Err (io.Stack mismatch)) → Finds (blocks_place c p n) c 0 n (record { old = old; new = new; before = u; after = w }) (Err (io.Stack mismatch))
+    blocks-differ got = let end = block-stops (io.Stack mismatch) got in stops (io.Stack mismatch) (record { moved = AreRead-more step-cost moved; may = end.may; exact = end.exact })
+
+    -- or where memory is short
+    pub blocks-full : Finds (blocks_place c p n) c 0 n (record { old = old; new = new; before = u; after = w }) (Err io.NoMemory)
+    blocks-full = stops io.NoMemory (record { moved = AreRead-more step-cost moved; may = tt; exact = λ steady. tt })
+
+  -- ---- the whole read
+
+  pub blocks-read : (did : Read) (answer : Result (List ℕ) IoFault) (j : ℕ) → j ≤ m → AreRead did.old (read_cost_so_far c v n j) did.new → Finds (blocks_place c p n) c 0 n did answer → ReadsSource c (Blocks p) n did answer
+  blocks-read did answer j most moved found = record {
+    got = record { moved = AreRead-more (total-cost j most) moved; may = found.got.may; exact = found.got.exact };
+    grown = found.grown;
+    kept = found.kept;
+  }
+
+  -- the data that couldn't be read: no fault is met beneath them
+  pub data-stops : {old a b : List Device} {q r : ℕ} (lower : Lower) (chains w : List FoundRecord) (fault : IoFault) → MeetNone (place_of c lower).said p.first n → AllKept c old w → AreRead old q a → AreRead old r b → r ≤ n * read_cost c (mapped p.device.0)
+      → Gets (run_expected (place_of c lower) chains p.first n) a b (Err fault) → ReadsSource c (Blocks p) n (record { old = old; new = b; before = w; after = w }) (Err fault)
+  data-stops lower chains w (io.Stack fault) clear kept first moved few got = absurd (clear fault got.may)
+  data-stops lower chains w (io.Device i) clear kept first moved few got = record {
+    got = record { moved = AreRead-more few moved; may = (got.may.0, failed_later first.moved got.moved.moved got.may.1); exact = λ steady. tt };
+    grown = Grown-none _ 0 n w;
+    kept = kept-later c w moved kept;
+  }
+  data-stops lower chains w io.NoMemory clear kept first moved few got = record {
+    got = record { moved = AreRead-more few moved; may = tt; exact = λ steady. tt };
+    grown = Grown-none _ 0 n w;
+    kept = kept-later c w moved kept;
+  }
+
+-- a verity line is on the way
+pub blocks_plain : (c : Configuration) (p : BlockPart) (n : ℕ) {old new : List Device} {result : Result Unit IoFault} → 0 < n → AreBlocks c p.device.0 p.line p.first n → IsPlain (source_said c (Blocks p)) 0 n old new result
+blocks_plain c p n some blocks =
+    let same : source_said c (Blocks p) (0 + 0) ≡ line_said (said_by_name c) p.device.0 p.line (verity_target blocks.verity) (p.first + (0 + 0)) =
+    ap (λ (o : Option Line). said_of_line c p.device.0 p.line o (p.first + (0 + 0))) blocks.has.is
+    ∙ ap (λ (t : Target). line_said (said_by_name c) p.device.0 p.line t (p.first + (0 + 0))) blocks.has.has in
+    let meets : MeetVerity (source_said c (Blocks p)) 0 n = (0, some, subst (λ (x : Said). x.meets mismatch) (sym same) (inl refl)) in
+    record { memory = λ is. meets; leaf = λ none. absurd (none meets) }
+
+-- what is known of whole data blocks that are read at once
+pub record BlocksAt (c : Configuration) (v : Verity) (p : BlockPart) (n m : ℕ) (found : List FoundRecord) (lower : Lower) : Type 0 where
+  pub aligned : p.first % block_sectors v ≡ 0
+  pub size : IsWholeSectors v.data_block
+  pub count : m * block_sectors v ≡ n
+  pub some : 0 < m
+  pub few : n ≤ 128
+  pub taken : v.ignore_zero_blocks ≡ false
+  pub clear : MeetNone (place_of c lower).said p.first n
+  pub before : AreBefore p.device.0 p.line (p.first / block_sectors v) found
+  pub below : p.first + n ≤ lower_size c lower
+  pub there : (j : ℕ) → j < m → p.first / block_sectors v + j < v.blocks
+
+pub blocks-at : (c : Configuration) (v : Verity) (p : BlockPart) (n : ℕ) (found : List FoundRecord) (lower : Lower) → IsLoaded c → 0 < n → HasVerity c p.device.0 p.line v → AreBlocks c p.device.0 p.line p.first n → GoAtOnce c p n found
+    → named c v.data ≡ Some lower → BlocksAt c v p n (n / block_sectors v) found lower
+blocks-at c v p n found lower loaded some line blocks go is =
+    let same : go.verity ≡ v = same-verity c p.device.0 p.line 0 0 go.verity v go.line line in
+    let size = data-whole c p.device.0 p.line p.first n v loaded line in
+    let whole = blocks-whole c p.device.0 p.line p.first n v loaded line blocks in
+    let aligned = blocks-aligned c p.device.0 p.line p.first n v loaded line blocks in
+    let count : n / block_sectors v * block_sectors v ≡ n = omega (arith, div-add-mod' n (block_sectors v), whole) in
+    record {
+      aligned = aligned;
+      size = size;
+      count = count;
+      some = quotient-some (n / block_sectors v) (block_sectors v) n count some;
+      few = go.few;
+      taken = subst (λ (u : Verity). u.ignore_zero_blocks ≡ false) same go.taken;
+      clear = subst (λ (q : Place). MeetNone q.said p.first n) (place-named c v.data lower is) (subst (λ (u : Verity). MeetNone (said_by_name c u.data) p.first n) same go.clear);
+      before = subst (λ (u : Verity). AreBefore p.device.0 p.line (p.first / block_sectors u) found) same go.before;
+      below = blocks-below c p.device.0 p.line p.first n v loaded line blocks lower is;
+      there = λ j inside.
+          let inner = blocks-inside c p.device.0 p.line p.first n v loaded line blocks in
+          let all : p.first / block_sectors v * block_sectors v ≡ p.first = omega (arith, div-add-mod' p.first (block_sectors v), aligned) in
+          let next : (j + 1) * block_sectors v ≤ n / block_sectors v * block_sectors v = mul-le-mul_right (block_sectors v) (omega (arith, inside)) in
+          let fits : (p.first / block_sectors v + j + 1) * block_sectors v ≤ v.blocks * block_sectors v = omega (arith, inner, all, next, count, add-mul (p.first / block_sectors v) (j + 1) (block_sectors v)) in
+          no-more (p.first / block_sectors v + j) v.blocks (block_sectors v) size.some fits;
+    }
+  where
+    quotient-some : (q u n : ℕ) → q * u ≡ n → 0 < n → 0 < q
+    quotient-some zero u n e some = let none : 0 * u ≡ 0 = omega arith in absurd (omega (arith, e, some, none))
+    quotient-some (suc q) u n e some = omega arith
+
+    no-more : (a b u : ℕ) → 1 ≤ u → (a + 1) * u ≤ b * u → a < b
+    no-more a b u some fits = elim (cases_lt a b) [
+      | inl low ↦ low
+      | inr high ↦ let more : (b + 1) * u ≤ (a + 1) * u = mul-le-mul_right u (omega (arith, high)) in absurd (omega (arith, more, fits, some, add-mul b 1 u))
+    ]

@@ -1,0 +1,88 @@
+//! The hash blocks on the way to a data block, as they stand from the block before.
+ghost use Rattle.std.specs.Prelude.{◌≡◌, ◌<◌, ◌≤◌, ◌++◌, ◌∷◌, [], length, map, take, get_or, IsTrue, OnOk, OnErr};
+ghost use Rattle.verified_cache.specs.Cache.{CachedBlock};
+
+use hash_tree::Chain;
+use stack_lines::BlockPart;
+use stack_lines::tree::Extent;
+use stack_meaning::Found;
+use std::alloc::{AllocError, Global};
+use std::marker::Model;
+use tree_shape::Digest;
+use verified_cache::Key;
+
+/// A hash block that was checked, its place, and the digest by which it was.
+#[derive(Drop)]
+pub(crate) struct PathBlock {
+    pub(crate) key: Key,
+    pub(crate) digest: Digest,
+    pub(crate) bytes: Vec<u8>,
+}
+
+impl Model for PathBlock {
+    ghost use Rattle.verified_cache.specs.Cache.{CachedBlock};
+
+    ghost Value = { CachedBlock };
+
+    ghost view = { λ b. record { key = b.key; digest = b.digest; bytes = b.bytes.items } };
+}
+
+/// A hash block on the way to a data block: its key, where it stands, and the digest that is expected of it.
+#[derive(Clone, Copy)]
+pub(crate) struct WantedBlock {
+    pub(crate) key: Key,
+    pub(crate) extent: Extent,
+    pub(crate) digest: Digest,
+}
+
+/// Whether that block stands there, and was checked by that digest.
+pub(crate) fn stands(path: &[PathBlock], at: usize, key: Key, digest: &Digest) -> bool
+    ensures { IsTrue result → (at < length path.now) × ((x : CachedBlock) → ((get_or path.now at x).key ≡ key) × ((get_or path.now at x).digest ≡ digest.now)) }
+{
+    if at >= path.len() {
+        return false;
+    }
+    let one = &path[at];
+    one.key == key && one.digest == *digest
+}
+
+/// Puts a block there; what stood below is dropped.
+pub(crate) fn put(path: &mut Vec<PathBlock>, at: usize, one: PathBlock) -> Result<(), AllocError>
+    requires { at ≤ length path.old.items }
+    ensures ok { OnOk result (path.new.items ≡ take at path.old.items ++ (one ∷ [])) }
+    ensures err { OnErr result (path.new.items ≡ take at path.old.items) }
+{
+    path.truncate(at);
+    path.push(one)?;
+    Ok(())
+}
+
+/// The chain of a data block of a part's line, by its number in the line from 0, behind those that were found before.
+pub(crate) fn keep_chain(
+    alloc: Global,
+    part: BlockPart,
+    index: u64,
+    path: &[PathBlock],
+    content: &[u8],
+    found: &mut Vec<Found>,
+) -> Result<(), AllocError>
+    ensures ok { OnOk result (found.new.items ≡ found.old.items ++ (record { device = part.device.0; line = part.line; chain = record { index = index; content = content.now; path = map (λ b. b.bytes) path.now } } ∷ [])) }
+    ensures err { OnErr result (found.new.items ≡ found.old.items) }
+{
+    let content = Vec::from_slice(alloc, content)?;
+    let mut blocks = Vec::new(alloc);
+    for block in path {
+        let copy = Vec::from_slice(alloc, block.bytes.as_slice())?;
+        blocks.push(copy)?;
+    }
+    found.push(Found {
+        device: part.device.0,
+        line: part.line,
+        chain: Chain {
+            index,
+            content,
+            path: blocks,
+        },
+    })?;
+    Ok(())
+}

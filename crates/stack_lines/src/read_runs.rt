@@ -1,0 +1,96 @@
+//! The run of sectors that is read at a place of a device.
+ghost use Rattle.std.specs.Prelude.{◌≡◌, ◌<◌, ◌≤◌, ◌+◌, IsTrue, length};
+ghost use Rattle.stack_rules.specs.Names.{mapped, size};
+ghost use Rattle.stack_rules.specs.Rules.{IsLoaded};
+ghost use Rattle.stack_rules.specs.Trees.{block_sectors};
+ghost use Rattle.stack_lines.specs.AtOnce.{AreBefore, CanGo, GoAtOnce};
+ghost use Rattle.stack_lines.specs.Sources.{AreBlocks, IsServed};
+ghost use Rattle.dm_table.specs.declared.verity.Verity.{Verity};
+ghost use Rattle.stack_lines.specs.Walks.{HasVerity, IsOnVerity};
+
+use crate::clear::lower_is_clear;
+use crate::serve::run_at;
+use crate::source::{BlockPart, Run, Source};
+use crate::tree::{tree_at, verity_at};
+use stack_config::{Config, DevId};
+use stack_meaning::Found;
+
+/// The most sectors of data blocks that are read at once.
+const MOST: u64 = 128;
+
+/// Whether each chain of a line is that of a block before that one.
+fn are_before(found: &[Found], device: u32, line: u32, index: u64) -> bool
+    ensures { IsTrue result → AreBefore device line index found.now }
+{
+    for one in found {
+        let chain = &one.chain;
+        if one.device == device && one.line == line && chain.index >= index {
+            return false;
+        }
+    }
+    true
+}
+
+/// Whether whole data blocks can be read at once.
+fn go_at_once(config: &Config, part: BlockPart, count: u64, found: &[Found]) -> bool
+    requires loaded { IsLoaded config.now }
+    requires blocks { AreBlocks config.now part.device.0 part.line part.first count }
+    ensures { IsTrue result → GoAtOnce config.now part count found.now }
+{
+    if count > MOST {
+        return false;
+    }
+    let verity = verity_at(config, part.device, part.line);
+    if verity.ignore_zero_blocks {
+        return false;
+    }
+    let sectors = u64::from(verity.data_block / 512);
+    if !are_before(found, part.device.0, part.line, part.first / sectors) {
+        return false;
+    }
+    let tree = tree_at(config, part.device, part.line, verity);
+    lower_is_clear(config, tree.data, part.first, count)
+}
+
+/// The first of whole data blocks.
+fn first_block(config: &Config, part: BlockPart) -> Run
+    requires loaded { IsLoaded config.now }
+    requires line { IsOnVerity config.now part.device.0 part.line }
+    ensures source { result.source ≡ Source.Block part }
+    ensures count { (v : Verity) → HasVerity config.now part.device.0 part.line v → result.count ≡ block_sectors v }
+{
+    let verity = verity_at(config, part.device, part.line);
+    Run {
+        source: Source::Block(part),
+        count: u64::from(verity.data_block / 512),
+    }
+}
+
+/// A run from that sector of a device on, of at most so many sectors, where those chains were found: the longest, or
+/// the first of its data blocks, where these can't be read at once.
+pub fn run_to_read(config: &Config, d: DevId, sector: u64, most: u64, found: &[Found]) -> Run
+    requires loaded { IsLoaded config.now }
+    requires some { 0 < most }
+    requires inside { sector + most ≤ size config.now (mapped d.0) }
+    ensures served { IsServed config.now d.0 sector result.count result.source }
+    ensures some { 0 < result.count }
+    ensures most { result.count ≤ most }
+    ensures can_go { CanGo config.now result.source result.count found.now }
+{
+    let run = run_at(config, d, sector, most);
+    match run.source {
+        Source::Blocks(part) => {
+            if go_at_once(config, part, run.count, found) {
+                run
+            } else {
+                first_block(config, part)
+            }
+        }
+        Source::Below { .. } => run,
+        Source::Units(_) => run,
+        Source::UnitPart(_) => run,
+        Source::Zeros => run,
+        Source::Fails => run,
+        Source::Block(_) => run,
+    }
+}
