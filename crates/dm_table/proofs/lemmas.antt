@@ -1,4 +1,3 @@
 -- What callers may cite.
 pub mod ReadLineLemmas
 pub mod SectorSizeLemmas
-pub mod UnstripedLineLemmas

@@ -1,5 +1,5 @@
 -- Arguments that several targets have: a device, a number, a device and a sector, bytes in hexadecimal digits.
-use Rattle.std.specs.Prelude.{ℕ, if◌then◌else◌, List, Ok, Err, ok_or}
+use Rattle.std.specs.Prelude.{ℕ, ◌^◌, ◌<◌, IsTrue, if◌then◌else◌, List, Ok, Err, ok_or}
 use Rattle.std.specs.Result.{result_ok}
 use Rattle.hex.specs.Hex.{decode_sized}
 use Rattle.dm_table.specs.declared.table.Base.{Base}
@@ -22,6 +22,11 @@ base_at name offset = do
   device ← device_at name
   sector ← number_at offset
   Ok (record { device = device; offset = sector })
+
+-- a device argument and a sector
+pub record IsBaseOfGrammar (base : Base) : Type 0 where
+  pub device : IsTrue (is_device base.device)
+  pub offset : base.offset < 2 ^ 64
 
 -- that many bytes in twice as many hexadecimal digits, of either case
 unfoldable pub bytes_at : ℕ → TextKind → Word → Read (List ℕ)

@@ -1,12 +1,13 @@
 -- The arguments of a `crypt` line, as the kernel's dm-crypt page lists them.
-use Rattle.std.specs.Prelude.{ℕ, Bool, ◌==◌, if◌then◌else◌, List, [], ◌∷◌, length, codes, Ok, Err}
+use Rattle.std.specs.Prelude.{◌≡◌, ℕ, ◌^◌, ◌<◌, ◌⊎◌, Bool, ◌==◌, if◌then◌else◌, List, [], ◌∷◌, length, codes, Ok, Err}
 use Rattle.std.specs.Str.{bytes_eq}
+use Rattle.hex.specs.Hex.{IsBytes}
 use Rattle.dm_table.specs.declared.crypt.Crypt.{Crypt}
 use Rattle.dm_table.specs.declared.fault.TextKind.TheVariants as kinds
 use Rattle.dm_table.specs.Words.{Word}
 use Rattle.dm_table.specs.Reading.{Read, ◌>>=◌}
-use Rattle.dm_table.specs.Arguments.{number_at, base_at, bytes_at}
-use Rattle.dm_table.specs.Options.{is_one_of, options_at}
+use Rattle.dm_table.specs.Arguments.{number_at, base_at, bytes_at, IsBaseOfGrammar}
+use Rattle.dm_table.specs.Options.{is_one_of, options_at, AreOptionsOfGrammar}
 
 -- options on queues and discards, the size of a unit, and how units are numbered
 abbrev pub crypt_options : List Word
@@ -47,3 +48,11 @@ crypt_at (name ∷ digits ∷ iv ∷ device ∷ offset ∷ params) = do
   options ← options_at crypt_options params
   Ok (record { key = key; iv_offset = first; base = base; options = options })
 crypt_at words = Err kinds.ArgCount
+
+-- a key of 32 or 64 bytes, and known options
+pub record IsCryptOfGrammar (crypt : Crypt) : Type 0 where
+  pub key_size : (length crypt.key ≡ 32) ⊎ (length crypt.key ≡ 64)
+  pub key_bytes : IsBytes crypt.key
+  pub iv_offset : crypt.iv_offset < 2 ^ 64
+  pub base : IsBaseOfGrammar crypt.base
+  pub options : AreOptionsOfGrammar crypt_options crypt.options

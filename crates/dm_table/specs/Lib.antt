@@ -8,6 +8,7 @@ pub mod Options
 pub mod Crypt
 pub mod Verity
 pub mod Unstriped
+pub mod TargetTypes
 pub mod Lines
 pub mod Grammar
 pub mod TableText

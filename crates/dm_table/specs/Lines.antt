@@ -1,10 +1,11 @@
 -- A table line: its start, its length, its target and the target's arguments, checked from left to right.
-use Rattle.std.specs.Prelude.{ℕ, ◌*◌, ◌&&◌, ◌==◌, nat_le, if◌then◌else◌, List, [], ◌∷◌, length, codes, ok_or, Ok, Err}
-use Rattle.std.specs.Str.{bytes_eq}
+use Rattle.std.specs.Prelude.{ℕ, ◌*◌, ◌&&◌, ◌==◌, nat_le, if◌then◌else◌, List, [], ◌∷◌, length, ok_or, Ok, Err}
 use Rattle.dm_table.specs.declared.table.Base.{Base}
 use Rattle.dm_table.specs.declared.table.Line.{Line}
 use Rattle.dm_table.specs.declared.table.Target.{Target}
-use Rattle.dm_table.specs.declared.table.Target.TheVariants.{Linear, Striped, Zero, Error, Crypt, Verity, Unstriped}
+use Rattle.dm_table.specs.declared.table.Target.TheVariants as targets
+use Rattle.dm_table.specs.declared.target_type.TargetType.{TargetType}
+use Rattle.dm_table.specs.declared.target_type.TargetType.TheVariants as types
 use Rattle.dm_table.specs.declared.fault.TextKind.TheVariants as kinds
 use Rattle.dm_table.specs.Words.{Word}
 use Rattle.dm_table.specs.Numbers.{number, number_if}
@@ -13,12 +14,13 @@ use Rattle.dm_table.specs.Arguments.{number_at, base_at}
 use Rattle.dm_table.specs.Crypt.{crypt_at}
 use Rattle.dm_table.specs.Verity.{verity_at}
 use Rattle.dm_table.specs.Unstriped.{unstriped_at}
+use Rattle.dm_table.specs.TargetTypes.{type_named}
 
 -- exactly `<dev> <offset>`
 unfoldable pub linear_at : List Word → Read Target
 linear_at (name ∷ offset ∷ []) = do
   base ← base_at name offset
-  Ok (Linear base)
+  Ok (targets.Linear base)
 linear_at words = Err kinds.ArgCount
 
 -- pairs `<dev> <offset>`
@@ -48,7 +50,7 @@ striped_at (count ∷ size ∷ pairs) = do
   n ← stripes_at count
   chunk ← chunk_at size
   bases ← pairs_at n pairs
-  Ok (Striped chunk bases)
+  Ok (targets.Striped chunk bases)
 striped_at words = Err kinds.ArgCount
 
 -- a target without arguments
@@ -56,32 +58,21 @@ unfoldable pub bare_at : Target → List Word → Read Target
 bare_at target [] = Ok target
 bare_at target (word ∷ more) = Err kinds.ArgCount
 
-unfoldable pub crypt_target_at : List Word → Read Target
-crypt_target_at words = do
-  crypt ← crypt_at words
-  Ok (Crypt crypt)
+-- the arguments of a target of that type
+abbrev pub arguments_at : TargetType → List Word → Read Target
+arguments_at types.Linear words = linear_at words
+arguments_at types.Striped words = striped_at words
+arguments_at types.Zero words = bare_at targets.Zero words
+arguments_at types.Error words = bare_at targets.Error words
+arguments_at types.Crypt words = crypt_at words >>= (λ line. Ok (targets.Crypt line))
+arguments_at types.Verity words = verity_at words >>= (λ line. Ok (targets.Verity line))
+arguments_at types.Unstriped words = unstriped_at words >>= (λ line. Ok (targets.Unstriped line))
 
-unfoldable pub verity_target_at : List Word → Read Target
-verity_target_at words = do
-  verity ← verity_at words
-  Ok (Verity verity)
-
-unfoldable pub unstriped_target_at : List Word → Read Target
-unstriped_target_at words = do
-  line ← unstriped_at words
-  Ok (Unstriped line)
-
--- the target of that type with those arguments
+-- `<target_type> <target_args>`
 unfoldable pub target_at : Word → List Word → Read Target
-target_at type arguments =
-    if bytes_eq type (codes "linear") then linear_at arguments
-    else if bytes_eq type (codes "striped") then striped_at arguments
-    else if bytes_eq type (codes "zero") then bare_at Zero arguments
-    else if bytes_eq type (codes "error") then bare_at Error arguments
-    else if bytes_eq type (codes "crypt") then crypt_target_at arguments
-    else if bytes_eq type (codes "verity") then verity_target_at arguments
-    else if bytes_eq type (codes "unstriped") then unstriped_target_at arguments
-    else Err kinds.Target
+target_at word arguments = do
+  type ← ok_or (type_named word) kinds.Target
+  arguments_at type arguments
 
 -- `<start_sector> <num_sectors> <target_type> <target_args>`
 unfoldable pub line_of : List Word → Read Line

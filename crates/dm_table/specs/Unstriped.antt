@@ -1,12 +1,12 @@
 -- The arguments of an `unstriped` line, as the kernel's dm-unstripe page lists them. Its three numbers have 32 bits.
-use Rattle.std.specs.Prelude.{ℕ, ◌^◌, ◌&&◌, nat_le, nat_lt, List, [], ◌∷◌, Ok, Err, ok_or}
+use Rattle.std.specs.Prelude.{ℕ, ◌^◌, ◌<◌, ◌≤◌, ◌&&◌, nat_le, nat_lt, List, [], ◌∷◌, Ok, Err, ok_or}
 use Rattle.dm_table.specs.declared.unstriped.Unstriped.{Unstriped}
 use Rattle.dm_table.specs.declared.fault.TextKind.{TextKind}
 use Rattle.dm_table.specs.declared.fault.TextKind.TheVariants as kinds
 use Rattle.dm_table.specs.Words.{Word}
 use Rattle.dm_table.specs.Numbers.{number, number_if}
 use Rattle.dm_table.specs.Reading.{Read, ◌>>=◌}
-use Rattle.dm_table.specs.Arguments.{base_at}
+use Rattle.dm_table.specs.Arguments.{base_at, IsBaseOfGrammar}
 
 -- a number of at least 1
 abbrev pub count_at : TextKind → Word → Read ℕ
@@ -25,3 +25,11 @@ unstriped_at (count ∷ size ∷ place ∷ name ∷ offset ∷ []) = do
   base ← base_at name offset
   Ok (record { stripes = stripes; chunk = chunk; stripe = stripe; base = base })
 unstriped_at words = Err kinds.ArgCount
+
+-- one of at least one stripe, and a chunk of at least one sector, in numbers of 32 bits
+pub record IsUnstripedOfGrammar (line : Unstriped) : Type 0 where
+  pub stripes : line.stripes < 2 ^ 32
+  pub chunk_some : 1 ≤ line.chunk
+  pub chunk_fits : line.chunk < 2 ^ 32
+  pub stripe : line.stripe < line.stripes
+  pub base : IsBaseOfGrammar line.base

@@ -1,6 +1,7 @@
 -- The arguments of a `verity` line, as the kernel's dm-verity page lists them.
-use Rattle.std.specs.Prelude.{ℕ, ◌/◌, Bool, true, false, ◌&&◌, ◌==◌, nat_le, if◌then◌else◌, List, [], ◌∷◌, length, codes, Ok, Err, ok_or}
+use Rattle.std.specs.Prelude.{◌≡◌, ℕ, ◌/◌, ◌^◌, ◌<◌, ◌≤◌, Bool, true, false, ◌&&◌, ◌==◌, nat_le, IsTrue, if◌then◌else◌, List, [], ◌∷◌, length, codes, Ok, Err, ok_or}
 use Rattle.std.specs.Str.{bytes_eq}
+use Rattle.hex.specs.Hex.{IsBytes}
 use Rattle.tree_shape.specs.declared.algorithm.Algorithm.{Algorithm}
 use Rattle.tree_shape.specs.Algorithms.{algorithm_named}
 use Rattle.tree_shape.specs.Shape.{is_block_size}
@@ -8,6 +9,7 @@ use Rattle.dm_table.specs.declared.verity.Verity.{Verity}
 use Rattle.dm_table.specs.declared.fault.TextKind.TheVariants as kinds
 use Rattle.dm_table.specs.Words.{Word}
 use Rattle.dm_table.specs.Numbers.{number, number_if}
+use Rattle.dm_table.specs.Names.{is_device}
 use Rattle.dm_table.specs.Reading.{Read, ◌>>=◌}
 use Rattle.dm_table.specs.Arguments.{device_at, number_at, bytes_at}
 use Rattle.dm_table.specs.Options.{is_one_of, options_at}
@@ -59,3 +61,24 @@ verity_at (version ∷ dev ∷ hash_dev ∷ data_size ∷ hash_size ∷ count �
   options ← options_at (verity_options true) params
   Ok (record { «data» = below; hash = hash; data_block = data_block; hash_block = hash_block; blocks = blocks; start = start; root = root; salt = salt; ignore_zero_blocks = is_one_of ignore_zero_blocks options })
 verity_at words = Err kinds.ArgCount
+
+-- two device arguments
+pub record AreVerityDevices (verity : Verity) : Type 0 where
+  pub below : IsTrue (is_device verity.data)
+  pub hash : IsTrue (is_device verity.hash)
+
+-- block sizes, and places in blocks
+pub record AreVerityBlocks (verity : Verity) : Type 0 where
+  pub data_block : IsTrue (is_block_size verity.data_block)
+  pub hash_block : IsTrue (is_block_size verity.hash_block)
+  pub blocks : verity.blocks < 2 ^ 64
+  pub start : verity.start < 2 ^ 64
+
+-- a root digest of 32 bytes, and a salt of at most 256
+pub record IsVerityOfGrammar (verity : Verity) : Type 0 where
+  pub devices : AreVerityDevices verity
+  pub places : AreVerityBlocks verity
+  pub root_size : length verity.root ≡ 32
+  pub root_bytes : IsBytes verity.root
+  pub salt_size : length verity.salt ≤ 256
+  pub salt_bytes : IsBytes verity.salt

@@ -40,16 +40,16 @@ pub enum TextKind {
     Salt = 14,
     /// An unknown or repeated option.
     Option = 15,
-    /// A number of stripes that is not 1 to 16, of an `unstriped` line 1 to 2^32 - 1.
+    /// A number of stripes that the target does not take, as 0.
     StripeCount = 16,
-    /// A chunk that is no number of at least 1, of an `unstriped` line below 2^32.
+    /// A chunk that the target does not take, as 0.
     ZeroChunk = 17,
     /// A stripe that is no number below the number of stripes.
     StripeNumber = 18,
 }
 
 impl TextKind {
-    /// The number that is printed, 1 to 18.
+    /// The number that is printed, from 1.
     pub fn number(self) -> u8
         ensures { result ≡ text_number self }
     {

@@ -7,6 +7,7 @@ mod name;
 mod options;
 mod stack;
 mod table;
+mod target_type;
 mod unstriped;
 mod verity;
 
@@ -16,5 +17,6 @@ pub use crate::name::{is_device, is_mapped_name};
 pub use crate::options::{Options, is_kept};
 pub use crate::stack::{Entry, StackText};
 pub use crate::table::{Base, Bases, Line, Name, Table, Target};
+pub use crate::target_type::TargetType;
 pub use crate::unstriped::Unstriped;
 pub use crate::verity::Verity;

@@ -7,7 +7,7 @@ use Rattle.hex.specs.Hex.{IsBytes, encode_lower, encode_with}
 use Rattle.dm_table.specs.declared.crypt.Crypt.{Crypt}
 use Rattle.dm_table.specs.declared.table.Line.{Line}
 use Rattle.dm_table.specs.declared.table.Target.{Target}
-use Rattle.dm_table.specs.declared.table.Target.TheVariants.{Linear, Striped, Zero, Error, Crypt as crypt_target, Verity as verity_target, Unstriped}
+use Rattle.dm_table.specs.declared.table.Target.TheVariants.{Crypt as crypt_target}
 use Rattle.dm_table.specs.Grammar.{IsCryptOfGrammar, IsTargetOfGrammar, IsLineOfGrammar, IsTableOfGrammar}
 use Rattle.table_printer.specs.ArgumentWords.{crypt_words}
 use Rattle.dm_table.specs.TableText.{table_of}
@@ -39,13 +39,8 @@ crypt-without_key crypt h =
     }
 
 target-without_key : (target : Target) → IsTargetOfGrammar target → IsTargetOfGrammar (target_without_key target)
-target-without_key (Linear base) h = h
-target-without_key (Striped chunk bases) h = h
-target-without_key Zero h = h
-target-without_key Error h = h
 target-without_key (crypt_target crypt) h = crypt-without_key crypt h
-target-without_key (verity_target verity) h = h
-target-without_key (Unstriped line) h = h
+target-without_key target h = h
 
 lines-without_key : (lines : List Line) → All IsLineOfGrammar lines → All IsLineOfGrammar (map line_without_key lines)
 lines-without_key [] h = h
@@ -58,13 +53,8 @@ lines-without_key (line ∷ lines) h =
 -- without its keys a table is printed as the table of zero keys is with them
 target_words-hidden : (target : Target) → target_words false target ≡ target_words true (target_without_key target)
 unfolding target_words crypt_words
-target_words-hidden (Linear base) = refl
-target_words-hidden (Striped chunk bases) = refl
-target_words-hidden Zero = refl
-target_words-hidden Error = refl
 target_words-hidden (crypt_target crypt) = rw (digits-zeros (length crypt.key)) refl
-target_words-hidden (verity_target verity) = refl
-target_words-hidden (Unstriped line) = refl
+target_words-hidden target = refl
 
 line_text-hidden : (line : Line) → line_text false line ≡ line_text true (line_without_key line)
 unfolding line_text

@@ -1,6 +1,7 @@
 pub mod lemmas
 pub mod PrintLemmas
 pub mod PrintedLemmas
+pub mod PrintedTargetLemmas
 pub mod PrintedBytesLemmas
 pub mod PrintedOptionLemmas
 pub mod PrintedCryptLemmas

@@ -4,12 +4,16 @@ use Rattle.std.specs.Prelude.{◌⊎◌}
 use Rattle.std.proofs.lemmas.Bool.{cond-true, cond-false, eq-eqb, ne_eqb}
 use Rattle.hex.specs.Hex.{IsBytes, encode_lower, lower_digits}
 use Rattle.hex.proofs.HexLemmas.{length-encode_with}
+use Rattle.dm_table.specs.declared.table.Target.TheVariants as targets
+use Rattle.dm_table.specs.declared.target_type.TargetType.TheVariants as types
 use Rattle.dm_table.specs.declared.crypt.Crypt.{Crypt}
 use Rattle.dm_table.specs.declared.fault.TextKind.TheVariants as kinds
+use Rattle.dm_table.specs.Reading.{◌>>=◌}
 use Rattle.dm_table.specs.Arguments.{bytes_at}
 use Rattle.dm_table.specs.Crypt.{crypt_options, key_at, crypt_at}
 use Rattle.table_printer.specs.ArgumentWords.{crypt_words}
 use Rattle.dm_table.specs.Grammar.{IsCryptOfGrammar}
+use Rattle.table_printer.proofs.PrintedTargetLemmas.{ReadBack, read_back}
 use Rattle.table_printer.proofs.PrintedLemmas.{ArePrinted, printed-decimal, printed-device, number_at-decimal, base_at-printed}
 use Rattle.table_printer.proofs.PrintedBytesLemmas.{bytes_at-printed, printed-bytes}
 use Rattle.table_printer.proofs.PrintedOptionLemmas.{options-printed, printed-options}
@@ -26,7 +30,7 @@ key_at-printed key (inr long) each =
     ∙ bytes_at-printed 64 kinds.Key key long each
 
 -- printed arguments read back
-pub crypt-printed : (crypt : Crypt) → IsCryptOfGrammar crypt → crypt_at (crypt_words true crypt) ≡ Ok crypt
+crypt-printed : (crypt : Crypt) → IsCryptOfGrammar crypt → crypt_at (crypt_words true crypt) ≡ Ok crypt
 unfolding crypt_at crypt_words
 crypt-printed crypt h =
     let key = key_at-printed crypt.key h.key_size h.key_bytes in
@@ -36,22 +40,19 @@ crypt-printed crypt h =
     rw (key, first, base, options) refl
 
 -- each word may stand in a text
-pub printed-crypt : (crypt : Crypt) → IsCryptOfGrammar crypt → ArePrinted (codes "crypt" ∷ crypt_words true crypt)
+printed-crypt : (crypt : Crypt) → IsCryptOfGrammar crypt → ArePrinted (crypt_words true crypt)
 unfolding crypt_words
 printed-crypt crypt h = (
   (omega arith, refl),
   (
-    (omega arith, refl),
+    printed-bytes crypt.key (some h.key_size) h.key_bytes,
     (
-      printed-bytes crypt.key (some h.key_size) h.key_bytes,
+      printed-decimal crypt.iv_offset h.iv_offset,
       (
-        printed-decimal crypt.iv_offset h.iv_offset,
+        printed-device crypt.base.device h.base.device,
         (
-          printed-device crypt.base.device h.base.device,
-          (
-            printed-decimal crypt.base.offset h.base.offset,
-            printed-options crypt_options crypt.options known h.options,
-          ),
+          printed-decimal crypt.base.offset h.base.offset,
+          printed-options crypt_options crypt.options known h.options,
         ),
       ),
     ),
@@ -67,3 +68,8 @@ printed-crypt crypt h = (
       (omega arith, refl),
       ((omega arith, refl), ((omega arith, refl), ((omega arith, refl), ((omega arith, refl), ((omega arith, refl), ((omega arith, refl), ((omega arith, refl), ((omega arith, refl), ((omega arith, refl), tt))))))))),
     )
+
+-- the printed line reads back
+pub crypt-read_back : (crypt : Crypt) → IsCryptOfGrammar crypt → ReadBack (targets.Crypt crypt) (codes "crypt" ∷ crypt_words true crypt)
+crypt-read_back crypt h =
+    read_back types.Crypt (crypt_words true crypt) (targets.Crypt crypt) (printed-crypt crypt h) (ap (λ r. r >>= (λ line. Ok (targets.Crypt line))) (crypt-printed crypt h))

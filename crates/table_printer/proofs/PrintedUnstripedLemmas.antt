@@ -1,13 +1,17 @@
 -- The printed arguments of an `unstriped` line read back.
 use Rattle.std.proofs.Common.{◌≡◌, ℕ, ◌^◌, ◌<◌, ◌≤◌, ◌&&◌, leb, ltb, ◌∷◌, decimal, Ok, ok_or, Some, None, codes, refl, ap, ◌∙◌, arith}
 use Rattle.std.proofs.lemmas.Bool.{cond-true, and_from, le-leb, lt-ltb}
+use Rattle.dm_table.specs.declared.table.Target.TheVariants as targets
+use Rattle.dm_table.specs.declared.target_type.TargetType.TheVariants as types
 use Rattle.dm_table.specs.declared.unstriped.Unstriped.{Unstriped}
 use Rattle.dm_table.specs.declared.fault.TextKind.{TextKind}
 use Rattle.dm_table.specs.declared.fault.TextKind.TheVariants as kinds
 use Rattle.dm_table.specs.Numbers.{number_if}
+use Rattle.dm_table.specs.Reading.{◌>>=◌}
 use Rattle.dm_table.specs.Unstriped.{count_at, stripe_at, unstriped_at}
 use Rattle.dm_table.specs.Grammar.{IsUnstripedOfGrammar}
 use Rattle.table_printer.specs.Unstriped.{unstriped_words}
+use Rattle.table_printer.proofs.PrintedTargetLemmas.{ReadBack, read_back}
 use Rattle.table_printer.proofs.PrintedLemmas.{ArePrinted, printed-decimal, printed-device, number-decimal, base_at-printed}
 
 count_at-printed : (kind : TextKind) (n : ℕ) → 1 ≤ n → n < 2 ^ 32 → count_at kind (decimal n) ≡ Ok n
@@ -21,7 +25,7 @@ stripe_at-printed stripes n low fits =
     ∙ ap (λ o. ok_or o kinds.StripeNumber) (cond-true (ltb n stripes) (Some n) None (lt-ltb n stripes low))
 
 -- printed arguments read back
-pub unstriped-printed : (line : Unstriped) → IsUnstripedOfGrammar line → unstriped_at (unstriped_words line) ≡ Ok line
+unstriped-printed : (line : Unstriped) → IsUnstripedOfGrammar line → unstriped_at (unstriped_words line) ≡ Ok line
 unfolding unstriped_at unstriped_words
 unstriped-printed line h =
     let stripes = count_at-printed kinds.StripeCount line.stripes (omega (arith, h.stripe)) h.stripes in
@@ -30,8 +34,13 @@ unstriped-printed line h =
     rw (stripes, chunk, stripe, base_at-printed line.base h.base) refl
 
 -- each word may stand in a text
-pub printed-unstriped : (line : Unstriped) → IsUnstripedOfGrammar line → ArePrinted (codes "unstriped" ∷ unstriped_words line)
+printed-unstriped : (line : Unstriped) → IsUnstripedOfGrammar line → ArePrinted (unstriped_words line)
 unfolding unstriped_words
 printed-unstriped line h =
     let numbers = printed-decimal line.stripes (omega (arith, h.stripes)) in
-    ((omega arith, refl), (numbers, (printed-decimal line.chunk (omega (arith, h.chunk_fits)), (printed-decimal line.stripe (omega (arith, h.stripe, h.stripes)), (printed-device line.base.device h.base.device, (printed-decimal line.base.offset h.base.offset, tt))))))
+    (numbers, (printed-decimal line.chunk (omega (arith, h.chunk_fits)), (printed-decimal line.stripe (omega (arith, h.stripe, h.stripes)), (printed-device line.base.device h.base.device, (printed-decimal line.base.offset h.base.offset, tt)))))
+
+-- the printed line reads back
+pub unstriped-read_back : (line : Unstriped) → IsUnstripedOfGrammar line → ReadBack (targets.Unstriped line) (codes "unstriped" ∷ unstriped_words line)
+unstriped-read_back line h =
+    read_back types.Unstriped (unstriped_words line) (targets.Unstriped line) (printed-unstriped line h) (ap (λ r. r >>= (λ line. Ok (targets.Unstriped line))) (unstriped-printed line h))

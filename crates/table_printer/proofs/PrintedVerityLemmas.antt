@@ -7,16 +7,20 @@ use Rattle.hex.specs.Hex.{IsBytes, encode_lower, lower_digits}
 use Rattle.hex.proofs.HexLemmas.{length-encode_with}
 use Rattle.tree_shape.specs.Shape.{is_block_size}
 use Rattle.tree_shape.proofs.lemmas.ShapeFaultLemmas.{is_block_size-cases}
+use Rattle.dm_table.specs.declared.table.Target.TheVariants as targets
+use Rattle.dm_table.specs.declared.target_type.TargetType.TheVariants as types
 use Rattle.dm_table.specs.declared.verity.Verity.{Verity}
 use Rattle.dm_table.specs.declared.fault.TextKind.TheVariants as kinds
 use Rattle.dm_table.specs.Words.{Word}
 use Rattle.dm_table.specs.Names.{is_device}
 use Rattle.dm_table.specs.Numbers.{number, number_if}
+use Rattle.dm_table.specs.Reading.{◌>>=◌}
 use Rattle.dm_table.specs.Arguments.{device_at}
 use Rattle.dm_table.specs.Options.{is_one_of, AreOptionsOfGrammar}
 use Rattle.table_printer.specs.ArgumentWords.{options_words, salt_word, verity_words}
 use Rattle.dm_table.specs.Verity.{version_at, block_size_at, salt_at, ignore_zero_blocks, verity_options, verity_at}
 use Rattle.dm_table.specs.Grammar.{IsVerityOfGrammar}
+use Rattle.table_printer.proofs.PrintedTargetLemmas.{ReadBack, read_back}
 use Rattle.table_printer.proofs.PrintedLemmas.{IsPrinted, ArePrinted, printed-decimal, printed-device, number-decimal, number_at-decimal}
 use Rattle.table_printer.proofs.PrintedBytesLemmas.{bytes_at-printed, printed-bytes}
 use Rattle.table_printer.proofs.PrintedOptionLemmas.{options-printed, printed-options}
@@ -63,7 +67,7 @@ ignores-printed true = refl
 ignores-printed false = refl
 
 -- printed arguments read back
-pub verity-printed : (verity : Verity) → IsVerityOfGrammar verity → verity_at (verity_words verity) ≡ Ok verity
+verity-printed : (verity : Verity) → IsVerityOfGrammar verity → verity_at (verity_words verity) ≡ Ok verity
 unfolding verity_at verity_words
 verity-printed verity h =
     let below = device_at-printed verity.data h.devices.below in
@@ -85,29 +89,26 @@ printed-option : (ignores : Bool) → ArePrinted (options_words (verity_options 
 printed-option ignores = printed-options (verity_options true) (verity_options ignores) ((omega arith, refl), tt) (options-grammar ignores)
 
 -- each word may stand in a text
-pub printed-verity : (verity : Verity) → IsVerityOfGrammar verity → ArePrinted (codes "verity" ∷ verity_words verity)
+printed-verity : (verity : Verity) → IsVerityOfGrammar verity → ArePrinted (verity_words verity)
 unfolding verity_words
 printed-verity verity h =
     let size = h.root_size in (
       (omega arith, refl),
       (
-        (omega arith, refl),
+        printed-device verity.data h.devices.below,
         (
-          printed-device verity.data h.devices.below,
+          printed-device verity.hash h.devices.hash,
           (
-            printed-device verity.hash h.devices.hash,
+            printed-decimal verity.data_block (block_size-fits verity.data_block h.places.data_block),
             (
-              printed-decimal verity.data_block (block_size-fits verity.data_block h.places.data_block),
+              printed-decimal verity.hash_block (block_size-fits verity.hash_block h.places.hash_block),
               (
-                printed-decimal verity.hash_block (block_size-fits verity.hash_block h.places.hash_block),
+                printed-decimal verity.blocks h.places.blocks,
                 (
-                  printed-decimal verity.blocks h.places.blocks,
+                  printed-decimal verity.start h.places.start,
                   (
-                    printed-decimal verity.start h.places.start,
-                    (
-                      (omega arith, refl),
-                      (printed-bytes verity.root (omega (arith, size)) h.root_bytes, (printed-salt verity.salt h.salt_bytes, printed-option verity.ignore_zero_blocks)),
-                    ),
+                    (omega arith, refl),
+                    (printed-bytes verity.root (omega (arith, size)) h.root_bytes, (printed-salt verity.salt h.salt_bytes, printed-option verity.ignore_zero_blocks)),
                   ),
                 ),
               ),
@@ -116,3 +117,8 @@ printed-verity verity h =
         ),
       ),
     )
+
+-- the printed line reads back
+pub verity-read_back : (verity : Verity) → IsVerityOfGrammar verity → ReadBack (targets.Verity verity) (codes "verity" ∷ verity_words verity)
+verity-read_back verity h =
+    read_back types.Verity (verity_words verity) (targets.Verity verity) (printed-verity verity h) (ap (λ r. r >>= (λ line. Ok (targets.Verity line))) (verity-printed verity h))

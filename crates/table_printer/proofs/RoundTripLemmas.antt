@@ -1,5 +1,5 @@
 -- A table that was printed with its keys reads back as that table.
-use Rattle.std.proofs.Common.{◌≡◌, ℕ, ◌+◌, ◌*◌, ◌^◌, ◌<◌, ◌≤◌, true, false, ◌&&◌, ◌||◌, eqb, leb, List, [], ◌∷◌, ◌++◌, length, flat_map, codes, decimal, All, Some, None, Ok, ok_or, refl, ap, ◌∙◌, append_assoc, arith}
+use Rattle.std.proofs.Common.{◌≡◌, ℕ, ◌+◌, ◌*◌, ◌^◌, ◌<◌, ◌≤◌, true, false, ◌&&◌, ◌||◌, eqb, leb, List, [], ◌∷◌, ◌++◌, length, flat_map, decimal, All, Some, None, Ok, ok_or, refl, ap, ◌∙◌, append_assoc, arith}
 use Rattle.std.specs.List.{list_all, slice_split}
 use Rattle.std.proofs.lemmas.Bool.{cond-true, and_from, le-leb}
 use Rattle.std.proofs.lemmas.Fmt.{decimal_is_IsNumeral}
@@ -9,24 +9,23 @@ use Rattle.std.proofs.lemmas.List.Splits.{slice_split_at, slice_split_none}
 use Rattle.dm_table.specs.declared.table.Base.{Base}
 use Rattle.dm_table.specs.declared.table.Line.{Line}
 use Rattle.dm_table.specs.declared.table.Target.{Target}
-use Rattle.dm_table.specs.declared.table.Target.TheVariants.{Linear, Striped, Zero, Error, Crypt, Verity, Unstriped}
+use Rattle.dm_table.specs.declared.table.Target.TheVariants as targets
+use Rattle.dm_table.specs.declared.target_type.TargetType.TheVariants as types
 use Rattle.dm_table.specs.declared.fault.TextKind.TheVariants as kinds
 use Rattle.dm_table.specs.Words.{Word, is_white, is_graphic, words, lines_of}
 use Rattle.dm_table.specs.Numbers.{number_if}
 use Rattle.dm_table.specs.Reading.{◌>>=◌, at_place}
-use Rattle.dm_table.specs.Lines.{linear_at, bases_at, stripes_at, chunk_at, bare_at, crypt_target_at, verity_target_at, unstriped_target_at, target_at, line_of}
+use Rattle.dm_table.specs.Lines.{linear_at, bases_at, stripes_at, chunk_at, bare_at, line_of}
 use Rattle.dm_table.specs.Grammar.{IsBaseOfGrammar, IsTargetOfGrammar, IsLineOfGrammar, IsTableOfGrammar}
 use Rattle.dm_table.specs.TableText.{is_skipped, table_lines, some_lines, table_of}
-use Rattle.table_printer.specs.ArgumentWords.{crypt_words, verity_words}
-use Rattle.table_printer.specs.Unstriped.{unstriped_words}
 use Rattle.table_printer.specs.Print.{base_words, target_words, line_words, line_text, table_text}
-use Rattle.dm_table.proofs.lemmas.ReadLineLemmas.{striped-bases, target-linear, target-striped, target-zero, target-error, target-crypt, target-verity, line-target}
+use Rattle.dm_table.proofs.lemmas.ReadLineLemmas.{striped-bases, line-target}
 use Rattle.dm_table.proofs.lemmas.ReadLineLemmas.{table-lines, table_lines-full, some_lines-some}
 use Rattle.table_printer.proofs.PrintedLemmas.{ArePrinted, words-joined, text-joined, one_line-joined, printed-decimal, number-decimal, number_at-decimal, digit-no_comment, printed-device, base_at-printed}
-use Rattle.table_printer.proofs.PrintedCryptLemmas.{crypt-printed, printed-crypt}
-use Rattle.table_printer.proofs.PrintedVerityLemmas.{verity-printed, printed-verity}
-use Rattle.dm_table.proofs.lemmas.UnstripedLineLemmas.{target-unstriped}
-use Rattle.table_printer.proofs.PrintedUnstripedLemmas.{unstriped-printed, printed-unstriped}
+use Rattle.table_printer.proofs.PrintedTargetLemmas.{AreRead, ReadBack, read_back}
+use Rattle.table_printer.proofs.PrintedCryptLemmas.{crypt-read_back}
+use Rattle.table_printer.proofs.PrintedVerityLemmas.{verity-read_back}
+use Rattle.table_printer.proofs.PrintedUnstripedLemmas.{unstriped-read_back}
 
 -- targets
 bases_at-printed : (bases : List Base) → All IsBaseOfGrammar bases → bases_at (flat_map base_words bases) ≡ Ok bases
@@ -45,19 +44,6 @@ printed-bases (base ∷ bases) h =
     let first = All-head IsBaseOfGrammar base bases h in
     (printed-device base.device first.device, (printed-decimal base.offset first.offset, printed-bases bases (All-tail IsBaseOfGrammar base bases h)))
 
-printed-target : (target : Target) → IsTargetOfGrammar target → ArePrinted (target_words true target)
-unfolding target_words
-printed-target (Linear base) h =
-    ((omega arith, refl), (printed-device base.device h.device, (printed-decimal base.offset h.offset, tt)))
-printed-target (Striped chunk bases) h =
-    let most = h.most in
-    ((omega arith, refl), (printed-decimal (length bases) (omega arith), (printed-decimal chunk h.chunk_fits, printed-bases bases h.each)))
-printed-target Zero h = ((omega arith, refl), tt)
-printed-target Error h = ((omega arith, refl), tt)
-printed-target (Crypt crypt) h = printed-crypt crypt h
-printed-target (Verity verity) h = printed-verity verity h
-printed-target (Unstriped line) h = printed-unstriped line h
-
 stripes_at-printed : (n : ℕ) → 1 ≤ n → n ≤ 16 → stripes_at (decimal n) ≡ Ok n
 stripes_at-printed n low high =
     ap (λ o. ok_or (number_if (λ k. leb 1 k && leb k 16) o) kinds.StripeCount) (number-decimal n (omega arith))
@@ -68,43 +54,38 @@ chunk_at-printed n low fits =
     ap (λ o. ok_or (number_if (λ k. leb 1 k) o) kinds.ZeroChunk) (number-decimal n fits)
     ∙ ap (λ o. ok_or o kinds.ZeroChunk) (cond-true (leb 1 n) (Some n) None (le-leb 1 n low))
 
--- a line read back, whatever its target
-abbrev ReadsLine : ℕ → ℕ → Target → List Word → Type 0
-ReadsLine start count target [] = ⊥
-ReadsLine start count target (type ∷ arguments) = target_at type arguments ≡ Ok target
-
-target-printed : (start count : ℕ) (target : Target) → IsTargetOfGrammar target → ReadsLine start count target (target_words true target)
-unfolding target_words linear_at bare_at crypt_target_at verity_target_at unstriped_target_at
-target-printed start count (Linear base) h =
-    target-linear (codes "linear") (base.device ∷ decimal base.offset ∷ []) refl
-    ∙ ap (λ r. r >>= (λ base. Ok (Linear base))) (base_at-printed base h)
-target-printed start count (Striped chunk bases) h =
-    target-striped (codes "striped") (decimal (length bases) ∷ decimal chunk ∷ flat_map base_words bases) refl refl
-    ∙ striped-bases (decimal (length bases)) (decimal chunk) (flat_map base_words bases) (length bases) chunk
+-- a target's printed words read back
+target-read_back : (target : Target) → IsTargetOfGrammar target → ReadBack target (target_words true target)
+unfolding target_words linear_at bare_at
+target-read_back (targets.Linear base) h =
+    read_back types.Linear (base_words base) (targets.Linear base) (printed-device base.device h.device, (printed-decimal base.offset h.offset, tt))
+    (ap (λ r. r >>= (λ base. Ok (targets.Linear base))) (base_at-printed base h))
+target-read_back (targets.Striped chunk bases) h =
+    let most = h.most in
+    read_back types.Striped (decimal (length bases) ∷ decimal chunk ∷ flat_map base_words bases) (targets.Striped chunk bases)
+    (printed-decimal (length bases) (omega arith), (printed-decimal chunk h.chunk_fits, printed-bases bases h.each))
+    (striped-bases (decimal (length bases)) (decimal chunk) (flat_map base_words bases) (length bases) chunk
     (stripes_at-printed (length bases) h.some h.most) (chunk_at-printed chunk h.chunk_some h.chunk_fits) (length-bases bases)
-    ∙ ap (λ r. r >>= (λ bases. Ok (Striped chunk bases))) (bases_at-printed bases h.each)
-target-printed start count Zero h = target-zero (codes "zero") [] refl refl refl
-target-printed start count Error h = target-error (codes "error") [] refl refl refl refl
-target-printed start count (Crypt crypt) h =
-    target-crypt (codes "crypt") (crypt_words true crypt) refl refl refl refl refl ∙ ap (λ r. r >>= (λ crypt. Ok (Crypt crypt))) (crypt-printed crypt h)
-target-printed start count (Verity verity) h =
-    target-verity (codes "verity") (verity_words verity) refl refl refl refl refl refl ∙ ap (λ r. r >>= (λ verity. Ok (Verity verity))) (verity-printed verity h)
-target-printed start count (Unstriped line) h =
-    target-unstriped (codes "unstriped") (unstriped_words line) refl refl refl refl refl refl refl ∙ ap (λ r. r >>= (λ line. Ok (Unstriped line))) (unstriped-printed line h)
+    ∙ ap (λ r. r >>= (λ bases. Ok (targets.Striped chunk bases))) (bases_at-printed bases h.each))
+target-read_back targets.Zero h = read_back types.Zero [] targets.Zero tt refl
+target-read_back targets.Error h = read_back types.Error [] targets.Error tt refl
+target-read_back (targets.Crypt line) h = crypt-read_back line h
+target-read_back (targets.Verity line) h = verity-read_back line h
+target-read_back (targets.Unstriped line) h = unstriped-read_back line h
 
-line-from_target : (start count : ℕ) (target : Target) (tail : List Word) → start < 2 ^ 64 → count < 2 ^ 64 → ReadsLine start count target tail
+line-of_target : (start count : ℕ) (target : Target) (tail : List Word) → start < 2 ^ 64 → count < 2 ^ 64 → AreRead target tail
     → line_of (decimal start ∷ decimal count ∷ tail) ≡ Ok (record { start = start; length = count; target = target })
-line-from_target start count target [] s c e = absurd e
-line-from_target start count target (type ∷ arguments) s c e =
+line-of_target start count target [] s c e = absurd e
+line-of_target start count target (type ∷ arguments) s c e =
     line-target (decimal start) (decimal count) type arguments start count (number_at-decimal start s) (number_at-decimal count c)
     ∙ ap (λ r. r >>= (λ target. Ok (record { start = start; length = count; target = target }))) e
 
 line-printed : (line : Line) → IsLineOfGrammar line → line_of (line_words true line) ≡ Ok line
 line-printed line h =
-    line-from_target line.start line.length line.target (target_words true line.target) h.start h.sectors (target-printed line.start line.length line.target h.target)
+    line-of_target line.start line.length line.target (target_words true line.target) h.start h.sectors (target-read_back line.target h.target).read
 
 printed-line : (line : Line) → IsLineOfGrammar line → ArePrinted (line_words true line)
-printed-line line h = (printed-decimal line.start h.start, (printed-decimal line.length h.sectors, printed-target line.target h.target))
+printed-line line h = (printed-decimal line.start h.start, (printed-decimal line.length h.sectors, (target-read_back line.target h.target).printed))
 
 words-line : (line : Line) → IsLineOfGrammar line → words (line_text true line) ≡ line_words true line
 unfolding line_text

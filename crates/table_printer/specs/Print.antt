@@ -4,7 +4,7 @@ use Rattle.std.specs.List.{join_with_byte}
 use Rattle.dm_table.specs.declared.table.Base.{Base}
 use Rattle.dm_table.specs.declared.table.Line.{Line}
 use Rattle.dm_table.specs.declared.table.Target.{Target}
-use Rattle.dm_table.specs.declared.table.Target.TheVariants.{Linear, Striped, Zero, Error, Crypt, Verity, Unstriped}
+use Rattle.dm_table.specs.declared.table.Target.TheVariants as targets
 use Rattle.dm_table.specs.Words.{Word}
 use Rattle.table_printer.specs.ArgumentWords.{crypt_words, verity_words}
 use Rattle.table_printer.specs.Unstriped.{unstriped_words}
@@ -14,13 +14,13 @@ base_words base = base.device ∷ decimal base.offset ∷ []
 
 -- a target's type and arguments, with its key or without
 unfoldable pub target_words : Bool → Target → List Word
-target_words show (Linear base) = codes "linear" ∷ base_words base
-target_words show (Striped chunk bases) = codes "striped" ∷ decimal (length bases) ∷ decimal chunk ∷ flat_map base_words bases
-target_words show Zero = codes "zero" ∷ []
-target_words show Error = codes "error" ∷ []
-target_words show (Crypt crypt) = codes "crypt" ∷ crypt_words show crypt
-target_words show (Verity verity) = codes "verity" ∷ verity_words verity
-target_words show (Unstriped line) = codes "unstriped" ∷ unstriped_words line
+target_words show (targets.Linear base) = codes "linear" ∷ base_words base
+target_words show (targets.Striped chunk bases) = codes "striped" ∷ decimal (length bases) ∷ decimal chunk ∷ flat_map base_words bases
+target_words show targets.Zero = codes "zero" ∷ []
+target_words show targets.Error = codes "error" ∷ []
+target_words show (targets.Crypt crypt) = codes "crypt" ∷ crypt_words show crypt
+target_words show (targets.Verity verity) = codes "verity" ∷ verity_words verity
+target_words show (targets.Unstriped line) = codes "unstriped" ∷ unstriped_words line
 
 abbrev pub line_words : Bool → Line → List Word
 line_words show line = decimal line.start ∷ decimal line.length ∷ target_words show line.target

@@ -38,6 +38,7 @@ fn print_line(text: &mut Vec<u8>, line: &Line, show_keys: bool) -> Result<(), Al
     Ok(())
 }
 
+#[tactic(auto, unfolding(crate::specs::Print::target_words))]
 fn print_target(text: &mut Vec<u8>, target: &Target, show_keys: bool) -> Result<(), AllocError>
     ensures { OnOk result
         (text.new.items ≡ text.old.items

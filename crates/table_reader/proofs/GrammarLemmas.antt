@@ -1,13 +1,14 @@
 -- What was read keeps to the grammar's limits.
-use Rattle.std.proofs.Common.{◌≡◌, ℕ, ◌+◌, ◌*◌, ◌<◌, ◌≤◌, suc, zero, Bool, true, false, not, ◌&&◌, eqb, leb, cond, IsTrue, List, [], ◌∷◌, length, codes, All, Result, Ok, Err, refl, ap, sym, subst, ◌∙◌, inl, inr, arith}
+use Rattle.std.proofs.Common.{◌≡◌, ℕ, ◌+◌, ◌*◌, ◌<◌, ◌≤◌, suc, zero, true, not, ◌&&◌, eqb, leb, IsTrue, List, [], ◌∷◌, length, All, ok_or, Ok, Err, refl, ap, sym, subst, ◌∙◌, inl, inr, arith}
 use Rattle.std.specs.List.{AllPairs, list_all}
-use Rattle.std.specs.Str.{bytes_eq}
 use Rattle.std.proofs.lemmas.Bool.{cases_Bool, cond-true, cond-false, and_parts, leb-true, eqb-true}
 use Rattle.std.proofs.lemmas.List.Elements.{All-nil, All-cons}
 use Rattle.dm_table.specs.declared.table.Base.{Base}
 use Rattle.dm_table.specs.declared.table.Line.{Line}
 use Rattle.dm_table.specs.declared.table.Target.{Target}
 use Rattle.dm_table.specs.declared.table.Target.TheVariants.{Linear, Striped, Zero, Error, Crypt, Verity}
+use Rattle.dm_table.specs.declared.target_type.TargetType.{TargetType}
+use Rattle.dm_table.specs.declared.target_type.TargetType.TheVariants as types
 use Rattle.dm_table.specs.declared.stack.Entry.{Entry}
 use Rattle.dm_table.specs.declared.fault.TextKind.TheVariants as kinds
 use Rattle.dm_table.specs.Words.{Word, is_white, is_text, words, trimmed_text, lines_of, entries_of, fields_of}
@@ -15,7 +16,8 @@ use Rattle.dm_table.specs.Numbers.{number}
 use Rattle.dm_table.specs.Names.{is_mapped_name}
 use Rattle.dm_table.specs.Reading.{Read, ◌>>=◌, at_place}
 use Rattle.dm_table.specs.Arguments.{number_at, base_at}
-use Rattle.dm_table.specs.Lines.{linear_at, bases_at, stripes_at, chunk_at, pairs_at, striped_at, bare_at, crypt_target_at, verity_target_at, unstriped_target_at, target_at, line_of}
+use Rattle.dm_table.specs.Lines.{linear_at, bases_at, stripes_at, chunk_at, pairs_at, striped_at, bare_at, arguments_at, target_at, line_of}
+use Rattle.dm_table.specs.TargetTypes.{type_named}
 use Rattle.dm_table.specs.Crypt.{crypt_at}
 use Rattle.dm_table.specs.Verity.{verity_at}
 use Rattle.dm_table.specs.Grammar.{IsBaseOfGrammar, IsTargetOfGrammar, IsLineOfGrammar, IsTableOfGrammar}
@@ -76,33 +78,30 @@ unfolding bare_at
 bare-grammar target [] read h e = subst IsTargetOfGrammar (ok_same target read e) h
 bare-grammar target (word ∷ more) read h e = cc
 
-crypt_target-grammar : (arguments : List Word) (target : Target) → crypt_target_at arguments ≡ Ok target → IsTargetOfGrammar target
-unfolding crypt_target_at
+crypt_target-grammar : (arguments : List Word) (target : Target) → arguments_at types.Crypt arguments ≡ Ok target → IsTargetOfGrammar target
 crypt_target-grammar arguments target e =
     let crypt = bind_ok (crypt_at arguments) _ target e in
     subst IsTargetOfGrammar (ok_same (Crypt crypt.0) target crypt.2) (crypt-grammar arguments crypt.0 crypt.1)
 
-verity_target-grammar : (arguments : List Word) (target : Target) → verity_target_at arguments ≡ Ok target → IsTargetOfGrammar target
-unfolding verity_target_at
+verity_target-grammar : (arguments : List Word) (target : Target) → arguments_at types.Verity arguments ≡ Ok target → IsTargetOfGrammar target
 verity_target-grammar arguments target e =
     let verity = bind_ok (verity_at arguments) _ target e in
     subst IsTargetOfGrammar (ok_same (Verity verity.0) target verity.2) (verity-grammar arguments verity.0 verity.1)
 
--- a choice between two results
-either : {A E : Type 0} (P : A → Type 0) (x : A) (b : Bool) (r s : Result A E) → (r ≡ Ok x → P x) → (s ≡ Ok x → P x) → cond b r s ≡ Ok x → P x
-either P x true r s f g h = f h
-either P x false r s f g h = g h
+arguments-grammar : (type : TargetType) (arguments : List Word) (target : Target) → arguments_at type arguments ≡ Ok target → IsTargetOfGrammar target
+arguments-grammar types.Linear = linear-grammar
+arguments-grammar types.Striped = striped-grammar
+arguments-grammar types.Zero = λ arguments target. bare-grammar Zero arguments target tt
+arguments-grammar types.Error = λ arguments target. bare-grammar Error arguments target tt
+arguments-grammar types.Crypt = crypt_target-grammar
+arguments-grammar types.Verity = verity_target-grammar
+arguments-grammar types.Unstriped = unstriped-grammar
 
-target-grammar : (type : Word) (arguments : List Word) (target : Target) → target_at type arguments ≡ Ok target → IsTargetOfGrammar target
+target-grammar : (word : Word) (arguments : List Word) (target : Target) → target_at word arguments ≡ Ok target → IsTargetOfGrammar target
 unfolding target_at
-target-grammar type arguments target e =
-    either IsTargetOfGrammar target (bytes_eq type (codes "linear")) (linear_at arguments) _ (linear-grammar arguments target)
-    (either IsTargetOfGrammar target (bytes_eq type (codes "striped")) (striped_at arguments) _ (striped-grammar arguments target)
-    (either IsTargetOfGrammar target (bytes_eq type (codes "zero")) (bare_at Zero arguments) _ (bare-grammar Zero arguments target tt)
-    (either IsTargetOfGrammar target (bytes_eq type (codes "error")) (bare_at Error arguments) _ (bare-grammar Error arguments target tt)
-    (either IsTargetOfGrammar target (bytes_eq type (codes "crypt")) (crypt_target_at arguments) _ (crypt_target-grammar arguments target)
-    (either IsTargetOfGrammar target (bytes_eq type (codes "verity")) (verity_target_at arguments) _ (verity_target-grammar arguments target)
-    (either IsTargetOfGrammar target (bytes_eq type (codes "unstriped")) (unstriped_target_at arguments) (Err kinds.Target) (unstriped-grammar arguments target) (λ h. cc))))))) e
+target-grammar word arguments target e =
+    let type = bind_ok (ok_or (type_named word) kinds.Target) _ target e in
+    arguments-grammar type.0 arguments target type.2
 
 pub line-grammar : (ws : List Word) (line : Line) → line_of ws ≡ Ok line → IsLineOfGrammar line
 unfolding line_of

@@ -1,6 +1,5 @@
 -- Lines and targets, fault by fault.
-use Rattle.std.proofs.Common.{◌≡◌, ℕ, ◌*◌, false, List, ◌∷◌, length, codes, Ok, Err, ap, ◌∙◌, eqb}
-use Rattle.std.specs.Str.{bytes_eq}
+use Rattle.std.proofs.Common.{◌≡◌, ℕ, ◌*◌, List, ◌∷◌, length, Ok, Err, ap, ◌∙◌, eqb}
 use Rattle.std.proofs.lemmas.Bool.{cond-false, ne_eqb}
 use Rattle.dm_table.specs.declared.table.Target.TheVariants.{Striped}
 use Rattle.dm_table.specs.declared.fault.TextKind.{TextKind}
@@ -39,7 +38,3 @@ unfolding line_of
 line-length start count type arguments n kind e f =
     ap (λ r. r >>= (λ first. number_at count >>= (λ sectors. target_at type arguments >>= (λ target. Ok (record { start = first; length = sectors; target = target }))))) e
     ∙ ap (λ r. r >>= (λ sectors. target_at type arguments >>= (λ target. Ok (record { start = n; length = sectors; target = target })))) f
-
-pub target-other : (type : Word) (arguments : List Word) → bytes_eq type (codes "linear") ≡ false → bytes_eq type (codes "striped") ≡ false → bytes_eq type (codes "zero") ≡ false → bytes_eq type (codes "error") ≡ false → bytes_eq type (codes "crypt") ≡ false → bytes_eq type (codes "verity") ≡ false → bytes_eq type (codes "unstriped") ≡ false → target_at type arguments ≡ Err kinds.Target
-unfolding target_at
-target-other type arguments linear striped zeros errors crypt verity unstriped = cond-false _ _ _ linear ∙ cond-false _ _ _ striped ∙ cond-false _ _ _ zeros ∙ cond-false _ _ _ errors ∙ cond-false _ _ _ crypt ∙ cond-false _ _ _ verity ∙ cond-false _ _ _ unstriped

@@ -3,6 +3,7 @@ use Rattle.std.proofs.Common.{◌≡◌, ℕ, ◌^◌, ◌<◌, ◌≤◌, ◌&&
 use Rattle.std.proofs.lemmas.Bool.{and_parts, leb-true, ltb-true}
 use Rattle.dm_table.specs.declared.table.Target.{Target}
 use Rattle.dm_table.specs.declared.table.Target.TheVariants.{Unstriped as unstriped_target}
+use Rattle.dm_table.specs.declared.target_type.TargetType.TheVariants as types
 use Rattle.dm_table.specs.declared.unstriped.Unstriped.{Unstriped}
 use Rattle.dm_table.specs.declared.fault.TextKind.{TextKind}
 use Rattle.dm_table.specs.declared.fault.TextKind.TheVariants as kinds
@@ -10,7 +11,7 @@ use Rattle.dm_table.specs.Words.{Word}
 use Rattle.dm_table.specs.Numbers.{number}
 use Rattle.dm_table.specs.Arguments.{base_at}
 use Rattle.dm_table.specs.Unstriped.{count_at, stripe_at, unstriped_at}
-use Rattle.dm_table.specs.Lines.{unstriped_target_at}
+use Rattle.dm_table.specs.Lines.{arguments_at}
 use Rattle.dm_table.specs.Grammar.{IsUnstripedOfGrammar, IsTargetOfGrammar}
 use Rattle.table_reader.proofs.ReadValueLemmas.{bind_ok, ok_same, ok_or_ok, number_if-some, base-grammar}
 
@@ -57,8 +58,7 @@ line-grammar (count ∷ size ∷ place ∷ name ∷ offset ∷ []) line x =
 line-grammar (a ∷ b ∷ c ∷ d ∷ e ∷ f ∷ more) line x = cc
 
 -- what was read keeps to the grammar's limits
-pub unstriped-grammar : (arguments : List Word) (target : Target) → unstriped_target_at arguments ≡ Ok target → IsTargetOfGrammar target
-unfolding unstriped_target_at
+pub unstriped-grammar : (arguments : List Word) (target : Target) → arguments_at types.Unstriped arguments ≡ Ok target → IsTargetOfGrammar target
 unstriped-grammar arguments target e =
     let line = bind_ok (unstriped_at arguments) _ target e in
     subst IsTargetOfGrammar (ok_same (unstriped_target line.0) target line.2) (line-grammar arguments line.0 line.1)

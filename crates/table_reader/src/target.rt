@@ -2,7 +2,7 @@
 ghost use Rattle.std.specs.Prelude.{◌≡◌, length, ◌*◌};
 ghost use Rattle.table_reader.specs.Reading.{IsReading};
 ghost use Rattle.dm_table.specs.Arguments.{base_at};
-ghost use Rattle.dm_table.specs.Lines.{bases_at, chunk_at, linear_at, stripes_at, striped_at, target_at, bare_at};
+ghost use Rattle.dm_table.specs.Lines.{arguments_at, bare_at, bases_at, chunk_at, linear_at, striped_at, stripes_at, target_at};
 
 use crate::crypt_arguments::read_crypt;
 use crate::cut::Words;
@@ -10,33 +10,37 @@ use crate::line_fault::LineFault;
 use crate::numbers::number;
 use crate::unstriped_arguments::read_unstriped;
 use crate::verity_arguments::read_verity;
-use dm_table::{Base, Bases, Name, Target, TextKind, is_device};
+use dm_table::{Base, Bases, Name, Target, TargetType, TextKind, is_device};
 use std::alloc::Global;
 
-/// Reads the arguments of that target type.
+/// Reads a target by the word of its type and its arguments.
+#[tactic(auto, unfolding(dm_table::specs::Lines::target_at))]
 pub(crate) fn read_target(
     alloc: Global,
-    kind: &[u8],
+    word: &[u8],
     arguments: Words<'_>,
 ) -> Result<Target, LineFault>
-    ensures { IsReading result (target_at kind.now arguments.entry) }
+    ensures { IsReading result (target_at word.now arguments.entry) }
 {
-    if kind == b"linear".as_slice() {
-        read_linear(alloc, arguments)
-    } else if kind == b"striped".as_slice() {
-        read_striped(alloc, arguments)
-    } else if kind == b"zero".as_slice() {
-        read_bare(Target::Zero, arguments)
-    } else if kind == b"error".as_slice() {
-        read_bare(Target::Error, arguments)
-    } else if kind == b"crypt".as_slice() {
-        Ok(Target::Crypt(read_crypt(alloc, arguments)?))
-    } else if kind == b"verity".as_slice() {
-        Ok(Target::Verity(read_verity(alloc, arguments)?))
-    } else if kind == b"unstriped".as_slice() {
-        read_unstriped(alloc, arguments)
-    } else {
-        Err(LineFault::Kind(TextKind::Target))
+    let target_type = TargetType::named(word).ok_or(TextKind::Target)?;
+    read_arguments(alloc, target_type, arguments)
+}
+
+fn read_arguments(
+    alloc: Global,
+    target_type: TargetType,
+    arguments: Words<'_>,
+) -> Result<Target, LineFault>
+    ensures { IsReading result (arguments_at target_type arguments.entry) }
+{
+    match target_type {
+        TargetType::Linear => read_linear(alloc, arguments),
+        TargetType::Striped => read_striped(alloc, arguments),
+        TargetType::Zero => read_bare(Target::Zero, arguments),
+        TargetType::Error => read_bare(Target::Error, arguments),
+        TargetType::Crypt => Ok(Target::Crypt(read_crypt(alloc, arguments)?)),
+        TargetType::Verity => Ok(Target::Verity(read_verity(alloc, arguments)?)),
+        TargetType::Unstriped => Ok(Target::Unstriped(read_unstriped(alloc, arguments)?)),
     }
 }
 

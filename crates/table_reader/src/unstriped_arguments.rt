@@ -2,14 +2,13 @@
 ghost use Rattle.std.specs.Prelude.{◌≡◌, ◌<◌, ◌∷◌, length, MatchResult};
 ghost use Rattle.dm_table.specs.declared.fault.TextKind.TheVariants as kinds;
 ghost use Rattle.table_reader.specs.Reading.{IsReading};
-ghost use Rattle.dm_table.specs.Lines.{unstriped_target_at};
-ghost use Rattle.dm_table.specs.Unstriped.{count_at, stripe_at};
+ghost use Rattle.dm_table.specs.Unstriped.{count_at, stripe_at, unstriped_at};
 
 use crate::cut::Words;
 use crate::line_fault::LineFault;
 use crate::numbers::number;
 use crate::target::read_base;
-use dm_table::{Target, TextKind, Unstriped};
+use dm_table::{TextKind, Unstriped};
 use std::alloc::Global;
 
 /// The words of an `unstriped` line.
@@ -23,8 +22,11 @@ struct UnstripedWords<'a> {
 }
 
 /// Reads the arguments of an `unstriped` line.
-pub(crate) fn read_unstriped(alloc: Global, mut arguments: Words<'_>) -> Result<Target, LineFault>
-    ensures { IsReading result (unstriped_target_at arguments.entry) }
+pub(crate) fn read_unstriped(
+    alloc: Global,
+    mut arguments: Words<'_>,
+) -> Result<Unstriped, LineFault>
+    ensures { IsReading result (unstriped_at arguments.entry) }
 {
     if !arguments.are(5) {
         return Err(LineFault::Kind(TextKind::ArgCount));
@@ -34,12 +36,12 @@ pub(crate) fn read_unstriped(alloc: Global, mut arguments: Words<'_>) -> Result<
     let chunk = read_count(words.size, TextKind::ZeroChunk)?;
     let stripe = read_stripe(words.place, stripes)?;
     let base = read_base(alloc, words.device, words.offset)?;
-    Ok(Target::Unstriped(Unstriped {
+    Ok(Unstriped {
         stripes,
         chunk,
         stripe,
         base,
-    }))
+    })
 }
 
 fn take_unstriped_words<'a>(arguments: &mut Words<'a>) -> Result<UnstripedWords<'a>, TextKind>

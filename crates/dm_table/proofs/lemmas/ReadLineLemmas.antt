@@ -1,5 +1,5 @@
 -- Lines and table texts without a fault, step by step.
-use Rattle.std.proofs.Common.{◌≡◌, ℕ, ◌+◌, ◌*◌, ◌^◌, ◌<◌, ◌≤◌, true, false, List, [], ◌∷◌, length, Some, refl, ap, ◌∙◌, not, eqb, Ok, Err, ◌/◌, codes}
+use Rattle.std.proofs.Common.{◌≡◌, ℕ, ◌+◌, ◌*◌, ◌^◌, ◌<◌, ◌≤◌, true, false, List, [], ◌∷◌, length, Some, refl, ap, ◌∙◌, not, eqb, ok_or, Ok, Err, ◌/◌, codes}
 use Rattle.std.specs.List.{list_all}
 use Rattle.std.specs.Char.{is_ascii_digit}
 use Rattle.std.specs.Str.Parse.{digits_value}
@@ -12,8 +12,11 @@ use Rattle.dm_table.specs.Reading.{◌>>=◌, at_place}
 use Rattle.dm_table.specs.Arguments.{number_at, bytes_at}
 use Rattle.dm_table.specs.Options.{are_options, known_at, counted_at, options_at}
 use Rattle.dm_table.specs.Verity.{salt_at}
-use Rattle.dm_table.specs.declared.table.Target.TheVariants.{Striped, Zero, Error}
-use Rattle.dm_table.specs.Lines.{linear_at, stripes_at, chunk_at, pairs_at, bases_at, striped_at, bare_at, crypt_target_at, verity_target_at, target_at, line_of}
+use Rattle.dm_table.specs.declared.table.Target.TheVariants.{Striped}
+use Rattle.dm_table.specs.declared.target_type.TargetType.{TargetType}
+use Rattle.dm_table.specs.declared.target_type.TargetType.TheVariants as types
+use Rattle.dm_table.specs.TargetTypes.{type_word, type_named}
+use Rattle.dm_table.specs.Lines.{stripes_at, chunk_at, pairs_at, bases_at, striped_at, arguments_at, target_at, line_of}
 use Rattle.dm_table.specs.declared.table.Line.{Line}
 use Rattle.dm_table.specs.TableText.{is_skipped, table_lines, some_lines, table_of}
 
@@ -56,30 +59,15 @@ line-target start count type arguments n m e f =
     ap (λ r. r >>= (λ first. number_at count >>= (λ sectors. target_at type arguments >>= (λ target. Ok (record { start = first; length = sectors; target = target }))))) e
     ∙ ap (λ r. r >>= (λ sectors. target_at type arguments >>= (λ target. Ok (record { start = n; length = sectors; target = target })))) f
 
--- the types of targets, each behind those before it
-pub target-linear : (type : Word) (arguments : List Word) → bytes_eq type (codes "linear") ≡ true → target_at type arguments ≡ linear_at arguments
-unfolding target_at
-target-linear type arguments linear = cond-true _ _ _ linear
+-- the word of a type names it
+pub type_named-word : (type : TargetType) → type_named (type_word type) ≡ Some type
+type_named-word types.Linear = refl
+type_named-word type = refl
 
-pub target-striped : (type : Word) (arguments : List Word) → bytes_eq type (codes "linear") ≡ false → bytes_eq type (codes "striped") ≡ true → target_at type arguments ≡ striped_at arguments
+-- a target whose type is written by its word
+pub target-named : (type : TargetType) (arguments : List Word) → target_at (type_word type) arguments ≡ arguments_at type arguments
 unfolding target_at
-target-striped type arguments linear striped = cond-false _ _ _ linear ∙ cond-true _ _ _ striped
-
-pub target-zero : (type : Word) (arguments : List Word) → bytes_eq type (codes "linear") ≡ false → bytes_eq type (codes "striped") ≡ false → bytes_eq type (codes "zero") ≡ true → target_at type arguments ≡ bare_at Zero arguments
-unfolding target_at
-target-zero type arguments linear striped zeros = cond-false _ _ _ linear ∙ cond-false _ _ _ striped ∙ cond-true _ _ _ zeros
-
-pub target-error : (type : Word) (arguments : List Word) → bytes_eq type (codes "linear") ≡ false → bytes_eq type (codes "striped") ≡ false → bytes_eq type (codes "zero") ≡ false → bytes_eq type (codes "error") ≡ true → target_at type arguments ≡ bare_at Error arguments
-unfolding target_at
-target-error type arguments linear striped zeros errors = cond-false _ _ _ linear ∙ cond-false _ _ _ striped ∙ cond-false _ _ _ zeros ∙ cond-true _ _ _ errors
-
-pub target-crypt : (type : Word) (arguments : List Word) → bytes_eq type (codes "linear") ≡ false → bytes_eq type (codes "striped") ≡ false → bytes_eq type (codes "zero") ≡ false → bytes_eq type (codes "error") ≡ false → bytes_eq type (codes "crypt") ≡ true → target_at type arguments ≡ crypt_target_at arguments
-unfolding target_at
-target-crypt type arguments linear striped zeros errors crypt = cond-false _ _ _ linear ∙ cond-false _ _ _ striped ∙ cond-false _ _ _ zeros ∙ cond-false _ _ _ errors ∙ cond-true _ _ _ crypt
-
-pub target-verity : (type : Word) (arguments : List Word) → bytes_eq type (codes "linear") ≡ false → bytes_eq type (codes "striped") ≡ false → bytes_eq type (codes "zero") ≡ false → bytes_eq type (codes "error") ≡ false → bytes_eq type (codes "crypt") ≡ false → bytes_eq type (codes "verity") ≡ true → target_at type arguments ≡ verity_target_at arguments
-unfolding target_at
-target-verity type arguments linear striped zeros errors crypt verity = cond-false _ _ _ linear ∙ cond-false _ _ _ striped ∙ cond-false _ _ _ zeros ∙ cond-false _ _ _ errors ∙ cond-false _ _ _ crypt ∙ cond-true _ _ _ verity
+target-named type arguments = ap (λ named. ok_or named kinds.Target >>= (λ type. arguments_at type arguments)) (type_named-word type)
 
 pub table-lines : (text : List ℕ) → is_text text ≡ true → table_of text ≡ (table_lines 1 (lines_of text) >>= some_lines)
 unfolding table_of

@@ -1,0 +1,54 @@
+//! The types of targets, by the words that name them.
+ghost use Rattle.std.specs.Prelude.{◌≡◌, Some};
+ghost use Rattle.dm_table.specs.TargetTypes.{type_named, type_word};
+
+/// The type of a line's target.
+#[derive(Clone, Copy, Debug, PartialEq, Eq)]
+pub enum TargetType {
+    Linear,
+    Striped,
+    Zero,
+    Error,
+    Crypt,
+    Verity,
+    Unstriped,
+}
+
+/// Every type, once.
+const TARGET_TYPES: [TargetType; 7] = [
+    TargetType::Linear,
+    TargetType::Striped,
+    TargetType::Zero,
+    TargetType::Error,
+    TargetType::Crypt,
+    TargetType::Verity,
+    TargetType::Unstriped,
+];
+
+impl TargetType {
+    /// The word that names it in a line.
+    pub fn word(self) -> &'static [u8]
+        ensures value { result.now ≡ type_word self }
+        ensures named { type_named result.now ≡ Some self }
+    {
+        match self {
+            TargetType::Linear => b"linear",
+            TargetType::Striped => b"striped",
+            TargetType::Zero => b"zero",
+            TargetType::Error => b"error",
+            TargetType::Crypt => b"crypt",
+            TargetType::Verity => b"verity",
+            TargetType::Unstriped => b"unstriped",
+        }
+    }
+
+    /// The type that the word names.
+    pub fn named(word: &[u8]) -> Option<TargetType>
+        ensures { result ≡ type_named word.now }
+    {
+        TARGET_TYPES
+            .iter()
+            .copied()
+            .find(|target_type| target_type.word() == word)
+    }
+}
