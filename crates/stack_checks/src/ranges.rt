@@ -53,24 +53,23 @@ pub fn is_beyond(leaves: &[Leaf], devices: &[Planned<'_>], lowers: &[Lower], lin
     requires lowers { Mean (configuration leaves.now devices.now) lowers.now (names line.now.target) }
     ensures { result ≡ is_beyond (configuration leaves.now devices.now) line.now.length line.now.target }
 {
+    let length = line.length;
     match &line.target {
         Target::Linear(base) => {
-            are_beyond(leaves, devices, lowers, slice::from_ref(base), line.length)
+            are_beyond(leaves, devices, lowers, slice::from_ref(base), length)
         }
         Target::Striped { bases, .. } => {
             let bases = bases.as_slice();
-            let share = line.length / bases.len() as u64;
+            let share = length / bases.len() as u64;
             are_beyond(leaves, devices, lowers, bases, share)
         }
         Target::Zero | Target::Error => false,
         Target::Crypt(crypt) => {
             let base = slice::from_ref(&crypt.base);
-            are_beyond(leaves, devices, lowers, base, line.length)
+            are_beyond(leaves, devices, lowers, base, length)
         }
         Target::Verity(verity) => size_of(leaves, devices, lowers[0]) < data_sectors(verity),
-        Target::Unstriped(unstriped) => {
-            size_of(leaves, devices, lowers[0]) < striped_end(unstriped, line.length)
-        }
+        Target::Unstriped(line) => size_of(leaves, devices, lowers[0]) < striped_end(line, length),
     }
 }
 

@@ -10,22 +10,10 @@ ghost use Rattle.stack_rules.specs.Rules.{unknown_in, unknown_names, most_leaves
 
 use crate::index::Index;
 use dm_table::{Line, Target};
-use stack_rules::{DeviceLowers, Leaf, LineLowers, LoadFault, LoadKind, Planned, Refusal};
+use stack_rules::{
+    DeviceLowers, Leaf, LineLowers, LoadFault, LoadKind, Planned, Refusal, name_count,
+};
 use std::alloc::{AllocError, Global};
-
-/// How many names a target has.
-pub(crate) fn name_count(target: &Target) -> usize
-    ensures { result ≡ length (names target.now) }
-{
-    match target {
-        Target::Linear(_) => 1,
-        Target::Striped { bases, .. } => bases.as_slice().len(),
-        Target::Zero | Target::Error => 0,
-        Target::Crypt(_) => 1,
-        Target::Verity(_) => 2,
-        Target::Unstriped(_) => 1,
-    }
-}
 
 /// The i-th name of a target, from 0.
 fn name_at(target: &Target, i: usize) -> &[u8]

@@ -8,7 +8,7 @@ ghost use Rattle.stack_rules.specs.Rules.{first, refuse, cuts_unit, is_off_unit,
 use dm_table::{Line, Target};
 use stack_rules::{LoadKind, crypt_of, unit_sectors};
 
-// Whether a striped line's length is no multiple of stripes times chunk, or an unstriped line's none of its chunk.
+// Whether a line's length is no whole number of its stripes' chunks.
 fn is_undivided(line: &Line) -> bool
     requires { IsTargetOfGrammar line.now.target }
     ensures { result ≡ is_undivided line.now.length line.now.target }

@@ -1,7 +1,6 @@
 //! The leaves on which each mapped device stands.
 ghost use Rattle.std.specs.Prelude.{◌≡◌, ◌<◌, ◌+◌, ℕ, length};
 ghost use Rattle.std.specs.List.{list_any};
-ghost use Rattle.dm_table.specs.Grammar.{IsTargetOfGrammar};
 ghost use Rattle.stack_rules.specs.Descend.{depth};
 ghost use Rattle.stack_rules.specs.Lines.{names_at};
 ghost use Rattle.stack_rules.specs.Names.{mapped, names};
@@ -12,6 +11,7 @@ ghost use Rattle.stack_lines.specs.Standing.{contains, is_verity, name_stands_on
 use crate::leaf_set::LeafSet;
 use dm_table::Target;
 use stack_config::{Config, DevId, Lower, verity_of};
+use stack_rules::name_count;
 
 /// The depth of the deepest.
 const MOST_DEPTH: u32 = 8;
@@ -24,20 +24,6 @@ pub(crate) fn lower_leaves(sets: &[LeafSet; 64], lower: Lower) -> LeafSet
     match lower {
         Lower::Leaf(leaf) => LeafSet::empty().with(leaf),
         Lower::Device(d) => sets[d.0 as usize],
-    }
-}
-
-/// How many names a line has.
-fn name_count(target: &Target) -> u32
-    requires { IsTargetOfGrammar target.now }
-    ensures { result ≡ length (names target.now) }
-{
-    match target {
-        Target::Linear(_) | Target::Crypt(_) => 1,
-        Target::Striped { chunk: _, bases } => bases.as_slice().len() as u32,
-        Target::Zero | Target::Error => 0,
-        Target::Verity(_) => 2,
-        Target::Unstriped(_) => 1,
     }
 }
 
@@ -75,7 +61,7 @@ fn device_leaves(config: &Config, sets: &[LeafSet; 64], d: DevId) -> LeafSet
     let mut number = 0;
     let lines = config.table(d).lines();
     for line in lines {
-        let count = name_count(&line.target);
+        let count = name_count(&line.target) as u32;
         leaves = leaves.union(line_leaves(config, sets, d, number, count));
         number += 1;
     }

@@ -1,6 +1,6 @@
 -- The record of a target: the one match on its kinds.
 use Rattle.dm_table.specs.declared.table.Target.{Target}
-use Rattle.dm_table.specs.declared.table.Target.TheVariants.{Linear, Striped, Zero, Error, Crypt, Verity, Unstriped}
+use Rattle.dm_table.specs.declared.table.Target.TheVariants as targets
 use Rattle.stack_rules.specs.TargetRules.{TargetRules}
 use Rattle.stack_rules.specs.targets.Linear.{linear}
 use Rattle.stack_rules.specs.targets.Striped.{striped}
@@ -11,10 +11,10 @@ use Rattle.stack_rules.specs.targets.Verity.{verity}
 use Rattle.stack_rules.specs.targets.Unstriped.{unstriped}
 
 abbrev pub rules_of : Target → TargetRules
-rules_of (Linear base) = linear base
-rules_of (Striped chunk bases) = striped chunk bases
-rules_of Zero = zero
-rules_of Error = error
-rules_of (Crypt line) = crypt line
-rules_of (Verity line) = verity line
-rules_of (Unstriped line) = unstriped line
+rules_of (targets.Linear base) = linear base
+rules_of (targets.Striped chunk bases) = striped chunk bases
+rules_of targets.Zero = zero
+rules_of targets.Error = error
+rules_of (targets.Crypt line) = crypt line
+rules_of (targets.Verity line) = verity line
+rules_of (targets.Unstriped line) = unstriped line

@@ -6,17 +6,17 @@ use Rattle.stack_checks.proofs.resolve.line_lowers.Goals as goal
 
 pub returns-in-None : goal.returns-in-None
 returns-in-None c = λ c' is.
-    let low : c.loop-i.i < length (names c.args.target.now) = omega (arith, c.loop-i-test.true, c.name_count-count.ensures) in
+    let low : c.loop-i.i < length (names c.args.target.now) = omega (arith, c.loop-i-test.true, c.name_count-count.ensures.value) in
     mean_none c' (names c.args.target.now) c.loop-i.i c.name_at.result.now low c.name_at.ensures (c.in-None.ensures c' is)
 
 pub loop-i-preserved : goal.loop-i-preserved
 loop-i-preserved c = λ c' is.
-    let low : c.loop-i.i < length (names c.args.target.now) = omega (arith, c.loop-i-test.true, c.name_count-count.ensures) in
+    let low : c.loop-i.i < length (names c.args.target.now) = omega (arith, c.loop-i-test.true, c.name_count-count.ensures.value) in
     rw c.in_ok-push-in-Some.ensures.items
     (mean_more c' c.loop-i.list.items (names c.args.target.now) c.loop-i.i c.name_at.result.now c.in-Some.lower low c.name_at.ensures (c.in-Some.ensures c' is) (c.loop-i.invariant c' is))
 
 pub returns : goal.returns
 returns c = λ c' is.
-    let past : length (names c.args.target.now) ≤ c.loop-i.i = omega (arith, c.loop-i-test.false, c.name_count-count.ensures) in
+    let past : length (names c.args.target.now) ≤ c.loop-i.i = omega (arith, c.loop-i-test.false, c.name_count-count.ensures.value) in
     let all : take c.loop-i.i (names c.args.target.now) ≡ names c.args.target.now = take_all c.loop-i.i (names c.args.target.now) past in
     rw c.new.ensures (rw all at (c.loop-i.invariant c' is))

@@ -1,0 +1,22 @@
+//! The names that a target has.
+ghost use Rattle.std.specs.Prelude.{◌≡◌, ◌≤◌, length};
+ghost use Rattle.dm_table.specs.Grammar.{IsTargetOfGrammar};
+ghost use Rattle.stack_rules.specs.Names.{names};
+
+use dm_table::Target;
+
+/// How many names a target has.
+pub fn name_count(target: &Target) -> usize
+    ensures value { result ≡ length (names target.now) }
+    ensures few { IsTargetOfGrammar target.now → result ≤ 16 }
+{
+    match target {
+        Target::Linear(_) => 1,
+        Target::Striped { bases, .. } => bases.as_slice().len(),
+        Target::Zero => 0,
+        Target::Error => 0,
+        Target::Crypt(_) => 1,
+        Target::Verity(_) => 2,
+        Target::Unstriped(_) => 1,
+    }
+}
