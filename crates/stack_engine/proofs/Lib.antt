@@ -4,6 +4,8 @@ pub mod CachedLemmas
 pub mod PathLemmas
 pub mod BlocksLemmas
 pub mod NextBlockLemmas
+pub mod KeepingLemmas
+pub mod BytesLemmas
 pub mod StackLemmas
 pub mod BlockPartLemmas
 pub mod WritablePlainLemmas

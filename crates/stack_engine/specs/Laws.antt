@@ -1,9 +1,9 @@
 -- Laws of what a stack means and of what is answered.
-use Rattle.std.specs.Prelude.{◌≡◌, ◌≢◌, ℕ, ◌-◌, ◌*◌, ◌/◌, IsTrue, if◌then◌else◌, List, [], ◌++◌, map, All, Contains, Some, Ok}
+use Rattle.std.specs.Prelude.{◌≡◌, ◌≢◌, ℕ, ◌+◌, ◌-◌, ◌<◌, ◌*◌, ◌/◌, IsTrue, if◌then◌else◌, List, [], ◌++◌, map, All, Contains, Some, Ok}
 use Rattle.std.specs.List.{slice_index_or, concat}
 use Rattle.sha2.specs.Sha256.{sha256}
 use Rattle.hash_tree.specs.declared.difference.Place.{Place}
-use Rattle.hash_tree.specs.Chain.{IsGood, formed}
+use Rattle.hash_tree.specs.Chain.{ChainRecord, IsGood, formed}
 use Rattle.hash_tree.specs.Difference.{IsTopmostDifference, block_at as chain_block}
 use Rattle.tree_shape.specs.Digests.{digest}
 use Rattle.hash_tree.specs.Laws.{AreBlocks}
@@ -22,9 +22,10 @@ use Rattle.stack_meaning.specs.Blocks.{hash_sectors, is_ignored}
 use Rattle.stack_meaning.specs.Found.{FoundRecord}
 use Rattle.stack_meaning.specs.LeavesBeneath.{leaves_beneath}
 use Rattle.stack_meaning.specs.May.{MayBe}
-use Rattle.stack_meaning.specs.Meaning.{sector, said_by_name}
+use Rattle.stack_meaning.specs.Meaning.{content_part, sector, said_by_name}
 use Rattle.stack_meaning.specs.Outcomes.{Images, AreWhole, Outcome, span, part, zero_sector}
 use Rattle.stack_lines.specs.Walks.{HasVerity}
+use Rattle.stack_engine.specs.Bytes.{MayBeBytes}
 
 -- ---- a verity line over formatted devices
 
@@ -91,6 +92,33 @@ ForgedAnswersCollide = (c : Configuration) → IsLoaded c → (lower : Lower) (f
     → x.chain.content ≢ slice_index_or blocks x.chain.index []
     → (place : Place) × (IsTopmostDifference (formed (tree_of v) v.salt blocks x.chain.index) x.chain place
     × IsSha256Collision (v.salt ++ chain_block (formed (tree_of v) v.salt blocks x.chain.index) place) (v.salt ++ chain_block x.chain place))
+
+-- The same of the chains of a piece of which none was handed out.
+abbrev pub ForgedBytesCollide : Type 0
+ForgedBytesCollide = (c : Configuration) → IsLoaded c → (lower : Lower) (first n : ℕ) (bytes : List ℕ) (may : MayBeBytes c lower first n bytes)
+    → (x : FoundRecord) → Contains may.chains x → (v : Verity) → HasVerity c x.device x.line v
+    → (blocks : List (List ℕ)) → AreBlocks v.blocks v.data_block blocks → v.root ≡ root v.hash_block v.salt (digests_of v blocks)
+    → x.chain.content ≢ slice_index_or blocks x.chain.index []
+    → (place : Place) × (IsTopmostDifference (formed (tree_of v) v.salt blocks x.chain.index) x.chain place
+    × IsSha256Collision (v.salt ++ chain_block (formed (tree_of v) v.salt blocks x.chain.index) place) (v.salt ++ chain_block x.chain place))
+
+-- A chain that beside the one formed of the blocks shows two different inputs of one digest, at the topmost place where
+-- the two differ.
+pub record ChainCollides (v : Verity) (blocks : List (List ℕ)) (index : ℕ) : Type 0 where
+  pub chain : ChainRecord
+  pub number : chain.index ≡ index
+  pub place : Place
+  pub topmost : IsTopmostDifference (formed (tree_of v) v.salt blocks index) chain place
+  pub collision : IsSha256Collision (v.salt ++ chain_block (formed (tree_of v) v.salt blocks index) place) (v.salt ++ chain_block chain place)
+
+-- A sector of a piece, the j-th, that lies in a verity line and isn't the one of the formatted block: there is a chain
+-- that holds it and shows a collision.
+abbrev pub ForgedSectorsCollide : Type 0
+ForgedSectorsCollide = (c : Configuration) → IsLoaded c → (d first n : ℕ) (bytes : List ℕ) → MayBeBytes c (mapped d) first n bytes
+    → (j : ℕ) → j < n → (l : ℕ) (line : Line) (v : Verity) → LiesInVerity c d (first + j) l line v
+    → (blocks : List (List ℕ)) → AreBlocks v.blocks v.data_block blocks → v.root ≡ root v.hash_block v.salt (digests_of v blocks)
+    → let w = first + j - line.start in let index = w / block_sectors v in
+    part bytes j ≢ content_part v w (slice_index_or blocks index []) → ChainCollides v blocks index
 
 -- ---- blocks that are ignored
 

@@ -1,6 +1,8 @@
 pub mod Stacks
 pub mod Premises
+pub mod Keeping
 pub mod Pieces
+pub mod Bytes
 pub mod WritePieces
 pub mod Syncs
 pub mod Laws

@@ -1,5 +1,5 @@
 //! Laws of the definitions: each function's contract is the law, and its call gives it.
-ghost use Rattle.stack_engine.specs.Laws.{FormattedDataIsRead, IgnoredBlocksCollide, SpansStandOnLeaves, AnsweredChainsAreGood, ForgedAnswersCollide};
+ghost use Rattle.stack_engine.specs.Laws.{FormattedDataIsRead, IgnoredBlocksCollide, SpansStandOnLeaves, AnsweredChainsAreGood, ForgedAnswersCollide, ForgedBytesCollide, ForgedSectorsCollide};
 ghost use Rattle.stack_engine.specs.TableLines.{TableLinesReadBack};
 
 use hash_tree::laws::{forged_blocks_collide, formed_chains_are_good};
@@ -33,6 +33,22 @@ pub fn answered_chains_are_good()
 /// for the formatted chain and this one has two different inputs of one SHA-256 digest.
 pub fn forged_answers_collide()
     ensures { ForgedAnswersCollide }
+{
+    forged_blocks_collide();
+}
+
+/// The same of each chain that shows a piece of which no chain was handed out.
+pub fn forged_bytes_collide()
+    ensures { ForgedBytesCollide }
+{
+    forged_blocks_collide();
+}
+
+/// A sector of a piece, in a verity line of its device, that isn't the one of the block under the root: there is a chain
+/// of its block which has, at the topmost place where it differs from the chain formed of the blocks, two different inputs
+/// of one SHA-256 digest.
+pub fn forged_sectors_collide()
+    ensures { ForgedSectorsCollide }
 {
     forged_blocks_collide();
 }

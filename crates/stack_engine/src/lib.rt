@@ -3,6 +3,7 @@
 
 mod answer;
 mod buffer;
+mod bytes;
 mod counters;
 pub mod laws;
 mod path;

@@ -1,12 +1,13 @@
 //! The hash blocks on the way to a data block, as they stand from the block before.
 ghost use Rattle.std.specs.Prelude.{◌≡◌, ◌<◌, ◌≤◌, ◌++◌, ◌∷◌, [], length, map, take, get_or, IsTrue, OnOk, OnErr};
 ghost use Rattle.verified_cache.specs.Cache.{CachedBlock};
+ghost use Rattle.stack_engine.specs.Keeping.{handed_out};
 
 use hash_tree::Chain;
 use stack_lines::BlockPart;
 use stack_lines::tree::Extent;
 use stack_meaning::Found;
-use std::alloc::{AllocError, Global};
+use std::alloc::AllocError;
 use std::marker::Model;
 use tree_shape::Digest;
 use verified_cache::Key;
@@ -57,9 +58,36 @@ pub(crate) fn put(path: &mut Vec<PathBlock>, at: usize, one: PathBlock) -> Resul
     Ok(())
 }
 
+/// Whether the chains of data blocks are handed out.
+#[derive(Clone, Copy)]
+pub(crate) enum Chains {
+    Kept,
+    Dropped,
+}
+
+impl Chains {
+    /// Keeps the chain of a data block of a part's line, by its number in the line from 0, behind those that were found
+    /// before; or none.
+    pub(crate) fn keep(
+        self,
+        part: BlockPart,
+        index: u64,
+        path: &[PathBlock],
+        content: &[u8],
+        found: &mut Vec<Found>,
+    ) -> Result<(), AllocError>
+        ensures ok { OnOk result (found.new.items ≡ handed_out self found.old.items (record { device = part.device.0; line = part.line; chain = record { index = index; content = content.now; path = map (λ b. b.bytes) path.now } })) }
+        ensures err { OnErr result (found.new.items ≡ found.old.items) }
+    {
+        match self {
+            Chains::Kept => keep_chain(part, index, path, content, found),
+            Chains::Dropped => Ok(()),
+        }
+    }
+}
+
 /// The chain of a data block of a part's line, by its number in the line from 0, behind those that were found before.
-pub(crate) fn keep_chain(
-    alloc: Global,
+fn keep_chain(
     part: BlockPart,
     index: u64,
     path: &[PathBlock],
@@ -69,6 +97,7 @@ pub(crate) fn keep_chain(
     ensures ok { OnOk result (found.new.items ≡ found.old.items ++ (record { device = part.device.0; line = part.line; chain = record { index = index; content = content.now; path = map (λ b. b.bytes) path.now } } ∷ [])) }
     ensures err { OnErr result (found.new.items ≡ found.old.items) }
 {
+    let alloc = *found.allocator();
     let content = Vec::from_slice(alloc, content)?;
     let mut blocks = Vec::new(alloc);
     for block in path {

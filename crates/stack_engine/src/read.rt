@@ -17,9 +17,10 @@ ghost use Rattle.stack_lines.specs.Caches.{IsCached, KeepsCache, IsPlaceOf};
 ghost use Rattle.verified_cache.specs.Cache.{CachedBlock};
 ghost use Rattle.stack_engine.specs.Stacks.{IsSound, IsStack};
 ghost use Rattle.stack_engine.specs.Premises.{FitsIn, CanRead};
+ghost use Rattle.stack_engine.specs.Keeping.{ReadsBlocks};
 
 use crate::buffer::{fill_zeros, zero_block, zero_sectors};
-use crate::path::{PathBlock, WantedBlock, keep_chain, put, stands};
+use crate::path::{Chains, PathBlock, WantedBlock, put, stands};
 use crate::reader::Reader;
 use block_device::BlockDev;
 use dm_table::Verity;
@@ -80,7 +81,7 @@ fn read_lower<D: BlockDev>(
 
 /// The sectors of one run.
 #[cycle(read)]
-fn read_run<D: BlockDev>(
+pub(crate) fn read_run<D: BlockDev>(
     config: &Config,
     reader: &mut Reader<D>,
     source: Source,
@@ -104,7 +105,7 @@ fn read_run<D: BlockDev>(
         }
         Source::Fails => Err(IoFault::Stack(Fault::ErrorTarget)),
         Source::Block(part) => read_block(config, reader, part, out, found),
-        Source::Blocks(part) => read_blocks(config, reader, part, out, found),
+        Source::Blocks(part) => read_blocks(config, reader, part, out, Chains::Kept, found),
     }
 }
 
@@ -213,18 +214,19 @@ fn read_block<D: BlockDev>(
     }
 }
 
-/// Whole data blocks of a verity line, of their chains, which are found here. The way to the first is read before them;
-/// the blocks are read at once, and each is checked once the way to it was read.
+/// Whole data blocks of a verity line, of their chains, which are found here and kept or dropped. The way to the first
+/// is read before them; the blocks are read at once, and each is checked once the way to it was read.
 #[cycle(read)]
-fn read_blocks<D: BlockDev>(
+pub(crate) fn read_blocks<D: BlockDev>(
     config: &Config,
     reader: &mut Reader<D>,
     part: BlockPart,
     out: &mut [u8],
+    chains: Chains,
     found: &mut Vec<Found>,
 ) -> Result<(), IoFault>
     requires { CanRead config.now (map D.state reader.old.devices.items) reader.old.cache found.old.items (Source.Blocks part) out.old }
-    ensures reads { ReadsSource config.now (Source.Blocks part) (length out.old / 512)
+    ensures reads { ReadsBlocks config.now part (length out.old / 512) chains
         (record { old = map D.state reader.old.devices.items; new = map D.state reader.new.devices.items; before = found.old.items; after = found.new.items })
         (buffer_answer result out.new) }
     ensures cached { KeepsCache config.now (map D.state reader.new.devices.items) reader.old.cache reader.new.cache }
@@ -255,7 +257,7 @@ fn read_blocks<D: BlockDev>(
         }
         let way = &path.as_slice()[..levels];
         let content = &out[at * size..(at + 1) * size];
-        match keep_chain(reader.alloc, part, index, way, content, found) {
+        match chains.keep(part, index, way, content, found) {
             Err(_) => return Err(IoFault::NoMemory),
             Ok(()) => {}
         }

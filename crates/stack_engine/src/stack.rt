@@ -6,15 +6,18 @@ ghost use Rattle.stack_rules.specs.Rules.{after_load, IsRefusal, first_refusal};
 ghost use Rattle.stack_rules.specs.Removal.{removal_fault, after_removal};
 ghost use Rattle.stack_rules.specs.declared.refusal.Refusal.{Refusal};
 ghost use Rattle.stack_meaning.specs.Leaves.{ServeLeaves, AllSteady, reads_of, writes_of};
+ghost use Rattle.stack_engine.specs.Bytes.{AnyBytes, SteadyBytes};
 ghost use Rattle.stack_engine.specs.Pieces.{AnyPiece, SteadyPiece};
 ghost use Rattle.stack_engine.specs.Stacks.{StackRecord, IsSound};
 ghost use Rattle.stack_meaning.specs.Meaning.{said_at};
+ghost use Rattle.stack_meaning.specs.Reading.{MeetVerity, buffer_answer};
 ghost use Rattle.stack_engine.specs.Syncs.{FailsToSync, NeverFail};
 ghost use Rattle.stack_engine.specs.WritePieces.{ArePiece, AnyWrite, SteadyWrite};
 ghost use Rattle.stack_lines.specs.Writing.{SomeEncrypt};
 
 use crate::answer::Answer;
 use crate::buffer::{bytes_to_encrypt, zero_sectors};
+use crate::bytes::device_bytes;
 use crate::counters::counted;
 use crate::read::read_device;
 use crate::reader::Reader;
@@ -115,6 +118,19 @@ impl<D: BlockDev> Stack<D> {
             Err(fault) => Err(fault),
             Ok(()) => Ok(Answer { bytes, chains }),
         }
+    }
+
+    /// The sectors of a device from `first` on into the slice, which has room for 1 to 128. They lie inside the device.
+    /// As `read_piece`, but no chain is handed out: that there are some which show the bytes is what `any` says. Behind
+    /// a fault nothing is known of the slice. It takes memory only where a `verity` line is on the way.
+    pub fn read_bytes(&mut self, d: DevId, first: u64, out: &mut [u8]) -> Result<(), IoFault>
+        requires piece { ArePiece out.old }
+        requires inside { first + length out.old / 512 ≤ size self.old.config (mapped d.0) }
+        ensures any { AnyBytes self.old d.0 first (length out.old / 512) (buffer_answer result out.new) self.new }
+        ensures steady { AllSteady self.old.leaves → SteadyBytes self.old d.0 first (length out.old / 512) (buffer_answer result out.new) self.new }
+        ensures memory { result ≡ Err IoFault.NoMemory → MeetVerity (said_at self.old.config (mapped d.0)) first (length out.old / 512) }
+    {
+        device_bytes(&self.config, &mut self.reader, d, first, out)
     }
 
     /// Writes whole sectors of a device, 1 to 128, from `first` on, in rising order up to the first fault. They lie

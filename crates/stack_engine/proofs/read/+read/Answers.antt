@@ -17,9 +17,9 @@ use Rattle.stack_rules.specs.declared.lower.DevId.{DevId}
 use Rattle.stack_rules.specs.declared.lower.Lower.TheVariants.{Leaf}
 use Rattle.stack_rules.specs.declared.lower.Lower.{Lower}
 use Rattle.stack_meaning.specs.declared.fault.Fault.TheVariants.{ErrorTarget}
-use Rattle.stack_meaning.specs.declared.fault.IoFault.TheVariants.{Stack, NoMemory}
+use Rattle.stack_meaning.specs.declared.fault.IoFault.TheVariants.{Stack}
 use Rattle.stack_lines.specs.declared.source.Source.{Source}
-use Rattle.stack_lines.specs.declared.source.Source.TheVariants.{Units, UnitPart, Block, Blocks}
+use Rattle.stack_lines.specs.declared.source.Source.TheVariants.{Units, UnitPart, Block}
 use Rattle.stack_meaning.specs.Found.{FoundRecord, entry_of}
 use Rattle.stack_meaning.specs.Kept.{IsKept, AllKept}
 use Rattle.stack_lines.specs.declared.tree.Extent.{Extent}
@@ -58,7 +58,9 @@ use Rattle.stack_lines.specs.AtOnce.{CanGo}
 use Rattle.stack_lines.specs.Caches.{IsCached}
 use Rattle.stack_engine.proofs.PathLemmas.{path-read, path-hit, path-put, path-down, path-failed, path-stopped, path-ended, path-whole, no_block}
 use Rattle.stack_engine.proofs.BlocksLemmas.{blocks-at, blocks_plain}
-use Rattle.stack_engine.proofs.NextBlockLemmas.{WereHad, way-whole, same-digest, other-digest, block-slice, few-blocks, digest-count, whole-blocks, digests-are, block-ends, small-index, first-next, first-fails, data-fails, had-all, had-next, had-fails, next-had, next-differs, next-full}
+use Rattle.stack_engine.proofs.NextBlockLemmas.{way-whole, same-digest, other-digest, block-slice, few-blocks, digest-count, whole-blocks, digests-are, block-ends, small-index, first-next, first-fails, data-fails, had-all, had-next, had-fails, next-had, next-differs, next-full}
+use Rattle.stack_engine.specs.Keeping.{AreHandedOut}
+use Rattle.stack_engine.proofs.KeepingLemmas.{kept-reads, none-out, one-out}
 use Rattle.stack_engine.proofs.read.+read.Goals as goal
 
 pub read_device-overflow_add-first : goal.read_device-overflow_add-first
@@ -801,7 +803,7 @@ abbrev block_bytes : CachedBlock → List ℕ
 block_bytes b = b.bytes
 
 pub read_run-returns-in-Blocks-clause-reads : goal.read_run-returns-in-Blocks-clause-reads
-read_run-returns-in-Blocks-clause-reads g t c = rw c.in-Blocks.is c.read_blocks.ensures.reads
+read_run-returns-in-Blocks-clause-reads g t c = rw c.in-Blocks.is (kept-reads c.read_blocks.ensures.reads)
 
 pub read_run-returns-in-Blocks-clause-plain : goal.read_run-returns-in-Blocks-clause-plain
 read_run-returns-in-Blocks-clause-plain g t c = rw c.in-Blocks.is c.read_blocks.ensures.plain
@@ -841,7 +843,7 @@ read_blocks-returns-in-Err-clause-reads g t c =
     let at = blocks-at config v p n found tree.data loaded (omega (arith, c.requires.fits.sectors.some, c.requires.fits.sectors.whole)) line c.requires.fits.holds c.requires.can_go is in
     let sectors : c.from.result ≡ block_sectors v = c.from.ensures in
     let got = subst (λ (k : ℕ). GetsChain (block_in config v (p.first / k)) old (map g.D.BlockDev.state c.walk_path.new.reader.devices.items) (Err c.in-Err.fault)) sectors c.in-Err.ensures.err in
-    first-fails config v p n tree.data found loaded line is at c.in-Err.fault c.requires.kept c.in-Err.ensures.moved got
+    record { after = found; out = none-out c.args.chains found; reads = first-fails config v p n tree.data found loaded line is at c.in-Err.fault c.requires.kept c.in-Err.ensures.moved got }
 
 pub read_blocks-read_lower-requires : goal.read_blocks-read_lower-requires
 read_blocks-read_lower-requires g t c κs within =
@@ -884,7 +886,11 @@ read_blocks-returns-in-Err-read_lower-clause-reads g t c =
     let line = c.verity_at-verity.ensures in
     let is = c.tree_at-tree.ensures.tree.on_data in
     let at = blocks-at config v p n found tree.data loaded (omega (arith, c.requires.fits.sectors.some, c.requires.fits.sectors.whole)) line c.requires.fits.holds c.requires.can_go is in
-    data-fails config v p n tree.data found loaded line is at c.read_lower.new.found.items c.in-Err-read_lower.fault c.requires.kept c.in-Ok.ensures.moved c.in-Err-read_lower.ensures.reads.got
+    record {
+      after = found;
+      out = none-out c.args.chains found;
+      reads = data-fails config v p n tree.data found loaded line is at c.read_lower.new.found.items c.in-Err-read_lower.fault c.requires.kept c.in-Ok.ensures.moved c.in-Err-read_lower.ensures.reads.got;
+    }
 
 pub read_blocks-slice_bounds-got-end : goal.read_blocks-slice_bounds-got-end
 read_blocks-slice_bounds-got-end g t c =
@@ -966,6 +972,8 @@ read_blocks-checks-init g t c =
       inside = omega (arith, are.0, at.some);
       index = let e : p.first / c.from.result ≡ p.first / block_sectors v = ap (λ (k : ℕ). p.first / k) sectors in omega (arith, e);
       all = c.digest_blocks.ensures;
+      after = found;
+      out = none-out c.args.chains found;
       held = path-read config c.walk_path.new.path.items got.moved c.in-Ok.ensures.held;
       were = record { from = from; to = _; chains = c.read_lower.new.found.items; ways = _; first = moved; whole = all-whole g.D.BlockDev.state g.met.D.BlockDev.whole c.walk_path.new.reader.devices.items; got = got };
       next = first-next config v p n tree.data found loaded line is at bytes_read c.in-Ok.expected way c.read_lower.new.found.items c.requires.kept walked moved got;
@@ -991,9 +999,13 @@ read_blocks-returns-then-ne-clause-reads g t c =
     let j : ℕ = c.checks.at in
     let are = digests-are config v p n tree.data found loaded line is at bytes_read _ len inv.all in
     let inside : j < n / block_sectors v = omega (arith, inv.inside, are.0) in
-    let did : Read = record { old = old; new = map g.D.BlockDev.state c.checks.reader.devices.items; before = found; after = c.checks.found.items } in
+    let did : Read = record { old = old; new = map g.D.BlockDev.state c.checks.reader.devices.items; before = found; after = inv.after } in
     let way = map block_bytes (take (levels (tree_of v)) c.checks.path.items) in
-    next-differs config v p n tree.data found loaded line is at j bytes_read c.checks.expected way did inside inv.were inv.next (other-digest _ c.checks.expected _ v.salt (are.1 j _ inside) c.if-ne.ensures)
+    record {
+      after = inv.after;
+      out = inv.out;
+      reads = next-differs config v p n tree.data found loaded line is at j bytes_read c.checks.expected way did inside inv.were inv.next (other-digest _ c.checks.expected _ v.salt (are.1 j _ inside) c.if-ne.ensures);
+    }
 
 pub read_blocks-slice_bounds-way-end : goal.read_blocks-slice_bounds-way-end
 read_blocks-slice_bounds-way-end g t c =
@@ -1033,7 +1045,7 @@ read_blocks-overflow_mul-content g t c =
     let j : ℕ = c.checks.at in
     let are = digests-are config v p n tree.data found loaded line is at bytes_read _ len inv.all in
     let inside : j < n / block_sectors v = omega (arith, inv.inside, are.0) in
-    let did : Read = record { old = old; new = map g.D.BlockDev.state c.checks.reader.devices.items; before = found; after = c.checks.found.items } in
+    let did : Read = record { old = old; new = map g.D.BlockDev.state c.checks.reader.devices.items; before = found; after = inv.after } in
     let way = map block_bytes (take (levels (tree_of v)) c.checks.path.items) in
     let ends = block-ends config v p n tree.data found loaded line is at bytes_read j len inside in
     let starts : j * v.data_block ≤ (j + 1) * v.data_block = mul-le-mul_right v.data_block (omega arith) in
@@ -1058,14 +1070,14 @@ read_blocks-slice_bounds-content-end g t c =
     let j : ℕ = c.checks.at in
     let are = digests-are config v p n tree.data found loaded line is at bytes_read _ len inv.all in
     let inside : j < n / block_sectors v = omega (arith, inv.inside, are.0) in
-    let did : Read = record { old = old; new = map g.D.BlockDev.state c.checks.reader.devices.items; before = found; after = c.checks.found.items } in
+    let did : Read = record { old = old; new = map g.D.BlockDev.state c.checks.reader.devices.items; before = found; after = inv.after } in
     let way = map block_bytes (take (levels (tree_of v)) c.checks.path.items) in
     let ends = block-ends config v p n tree.data found loaded line is at bytes_read j len inside in
     let starts : j * v.data_block ≤ (j + 1) * v.data_block = mul-le-mul_right v.data_block (omega arith) in
     omega (arith, ends, starts, c.read_lower.auto.out)
 
-pub read_blocks-returns-in-Err-keep_chain-clause-reads : goal.read_blocks-returns-in-Err-keep_chain-clause-reads
-read_blocks-returns-in-Err-keep_chain-clause-reads g t c =
+pub read_blocks-returns-in-Err-keep-clause-reads : goal.read_blocks-returns-in-Err-keep-clause-reads
+read_blocks-returns-in-Err-keep-clause-reads g t c =
     let config = c.args.config.now in
     let p = c.args.part in
     let n : ℕ = length c.args.out.now / 512 in
@@ -1083,10 +1095,13 @@ read_blocks-returns-in-Err-keep_chain-clause-reads g t c =
     let j : ℕ = c.checks.at in
     let are = digests-are config v p n tree.data found loaded line is at bytes_read _ len inv.all in
     let inside : j < n / block_sectors v = omega (arith, inv.inside, are.0) in
-    let did : Read = record { old = old; new = map g.D.BlockDev.state c.checks.reader.devices.items; before = found; after = c.checks.found.items } in
+    let did : Read = record { old = old; new = map g.D.BlockDev.state c.checks.reader.devices.items; before = found; after = inv.after } in
     let way = map block_bytes (take (levels (tree_of v)) c.checks.path.items) in
-    subst (λ (u : List FoundRecord). ReadsSource config (Blocks p) n (record { old = old; new = did.new; before = found; after = u }) (Err NoMemory)) (sym c.in-Err-keep_chain.ensures.err)
-    (next-full config v p n tree.data found loaded line is at j bytes_read c.checks.expected way did inside inv.were inv.next)
+    record {
+      after = inv.after;
+      out = subst (AreHandedOut c.args.chains found inv.after) (sym c.in-Err-keep.ensures.err) inv.out;
+      reads = next-full config v p n tree.data found loaded line is at j bytes_read c.checks.expected way did inside inv.were inv.next;
+    }
 
 pub read_blocks-returns-then-at-got-clause-reads : goal.read_blocks-returns-then-at-got-clause-reads
 read_blocks-returns-then-at-got-clause-reads g t c =
@@ -1107,16 +1122,18 @@ read_blocks-returns-then-at-got-clause-reads g t c =
     let j : ℕ = c.checks.at in
     let are = digests-are config v p n tree.data found loaded line is at bytes_read _ len inv.all in
     let inside : j < n / block_sectors v = omega (arith, inv.inside, are.0) in
-    let did : Read = record { old = old; new = map g.D.BlockDev.state c.checks.reader.devices.items; before = found; after = c.checks.found.items } in
+    let did : Read = record { old = old; new = map g.D.BlockDev.state c.checks.reader.devices.items; before = found; after = inv.after } in
     let way = map block_bytes (take (levels (tree_of v)) c.checks.path.items) in
     let good = same-digest _ c.checks.expected _ v.salt (are.1 j _ inside) c.if-ne.ensures in
     let content = c.as_slice.ensures.value in
     let levels_are : c.levels-levels.result ≡ levels (tree_of v) = c.levels-levels.ensures.value ∙ ap levels c.tree_at-tree.ensures.tree.shape_is in
     let goes : map block_bytes (take c.levels-levels.result c.as_slice.result.now) ≡ way =
     ap (λ (l : List CachedBlock). map block_bytes (take c.levels-levels.result l)) c.as_slice.ensures.value ∙ ap (λ (k : ℕ). map block_bytes (take k c.checks.path.items)) levels_are in
-    let one = next-had config v p n tree.data found loaded line is at j bytes_read c.checks.expected way did inside inv.were inv.next c.checks.index _ _ inv.index (block-slice bytes_read (block_sectors v) v.data_block j at.size.whole) goes good in
-    let had = subst (λ (u : List FoundRecord). WereHad config v p n (j + 1) bytes_read (record { old = old; new = did.new; before = found; after = u })) (sym c.in-Ok-keep_chain.ensures.ok) one in
-    had-all config v p n tree.data found loaded line is at (j + 1) bytes_read _ (omega (arith, are.0, c.if-at-got.true)) len had
+    let block : List ℕ = take ((j + 1) * v.data_block - j * v.data_block) (drop (j * v.data_block) bytes_read) in
+    let one : FoundRecord = record { device = p.device.0; line = p.line; chain = record { index = c.checks.index; content = block; path = map block_bytes (take c.levels-levels.result c.as_slice.result.now) } } in
+    let out = one-out c.args.chains found inv.after c.checks.found.items _ one inv.out c.in-Ok-keep.ensures.ok in
+    let had = next-had config v p n tree.data found loaded line is at j bytes_read c.checks.expected way did inside inv.were inv.next c.checks.index block _ inv.index (block-slice bytes_read (block_sectors v) v.data_block j at.size.whole) goes good in
+    record { after = inv.after ++ (one ∷ []); out = out; reads = had-all config v p n tree.data found loaded line is at (j + 1) bytes_read _ (omega (arith, are.0, c.if-at-got.true)) len had }
 
 pub read_blocks-overflow_add-index : goal.read_blocks-overflow_add-index
 read_blocks-overflow_add-index g t c =
@@ -1137,7 +1154,7 @@ read_blocks-overflow_add-index g t c =
     let j : ℕ = c.checks.at in
     let are = digests-are config v p n tree.data found loaded line is at bytes_read _ len inv.all in
     let inside : j < n / block_sectors v = omega (arith, inv.inside, are.0) in
-    let did : Read = record { old = old; new = map g.D.BlockDev.state c.checks.reader.devices.items; before = found; after = c.checks.found.items } in
+    let did : Read = record { old = old; new = map g.D.BlockDev.state c.checks.reader.devices.items; before = found; after = inv.after } in
     let way = map block_bytes (take (levels (tree_of v)) c.checks.path.items) in
     let small = size-small config tree.data loaded in
     let low = small-index config v p n tree.data found loaded line is at j inside in
@@ -1162,7 +1179,7 @@ read_blocks-walk_path-requires-in-checks g t c κs within =
     let j : ℕ = c.checks.at in
     let are = digests-are config v p n tree.data found loaded line is at bytes_read _ len inv.all in
     let inside : j < n / block_sectors v = omega (arith, inv.inside, are.0) in
-    let did : Read = record { old = old; new = map g.D.BlockDev.state c.checks.reader.devices.items; before = found; after = c.checks.found.items } in
+    let did : Read = record { old = old; new = map g.D.BlockDev.state c.checks.reader.devices.items; before = found; after = inv.after } in
     let way = map block_bytes (take (levels (tree_of v)) c.checks.path.items) in
     let more : j + 1 < n / block_sectors v = omega (arith, are.0, inside, c.if-at-got.false) in
     let depths : depth config (mapped tree.device.0) ≡ depth config (mapped p.device.0) = ap (λ (x : DevId). depth config (mapped x.0)) c.tree_at-tree.ensures.at in
@@ -1189,7 +1206,7 @@ read_blocks-returns-in-Err-walk_path-clause-reads g t c =
     let j : ℕ = c.checks.at in
     let are = digests-are config v p n tree.data found loaded line is at bytes_read _ len inv.all in
     let inside : j < n / block_sectors v = omega (arith, inv.inside, are.0) in
-    let did : Read = record { old = old; new = map g.D.BlockDev.state c.checks.reader.devices.items; before = found; after = c.checks.found.items } in
+    let did : Read = record { old = old; new = map g.D.BlockDev.state c.checks.reader.devices.items; before = found; after = inv.after } in
     let way = map block_bytes (take (levels (tree_of v)) c.checks.path.items) in
     let more : j + 1 < n / block_sectors v = omega (arith, are.0, inside, c.if-at-got.false) in
     let good = same-digest _ c.checks.expected _ v.salt (are.1 j _ inside) c.if-ne.ensures in
@@ -1197,12 +1214,18 @@ read_blocks-returns-in-Err-walk_path-clause-reads g t c =
     let levels_are : c.levels-levels.result ≡ levels (tree_of v) = c.levels-levels.ensures.value ∙ ap levels c.tree_at-tree.ensures.tree.shape_is in
     let goes : map block_bytes (take c.levels-levels.result c.as_slice.result.now) ≡ way =
     ap (λ (l : List CachedBlock). map block_bytes (take c.levels-levels.result l)) c.as_slice.ensures.value ∙ ap (λ (k : ℕ). map block_bytes (take k c.checks.path.items)) levels_are in
-    let one = next-had config v p n tree.data found loaded line is at j bytes_read c.checks.expected way did inside inv.were inv.next c.checks.index _ _ inv.index (block-slice bytes_read (block_sectors v) v.data_block j at.size.whole) goes good in
-    let had = subst (λ (u : List FoundRecord). WereHad config v p n (j + 1) bytes_read (record { old = old; new = did.new; before = found; after = u })) (sym c.in-Ok-keep_chain.ensures.ok) one in
+    let block : List ℕ = take ((j + 1) * v.data_block - j * v.data_block) (drop (j * v.data_block) bytes_read) in
+    let one : FoundRecord = record { device = p.device.0; line = p.line; chain = record { index = c.checks.index; content = block; path = map block_bytes (take c.levels-levels.result c.as_slice.result.now) } } in
+    let out = one-out c.args.chains found inv.after c.checks.found.items _ one inv.out c.in-Ok-keep.ensures.ok in
+    let had = next-had config v p n tree.data found loaded line is at j bytes_read c.checks.expected way did inside inv.were inv.next c.checks.index block _ inv.index (block-slice bytes_read (block_sectors v) v.data_block j at.size.whole) goes good in
     let number : c.checks.index + 1 ≡ p.first / block_sectors v + (j + 1) = omega (arith, inv.index) in
     let new = map g.D.BlockDev.state c.walk_path-in-checks.new.reader.devices.items in
     let got = subst (λ (k : ℕ). GetsChain (block_in config v k) did.new new (Err c.in-Err-walk_path.first)) number c.in-Err-walk_path.ensures.err in
-    had-fails config v p n tree.data found loaded line is at (j + 1) bytes_read _ c.in-Err-walk_path.first more had c.in-Err-walk_path.ensures.moved got
+    record {
+      after = inv.after ++ (one ∷ []);
+      out = out;
+      reads = had-fails config v p n tree.data found loaded line is at (j + 1) bytes_read _ c.in-Err-walk_path.first more had c.in-Err-walk_path.ensures.moved got;
+    }
 
 pub read_blocks-checks-preserved : goal.read_blocks-checks-preserved
 read_blocks-checks-preserved g t c =
@@ -1223,7 +1246,7 @@ read_blocks-checks-preserved g t c =
     let j : ℕ = c.checks.at in
     let are = digests-are config v p n tree.data found loaded line is at bytes_read _ len inv.all in
     let inside : j < n / block_sectors v = omega (arith, inv.inside, are.0) in
-    let did : Read = record { old = old; new = map g.D.BlockDev.state c.checks.reader.devices.items; before = found; after = c.checks.found.items } in
+    let did : Read = record { old = old; new = map g.D.BlockDev.state c.checks.reader.devices.items; before = found; after = inv.after } in
     let way = map block_bytes (take (levels (tree_of v)) c.checks.path.items) in
     let more : j + 1 < n / block_sectors v = omega (arith, are.0, inside, c.if-at-got.false) in
     let good = same-digest _ c.checks.expected _ v.salt (are.1 j _ inside) c.if-ne.ensures in
@@ -1231,8 +1254,10 @@ read_blocks-checks-preserved g t c =
     let levels_are : c.levels-levels.result ≡ levels (tree_of v) = c.levels-levels.ensures.value ∙ ap levels c.tree_at-tree.ensures.tree.shape_is in
     let goes : map block_bytes (take c.levels-levels.result c.as_slice.result.now) ≡ way =
     ap (λ (l : List CachedBlock). map block_bytes (take c.levels-levels.result l)) c.as_slice.ensures.value ∙ ap (λ (k : ℕ). map block_bytes (take k c.checks.path.items)) levels_are in
-    let one = next-had config v p n tree.data found loaded line is at j bytes_read c.checks.expected way did inside inv.were inv.next c.checks.index _ _ inv.index (block-slice bytes_read (block_sectors v) v.data_block j at.size.whole) goes good in
-    let had = subst (λ (u : List FoundRecord). WereHad config v p n (j + 1) bytes_read (record { old = old; new = did.new; before = found; after = u })) (sym c.in-Ok-keep_chain.ensures.ok) one in
+    let block : List ℕ = take ((j + 1) * v.data_block - j * v.data_block) (drop (j * v.data_block) bytes_read) in
+    let one : FoundRecord = record { device = p.device.0; line = p.line; chain = record { index = c.checks.index; content = block; path = map block_bytes (take c.levels-levels.result c.as_slice.result.now) } } in
+    let out = one-out c.args.chains found inv.after c.checks.found.items _ one inv.out c.in-Ok-keep.ensures.ok in
+    let had = next-had config v p n tree.data found loaded line is at j bytes_read c.checks.expected way did inside inv.were inv.next c.checks.index block _ inv.index (block-slice bytes_read (block_sectors v) v.data_block j at.size.whole) goes good in
     let number : c.checks.index + 1 ≡ p.first / block_sectors v + (j + 1) = omega (arith, inv.index) in
     let new = map g.D.BlockDev.state c.walk_path-in-checks.new.reader.devices.items in
     let next_way = map block_bytes (take (levels (tree_of v)) c.walk_path-in-checks.new.path.items) in
@@ -1241,6 +1266,8 @@ read_blocks-checks-preserved g t c =
       inside = omega (arith, are.0, more);
       index = omega (arith, inv.index);
       all = inv.all;
+      after = inv.after ++ (one ∷ []);
+      out = out;
       held = c.in-Ok-walk_path.ensures.held;
       were = inv.were;
       next = had-next config v p n tree.data found loaded line is at (j + 1) bytes_read c.in-Ok-walk_path.next next_way _ had walked c.in-Ok-walk_path.ensures.moved;
@@ -1256,8 +1283,8 @@ read_blocks-returns-in-Err-read_lower-clause-plain g t c = blocks_plain c.args.c
 pub read_blocks-returns-then-ne-clause-plain : goal.read_blocks-returns-then-ne-clause-plain
 read_blocks-returns-then-ne-clause-plain g t c = blocks_plain c.args.config.now c.args.part (length c.args.out.now / 512) (omega (arith, c.requires.fits.sectors.some, c.requires.fits.sectors.whole)) c.requires.fits.holds
 
-pub read_blocks-returns-in-Err-keep_chain-clause-plain : goal.read_blocks-returns-in-Err-keep_chain-clause-plain
-read_blocks-returns-in-Err-keep_chain-clause-plain g t c = blocks_plain c.args.config.now c.args.part (length c.args.out.now / 512) (omega (arith, c.requires.fits.sectors.some, c.requires.fits.sectors.whole)) c.requires.fits.holds
+pub read_blocks-returns-in-Err-keep-clause-plain : goal.read_blocks-returns-in-Err-keep-clause-plain
+read_blocks-returns-in-Err-keep-clause-plain g t c = blocks_plain c.args.config.now c.args.part (length c.args.out.now / 512) (omega (arith, c.requires.fits.sectors.some, c.requires.fits.sectors.whole)) c.requires.fits.holds
 
 pub read_blocks-returns-then-at-got-clause-plain : goal.read_blocks-returns-then-at-got-clause-plain
 read_blocks-returns-then-at-got-clause-plain g t c = blocks_plain c.args.config.now c.args.part (length c.args.out.now / 512) (omega (arith, c.requires.fits.sectors.some, c.requires.fits.sectors.whole)) c.requires.fits.holds

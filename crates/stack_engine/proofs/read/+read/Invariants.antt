@@ -1,4 +1,4 @@
-use Rattle.std.proofs.Common.{All, length, take, map, ◌-◌, ◌≡◌, ◌<◌, ◌≤◌, ◌+◌, ◌/◌, ◌*◌, ◌%◌, Ok}
+use Rattle.std.proofs.Common.{All, List, length, take, map, ◌-◌, ◌≡◌, ◌<◌, ◌≤◌, ◌+◌, ◌/◌, ◌*◌, ◌%◌, Ok}
 use Rattle.stack_rules.specs.Names.{mapped}
 use Rattle.stack_rules.specs.Descend.{depth}
 use Rattle.stack_meaning.specs.Meaning.{said_at}
@@ -10,6 +10,8 @@ use Rattle.tree_shape.specs.Digests.{digest}
 use Rattle.hash_tree.specs.Tree.{cut}
 use Rattle.tree_shape.specs.Shape.{levels}
 use Rattle.stack_rules.specs.Trees.{tree_of, block_sectors}
+use Rattle.stack_meaning.specs.Found.{FoundRecord}
+use Rattle.stack_engine.specs.Keeping.{AreHandedOut}
 use Rattle.stack_engine.proofs.NextBlockLemmas.{WereRead, IsNext}
 use Rattle.stack_engine.proofs.read.+read.Given as goal
 
@@ -100,10 +102,12 @@ invariant-read_blocks-checks g l = record {
   inside : l.at < length l.got;
   index : l.index ≡ l.fn.part.first / block_sectors l.verity + l.at;
   all : l.got ≡ map (digest l.verity.salt) (cut l.size l.out);
+  after : List FoundRecord;
+  out : AreHandedOut l.fn.chains l.fn.found.items after l.found.items;
   held : All (IsCached l.config (map g.D.BlockDev.state l.reader.devices.items)) l.path.items;
   were : WereRead l.config l.fn.part (length l.fn.out / 512) l.tree.data l.out (map g.D.BlockDev.state l.fn.reader.devices.items);
   next : IsNext l.config l.verity l.fn.part (length l.fn.out / 512) l.at l.out l.expected (map (λ b. b.bytes) (take (levels (tree_of l.verity)) l.path.items))
-      (record { old = map g.D.BlockDev.state l.fn.reader.devices.items; new = map g.D.BlockDev.state l.reader.devices.items; before = l.fn.found.items; after = l.found.items });
+      (record { old = map g.D.BlockDev.state l.fn.reader.devices.items; new = map g.D.BlockDev.state l.reader.devices.items; before = l.fn.found.items; after = after });
   cached : KeepsCache l.config (map g.D.BlockDev.state l.reader.devices.items) l.fn.reader.cache l.reader.cache;
 }
 

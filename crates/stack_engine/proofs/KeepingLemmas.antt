@@ -1,0 +1,27 @@
+-- Chains that are handed out, or dropped.
+use Rattle.std.proofs.Common.{◌≡◌, ℕ, List, [], ◌∷◌, ◌++◌, Result, refl, sym, ap, ◌∙◌, subst}
+use Rattle.stack_rules.specs.Records.{Configuration}
+use Rattle.stack_meaning.specs.declared.fault.IoFault.{IoFault}
+use Rattle.stack_meaning.specs.Found.{FoundRecord}
+use Rattle.stack_meaning.specs.Places.{Read}
+use Rattle.stack_lines.specs.declared.source.BlockPart.{BlockPart}
+use Rattle.stack_lines.specs.declared.source.Source.TheVariants.{Blocks}
+use Rattle.stack_lines.specs.Sources.{ReadsSource}
+use Rattle.stack_engine.specs.declared.path.Chains.{Chains}
+use Rattle.stack_engine.specs.declared.path.Chains.TheVariants.{Kept, Dropped}
+use Rattle.stack_engine.specs.Keeping.{handed_out, AreHandedOut, ReadsBlocks}
+
+-- where all are handed out
+pub kept-reads : {c : Configuration} {part : BlockPart} {n : ℕ} {did : Read} {answer : Result (List ℕ) IoFault} → ReadsBlocks c part n Kept did answer → ReadsSource c (Blocks part) n did answer
+kept-reads {c = c} {part = part} {n = n} {did = did} {answer = answer} r =
+    subst (λ (u : List FoundRecord). ReadsSource c (Blocks part) n (record { old = did.old; new = did.new; before = did.before; after = u }) answer) (sym r.out) r.reads
+
+-- none was found
+pub none-out : (chains : Chains) (found : List FoundRecord) → AreHandedOut chains found found found
+none-out Kept found = refl
+none-out Dropped found = refl
+
+-- one more was
+pub one-out : (chains : Chains) (before after out new : List FoundRecord) (one : FoundRecord) → AreHandedOut chains before after out → new ≡ handed_out chains out one → AreHandedOut chains before (after ++ (one ∷ [])) new
+one-out Kept before after out new one h e = e ∙ ap (λ (l : List FoundRecord). l ++ (one ∷ [])) h
+one-out Dropped before after out new one h e = e ∙ h

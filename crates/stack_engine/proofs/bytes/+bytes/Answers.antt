@@ -1,0 +1,150 @@
+use Rattle.std.proofs.Common.{◌≡◌, ◌≤◌, ◌+◌, ◌/◌, ◌*◌, ◌-◌, length, take, drop, map, ℕ, List, [], ◌++◌, Result, Ok, Err, sym, ap, ◌∙◌, subst, arith}
+use Rattle.std.proofs.lemmas.List.{length-take, length-append}
+use Rattle.std.proofs.lemmas.List.Elements.{All-nil}
+use Rattle.std.proofs.lemmas.Slice.{take-put_mid}
+use borrow.Rule.Slice.PartMut.{put_mid}
+use Rattle.stack_rules.specs.declared.lower.Lower.{Lower}
+use Rattle.stack_rules.specs.Names.{mapped}
+use Rattle.stack_meaning.specs.declared.fault.IoFault.{IoFault}
+use Rattle.stack_meaning.specs.Found.{FoundRecord}
+use Rattle.stack_meaning.specs.Kept.{IsKept}
+use Rattle.stack_meaning.specs.Meaning.{said_at}
+use Rattle.stack_meaning.specs.Places.{place_of}
+use Rattle.stack_meaning.specs.Reading.{IsPlain, buffer_answer}
+use Rattle.stack_lines.specs.declared.source.Source.TheVariants.{Below}
+use Rattle.stack_lines.specs.AtOnce.{CanGo}
+use Rattle.stack_lines.specs.Sources.{SourceHolds, ReadsSource, source_said, source_place}
+use Rattle.stack_engine.specs.declared.path.Chains.TheVariants.{Dropped}
+use Rattle.stack_engine.specs.Bytes.{FindsBytes}
+use Rattle.stack_engine.specs.Keeping.{ReadsBlocks}
+use Rattle.stack_engine.proofs.RunBytesLemmas.{run_length}
+use Rattle.stack_engine.proofs.StackLemmas.{stack-later}
+use Rattle.stack_engine.proofs.BytesLemmas.{found-bytes, dropped-bytes, below-bytes, bytes_ok, bytes_err, same_bytes}
+use Rattle.stack_meaning.proofs.lemmas.LoadedLemmas.{size-small}
+use Rattle.stack_lines.proofs.lemmas.SourceLemmas.{served-depth, served-holds, device_plain, below_plain}
+use Rattle.stack_engine.proofs.bytes.+bytes.Goals as goal
+
+pub device_bytes-overflow_add-first : goal.device_bytes-overflow_add-first
+device_bytes-overflow_add-first g t c =
+    let small = size-small c.args.config.now (mapped c.args.d.0) c.requires.stack.sound.loaded in omega (arith, small, c.requires.fits.holds)
+
+pub device_bytes-run_bytes-requires : goal.device_bytes-run_bytes-requires
+device_bytes-run_bytes-requires g t c κs within =
+    let config = c.args.config.now in
+    let at = c.loop-at.at in
+    let source = c.run_to_read-run.result.source in
+    let count = c.run_to_read-run.result.count in
+    let served = c.run_to_read-run.ensures.served in
+    let leaves = map g.D.BlockDev.state c.loop-at.reader.devices.items in
+    let fits : at + count * 512 ≤ length c.loop-at.out = omega (arith, c.run_to_read-run.ensures.most, c.loop-at-test.true) in
+    let len = run_length c.loop-at.out at count fits in
+    let number : count ≡ length (take (at + count * 512 - at) (drop at c.loop-at.out)) / 512 = omega (arith, len) in
+    let none : c.as_slice.result.now ≡ [] = c.as_slice.ensures.value ∙ c.new-none.ensures.items in
+    let deep = served-depth config c.args.d.0 (c.args.first + at / 512) count source c.requires.stack.sound.loaded c.run_to_read-run.ensures.some served in (
+      omega (arith, deep),
+      (
+        within,
+        record {
+          stack = stack-later config c.loop-at.invariant.so_far.got.moved.moved.fixed c.requires.stack c.loop-at.invariant.cached;
+          kept = All-nil (IsKept config leaves);
+          fits = record {
+            sectors = record { some = omega (arith, len, c.run_to_read-run.ensures.some); whole = omega (arith, len) };
+            holds = subst (SourceHolds config source) number (served-holds config c.args.d.0 (c.args.first + at / 512) count source served);
+          };
+          can_go = subst (λ (k : ℕ). CanGo config source k []) number (subst (CanGo config source count) none c.run_to_read-run.ensures.can_go);
+        },
+      ),
+    )
+
+pub device_bytes-loop-at-preserved : goal.device_bytes-loop-at-preserved
+device_bytes-loop-at-preserved g t c =
+    let config = c.args.config.now in
+    let state = g.D.BlockDev.state in
+    let at = c.loop-at.at in
+    let out = c.loop-at.out in
+    let source = c.run_to_read-run.result.source in
+    let count = c.run_to_read-run.result.count in
+    let end : ℕ = at + count * 512 in
+    let fits : at + count * 512 ≤ length out = omega (arith, c.run_to_read-run.ensures.most, c.loop-at-test.true) in
+    let len = run_length out at count fits in
+    let number : length (take (at + count * 512 - at) (drop at out)) / 512 ≡ count = omega (arith, len) in
+    let front : take end (put_mid at (end - at) out c.run_bytes.new.out) ≡ take at out ++ c.run_bytes.new.out = take-put_mid at (end - at) out c.run_bytes.new.out end (omega (arith, c.run_bytes.auto.out, len)) c.loop-at.invariant.within in
+    let mid = map state c.loop-at.reader.devices.items in
+    let new = map state c.run_bytes.new.reader.devices.items in
+    let more = subst (λ (n : ℕ). FindsBytes (source_place config source) config 0 n mid new (Ok c.run_bytes.new.out)) number c.in-Ok.ensures.reads in
+    record {
+      whole = omega (arith, c.loop-at.invariant.whole);
+      within = omega (arith, length-take end (put_mid at (end - at) out c.run_bytes.new.out), ap length front, length-append (take at out) c.run_bytes.new.out, length-take at out, c.run_bytes.auto.out, len, c.loop-at.invariant.within);
+      so_far = same_bytes (place_of config (mapped c.args.d.0)) config c.args.first (omega (arith, c.loop-at.invariant.whole)) (sym front)
+          (bytes_ok config c.args.d.0 c.args.first (at / 512) count source c.requires.stack.sound.loaded c.run_to_read-run.ensures.some c.run_to_read-run.ensures.served c.loop-at.invariant.so_far more);
+      cached = record { capacity = c.in-Ok.ensures.cached.capacity ∙ c.loop-at.invariant.cached.capacity; sound = c.in-Ok.ensures.cached.sound };
+      plain = subst (λ (n : ℕ). IsPlain (said_at config (mapped c.args.d.0)) c.args.first n (map state c.args.reader.now.devices.items) new (Ok tt)) (omega (arith, c.loop-at.invariant.whole))
+          (device_plain config c.args.d.0 c.args.first (at / 512) count (at / 512 + count) source c.requires.stack.sound.loaded (omega arith) c.run_to_read-run.ensures.served c.loop-at.invariant.plain
+          (subst (λ (n : ℕ). IsPlain (source_said config source) 0 n mid new (Ok tt)) number c.in-Ok.ensures.plain));
+    }
+
+pub device_bytes-returns-in-Err-clause-reads : goal.device_bytes-returns-in-Err-clause-reads
+device_bytes-returns-in-Err-clause-reads g t c =
+    let config = c.args.config.now in
+    let state = g.D.BlockDev.state in
+    let at = c.loop-at.at in
+    let source = c.run_to_read-run.result.source in
+    let count = c.run_to_read-run.result.count in
+    let fits : at + count * 512 ≤ length c.loop-at.out = omega (arith, c.run_to_read-run.ensures.most, c.loop-at-test.true) in
+    let len = run_length c.loop-at.out at count fits in
+    let number : length (take (at + count * 512 - at) (drop at c.loop-at.out)) / 512 ≡ count = omega (arith, len) in
+    let mid = map state c.loop-at.reader.devices.items in
+    let new = map state c.run_bytes.new.reader.devices.items in
+    let more = subst (λ (n : ℕ). FindsBytes (source_place config source) config 0 n mid new (Err c.in-Err.fault)) number c.in-Err.ensures.reads in
+    bytes_err config c.args.d.0 c.args.first (at / 512) count source c.requires.stack.sound.loaded c.run_to_read-run.ensures.some c.run_to_read-run.ensures.served c.loop-at.invariant.so_far _ c.in-Err.fault (omega (arith, fits, c.loop-at.auto.out)) more
+
+pub device_bytes-returns-in-Err-clause-plain : goal.device_bytes-returns-in-Err-clause-plain
+device_bytes-returns-in-Err-clause-plain g t c =
+    let config = c.args.config.now in
+    let state = g.D.BlockDev.state in
+    let at = c.loop-at.at in
+    let source = c.run_to_read-run.result.source in
+    let count = c.run_to_read-run.result.count in
+    let fits : at + count * 512 ≤ length c.loop-at.out = omega (arith, c.run_to_read-run.ensures.most, c.loop-at-test.true) in
+    let len = run_length c.loop-at.out at count fits in
+    let number : length (take (at + count * 512 - at) (drop at c.loop-at.out)) / 512 ≡ count = omega (arith, len) in
+    device_plain config c.args.d.0 c.args.first (at / 512) count (length c.args.out.now / 512) source c.requires.stack.sound.loaded (omega (arith, fits, c.loop-at.auto.out)) c.run_to_read-run.ensures.served c.loop-at.invariant.plain
+    (subst (λ (n : ℕ). IsPlain (source_said config source) 0 n (map state c.loop-at.reader.devices.items) (map state c.run_bytes.new.reader.devices.items) (Err c.in-Err.fault)) number c.in-Err.ensures.plain)
+
+pub device_bytes-returns-clause-plain : goal.device_bytes-returns-clause-plain
+device_bytes-returns-clause-plain g t c =
+    let state = g.D.BlockDev.state in
+    let all : c.loop-at.at / 512 ≡ length c.args.out.now / 512 = omega (arith, c.loop-at.invariant.within, c.loop-at-test.false, c.loop-at.auto.out) in
+    subst (λ (n : ℕ). IsPlain (said_at c.args.config.now (mapped c.args.d.0)) c.args.first n (map state c.args.reader.now.devices.items) (map state c.loop-at.reader.devices.items) (Ok tt)) all c.loop-at.invariant.plain
+
+-- ---- runs
+
+pub run_bytes-returns-in-Below-Device-default-clause-reads : goal.run_bytes-returns-in-Below-Device-default-clause-reads
+run_bytes-returns-in-Below-Device-default-clause-reads g t c =
+    let arm = c.in-Below-Device-default in
+    let lower : arm.lower ≡ mapped arm.d.0 = rw arm.is at arm.lower-is in
+    let is : c.args.source ≡ Below (mapped arm.d.0) arm.first = arm.is ∙ ap (λ (x : Lower). Below x arm.first) lower in
+    rw is (below-bytes c.args.config.now (mapped arm.d.0) arm.first (length c.args.out.now / 512) (buffer_answer c.device_bytes.result c.device_bytes.new.out) c.device_bytes.ensures.reads)
+
+pub run_bytes-returns-in-Below-Device-default-clause-plain : goal.run_bytes-returns-in-Below-Device-default-clause-plain
+run_bytes-returns-in-Below-Device-default-clause-plain g t c =
+    let arm = c.in-Below-Device-default in
+    let lower : arm.lower ≡ mapped arm.d.0 = rw arm.is at arm.lower-is in
+    let is : c.args.source ≡ Below (mapped arm.d.0) arm.first = arm.is ∙ ap (λ (x : Lower). Below x arm.first) lower in
+    rw is (below_plain c.args.config.now (mapped arm.d.0) arm.first (length c.args.out.now / 512) c.device_bytes.ensures.plain)
+
+pub run_bytes-returns-in-Blocks-clause-reads : goal.run_bytes-returns-in-Blocks-clause-reads
+run_bytes-returns-in-Blocks-clause-reads g t c =
+    let state = g.D.BlockDev.state in
+    let n : ℕ = length c.args.out.now / 512 in
+    let answer : Result (List ℕ) IoFault = buffer_answer c.read_blocks.result c.read_blocks.new.out in
+    let got = subst (λ (u : List FoundRecord). ReadsBlocks c.args.config.now c.in-Blocks.part n Dropped (record { old = map state c.args.reader.now.devices.items; new = map state c.read_blocks.new.reader.devices.items; before = u; after = c.read_blocks.new.found.items }) answer) c.new-dropped.ensures.items c.read_blocks.ensures.reads in
+    rw c.in-Blocks.is (dropped-bytes c.args.config.now c.in-Blocks.part n answer got)
+
+pub run_bytes-returns-clause-reads : goal.run_bytes-returns-clause-reads
+run_bytes-returns-clause-reads g t c =
+    let state = g.D.BlockDev.state in
+    let n : ℕ = length c.args.out.now / 512 in
+    let answer : Result (List ℕ) IoFault = buffer_answer c.read_run.result c.read_run.new.out in
+    let got = subst (λ (u : List FoundRecord). ReadsSource c.args.config.now c.args.source n (record { old = map state c.args.reader.now.devices.items; new = map state c.read_run.new.reader.devices.items; before = u; after = c.read_run.new.found.items }) answer) c.new-dropped.ensures.items c.read_run.ensures.reads in
+    found-bytes (source_place c.args.config.now c.args.source) c.args.config.now 0 n answer got

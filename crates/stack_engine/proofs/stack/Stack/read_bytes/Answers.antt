@@ -1,0 +1,28 @@
+use Rattle.std.proofs.Common.{◌/◌, ℕ, List, length, map, Result, subst}
+use Rattle.stack_meaning.specs.declared.fault.IoFault.{IoFault}
+use Rattle.stack_meaning.specs.Leaves.{AllSteady}
+use Rattle.stack_meaning.specs.Reading.{buffer_answer}
+use Rattle.stack_engine.specs.Stacks.{StackRecord}
+use Rattle.stack_engine.specs.Pieces.{stack_over}
+use Rattle.stack_engine.specs.Bytes.{AnyBytes, SteadyBytes}
+use Rattle.stack_engine.proofs.BytesLemmas.{each-bytes}
+use Rattle.stack_engine.proofs.lemmas.PieceLemmas.{piece-sound}
+use Rattle.stack_engine.proofs.stack.Stack.read_bytes.Goals as goal
+
+pub invariant_of-self : goal.invariant_of-self
+invariant_of-self g c = record { sound = piece-sound c.self.inside.config c.self.invariant.sound c.device_bytes.ensures.reads.got.moved; cached = c.device_bytes.ensures.cached.sound }
+
+pub returns-clause-any : goal.returns-clause-any
+returns-clause-any g c =
+    let n : ℕ = length c.args.out.now / 512 in
+    let answer : Result (List ℕ) IoFault = buffer_answer c.device_bytes.result c.device_bytes.new.out in
+    let after : StackRecord = stack_over c.self.inside.config (map g.D.BlockDev.state c.device_bytes.new.reader.devices.items) in
+    subst (λ (w : StackRecord). AnyBytes w c.args.d.0 c.args.first n answer after) c.self.view_is (each-bytes c.self.inside.config c.args.d.0 c.args.first n answer c.device_bytes.ensures.reads).any
+
+pub returns-clause-steady : goal.returns-clause-steady
+returns-clause-steady g c =
+    let n : ℕ = length c.args.out.now / 512 in
+    let answer : Result (List ℕ) IoFault = buffer_answer c.device_bytes.result c.device_bytes.new.out in
+    let after : StackRecord = stack_over c.self.inside.config (map g.D.BlockDev.state c.device_bytes.new.reader.devices.items) in
+    subst (λ (w : StackRecord). AllSteady w.leaves → SteadyBytes w c.args.d.0 c.args.first n answer after) c.self.view_is
+    (each-bytes c.self.inside.config c.args.d.0 c.args.first n answer c.device_bytes.ensures.reads).steady

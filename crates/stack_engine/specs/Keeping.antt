@@ -1,0 +1,27 @@
+-- Chains that a read of data blocks keeps, or drops.
+use Rattle.std.specs.Prelude.{◌≡◌, ℕ, List, [], ◌∷◌, ◌++◌, Result}
+use Rattle.stack_rules.specs.Records.{Configuration}
+use Rattle.stack_meaning.specs.declared.fault.IoFault.{IoFault}
+use Rattle.stack_meaning.specs.Found.{FoundRecord}
+use Rattle.stack_meaning.specs.Places.{Read}
+use Rattle.stack_lines.specs.declared.source.BlockPart.{BlockPart}
+use Rattle.stack_lines.specs.declared.source.Source.TheVariants.{Blocks}
+use Rattle.stack_lines.specs.Sources.{ReadsSource}
+use Rattle.stack_engine.specs.declared.path.Chains.{Chains}
+use Rattle.stack_engine.specs.declared.path.Chains.TheVariants.{Kept, Dropped}
+
+-- what is handed out with one more chain
+abbrev pub handed_out : Chains → List FoundRecord → FoundRecord → List FoundRecord
+handed_out Kept out one = out ++ (one ∷ [])
+handed_out Dropped out one = out
+
+-- The chains that were found before a read and those found behind it: all are handed out, or none of those that it found.
+abbrev pub AreHandedOut : Chains → List FoundRecord → List FoundRecord → List FoundRecord → Type 0
+AreHandedOut Kept before after out = out ≡ after
+AreHandedOut Dropped before after out = out ≡ before
+
+-- A read of n sectors, which are whole data blocks: some chains were found, and are handed out or dropped.
+pub record ReadsBlocks (c : Configuration) (part : BlockPart) (n : ℕ) (chains : Chains) (did : Read) (answer : Result (List ℕ) IoFault) : Type 0 where
+  pub after : List FoundRecord
+  pub out : AreHandedOut chains did.before after did.after
+  pub reads : ReadsSource c (Blocks part) n (record { old = did.old; new = did.new; before = did.before; after = after }) answer
