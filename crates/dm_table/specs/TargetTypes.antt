@@ -18,4 +18,4 @@ type_word types.Unstriped = codes "unstriped"
 
 -- the type that a word names, of the list of all types
 abbrev pub type_named : Word → Option TargetType
-type_named word = find (λ type. bytes_eq (type_word type) word) TARGET_TYPES
+type_named word = find (λ type. bytes_eq (type_word type) word) TARGET_TYPES.now

@@ -15,7 +15,7 @@ pub enum TargetType {
 }
 
 /// Every type, once.
-const TARGET_TYPES: [TargetType; 7] = [
+const TARGET_TYPES: &[TargetType] = &[
     TargetType::Linear,
     TargetType::Striped,
     TargetType::Zero,
