@@ -2,7 +2,7 @@
 use Rattle.std.proofs.Common.{◌≡◌, ℕ, ◌+◌, Bool, IsTrue, List, [], ◌∷◌, ◌++◌, length, refl, sym, ap, ◌∙◌, subst, arith}
 use Rattle.std.proofs.lemmas.List.{length-append}
 use Rattle.block_device.specs.Device.{Device, IsSameDevice, IsWritten, sectors_of, spliced}
-use Rattle.stack_engine.specs.Stacks.{AnswerRecord, StackRecord}
+use Rattle.stack_engine.specs.Stacks.{StackRecord}
 use Rattle.stack_recovery.specs.Copies.{IsCopied, copied_image, image_after}
 use Rattle.stack_recovery.specs.Surveys.{had, PieceRead, all_states, states_of}
 
@@ -29,18 +29,18 @@ copied-lost reads r old new none p = record {
 }
 
 -- a piece that is written where it stands
-pub copied-had : (reads : List PieceRead) (n at k : ℕ) (answer : AnswerRecord) (after : StackRecord) (ok : Bool) (old mid new : Device) → at ≡ length (all_states reads) → k ≡ n → IsCopied reads old mid
-    → IsWritten mid at k ok new → (IsTrue mid.steady → new.image ≡ spliced mid.image at (sectors_of k answer.bytes))
-    → IsCopied (reads ++ (record { count = n; found = had answer; after = after }) ∷ []) old new
-copied-had reads n at k answer after ok old mid new here count p w image =
-    let r : PieceRead = record { count = n; found = had answer; after = after } in
+pub copied-had : (reads : List PieceRead) (n at k : ℕ) (bytes : List ℕ) (after : StackRecord) (ok : Bool) (old mid new : Device) → at ≡ length (all_states reads) → k ≡ n → IsCopied reads old mid
+    → IsWritten mid at k ok new → (IsTrue mid.steady → new.image ≡ spliced mid.image at (sectors_of k bytes))
+    → IsCopied (reads ++ (record { count = n; found = had bytes; after = after }) ∷ []) old new
+copied-had reads n at k bytes after ok old mid new here count p w image =
+    let r : PieceRead = record { count = n; found = had bytes; after = after } in
     let from : at ≡ 0 + length (all_states reads) = omega (arith, here) in
     record {
       same = same-device p.same w.same;
       image = λ steady.
           image (subst IsTrue (sym p.same.steady) steady)
-          ∙ ap (λ (m : ℕ). spliced mid.image at (sectors_of m answer.bytes)) count
-          ∙ ap (λ (i : List (List ℕ)). spliced i at (sectors_of n answer.bytes)) (p.image steady)
-          ∙ ap (λ (s : ℕ). spliced (copied_image 0 reads old.image) s (sectors_of n answer.bytes)) from
+          ∙ ap (λ (m : ℕ). spliced mid.image at (sectors_of m bytes)) count
+          ∙ ap (λ (i : List (List ℕ)). spliced i at (sectors_of n bytes)) (p.image steady)
+          ∙ ap (λ (s : ℕ). spliced (copied_image 0 reads old.image) s (sectors_of n bytes)) from
           ∙ sym (copied_image-push 0 reads r old.image);
     }

@@ -10,7 +10,7 @@ use Rattle.stack_meaning.specs.Leaves.{AreRead, images_of}
 use Rattle.stack_meaning.specs.Meaning.{sector}
 use Rattle.stack_meaning.specs.declared.fault.Fault.{Fault}
 use Rattle.stack_meaning.specs.Outcomes.{Images, Outcome, joint_outcome, span}
-use Rattle.stack_engine.specs.Pieces.{EachPiece}
+use Rattle.stack_engine.specs.Bytes.{EachBytes}
 use Rattle.stack_engine.specs.Stacks.{StackRecord}
 use Rattle.stack_meaning.proofs.lemmas.LeafListLemmas.{AllSteady-kept, images-kept, same_length}
 use Rattle.stack_recovery.specs.Alike.{AreAlike}
@@ -97,15 +97,15 @@ module _ (d first : ℕ) (w : StackRecord) (sure : AreSure w.leaves) (n : ℕ) (
   abbrev at : ℕ → Outcome
   at = sector w.config (images_of w.leaves) (mapped d)
 
-  meant-lost : (fault : IoFault) → EachPiece w d first n (Err fault) after → AreAlike w.config d first n → fault ≢ NoMemory → meant_states (sector w.config (images_of w.leaves) (mapped d)) first n ≡ replicate n (Some fault)
+  meant-lost : (fault : IoFault) → EachBytes w d first n (Err fault) after → AreAlike w.config d first n → fault ≢ NoMemory → meant_states (sector w.config (images_of w.leaves) (mapped d)) first n ≡ replicate n (Some fault)
   meant-lost (Stack fault) p alike kind = meant-fault w.config (images_of w.leaves) d first n fault alike (p.steady sure.steady).exact
   meant-lost (DeviceFailed i) p alike kind = let failed = p.any.may.1 in absurd (failed.unsure some-device (sure.never_fail (i - 1) some-device failed.inside))
   meant-lost NoMemory p alike kind = absurd (kind refl)
 
   pub meant-piece : (found : Finding) → IsPieceRead d first w (record { count = n; found = found; after = after })
       → states_found n found ≡ meant_states (sector w.config (images_of w.leaves) (mapped d)) first (length (states_found n found))
-  meant-piece (had answer) p =
-      sym (ap (meant_states at first) (length-replicate {A = State} n None) ∙ meant-bytes at first n answer.bytes (p.answered.steady sure.steady).exact)
+  meant-piece (had bytes) p =
+      sym (ap (meant_states at first) (length-replicate {A = State} n None) ∙ meant-bytes at first n bytes (p.answered.steady sure.steady).exact)
   meant-piece (lost fault) p =
       sym (ap (meant_states at first) (length-replicate {A = State} n (Some fault)) ∙ meant-lost fault p.answered p.may.0 p.may.1)
   meant-piece (again fault) p = refl

@@ -6,8 +6,8 @@ use Rattle.block_device.specs.Device.{Device, IsWritten, sectors_of, spliced}
 use Rattle.stack_rules.specs.Names.{mapped, size}
 use Rattle.stack_meaning.specs.declared.fault.IoFault.{IoFault}
 use Rattle.stack_meaning.specs.declared.fault.IoFault.TheVariants.{NoMemory}
-use Rattle.stack_engine.specs.Pieces.{EachPiece}
-use Rattle.stack_engine.specs.Stacks.{AnswerRecord, StackRecord}
+use Rattle.stack_engine.specs.Bytes.{EachBytes}
+use Rattle.stack_engine.specs.Stacks.{StackRecord}
 use Rattle.stack_recovery.specs.declared.lost_run.LostRun.{LostRun}
 use Rattle.stack_recovery.specs.declared.recovery.Counts.{Counts}
 use Rattle.stack_recovery.specs.declared.tally.Tally.{Tally}
@@ -68,11 +68,11 @@ module _ (d : ℕ) (old now : Sides) (at : ℕ) (tally : Tally) (u : IsUnderway 
       survey-push d 0 old.stack u.reads now.stack r u.survey (subst (λ (k : ℕ). IsPieceRead d k now.stack r) here p)
 
   -- a piece that was had, written, and told
-  pub underway-had : (n : ℕ) (answer : AnswerRecord) (stack : StackRecord) (k : ℕ) (ok : Bool) (out : Device) (printed : Option (List ℕ)) (next : Tally) → 1 ≤ n → EachPiece now.stack d at n (Ok answer) stack → k ≡ n
-      → IsWritten now.out at k ok out → (IsTrue now.out.steady → out.image ≡ spliced now.out.image at (sectors_of k answer.bytes))
+  pub underway-had : (n : ℕ) (bytes : List ℕ) (stack : StackRecord) (k : ℕ) (ok : Bool) (out : Device) (printed : Option (List ℕ)) (next : Tally) → 1 ≤ n → EachBytes now.stack d at n (Ok bytes) stack → k ≡ n
+      → IsWritten now.out at k ok out → (IsTrue now.out.steady → out.image ≡ spliced now.out.image at (sectors_of k bytes))
       → Appends now.printed printed (runs_text (listed tally.last)) → next ≡ record { last = None; lost = tally.lost } → IsUnderway d old (sides stack out printed) (at + n) next
-  underway-had n answer stack k ok out printed next some p count w image told is =
-      let r : PieceRead = record { count = n; found = had answer; after = stack } in
+  underway-had n bytes stack k ok out printed next some p count w image told is =
+      let r : PieceRead = record { count = n; found = had bytes; after = stack } in
       let states : all_states (u.reads ++ r ∷ []) ≡ all_states u.reads ++ replicate n None = states-push u.reads r in
       subst (IsUnderway d old (sides stack out printed) (at + n)) (sym is) (record {
         reads = u.reads ++ r ∷ [];
@@ -81,12 +81,12 @@ module _ (d : ℕ) (old now : Sides) (at : ℕ) (tally : Tally) (u : IsUnderway 
         here = omega (arith, u.here, ap length states, length-append (all_states u.reads) (states_of r), length-replicate {A = State} n None);
         tallied = rw states (tallied-had (all_states u.reads) u.closed tally.last n some u.tallied);
         lost = u.lost ∙ sym (ap lost_in states ∙ lost_in-append (all_states u.reads) (states_of r) ∙ ap (λ (m : ℕ). lost_in (all_states u.reads) + m) (lost_in-had n) ∙ omega arith);
-        copied = copied-had u.reads n at k answer stack ok old.out now.out out u.here count u.copied w image;
+        copied = copied-had u.reads n at k bytes stack ok old.out now.out out u.here count u.copied w image;
         printed = runs-then old.printed now.printed printed u.closed (listed tally.last) u.printed told;
       })
 
   -- a piece that is lost, and told
-  pub underway-lost : (n : ℕ) (fault : IoFault) (stack : StackRecord) (printed : Option (List ℕ)) (next : Tally) → 1 ≤ n → EachPiece now.stack d at n (Err fault) stack → AreAlike now.stack.config d at n → fault ≢ NoMemory
+  pub underway-lost : (n : ℕ) (fault : IoFault) (stack : StackRecord) (printed : Option (List ℕ)) (next : Tally) → 1 ≤ n → EachBytes now.stack d at n (Err fault) stack → AreAlike now.stack.config d at n → fault ≢ NoMemory
       → Appends now.printed printed (runs_text (closed_by tally.last (run at n fault))) → next ≡ record { last = Some (opened_by tally.last (run at n fault)); lost = tally.lost + n }
       → IsUnderway d old (sides stack now.out printed) (at + n) next
   underway-lost n fault stack printed next some p alike kind told is =
@@ -104,7 +104,7 @@ module _ (d : ℕ) (old now : Sides) (at : ℕ) (tally : Tally) (u : IsUnderway 
       })
 
   -- a piece that is read again
-  pub underway-again : (n : ℕ) (fault : IoFault) (stack : StackRecord) → EachPiece now.stack d at n (Err fault) stack → IsUnderway d old (sides stack now.out now.printed) at tally
+  pub underway-again : (n : ℕ) (fault : IoFault) (stack : StackRecord) → EachBytes now.stack d at n (Err fault) stack → IsUnderway d old (sides stack now.out now.printed) at tally
   underway-again n fault stack p =
       let r : PieceRead = record { count = n; found = again fault; after = stack } in
       let states : all_states (u.reads ++ r ∷ []) ≡ all_states u.reads = states-push u.reads r ∙ append-nil (all_states u.reads) in

@@ -5,7 +5,7 @@ use Rattle.stack_recovery.specs.Surveys.{Finding, had, lost, again, PieceRead, s
 
 -- the sectors that were had stand where they stood, and no others are changed
 abbrev pub image_after : ℕ → Finding → ℕ → List (List ℕ) → List (List ℕ)
-image_after first (had answer) n image = spliced image first (sectors_of n answer.bytes)
+image_after first (had bytes) n image = spliced image first (sectors_of n bytes)
 image_after first (lost fault) n image = image
 image_after first (again fault) n image = image
 

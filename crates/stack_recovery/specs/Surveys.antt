@@ -4,14 +4,14 @@ use Rattle.std.specs.List.{flat_map}
 use Rattle.stack_rules.specs.Records.{Configuration}
 use Rattle.stack_meaning.specs.declared.fault.IoFault.{IoFault}
 use Rattle.stack_meaning.specs.declared.fault.IoFault.TheVariants.{NoMemory}
-use Rattle.stack_engine.specs.Pieces.{EachPiece}
-use Rattle.stack_engine.specs.Stacks.{AnswerRecord, StackRecord}
+use Rattle.stack_engine.specs.Bytes.{EachBytes}
+use Rattle.stack_engine.specs.Stacks.{StackRecord}
 use Rattle.stack_recovery.specs.Alike.{AreAlike}
 
 -- what came of a piece
 pub data Finding : Type 0 where
-  -- the bytes of its sectors, with the chains that show them
-  had : AnswerRecord → Finding
+  -- the bytes of its sectors
+  had : List ℕ → Finding
   -- its sectors are lost by this fault
   lost : IoFault → Finding
   -- it ended in this fault, and its sectors are read again in smaller pieces
@@ -24,20 +24,20 @@ pub record PieceRead : Type 0 where
   pub after : StackRecord
 
 -- how the stack answered
-abbrev pub answer_of : Finding → Result AnswerRecord IoFault
-answer_of (had answer) = Ok answer
+abbrev pub answer_of : Finding → Result (List ℕ) IoFault
+answer_of (had bytes) = Ok bytes
 answer_of (lost fault) = Err fault
 answer_of (again fault) = Err fault
 
 -- Sectors are lost only by a read of one alone, or of some that are lost together; and want of memory is no loss.
 abbrev pub MayFind : Configuration → ℕ → ℕ → ℕ → Finding → Type 0
-MayFind c d first n (had answer) = Unit {0}
+MayFind c d first n (had bytes) = Unit {0}
 MayFind c d first n (lost fault) = AreAlike c d first n × (fault ≢ NoMemory)
 MayFind c d first n (again fault) = Unit {0}
 
 -- a piece of device d from sector first on, which the stack answered so
 pub record IsPieceRead (d first : ℕ) (w : StackRecord) (r : PieceRead) : Type 0 where
-  pub answered : EachPiece w d first r.count (answer_of r.found) r.after
+  pub answered : EachBytes w d first r.count (answer_of r.found) r.after
   pub may : MayFind w.config d first r.count r.found
 
 -- what became of a sector: it is had, or lost by that fault
@@ -45,7 +45,7 @@ abbrev pub State : Type 0
 State = Option IoFault
 
 abbrev pub states_found : ℕ → Finding → List State
-states_found n (had answer) = replicate n None
+states_found n (had bytes) = replicate n None
 states_found n (lost fault) = replicate n (Some fault)
 states_found n (again fault) = []
 

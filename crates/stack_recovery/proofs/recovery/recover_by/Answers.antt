@@ -1,9 +1,9 @@
-use Rattle.std.proofs.Common.{◌≡◌, ◌⊎◌, ◌+◌, ◌-◌, ◌≤◌, ◌<◌, ◌*◌, ◌/◌, ◌^◌, ℕ, List, arith, rules, refl, sym, ◌∙◌, ap, ap₂, subst, length, Option, Some, None}
+use Rattle.std.proofs.Common.{◌≡◌, ◌⊎◌, ◌+◌, ◌-◌, ◌≤◌, ◌<◌, ◌*◌, ◌/◌, ◌^◌, ℕ, List, Ok, Err, arith, refl, sym, ◌∙◌, ap, ap₂, subst, length, take, Option, Some, None}
 use Rattle.std.proofs.lemmas.Bool.{false≢true}
-use Rattle.block_device.specs.Device.{sectors_of, spliced}
+use Rattle.std.proofs.lemmas.List.{length-take-le}
 use Rattle.stack_rules.specs.Names.{mapped, size}
 use Rattle.stack_rules.specs.Records.{Configuration}
-use Rattle.stack_engine.specs.Pieces.{EachPiece}
+use Rattle.stack_engine.specs.Bytes.{EachBytes}
 use Rattle.stack_meaning.specs.declared.fault.IoFault.{IoFault}
 use Rattle.stack_meaning.specs.declared.fault.IoFault.TheVariants.{NoMemory}
 use Rattle.stack_recovery.specs.declared.fault.RecoveryFault.TheVariants.{Output}
@@ -15,7 +15,7 @@ use Rattle.stack_recovery.specs.Recoveries.{Sides, sides}
 use Rattle.stack_recovery.specs.Tallies.{EndsAt, opened_by}
 use Rattle.stack_recovery.proofs.UnderwayLemmas.{IsUnderway, begun, few, underway-again, underway-all, underway-had, underway-lost, underway-none}
 use Rattle.stack_recovery.proofs.WritingLemmas.{err-from}
-use Rattle.stack_recovery.proofs.recovery.recover.Goals as goal
+use Rattle.stack_recovery.proofs.recovery.recover_by.Goals as goal
 
 pub pieces-init : goal.pieces-init
 pieces-init g c =
@@ -33,7 +33,7 @@ pieces-init g c =
 pub returns-in_err-write-in-Ok-clause-err : goal.returns-in_err-write-in-Ok-clause-err
 returns-in_err-write-in-Ok-clause-err g c =
     err-from c.from_residual.result _ Output c.from_residual.ensures.1 (
-      begun c.args.d.0 _ _ c.pieces.at c.pieces.tally c.pieces.invariant.so_far c.read_piece.new.self _,
+      begun c.args.d.0 _ _ c.pieces.at c.pieces.tally c.pieces.invariant.so_far c.read_bytes.new.self _,
       (subst (λ (n : ℕ). (n < (g.O.BlockDev.state c.write.new.self).failures) ⊎ (n ≡ 2 ^ 64 - 1)) c.pieces.invariant.unfailed c.in_err-write-in-Ok.ensures.fault, λ h. false≢true (c.in_err-write-in-Ok.ensures.sure (c.pieces.invariant.so_far.copied.same.never_fails h))),
     )
 
@@ -41,20 +41,22 @@ pub pieces-preserved-in-Ok : goal.pieces-preserved-in-Ok
 pieces-preserved-in-Ok g c =
     let before = c.pieces.invariant in
     let n : ℕ = c.piece_at-piece.result.count in
-    let piece : EachPiece c.pieces.stack c.args.d.0 c.pieces.at n _ c.read_piece.new.self = record { any = c.in-Ok.ensures.any; steady = c.in-Ok.ensures.steady } in
+    let wide : length (take (n * 512) c.pieces.room) ≡ n * 512 = length-take-le (n * 512) c.pieces.room (omega (arith, c.requires.buffer, c.pieces.auto.room, c.piece_at-piece.ensures.few)) in
+    let number : length (take (n * 512) c.pieces.room) / 512 ≡ n = omega (arith, wide) in
+    let bytes : List ℕ = c.read_bytes.new.out in
+    let piece = subst (λ (m : ℕ). EachBytes c.pieces.stack c.args.d.0 c.pieces.at m (Ok bytes) c.read_bytes.new.self) number (record { any = c.in-Ok.ensures.any; steady = c.in-Ok.ensures.steady }) in
     let inside : c.pieces.at + n ≤ size c.args.stack.now.config (mapped c.args.d.0) = subst (λ (x : Configuration). c.pieces.at + n ≤ size x (mapped c.args.d.0)) (c.config-in-pieces.ensures.value ∙ before.config) c.piece_at-piece.ensures.inside in
-    let bytes : c.as_slice.result.now ≡ c.in-Ok.answer.bytes = search rules in
-    let len : length c.in-Ok.answer.bytes ≡ 512 * n = c.in-Ok.ensures.any.may.read.run.len in
+    let len : length bytes ≡ 512 * n = piece.any.may.read.run.len in
     let old : Sides = sides c.args.stack.now (g.O.BlockDev.state c.args.out.now) (g.W.Write.contents c.args.writer.now.inner) in
-    let new : Sides = sides c.read_piece.new.self (g.O.BlockDev.state c.write.new.self) (g.W.Write.contents c.close.new.writer.inner) in
+    let new : Sides = sides c.read_bytes.new.self (g.O.BlockDev.state c.write.new.self) (g.W.Write.contents c.close.new.writer.inner) in
     let tally : c.close.new.self ≡ record { last = None; lost = c.pieces.tally.lost } = ap₂ {C = Tally} (λ (l : Option LostRun) (m : ℕ). record { last = l; lost = m }) c.in_ok-close-in-Ok.ensures.last c.close.ensures.lost in
-    let k : ℕ = length c.as_slice.result.now / 512 in
-    let count : length c.as_slice.result.now / 512 ≡ n = omega (arith, ap length bytes, len) in
+    let k : ℕ = length bytes / 512 in
+    let count : length bytes / 512 ≡ n = omega (arith, len) in
     record {
       so_far = subst (λ (m : ℕ). IsUnderway c.args.d.0 old new (c.pieces.at + m) c.close.new.self) (sym c.from-count.ensures)
-          (underway-had c.args.d.0 _ _ c.pieces.at c.pieces.tally before.so_far n c.in-Ok.answer c.read_piece.new.self k _ (g.O.BlockDev.state c.write.new.self) (g.W.Write.contents c.close.new.writer.inner) c.close.new.self
+          (underway-had c.args.d.0 _ _ c.pieces.at c.pieces.tally before.so_far n bytes c.read_bytes.new.self k _ (g.O.BlockDev.state c.write.new.self) (g.W.Write.contents c.close.new.writer.inner) c.close.new.self
           c.piece_at-piece.ensures.some piece count c.in_ok-write-in-Ok.ensures.moved
-          (λ steady. subst (λ (l : List ℕ). (g.O.BlockDev.state c.write.new.self).image ≡ spliced (g.O.BlockDev.state c.pieces.out).image c.pieces.at (sectors_of k l)) bytes (c.in_ok-write-in-Ok.ensures.image steady))
+          c.in_ok-write-in-Ok.ensures.image
           c.in_ok-close-in-Ok.ensures.text.ok tally);
       config = c.in-Ok.ensures.any.config ∙ before.config;
       within = omega (arith, inside, before.all, c.from-count.ensures);
@@ -65,7 +67,7 @@ pieces-preserved-in-Ok g c =
     }
 
 pub returns-then-is_same-clause-err : goal.returns-then-is_same-clause-err
-returns-then-is_same-clause-err g c = begun c.args.d.0 _ _ c.pieces.at c.pieces.tally c.pieces.invariant.so_far c.read_piece.new.self _
+returns-then-is_same-clause-err g c = begun c.args.d.0 _ _ c.pieces.at c.pieces.tally c.pieces.invariant.so_far c.read_bytes.new.self _
 
 pub lose-requires : goal.lose-requires
 lose-requires g c =
@@ -82,19 +84,21 @@ pub pieces-preserved-then-piece : goal.pieces-preserved-then-piece
 pieces-preserved-then-piece g c =
     let before = c.pieces.invariant in
     let n : ℕ = c.piece_at-piece.result.count in
-    let piece : EachPiece c.pieces.stack c.args.d.0 c.pieces.at n _ c.read_piece.new.self = record { any = c.in-Err.ensures.any; steady = c.in-Err.ensures.steady } in
+    let wide : length (take (n * 512) c.pieces.room) ≡ n * 512 = length-take-le (n * 512) c.pieces.room (omega (arith, c.requires.buffer, c.pieces.auto.room, c.piece_at-piece.ensures.few)) in
+    let number : length (take (n * 512) c.pieces.room) / 512 ≡ n = omega (arith, wide) in
+    let piece = subst (λ (m : ℕ). EachBytes c.pieces.stack c.args.d.0 c.pieces.at m (Err c.in-Err.fault) c.read_bytes.new.self) number (record { any = c.in-Err.ensures.any; steady = c.in-Err.ensures.steady }) in
     let inside : c.pieces.at + n ≤ size c.args.stack.now.config (mapped c.args.d.0) = subst (λ (x : Configuration). c.pieces.at + n ≤ size x (mapped c.args.d.0)) (c.config-in-pieces.ensures.value ∙ before.config) c.piece_at-piece.ensures.inside in
     let alike : AreAlike c.pieces.stack.config c.args.d.0 c.pieces.at n = subst (λ (x : Configuration). AreAlike x c.args.d.0 c.pieces.at n) c.config-in-pieces.ensures.value (c.piece_at-piece.ensures.alike c.if-piece.true) in
     let none : c.in-Err.fault ≡ NoMemory → ⊥ = λ e. false≢true (sym c.if-is_same.false ∙ c.is_same.ensures ∙ ap (λ (f : IoFault). is_same f NoMemory) e) in
     let old : Sides = sides c.args.stack.now (g.O.BlockDev.state c.args.out.now) (g.W.Write.contents c.args.writer.now.inner) in
-    let new : Sides = sides c.read_piece.new.self (g.O.BlockDev.state c.pieces.out) (g.W.Write.contents c.lose.new.writer.inner) in
+    let new : Sides = sides c.read_bytes.new.self (g.O.BlockDev.state c.pieces.out) (g.W.Write.contents c.lose.new.writer.inner) in
     let same = c.from-count.ensures in
     let grown : LostRun = run c.pieces.at c.from-count.result c.in-Err.fault in
     let tally : c.lose.new.self ≡ record { last = Some (opened_by c.pieces.tally.last grown); lost = c.pieces.tally.lost + c.from-count.result } =
     ap₂ {C = Tally} (λ (l : Option LostRun) (m : ℕ). record { last = l; lost = m }) c.in_ok-lose-in-Err.ensures.last c.in_ok-lose-in-Err.ensures.lost in
     record {
       so_far = subst (λ (m : ℕ). IsUnderway c.args.d.0 old new (c.pieces.at + m) c.lose.new.self) (sym same)
-          (underway-lost c.args.d.0 _ _ c.pieces.at c.pieces.tally before.so_far n c.in-Err.fault c.read_piece.new.self (g.W.Write.contents c.lose.new.writer.inner) c.lose.new.self
+          (underway-lost c.args.d.0 _ _ c.pieces.at c.pieces.tally before.so_far n c.in-Err.fault c.read_bytes.new.self (g.W.Write.contents c.lose.new.writer.inner) c.lose.new.self
           c.piece_at-piece.ensures.some piece alike none (rw same at c.in_ok-lose-in-Err.ensures.text.ok)
           (rw same at tally));
       config = c.in-Err.ensures.any.config ∙ before.config;
@@ -108,9 +112,12 @@ pieces-preserved-then-piece g c =
 pub pieces-preserved : goal.pieces-preserved
 pieces-preserved g c =
     let before = c.pieces.invariant in
-    let piece : EachPiece c.pieces.stack c.args.d.0 c.pieces.at c.piece_at-piece.result.count _ c.read_piece.new.self = record { any = c.in-Err.ensures.any; steady = c.in-Err.ensures.steady } in
+    let n : ℕ = c.piece_at-piece.result.count in
+    let wide : length (take (n * 512) c.pieces.room) ≡ n * 512 = length-take-le (n * 512) c.pieces.room (omega (arith, c.requires.buffer, c.pieces.auto.room, c.piece_at-piece.ensures.few)) in
+    let number : length (take (n * 512) c.pieces.room) / 512 ≡ n = omega (arith, wide) in
+    let piece = subst (λ (m : ℕ). EachBytes c.pieces.stack c.args.d.0 c.pieces.at m (Err c.in-Err.fault) c.read_bytes.new.self) number (record { any = c.in-Err.ensures.any; steady = c.in-Err.ensures.steady }) in
     record {
-      so_far = underway-again c.args.d.0 _ _ c.pieces.at c.pieces.tally before.so_far c.piece_at-piece.result.count c.in-Err.fault c.read_piece.new.self piece;
+      so_far = underway-again c.args.d.0 _ _ c.pieces.at c.pieces.tally before.so_far n c.in-Err.fault c.read_bytes.new.self piece;
       config = c.in-Err.ensures.any.config ∙ before.config;
       within = before.within;
       all = before.all;

@@ -3,7 +3,7 @@ use Rattle.stack_rules.specs.Names.{mapped, size}
 use Rattle.stack_recovery.specs.Pieces.{IsPace}
 use Rattle.stack_recovery.specs.Recoveries.{sides}
 use Rattle.stack_recovery.proofs.UnderwayLemmas.{IsUnderway}
-use Rattle.stack_recovery.proofs.recovery.recover.Given as goal
+use Rattle.stack_recovery.proofs.recovery.recover_by.Given as goal
 
 -- the sectors before this one are had or lost
 abbrev pub invariant-pieces : goal.invariant-pieces
