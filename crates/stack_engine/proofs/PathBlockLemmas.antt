@@ -1,6 +1,7 @@
 -- The blocks on the way to a data block of a verity line, read where its tree says.
 use Rattle.std.proofs.Common.{◌≡◌, ◌<◌, ◌+◌, suc, List, [], ◌∷◌, ◌++◌, ℕ, Vec, Global, Some, Result, Ok, Err, refl, sym, ap, subst}
-use Rattle.tree_shape.specs.Shape.{ShapeRecord, ancestor}
+use Rattle.tree_shape.specs.Shape.{ShapeRecord, ancestor, levels, position}
+use Rattle.tree_shape.proofs.lemmas.ShapeFactLemmas.{position-lt, ancestor-lt}
 use Rattle.block_device.specs.Device.{Device}
 use Rattle.dm_table.specs.declared.verity.Verity.{Verity}
 use Rattle.stack_rules.specs.declared.lower.Lower.{Lower}
@@ -17,7 +18,8 @@ use Rattle.stack_lines.specs.Extents.{LiesInside, IsExtent}
 use Rattle.stack_meaning.specs.Places.{Place, place_of}
 use Rattle.stack_meaning.specs.Reading.{Gets}
 use Rattle.stack_lines.specs.Walks.{checked_expected, data_expected, place_named, block_in, GetsChain, IsTreeOf, IsWalked}
-use Rattle.stack_lines.proofs.lemmas.VerityLineLemmas.{data-whole, hash-whole, place-named}
+use Rattle.stack_rules.specs.Trees.{tree_of}
+use Rattle.stack_lines.proofs.lemmas.VerityLineLemmas.{line-facts, data-whole, hash-whole, hash-inside, place-named}
 use Rattle.stack_engine.proofs.lemmas.WalkLemmas.{walk_down, walk_stops, walk_ends, walk_fails}
 
 abbrev pub bytes : Vec ℕ Global → List ℕ
@@ -30,6 +32,25 @@ pub checked_as : {old new : List Device} (c : Configuration) (name : List ℕ) (
 checked_as {old = old} {new = new} c name lower first n salt expected result e is at q =
     subst (λ (x : Place). Gets (checked_expected bytes x first n salt expected) old new result) (sym (place-named c name lower is))
     (subst (λ (x : Extent). Gets (checked_expected bytes (place_of c x.lower) x.first x.sectors salt expected) old new result) at q)
+
+-- where the hash block of a level stands on the way to a data block
+abbrev pub hash_place_of : Verity → Tree → ℕ → ℕ → Extent
+hash_place_of v tree level index = record { lower = tree.hash; first = hash_start v level index; sectors = hash_sectors v }
+
+pub hash-lies : (c : Configuration) (v : Verity) (tree : Tree) (level index : ℕ) → IsLoaded c → IsTreeOf c v tree → index < v.blocks → level < levels (tree_of v)
+    → IsExtent c tree.hash (hash_start v level index) (hash_sectors v) (hash_place_of v tree level index)
+hash-lies c v tree level index loaded is there low =
+    let size = hash-whole c tree.device.0 tree.line 0 0 v loaded is.is in
+    let valid = (line-facts c tree.device.0 tree.line v loaded is.is).2.shape in
+    let place : ℕ = position (tree_of v) level (ancestor (tree_of v) (level + 1) index) in
+    let room = hash-inside c v tree loaded is place (position-lt (tree_of v) valid level (ancestor (tree_of v) (level + 1) index) low (ancestor-lt (tree_of v) valid level index there)) in
+    record { value = refl; lies = record { some = size.some; inside = room } }
+
+-- a block that was read where it stands
+pub block_there : (c : Configuration) (v : Verity) (tree : Tree) (level index : ℕ) {expected : List ℕ} {old new : List Device} (e : Extent) → IsExtent c tree.hash (hash_start v level index) (hash_sectors v) e → (result : Result (Vec ℕ Global) IoFault)
+    → Gets (checked_expected bytes (place_of c e.lower) e.first e.sectors v.salt expected) old new result
+    → Gets (checked_expected bytes (place_of c tree.hash) (hash_start v level index) (hash_sectors v) v.salt expected) old new result
+block_there c v tree level index {expected = expected} {old = old} {new = new} e at result q = subst (λ (x : Extent). Gets (checked_expected bytes (place_of c x.lower) x.first x.sectors v.salt expected) old new result) at.value q
 
 -- the key of a hash block names its place
 pub place_key : (c : Configuration) (v : Verity) (tree : Tree) (level index : ℕ) (key : Key) (e : Extent) → IsTreeOf c v tree

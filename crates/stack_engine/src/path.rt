@@ -5,7 +5,6 @@ ghost use Rattle.stack_engine.specs.Keeping.{handed_out};
 
 use hash_tree::Chain;
 use stack_lines::BlockPart;
-use stack_lines::tree::Extent;
 use stack_meaning::Found;
 use std::alloc::AllocError;
 use std::marker::Model;
@@ -28,11 +27,13 @@ impl Model for PathBlock {
     ghost view = { λ b. record { key = b.key; digest = b.digest; bytes = b.bytes.items } };
 }
 
-/// A hash block on the way to a data block: its key, where it stands, and the digest that is expected of it.
+/// The hash block of a level on the way to a data block, by that one's number: its place in the path, from the root down,
+/// and the digest that is expected of it.
 #[derive(Clone, Copy)]
 pub(crate) struct WantedBlock {
-    pub(crate) key: Key,
-    pub(crate) extent: Extent,
+    pub(crate) at: usize,
+    pub(crate) level: u32,
+    pub(crate) block: u64,
     pub(crate) digest: Digest,
 }
 

@@ -2,7 +2,7 @@
 ghost use Rattle.std.specs.Prelude.{◌≡◌, ◌≤◌, ◌<◌, ◌*◌, ◌/◌, List, length, map, take, get_or, All, OnOk, IfOk, IfErr, Err};
 ghost use Rattle.tree_shape.specs.Shape.{levels};
 ghost use Rattle.stack_rules.specs.Trees.{tree_of};
-ghost use Rattle.stack_meaning.specs.Blocks.{hash_sectors};
+ghost use Rattle.stack_meaning.specs.Blocks.{hash_sectors, hash_start};
 ghost use Rattle.stack_meaning.specs.Leaves.{AreRead};
 ghost use Rattle.stack_rules.specs.Names.{mapped};
 ghost use Rattle.stack_lines.specs.declared.source.Source.TheVariants.{Below};
@@ -380,28 +380,31 @@ fn hash_block<D: BlockDev>(
 fn path_block<D: BlockDev>(
     config: &Config,
     reader: &mut Reader<D>,
+    verity: &Verity,
+    tree: &Tree,
     path: &mut Vec<PathBlock>,
-    at: usize,
     wanted: &WantedBlock,
-    salt: &Salt,
 ) -> Result<(), IoFault>
     requires stack { IsStack config.now (map D.state reader.old.devices.items) reader.old.cache }
-    requires key { IsPlaceOf config.now salt.now wanted.now.key wanted.now.extent }
+    requires block { HasDataBlock config.now verity.now tree.now wanted.now.block }
+    requires level { wanted.now.level < levels (tree_of verity.now) }
     requires held { All (IsCached config.now (map D.state reader.old.devices.items)) path.old.items }
-    requires at { at ≤ length path.old.items }
-    ensures reads { (x : CachedBlock) → Gets (checked_expected (λ block. block) (place_of config.now wanted.now.extent.lower) wanted.now.extent.first wanted.now.extent.sectors salt.now wanted.now.digest)
-        (map D.state reader.old.devices.items) (map D.state reader.new.devices.items) (buffer_answer result ((get_or path.new.items at x).bytes)) }
-    ensures there { OnOk result (at < length path.new.items) }
-    ensures above { take at path.new.items ≡ take at path.old.items }
+    requires at { wanted.now.at ≤ length path.old.items }
+    ensures reads { (x : CachedBlock) → Gets (checked_expected (λ block. block) (place_of config.now tree.now.hash) (hash_start verity.now wanted.now.level wanted.now.block) (hash_sectors verity.now) verity.now.salt wanted.now.digest)
+        (map D.state reader.old.devices.items) (map D.state reader.new.devices.items) (buffer_answer result ((get_or path.new.items wanted.now.at x).bytes)) }
+    ensures there { OnOk result (wanted.now.at < length path.new.items) }
+    ensures above { take wanted.now.at path.new.items ≡ take wanted.now.at path.old.items }
     ensures held { All (IsCached config.now (map D.state reader.new.devices.items)) path.new.items }
     ensures cached { KeepsCache config.now (map D.state reader.new.devices.items) reader.old.cache reader.new.cache }
 {
-    let key = wanted.key;
+    let at = wanted.at;
     let digest = wanted.digest;
+    let key = hash_key(tree, wanted.level, wanted.block);
     if stands(path.as_slice(), at, key, &digest) {
         return Ok(());
     }
-    match hash_block(config, reader, key, wanted.extent, salt, &digest) {
+    let extent = hash_extent(config, verity, tree, wanted.level, wanted.block);
+    match hash_block(config, reader, key, extent, &verity.salt, &digest) {
         Err(fault) => Err(fault),
         Ok(bytes) => match put(path, at, PathBlock { key, digest, bytes }) {
             Err(_) => Err(IoFault::NoMemory),
@@ -434,14 +437,13 @@ fn walk_path<D: BlockDev>(
     let mut left = tree.shape.levels();
     while left > 0 {
         left -= 1;
-        let extent = hash_extent(config, verity, tree, left, index);
-        let key = hash_key(tree, left, index);
         let wanted = WantedBlock {
-            key,
-            extent,
+            at,
+            level: left,
+            block: index,
             digest,
         };
-        match path_block(config, reader, path, at, &wanted, &verity.salt) {
+        match path_block(config, reader, verity, tree, path, &wanted) {
             Err(first) => return Err(first),
             Ok(()) => {
                 let block = &path.as_slice()[at];

@@ -24,8 +24,8 @@ use Rattle.stack_meaning.specs.Found.{FoundRecord, entry_of}
 use Rattle.stack_meaning.specs.Kept.{IsKept, AllKept}
 use Rattle.stack_lines.specs.declared.tree.Extent.{Extent}
 use Rattle.stack_lines.specs.Caches.{IsCacheOf}
-use Rattle.stack_meaning.specs.Blocks.{hash_sectors, next_digest}
-use Rattle.stack_lines.specs.Walks.{block_in, GetsChain, IsWalked}
+use Rattle.stack_meaning.specs.Blocks.{hash_sectors, hash_start, next_digest}
+use Rattle.stack_lines.specs.Walks.{block_in, checked_expected, GetsChain, IsWalked}
 use Rattle.stack_meaning.specs.declared.fault.IoFault.{IoFault}
 use Rattle.stack_meaning.specs.Places.{place_of, run_expected, Read}
 use Rattle.stack_meaning.specs.Reading.{Gets, Reads, IsPlain, buffer_answer}
@@ -35,7 +35,7 @@ use Rattle.stack_engine.proofs.StackLemmas.{stack-later}
 use Rattle.stack_meaning.proofs.lemmas.LoadedLemmas.{size-small}
 use Rattle.stack_lines.proofs.lemmas.SourceLemmas.{served-depth, served-holds, below_of, leaf_of, empty_read, zeros_of, fails_of, device_ok, device_err, device_plain, below_plain, same_reads}
 use Rattle.stack_lines.proofs.lemmas.VerityLineLemmas.{data-whole, hash-whole, part-within, part-index, hash-depth, data-depth}
-use Rattle.stack_engine.proofs.PathBlockLemmas.{bytes, checked_as, place_key, hash_read, hash_failed, data_had, data_failed}
+use Rattle.stack_engine.proofs.PathBlockLemmas.{bytes, hash_place_of, hash-lies, block_there, checked_as, place_key, hash_read, hash_failed, data_had, data_failed}
 use Rattle.stack_engine.proofs.CachedLemmas.{cached-read, cached-hit, keeps-noted, noted_key, keeps-kept, keeps-found}
 use Rattle.stack_lines.proofs.lemmas.StandingLemmas.{named-inside, knows-all}
 use Rattle.stack_engine.proofs.BlockPartLemmas.{kept_length, contains_at, part-room, part_found, part_walked, part_err, part_full, block_plain}
@@ -696,42 +696,83 @@ hash_block-returns-in-Ok-clause-cached g t c =
 
 -- ---- the way to a block, beside that to the block before
 
+pub path_block-hash_key-key-requires : goal.path_block-hash_key-key-requires
+path_block-hash_key-key-requires g t c = subst (λ (k : ℕ). c.args.wanted.now.block < k) (sym (ap (λ (s : ShapeRecord). s.blocks) c.requires.block.lies.shape_is)) c.requires.block.there
+
+pub path_block-hash_block-requires : goal.path_block-hash_block-requires
+path_block-hash_block-requires g t c κs within =
+    let config = c.args.config.now in
+    let extent = c.hash_extent-extent in
+    let same : depth config extent.result.lower ≡ depth config c.args.tree.now.hash = ap (λ (e : Extent). depth config e.lower) extent.ensures.value in
+    let key = place_key config c.args.verity.now c.args.tree.now _ c.args.wanted.now.block c.hash_key-key.result extent.result c.requires.block.lies c.hash_key-key.ensures extent.ensures in
+    (omega (arith, same), (within, (c.requires.stack, key)))
+
 pub path_block-returns-then-stands-clause-reads : goal.path_block-returns-then-stands-clause-reads
 path_block-returns-then-stands-clause-reads g t c x =
+    let config = c.args.config.now in
+    let v = c.args.verity.now in
+    let tree = c.args.tree.now in
+    let w = c.args.wanted.now in
     let stands = c.stands.ensures c.if-stands.true in
     let value = c.as_slice.ensures.value in
-    let there = subst (λ (l : List CachedBlock). c.args.at < length l) value stands.0 in
-    let key = subst (λ (l : List CachedBlock). (get_or l c.args.at x).key ≡ c.args.wanted.now.key) value (stands.1 x).0 in
-    let digest = subst (λ (l : List CachedBlock). (get_or l c.args.at x).digest ≡ c.args.wanted.now.digest) value (stands.1 x).1 in
-    path-hit c.args.config.now c.requires.key _ c.args.path.now.items c.args.at x c.args.wanted.now.digest c.requires.held there key digest
+    let there = subst (λ (l : List CachedBlock). w.at < length l) value stands.0 in
+    let key = subst (λ (l : List CachedBlock). (get_or l w.at x).key ≡ c.hash_key-key.result) value (stands.1 x).0 in
+    let digest = subst (λ (l : List CachedBlock). (get_or l w.at x).digest ≡ w.digest) value (stands.1 x).1 in
+    let at = hash-lies config v tree w.level w.block c.requires.stack.sound.loaded c.requires.block.lies c.requires.block.there c.requires.level in
+    let place = place_key config v tree w.level w.block c.hash_key-key.result (hash_place_of v tree w.level w.block) c.requires.block.lies c.hash_key-key.ensures at in
+    path-hit config place _ c.args.path.now.items w.at x w.digest c.requires.held there key digest
+
+pub path_block-returns-in-Err-clause-reads : goal.path_block-returns-in-Err-clause-reads
+path_block-returns-in-Err-clause-reads g t c x =
+    let got = block_there c.args.config.now c.args.verity.now c.args.tree.now c.args.wanted.now.level c.args.wanted.now.block c.hash_extent-extent.result c.hash_extent-extent.ensures (Err c.in-Err.fault) c.in-Err.ensures.reads in
+    record { moved = got.moved; may = got.may; exact = got.exact }
+
+pub path_block-returns-in-Err-put-clause-reads : goal.path_block-returns-in-Err-put-clause-reads
+path_block-returns-in-Err-put-clause-reads g t c x =
+    let got = block_there c.args.config.now c.args.verity.now c.args.tree.now c.args.wanted.now.level c.args.wanted.now.block c.hash_extent-extent.result c.hash_extent-extent.ensures (Ok c.in-Ok.bytes) c.in-Ok.ensures.reads in
+    record { moved = got.moved; may = tt; exact = λ steady. tt }
+
+pub path_block-returns-in-Ok-put-clause-reads : goal.path_block-returns-in-Ok-put-clause-reads
+path_block-returns-in-Ok-put-clause-reads g t c x =
+    let state = g.D.BlockDev.state in
+    let config = c.args.config.now in
+    let v = c.args.verity.now in
+    let w = c.args.wanted.now in
+    let old = map state c.args.reader.now.devices.items in
+    let new = map state c.hash_block.new.reader.devices.items in
+    let got = block_there config v c.args.tree.now w.level w.block c.hash_extent-extent.result c.hash_extent-extent.ensures (Ok c.in-Ok.bytes) c.in-Ok.ensures.reads in
+    let path = c.args.path.now.items in
+    let one : CachedBlock = record { key = c.hash_key-key.result; digest = w.digest; bytes = bytes c.in-Ok.bytes } in
+    let front : w.at ≡ length (take w.at path) = sym (length-take-le w.at path c.requires.at) in
+    let here : get_or c.put.new.path.items w.at x ≡ one =
+    ap (λ (l : List CachedBlock). get_or l w.at x) c.in-Ok-put.ensures.ok ∙ ap (λ (k : ℕ). get_or (take w.at path ++ (one ∷ [])) k x) front ∙ get_or-append_seam (take w.at path) one [] x in
+    subst (λ (b : List ℕ). Gets (checked_expected (λ (block : List ℕ). block) (place_of config c.args.tree.now.hash) (hash_start v w.level w.block) (hash_sectors v) v.salt w.digest) old new (Ok b))
+    (sym (ap (λ (b : CachedBlock). b.bytes) here)) (record { moved = got.moved; may = got.may; exact = got.exact })
 
 pub path_block-returns-in-Err-clause-held : goal.path_block-returns-in-Err-clause-held
 path_block-returns-in-Err-clause-held g t c = path-read c.args.config.now c.args.path.now.items c.in-Err.ensures.reads.moved c.requires.held
 
 pub path_block-returns-in-Err-put-clause-held : goal.path_block-returns-in-Err-put-clause-held
 path_block-returns-in-Err-put-clause-held g t c =
-    subst (All (IsCached c.args.config.now _)) (sym c.in-Err-put.ensures.err) (All-take (IsCached c.args.config.now _) c.args.at c.args.path.now.items (path-read c.args.config.now c.args.path.now.items c.in-Ok.ensures.reads.moved c.requires.held))
+    subst (All (IsCached c.args.config.now _)) (sym c.in-Err-put.ensures.err) (All-take (IsCached c.args.config.now _) c.args.wanted.now.at c.args.path.now.items (path-read c.args.config.now c.args.path.now.items c.in-Ok.ensures.reads.moved c.requires.held))
 
 pub path_block-returns-in-Ok-put-clause-held : goal.path_block-returns-in-Ok-put-clause-held
 path_block-returns-in-Ok-put-clause-held g t c =
-    subst (All (IsCached c.args.config.now _)) (sym c.in-Ok-put.ensures.ok) (path-put c.args.config.now c.requires.key bytes c.in-Ok.bytes c.args.wanted.now.digest c.args.path.now.items c.args.at c.requires.held c.in-Ok.ensures.reads)
+    let key = place_key c.args.config.now c.args.verity.now c.args.tree.now _ c.args.wanted.now.block c.hash_key-key.result c.hash_extent-extent.result c.requires.block.lies c.hash_key-key.ensures c.hash_extent-extent.ensures in
+    subst (All (IsCached c.args.config.now _)) (sym c.in-Ok-put.ensures.ok) (path-put c.args.config.now key bytes c.in-Ok.bytes c.args.wanted.now.digest c.args.path.now.items c.args.wanted.now.at c.requires.held c.in-Ok.ensures.reads)
 
 pub walk_path-path_block-requires : goal.walk_path-path_block-requires
 walk_path-path_block-requires g t c κs within =
     let config = c.args.config.now in
-    let extent = c.hash_extent-extent in
     let deep = hash-depth config c.args.verity.now c.args.tree.now c.requires.stack.sound.loaded c.requires.block.lies in
-    let same : depth config extent.result.lower ≡ depth config c.args.tree.now.hash = ap (λ (e : Extent). depth config e.lower) extent.ensures.value in
-    let key = place_key config c.args.verity.now c.args.tree.now _ c.args.index c.hash_key-key.result extent.result c.requires.block.lies c.hash_key-key.ensures extent.ensures in
     let stack = stack-later config c.loop-left.invariant.walked.moved.moved.fixed c.requires.stack c.loop-left.invariant.cached in
-    (omega (arith, deep, same), (within, (stack, (key, (c.loop-left.invariant.held, c.loop-left.invariant.within)))))
-
-pub walk_path-hash_key-key-requires : goal.walk_path-hash_key-key-requires
-walk_path-hash_key-key-requires g t c = subst (λ (k : ℕ). c.args.index < k) (sym (ap (λ (s : ShapeRecord). s.blocks) c.requires.block.lies.shape_is)) c.requires.block.there
+    let low : c.loop-left.left - 1 < levels (tree_of c.args.verity.now) = omega (arith, c.loop-left.invariant.walked.count, c.loop-left-test.true) in
+    (omega (arith, deep), (within, (stack, (c.requires.block, (low, (c.loop-left.invariant.held, c.loop-left.invariant.within))))))
 
 pub walk_path-returns-in-Err-clause-moved : goal.walk_path-returns-in-Err-clause-moved
 walk_path-returns-in-Err-clause-moved g t c =
-    path-stopped c.args.config.now c.args.verity.now c.args.tree.now c.args.index c.requires.stack.sound.loaded c.requires.block.lies c.loop-left.left (c.loop-left.left - 1) (omega (arith, c.loop-left-test.true)) c.loop-left.invariant.walked c.hash_extent-extent.result c.hash_extent-extent.ensures (c.in-Err.first) (c.in-Err.ensures.reads no_block)
+    path-stopped c.args.config.now c.args.verity.now c.args.tree.now c.args.index c.requires.stack.sound.loaded c.requires.block.lies c.loop-left.left (c.loop-left.left - 1) (omega (arith, c.loop-left-test.true)) c.loop-left.invariant.walked (hash_place_of c.args.verity.now c.args.tree.now (c.loop-left.left - 1) c.args.index)
+    (hash-lies c.args.config.now c.args.verity.now c.args.tree.now (c.loop-left.left - 1) c.args.index c.requires.stack.sound.loaded c.requires.block.lies c.requires.block.there (omega (arith, c.loop-left.invariant.walked.count, c.loop-left-test.true))) (c.in-Err.first) (c.in-Err.ensures.reads no_block)
 
 pub walk_path-returns-clause-moved : goal.walk_path-returns-clause-moved
 walk_path-returns-clause-moved g t c = path-ended (block_in c.args.config.now c.args.verity.now c.args.index) c.loop-left.left c.loop-left.invariant.walked
@@ -745,7 +786,8 @@ walk_path-returns-clause-ok g t c =
 
 pub walk_path-returns-in-Err-clause-err : goal.walk_path-returns-in-Err-clause-err
 walk_path-returns-in-Err-clause-err g t c =
-    path-failed c.args.config.now c.args.verity.now c.args.tree.now c.args.index c.requires.stack.sound.loaded c.requires.block.lies c.loop-left.left (c.loop-left.left - 1) (omega (arith, c.loop-left-test.true)) c.loop-left.invariant.walked c.hash_extent-extent.result c.hash_extent-extent.ensures c.in-Err.first (c.in-Err.ensures.reads no_block)
+    path-failed c.args.config.now c.args.verity.now c.args.tree.now c.args.index c.requires.stack.sound.loaded c.requires.block.lies c.loop-left.left (c.loop-left.left - 1) (omega (arith, c.loop-left-test.true)) c.loop-left.invariant.walked (hash_place_of c.args.verity.now c.args.tree.now (c.loop-left.left - 1) c.args.index)
+    (hash-lies c.args.config.now c.args.verity.now c.args.tree.now (c.loop-left.left - 1) c.args.index c.requires.stack.sound.loaded c.requires.block.lies c.requires.block.there (omega (arith, c.loop-left.invariant.walked.count, c.loop-left-test.true))) c.in-Err.first (c.in-Err.ensures.reads no_block)
 
 pub walk_path-digest_in-digest-requires : goal.walk_path-digest_in-digest-requires
 walk_path-digest_in-digest-requires g t c =
@@ -753,15 +795,14 @@ walk_path-digest_in-digest-requires g t c =
     let tree = c.args.tree.now in
     let is = c.requires.block.lies in
     let size = hash-whole c.args.config.now tree.device.0 tree.line 0 0 v c.requires.stack.sound.loaded is.is in
-    let sectors : c.hash_extent-extent.result.sectors ≡ hash_sectors v = ap (λ (e : Extent). e.sectors) c.hash_extent-extent.ensures.value in
     let one = c.in-Ok.ensures.reads no_block in
     let here : c.as_slice-in-Ok.result.now ≡ (get_or c.path_block.new.path.items c.loop-left.at no_block).bytes =
     c.as_slice-in-Ok.ensures.value ∙ ap (λ (b : CachedBlock). b.bytes) (c.block.view_is ∙ c.index-as_slice-at.is
     ∙ ap (λ (l : List CachedBlock). get_or l c.loop-left.at c.index-as_slice-at.result) c.as_slice.ensures.value
     ∙ get_or_default c.path_block.new.path.items c.loop-left.at c.index-as_slice-at.result no_block c.in-Ok.ensures.there) in
-    let len : length c.as_slice-in-Ok.result.now ≡ 512 * c.hash_extent-extent.result.sectors = ap (λ (l : List ℕ). length l) here ∙ one.may.0 in
+    let len : length c.as_slice-in-Ok.result.now ≡ 512 * hash_sectors v = ap (λ (l : List ℕ). length l) here ∙ one.may.0 in
     let block : tree.shape.hash_block ≡ v.hash_block = ap (λ (t : ShapeRecord). t.hash_block) is.shape_is in
-    omega (arith, len, sectors, size.whole, block, c.slot_on_path.ensures.inside)
+    omega (arith, len, size.whole, block, c.slot_on_path.ensures.inside)
 
 pub walk_path-loop-left-preserved : goal.walk_path-loop-left-preserved
 walk_path-loop-left-preserved g t c =
@@ -778,7 +819,8 @@ walk_path-loop-left-preserved g t c =
     let after = c.path_block.new.path.items in
     let bytes_of : CachedBlock → List ℕ = λ b. b.bytes in
     let block : List ℕ = (get_or after at no_block).bytes in
-    let down = path-down c.args.config.now v tree index c.requires.stack.sound.loaded c.requires.block.lies c.loop-left.left level (omega (arith, c.loop-left-test.true)) c.loop-left.invariant.walked c.hash_extent-extent.result c.hash_extent-extent.ensures block (c.in-Ok.ensures.reads no_block) in
+    let down = path-down c.args.config.now v tree index c.requires.stack.sound.loaded c.requires.block.lies c.loop-left.left level (omega (arith, c.loop-left-test.true)) c.loop-left.invariant.walked (hash_place_of c.args.verity.now c.args.tree.now (c.loop-left.left - 1) c.args.index)
+    (hash-lies c.args.config.now c.args.verity.now c.args.tree.now (c.loop-left.left - 1) c.args.index c.requires.stack.sound.loaded c.requires.block.lies c.requires.block.there (omega (arith, c.loop-left.invariant.walked.count, c.loop-left-test.true))) block (c.in-Ok.ensures.reads no_block) in
     let here : c.as_slice-in-Ok.result.now ≡ block =
     c.as_slice-in-Ok.ensures.value ∙ ap (λ (b : CachedBlock). b.bytes) (c.block.view_is ∙ c.index-as_slice-at.is
     ∙ ap (λ (l : List CachedBlock). get_or l c.loop-left.at c.index-as_slice-at.result) c.as_slice.ensures.value

@@ -75,7 +75,7 @@ abbrev pub decreases-walk-loop-level : goal.decreases-walk-loop-level
 decreases-walk-loop-level g l = l.level
 
 abbrev pub decreases-path_block : goal.decreases-path_block
-decreases-path_block g l = 8 * depth l.config.now l.wanted.now.extent.lower + 10
+decreases-path_block g l = 8 * depth l.config.now l.tree.now.hash + 10
 
 abbrev pub decreases-walk_path : goal.decreases-walk_path
 decreases-walk_path g l = 8 * depth l.config.now (mapped l.tree.now.device.0) + 3
