@@ -2,26 +2,13 @@
 use Rattle.std.proofs.Common.{◌≡◌, ◌≤◌, ℕ, ◌+◌, ◌-◌, ◌*◌, ◌/◌, ◌%◌, List, [], ◌++◌, length, take, drop, refl, ap, sym, ◌∙◌, subst, append_assoc, append-nil, arith, inl, inr, Some, Result, Ok, Err}
 use Rattle.std.specs.Prelude.{◌⊎◌}
 use Rattle.std.proofs.lemmas.List.{length-append, length-take-le, take-append-drop, take-append-le}
-use Rattle.std.proofs.Math.Nat.{add-mul, mul-le-mul_right}
 use Rattle.std.proofs.Math.Seq.{take-append-add, take-add}
-use Rattle.stack_rules.specs.Names.{device_named, mapped}
-use Rattle.stack_rules.specs.Descend.{write_cost}
-use Rattle.stack_rules.specs.Records.{Configuration}
+use Rattle.stack_rules.specs.Names.{device_named}
 use Rattle.stack_meaning.specs.declared.fault.IoFault.{IoFault}
-use Rattle.stack_meaning.specs.declared.fault.Fault.TheVariants as why
 use Rattle.stack_meaning.specs.declared.fault.IoFault.TheVariants as io
-use Rattle.stack_meaning.specs.Changes.{reached, AreWritten}
-use Rattle.stack_meaning.specs.May.{MayFault}
-use Rattle.stack_meaning.specs.Meaning.{said_at}
-use Rattle.stack_meaning.specs.declared.fault.Fault.{Fault}
-use Rattle.stack_meaning.specs.Outcomes.{error_target, LeafSector}
 use Rattle.stack_engine.specs.Stacks.{StackRecord}
-use Rattle.stack_engine.specs.WritePieces.{piece_reached, AnyWrite, EachWrite, InTurn, WritesInPieces, nothing, next, ends}
-use Rattle.stack_lines.specs.Writing.{MayEnd}
-use Rattle.stack_meaning.proofs.lemmas.ChangeLemmas.{reached-first, reached-later, AreWritten-then, AreWritten-more}
-use Rattle.stack_meaning.proofs.lemmas.FoundLemmas.{SomeOf-more}
-use Rattle.stack_meaning.proofs.lemmas.LeafListLemmas.{failed_later}
-use Rattle.stack_engine.proofs.lemmas.WritePieceLemmas.{write-none}
+use Rattle.stack_engine.specs.WritePieces.{AnyWrite, EachWrite, InTurn, WritesInPieces, nothing, next, ends}
+use Rattle.stack_engine.proofs.lemmas.WritePieceLemmas.{any-then, write-none}
 use Rattle.request_queue.specs.declared.range.SectorRange.{SectorRange}
 use Rattle.request_queue.specs.declared.reply.Reply.TheVariants.{Written}
 use Rattle.request_queue.specs.Parts.{EachPart}
@@ -35,51 +22,6 @@ use Rattle.nbd_server.specs.declared.request_error.RequestError.TheVariants.{NoM
 use Rattle.nbd_server.specs.Sectors.{IsStored, FailsToStore, EndsPut, StopsPut, error_of}
 use Rattle.nbd_server.proofs.FetchLemmas.{named-range}
 use Rattle.request_queue.proofs.lemmas.LedLemmas.{led-none, led-one, led-then}
-
--- ---- a write, and one behind it
-
-module _ (x y z : List ℕ) (even : length x % 512 ≡ 0) where
-  count : length (x ++ (y ++ z)) / 512 ≡ (length x + (length y + length z)) / 512
-  count = omega (arith, length-append x (y ++ z), length-append y z)
-
-  fits : length x / 512 + length y / 512 ≤ length (x ++ (y ++ z)) / 512
-  fits = omega (arith, count, even)
-
-module _ {w w' w'' : StackRecord} (d first : ℕ) (x y z : List ℕ) (even : length x % 512 ≡ 0) (p : AnyWrite w d first x (Ok tt) w') where
-  -- the second one, over the same configuration
-  same-config : {result : Result Unit IoFault} → AnyWrite w' d (first + length x / 512) y result w''
-      → AreWritten (piece_reached w.config d (first + length x / 512) (length y / 512)) w'.leaves (length y / 512 * write_cost w.config (mapped d)) w''.leaves
-  same-config q = subst (λ (c : Configuration). AreWritten (piece_reached c d (first + length x / 512) (length y / 512)) w'.leaves (length y / 512 * write_cost c (mapped d)) w''.leaves) p.config q.moved
-
-  both-moved : {result : Result Unit IoFault} → AnyWrite w' d (first + length x / 512) y result w''
-      → AreWritten (piece_reached w.config d first (length (x ++ (y ++ z)) / 512)) w.leaves (length (x ++ (y ++ z)) / 512 * write_cost w.config (mapped d)) w''.leaves
-  both-moved q =
-      let reaches : ℕ → List LeafSector = λ s. (said_at w.config (mapped d) s).reaches in
-      let n : ℕ = length (x ++ (y ++ z)) / 512 in
-      let k : ℕ = write_cost w.config (mapped d) in
-      let front : AreWritten (reached reaches first n) w.leaves (length x / 512 * k) w'.leaves = AreWritten-more (reached-first reaches first (length x / 512) n (omega (arith, fits x y z even))) (omega arith) p.moved in
-      let back : AreWritten (reached reaches first n) w'.leaves (length y / 512 * k) w''.leaves = AreWritten-more (reached-later reaches first (length x / 512) (length y / 512) n (fits x y z even)) (omega arith) (same-config q) in
-      let most : (length x / 512 + length y / 512) * k ≤ n * k = mul-le-mul_right k (fits x y z even) in
-      AreWritten-more (λ q all. all) (omega (arith, most, add-mul (length x / 512) (length y / 512) k)) (AreWritten-then front back)
-
-  any-then : {result : Result Unit IoFault} → (result ≡ Err io.NoMemory → ⊥) → AnyWrite w' d (first + length x / 512) y result w'' → AnyWrite w d first (x ++ (y ++ z)) result w''
-  any-then {result = result} grown q = record {
-    config = q.config ∙ p.config;
-    whole = λ h. q.whole (p.whole h);
-    moved = both-moved q;
-    ends = later result grown (subst (λ (c : Configuration). MayEnd (MayFault c (mapped d) (first + length x / 512) (length y / 512)) w'.leaves w''.leaves result) p.config q.ends);
-  }
-    where
-      more : (fault : Fault) → MayFault w.config (mapped d) (first + length x / 512) (length y / 512) fault → MayFault w.config (mapped d) first (length (x ++ (y ++ z)) / 512) fault
-      more fault h = SomeOf-more (λ s. (said_at w.config (mapped d) s).meets fault) first (length x / 512) (length y / 512) (length (x ++ (y ++ z)) / 512) (fits x y z even) h
-
-      later : (result : Result Unit IoFault) → (result ≡ Err io.NoMemory → ⊥) → MayEnd (MayFault w.config (mapped d) (first + length x / 512) (length y / 512)) w'.leaves w''.leaves result
-          → MayEnd (MayFault w.config (mapped d) first (length (x ++ (y ++ z)) / 512)) w.leaves w''.leaves result
-      later (Ok u) grown h = tt
-      later (Err (io.Stack why.ErrorTarget)) grown h = more error_target h
-      later (Err (io.Stack why.Mismatch)) grown h = h
-      later (Err (io.Device i)) grown h = (h.0, failed_later p.moved.moved q.moved.moved h.1)
-      later (Err io.NoMemory) grown h = absurd (grown refl)
 
 abbrev pub ended : IoFault → Result Unit IoFault
 ended fault = Err fault

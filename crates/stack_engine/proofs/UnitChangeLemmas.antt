@@ -1,5 +1,5 @@
 -- What is written to part of a unit, which is read, changed and written whole.
-use Rattle.std.proofs.Common.{◌≡◌, ◌≢◌, ℕ, ◌+◌, ◌-◌, ◌*◌, ◌/◌, ◌%◌, ◌<◌, ◌≤◌, IsTrue, List, ◌++◌, length, take, drop, Contains, Result, Ok, Err, refl, sym, ap, ◌∙◌, subst, arith}
+use Rattle.std.proofs.Common.{◌≡◌, ◌≢◌, ℕ, ◌+◌, ◌-◌, ◌*◌, ◌/◌, ◌%◌, ◌<◌, ◌≤◌, IsTrue, List, ◌++◌, length, map, take, drop, Contains, Result, Ok, Err, refl, sym, ap, ◌∙◌, subst, arith}
 use Rattle.std.specs.List.{concat}
 use Rattle.std.specs.Prelude.{slice_get}
 use Rattle.std.proofs.lemmas.List.{take_all, length-append, length-take, length-drop}
@@ -26,11 +26,11 @@ use Rattle.stack_meaning.specs.Units.{decrypted_unit, encrypted_unit, unit_first
 use Rattle.stack_meaning.specs.Found.{FoundRecord}
 use Rattle.stack_meaning.specs.Meaning.{Said, crypt_said, said_at}
 use Rattle.stack_meaning.specs.Puts.{Put, stopped, read_put, encrypted_sectors, changed_unit, put_on}
-use Rattle.stack_meaning.specs.Leaves.{images_of, Moves}
-use Rattle.stack_meaning.specs.Changes.{AllWhole, reached, AreWritten}
+use Rattle.stack_meaning.specs.Leaves.{images_of, fixed_part, AllSteady, Moves}
+use Rattle.stack_meaning.specs.Changes.{AllWhole, reached, KeepsOthers, AreWritten}
 use Rattle.stack_meaning.specs.Reading.{Ends, Answers, MeetVerity, IsPlain}
 use Rattle.stack_lines.specs.Sources.{LieInUnit, IsWholeOf, cost_beneath, source_said, ReadsSource}
-use Rattle.stack_lines.specs.Writing.{sectors_in, put_on_line, MayEnd, IsPut, Writes, source_destination}
+use Rattle.stack_lines.specs.Writing.{sectors_in, put_on_line, MayEnd, IsPut, FailedBy, StopsAt, IsCounted, StopsAtFault, StopsBehindPut, with_some, Writes, source_destination}
 use Rattle.stack_rules.proofs.lemmas.UnitLemmas.{unit_sectors-some}
 use Rattle.stack_lines.proofs.lemmas.UnitLineLemmas.{IsUnitLine, unit-line, cost-beneath, unit-said}
 use Rattle.stack_lines.proofs.lemmas.UnitPutLemmas.{sectors_in-of, whole-put, some-put}
@@ -42,6 +42,7 @@ use Rattle.stack_meaning.proofs.lemmas.LeafListLemmas.{AllSteady-kept, images-ke
 use Rattle.stack_lines.proofs.lemmas.SizeLemmas.{sector-size}
 use Rattle.stack_meaning.proofs.lemmas.SizedLemmas.{AreSized}
 use Rattle.stack_meaning.proofs.lemmas.SpanLemmas.{span_same, span_fails}
+use Rattle.stack_lines.proofs.lemmas.StopLemmas.{IsUp, stop-here, stop-first, failed-reached}
 use Rattle.stack_lines.proofs.lemmas.WriteRunLemmas.{length-sectors_in, MayEnd-as}
 
 abbrev err_of : IoFault → Result Unit IoFault
@@ -92,6 +93,35 @@ module _ (c : Configuration) (b : BlockPart) (whole : WholeUnit) (bytes : List �
 
   count : length (sectors_in bytes) ≡ n
   count = omega (arith, length-sectors_in bytes, len)
+
+  -- ---- the first sector of the part, which has all that the unit has
+
+  lies-one : LieInUnit c b.device.0 b.line b.first 1
+  lies-one = record {
+    crypt = lies.crypt;
+    has = record { line = lies.has.line; is = lies.has.is; has = lies.has.has; fits = omega (arith, lies.has.fits, some) };
+    within = omega (arith, lies.within, some);
+    part = omega (arith, lies.part, some);
+  }
+
+  of-first : (P : Said → Type 0) → ((s s' : ℕ) (lower : ℕ → Said) → unit_first of.crypt s ≡ unit_first of.crypt s' → P (crypt_said lower of.crypt s) → P (crypt_said lower of.crypt s'))
+      → SomeOf (λ j. P (source_said c (Units whole.from) j)) 0 whole.sectors → P (source_said c (UnitPart b) 0)
+  of-first P same x =
+      let first = part-some c b whole 1 loaded of lies-one (omega arith) P same x in
+      let at : 0 + first.0 ≡ 0 = omega (arith, first.1) in
+      subst (λ (j : ℕ). P (source_said c (UnitPart b) j)) at first.2
+
+  first-meets : (x : Fault) → SomeOf (λ j. (source_said c (Units whole.from) j).meets x) 0 whole.sectors → (source_said c (UnitPart b) 0).meets x
+  first-meets x = of-first (λ y. y.meets x) (λ s s' lower e h. subst (λ (k : ℕ). SomeOf (λ t. (lower t).meets x) k (unit_sectors of.crypt)) e h)
+
+  first-reaches : (p : LeafSector) → reached (λ j. (source_said c (Units whole.from) j).reaches) 0 whole.sectors p → Contains (source_said c (UnitPart b) 0).reaches p
+  first-reaches p = of-first (λ y. Contains y.reaches p) (λ s s' lower e h. subst (λ (k : ℕ). Contains (gathered (λ t. (lower t).reaches) k (unit_sectors of.crypt)) p) e h)
+
+  first-encrypts : (source_said c (UnitPart b) 0).encrypts
+  first-encrypts = subst (λ (y : Said). y.encrypts) (sym (unit-said c b.device.0 b.line 0 of.crypt loaded of.has on.0 on.1.crypt_line.named (b.first + 0))) tt
+
+  up-first : (j : ℕ) → j < whole.sectors → IsUp (source_said c (Units whole.from) (0 + j)) (source_said c (UnitPart b) 0)
+  up-first j low = record { meets = λ x h. first-meets x (j, low, h); reaches = λ p h. first-reaches p (j, low, h); encrypts = λ h. first-encrypts }
 
   -- the budget of the read and of the write
   paid : whole.sectors * (cost_beneath c (read_cost c) whole.from) + whole.sectors * (source_destination c (Units whole.from)).cost ≤ length (sectors_in bytes) * write_cost c (mapped b.device.0)
@@ -192,6 +222,46 @@ module _ (c : Configuration) (b : BlockPart) (whole : WholeUnit) (bytes : List �
   read-exact old new (io.Device i) all is same = tt
   read-exact old new io.NoMemory all is same = tt
 
+  -- nothing but what the first sector reaches
+  read-others : {old new : List Device} {found after : List FoundRecord} (result : Result Unit IoFault) (answer : Result (List ℕ) IoFault)
+      → ReadsSource c (Units whole.from) whole.sectors (record { old = old; new = new; before = found; after = after }) answer → IsPlain (source_said c (Units whole.from)) 0 whole.sectors old new result
+      → KeepsOthers (reached (λ j. (source_said c (UnitPart b) j).reaches) 0 (0 + 1)) old new
+  read-others result answer p q =
+      (AreWritten-read (reached (λ j. (source_said c (UnitPart b) j).reaches) 0 (0 + 1)) p.got.moved
+      (λ i d out. q.leaf none-meets i d (λ t x. out t (0, omega arith, first-reaches (i, t) x)))).others
+
+  -- the first sector of the part failed, as the read did
+  read-failed : {old new : List Device} (after : List FoundRecord) (fault : IoFault)
+      → Ends {A = List ℕ} (IsRun (λ j. (source_said c (Units whole.from) j).may after) 0 whole.sectors) (λ x. SomeOf (λ j. (source_said c (Units whole.from) j).meets x) 0 whole.sectors) old new (Err fault)
+      → IsPlain (source_said c (Units whole.from)) 0 whole.sectors old new (Err fault) → IsCounted fault new → FailedBy (source_said c (UnitPart b)) fault (0 + 0) 1
+  read-failed after (io.Stack x) may q counted = λ j low. let at : 0 ≡ 0 + 0 + j = omega (arith, low) in subst (λ (k : ℕ). (source_said c (UnitPart b) k).meets x) at (first-meets x may)
+  read-failed after (io.Device i) may q counted =
+      let there = failed-reached (λ j. (source_said c (Units whole.from) j).reaches) 0 whole.sectors (i - 1) may.1 counted (λ d none. q.leaf none-meets (i - 1) d none) in
+      let here : Contains (source_said c (UnitPart b) 0).reaches (i - 1, there.0) = first-reaches (i - 1, there.0) there.1 in
+      let at : there.0 ≡ there.0 + 0 = omega arith in
+      record {
+        start = there.0;
+        count = 1;
+        each = λ j low.
+            let e : 0 ≡ 0 + 0 + j = omega (arith, low) in
+            (0, omega arith, subst (λ (k : ℕ). Contains (source_said c (UnitPart b) k).reaches (i - 1, there.0 + 0)) e (subst (λ (t : ℕ). Contains (source_said c (UnitPart b) 0).reaches (i - 1, t)) at here));
+        own = λ t low.
+            let e : there.0 ≡ there.0 + t = omega (arith, low) in
+            (0, omega arith, subst (λ (k : ℕ). Contains (source_said c (UnitPart b) 0).reaches (i - 1, k)) e here);
+      }
+  read-failed after io.NoMemory may q counted = tt
+
+  abbrev read-stop : {old new : List Device} {found after : List FoundRecord} (fault : IoFault) → ReadsSource c (Units whole.from) whole.sectors (record { old = old; new = new; before = found; after = after }) (Err fault)
+      → IsPlain (source_said c (Units whole.from)) 0 whole.sectors old new (Err fault) → IsCounted fault new → StopsAt (source_said c (UnitPart b)) 0 (length (sectors_in bytes)) fault old new
+  read-stop {old = old} {new = new} {after = after} fault p q counted = record {
+    before = 0;
+    failed = 1;
+    some = omega arith;
+    inside = omega (arith, count, some);
+    by = read-failed {old = old} {new = new} after fault p.got.may q counted;
+    others = read-others (Err fault) (Err fault) p q;
+  }
+
   -- it ended by a fault
   pub part-ended : {old new : List Device} {found after : List FoundRecord} (fault : IoFault) → AllWhole old
       → ReadsSource c (Units whole.from) whole.sectors (record { old = old; new = new; before = found; after = after }) (Err fault) → IsPlain (source_said c (Units whole.from)) 0 whole.sectors old new (Err fault)
@@ -201,6 +271,8 @@ module _ (c : Configuration) (b : BlockPart) (whole : WholeUnit) (bytes : List �
     ends = read-ends old new after fault p.got.may (λ is. none-meets (q.memory (ap err_of is)));
     grown = λ is. none-meets (q.memory is);
     exact = λ steady. read-exact old new fault all (p.got.exact steady) (images-kept p.got.moved steady);
+    stops = λ counted. read-stop fault p q counted;
+    behind = λ steady counted. stop-here (source_destination c (UnitPart b)) 0 (sectors_in bytes) p.got.moved.moved.fixed steady (read-stop fault p q counted) (λ j h. absurd (omega (arith, h)));
   }
 
   -- ---- the write
@@ -216,6 +288,14 @@ module _ (c : Configuration) (b : BlockPart) (whole : WholeUnit) (bytes : List �
       ∙ sym (concat-sectors_of u (put_at plain (512 * r) bytes))
       ∙ ap concat put
       ∙ ap (λ (l : List (List ℕ)). concat (spliced (sectors_of u plain) r l)) (sym (sectors_in-of bytes n len))
+
+  -- the first sector of the part failed, as the write of the unit did
+  abbrev written-stop : {old mid new : List Device} {found after : List FoundRecord} {plain : List ℕ} (out : List ℕ) → length (sectors_in out) ≡ whole.sectors → (fault : IoFault)
+      → ReadsSource c (Units whole.from) whole.sectors (record { old = old; new = mid; before = found; after = after }) (Ok plain) → IsPlain (source_said c (Units whole.from)) 0 whole.sectors old mid (Ok tt)
+      → StopsAt (source_said c (Units whole.from)) 0 (length (sectors_in out)) fault mid new → StopsAt (source_said c (UnitPart b)) 0 (length (sectors_in bytes)) fault old new
+  written-stop {plain = plain} out outs fault p q stop =
+      stop-first (source_said c (Units whole.from)) (source_said c (UnitPart b)) 0 0 (length (sectors_in out)) (length (sectors_in bytes)) (omega (arith, count, some)) (λ j h. up-first j (omega (arith, h, outs)))
+      p.got.moved.moved.fixed (read-others (Ok tt) (Ok plain) p q) stop
 
   pub part-written : {old mid new : List Device} {found after : List FoundRecord} {plain out : List ℕ} {result : Result Unit IoFault} → AllWhole old
       → ReadsSource c (Units whole.from) whole.sectors (record { old = old; new = mid; before = found; after = after }) (Ok plain) → IsPlain (source_said c (Units whole.from)) 0 whole.sectors old mid (Ok tt)
@@ -250,8 +330,19 @@ module _ (c : Configuration) (b : BlockPart) (whole : WholeUnit) (bytes : List �
             ∙ sym (part-puts (images_of old)
             ∙ ap (λ (o : Outcome). read_put o (λ below. put_on c on.0 (unit_first of.crypt b.first) (encrypted_sectors of.crypt b.first (changed_unit of.crypt b.first (sectors_in bytes) below))) (images_of old)) under.1))
             (w.exact (AllSteady-kept old mid p.got.moved.moved.fixed steady));
+        stops = stops-first outs result w.stops;
+        behind = λ steady. behind-first outs result steady (w.moved.moved.fixed ∙ p.got.moved.moved.fixed) w.stops;
       }
     where
+      stops-first : length (sectors_in out) ≡ whole.sectors → (result : Result Unit IoFault) → StopsAtFault (source_said c (Units whole.from)) 0 (length (sectors_in out)) mid new result → StopsAtFault (source_said c (UnitPart b)) 0 (length (sectors_in bytes)) old new result
+      stops-first outs (Ok x) h = tt
+      stops-first outs (Err fault) h = λ counted. written-stop out outs fault p q (h counted)
+
+      behind-first : length (sectors_in out) ≡ whole.sectors → (result : Result Unit IoFault) → AllSteady old → map fixed_part new ≡ map fixed_part old → StopsAtFault (source_said c (Units whole.from)) 0 (length (sectors_in out)) mid new result
+          → StopsBehindPut (with_some (source_destination c (UnitPart b))) 0 (sectors_in bytes) old new result
+      behind-first outs (Ok x) steady fixed h = tt
+      behind-first outs (Err fault) steady fixed h = λ counted. stop-here (source_destination c (UnitPart b)) 0 (sectors_in bytes) fixed steady (written-stop out outs fault p q (h counted)) (λ j low. absurd (omega (arith, low)))
+
       later : (result : Result Unit IoFault) → (result ≡ Err io.NoMemory → ⊥) → MayEnd (λ x. SomeOf (λ j. (source_said c (UnitPart b) j).meets x) 0 (length (sectors_in bytes))) mid new result
           → {r w' r' w'' : ℕ} → Moves r w' old mid → Moves r' w'' mid new → MayEnd (λ x. SomeOf (λ j. (source_said c (UnitPart b) j).meets x) 0 (length (sectors_in bytes))) old new result
       later (Ok x) grown h a d = tt

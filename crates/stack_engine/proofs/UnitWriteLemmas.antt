@@ -2,7 +2,7 @@
 use Rattle.std.proofs.Common.{◌≡◌, ℕ, suc, ◌+◌, ◌-◌, ◌*◌, ◌/◌, ◌%◌, ◌<◌, ◌≤◌, List, [], ◌++◌, length, take, drop, Contains, Option, Some, None, Result, Ok, Err, refl, sym, ap, ◌∙◌, subst, arith}
 use Rattle.std.specs.Prelude.{slice_get}
 use Rattle.std.proofs.lemmas.List.{take_all, length-take-le, take-append-drop, append_assoc}
-use Rattle.std.proofs.lemmas.Nat.{div-add-mod', div-mul-add, mod-mul-add}
+use Rattle.std.proofs.lemmas.Nat.{div-add-mod', div-mul-add, mod-mul-add, mod_below}
 use Rattle.std.proofs.Math.Nat.{add-mul, mul_assoc}
 use Rattle.block_device.specs.Device.{Device}
 use Rattle.dm_table.specs.declared.crypt.Crypt.{Crypt}
@@ -24,11 +24,11 @@ use Rattle.stack_rules.specs.Units.{unit_sectors}
 use Rattle.stack_meaning.specs.Units.{encrypted_units, unit_first}
 use Rattle.stack_meaning.specs.Meaning.{Said, crypt_said, said_at}
 use Rattle.stack_meaning.specs.Puts.{Put, done, then_put, Putting, put_on}
-use Rattle.stack_meaning.specs.Leaves.{images_of}
+use Rattle.stack_meaning.specs.Leaves.{images_of, AllSteady}
 use Rattle.stack_meaning.specs.Changes.{reached}
 use Rattle.stack_lines.specs.Cuts.{PutsInSteps}
 use Rattle.stack_lines.specs.Sources.{HasCrypt, AreUnits, source_said}
-use Rattle.stack_lines.specs.Writing.{sectors_in, put_on_line, IsPut, destination_of, Writes, source_destination}
+use Rattle.stack_lines.specs.Writing.{sectors_in, put_on_line, IsPut, StopsAt, StopsAtFault, StopsBehindPut, with_some, destination_of, Writes, source_destination}
 use Rattle.stack_rules.proofs.lemmas.UnitLemmas.{unit_sectors-some, unit-bytes}
 use Rattle.stack_lines.proofs.lemmas.UnitLineLemmas.{cost-beneath, unit-said}
 use Rattle.stack_lines.proofs.lemmas.UnitSourceLemmas.{units-aligned, units-whole}
@@ -37,7 +37,19 @@ use Rattle.stack_lines.proofs.lemmas.UnitPutLemmas.{unit-step, unit-apart, units
 use Rattle.stack_meaning.proofs.lemmas.ChangeLemmas.{AreWritten-more}
 use Rattle.stack_meaning.proofs.lemmas.FoundLemmas.{in-gathered}
 use Rattle.stack_meaning.proofs.lemmas.UnitLemmas.{unit-more, unit-fits, unit-is, unit-length, length-encrypted_units}
+use Rattle.stack_lines.proofs.lemmas.StopLemmas.{IsUp, stop-up, stop-here, PutsNothing}
 use Rattle.stack_lines.proofs.lemmas.WriteRunLemmas.{length-sectors_in, sectors_in-append, MayEnd-as, write_ok, write_err}
+
+-- no units are put by changing nothing
+none-put : (c : Configuration) (b : BlockPart) → PutsNothing (source_destination c (Units b)).puts
+none-put c b s images = go (slice_get (lines_of c b.device.0) b.line)
+  where
+    go : (o : Option Line) → put_on_line c b.device.0 b.line o (b.first + s) [] images ≡ done images
+    go None = refl
+    go (Some line) = refl
+
+pub units-none : (c : Configuration) (b : BlockPart) (images : Images) → (source_destination c (Units b)).puts 0 [] images ≡ done images
+units-none c b images = none-put c b 0 images
 
 module _ (c : Configuration) (b : BlockPart) (bytes : List ℕ) (n : ℕ) (crypt : Crypt) (loaded : IsLoaded c) (has : HasCrypt c b.device.0 b.line crypt) (units : AreUnits c b.device.0 b.line b.first n) (lower : Lower)
     (is : named c crypt.base.device ≡ Some lower) (len : length bytes ≡ 512 * n) where
@@ -73,6 +85,32 @@ module _ (c : Configuration) (b : BlockPart) (bytes : List ℕ) (n : ℕ) (crypt
   meet-up : (a m : ℕ) → a % unit_sectors crypt ≡ 0 → (x : Fault) → SomeOf (λ s. (said_at c lower s).meets x) (unit_first crypt b.first + a) m → SomeOf (λ j. (source_said c (Units b) j).meets x) a m
   meet-up a m even x some = up a m even (λ y. y.meets x) (λ y. y.meets x) (λ s some. some) some
 
+  -- a sector of a unit has what the sector beneath it has
+  up-at : (j : ℕ) → IsUp (said_at c lower (unit_first crypt b.first + j)) (source_said c (Units b) j)
+  up-at j =
+      let u : ℕ = unit_sectors crypt in
+      let w : ℕ = b.first + j in
+      let low : w % u < u = mod_below w u (omega (arith, unit_sectors-some crypt)) in
+      let place : unit_first crypt b.first + j ≡ unit_first crypt w + w % u = omega (arith, div-add-mod' b.first u, aligned, div-add-mod' w u) in
+      let beneath : IsUp (said_at c lower (unit_first crypt b.first + j)) (crypt_said (said_at c lower) crypt w) =
+      subst (λ (t : ℕ). IsUp (said_at c lower t) (crypt_said (said_at c lower) crypt w)) (sym place) (record {
+        meets = λ x h. (w % u, low, h);
+        reaches = λ p h. in-gathered (λ t. (said_at c lower t).reaches) (unit_first crypt w) u (w % u) p low h;
+        encrypts = λ h. tt;
+      }) in
+      subst (λ (x : Said). IsUp (said_at c lower (unit_first crypt b.first + j)) x) (on-line j) beneath
+
+  all-encrypt : (j : ℕ) → (source_said c (Units b) j).encrypts
+  all-encrypt j = subst (λ (x : Said). x.encrypts) (on-line j) tt
+
+  -- units from the a-th sector on stop where those beneath do
+  abbrev stop-raised : (a : ℕ) (xs ys : List (List ℕ)) {fault : IoFault} {old new : List Device} → length xs ≡ length ys → StopsAt (said_at c lower) (unit_first crypt b.first + a) (length ys) fault old new
+      → StopsAt (source_said c (Units b)) a (length xs) fault old new
+  stop-raised a xs ys {fault = fault} {old = old} {new = new} count q =
+      subst (λ (m : ℕ). StopsAt (source_said c (Units b)) a m fault old new) (sym count)
+      (stop-up (said_at c lower) (source_said c (Units b)) (unit_first crypt b.first + a) a (length ys)
+      (λ j h. let at : unit_first crypt b.first + (a + j) ≡ unit_first crypt b.first + a + j = omega arith in subst (λ (s : ℕ). IsUp (said_at c lower s) (source_said c (Units b) (a + j))) at (up-at (a + j))) q)
+
   -- units that were written beneath, from the a-th sector on
   raised : (a : ℕ) (xs ys : List (List ℕ)) {old new : List Device} {result : Result Unit IoFault} → a % unit_sectors crypt ≡ 0 → length xs ≡ length ys
       → ((images : Images) → (source_destination c (Units b)).puts a xs images ≡ put_on c lower (unit_first crypt b.first + a) ys images)
@@ -84,7 +122,17 @@ module _ (c : Configuration) (b : BlockPart) (bytes : List ℕ) (n : ℕ) (crypt
         (λ x some. subst (λ (m : ℕ). SomeOf (λ j. (source_said c (Units b) j).meets x) a m) (sym count) (meet-up a (length ys) even x some)) p.ends;
     grown = p.grown;
     exact = λ steady. subst (λ (q : Put). IsPut q (images_of new) result) (sym (puts (images_of old))) (p.exact steady);
+    stops = stops-up result p.stops;
+    behind = λ steady. behind-up result steady p.stops;
   }
+    where
+      stops-up : (result : Result Unit IoFault) → StopsAtFault (said_at c lower) (unit_first crypt b.first + a) (length ys) old new result → StopsAtFault (source_said c (Units b)) a (length xs) old new result
+      stops-up (Ok x) h = tt
+      stops-up (Err fault) h = λ counted. stop-raised a xs ys count (h counted)
+
+      behind-up : (result : Result Unit IoFault) → AllSteady old → StopsAtFault (said_at c lower) (unit_first crypt b.first + a) (length ys) old new result → StopsBehindPut (with_some (source_destination c (Units b))) a xs old new result
+      behind-up (Ok x) steady h = tt
+      behind-up (Err fault) steady h = λ counted. stop-here (source_destination c (Units b)) a xs p.moved.moved.fixed steady (stop-raised a xs ys count (h counted)) (λ j low. all-encrypt (a + j))
 
   enc-length : length (encrypted_units crypt (b.first / unit_sectors crypt) bytes) ≡ 512 * n
   enc-length = length-encrypted_units crypt bytes n len whole (b.first / unit_sectors crypt)
@@ -147,7 +195,7 @@ module _ (c : Configuration) (b : BlockPart) (bytes : List ℕ) (n : ℕ) (crypt
         ∙ ap (λ (l : List (List ℕ)). l ++ sectors_in rest) (front-more c b.device.0 b.line crypt has lower is b.first bytes n aligned len whole i fits) in
         let grouped : xs ++ (ys ++ sectors_in rest) ≡ (xs ++ ys) ++ sectors_in rest = sym (append_assoc xs ys (sectors_in rest)) in
         subst (λ (l : List (List ℕ)). Writes (source_destination c (Units b)) 0 l old new (Err fault)) (grouped ∙ sym all)
-        (write_err (source_destination c (Units b)) 0 xs ys p (sectors_in rest) fault (parts (ys ++ sectors_in rest)) (behind rest all) (next q))
+        (write_err (source_destination c (Units b)) 0 xs ys p (sectors_in rest) fault (none-put c b) parts (behind rest all) (next q))
       where
         behind : (rest : List ℕ) → sectors_in bytes ≡ (sectors_in (take (512 * (i * unit_sectors crypt)) bytes) ++ sectors_in (unit (sector_size crypt) bytes i)) ++ sectors_in rest → (images : Images)
             → (source_destination c (Units b)).puts (0 + length (sectors_in (take (512 * (i * unit_sectors crypt)) bytes))) (sectors_in (unit (sector_size crypt) bytes i) ++ sectors_in rest) images
@@ -164,14 +212,6 @@ module _ (c : Configuration) (b : BlockPart) (bytes : List ℕ) (n : ℕ) (crypt
             ∙ unit-apart c b.device.0 b.line crypt has lower is b.first bytes n aligned len whole i one (sectors_in rest) images long
             ∙ ap (λ (k : ℕ). then_put (on_line k (sectors_in one) images) (on_line (b.first + i * u + length (sectors_in one)) (sectors_in rest))) (sym at)
             ∙ ap (λ (k : ℕ). then_put (on_line (b.first + (0 + length (sectors_in (take (512 * (i * u)) bytes)))) (sectors_in one) images) (on_line k (sectors_in rest))) to
-
--- no units are put by changing nothing
-pub units-none : (c : Configuration) (b : BlockPart) (images : Images) → (source_destination c (Units b)).puts 0 [] images ≡ done images
-units-none c b images = go (slice_get (lines_of c b.device.0) b.line)
-  where
-    go : (o : Option Line) → put_on_line c b.device.0 b.line o (b.first + 0) [] images ≡ done images
-    go None = refl
-    go (Some line) = refl
 
 -- ---- the unit at a place of some bytes
 

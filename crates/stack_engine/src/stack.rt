@@ -133,7 +133,8 @@ impl<D: BlockDev> Stack<D> {
         device_bytes(&self.config, &mut self.reader, d, first, out)
     }
 
-    /// Writes whole sectors of a device, 1 to 128, from `first` on, in rising order up to the first fault. They lie
+    /// Writes whole sectors of a device, 1 to 128, from `first` on, in rising order up to the first fault: `stops` in
+    /// `any` says that nothing behind it was asked for, `behind` in `steady` that what stands before it is put. They lie
     /// inside the device, which may be written. `exact` in `steady` is what the stack means; `any` holds whatever the
     /// leaves answer. It takes memory only where a `crypt` line is on the way, once and before the first access.
     pub fn write_piece(&mut self, d: DevId, first: u64, bytes: &[u8]) -> Result<(), IoFault>

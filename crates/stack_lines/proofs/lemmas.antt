@@ -6,6 +6,7 @@ pub mod ReadRunLemmas
 pub mod SizeLemmas
 pub mod SourceLemmas
 pub mod StandingLemmas
+pub mod StopLemmas
 pub mod UnitLineLemmas
 pub mod UnitPutLemmas
 pub mod UnitReadLemmas

@@ -1,5 +1,6 @@
 -- Contracts of writes.
-use Rattle.std.specs.Prelude.{◌≡◌, ℕ, ◌+◌, ◌-◌, ◌*◌, ◌/◌, ◌%◌, ◌<◌, ◌≤◌, ◌⊎◌, IsTrue, List, [], ◌++◌, length, drop, slice_get, Option, Some, None, Result, Ok, Err}
+use Rattle.std.specs.Prelude.{◌≡◌, ℕ, ◌+◌, ◌-◌, ◌*◌, ◌/◌, ◌%◌, ◌^◌, ◌<◌, ◌≤◌, ◌⊎◌, IsTrue, List, [], ◌∷◌, ◌++◌, length, take, drop, slice_get, Contains, Option, Some, None, Result, Ok, Err, IfErr}
+use Rattle.std.specs.List.{slice_index_or}
 use Rattle.block_device.specs.Device.{Device, sectors_of}
 use Rattle.dm_table.specs.declared.table.Line.{Line}
 use Rattle.stack_rules.specs.declared.lower.Lower.{Lower}
@@ -14,11 +15,11 @@ use Rattle.stack_lines.specs.declared.source.Source.{Source}
 use Rattle.stack_lines.specs.declared.source.Source.TheVariants.{Below, Units, UnitPart, Zeros, Fails, Block, Blocks}
 use Rattle.stack_meaning.specs.Sectors.{SomeOf}
 use Rattle.stack_meaning.specs.declared.fault.Fault.{Fault}
-use Rattle.stack_meaning.specs.Outcomes.{error_target, Images}
+use Rattle.stack_meaning.specs.Outcomes.{error_target, Images, LeafSector}
 use Rattle.stack_meaning.specs.Meaning.{Said, said_at}
 use Rattle.stack_meaning.specs.Puts.{Put, done, stopped, Putting, none_put, runs_from, put_runs, together, line_put, put_on}
 use Rattle.stack_meaning.specs.Leaves.{images_of, AllSteady, LeafFailed}
-use Rattle.stack_meaning.specs.Changes.{reached, AreWritten}
+use Rattle.stack_meaning.specs.Changes.{reached, KeepsOthers, AreWritten, DifferWithin}
 use Rattle.stack_lines.specs.Sources.{source_said, cost_beneath}
 
 -- the bytes of whole sectors, at least one
@@ -71,12 +72,74 @@ pub record IsBufferFor (said : ℕ → Said) (first : ℕ) (bytes buffer : List 
   pub held : AreHeld said first (drop (length buffer) bytes) buffer
   pub same : drop (length buffer) bytes ++ buffer ≡ bytes
 
+-- ---- where a write stops that a fault ends
+
+-- n sectors from s on are those of one call of leaf i's device: each reaches one of so many sectors of the leaf, which
+-- stand side by side, and each of these is reached.
+pub record AreOneCall (i : ℕ) (reaches : ℕ → List LeafSector) (s n : ℕ) : Type 0 where
+  pub start : ℕ
+  pub count : ℕ
+  pub each : (j : ℕ) → j < n → SomeOf (λ t. Contains (reaches (s + j)) (i, t)) start count
+  pub own : (t : ℕ) → t < count → reached reaches s n (i, start + t)
+
+-- n sectors from s on failed by the fault: each meets it, or they are those of the call that failed
+abbrev pub FailedBy : (ℕ → Said) → IoFault → ℕ → ℕ → Type 0
+FailedBy said (io.Stack fault) s n = (j : ℕ) → j < n → (said (s + j)).meets fault
+FailedBy said (io.Device i) s n = AreOneCall (i - 1) (λ t. (said t).reaches) s n
+FailedBy said io.NoMemory s n = Unit {0}
+
+-- Whatever the leaves answer, of n sectors from the first on: behind so many of them some failed, and what only later
+-- ones reach is as it was. So is a leaf that only later ones reach, with its counters: it wasn't asked.
+pub record StopsAt (said : ℕ → Said) (first n : ℕ) (fault : IoFault) (old new : List Device) : Type 0 where
+  pub before : ℕ
+  pub failed : ℕ
+  pub some : 0 < failed
+  pub inside : before + failed ≤ n
+  pub by : FailedBy said fault (first + before) failed
+  pub others : KeepsOthers (reached (λ s. (said s).reaches) first (before + failed)) old new
+
+-- Over steady leaves: what is left is what a put of the first ones leaves, but for what the next ones reach, up to the
+-- last that failed. Those of them before the ones that failed are encrypted, and went down together with these.
+pub record StopsBehind (to : Destination) (first : ℕ) (sectors : List (List ℕ)) (fault : IoFault) (old new : List Device) : Type 0 where
+  pub stop : StopsAt to.said first (length sectors) fault old new
+  pub put : ℕ
+  pub within : put ≤ stop.before
+  pub together : (j : ℕ) → put ≤ j → j < stop.before → (to.said (first + j)).encrypts
+  pub images : Images
+  pub is : to.puts first (take put sectors) (images_of old) ≡ done images
+  pub others : DifferWithin (reached (λ s. (to.said s).reaches) (first + put) (stop.before + stop.failed - put)) images (images_of new)
+
+-- the count of failures of the leaf that the fault names, if it names one, isn't at its end
+abbrev pub IsCounted : IoFault → List Device → Type 0
+IsCounted (io.Stack fault) leaves = Unit {0}
+IsCounted (io.Device i) leaves = (d : Device) → (slice_index_or leaves (i - 1) d).failures < 2 ^ 64 - 1
+IsCounted io.NoMemory leaves = Unit {0}
+
+-- by an answer
+abbrev pub StopsAtFault : (ℕ → Said) → ℕ → ℕ → List Device → List Device → Result Unit IoFault → Type 0
+StopsAtFault said first n old new result = IfErr result (λ fault. IsCounted fault new → StopsAt said first n fault old new)
+
+abbrev pub StopsBehindPut : Destination → ℕ → List (List ℕ) → List Device → List Device → Result Unit IoFault → Type 0
+StopsBehindPut to first sectors old new result = IfErr result (λ fault. IsCounted fault new → StopsBehind to first sectors fault old new)
+
+-- no sectors are put by changing nothing, on an `error` line too
+abbrev pub put_some : (ℕ → Putting) → ℕ → Putting
+put_some puts s [] images = done images
+put_some puts s (x ∷ xs) images = puts s (x ∷ xs) images
+
+abbrev pub with_some : Destination → Destination
+with_some to = record { said = to.said; puts = put_some to.puts; cost = to.cost }
+
+-- ---- one write
+
 -- a write of sectors from the first on, all of whose growths were made before it
 pub record Writes (to : Destination) (first : ℕ) (sectors : List (List ℕ)) (old new : List Device) (result : Result Unit IoFault) : Type 0 where
   pub moved : AreWritten (reached (λ s. (to.said s).reaches) first (length sectors)) old (length sectors * to.cost) new
   pub ends : MayEnd (λ fault. SomeOf (λ s. (to.said s).meets fault) first (length sectors)) old new result
   pub grown : result ≡ Err io.NoMemory → ⊥
   pub exact : AllSteady old → IsPut (to.puts first sectors (images_of old)) (images_of new) result
+  pub stops : StopsAtFault to.said first (length sectors) old new result
+  pub behind : AllSteady old → StopsBehindPut (with_some to) first sectors old new result
 
 -- ---- what the engine writes as one run
 

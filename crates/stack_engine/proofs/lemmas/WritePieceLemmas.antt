@@ -1,5 +1,5 @@
 -- One piece of a write as callers see it, and pieces one after another.
-use Rattle.std.proofs.Common.{◌≡◌, ℕ, ◌+◌, ◌*◌, ◌/◌, ◌%◌, ◌≤◌, List, [], ◌++◌, length, Result, Ok, Err, refl, ◌∙◌, subst, append-nil, arith}
+use Rattle.std.proofs.Common.{◌≡◌, ℕ, ◌+◌, ◌*◌, ◌/◌, ◌%◌, ◌<◌, ◌≤◌, List, [], ◌++◌, length, Result, Ok, Err, refl, ◌∙◌, subst, append-nil, arith}
 use Rattle.std.proofs.lemmas.List.{length-append}
 use Rattle.std.proofs.Math.Nat.{add-mul, mul-le-mul_right}
 use Rattle.stack_rules.specs.Records.{Configuration}
@@ -10,15 +10,17 @@ use Rattle.stack_meaning.specs.declared.fault.Fault.TheVariants as why
 use Rattle.stack_meaning.specs.declared.fault.IoFault.TheVariants as io
 use Rattle.stack_meaning.specs.May.{MayFault}
 use Rattle.stack_meaning.specs.Changes.{reached, AreWritten, AllWhole}
-use Rattle.stack_lines.specs.Writing.{sectors_in, MayEnd, destination_of, Writes}
+use Rattle.stack_lines.specs.Writing.{sectors_in, MayEnd, destination_of, StopsAt, StopsAtFault, StopsBehindPut, with_some, Writes}
 use Rattle.stack_engine.specs.Stacks.{StackRecord, IsSound}
 use Rattle.stack_meaning.specs.declared.fault.Fault.{Fault}
 use Rattle.stack_meaning.specs.Outcomes.{error_target, LeafSector}
 use Rattle.stack_meaning.specs.Meaning.{said_at}
 use Rattle.stack_engine.specs.WritePieces.{piece_reached, AnyWrite, EachWrite, WritesInPieces, nothing, next, ends}
 use Rattle.stack_meaning.proofs.lemmas.LeafListLemmas.{leaves_kept, failed_later}
-use Rattle.stack_meaning.proofs.lemmas.ChangeLemmas.{differ-within, reached-first, reached-later, AreWritten-none, AreWritten-then, AreWritten-more}
+use Rattle.stack_meaning.proofs.lemmas.ChangeLemmas.{KeepsOthers-none, differ-within, reached-first, reached-later, AreWritten-none, AreWritten-then, AreWritten-more}
 use Rattle.stack_meaning.proofs.lemmas.FoundLemmas.{SomeOf-more}
+use Rattle.stack_lines.proofs.lemmas.PutLemmas.{put-none}
+use Rattle.stack_lines.proofs.lemmas.StopLemmas.{stop-here, stop-later, behind-of}
 use Rattle.stack_lines.proofs.lemmas.WriteRunLemmas.{length-sectors_in}
 
 -- a write of bytes to a mapped device
@@ -35,8 +37,33 @@ each-write {w = w} {w' = w'} d first bytes result config whole p =
       whole = whole;
       moved = subst (λ (n : ℕ). AreWritten (piece_reached w.config d first n) w.leaves (n * write_cost w.config (mapped d)) w'.leaves) count p.moved;
       ends = subst (λ (n : ℕ). MayEnd (MayFault w.config (mapped d) first n) w.leaves w'.leaves result) count p.ends;
+      stops = subst (λ (n : ℕ). StopsAtFault (said_at w.config (mapped d)) first n w.leaves w'.leaves result) count p.stops;
     } in
-    record { any = any; steady = λ steady. record { any = any; exact = p.exact steady; others = differ-within w.leaves w'.leaves any.moved.moved.fixed steady any.moved.others } }
+    record { any = any; steady = λ steady. record { any = any; exact = p.exact steady; others = differ-within w.leaves w'.leaves any.moved.moved.fixed steady any.moved.others; behind = behind-all result (p.behind steady) } }
+  where
+    behind-all : (result : Result Unit IoFault) → StopsBehindPut (with_some (destination_of w.config (mapped d))) first (sectors_in bytes) w.leaves w'.leaves result
+        → StopsBehindPut (destination_of w.config (mapped d)) first (sectors_in bytes) w.leaves w'.leaves result
+    behind-all (Ok x) h = tt
+    behind-all (Err fault) h = λ counted. behind-of (destination_of w.config (mapped d)) first (sectors_in bytes) (put-none w.config (mapped d)) (h counted)
+
+-- want of memory, before anything was written
+abbrev none-stop : (w : StackRecord) (d first n : ℕ) → 0 < n → StopsAt (said_at w.config (mapped d)) first n io.NoMemory w.leaves w.leaves
+none-stop w d first n some = record { before = 0; failed = n; some = some; inside = omega arith; by = tt; others = KeepsOthers-none _ w.leaves }
+
+pub none-written : (w : StackRecord) (d first : ℕ) (bytes : List ℕ) → 0 < length bytes / 512 → EachWrite w d first bytes (Err io.NoMemory) w
+none-written w d first bytes some = record {
+  any = any;
+  steady = λ steady. record {
+    any = any;
+    exact = tt;
+    others = record { leaves = refl; sizes = λ i. refl; sector = λ i t h. refl };
+    behind = λ counted. behind-of (destination_of w.config (mapped d)) first (sectors_in bytes) (put-none w.config (mapped d))
+        (stop-here (destination_of w.config (mapped d)) first (sectors_in bytes) refl steady (none-stop w d first (length (sectors_in bytes)) (omega (arith, some, length-sectors_in bytes))) (λ j h. absurd (omega (arith, h))));
+  };
+}
+  where
+    any : AnyWrite w d first bytes (Err io.NoMemory) w
+    any = record { config = refl; whole = λ h. h; moved = AreWritten-none _ _ w.leaves; ends = refl; stops = λ counted. none-stop w d first (length bytes / 512) some }
 
 pub write-sound : (c : Configuration) {w w' : StackRecord} {d first : ℕ} {bytes : List ℕ} {result : Result Unit IoFault} → IsSound c w.leaves → EachWrite w d first bytes result w' → IsSound c w'.leaves
 write-sound c {w = w} {w' = w'} s p = record { loaded = s.loaded; serve = leaves_kept c.leaves w.leaves w'.leaves p.any.moved.moved.fixed s.serve }
@@ -52,7 +79,7 @@ fault_of fault e = cc
 -- nothing was written yet
 pub write-none : (w : StackRecord) (d first : ℕ) → WritesInPieces w d first [] (Ok tt) w
 write-none w d first = record {
-  any = record { config = refl; whole = λ h. h; moved = AreWritten-none _ _ w.leaves; ends = tt };
+  any = record { config = refl; whole = λ h. h; moved = AreWritten-none _ _ w.leaves; ends = tt; stops = tt };
   pieces = nothing;
 }
 
@@ -80,14 +107,20 @@ module _ {w w' w'' : StackRecord} (d first : ℕ) (x y z : List ℕ) (even : len
       let most : (length x / 512 + length y / 512) * k ≤ n * k = mul-le-mul_right k (fits x y z even) in
       AreWritten-more (λ q all. all) (omega (arith, most, add-mul (length x / 512) (length y / 512) k)) (AreWritten-then front back)
 
-  any-then : {result : Result Unit IoFault} → (result ≡ Err io.NoMemory → ⊥) → AnyWrite w' d (first + length x / 512) y result w'' → AnyWrite w d first (x ++ (y ++ z)) result w''
+  pub any-then : {result : Result Unit IoFault} → (result ≡ Err io.NoMemory → ⊥) → AnyWrite w' d (first + length x / 512) y result w'' → AnyWrite w d first (x ++ (y ++ z)) result w''
   any-then {result = result} grown q = record {
     config = q.config ∙ p.config;
     whole = λ h. q.whole (p.whole h);
     moved = both-moved q;
     ends = later result grown (subst (λ (c : Configuration). MayEnd (MayFault c (mapped d) (first + length x / 512) (length y / 512)) w'.leaves w''.leaves result) p.config q.ends);
+    stops = stops-later result (subst (λ (c : Configuration). StopsAtFault (said_at c (mapped d)) (first + length x / 512) (length y / 512) w'.leaves w''.leaves result) p.config q.stops);
   }
     where
+      stops-later : (result : Result Unit IoFault) → StopsAtFault (said_at w.config (mapped d)) (first + length x / 512) (length y / 512) w'.leaves w''.leaves result
+          → StopsAtFault (said_at w.config (mapped d)) first (length (x ++ (y ++ z)) / 512) w.leaves w''.leaves result
+      stops-later (Ok u) h = tt
+      stops-later (Err fault) h = λ counted. stop-later first (length x / 512) (length y / 512) (length (x ++ (y ++ z)) / 512) (fits x y z even) p.moved.moved.fixed p.moved.others (h counted)
+
       more : (fault : Fault) → MayFault w.config (mapped d) (first + length x / 512) (length y / 512) fault → MayFault w.config (mapped d) first (length (x ++ (y ++ z)) / 512) fault
       more fault h = SomeOf-more (λ s. (said_at w.config (mapped d) s).meets fault) first (length x / 512) (length y / 512) (length (x ++ (y ++ z)) / 512) (fits x y z even) h
 

@@ -9,16 +9,17 @@ use Rattle.stack_rules.specs.Descend.{descend, write_cost}
 use Rattle.stack_meaning.specs.declared.fault.IoFault.{IoFault}
 use Rattle.stack_meaning.specs.declared.fault.IoFault.TheVariants as io
 use Rattle.stack_meaning.specs.Reading.{IsPlain}
-use Rattle.stack_meaning.specs.Outcomes.{zero_sector, Images}
+use Rattle.stack_meaning.specs.Outcomes.{LeafSector, zero_sector, Images}
 use Rattle.stack_meaning.specs.Meaning.{Said, said_at}
 use Rattle.stack_meaning.specs.Puts.{done, leaf_put, put_on}
 use Rattle.stack_meaning.specs.Leaves.{images_of, fixed_part, LeafFailed}
 use Rattle.stack_meaning.specs.Changes.{LeafSectors, reached, KeepsOthers, AreWritten}
-use Rattle.stack_lines.specs.Writing.{destination_of, Writes}
+use Rattle.stack_lines.specs.Writing.{AreOneCall, StopsAt, destination_of, Writes}
 use Rattle.stack_meaning.proofs.lemmas.CostLemmas.{write_cost-leaf}
 use Rattle.stack_meaning.proofs.lemmas.LeafLemmas.{same_map, each_leaf, counts_one, image_at, steady_at, LeafFailed-device}
 use Rattle.stack_meaning.proofs.lemmas.SectorLemmas.{said_at-leaf}
 use Rattle.stack_meaning.proofs.lemmas.ChangeLemmas.{AreWritten-more}
+use Rattle.stack_lines.proofs.lemmas.StopLemmas.{stop-here}
 
 -- a sector outside the range that was written
 same_outside : (new old : List (List ℕ)) (first n t : ℕ) → take first new ≡ take first old → drop (first + n) new ≡ drop (first + n) old → ((j : ℕ) → j < n → t ≡ first + j → ⊥) → get_or new t zero_sector ≡ get_or old t zero_sector
@@ -89,9 +90,12 @@ put-leaf : (c : Configuration) (i s : ℕ) (sectors : List (List ℕ)) (images :
 unfolding descend
 put-leaf c i s sectors images = refl
 
+leaf-has : (c : Configuration) (i s : ℕ) → Contains (said_at c (Leaf i) s).reaches (i, s)
+leaf-has c i s = subst (λ (x : Said). Contains x.reaches (i, s)) (sym (said_at-leaf c i s)) (0, omega arith, refl)
+
 -- it reaches each of them
 leaf-reaches : (c : Configuration) (i first n j : ℕ) → j < n → reached (λ s. (said_at c (Leaf i) s).reaches) first n (i, first + j)
-leaf-reaches c i first n j h = (j, h, subst (λ (x : Said). Contains x.reaches (i, first + j)) (sym (said_at-leaf c i (first + j))) (0, omega arith, refl))
+leaf-reaches c i first n j h = (j, h, leaf-has c i (first + j))
 
 -- a read of a leaf keeps the others
 pub leaf-plain : {X : Type 0} (state : X → Device) (devices : List X) (i : ℕ) (c : Configuration) (first n : ℕ) → 0 < n → (new : X) (result : Result Unit IoFault) → (result ≡ Err io.NoMemory → ⊥)
@@ -125,7 +129,32 @@ module _ {X : Type 0} (state : X → Device) (whole : (y : X) → IsWhole (state
         ∙ ap (λ (l : List (List ℕ)). done (set images i (spliced l first sectors))) (image_at state devices i x there)
         ∙ ap (λ (l : List (List ℕ)). done (set images i l)) (sym (image (steady_at state devices i x there steady)))
         ∙ ap done (sym (ap images_of (map-set state devices i new) ∙ map-set (λ (d : Device). d.image) (map state devices) i (state new)));
+    stops = tt;
+    behind = λ steady. tt;
   }
+
+  -- the sectors of a call of the leaf's device that failed
+  abbrev leaf-stop : (state (get_or devices i x)).failures ≤ (state new).failures → IsWritten (state (get_or devices i x)) first (length sectors) false (state new)
+      → StopsAt (said_at c (Leaf i)) first (length sectors) (io.Device (i + 1)) (map state devices) (map state (set devices i new))
+  leaf-stop grows r =
+      let number : i ≡ i + 1 - 1 = omega arith in
+      let from : first ≡ first + 0 = omega arith in
+      let all : 0 + length sectors ≡ length sectors = omega arith in
+      let reaches : ℕ → List LeafSector = λ s. (said_at c (Leaf i) s).reaches in
+      let call : AreOneCall i reaches first (length sectors) = record {
+        start = first;
+        count = length sectors;
+        each = λ j h. (j, h, leaf-has c i (first + j));
+        own = λ t h. leaf-reaches c i first (length sectors) t h;
+      } in
+      record {
+        before = 0;
+        failed = length sectors;
+        some = some;
+        inside = omega arith;
+        by = subst (λ (k : ℕ). AreOneCall k reaches (first + 0) (length sectors)) number (subst (λ (s : ℕ). AreOneCall i reaches s (length sectors)) from call);
+        others = subst (λ (n : ℕ). KeepsOthers (reached reaches first n) (map state devices) (map state (set devices i new))) (sym all) (leaf-moved false grows r).others;
+      }
 
   pub leaf-failed : (state (get_or devices i x)).failures ≤ (state new).failures → IsWritten (state (get_or devices i x)) first (length sectors) false (state new)
       → HasFailed (state (get_or devices i x)) (state new) → (IsTrue (state (get_or devices i x)).never_fails → ⊥)
@@ -137,4 +166,6 @@ module _ {X : Type 0} (state : X → Device) (whole : (y : X) → IsWhole (state
         ends = (omega arith, subst (λ (k : ℕ). LeafFailed k (map state devices) (map state (set devices i new))) number (LeafFailed-device state devices i x there new failed unsure));
         grown = λ e. cc;
         exact = λ steady. tt;
+        stops = λ counted. leaf-stop grows r;
+        behind = λ steady counted. stop-here (destination_of c (Leaf i)) first sectors (leaf-moved false grows r).moved.fixed steady (leaf-stop grows r) (λ j h. absurd (omega (arith, h)));
       }

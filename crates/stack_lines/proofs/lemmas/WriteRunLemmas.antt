@@ -1,5 +1,5 @@
 -- What writes did, one after another.
-use Rattle.std.proofs.Common.{◌≡◌, ℕ, ◌+◌, ◌*◌, ◌/◌, ◌%◌, ◌<◌, ◌≤◌, List, [], ◌++◌, length, Result, Ok, Err, Contains, refl, sym, ap, ◌∙◌, subst, arith}
+use Rattle.std.proofs.Common.{◌≡◌, ℕ, ◌+◌, ◌*◌, ◌/◌, ◌%◌, ◌<◌, ◌≤◌, List, [], ◌++◌, length, take, Result, Ok, Err, Contains, refl, sym, ap, ◌∙◌, subst, arith}
 use Rattle.std.proofs.lemmas.List.{length-append}
 use Rattle.std.proofs.Math.Nat.{mul-le-mul_left, mul-le-mul_right}
 use Rattle.block_device.specs.Device.{Device, sectors_of}
@@ -15,9 +15,10 @@ use Rattle.stack_meaning.specs.Leaves.{images_of, Moves}
 use Rattle.stack_meaning.specs.Meaning.{Said}
 use Rattle.stack_meaning.specs.Puts.{Put, done, then_put}
 use Rattle.stack_meaning.specs.Changes.{reached, AreWritten}
-use Rattle.stack_lines.specs.Writing.{sectors_in, MayEnd, IsPut, Destination, Writes}
+use Rattle.stack_lines.specs.Writing.{sectors_in, MayEnd, IsPut, Destination, StopsAtFault, StopsBehindPut, put_some, with_some, Writes}
 use Rattle.stack_meaning.proofs.lemmas.LeafListLemmas.{AllSteady-kept, failed_later}
 use Rattle.stack_meaning.proofs.lemmas.FoundLemmas.{SomeOf-more}
+use Rattle.stack_lines.proofs.lemmas.StopLemmas.{IsUp, up-same, stop-up, stop-later, PutsNothing, behind-later, behind-as}
 use Rattle.stack_meaning.proofs.lemmas.ChangeLemmas.{reached-first, reached-later, AreWritten-none, AreWritten-then, AreWritten-more}
 
 -- ---- bytes
@@ -72,6 +73,8 @@ write_none to first leaves empty = record {
   ends = tt;
   grown = λ e. cc;
   exact = λ steady. empty (images_of leaves);
+  stops = tt;
+  behind = λ steady. tt;
 }
 
 module _ (to : Destination) (first : ℕ) (xs ys : List (List ℕ)) {old mid new : List Device} (p : Writes to first xs old mid (Ok tt)) where
@@ -93,11 +96,13 @@ module _ (to : Destination) (first : ℕ) (xs ys : List (List ℕ)) {old mid new
         parts (images_of old)
         ∙ ap (λ (x : Put). then_put x (to.puts (first + length xs) ys)) (p.exact steady)
         ∙ q.exact (AllSteady-kept old mid p.moved.moved.fixed steady);
+    stops = tt;
+    behind = λ steady. tt;
   }
 
   -- the next ones, which a fault ends before the last ones
-  pub write_err : (zs : List (List ℕ)) (fault : IoFault) → PutsInParts to first xs (ys ++ zs) → PutsInParts to (first + length xs) ys zs → Writes to (first + length xs) ys mid new (Err fault) → Writes to first (xs ++ (ys ++ zs)) old new (Err fault)
-  write_err zs fault parts more q =
+  pub write_err : (zs : List (List ℕ)) (fault : IoFault) → PutsNothing to.puts → ((l : List (List ℕ)) → PutsInParts to first xs l) → PutsInParts to (first + length xs) ys zs → Writes to (first + length xs) ys mid new (Err fault) → Writes to first (xs ++ (ys ++ zs)) old new (Err fault)
+  write_err zs fault none parts more q =
       let fits : length xs + length ys ≤ length (xs ++ (ys ++ zs)) = omega (arith, length-append xs (ys ++ zs), length-append ys zs) in
       record {
         moved = both-written (length (xs ++ (ys ++ zs))) fits q;
@@ -106,11 +111,14 @@ module _ (to : Destination) (first : ℕ) (xs ys : List (List ℕ)) {old mid new
         exact = λ steady.
             let rest : Images → Put = to.puts (first + length xs + length ys) zs in
             let same : then_put (to.puts (first + length xs) ys (images_of mid)) rest ≡ to.puts first (xs ++ (ys ++ zs)) (images_of old) = sym (
-            parts (images_of old)
+            parts (ys ++ zs) (images_of old)
             ∙ ap (λ (x : Put). then_put x (to.puts (first + length xs) (ys ++ zs))) (p.exact steady)
             ∙ more (images_of mid)) in
             subst (λ (x : Put). IsPut x (images_of new) (Err fault)) same
             (put-ends (to.puts (first + length xs) ys (images_of mid)) rest (images_of new) fault (q.exact (AllSteady-kept old mid p.moved.moved.fixed steady)));
+        stops = λ counted. stop-later first (length xs) (length ys) (length (xs ++ (ys ++ zs))) fits p.moved.moved.fixed p.moved.others (q.stops counted);
+        behind = λ steady counted.
+            behind-later to none first xs ys zs p.moved.moved.fixed p.moved.others (p.exact steady) parts (q.behind (AllSteady-kept old mid p.moved.moved.fixed steady) counted);
       }
 
 -- ---- sectors written to one place are written to another
@@ -119,6 +127,7 @@ module _ (to : Destination) (first : ℕ) (xs ys : List (List ℕ)) {old mid new
 pub record PutsAlike (to to' : Destination) (first first' : ℕ) (sectors : List (List ℕ)) : Type 1 where
   pub said : (j : ℕ) → j < length sectors → to.said (first + j) ≡ to'.said (first' + j)
   pub puts : (images : Images) → to.puts first sectors images ≡ to'.puts first' sectors images
+  pub fronts : (k : ℕ) (images : Images) → put_some to.puts first (take k sectors) images ≡ put_some to'.puts first' (take k sectors) images
   pub cost : to.cost ≤ to'.cost
 
 pub write_as : {to to' : Destination} {first first' : ℕ} {sectors : List (List ℕ)} {old new : List Device} {result : Result Unit IoFault} → PutsAlike to to' first first' sectors
@@ -128,4 +137,17 @@ write_as {to = to} {to' = to'} {first = first} {first' = first'} {sectors = sect
   ends = MayEnd-as (λ x. SomeOf (λ s. (to.said s).meets x) first (length sectors)) (λ x. SomeOf (λ s. (to'.said s).meets x) first' (length sectors)) old new result (λ x some. (some.0, some.1, subst (λ (s : Said). s.meets x) (alike.said some.0 some.1) some.2)) p.ends;
   grown = p.grown;
   exact = λ steady. subst (λ (x : Put). IsPut x (images_of new) result) (alike.puts (images_of old)) (p.exact steady);
+  stops = stops-as result p.stops;
+  behind = λ steady. behind-all result (p.behind steady);
 }
+  where
+    up : (j : ℕ) → j < length sectors → IsUp (to.said (first + j)) (to'.said (first' + j))
+    up j h = up-same (to.said (first + j)) (to'.said (first' + j)) (alike.said j h)
+
+    stops-as : (result : Result Unit IoFault) → StopsAtFault to.said first (length sectors) old new result → StopsAtFault to'.said first' (length sectors) old new result
+    stops-as (Ok x) h = tt
+    stops-as (Err fault) h = λ counted. stop-up to.said to'.said first first' (length sectors) up (h counted)
+
+    behind-all : (result : Result Unit IoFault) → StopsBehindPut (with_some to) first sectors old new result → StopsBehindPut (with_some to') first' sectors old new result
+    behind-all (Ok x) h = tt
+    behind-all (Err fault) h = λ counted. behind-as to to' first first' sectors up alike.fronts (h counted)

@@ -1,5 +1,5 @@
 -- What is written to where a device's sectors lie is written to the device.
-use Rattle.std.proofs.Common.{◌≡◌, ℕ, ◌+◌, ◌-◌, ◌/◌, ◌%◌, ◌*◌, ◌<◌, ◌≤◌, ◌⊎◌, inl, inr, true, false, IsTrue, List, [], ◌++◌, length, Option, Result, Ok, Err, refl, sym, ap, ◌∙◌, subst, arith}
+use Rattle.std.proofs.Common.{◌≡◌, ℕ, ◌+◌, ◌-◌, ◌/◌, ◌%◌, ◌*◌, ◌<◌, ◌≤◌, ◌⊎◌, inl, inr, true, false, IsTrue, List, [], ◌∷◌, ◌++◌, length, take, Option, Result, Ok, Err, refl, sym, ap, ◌∙◌, subst, arith}
 use Rattle.block_device.specs.Device.{Device}
 use Rattle.dm_table.specs.declared.table.Line.{Line}
 use Rattle.dm_table.specs.declared.table.Target.{Target}
@@ -20,19 +20,21 @@ use Rattle.stack_lines.specs.declared.source.BlockPart.{BlockPart}
 use Rattle.stack_rules.proofs.lemmas.UnitLemmas.{unit_sectors-some}
 use Rattle.stack_lines.proofs.lemmas.UnitLineLemmas.{unit-line, cost-beneath}
 use Rattle.std.specs.Prelude.{slice_get}
+use Rattle.std.proofs.lemmas.List.{length-take}
 use Rattle.std.proofs.Math.Nat.{mul-le-mul_right}
 use Rattle.stack_meaning.specs.Outcomes.{Images}
 use Rattle.stack_meaning.specs.Meaning.{said_at}
 use Rattle.stack_meaning.specs.Puts.{Putting, none_put, runs_from, put_runs, together, in_one_run, line_put, put_on}
-use Rattle.stack_lines.specs.Sources.{BeginsAt, ComeFrom, IsServed}
-use Rattle.stack_lines.specs.Writing.{sectors_in, destination_of, Writes, put_by_name, put_on_line, part_put, source_put, source_write_cost, SourceMayWrite, source_destination}
+use Rattle.stack_lines.specs.Sources.{source_said, BeginsAt, ComeFrom, IsServed}
+use Rattle.stack_lines.specs.Writing.{sectors_in, destination_of, StopsAt, put_some, Writes, put_by_name, put_on_line, part_put, source_put, source_write_cost, SourceMayWrite, source_destination}
 use Rattle.stack_meaning.proofs.lemmas.CostLemmas.{write_cost-falls}
 use Rattle.stack_lines.proofs.lemmas.SourceLemmas.{units-at, served-said}
 use Rattle.stack_lines.proofs.lemmas.VerityLineLemmas.{line-read_only}
 use Rattle.stack_lines.proofs.lemmas.WritableLemmas.{writable-falls}
-use Rattle.stack_meaning.proofs.lemmas.ChangeLemmas.{AreWritten-none}
+use Rattle.stack_meaning.proofs.lemmas.ChangeLemmas.{KeepsOthers-none, AreWritten-none}
 use Rattle.stack_meaning.proofs.lemmas.LineLemmas.{found-more}
-use Rattle.stack_lines.proofs.lemmas.PutLemmas.{Apart, put-together, device-apart, put_on-line, line_put-beneath}
+use Rattle.stack_lines.proofs.lemmas.PutLemmas.{Apart, put-none, put-together, device-apart, put_on-line, line_put-beneath}
+use Rattle.stack_lines.proofs.lemmas.StopLemmas.{stop-here}
 use Rattle.stack_lines.proofs.lemmas.WriteRunLemmas.{length-sectors_in, sectors_in-none, sectors_in-append, PutsInParts, PutsAlike, write_ok, write_err, write_as}
 
 -- ---- puts where a device's sectors lie
@@ -120,18 +122,44 @@ served-alike c d s source sectors loaded some may r = record {
   puts = λ images.
       let e : s + 0 ≡ s = omega arith in
       sym (served-put c d s (length sectors) 0 source sectors images loaded some (omega arith) may r) ∙ ap (λ (k : ℕ). put_on c (mapped d) k sectors images) e;
+  fronts = λ k images. front k images (take k sectors) (omega (arith, length-take k sectors));
   cost = served-write-cost c d s (length sectors) source loaded some r;
 }
+  where
+    front : (k : ℕ) (images : Images) (part : List (List ℕ)) → length part ≤ length sectors → put_some (source_put c source) 0 part images ≡ put_some (put_on c (mapped d)) s part images
+    front k images [] h = refl
+    front k images (x ∷ xs) h =
+        let e : s + 0 ≡ s = omega arith in
+        sym (served-put c d s (length sectors) 0 source (x ∷ xs) images loaded (omega arith) (omega (arith, h)) may r) ∙ ap (λ (k : ℕ). put_on c (mapped d) k (x ∷ xs) images) e
 
 pub below-alike : (c : Configuration) (lower : Lower) (first : ℕ) (sectors : List (List ℕ)) → PutsAlike (destination_of c lower) (source_destination c (Below lower first)) first 0 sectors
 below-alike c lower first sectors = record {
   said = λ j h. let e : j ≡ 0 + j = omega arith in ap (λ (k : ℕ). said_at c lower (first + k)) e;
   puts = λ images. let e : first ≡ first + 0 = omega arith in ap (λ (k : ℕ). put_on c lower k sectors images) e;
+  fronts = λ k images. front images (take k sectors);
   cost = omega arith;
 }
+  where
+    front : (images : Images) (part : List (List ℕ)) → put_some (put_on c lower) first part images ≡ put_some (source_put c (Below lower first)) 0 part images
+    front images [] = refl
+    front images (x ∷ xs) = let e : first ≡ first + 0 = omega arith in ap (λ (k : ℕ). put_on c lower k (x ∷ xs) images) e
+
+-- sectors of an `error` line: the first one of them fails
+abbrev fails-stop : (c : Configuration) (n : ℕ) (leaves : List Device) → 0 < n → StopsAt (source_said c Fails) 0 n (io.Stack why.ErrorTarget) leaves leaves
+fails-stop c n leaves some = record { before = 0; failed = n; some = some; inside = omega arith; by = λ j h. refl; others = KeepsOthers-none _ leaves }
 
 pub fails-written : (c : Configuration) (sectors : List (List ℕ)) (leaves : List Device) → 0 < length sectors → Writes (source_destination c Fails) 0 sectors leaves leaves (Err (io.Stack why.ErrorTarget))
-fails-written c sectors leaves some = record { moved = AreWritten-none _ _ leaves; ends = (0, some, refl); grown = λ e. cc; exact = λ steady. refl }
+fails-written c sectors leaves some = record {
+  moved = AreWritten-none _ _ leaves;
+  ends = (0, some, refl);
+  grown = λ e. cc;
+  exact = λ steady. refl;
+  stops = λ counted. fails-stop c (length sectors) leaves some;
+  behind = λ steady counted. stop-here (source_destination c Fails) 0 sectors refl steady (fails-stop c (length sectors) leaves some) (λ j h. absurd (no-less j h));
+}
+  where
+    no-less : (j : ℕ) → j < 0 → ⊥
+    no-less j h = omega (arith, h)
 
 -- ---- runs of one device
 
@@ -172,5 +200,5 @@ module _ (c : Configuration) (d first : ℕ) (x y : List ℕ) (source : Source) 
         | inr cut ↦ inr (inr (ap (in_one_run c d) at ∙ cut))
       ] in
       subst (λ (l : List (List ℕ)). Writes (destination_of c (mapped d)) first l old new (Err fault)) (sym (sectors_in-append x (y ++ z) whole_x ∙ ap (λ (l : List (List ℕ)). sectors_in x ++ l) (sectors_in-append y z whole_y)))
-      (write_err (destination_of c (mapped d)) first (sectors_in x) (sectors_in y) p (sectors_in z) fault (parts-before c d first x loaded ends (sectors_in y ++ sectors_in z))
+      (write_err (destination_of c (mapped d)) first (sectors_in x) (sectors_in y) p (sectors_in z) fault (put-none c (mapped d)) (parts-before c d first x loaded ends)
       (λ images. device-apart c loaded.valid d (first + length (sectors_in x)) (sectors_in y) (sectors_in z) images apart) (next-run (Err fault) q))

@@ -5,8 +5,7 @@ use Rattle.stack_engine.specs.Stacks.{StackRecord}
 use Rattle.stack_engine.specs.Pieces.{stack_over}
 use Rattle.stack_lines.specs.Writing.{sectors_in, destination_of, Writes}
 use Rattle.stack_engine.specs.WritePieces.{EachWrite}
-use Rattle.stack_meaning.proofs.lemmas.ChangeLemmas.{AreWritten-none}
-use Rattle.stack_engine.proofs.lemmas.WritePieceLemmas.{each-write, write-sound}
+use Rattle.stack_engine.proofs.lemmas.WritePieceLemmas.{each-write, none-written, write-sound}
 use Rattle.stack_meaning.proofs.lemmas.LeafLemmas.{all-whole}
 use Rattle.stack_engine.proofs.stack.Stack.write_piece.Given as given
 use Rattle.stack_engine.proofs.stack.Stack.write_piece.Goals as goal
@@ -47,12 +46,9 @@ pub returns-clause-steady : goal.returns-clause-steady
 returns-clause-steady g c = (whole g c).steady
 
 -- nothing was written, for want of memory
+
 pub returns-in-Err-clause-any : goal.returns-in-Err-clause-any
-returns-in-Err-clause-any g c = record { config = refl; whole = λ h. h; moved = AreWritten-none _ _ c.args.self.now.leaves; ends = refl }
+returns-in-Err-clause-any g c = (none-written c.args.self.now c.args.d.0 c.args.first c.args.bytes.now (omega (arith, c.requires.piece.sectors.some, c.requires.piece.sectors.whole))).any
 
 pub returns-in-Err-clause-steady : goal.returns-in-Err-clause-steady
-returns-in-Err-clause-steady g c = λ steady. record {
-  any = record { config = refl; whole = λ h. h; moved = AreWritten-none _ _ c.args.self.now.leaves; ends = refl };
-  exact = tt;
-  others = record { leaves = refl; sizes = λ i. refl; sector = λ i t h. refl };
-}
+returns-in-Err-clause-steady g c = (none-written c.args.self.now c.args.d.0 c.args.first c.args.bytes.now (omega (arith, c.requires.piece.sectors.some, c.requires.piece.sectors.whole))).steady
