@@ -259,3 +259,15 @@ failed-reached reaches first n i {old = old} {new = new} failed counted same = e
       let e : (get_or new i d).failures ≡ (get_or old i d).failures = ap (λ (x : Device). x.failures) (same d none) in
       absurd (elim (failed.failed d) [ inl grew ↦ omega (arith, grew, e) | inr full ↦ omega (arith, full, e, counted d) ])
 ]
+
+-- Where a leaf failed, another one that the last sector alone reaches wasn't asked, so nothing went on behind the fault.
+pub last-unasked : (said : ℕ → Said) (first a i k : ℕ) {old new : List Device} (d : Device) → StopsAt said first (a + 1) (io.Device i) old new → ((t : ℕ) → Contains (said (first + a)).reaches (i - 1, t) → ⊥)
+    → ((t : ℕ) → reached (λ s. (said s).reaches) first a (k, t) → ⊥) → get_or new k d ≡ get_or old k d
+last-unasked said first a i k d q last front = elim (cases_lt (q.before + q.failed) (a + 1)) [
+  | inl low ↦ q.others.leaf k d (λ t h. front t (h.0, omega (arith, low, h.1), h.2))
+  | inr high ↦
+      let j : ℕ = q.failed - 1 in
+      let one = q.by.each j (omega (arith, q.some)) in
+      let at : first + q.before + j ≡ first + a = omega (arith, q.some, q.inside, high) in
+      absurd (last (q.by.start + one.0) (subst (λ (s : ℕ). Contains (said s).reaches (i - 1, q.by.start + one.0)) at one.2))
+]
