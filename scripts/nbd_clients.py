@@ -2,9 +2,9 @@
 """Tries `dmstack nbd` with the NBD clients that are installed.
 
 nbd_clients.py [PROGRAM]: copies devices out with nbdcopy and qemu-img and compares them, copies an image in through a
-`crypt` line and reads it back by another stack, writes with qemu-io across the ends of sectors, reads a verity volume
-with one changed block, and prints the speed over each kind of line beside nbdkit's and beside `scan`'s. What isn't
-installed is named and left out (Debian: libnbd-bin, python3-libnbd, qemu-utils, socat, nbdkit).
+`crypt` line and reads it back by another stack, writes bytes and zeros with qemu-io across the ends of sectors, with FUA
+too, reads a verity volume with one changed block, and prints the speed over each kind of line beside nbdkit's and
+beside `scan`'s. What isn't installed is named and left out (Debian: libnbd-bin, python3-libnbd, qemu-utils, socat, nbdkit).
 """
 import os
 import random
@@ -110,6 +110,13 @@ def copied_in(data):
                 done = run("qemu-io", "-f", "raw", "-c", f"write -P {byte} {offset} {length}", "-c", "flush", "nbd:unix:" + uri.split("=")[1])
                 say(f"qemu-io writes at {offset}", done.returncode == 0, done.stderr.decode())
                 wanted[offset : offset + length] = bytes([byte]) * length
+            for offset, length in ((513, 1), (70000, 5000), (1 << 20, 3 << 20)):
+                done = run("qemu-io", "-f", "raw", "-c", f"write -z -f {offset} {length}", "-c", f"discard {offset} {length}", "nbd:unix:" + uri.split("=")[1])
+                say(f"qemu-io writes zeros at {offset}", done.returncode == 0, done.stderr.decode())
+                wanted[offset : offset + length] = bytes(length)
+            done = run("qemu-io", "-f", "raw", "-c", "write -f -P 68 99 9", "nbd:unix:" + uri.split("=")[1])
+            say("qemu-io writes with FUA", done.returncode == 0, done.stderr.decode())
+            wanted[99:108] = bytes([68]) * 9
     say("copy in: the image is encrypted", open("secret", "rb").read() != bytes(wanted))
     with Served(words_for("crypt", "c", "B=rw:" + os.path.abspath("secret"))) as uri:
         done = run("nbdcopy", uri, "back")
@@ -173,11 +180,10 @@ def changed_block(data):
     image[bad * BLOCK + 99] ^= 1
     open("changed", "wb").write(image)
     handle = nbd.NBD()
-    # Any place and length is served, though the least block size that is told is 512.
-    handle.set_strict_mode(handle.get_strict_mode() & ~nbd.STRICT_ALIGN)
     handle.connect_command(words_for("verity", "v", "D=ro:" + os.path.abspath("changed"), "H=ro:" + os.path.abspath("hash")))
     say("changed block: size", handle.get_size() == len(data))
     say("changed block: read only", handle.is_read_only())
+    say("changed block: several connections", handle.can_multi_conn())
     for k in range(len(data) // BLOCK):
         try:
             block = handle.pread(BLOCK, k * BLOCK)

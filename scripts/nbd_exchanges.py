@@ -60,12 +60,12 @@ class Export:
         self.name, self.content, self.writable, self.lost = name, bytearray(content), writable, lost
 
     def bits(self):
-        return FLAGS if self.writable else FLAGS | 2
+        return FLAGS | SEND_TRIM | SEND_WRITE_ZEROES if self.writable else FLAGS | READ_ONLY | CAN_MULTI_CONN
 
     def told(self, number, sizes=False):
         out = option_reply(number, REP_INFO, struct.pack(">HQH", 0, len(self.content), self.bits()))
         if sizes:
-            out += option_reply(number, REP_INFO, struct.pack(">HIII", 3, 512, 4096, MOST))
+            out += option_reply(number, REP_INFO, struct.pack(">HIII", 3, 1, 4096, MOST))
         return out + option_reply(number, ACK)
 
     def fails(self, offset, length):
@@ -89,9 +89,16 @@ class Export:
         self.content[offset : offset + len(data)] = data
         return reply()
 
+    def hint(self, kind, offset, length):
+        if kind == TRIM and not self.writable:
+            return reply(EPERM)
+        return reply(EINVAL) if offset + length > len(self.content) else reply()
 
-# HAS_FLAGS and SEND_FLUSH; READ_ONLY is 2
-FLAGS = 5
+
+READ_ONLY, SEND_TRIM, SEND_WRITE_ZEROES, CAN_MULTI_CONN = 1 << 1, 1 << 5, 1 << 6, 1 << 8
+# HAS_FLAGS, SEND_FLUSH, SEND_FUA and SEND_CACHE
+FLAGS = 1 | 1 << 2 | 1 << 3 | 1 << 10
+FUA, NO_HOLE, DF, REQ_ONE, FAST_ZERO = (1 << bit for bit in range(5))
 SECTOR = 512
 RAMP = b"".join(bytes([k % 256]) * SECTOR for k in range(8))
 ZEROS = bytes(4 * SECTOR)
@@ -204,11 +211,20 @@ def transmissions(runner):
                 sent += request(READ, offset, length, offset ^ length)
                 wanted += e.read(offset, length)[:8] + struct.pack(">Q", offset ^ length) + e.read(offset, length)[16:]
         runner.run(f"reads of {name}", name, sent + request(DISC), wanted)
-        for bits in (1, 2, 4, 0x8000):
+        for bits in (FUA, NO_HOLE, FUA | NO_HOLE, DF, REQ_ONE, FAST_ZERO, 0x8000, 0x8001):
             asked, told = begun(e)
-            asked += request(READ, 0, 512, bits=bits) + request(READ, 0, 512)
-            runner.run(f"flag {bits}", name, asked, told + reply(EINVAL) + e.read(0, 512))
-        for kind in (TRIM, CACHE, ZEROES, 7, 8, 100, 65535):
+            for kind, length, good in ((READ, 512, e.read(0, 512)), (FLUSH, 0, reply()), (TRIM, 512, e.hint(TRIM, 0, 512)), (CACHE, 512, reply())):
+                asked += request(kind, 0, length, bits=bits)
+                told += good if bits == FUA else reply(EINVAL)
+            runner.run(f"flag {bits}", name, asked + request(READ, 0, 512), told + e.read(0, 512))
+        for kind in (TRIM, CACHE):
+            asked, told = begun(e)
+            for offset in places:
+                for length in (0, 1, 512, size, MOST + 1, 2**32 - 1):
+                    asked += request(kind, offset, length) + request(READ, 0, 512)
+                    told += e.hint(kind, offset, length) + e.read(0, 512)
+            runner.run(f"hints {kind} of {name}", name, asked, told, after=bytes(exports()["file"].content))
+        for kind in (7, 8, 100, 65535):
             asked, told = begun(e)
             runner.run(f"kind {kind}", name, asked + request(kind, 0, 512) + request(READ, 1, 2), told + reply(EINVAL) + e.read(1, 2))
         for k in range(4):
@@ -246,13 +262,16 @@ def writes(runner):
     kept = exports()["kept"]
     asked, told = begun(kept)
     for length in (0, 1, 512, MOST + 1):
-        asked += request(WRITE, 3, length, data=bytes(length)) + request(READ, 0, 8)
-        told += reply(EINVAL if length > MOST else EPERM) + kept.read(0, 8)
+        asked += request(WRITE, 3, length, data=bytes(length)) + request(ZEROES, 3, length) + request(READ, 0, 8)
+        told += reply(EINVAL if length > MOST else EPERM) + reply(EPERM) + kept.read(0, 8)
     runner.run("writes of an export that may only be read", "kept", asked + request(FLUSH), told + reply())
+    for bits in (FUA, NO_HOLE, FUA | NO_HOLE, DF, FAST_ZERO, 1 << 15):
+        e = exports()["file"]
+        asked, told = begun(e)
+        asked += request(WRITE, 0, 5, bits=bits, data=b"abcde") + request(READ, 0, 8)
+        told += e.write(0, b"abcde") if bits == FUA else reply(EINVAL)
+        runner.run(f"write with flag {bits}", "file", asked, told + e.read(0, 8), after=bytes(e.content))
     e = exports()["file"]
-    asked, told = begun(e)
-    asked += request(WRITE, 0, 5, bits=1, data=b"abcde") + request(READ, 0, 8)
-    runner.run("write with a flag", "file", asked, told + reply(EINVAL) + e.read(0, 8), after=bytes(e.content))
     for offset, length in ((1, 0), (0, 1), (2**64 - 1, 2**32 - 1)):
         asked, told = begun(e)
         runner.run(f"flush of {length} bytes at {offset}", "file", asked + request(FLUSH, offset, length), told + reply(EINVAL))
@@ -266,7 +285,41 @@ def writes(runner):
         told += reply(EIO) + reply(data=b"n" * 512) + reply(data=RAMP[1536:2048])
     asked += request(WRITE, 1000, 24, data=b"k" * 24) + request(READ, 512, 512)
     told += reply() + reply(data=b"n" * 488 + b"k" * 24)
+    asked += request(ZEROES, 512, 1024) + request(READ, 510, 514)
+    told += reply(EIO) + reply(data=RAMP[510:512] + bytes(512))
+    for offset, length in ((1000, 100), (1500, 700), (1024, 1), (1535, 1)):
+        asked += request(ZEROES, offset, length) + request(READ, 512, 512) + request(READ, 1536, 512)
+        told += reply(EIO) + reply(data=bytes(512)) + reply(data=RAMP[1536:2048])
     runner.run("writes of holed", "holed", asked, told)
+
+
+def zeroes(runner):
+    """Writes of zeros, each between bytes that aren't zero, by each flag; then longer ones than a write may be."""
+    for bits in (0, FUA, NO_HOLE, FUA | NO_HOLE, DF, REQ_ONE, FAST_ZERO, FUA | FAST_ZERO):
+        e = exports()["file"]
+        size = len(e.content)
+        sent, wanted = begun(e)
+        for offset in (0, 1, 511, 512, 513, 1024, size - 513, size - 512, size - 1, size, 2**64 - 1):
+            for length in (0, 1, 2, 511, 512, 513, 1024, 1025, size, 2**32 - 1):
+                sent += request(WRITE, 0, size, data=b"\x5a" * size) + request(ZEROES, offset, length, bits=bits) + request(READ, 0, size)
+                wanted += e.write(0, b"\x5a" * size)
+                if bits & ~(FUA | NO_HOLE):
+                    wanted += reply(EINVAL)
+                else:
+                    wanted += reply(ENOSPC) if offset + length > size else e.write(offset, bytes(length))
+                wanted += e.read(0, size)
+        runner.run(f"zeroes with flags {bits}", "file", sent + request(DISC), wanted, after=bytes(e.content))
+    size = 80 << 20
+    open("long", "w").write(f"f,,,rw,0 {size // SECTOR} linear F 0")
+    for offset, length in ((0, size), (1, size - 2), (511, (64 << 20) + 1), (1 << 20, 33 << 20)):
+        open("F", "wb").write(b"\xa5" * size)
+        sent, wanted = begun(Export("f", bytes(size), writable=True))
+        sent += request(ZEROES, offset, length) + request(READ, offset, 8) + request(FLUSH)
+        wanted += reply() + reply(data=bytes(8)) + reply()
+        served = subprocess.run([runner.program, "nbd", "long", "f", "F=rw:F"], input=sent, capture_output=True, timeout=60)
+        runner.count(f"{length} zeroes at {offset}", served.stdout == wanted and served.returncode == 0 and not served.stderr)
+        left = b"\xa5" * offset + bytes(length) + b"\xa5" * (size - offset - length)
+        runner.count(f"{length} zeroes at {offset}: the image", open("F", "rb").read() == left)
 
 
 def long_runs(runner):
@@ -304,6 +357,9 @@ def crypt(runner):
             data = bytes((7 * offset + 5 * k) % 256 for k in range(length))
             sent += request(WRITE, offset, length, data=data) + request(READ, 0, 16 * SECTOR)
             wanted += plain.write(offset, data) + plain.read(0, 16 * SECTOR)
+        for offset, length in ((700, 3), (1000, 2000), (4096, 512)):
+            sent += request(ZEROES, offset, length, bits=FUA) + request(READ, 0, 16 * SECTOR)
+            wanted += plain.write(offset, bytes(length)) + plain.read(0, 16 * SECTOR)
         label = f"writes through crypt, {count} sectors a unit"
         served = subprocess.run([runner.program, "nbd", "crypt", "c", "F=rw:F"], input=sent + request(FLUSH), capture_output=True, timeout=60)
         runner.count(label, served.stdout == wanted + reply() and served.returncode == 0 and not served.stderr)
@@ -320,22 +376,28 @@ def cuts(runner):
     e = exports()["file"]
     size = len(e.content)
     fields = struct.pack(">QH", size, e.bits())
-    messages = [
-        (flags(3), b""),
-        (option(LIST), option_reply(LIST, SERVER, struct.pack(">I", 4) + b"file") + option_reply(LIST, ACK)),
-        (option(INFO, asks(b"file", 3)), e.told(INFO, True)),
-        (option(EXPORT_NAME, b"file"), fields),
-        (request(READ, 510, 4), e.read(510, 4)),
-        (request(WRITE, 509, 6, data=b"across"), e.write(509, b"across")),
-        (request(FLUSH), reply()),
-        (request(READ, 508, 8), e.read(508, 8)),
-    ]
-    before = exports()["file"].content
+    messages, images = [], [bytes(e.content)]
+
+    def add(message, answer):
+        messages.append((message, answer))
+        images.append(bytes(e.content))
+
+    add(flags(3), b"")
+    add(option(LIST), option_reply(LIST, SERVER, struct.pack(">I", 4) + b"file") + option_reply(LIST, ACK))
+    add(option(INFO, asks(b"file", 3)), e.told(INFO, True))
+    add(option(EXPORT_NAME, b"file"), fields)
+    add(request(READ, 510, 4), e.read(510, 4))
+    add(request(WRITE, 509, 6, data=b"across"), e.write(509, b"across"))
+    add(request(FLUSH), reply())
+    add(request(READ, 508, 8), e.read(508, 8))
+    add(request(WRITE, 1000, 4, bits=FUA, data=b"safe"), e.write(1000, b"safe"))
+    add(request(TRIM, 508, 8), reply())
+    add(request(CACHE, 508, 8), reply())
+    add(request(ZEROES, 512, 3, bits=FUA), e.write(512, bytes(3)))
     sent, wanted = b"", GREETING
     for place, (message, answer) in enumerate(messages):
         for cut in range(len(message)):
-            image = e.content if place > 5 else before
-            runner.run(f"cut at {cut} of message {place}", "file", sent + message[:cut], wanted, status=4 if cut else 0, after=bytes(image))
+            runner.run(f"cut at {cut} of message {place}", "file", sent + message[:cut], wanted, status=4 if cut else 0, after=images[place])
         sent, wanted = sent + message, wanted + answer
     runner.run("not cut", "file", sent, wanted, after=bytes(e.content))
     runner.run("not cut, and ended", "file", sent + request(DISC), wanted, after=bytes(e.content))
@@ -344,12 +406,15 @@ def cuts(runner):
 def talks(failing=None, error=EIO):
     """What is written in an exchange over the file, where the request of that number fails and does nothing."""
     e = exports()["file"]
-    asked = [("write", 509, b"across"), ("flush",), ("read", 508, 8), ("write", 1024, bytes(range(256)) * 4), ("flush",), ("read", 0, 4096)]
+    asked = [("write", 509, b"across"), ("flush",), ("read", 508, 8), ("write", 1024, bytes(range(256)) * 4), ("flush",), ("zeroes", 1536, 512), ("read", 0, 4096)]
     sent, wanted = begun(e)
     for number, (kind, *rest) in enumerate(asked):
         if kind == "write":
             sent += request(WRITE, rest[0], len(rest[1]), data=rest[1])
             answer = reply(error) if number == failing else e.write(*rest)
+        elif kind == "zeroes":
+            sent += request(ZEROES, *rest)
+            answer = reply(error) if number == failing else e.write(rest[0], bytes(rest[1]))
         elif kind == "flush":
             sent += request(FLUSH)
             answer = reply(error) if number == failing else reply()
@@ -406,7 +471,7 @@ def main():
     runner = Runner(os.path.abspath(given) if os.path.exists(given) else given)
     with tempfile.TemporaryDirectory() as room:
         os.chdir(room)
-        for part in (handshakes, transmissions, writes, long_runs, crypt, cuts, failures, refusals):
+        for part in (handshakes, transmissions, writes, zeroes, long_runs, crypt, cuts, failures, refusals):
             part(runner)
     print(f"exchanges: {runner.passed} passed, {runner.failed} failed")
     return 1 if runner.failed or not runner.passed else 0

@@ -5,7 +5,7 @@ from dataclasses import dataclass, replace
 
 OPTION_MAGIC, REQUEST_MAGIC = b"IHAVEOPT", 0x25609513
 OPTIONS = {1: "EXPORT_NAME", 2: "ABORT", 3: "LIST", 6: "INFO", 7: "GO"}
-COMMANDS = {0: "READ", 1: "WRITE", 2: "DISC", 3: "FLUSH"}
+COMMANDS = {0: "READ", 1: "WRITE", 2: "DISC", 3: "FLUSH", 4: "TRIM", 5: "CACHE", 6: "WRITE_ZEROES"}
 
 
 def smaller_numbers(value):

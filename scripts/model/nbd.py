@@ -11,8 +11,10 @@ EXPORT_NAME, ABORT, LIST, INFO, GO = 1, 2, 3, 6, 7
 ACK, SERVER, INFORMATION = 1, 2, 3
 UNSUPPORTED, INVALID, UNKNOWN, TOO_BIG = (2**31 + kind for kind in (1, 3, 6, 9))
 EXPORT, BLOCK_SIZE = 0, 3
-HAS_FLAGS, READ_ONLY, SEND_FLUSH = 1, 2, 4
-READ, WRITE, DISCONNECT, FLUSH = 0, 1, 2, 3
+HAS_FLAGS, READ_ONLY, SEND_FLUSH, SEND_FUA, SEND_TRIM, SEND_WRITE_ZEROES = 1, 2, 4, 8, 32, 64
+CAN_MULTI_CONN, SEND_CACHE = 256, 1024
+READ, WRITE, DISCONNECT, FLUSH, TRIM, CACHE, WRITE_ZEROES = range(7)
+FUA, NO_HOLE = 1, 2
 EPERM, EIO, EINVAL, ENOSPC = 1, 5, 22, 28
 MOST_OF_AN_OPTION, MOST_OF_A_REQUEST = 65536, 32 * 1024 * 1024
 DONE, BROKEN = 0, 4
@@ -126,7 +128,8 @@ class Service:
         return name in (b"", self.device.name)
 
     def fields(self):
-        flags = HAS_FLAGS | SEND_FLUSH | (0 if self.device.writable else READ_ONLY)
+        flags = HAS_FLAGS | SEND_FLUSH | SEND_FUA | SEND_CACHE
+        flags |= SEND_TRIM | SEND_WRITE_ZEROES if self.device.writable else READ_ONLY | CAN_MULTI_CONN
         return struct.pack(">QH", self.size, flags)
 
     def export_name(self, name):
@@ -150,7 +153,7 @@ class Service:
             return self.tell(option, UNKNOWN)
         self.tell(option, INFORMATION, struct.pack(">H", EXPORT) + self.fields())
         if BLOCK_SIZE in facts:
-            sizes = struct.pack(">HIII", BLOCK_SIZE, SECTOR, 4096, MOST_OF_A_REQUEST)
+            sizes = struct.pack(">HIII", BLOCK_SIZE, 1, 4096, MOST_OF_A_REQUEST)
             self.tell(option, INFORMATION, sizes)
         self.tell(option, ACK)
         return option == GO
@@ -178,18 +181,19 @@ class Service:
 
     def check(self, flags, command, offset, length):
         """The first fault of a request, in the documents' order."""
-        if flags or command not in (READ, WRITE, FLUSH):
+        offered = FUA | NO_HOLE if command == WRITE_ZEROES else FUA
+        if flags & ~offered or command not in (READ, WRITE, FLUSH, TRIM, CACHE, WRITE_ZEROES):
             raise Refused(EINVAL)
         if command == FLUSH:
             if offset or length:
                 raise Refused(EINVAL)
             return
-        if length > MOST_OF_A_REQUEST:
+        if command in (READ, WRITE) and length > MOST_OF_A_REQUEST:
             raise Refused(EINVAL)
-        if command == WRITE and not self.device.writable:
+        if command in (WRITE, TRIM, WRITE_ZEROES) and not self.device.writable:
             raise Refused(EPERM)
         if offset + length > self.size:
-            raise Refused(EINVAL if command == READ else ENOSPC)
+            raise Refused(ENOSPC if command in (WRITE, WRITE_ZEROES) else EINVAL)
 
     def done(self, command, offset, length, data):
         """The bytes that a request gives."""
@@ -197,6 +201,8 @@ class Service:
             return self.read(offset, length)
         if command == WRITE and data:
             self.write(offset, data)
+        if command == WRITE_ZEROES and length:
+            self.write(offset, bytes(length))
         return b""
 
     def read(self, offset, length):

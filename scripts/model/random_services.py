@@ -7,9 +7,9 @@ from tables import PREFIX
 
 SECTOR = 512
 EXPORT_NAME, ABORT, LIST, INFO, GO = 1, 2, 3, 6, 7
-READ, WRITE, DISC, FLUSH = 0, 1, 2, 3
+READ, WRITE, DISC, FLUSH, TRIM, CACHE, WRITE_ZEROES = range(7)
 OTHER_OPTIONS = [0, 4, 5, 8, 9, 10, 11, 12, 2**31, 2**32 - 1]
-OTHER_COMMANDS = [4, 5, 6, 7, 8, 255, 256, 65535]
+OTHER_COMMANDS = [7, 8, 9, 255, 256, 65535]
 MEBIBYTE = 1024 * 1024
 MOST = 32 * MEBIBYTE
 STEPS = [-513, -512, -511, -2, -1, 0, 0, 0, 0, 1, 2, 511, 512, 513]
@@ -165,9 +165,14 @@ class Services(Recoveries):
             length = max(size - offset, 0)
             length = length if large else min(length, most * SECTOR)
         share = 0.55 if device.writable else 0.15
+        fua = self.pick([0, 0, 0, 1])
+        if self.chance(0.1):
+            return Request(self.pick([TRIM, CACHE]), offset, length, cookie=self.cookie(), flags=fua)
+        if self.chance(share * 0.3):
+            return Request(WRITE_ZEROES, offset, length, cookie=self.cookie(), flags=fua + self.pick([0, 2]))
         if self.chance(share):
-            return Request(WRITE, offset, data=self.bytes_to_write(length), cookie=self.cookie())
-        return Request(READ, offset, length, cookie=self.cookie())
+            return Request(WRITE, offset, data=self.bytes_to_write(length), cookie=self.cookie(), flags=fua)
+        return Request(READ, offset, length, cookie=self.cookie(), flags=fua)
 
     def greatest_request(self):
         """A request of as many bytes as one may have, or of one more."""
@@ -196,14 +201,15 @@ class Services(Recoveries):
         if kind == 3:
             offset, length = self.pick([(0, 1), (0, 512), (1, 0), (512, 512), (2**63, 0)])
             return Request(FLUSH, offset, length, cookie=self.cookie())
-        command = self.pick([READ, WRITE, WRITE, FLUSH])
+        command = self.pick([READ, WRITE, WRITE, FLUSH, TRIM, CACHE, WRITE_ZEROES])
         data = self.bytes_to_write(self.pick([0, 1, 513])) if command == WRITE else b""
-        flags = self.pick([1, 2, 4, 8, 16, 256, 32768])
-        return Request(command, 0, None, data, self.cookie(), flags)
+        flags = self.pick([1, 2, 3, 4, 8, 16, 17, 18, 256, 32768])
+        length = self.pick([0, 1, 513]) if command in (TRIM, CACHE, WRITE_ZEROES) else None
+        return Request(command, 0, length, data, self.cookie(), flags)
 
     def either(self, offset, length):
-        if self.chance(0.5):
-            return Request(READ, offset % 2**64, length, cookie=self.cookie())
+        if self.chance(0.7):
+            return Request(self.pick([READ, READ, TRIM, CACHE, WRITE_ZEROES]), offset % 2**64, length, cookie=self.cookie())
         return Request(WRITE, offset % 2**64, data=bytes(length), cookie=self.cookie())
 
     # The end

@@ -1,19 +1,19 @@
 -- Bytes of the export and the sectors that they touch.
-use Rattle.std.proofs.Common.{◌≡◌, ℕ, ◌+◌, ◌-◌, ◌*◌, ◌/◌, ◌%◌, ◌==◌, List, [], ◌++◌, length, take, drop, refl, ap, sym, ◌∙◌, subst, append-nil, append_assoc, arith, inr, Result, Ok, Err}
+use Rattle.std.proofs.Common.{◌≡◌, ◌<◌, ℕ, ◌+◌, ◌-◌, ◌*◌, ◌/◌, ◌%◌, ◌==◌, List, [], ◌∷◌, ◌++◌, length, take, drop, replicate, refl, ap, sym, ◌∙◌, subst, append-nil, append_assoc, arith, inl, inr, Result, Ok, Err}
 use Rattle.std.specs.Prelude.{◌&&◌, Bool, true, false, not, nat_lt, IfErr, OnOk, if◌then◌else◌}
-use Rattle.std.proofs.lemmas.List.{length-append, length-drop, length-take-le, drop_all}
+use Rattle.std.proofs.lemmas.List.{length-append, length-drop, length-replicate, length-take-le, drop_all}
 use Rattle.std.proofs.Math.Seq.{take-append-add}
 use borrow.Rule.Slice.PartMut.{put_mid, post_of}
 use Rattle.request_queue.specs.World.{World}
 use Rattle.nbd_server.specs.declared.header.Header.{Header}
 use Rattle.nbd_server.specs.declared.header.Command.{Command}
-use Rattle.nbd_server.specs.declared.header.Command.TheVariants.{Read, Write, Flush}
+use Rattle.nbd_server.specs.declared.header.Command.TheVariants.{Read, Write, Zero, Hint, Flush}
 use Rattle.nbd_server.specs.declared.request_error.RequestError.{RequestError}
 use Rattle.nbd_server.specs.declared.request_error.RequestError.TheVariants.{NotPermitted, Invalid, NoSpace}
 use Rattle.nbd_server.specs.Exports.{ExportRecord}
-use Rattle.nbd_server.specs.Headers.{command_of, flush_command, payload_len, most_length, read_command, write_command}
+use Rattle.nbd_server.specs.Headers.{cache_command, command_of, flush_command, has_fua, has_offered, payload_len, most_length, read_command, trim_command, write_command, zero_command}
 use Rattle.nbd_server.specs.Sectors.{IsStored, FailsToStore}
-use Rattle.nbd_server.specs.Transmission.{RequestOutcome, FailsToReadEnds, IsFramed, ReadsBytes, ReadsEnds, Serves, ServesCommand, WritesBytes, room_behind, touched, written}
+use Rattle.nbd_server.specs.Transmission.{RequestOutcome, FailsToReadEnds, Flushes, IsFramed, ReadsBytes, ReadsEnds, Serves, ServesCommand, Settles, Stays, WritesBytes, WritesGiven, WritesSome, room_behind, touched, written}
 
 -- ---- what stands around some bytes
 
@@ -41,13 +41,12 @@ module _ (offset len : ℕ) (bytes : List ℕ) (room : length bytes ≡ 512 * to
         ∙ ap (λ l. (before ++ meant) ++ l) (append-nil behind)
         ∙ append_assoc before meant behind
 
-    pub framed : (e : ExportRecord) (w mid w' : World) (behind : List ℕ) (k : ℕ) → k ≡ length (before ++ drop (offset % 512) bytes) - (offset % 512 + len)
-        → ReadsBytes e w (offset - offset % 512) (offset % 512) (Ok before) mid → ReadsBytes e mid (offset + len) (room_behind offset len) (Ok behind) w'
+    pub framed : (e : ExportRecord) (w w' : World) (behind : List ℕ) (k : ℕ) → k ≡ length (before ++ drop (offset % 512) bytes) - (offset % 512 + len) → ReadsEnds e w offset len before behind w'
         → IsFramed e w offset (take len (drop (offset % 512) bytes)) (put_mid (offset % 512 + len) k (before ++ drop (offset % 512) bytes) behind) w'
-    framed e w mid w' behind k k-is p q = record {
+    framed e w w' behind k k-is p = record {
       before = before;
       behind = behind;
-      ends = subst (λ n. ReadsEnds e w offset n before behind w') (sym meant-length) (record { mid = mid; first = p; last = q });
+      ends = subst (λ n. ReadsEnds e w offset n before behind w') (sym meant-length) p;
       sectors_are = sectors-are behind k k-is;
     }
 
@@ -64,40 +63,98 @@ writes-ended e w mid w' offset bytes sectors (Err error) f ok err = inr (sectors
 
 -- ---- the bytes behind a request
 
-read-no-write : (a b : Bool) (o l offset length : ℕ) → (if a then Err Invalid else if b then Err Invalid else Ok (Read o l)) ≡ Ok (Write offset length) → ⊥
-read-no-write true b o l offset length h = let clash : Err Invalid ≡ Ok (Write offset length) = h in cc
-read-no-write false true o l offset length h = let clash : Err Invalid ≡ Ok (Write offset length) = h in cc
-read-no-write false false o l offset length h = let clash : Ok (Read o l) ≡ Ok (Write offset length) = h in cc
+module _ (offset length : ℕ) (fua : Bool) where
+  read-no-write : (a b : Bool) (o l : ℕ) → (if a then Err Invalid else if b then Err Invalid else Ok (Read o l)) ≡ Ok (Write offset length fua) → ⊥
+  read-no-write true b o l h = let clash : Err Invalid ≡ Ok (Write offset length fua) = h in cc
+  read-no-write false true o l h = let clash : Err Invalid ≡ Ok (Write offset length fua) = h in cc
+  read-no-write false false o l h = let clash : Ok (Read o l) ≡ Ok (Write offset length fua) = h in cc
 
-write-length : (a b c : Bool) (o l offset length : ℕ) → (if a then Err Invalid else if b then Err NotPermitted else if c then Err NoSpace else Ok (Write o l)) ≡ Ok (Write offset length) → l ≡ length
-write-length true b c o l offset length h = let clash : Err Invalid ≡ Ok (Write offset length) = h in cc
-write-length false true c o l offset length h = let clash : Err NotPermitted ≡ Ok (Write offset length) = h in cc
-write-length false false true o l offset length h = let clash : Err NoSpace ≡ Ok (Write offset length) = h in cc
-write-length false false false o l offset length h = let same : Ok (Write o l) ≡ Ok (Write offset length) = h in cc
+  flush-no-write : (a : Bool) → (if a then Ok Flush else Err Invalid) ≡ Ok (Write offset length fua) → ⊥
+  flush-no-write true h = let clash : Ok Flush ≡ Ok (Write offset length fua) = h in cc
+  flush-no-write false h = let clash : Err Invalid ≡ Ok (Write offset length fua) = h in cc
 
-flush-no-write : (a : Bool) (offset length : ℕ) → (if a then Ok Flush else Err Invalid) ≡ Ok (Write offset length) → ⊥
-flush-no-write true offset length h = let clash : Ok Flush ≡ Ok (Write offset length) = h in cc
-flush-no-write false offset length h = let clash : Err Invalid ≡ Ok (Write offset length) = h in cc
+  cache-no-write : (a : Bool) → (if a then Err Invalid else Ok Hint) ≡ Ok (Write offset length fua) → ⊥
+  cache-no-write true h = let clash : Err Invalid ≡ Ok (Write offset length fua) = h in cc
+  cache-no-write false h = let clash : Ok Hint ≡ Ok (Write offset length fua) = h in cc
 
-payload-cases : (a z b f : Bool) (reads writes flushes : Result Command RequestError) (n offset length : ℕ) → (reads ≡ Ok (Write offset length) → ⊥) → (flushes ≡ Ok (Write offset length) → ⊥)
-    → (writes ≡ Ok (Write offset length) → n ≡ length)
-    → (if a then Err Invalid else if z then reads else if b then writes else if f then flushes else Err Invalid) ≡ Ok (Write offset length) → (if b then n else 0) ≡ length
-payload-cases true z b f reads writes flushes n offset length none more some h = let clash : Err Invalid ≡ Ok (Write offset length) = h in cc
-payload-cases false true b f reads writes flushes n offset length none more some h = absurd (none h)
-payload-cases false false true f reads writes flushes n offset length none more some h = some h
-payload-cases false false false true reads writes flushes n offset length none more some h = absurd (more h)
-payload-cases false false false false reads writes flushes n offset length none more some h = let clash : Err Invalid ≡ Ok (Write offset length) = h in cc
+  changing-write : (a b : Bool) (past : RequestError) (command : Command) → (if a then Err NotPermitted else if b then Err past else Ok command) ≡ Ok (Write offset length fua) → command ≡ Write offset length fua
+  changing-write true b past command h = let clash : Err NotPermitted ≡ Ok (Write offset length fua) = h in cc
+  changing-write false true past command h = let clash : Err past ≡ Ok (Write offset length fua) = h in cc
+  changing-write false false past command h = let same : Ok command ≡ Ok (Write offset length fua) = h in cc
 
--- a write has the bytes that it writes behind it
-pub write-payload : (e : ExportRecord) (h : Header) (offset length : ℕ) → command_of e h ≡ Ok (Write offset length) → payload_len h ≡ length
-unfolding command_of
-write-payload e h offset length is =
-    payload-cases (not (h.flags == 0)) (h.kind == 0) (h.kind == 1) (h.kind == 3) (read_command e h) (write_command e h) (flush_command h) h.length offset length
-    (read-no-write (nat_lt most_length h.length) (nat_lt e.size (h.offset + h.length)) h.offset h.length offset length)
-    (flush-no-write ((h.offset == 0) && (h.length == 0)) offset length)
-    (write-length (nat_lt most_length h.length) (not e.writable) (nat_lt e.size (h.offset + h.length)) h.offset h.length offset length) is
+  trim-no-write : (a b : Bool) → (if a then Err NotPermitted else if b then Err Invalid else Ok Hint) ≡ Ok (Write offset length fua) → ⊥
+  trim-no-write a b h = let clash : Hint ≡ Write offset length fua = changing-write a b Invalid Hint h in cc
 
-pub served-write : (e : ExportRecord) (w w' : World) (h : Header) (offset length : ℕ) (payload : List ℕ) (result : Result Unit RequestError) (outcome : RequestOutcome) → command_of e h ≡ Ok (Write offset length)
-    → ServesCommand e w (Ok (Write offset length)) payload (written result) w' → written result ≡ outcome → Serves e w h payload outcome w'
-served-write e w w' h offset length payload result outcome command p is =
-    subst (λ c. ServesCommand e w c payload outcome w') (sym command) (subst (λ o. ServesCommand e w (Ok (Write offset length)) payload o w') is p)
+  zero-no-write : (a b : Bool) (o l : ℕ) (f : Bool) → (if a then Err NotPermitted else if b then Err NoSpace else Ok (Zero o l f)) ≡ Ok (Write offset length fua) → ⊥
+  zero-no-write a b o l f h = let clash : Zero o l f ≡ Write offset length fua = changing-write a b NoSpace (Zero o l f) h in cc
+
+  write-length : (a b c : Bool) (o l : ℕ) (f : Bool) → (if a then Err Invalid else if b then Err NotPermitted else if c then Err NoSpace else Ok (Write o l f)) ≡ Ok (Write offset length fua) → l ≡ length
+  write-length true b c o l f h = let clash : Err Invalid ≡ Ok (Write offset length fua) = h in cc
+  write-length false b c o l f h = let same : Write o l f ≡ Write offset length fua = changing-write b c NoSpace (Write o l f) h in cc
+
+  others-no-write : (a b c d : Bool) (flushes trims caches zeroes : Result Command RequestError) → (flushes ≡ Ok (Write offset length fua) → ⊥) → (trims ≡ Ok (Write offset length fua) → ⊥)
+      → (caches ≡ Ok (Write offset length fua) → ⊥) → (zeroes ≡ Ok (Write offset length fua) → ⊥)
+      → (if a then flushes else if b then trims else if c then caches else if d then zeroes else Err Invalid) ≡ Ok (Write offset length fua) → ⊥
+  others-no-write true b c d flushes trims caches zeroes p q r s h = p h
+  others-no-write false true c d flushes trims caches zeroes p q r s h = q h
+  others-no-write false false true d flushes trims caches zeroes p q r s h = r h
+  others-no-write false false false true flushes trims caches zeroes p q r s h = s h
+  others-no-write false false false false flushes trims caches zeroes p q r s h = let clash : Err Invalid ≡ Ok (Write offset length fua) = h in cc
+
+  payload-cases : (a z b : Bool) (reads writes others : Result Command RequestError) (n : ℕ) → (reads ≡ Ok (Write offset length fua) → ⊥) → (others ≡ Ok (Write offset length fua) → ⊥)
+      → (writes ≡ Ok (Write offset length fua) → n ≡ length) → (if a then Err Invalid else if z then reads else if b then writes else others) ≡ Ok (Write offset length fua) → (if b then n else 0) ≡ length
+  payload-cases true z b reads writes others n none more some h = let clash : Err Invalid ≡ Ok (Write offset length fua) = h in cc
+  payload-cases false true b reads writes others n none more some h = absurd (none h)
+  payload-cases false false true reads writes others n none more some h = some h
+  payload-cases false false false reads writes others n none more some h = absurd (more h)
+
+  -- a write has the bytes that it writes behind it
+  pub write-payload : (e : ExportRecord) (h : Header) → command_of e h ≡ Ok (Write offset length fua) → payload_len h ≡ length
+  unfolding command_of
+  write-payload e h is =
+      let past = nat_lt e.size (h.offset + h.length) in
+      payload-cases (not (has_offered h)) (h.kind == 0) (h.kind == 1) (read_command e h) (write_command e h)
+      (if h.kind == 3 then flush_command h else if h.kind == 4 then trim_command e h else if h.kind == 5 then cache_command e h else if h.kind == 6 then zero_command e h else Err Invalid) h.length
+      (read-no-write (nat_lt most_length h.length) past h.offset h.length)
+      (others-no-write (h.kind == 3) (h.kind == 4) (h.kind == 5) (h.kind == 6) (flush_command h) (trim_command e h) (cache_command e h) (zero_command e h)
+      (flush-no-write ((h.offset == 0) && (h.length == 0))) (trim-no-write (not e.writable) past) (cache-no-write past) (zero-no-write (not e.writable) past h.offset h.length (has_fua h)))
+      (write-length (nat_lt most_length h.length) (not e.writable) past h.offset h.length (has_fua h)) is
+
+pub served-write : (e : ExportRecord) (w w' : World) (h : Header) (offset length : ℕ) (fua : Bool) (payload : List ℕ) (outcome : RequestOutcome) → command_of e h ≡ Ok (Write offset length fua)
+    → Settles fua (WritesGiven e w offset payload) outcome w' → Serves e w h payload outcome w'
+served-write e w w' h offset length fua payload outcome command p = subst (λ c. ServesCommand e w c payload outcome w') (sym command) p
+
+-- ---- with FUA
+
+-- what was done is settled
+pub settled : (fua : Bool) (Does : RequestOutcome → World → Type 0) (mid w' : World) (outcome : RequestOutcome) → Does (Ok []) mid → Settles fua (Stays mid) outcome w' → Settles fua Does outcome w'
+settled false Does mid w' outcome p s = subst (λ o. Does o w') (sym s.0) (subst (λ (x : World). Does (Ok []) x) (sym s.1) p)
+settled true Does mid w' (Ok content) p s = (mid, p, subst (λ (x : World). Flushes x (Ok content) w') s.1.1 s.2)
+settled true Does mid w' (Err error) p (inl s) = let clash : Err error ≡ Ok [] = s.0 in cc
+settled true Does mid w' (Err error) p (inr s) = inr (mid, p, subst (λ (x : World). Flushes x (Err error) w') s.1.1 s.2)
+
+-- what failed has nothing to settle
+pub unsettled : (fua : Bool) (Does : RequestOutcome → World → Type 0) (w' : World) (error : RequestError) → Does (Err error) w' → Settles fua Does (Err error) w'
+unsettled false Does w' error p = p
+unsettled true Does w' error p = inl p
+
+-- ---- zeros
+
+some-written : (e : ExportRecord) (w : World) (offset : ℕ) (bytes : List ℕ) (outcome : RequestOutcome) (w' : World) → 0 < length bytes → WritesBytes e w offset bytes outcome w' → WritesSome e w offset bytes outcome w'
+some-written e w offset [] outcome w' some p = absurd (omega (arith, some))
+some-written e w offset (byte ∷ more) outcome w' some p = p
+
+module _ (e : ExportRecord) (w mid w' : World) (offset len : ℕ) (some : 0 < len) where
+  zeros-some : 0 < length {A = ℕ} (replicate len 0)
+  zeros-some = omega (arith, length-replicate {A = ℕ} len 0, some)
+
+  pub zeros-unread : (error : RequestError) → FailsToReadEnds e w offset len error w' → WritesSome e w offset (replicate len 0) (Err error) w'
+  zeros-unread error p = some-written e w offset (replicate len 0) (Err error) w' zeros-some (inl (subst (λ n. FailsToReadEnds e w offset n error w') (sym (length-replicate {A = ℕ} len 0)) p))
+
+  pub zeros-written : (before behind : List ℕ) (result : Result Unit RequestError) → ReadsEnds e w offset len before behind mid → OnOk result (IsStored mid e.device (offset / 512) (before ++ (replicate len 0 ++ behind)) w')
+      → IfErr result (λ error. FailsToStore mid e.device (offset / 512) (before ++ (replicate len 0 ++ behind)) error w') → WritesSome e w offset (replicate len 0) (written result) w'
+  zeros-written before behind result p ok err =
+      let sectors = before ++ (replicate len 0 ++ behind) in
+      let framed : IsFramed e w offset (replicate len 0) sectors mid =
+      record { before = before; behind = behind; ends = subst (λ n. ReadsEnds e w offset n before behind mid) (sym (length-replicate {A = ℕ} len 0)) p; sectors_are = refl } in
+      some-written e w offset (replicate len 0) (written result) w' zeros-some (writes-ended e w mid w' offset (replicate len 0) sectors result framed ok err)

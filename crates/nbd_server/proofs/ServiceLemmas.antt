@@ -1,6 +1,6 @@
 -- A service, message by message.
 use Rattle.std.proofs.Common.{◌≡◌, ◌≢◌, ℕ, ◌+◌, ◌-◌, ◌/◌, ◌%◌, List, [], ◌∷◌, ◌++◌, length, refl, ap, sym, ◌∙◌, subst, append_assoc, append-nil, inl, inr, Option, Some, None, Result, Ok, Err}
-use Rattle.std.specs.Prelude.{◌⊎◌}
+use Rattle.std.specs.Prelude.{◌⊎◌, Bool, true, false, replicate}
 use Rattle.std.specs.Io.KnownBytes.{Appends, Keeps}
 use Rattle.std.proofs.KnownBytes.{Appends-nil, Appends-trans, Appends-kept, Consumes-nil, Consumes-trans}
 use Rattle.request_queue.specs.World.{World}
@@ -10,12 +10,12 @@ use Rattle.nbd_server.specs.declared.fault.ServiceFault.TheVariants as fault
 use Rattle.nbd_server.specs.declared.phase.Phase.{Phase}
 use Rattle.nbd_server.specs.declared.phase.Phase.TheVariants.{Greeted, Haggling, Serving, Over}
 use Rattle.nbd_server.specs.declared.header.Command.{Command}
-use Rattle.nbd_server.specs.declared.header.Command.TheVariants.{Read, Write, Flush}
+use Rattle.nbd_server.specs.declared.header.Command.TheVariants.{Read, Write, Zero, Hint, Flush}
 use Rattle.nbd_server.specs.declared.request_error.RequestError.{RequestError}
 use Rattle.nbd_server.specs.Exports.{ExportRecord, IsExport}
 use Rattle.nbd_server.specs.Headers.{command_of, header_of}
 use Rattle.nbd_server.specs.Sectors.{FailsToFetch, EndsIn, StopsAfter, EndsPut, StopsPut}
-use Rattle.nbd_server.specs.Transmission.{RequestOutcome, FailsToReadEnds, IsFramed, ReadsBytes, ServesCommand, WritesBytes, WritesSome, room_behind, touched}
+use Rattle.nbd_server.specs.Transmission.{RequestOutcome, FailsToReadEnds, Flushes, IsFramed, ReadsBytes, ServesCommand, Settles, WritesBytes, WritesGiven, WritesSome, room_behind, touched}
 use Rattle.nbd_server.specs.Handshake.{greeting}
 use Rattle.nbd_server.specs.Causes.{Breaks}
 use Rattle.nbd_server.specs.Streaming.{Spoken}
@@ -150,13 +150,28 @@ write-config : (e : ExportRecord) (w : World) (offset : ℕ) (bytes : List ℕ) 
 write-config e w offset [] outcome w' p = same-config w w' p.1
 write-config e w offset (byte ∷ more) outcome w' p = bytes-config e w offset (byte ∷ more) outcome w' p
 
+given-config : (e : ExportRecord) (w : World) (offset : ℕ) (bytes : List ℕ) (outcome : RequestOutcome) (w' : World) → WritesGiven e w offset bytes outcome w' → w'.stack.config ≡ w.stack.config
+given-config e w offset bytes outcome w' (inl p) = same-config w w' p.1
+given-config e w offset bytes outcome w' (inr p) = write-config e w offset bytes outcome w' p
+
+flush-config : (w : World) (outcome : RequestOutcome) (w' : World) → Flushes w outcome w' → w'.stack.config ≡ w.stack.config
+flush-config w (Ok content) w' p = ap (λ (x : World). x.stack.config) p.1
+flush-config w (Err error) w' p = ap (λ (x : World). x.stack.config) p.2.leaves
+
+settle-config : (w : World) (fua : Bool) (Does : RequestOutcome → World → Type 0) → ((o : RequestOutcome) (v : World) → Does o v → v.stack.config ≡ w.stack.config) → (outcome : RequestOutcome) (w' : World)
+    → Settles fua Does outcome w' → w'.stack.config ≡ w.stack.config
+settle-config w false Does kept outcome w' p = kept outcome w' p
+settle-config w true Does kept (Ok content) w' p = flush-config p.0 (Ok content) w' p.2 ∙ kept (Ok []) p.0 p.1
+settle-config w true Does kept (Err error) w' (inl p) = kept (Err error) w' p
+settle-config w true Does kept (Err error) w' (inr p) = flush-config p.0 (Err error) w' p.2 ∙ kept (Ok []) p.0 p.1
+
 command-config : (e : ExportRecord) (w : World) (command : Result Command RequestError) (payload : List ℕ) (outcome : RequestOutcome) (w' : World) → ServesCommand e w command payload outcome w' → w'.stack.config ≡ w.stack.config
 command-config e w (Err error) payload outcome w' p = same-config w w' p.1
 command-config e w (Ok (Read offset length)) payload outcome w' p = read-config e w offset length outcome w' p
-command-config e w (Ok (Write offset length)) payload outcome w' (inl p) = same-config w w' p.1
-command-config e w (Ok (Write offset length)) payload outcome w' (inr p) = write-config e w offset payload outcome w' p
-command-config e w (Ok Flush) payload (Ok content) w' p = ap (λ (x : World). x.stack.config) p.1
-command-config e w (Ok Flush) payload (Err error) w' p = ap (λ (x : World). x.stack.config) p.2.leaves
+command-config e w (Ok (Write offset length fua)) payload outcome w' p = settle-config w fua (WritesGiven e w offset payload) (λ o v q. given-config e w offset payload o v q) outcome w' p
+command-config e w (Ok (Zero offset length fua)) payload outcome w' p = settle-config w fua (WritesSome e w offset (replicate length 0)) (λ o v q. write-config e w offset (replicate length 0) o v q) outcome w' p
+command-config e w (Ok Hint) payload outcome w' p = same-config w w' p.1
+command-config e w (Ok Flush) payload outcome w' p = flush-config w outcome w' p
 
 request-config : (e : ExportRecord) (w : World) (header payload reply : List ℕ) (next : Phase) (w' : World) → IsLast w header reply next w' ⊎ ((header_of header).kind ≢ 2) × IsServed e w header payload reply next w' → w'.stack.config ≡ w.stack.config
 request-config e w header payload reply next w' (inl x) = same-config w w' x.same

@@ -1,7 +1,7 @@
 -- Sectors that are put by one run after another.
-use Rattle.std.proofs.Common.{◌≡◌, ◌≤◌, ℕ, ◌+◌, ◌-◌, ◌*◌, ◌/◌, ◌%◌, List, [], ◌++◌, length, take, drop, refl, ap, sym, ◌∙◌, subst, append_assoc, append-nil, arith, inl, inr, Some, Result, Ok, Err}
-use Rattle.std.specs.Prelude.{◌⊎◌}
-use Rattle.std.proofs.lemmas.List.{length-append, length-take-le, take-append-drop, take-append-le}
+use Rattle.std.proofs.Common.{◌≡◌, ◌≤◌, ℕ, ◌+◌, ◌-◌, ◌*◌, ◌/◌, ◌%◌, List, [], ◌++◌, length, take, drop, replicate, refl, ap, sym, ◌∙◌, subst, append_assoc, append-nil, arith, inl, inr, Some, Result, Ok, Err}
+use Rattle.std.specs.Prelude.{◌⊎◌, IfErr, OnOk}
+use Rattle.std.proofs.lemmas.List.{drop-replicate, length-append, length-replicate, length-take-le, take-append-drop, take-append-le, take-replicate}
 use Rattle.std.proofs.Math.Seq.{take-append-add, take-add}
 use Rattle.stack_rules.specs.Names.{device_named}
 use Rattle.stack_meaning.specs.declared.fault.IoFault.{IoFault}
@@ -166,3 +166,59 @@ module _ (w v w' : World) (d first : ℕ) (bytes : List ℕ) (done part : ℕ) (
       subst (λ l. FailsToStore w d first l error w') all
       (stored-fails w v w' d first (take done bytes) y z even p error
       (subst (λ k. FailsToStore v d k y error w') start (subst (λ n. FailsToStore v d (first + done / 512) (take n (drop done bytes)) error w') as-part q)))
+
+-- ---- what is put, and what is left
+
+-- of all bytes those before the rest were put, as far as that sector
+pub record IsPut (w : World) (d first at : ℕ) (all rest : List ℕ) (w' : World) : Type 0 where
+  pub front : List ℕ
+  pub stored : IsStored w d first front w'
+  pub whole : length front % 512 ≡ 0
+  pub place : at ≡ first + length front / 512
+  pub all_is : all ≡ front ++ rest
+
+pub put-none : (w : World) (d first : ℕ) (all : List ℕ) → IsPut w d first first all all w
+put-none w d first all = record { front = []; stored = stored-none w d first; whole = refl; place = omega arith; all_is = refl }
+
+module _ (w v w' : World) (d first at : ℕ) (all y : List ℕ) where
+  pub put-more : (z : List ℕ) → length y % 512 ≡ 0 → IsPut w d first at all (y ++ z) v → IsStored v d at y w' → IsPut w d first (at + length y / 512) all z w'
+  put-more z even p q = record {
+    front = p.front ++ y;
+    stored = stored-more w v w' d first p.front y p.whole p.stored (subst (λ k. IsStored v d k y w') p.place q);
+    whole = omega (arith, length-append p.front y, p.whole, even);
+    place = omega (arith, length-append p.front y, p.place, p.whole, even);
+    all_is = p.all_is ∙ sym (append_assoc p.front y z);
+  }
+
+  pub put-ends : (z : List ℕ) (error : RequestError) → IsPut w d first at all (y ++ z) v → FailsToStore v d at y error w' → FailsToStore w d first all error w'
+  put-ends z error p q = subst (λ l. FailsToStore w d first l error w') (sym p.all_is) (stored-fails w v w' d first p.front y z p.whole p.stored error (subst (λ k. FailsToStore v d k y error w') p.place q))
+
+  put-last : IsPut w d first at all y v → IsStored v d at y w' → IsStored w d first all w'
+  put-last p q = subst (λ l. IsStored w d first l w') (sym p.all_is) (stored-more w v w' d first p.front y p.whole p.stored (subst (λ k. IsStored v d k y w') p.place q))
+
+  put-last-ends : (error : RequestError) → IsPut w d first at all y v → FailsToStore v d at y error w' → FailsToStore w d first all error w'
+  put-last-ends error p q = put-ends [] error (subst (λ l. IsPut w d first at all l v) (sym (append-nil y)) p) q
+
+  -- the last of them
+  pub put-ok : (result : Result Unit RequestError) → IsPut w d first at all y v → OnOk result (IsStored v d at y w') → OnOk result (IsStored w d first all w')
+  put-ok (Ok done) p q = put-last p q
+  put-ok (Err error) p q = tt
+
+  pub put-err : (result : Result Unit RequestError) → IsPut w d first at all y v → IfErr result (λ error. FailsToStore v d at y error w') → IfErr result (λ error. FailsToStore w d first all error w')
+  put-err (Ok done) p q = tt
+  put-err (Err error) p q = put-last-ends error p q
+
+-- ---- zeros
+
+pub length-zeros : (before behind : List ℕ) (n : ℕ) → length (before ++ (replicate n 0 ++ behind)) ≡ length before + (n + length behind)
+length-zeros before behind n = omega (arith, length-append before (replicate n 0 ++ behind), length-append {A = ℕ} (replicate n 0) behind, length-replicate {A = ℕ} n 0)
+
+-- the first of them, and the others
+pub zeros-split : (before behind : List ℕ) (m n : ℕ) → m ≤ n → before ++ (replicate n 0 ++ behind) ≡ (before ++ (replicate m 0 ++ [])) ++ ([] ++ (replicate (n - m) 0 ++ behind))
+zeros-split before behind m n few =
+    let halves : replicate n 0 ≡ replicate m 0 ++ replicate (n - m) 0 =
+    sym (take-append-drop m (replicate n 0)) ∙ ap (λ l. l ++ drop m (replicate n 0)) (take-replicate m n 0 few) ∙ ap (λ l. replicate m 0 ++ l) (drop-replicate m n 0) in
+    ap (λ l. before ++ (l ++ behind)) halves
+    ∙ ap (λ l. before ++ l) (append_assoc (replicate m 0) (replicate (n - m) 0) behind)
+    ∙ sym (append_assoc before (replicate m 0) (replicate (n - m) 0 ++ behind))
+    ∙ ap (λ l. (before ++ l) ++ (replicate (n - m) 0 ++ behind)) (sym (append-nil (replicate m 0)))

@@ -1,5 +1,5 @@
 -- What is served: a mapped device as a run of bytes.
-use Rattle.std.specs.Prelude.{◌≡◌, ◌⊎◌, ◌<◌, ◌≤◌, ◌||◌, ◌==◌, ℕ, ◌*◌, ◌^◌, Bool, List, length, Some, None, if◌then◌else◌}
+use Rattle.std.specs.Prelude.{◌≡◌, ◌⊎◌, ◌<◌, ◌≤◌, ◌||◌, ◌==◌, ℕ, ◌+◌, ◌*◌, ◌^◌, Bool, List, length, Some, None, if◌then◌else◌}
 use Rattle.std.specs.Str.{bytes_eq}
 use Rattle.stack_rules.specs.Names.{device_named, mapped, may_write, size}
 use Rattle.stack_rules.specs.Records.{Configuration}
@@ -37,6 +37,36 @@ HasNoExport c name =
 abbrev pub is_asked : ExportRecord → List ℕ → Bool
 is_asked e name = (length name == 0) || bytes_eq name e.name
 
--- what a client is told of it: that there are flags, that it takes FLUSH, and whether it may only be read
+-- ---- the transmission flags
+
+abbrev pub has_flags : ℕ
+has_flags = 1
+
+abbrev pub read_only : ℕ
+read_only = 2
+
+abbrev pub send_flush : ℕ
+send_flush = 4
+
+abbrev pub send_fua : ℕ
+send_fua = 8
+
+abbrev pub send_trim : ℕ
+send_trim = 32
+
+abbrev pub send_write_zeroes : ℕ
+send_write_zeroes = 64
+
+abbrev pub can_multi_conn : ℕ
+can_multi_conn = 256
+
+abbrev pub send_cache : ℕ
+send_cache = 1024
+
+-- what any client is told of an export
+abbrev pub flags_of_each : ℕ
+flags_of_each = has_flags + send_flush + send_fua + send_cache
+
+-- What a client is told of it. Several connections see the same bytes where none of them writes.
 abbrev pub transmission_flags : ExportRecord → ℕ
-transmission_flags e = if e.writable then 5 else 7
+transmission_flags e = flags_of_each + (if e.writable then send_trim + send_write_zeroes else read_only + can_multi_conn)

@@ -44,9 +44,9 @@ export_fields e no_zeroes = bytes64 e.size ++ (bytes16 (transmission_flags e) ++
 abbrev pub export_info : ExportRecord → List ℕ
 export_info e = bytes16 0 ++ (bytes64 e.size ++ bytes16 (transmission_flags e))
 
--- the least, the best and the greatest length of a request
+-- the least, the best and the greatest block of a request: any byte may be read and written
 abbrev pub size_info : List ℕ
-size_info = bytes16 3 ++ (bytes32 512 ++ (bytes32 4096 ++ bytes32 most_length))
+size_info = bytes16 3 ++ (bytes32 1 ++ (bytes32 4096 ++ bytes32 most_length))
 
 -- the name of the only export
 abbrev pub name_field : ExportRecord → List ℕ

@@ -7,4 +7,5 @@ pub mod Transmission
 pub mod Streaming
 pub mod Causes
 pub mod Service
+pub mod Zeros
 pub mod Premises

@@ -2,6 +2,8 @@
 use Rattle.std.specs.Prelude.{◌≡◌, ◌≢◌, ◌<◌, ◌≤◌, ℕ, ◌+◌, ◌*◌, ◌/◌, ◌%◌, ◌^◌, List, length}
 use Rattle.stack_rules.specs.Records.{Configuration}
 use Rattle.nbd_server.specs.Exports.{ExportRecord, IsExport}
+use Rattle.nbd_server.specs.Transmission.{room_behind}
+use Rattle.nbd_server.specs.declared.zeros.Zeros.{Zeros}
 use Rattle.nbd_server.specs.declared.phase.Phase.{Phase}
 use Rattle.nbd_server.specs.declared.phase.Phase.TheVariants.{Over}
 
@@ -15,10 +17,21 @@ pub record AreBytesOf (c : Configuration) (e : ExportRecord) (offset count : ℕ
   pub export : IsExport c e
   pub within : offset + count < 2 ^ 64
 
+-- how many bytes stand before some bytes in the first sector that they touch, and behind them in the last
+pub record HaveSizes (offset count : ℕ) (front back : List ℕ) : Type 0 where
+  pub before : length front ≡ offset % 512
+  pub behind : length back ≡ room_behind offset count
+
 -- the bytes of whole sectors, whose numbers are small
 pub record AreSectors (first : ℕ) (bytes : List ℕ) : Type 0 where
   pub whole : length bytes % 512 ≡ 0
   pub small : first + length bytes / 512 ≤ 2 ^ 60
+
+-- zeros of a request, with less than a sector before them and behind them
+pub record HaveEnds (z : Zeros) : Type 0 where
+  pub before : length z.before.now < 512
+  pub few : z.count < 2 ^ 32
+  pub behind : length z.behind.now < 512
 
 -- some bytes have their place in so many sectors
 pub record HavePlace (sectors start count : ℕ) : Type 0 where

@@ -1,5 +1,5 @@
 -- The transmission phase: what a request is answered.
-use Rattle.std.specs.Prelude.{◌≡◌, ◌⊎◌, ◌≤◌, ℕ, ◌+◌, ◌-◌, ◌*◌, ◌/◌, ◌%◌, List, [], ◌∷◌, ◌++◌, length, take, drop, Result, Ok, Err, IfOk, Option}
+use Rattle.std.specs.Prelude.{◌≡◌, ◌⊎◌, ◌≤◌, ℕ, ◌+◌, ◌-◌, ◌*◌, ◌/◌, ◌%◌, Bool, true, false, List, [], ◌∷◌, ◌++◌, length, take, drop, replicate, Result, Ok, Err, IfOk, Option}
 use Rattle.std.specs.Io.KnownBytes.{Consumes}
 use Rattle.stack_meaning.specs.declared.fault.IoFault.{IoFault}
 use Rattle.request_queue.specs.Parts.{EachPart}
@@ -10,7 +10,7 @@ use Rattle.nbd_server.specs.Headers.{command_of, error_number, payload_len}
 use Rattle.nbd_server.specs.Sectors.{IsFetched, FailsToFetch, IsStored, FailsToStore}
 use Rattle.nbd_server.specs.declared.header.Header.{Header}
 use Rattle.nbd_server.specs.declared.header.Command.{Command}
-use Rattle.nbd_server.specs.declared.header.Command.TheVariants.{Read, Write, Flush}
+use Rattle.nbd_server.specs.declared.header.Command.TheVariants.{Read, Write, Zero, Hint, Flush}
 use Rattle.nbd_server.specs.declared.reply.Data.{Data}
 use Rattle.nbd_server.specs.declared.request_error.RequestError.{RequestError}
 use Rattle.nbd_server.specs.declared.request_error.RequestError.TheVariants.{NoMemory, InputOutput}
@@ -23,6 +23,10 @@ RequestOutcome = Result (List ℕ) RequestError
 abbrev pub simple_reply : ℕ → RequestOutcome → List ℕ
 simple_reply cookie (Ok content) = bytes32 0x67446698 ++ (bytes32 0 ++ (bytes64 cookie ++ content))
 simple_reply cookie (Err error) = bytes32 0x67446698 ++ (bytes32 (error_number error) ++ bytes64 cookie)
+
+-- answered, and nothing happened
+abbrev pub Stays : World → RequestOutcome → World → Type 0
+Stays w outcome w' = (outcome ≡ Ok []) × (w' ≡ w)
 
 -- how many sectors some bytes touch
 abbrev pub touched : ℕ → ℕ → ℕ
@@ -69,7 +73,7 @@ WritesBytes e w offset bytes (Err error) w' =
 
 -- a write of no bytes does nothing
 abbrev pub WritesSome : ExportRecord → World → ℕ → List ℕ → RequestOutcome → World → Type 0
-WritesSome e w offset [] outcome w' = (outcome ≡ Ok []) × (w' ≡ w)
+WritesSome e w offset [] outcome w' = Stays w outcome w'
 WritesSome e w offset (byte ∷ more) outcome w' = WritesBytes e w offset (byte ∷ more) outcome w'
 
 -- ---- flushes
@@ -79,17 +83,29 @@ abbrev pub Flushes : World → RequestOutcome → World → Type 0
 Flushes w (Ok content) w' = (content ≡ []) × Step EachPart w (sync (Ok tt)) w'
 Flushes w (Err error) w' = (error ≡ InputOutput) × (fault : IoFault) × Step EachPart w (sync (Err fault)) w'
 
+-- with FUA, what was done is followed by such a sync
+abbrev pub Settles : Bool → (RequestOutcome → World → Type 0) → RequestOutcome → World → Type 0
+Settles false Does outcome w' = Does outcome w'
+Settles true Does (Ok content) w' = (mid : World) × Does (Ok []) mid × Flushes mid (Ok content) w'
+Settles true Does (Err error) w' = Does (Err error) w' ⊎ ((mid : World) × Does (Ok []) mid × Flushes mid (Err error) w')
+
 -- ---- requests
 
 -- this outcome, and nothing happened
 abbrev pub Refuses : World → RequestError → RequestOutcome → World → Type 0
 Refuses w error outcome w' = (outcome ≡ Err error) × (w' ≡ w)
 
--- how a request ends that asks for this, or has that fault; memory may run out for the bytes of a write
+-- a write of bytes that follow the request, for which memory may run out
+abbrev pub WritesGiven : ExportRecord → World → ℕ → List ℕ → RequestOutcome → World → Type 0
+WritesGiven e w offset bytes outcome w' = Refuses w NoMemory outcome w' ⊎ WritesSome e w offset bytes outcome w'
+
+-- How a request ends that asks for this, or has that fault. WRITE_ZEROES is a write of as many zeros.
 abbrev pub ServesCommand : ExportRecord → World → Result Command RequestError → List ℕ → RequestOutcome → World → Type 0
 ServesCommand e w (Err error) payload outcome w' = Refuses w error outcome w'
 ServesCommand e w (Ok (Read offset length)) payload outcome w' = ReadsBytes e w offset length outcome w'
-ServesCommand e w (Ok (Write offset length)) payload outcome w' = Refuses w NoMemory outcome w' ⊎ WritesSome e w offset payload outcome w'
+ServesCommand e w (Ok (Write offset length fua)) payload outcome w' = Settles fua (WritesGiven e w offset payload) outcome w'
+ServesCommand e w (Ok (Zero offset length fua)) payload outcome w' = Settles fua (WritesSome e w offset (replicate length 0)) outcome w'
+ServesCommand e w (Ok Hint) payload outcome w' = Stays w outcome w'
 ServesCommand e w (Ok Flush) payload outcome w' = Flushes w outcome w'
 
 -- how a request ends

@@ -1,14 +1,15 @@
 //! Bytes of the export, read and written by the sectors that they touch.
-ghost use Rattle.std.specs.Prelude.{◌≡◌, ◌<◌, ◌≤◌, ◌+◌, ◌*◌, ◌%◌, ◌^◌, [], drop, length, take, Ok, IfErr, IfOk, OnOk};
+ghost use Rattle.std.specs.Prelude.{◌≡◌, ◌<◌, ◌≤◌, ◌+◌, ◌*◌, ◌%◌, ◌^◌, drop, length, replicate, take, Ok, IfErr, IfOk};
 ghost use Rattle.nbd_server.specs.Exports.{IsExport, export_record};
-ghost use Rattle.nbd_server.specs.Premises.{AreBytesOf};
-ghost use Rattle.nbd_server.specs.Transmission.{FailsToReadEnds, IsFramed, IsInside, ReadsBytes, WritesBytes, outcome_of, touched, written};
+ghost use Rattle.nbd_server.specs.Premises.{AreBytesOf, HaveSizes};
+ghost use Rattle.nbd_server.specs.Transmission.{FailsToReadEnds, IsInside, ReadsBytes, ReadsEnds, WritesBytes, WritesSome, data_of, outcome_of, touched, written};
 
 use crate::export::Export;
 use crate::fetch::fetch;
 use crate::reply::Data;
 use crate::request_error::RequestError;
-use crate::store::store;
+use crate::store::{store, store_zeros};
+use crate::zeros::Zeros;
 use block_device::BlockDev;
 use request_queue::Queue;
 use std::alloc::Global;
@@ -42,6 +43,13 @@ pub(crate) fn read_bytes<D: BlockDev>(
     })
 }
 
+// What stands before some bytes in the first sector that they touch, and behind them in the last.
+#[derive(Drop)]
+struct Ends {
+    before: Data,
+    behind: Data,
+}
+
 // Reads what stands around some bytes in the sectors that they touch.
 fn read_ends<D: BlockDev>(
     alloc: Global,
@@ -49,21 +57,18 @@ fn read_ends<D: BlockDev>(
     export: &Export<'_>,
     offset: u64,
     len: u32,
-    bytes: &mut [u8],
-) -> Result<(), RequestError>
-    requires bytes { AreBytesOf queue.old.stack.config (export_record export.now) offset len }
-    requires room { length bytes.old ≡ 512 * touched offset len }
-    ensures ok { OnOk result (IsFramed (export_record export.now) queue.old offset (take len (drop (offset % 512) bytes.old)) bytes.new queue.new) }
+) -> Result<Ends, RequestError>
+    requires { AreBytesOf queue.old.stack.config (export_record export.now) offset len }
+    ensures ok { IfOk result (λ ends. ReadsEnds (export_record export.now) queue.old offset len (data_of ends.before) (data_of ends.behind) queue.new) }
+    ensures sizes { IfOk result (λ ends. HaveSizes offset len (data_of ends.before) (data_of ends.behind)) }
+    ensures inside { IfOk result (λ ends. IsInside (Ok ends.before) × IsInside (Ok ends.behind)) }
     ensures err { IfErr result (λ error. FailsToReadEnds (export_record export.now) queue.old offset len error queue.new) }
 {
     let start = (offset % 512) as usize;
-    let end = start + len as usize;
     let before = read_bytes(alloc, queue, export, offset - start as u64, start as u32)?;
-    bytes[..start].copy_from_slice(before.part());
-    let room = (bytes.len() - end) as u32;
+    let room = (512 * touched(offset, len) - (start + len as usize)) as u32;
     let behind = read_bytes(alloc, queue, export, offset + u64::from(len), room)?;
-    bytes[end..].copy_from_slice(behind.part());
-    Ok(())
+    Ok(Ends { before, behind })
 }
 
 /// Writes bytes of the export: `bytes` has them at their place in the sectors that they touch.
@@ -79,6 +84,33 @@ pub(crate) fn write_bytes<D: BlockDev>(
     requires room { length bytes.old ≡ 512 * touched offset len }
     ensures { WritesBytes (export_record export.now) queue.old offset (take len (drop (offset % 512) bytes.old)) (written result) queue.new }
 {
-    read_ends(alloc, queue, export, offset, len, bytes)?;
+    let ends = read_ends(alloc, queue, export, offset, len)?;
+    let start = (offset % 512) as usize;
+    let end = start + len as usize;
+    bytes[..start].copy_from_slice(ends.before.part());
+    bytes[end..].copy_from_slice(ends.behind.part());
     store(alloc, queue, export, offset / 512, bytes)
+}
+
+/// Writes as many zeros to bytes of the export.
+pub(crate) fn write_zeros<D: BlockDev>(
+    alloc: Global,
+    queue: &mut Queue<D>,
+    export: &Export<'_>,
+    offset: u64,
+    len: u32,
+) -> Result<(), RequestError>
+    requires { AreBytesOf queue.old.stack.config (export_record export.now) offset len }
+    ensures { WritesSome (export_record export.now) queue.old offset (replicate len 0) (written result) queue.new }
+{
+    if len == 0 {
+        return Ok(());
+    }
+    let ends = read_ends(alloc, queue, export, offset, len)?;
+    let zeros = Zeros {
+        before: ends.before.part(),
+        count: len as usize,
+        behind: ends.behind.part(),
+    };
+    store_zeros(alloc, queue, export, offset / 512, &zeros)
 }

@@ -7,6 +7,23 @@ use stack_config::{Config, DevId};
 // The most bytes of a string of the protocol.
 const MOST_NAME: usize = 4096;
 
+// The transmission flags.
+const HAS_FLAGS: u16 = 1;
+
+const READ_ONLY: u16 = 2;
+
+const SEND_FLUSH: u16 = 4;
+
+const SEND_FUA: u16 = 8;
+
+const SEND_TRIM: u16 = 32;
+
+const SEND_WRITE_ZEROES: u16 = 64;
+
+const CAN_MULTI_CONN: u16 = 256;
+
+const SEND_CACHE: u16 = 1024;
+
 /// A mapped device as a run of bytes.
 #[derive(Clone, Copy, Debug, PartialEq, Eq)]
 pub struct Export<'a> {
@@ -42,10 +59,16 @@ impl<'a> Export<'a> {
         name.is_empty() || name == self.name
     }
 
-    /// What a client is told of it.
+    /// What a client is told of it. Each connection is a service with a cache of its own, so that several are offered
+    /// only where none of them writes.
     pub(crate) fn flags(&self) -> u16
         ensures { result ≡ transmission_flags (export_record self.now) }
     {
-        if self.writable { 5 } else { 7 }
+        let each = HAS_FLAGS + SEND_FLUSH + SEND_FUA + SEND_CACHE;
+        if self.writable {
+            each + SEND_TRIM + SEND_WRITE_ZEROES
+        } else {
+            each + READ_ONLY + CAN_MULTI_CONN
+        }
     }
 }

@@ -17,6 +17,7 @@ mod request_error;
 mod service;
 mod store;
 mod transmission;
+mod zeros;
 
 pub use export::Export;
 pub use fault::ServiceFault;

@@ -107,12 +107,12 @@ fn say_export_info<W: Write>(writer: &mut Counted<W>, export: &Export<'_>) -> Re
     put16(writer, export.flags())
 }
 
-// The least, the best and the greatest length of a request.
+// The least, the best and the greatest block of a request.
 fn say_sizes<W: Write>(writer: &mut Counted<W>) -> Result<(), WriteFault>
     ensures { Writes W.contents writer.old writer.new size_info result }
 {
     put16(writer, 3)?;
-    put32(writer, 512)?;
+    put32(writer, 1)?;
     put32(writer, 4096)?;
     put32(writer, MOST_LENGTH)
 }

@@ -1,5 +1,5 @@
 //! The requests of the transmission phase.
-ghost use Rattle.std.specs.Prelude.{◌≡◌, ◌<◌, ◌+◌, ◌^◌, ℕ, List, length, Ok, IfOk, IfErr};
+ghost use Rattle.std.specs.Prelude.{◌≡◌, ◌<◌, ◌+◌, ◌^◌, ℕ, List, length, replicate, IfOk, IfErr};
 ghost use Rattle.std.specs.Io.KnownBytes.{Consumes};
 ghost use Rattle.counted_io.specs.Streams.{streams};
 ghost use Rattle.nbd_server.specs.Exports.{IsExport, export_record};
@@ -7,11 +7,10 @@ ghost use Rattle.nbd_server.specs.Headers.{payload_len};
 ghost use Rattle.nbd_server.specs.Premises.{AreBytesOf};
 ghost use Rattle.nbd_server.specs.Service.{Turns};
 ghost use Rattle.nbd_server.specs.Streaming.{HasRead, HasWritten, IsShort, fault_of};
-ghost use Rattle.nbd_server.specs.Transmission.{Flushes, IsInside, IsServed, ServesCommand, outcome_of, written};
-ghost use Rattle.nbd_server.specs.declared.header.Command.TheVariants.{Write};
+ghost use Rattle.nbd_server.specs.Transmission.{Flushes, IsInside, IsServed, Settles, Stays, WritesGiven, WritesSome, outcome_of, written};
 ghost use Rattle.nbd_server.specs.declared.phase.Phase.TheVariants.{Serving};
 
-use crate::byte_range::{read_bytes, touched, write_bytes};
+use crate::byte_range::{read_bytes, touched, write_bytes, write_zeros};
 use crate::export::Export;
 use crate::fault::ServiceFault;
 use crate::header::{Command, DISCONNECT, Header};
@@ -39,7 +38,7 @@ fn take_write<D: BlockDev, R: Read>(
 ) -> Result<Result<(), RequestError>, ServiceFault>
     requires { AreBytesOf queue.old.stack.config (export_record export.now) offset len }
     ensures ok { IfOk result (λ outcome. (payload : List ℕ) × (length payload ≡ len) × Consumes (R.remaining reader.old.inner) (R.remaining reader.new.inner) payload
-        × ServesCommand (export_record export.now) queue.old (Ok (Write offset len)) payload (written outcome) queue.new) }
+        × WritesGiven (export_record export.now) queue.old offset payload (written outcome) queue.new) }
     ensures err { IfErr result (λ fault. IsShort len (R.remaining reader.old.inner) (R.remaining reader.new.inner) fault × (queue.new ≡ queue.old)) }
     ensures reader { HasRead 0 reader.old reader.new (fault_of result) }
 {
@@ -63,6 +62,34 @@ fn flush<D: SyncDev>(alloc: Global, queue: &mut Queue<D>) -> Result<Data, Reques
         Ok(()) => Ok(Data::none(alloc)),
         Err(_) => Err(RequestError::InputOutput),
     }
+}
+
+// Ends what was done: with FUA by having it put on the media.
+fn settle<D: SyncDev>(alloc: Global, queue: &mut Queue<D>, fua: bool) -> Result<Data, RequestError>
+    ensures value { Settles fua (Stays queue.old) (outcome_of result) queue.new }
+    ensures inside { IsInside result }
+{
+    if fua {
+        return flush(alloc, queue);
+    }
+    Ok(Data::none(alloc))
+}
+
+// Writes zeros.
+fn zero<D: SyncDev>(
+    alloc: Global,
+    queue: &mut Queue<D>,
+    export: &Export<'_>,
+    offset: u64,
+    len: u32,
+    fua: bool,
+) -> Result<Data, RequestError>
+    requires { AreBytesOf queue.old.stack.config (export_record export.now) offset len }
+    ensures value { Settles fua (WritesSome (export_record export.now) queue.old offset (replicate len 0)) (outcome_of result) queue.new }
+    ensures inside { IsInside result }
+{
+    write_zeros(alloc, queue, export, offset, len)?;
+    settle(alloc, queue, fua)
 }
 
 // Serves a request, of which the bytes of a write are still to come.
@@ -92,12 +119,30 @@ fn serve_request<D: SyncDev, R: Read>(
             skip(reader, header.payload_len())?;
             Ok(flush(alloc, queue))
         }
-        Ok(Command::Write { offset, length }) => {
-            match take_write(alloc, queue, export, offset, length, reader)? {
-                Ok(()) => Ok(Ok(Data::none(alloc))),
-                Err(error) => Ok(Err(error)),
-            }
+        Ok(Command::Hint) => {
+            skip(reader, header.payload_len())?;
+            Ok(Ok(Data::none(alloc)))
         }
+        Ok(
+            Command::Zero {
+                offset,
+                length,
+                fua,
+            },
+        ) => {
+            skip(reader, header.payload_len())?;
+            Ok(zero(alloc, queue, export, offset, length, fua))
+        }
+        Ok(
+            Command::Write {
+                offset,
+                length,
+                fua,
+            },
+        ) => match take_write(alloc, queue, export, offset, length, reader)? {
+            Ok(()) => Ok(settle(alloc, queue, fua)),
+            Err(error) => Ok(Err(error)),
+        },
     }
 }
 

@@ -1,50 +1,59 @@
-use Rattle.std.proofs.Common.{◌≡◌, ℕ, rules, Ok, Err, ap, sym, subst, ◌∙◌}
+use Rattle.std.proofs.Common.{◌≡◌, ℕ, [], Result, Ok, Err, ap, sym, subst, ◌∙◌}
 use Rattle.std.proofs.lemmas.Result.{err_from_is_err_and}
 use Rattle.nbd_server.specs.declared.header.Command.TheVariants.{Write}
+use Rattle.nbd_server.specs.declared.request_error.RequestError.{RequestError}
 use Rattle.nbd_server.specs.Exports.{export_record}
 use Rattle.nbd_server.specs.Headers.{command_of}
 use Rattle.nbd_server.specs.Streaming.{IsShort}
-use Rattle.nbd_server.specs.Transmission.{data_of, written}
-use Rattle.nbd_server.proofs.ByteLemmas.{served-write, write-payload}
+use Rattle.nbd_server.specs.Transmission.{WritesGiven, outcome_of, written}
+use Rattle.nbd_server.proofs.ByteLemmas.{served-write, settled, unsettled, write-payload}
 use Rattle.nbd_server.proofs.transmission.serve_request.Goals as goal
+
+pub returns-in_err-take_write-in-Ok-Write-clause-err : goal.returns-in_err-take_write-in-Ok-Write-clause-err
+returns-in_err-take_write-in-Ok-Write-clause-err g c =
+    let e = export_record c.args.export.now in
+    let h = c.args.header in
+    let w = c.in-Ok-Write in
+    let input = g.R.Read.remaining c.args.reader.now.inner in
+    let input' = g.R.Read.remaining c.take_write.new.reader.inner in
+    let x = c.in_err-take_write-in-Ok-Write.field-0.0 in
+    let short = c.in_err-take_write-in-Ok-Write.ensures.err in
+    let command : command_of e h ≡ Ok (Write w.offset w.length w.fua) = sym c.command.ensures.value ∙ w.is ∙ ap Ok w.field-0-is in
+    let p = err_from_is_err_and c.from_residual-in_err-take_write-in-Ok-Write.result c.from_residual-in_err-take_write-in-Ok-Write.ensures.1 in
+    rw (p.1, p.2) (subst (λ (n : ℕ). IsShort n input input' x) (sym (write-payload w.offset w.length w.fua e h command)) short.0, short.1)
 
 pub returns-in-Ok-clause-ok : goal.returns-in-Ok-clause-ok
 returns-in-Ok-clause-ok g c =
     let e = export_record c.args.export.now in
     let h = c.args.header in
+    let w = c.in-Ok-Write in
     let p = c.in_ok-take_write-in-Ok-Write.ensures.ok in
-    let command : command_of e h ≡ Ok (Write c.in-Ok-Write.offset c.in-Ok-Write.length) = sym c.command.ensures.value ∙ c.in-Ok-Write.is ∙ ap Ok c.in-Ok-Write.field-0-is in
+    let command : command_of e h ≡ Ok (Write w.offset w.length w.fua) = sym c.command.ensures.value ∙ w.is ∙ ap Ok w.field-0-is in
+    let does = WritesGiven e c.args.queue.now w.offset p.0 in
+    let given : does (Ok []) c.take_write.new.queue = subst (λ (r : Result Unit RequestError). does (written r) c.take_write.new.queue) c.in-Ok.is p.3 in
     record {
       payload = p.0;
-      size = p.1 ∙ sym (write-payload e h c.in-Ok-Write.offset c.in-Ok-Write.length command);
+      size = p.1 ∙ sym (write-payload w.offset w.length w.fua e h command);
       consumed = p.2;
-      serves = served-write e c.args.queue.now c.take_write.new.queue h c.in-Ok-Write.offset c.in-Ok-Write.length p.0 c.in_ok-take_write-in-Ok-Write.field-0 (Ok (data_of c.none.result)) command p.3
-          (ap written c.in-Ok.is ∙ ap Ok (sym c.none.ensures.value));
-      inside = search rules;
+      serves = served-write e c.args.queue.now c.settle.new.queue h w.offset w.length w.fua p.0 (outcome_of c.settle.result) command
+          (settled w.fua does c.take_write.new.queue c.settle.new.queue (outcome_of c.settle.result) given c.settle.ensures.value);
+      inside = c.settle.ensures.inside;
     }
 
 pub returns-in-Err-2-clause-ok : goal.returns-in-Err-2-clause-ok
 returns-in-Err-2-clause-ok g c =
     let e = export_record c.args.export.now in
     let h = c.args.header in
+    let w = c.in-Ok-Write in
     let p = c.in_ok-take_write-in-Ok-Write.ensures.ok in
-    let command : command_of e h ≡ Ok (Write c.in-Ok-Write.offset c.in-Ok-Write.length) = sym c.command.ensures.value ∙ c.in-Ok-Write.is ∙ ap Ok c.in-Ok-Write.field-0-is in
+    let error = c.in-Err-2.error in
+    let command : command_of e h ≡ Ok (Write w.offset w.length w.fua) = sym c.command.ensures.value ∙ w.is ∙ ap Ok w.field-0-is in
+    let does = WritesGiven e c.args.queue.now w.offset p.0 in
+    let given : does (Err error) c.take_write.new.queue = subst (λ (r : Result Unit RequestError). does (written r) c.take_write.new.queue) c.in-Err-2.is p.3 in
     record {
       payload = p.0;
-      size = p.1 ∙ sym (write-payload e h c.in-Ok-Write.offset c.in-Ok-Write.length command);
+      size = p.1 ∙ sym (write-payload w.offset w.length w.fua e h command);
       consumed = p.2;
-      serves = served-write e c.args.queue.now c.take_write.new.queue h c.in-Ok-Write.offset c.in-Ok-Write.length p.0 c.in_ok-take_write-in-Ok-Write.field-0 (Err c.in-Err-2.error) command p.3 (ap written c.in-Err-2.is);
+      serves = served-write e c.args.queue.now c.take_write.new.queue h w.offset w.length w.fua p.0 (Err error) command (unsettled w.fua does c.take_write.new.queue error given);
       inside = tt;
     }
-
-pub returns-in_err-take_write-in-Ok-Write-clause-err : goal.returns-in_err-take_write-in-Ok-Write-clause-err
-returns-in_err-take_write-in-Ok-Write-clause-err g c =
-    let e = export_record c.args.export.now in
-    let h = c.args.header in
-    let input = g.R.Read.remaining c.args.reader.now.inner in
-    let input' = g.R.Read.remaining c.take_write.new.reader.inner in
-    let x = c.in_err-take_write-in-Ok-Write.field-0.0 in
-    let short = c.in_err-take_write-in-Ok-Write.ensures.err in
-    let command : command_of e h ≡ Ok (Write c.in-Ok-Write.offset c.in-Ok-Write.length) = sym c.command.ensures.value ∙ c.in-Ok-Write.is ∙ ap Ok c.in-Ok-Write.field-0-is in
-    let p = err_from_is_err_and c.from_residual-in_err-take_write-in-Ok-Write.result c.from_residual-in_err-take_write-in-Ok-Write.ensures.1 in
-    rw (p.1, p.2) (subst (λ (n : ℕ). IsShort n input input' x) (sym (write-payload e h c.in-Ok-Write.offset c.in-Ok-Write.length command)) short.0, short.1)

@@ -1,0 +1,65 @@
+use Rattle.std.proofs.Common.{◌≡◌, ◌≤◌, ℕ, ◌+◌, ◌-◌, ◌/◌, List, [], ◌++◌, arith, length, replicate, sym, subst}
+use Rattle.std.proofs.lemmas.Result.{err_from_is_err_and}
+use Rattle.nbd_server.specs.Exports.{IsExport, export_record}
+use Rattle.nbd_server.specs.Zeros.{zeros_of}
+use Rattle.nbd_server.proofs.StoreLemmas.{IsPut, length-zeros, put-ends, put-err, put-more, put-none, put-ok, zeros-split}
+use Rattle.nbd_server.proofs.store.store_zeros.Goals as goal
+
+pub runs-init : goal.runs-init
+runs-init g c = record {
+  put = put-none c.args.queue.now c.args.export.now.device.0 c.args.first (zeros_of c.args.zeros.now);
+  export = c.requires.export;
+  ends = c.requires.ends;
+  whole = c.requires.sectors.whole;
+  small = c.requires.sectors.small;
+}
+
+pub returns-in_err-zero_run-clause-err : goal.returns-in_err-zero_run-clause-err
+returns-in_err-zero_run-clause-err g c =
+    let d = c.args.export.now.device.0 in
+    let first = c.args.queue.now in
+    let all = zeros_of c.args.zeros.now in
+    let before = c.runs.rest.before.now in
+    let behind = c.runs.rest.behind.now in
+    let n = c.runs.rest.count in
+    let m = 1048576 - length before in
+    let few : m ≤ n = omega (arith, c.len.ensures.value, c.len.ensures.sum, c.runs-test.true, c.runs.invariant.whole, c.runs.invariant.ends.before, c.runs.invariant.ends.behind) in
+    let run : List ℕ = before ++ (replicate m 0 ++ []) in
+    let rest : List ℕ = [] ++ (replicate (n - m) 0 ++ behind) in
+    let put : IsPut first d c.args.first c.runs.at all (run ++ rest) c.runs.queue = subst (λ (l : List ℕ). IsPut first d c.args.first c.runs.at all l c.runs.queue) (zeros-split before behind m n few) c.runs.invariant.put in
+    let p = err_from_is_err_and c.from_residual.result c.from_residual.ensures.1 in
+    rw (p.1, p.2) (put-ends first c.runs.queue c.zero_run.new.queue d c.args.first c.runs.at all run rest c.in_err-zero_run.field-0.0 put c.in_err-zero_run.ensures.err)
+
+pub runs-preserved : goal.runs-preserved
+runs-preserved g c =
+    let d = c.args.export.now.device.0 in
+    let first = c.args.queue.now in
+    let now = c.zero_run.new.queue in
+    let all = zeros_of c.args.zeros.now in
+    let before = c.runs.rest.before.now in
+    let behind = c.runs.rest.behind.now in
+    let n = c.runs.rest.count in
+    let m = 1048576 - length before in
+    let few : m ≤ n = omega (arith, c.len.ensures.value, c.len.ensures.sum, c.runs-test.true, c.runs.invariant.whole, c.runs.invariant.ends.before, c.runs.invariant.ends.behind) in
+    let run : List ℕ = before ++ (replicate m 0 ++ []) in
+    let rest : List ℕ = [] ++ (replicate (n - m) 0 ++ behind) in
+    let put : IsPut first d c.args.first c.runs.at all (run ++ rest) c.runs.queue = subst (λ (l : List ℕ). IsPut first d c.args.first c.runs.at all l c.runs.queue) (zeros-split before behind m n few) c.runs.invariant.put in
+    let size : length run ≡ 1048576 = omega (arith, length-zeros before [] m, c.runs.invariant.ends.before) in
+    let sectors : length run / 512 ≡ 2048 = omega (arith, size) in
+    let left : length rest ≡ n - m + length behind = omega (arith, length-zeros [] behind (n - m)) in
+    let more : IsPut first d c.args.first (c.runs.at + length run / 512) all rest now = put-more first c.runs.queue now d c.args.first c.runs.at all run rest (omega (arith, size)) put c.in_ok-zero_run.ensures.ok in
+    record {
+      put = subst (λ (k : ℕ). IsPut first d c.args.first (c.runs.at + k) all rest now) sectors more;
+      export = subst (λ x. IsExport x (export_record c.args.export.now)) (sym c.in_ok-zero_run.ensures.ok.put.any.config) c.runs.invariant.export;
+      ends = record { before = omega arith; few = omega (arith, c.runs.invariant.ends.few); behind = c.runs.invariant.ends.behind };
+      whole = omega (arith, left, few, c.len.ensures.value, c.len.ensures.sum, c.runs.invariant.whole, c.runs.invariant.ends.before);
+      small = omega (arith, left, few, c.len.ensures.value, c.len.ensures.sum, c.runs.invariant.whole, c.runs.invariant.small, c.runs.invariant.ends.before);
+    }
+
+pub returns-clause-ok : goal.returns-clause-ok
+returns-clause-ok g c =
+    put-ok c.args.queue.now c.runs.queue c.zero_run-2.new.queue c.args.export.now.device.0 c.args.first c.runs.at (zeros_of c.args.zeros.now) (zeros_of c.runs.rest) c.zero_run-2.result c.runs.invariant.put c.zero_run-2.ensures.ok
+
+pub returns-clause-err : goal.returns-clause-err
+returns-clause-err g c =
+    put-err c.args.queue.now c.runs.queue c.zero_run-2.new.queue c.args.export.now.device.0 c.args.first c.runs.at (zeros_of c.args.zeros.now) (zeros_of c.runs.rest) c.zero_run-2.result c.runs.invariant.put c.zero_run-2.ensures.err

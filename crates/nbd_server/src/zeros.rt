@@ -1,0 +1,37 @@
+//! Zeros, and what stands around them in the sectors that they touch.
+ghost use Rattle.std.specs.Prelude.{◌≡◌, ◌+◌, length, IfOk};
+ghost use Rattle.nbd_server.specs.Premises.{HaveEnds};
+ghost use Rattle.nbd_server.specs.Zeros.{zeros_of};
+
+use std::alloc::{AllocError, Global};
+
+/// So many zeros, and what stands before and behind them in the sectors that they touch.
+#[derive(Clone, Copy, Debug)]
+pub(crate) struct Zeros<'a> {
+    pub(crate) before: &'a [u8],
+    pub(crate) count: usize,
+    pub(crate) behind: &'a [u8],
+}
+
+impl Zeros<'_> {
+    /// How many bytes they are in all.
+    pub(crate) fn len(&self) -> usize
+        requires { HaveEnds self.now }
+        ensures value { result ≡ length (zeros_of self.now) }
+        ensures sum { result ≡ length self.now.before.now + (self.now.count + length self.now.behind.now) }
+    {
+        self.before.len() + self.count + self.behind.len()
+    }
+
+    /// All of them.
+    pub(crate) fn bytes(&self, alloc: Global) -> Result<Vec<u8>, AllocError>
+        requires { HaveEnds self.now }
+        ensures { IfOk result (λ bytes. bytes.items ≡ zeros_of self.now) }
+    {
+        let mut bytes = Vec::with_capacity(alloc, self.len())?;
+        bytes.extend_from_slice(self.before)?;
+        bytes.resize(self.before.len() + self.count, 0)?;
+        bytes.extend_from_slice(self.behind)?;
+        Ok(bytes)
+    }
+}
