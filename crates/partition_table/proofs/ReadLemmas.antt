@@ -1,0 +1,28 @@
+-- Reads of a device, one after another, and the header that one gave.
+use Rattle.std.proofs.Common.{◌≡◌, ◌∙◌, ◌+◌, ◌≤◌, ℕ, IsTrue, arith, subst, sym}
+use Rattle.block_device.specs.Device.{Device, IsSameDevice}
+use Rattle.partition_table.specs.declared.header.Header.{Header}
+use Rattle.partition_table.specs.declared.sector_size.Disk.{Disk}
+use Rattle.partition_table.specs.Copies.{IsHeaderRead}
+use Rattle.partition_table.specs.Reads.{IsOnlyRead}
+use Rattle.partition_table.proofs.HeaderLemmas.{IsOnDisk, IsOnDisk-from_none}
+
+same-then : {a b c : Device} → IsSameDevice a b → IsSameDevice b c → IsSameDevice a c
+same-then p q = record {
+  size = q.size ∙ p.size;
+  may_write = q.may_write ∙ p.may_write;
+  steady = q.steady ∙ p.steady;
+  never_fails = λ h. q.never_fails (p.never_fails h);
+}
+
+pub only_read-then : {a b c : Device} (n m k : ℕ) → IsOnlyRead a n b → IsOnlyRead b m c → n + m ≤ k → IsOnlyRead a k c
+only_read-then {a = a} {b = b} {c = c} n m k p q fits = record {
+  same = same-then p.same q.same;
+  reads = omega (arith, p.reads, q.reads);
+  writes = q.writes ∙ p.writes;
+  image = λ h. q.image (subst IsTrue (sym p.same.steady) h) ∙ p.image h;
+}
+
+-- the entries of a header that was read lie on the disk
+pub on_disk : (device : Device) (disk : Disk) (sector : ℕ) (header : Header) → IsHeaderRead device disk sector header → IsOnDisk disk header
+on_disk device disk sector header h = subst (IsOnDisk disk) (sym h.value) (IsOnDisk-from_none disk sector h.sector_bytes h.good)

@@ -1,0 +1,24 @@
+use Rattle.std.proofs.Common.{◌≡◌, ◌∙◌, ◌*◌, ap, arith, sym, subst}
+use Rattle.partition_table.specs.Disks.{unit_of}
+use Rattle.partition_table.specs.Headers.{array_sectors}
+use Rattle.partition_table.proofs.HeaderLemmas.{IsOnDisk}
+use Rattle.partition_table.proofs.ReadLemmas.{on_disk, only_read-then}
+use Rattle.partition_table.proofs.copy.read_copy.Goals as goal
+
+pub read_sectors-requires-clause-range : goal.read_sectors-requires-clause-range
+read_sectors-requires-clause-range g c =
+    let on = on_disk _ c.args.disk c.args.sector c.in_ok-header.header c.in_ok-header.ensures.ok in
+    rw c.array_sectors-count.ensures (on.some, on.inside)
+
+pub good_partitions-requires-clause-size : goal.good_partitions-requires-clause-size
+good_partitions-requires-clause-size g c = (on_disk _ c.args.disk c.args.sector c.in_ok-header.header c.in_ok-header.ensures.ok).size
+
+pub returns-in_err-array-clause-read : goal.returns-in_err-array-clause-read
+returns-in_err-array-clause-read g c =
+    let on = on_disk _ c.args.disk c.args.sector c.in_ok-header.header c.in_ok-header.ensures.ok in
+    only_read-then 8 _ _ c.in_ok-header.ensures.read c.read_sectors.ensures.read (rw c.array_sectors-count.ensures (omega (arith, on.few)))
+
+pub returns-clause-read : goal.returns-clause-read
+returns-clause-read g c =
+    let on = on_disk _ c.args.disk c.args.sector c.in_ok-header.header c.in_ok-header.ensures.ok in
+    only_read-then 8 _ _ c.in_ok-header.ensures.read c.read_sectors.ensures.read (rw c.array_sectors-count.ensures (omega (arith, on.few)))

@@ -1,0 +1,59 @@
+-- A copy of a table on a device: its header in one sector, and its entries where the header says.
+use Rattle.std.specs.Prelude.{◌≡◌, ℕ, List, take, Option, Some, None}
+use Rattle.block_device.specs.Device.{Device, HasFailed}
+use Rattle.partition_table.specs.declared.header.Header.{Header}
+use Rattle.partition_table.specs.declared.partition.Partition.{Partition}
+use Rattle.partition_table.specs.declared.read_fault.ReadFault.{ReadFault}
+use Rattle.partition_table.specs.declared.read_fault.ReadFault.TheVariants.{Device as DeviceFailed, NoMemory, Table}
+use Rattle.partition_table.specs.declared.sector_size.Disk.{Disk}
+use Rattle.partition_table.specs.declared.table_fault.TableFault.{TableFault}
+use Rattle.partition_table.specs.Headers.{array_bytes, array_sectors, header_fault, header_of}
+use Rattle.partition_table.specs.Partitions.{array_fault, or_fault, partitions_in}
+use Rattle.partition_table.specs.Reads.{AreRead}
+
+-- the header's sector and the sectors of the entries, as they were read; those of a header that isn't good are not
+pub record IsCopyRead (device : Device) (disk : Disk) (sector : ℕ) (header array : List ℕ) : Type 0 where
+  pub first : AreRead device disk sector 1 header
+  pub rest : header_fault disk sector header ≡ None → AreRead device disk (header_of header).entries_sector (array_sectors disk.size (header_of header)) array
+
+-- the bytes of the entries, of those of whole sectors
+abbrev pub array_of : List ℕ → List ℕ → List ℕ
+array_of header array = take (array_bytes (header_of header)) array
+
+-- what is wrong of a copy: first of its header, then of its entries
+abbrev pub copy_fault : Disk → ℕ → List ℕ → List ℕ → Option TableFault
+copy_fault disk sector header array = or_fault (header_fault disk sector header) (array_fault (header_of header) (array_of header array))
+
+-- a copy that was read is good, and these are its partitions
+pub record IsGoodCopy (device : Device) (disk : Disk) (sector : ℕ) (partitions : List Partition) : Type 0 where
+  pub header : List ℕ
+  pub array : List ℕ
+  pub read : IsCopyRead device disk sector header array
+  pub good : copy_fault disk sector header array ≡ None
+  pub value : partitions ≡ partitions_in (header_of header) (array_of header array)
+
+-- a copy that was read has this fault
+pub record IsBadCopy (device : Device) (disk : Disk) (sector : ℕ) (fault : TableFault) : Type 0 where
+  pub header : List ℕ
+  pub array : List ℕ
+  pub read : IsCopyRead device disk sector header array
+  pub is : copy_fault disk sector header array ≡ Some fault
+
+-- why a copy isn't taken: the device failed in a call, memory ran out, or what was read has a fault
+abbrev pub IsCopyCause : Device → Device → Disk → ℕ → ReadFault → Type 0
+IsCopyCause old new disk sector DeviceFailed = HasFailed old new
+IsCopyCause old new disk sector NoMemory = new.failures ≡ old.failures
+IsCopyCause old new disk sector (Table fault) = IsBadCopy old disk sector fault
+
+-- a good header was read
+pub record IsHeaderRead (device : Device) (disk : Disk) (sector : ℕ) (header : Header) : Type 0 where
+  pub sector_bytes : List ℕ
+  pub read : AreRead device disk sector 1 sector_bytes
+  pub good : header_fault disk sector sector_bytes ≡ None
+  pub value : header ≡ header_of sector_bytes
+
+-- why the entries are not taken, once they are read
+abbrev pub IsArrayCause : Header → List ℕ → ReadFault → Type 0
+IsArrayCause header array DeviceFailed = ⊥
+IsArrayCause header array NoMemory = Unit {0}
+IsArrayCause header array (Table fault) = array_fault header array ≡ Some fault

@@ -1,0 +1,104 @@
+//! A copy of a table, read from a device.
+ghost use Rattle.std.specs.Prelude.{◌≡◌, ◌⊎◌, ◌+◌, ◌*◌, ◌≤◌, ◌<◌, length, replicate, take, Option, Some, None, IfErr, IfOk, OnOk};
+ghost use Rattle.block_device.specs.Device.{Device};
+ghost use Rattle.partition_table.specs.Copies.{IsArrayCause, IsCopyCause, IsGoodCopy, IsHeaderRead};
+ghost use Rattle.partition_table.specs.Disks.{IsDiskOn, unit_of};
+ghost use Rattle.partition_table.specs.Headers.{array_bytes, array_sectors, header_fault, header_of};
+ghost use Rattle.partition_table.specs.Partitions.{array_fault, partitions_in};
+ghost use Rattle.partition_table.specs.Reads.{AreRead, IsOnlyRead, IsUnread};
+ghost use Rattle.partition_table.specs.Tables.{copy_reads};
+
+use crate::crc::crc32;
+use crate::entries::{first_fault, partitions_in};
+use crate::header::{Header, header_fault};
+use crate::{Disk, Partition, ReadFault, TableFault};
+use block_device::BlockDev;
+use std::alloc::{AllocError, Global};
+
+// So many zero bytes.
+fn zeros(alloc: Global, size: usize) -> Result<Vec<u8>, AllocError>
+    ensures { IfOk result (λ v. v.items ≡ replicate size 0) }
+{
+    vec![in alloc; 0u8; size]
+}
+
+// So many sectors of the disk, from the first on.
+fn read_sectors<D: BlockDev>(
+    alloc: Global,
+    device: &mut D,
+    disk: Disk,
+    first: u64,
+    count: u64,
+) -> Result<Vec<u8>, ReadFault>
+    requires on { IsDiskOn (D.state device.old) disk }
+    requires range { (0 < count) × (first + count ≤ disk.sectors) }
+    ensures read { IsOnlyRead (D.state device.old) (count * unit_of disk.size) (D.state device.new) }
+    ensures ok { IfOk result (λ v. AreRead (D.state device.old) disk first count v.items) }
+    ensures full { OnOk result ((D.state device.new).failures ≡ (D.state device.old).failures) }
+    ensures err { IfErr result (IsUnread (D.state device.old) (D.state device.new)) }
+{
+    let mut bytes = zeros(alloc, 512 * disk.units(count) as usize)?;
+    device.read(disk.units(first), &mut bytes)?;
+    Ok(bytes)
+}
+
+// The header in that sector, where it is good.
+fn read_header<D: BlockDev>(
+    alloc: Global,
+    device: &mut D,
+    disk: Disk,
+    sector: u64,
+) -> Result<Header, ReadFault>
+    requires on { IsDiskOn (D.state device.old) disk }
+    requires inside { sector < disk.sectors }
+    ensures read { IsOnlyRead (D.state device.old) 8 (D.state device.new) }
+    ensures ok { IfOk result (IsHeaderRead (D.state device.old) disk sector) }
+    ensures full { OnOk result ((D.state device.new).failures ≡ (D.state device.old).failures) }
+    ensures err { IfErr result (IsCopyCause (D.state device.old) (D.state device.new) disk sector) }
+{
+    let bytes = read_sectors(alloc, device, disk, sector, 1)?;
+    match header_fault(disk, sector, &bytes) {
+        Some(fault) => Err(ReadFault::Table(fault)),
+        None => Ok(Header::of(&bytes)),
+    }
+}
+
+// The partitions in the entries, where these are good.
+fn good_partitions(
+    alloc: Global,
+    header: &Header,
+    array: &[u8],
+) -> Result<Vec<Partition>, ReadFault>
+    requires size { 128 ≤ header.now.entry_size }
+    requires whole { length array.now ≡ array_bytes header.now }
+    ensures ok { IfOk result (λ v. (array_fault header.now array.now ≡ None) × (v.items ≡ partitions_in header.now array.now)) }
+    ensures err { IfErr result (IsArrayCause header.now array.now) }
+{
+    if crc32(array) != header.entries_checksum {
+        return Err(ReadFault::Table(TableFault::EntriesChecksum));
+    }
+    let partitions = partitions_in(alloc, header, array)?;
+    match first_fault(header, &partitions) {
+        Some(fault) => Err(ReadFault::Table(fault)),
+        None => Ok(partitions),
+    }
+}
+
+/// The partitions of the copy whose header is in that sector.
+pub(crate) fn read_copy<D: BlockDev>(
+    alloc: Global,
+    device: &mut D,
+    disk: Disk,
+    sector: u64,
+) -> Result<Vec<Partition>, ReadFault>
+    requires on { IsDiskOn (D.state device.old) disk }
+    requires inside { sector < disk.sectors }
+    ensures read { IsOnlyRead (D.state device.old) copy_reads (D.state device.new) }
+    ensures ok { IfOk result (λ v. IsGoodCopy (D.state device.old) disk sector v.items) }
+    ensures err { IfErr result (IsCopyCause (D.state device.old) (D.state device.new) disk sector) }
+{
+    let header = read_header(alloc, device, disk, sector)?;
+    let count = header.array_sectors(disk);
+    let array = read_sectors(alloc, device, disk, header.entries_sector, count)?;
+    good_partitions(alloc, &header, &array[..header.array_bytes() as usize])
+}
