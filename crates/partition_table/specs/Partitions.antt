@@ -1,5 +1,5 @@
 -- The entries of a GUID partition table (UEFI 2.10, 5.3.3, table 5.6): the partitions in them, and which are wrong.
-use Rattle.std.specs.Prelude.{ℕ, ◌+◌, ◌*◌, ◌==◌, ◌&&◌, not, nat_le, nat_lt, Bool, List, [], ◌∷◌, ◌++◌, slice_range, replicate, map, filter, Option, Some, None, if◌then◌else◌}
+use Rattle.std.specs.Prelude.{ℕ, ◌+◌, ◌-◌, ◌*◌, ◌^◌, ◌==◌, ◌&&◌, not, min, nat_le, nat_lt, Bool, List, [], ◌∷◌, ◌++◌, slice_range, replicate, map, filter, Option, Some, None, if◌then◌else◌}
 use Rattle.std.specs.List.{list_any, range_with_len}
 use Rattle.std.specs.Str.{bytes_eq}
 use Rattle.partition_table.specs.declared.header.Header.{Header}
@@ -34,6 +34,10 @@ partitions_to size array n = filter is_used (map (λ k. partition_of (k + 1) (en
 
 abbrev pub partitions_in : Header → List ℕ → List Partition
 partitions_in header array = partitions_to header.entry_size array header.entry_count
+
+-- how many sectors it has; of a good table's partition, the last is not before the first
+abbrev pub sectors_of : Partition → ℕ
+sectors_of p = min (p.last - p.first + 1) (2 ^ 64 - 1)
 
 -- two partitions have a sector in common
 abbrev pub overlaps : Partition → Partition → Bool

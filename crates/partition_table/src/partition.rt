@@ -1,7 +1,7 @@
 //! A partition, as an entry of the table says it.
 ghost use Rattle.std.specs.Prelude.{◌≡◌, ◌+◌, ◌-◌, ◌≤◌, ◌<◌, length, min, slice_range, replicate};
 ghost use Rattle.std.specs.Str.{bytes_eq};
-ghost use Rattle.partition_table.specs.Partitions.{is_usable, is_used, overlaps, partition_of};
+ghost use Rattle.partition_table.specs.Partitions.{is_usable, is_used, overlaps, partition_of, sectors_of};
 
 use crate::fields::{number64, uuid_at};
 use crate::header::Header;
@@ -43,6 +43,13 @@ impl Partition {
         ensures { result ≡ is_used self.now }
     {
         self.kind.as_slice() != [0; 16].as_slice()
+    }
+
+    /// How many sectors it has.
+    pub fn sectors(&self) -> u64
+        ensures { result ≡ sectors_of self.now }
+    {
+        self.last.saturating_sub(self.first).saturating_add(1)
     }
 
     /// Whether both have a sector in common.

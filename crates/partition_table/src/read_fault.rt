@@ -1,4 +1,7 @@
 //! Why a copy of a table isn't taken.
+ghost use Rattle.std.specs.Prelude.{◌≡◌};
+ghost use Rattle.partition_table.specs.FaultNames.{read_name, read_partition};
+
 use crate::TableFault;
 use block_device::DeviceFault;
 use std::alloc::AllocError;
@@ -18,8 +21,30 @@ pub enum ReadFault {
     Table(TableFault),
 }
 
+impl ReadFault {
+    /// Its name in printed text; of a copy's fault that one's.
+    pub fn name(self) -> &'static str
+        ensures { result.now ≡ read_name self }
+    {
+        match self {
+            ReadFault::Device => "Device",
+            ReadFault::NoMemory => "NoMemory",
+            ReadFault::Table(fault) => fault.name(),
+        }
+    }
+
+    /// The number of the partition that is wrong, where it is one.
+    pub fn partition(self) -> Option<u32>
+        ensures { result ≡ read_partition self }
+    {
+        match self {
+            ReadFault::Device | ReadFault::NoMemory => None,
+            ReadFault::Table(fault) => fault.partition(),
+        }
+    }
+}
+
 impl From<DeviceFault> for ReadFault {
-    ghost use Rattle.std.specs.Prelude.{◌≡◌};
     ghost use Rattle.partition_table.specs.declared.read_fault.ReadFault.TheVariants.{Device as DeviceFailed};
 
     ghost from_gives = { λ _ fault. fault ≡ DeviceFailed };
@@ -30,7 +55,6 @@ impl From<DeviceFault> for ReadFault {
 }
 
 impl From<AllocError> for ReadFault {
-    ghost use Rattle.std.specs.Prelude.{◌≡◌};
     ghost use Rattle.partition_table.specs.declared.read_fault.ReadFault.TheVariants.{NoMemory};
 
     ghost from_gives = { λ _ fault. fault ≡ NoMemory };

@@ -1,0 +1,13 @@
+use Rattle.counted_io.proofs.lemmas.CountedLemmas.{on_ok-as}
+use Rattle.partition_commands.proofs.print.print_partitions.Goals as goal
+
+pub returns-clause-ok : goal.returns-clause-ok
+returns-clause-ok g c =
+    on_ok-as c.say_table.result
+    (λ printed. record {
+      partitions = c.in_ok-table.table.partitions.items;
+      source = c.in_ok-table.table.source;
+      found = c.in_ok-table.ensures.ok;
+      printed = printed;
+    })
+    c.say_table.ensures.ok

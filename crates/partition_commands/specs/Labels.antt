@@ -1,0 +1,25 @@
+-- The label of a partition, as text.
+use Rattle.std.specs.Prelude.{ℕ, ◌+◌, ◌*◌, ◌==◌, ◌&&◌, ◌||◌, nat_le, nat_lt, not, List, map, take_while, slice_range, if◌then◌else◌}
+use Rattle.std.specs.Char.Utf16.{utf16_lossy_chars}
+use Rattle.std.specs.Int.{w16, from_le_bytes}
+use Rattle.std.specs.List.{range_with_len}
+use Rattle.std.specs.Str.{encode_utf8_all}
+
+-- the number in 2 bytes from a place on
+abbrev pub number16 : List ℕ → ℕ → ℕ
+number16 bytes at = from_le_bytes w16 (slice_range bytes at (at + 2))
+
+-- the first n units of a label, of which there are 36
+unfoldable pub units_to : List ℕ → ℕ → List ℕ
+units_to label n = map (λ k. number16 label (2 * k)) (range_with_len 0 n)
+
+abbrev pub label_units : List ℕ → List ℕ
+label_units label = units_to label 36
+
+-- a control character isn't shown
+abbrev pub shown_unit : ℕ → ℕ
+shown_unit unit = if nat_lt unit 32 || (nat_le 127 unit && nat_lt unit 160) then 0xfffd else unit
+
+-- the characters up to the first zero, with U+FFFD for control characters and for surrogates that have no partner
+abbrev pub label_text : List ℕ → List ℕ
+label_text label = encode_utf8_all (utf16_lossy_chars (map shown_unit (take_while (λ u. not (u == 0)) (label_units label))))

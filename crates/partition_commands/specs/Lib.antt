@@ -1,0 +1,4 @@
+pub mod Kinds
+pub mod Labels
+pub mod Lines
+pub mod Prints

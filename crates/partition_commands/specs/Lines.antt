@@ -1,0 +1,51 @@
+-- The printed lines of a table.
+use Rattle.std.specs.Prelude.{ℕ, List, ◌++◌, codes, decimal, Option, Some, None}
+use Rattle.std.specs.List.{flat_map}
+use Rattle.uuid.specs.Text.{hyphenated_text, lower}
+use Rattle.partition_table.specs.declared.partition.Partition.{Partition}
+use Rattle.partition_table.specs.declared.read_fault.ReadFault.{ReadFault}
+use Rattle.partition_table.specs.declared.table.Source.{Source}
+use Rattle.partition_table.specs.declared.table.Source.TheVariants.{Both, Primary, Backup}
+use Rattle.partition_table.specs.FaultNames.{read_name, read_partition}
+use Rattle.partition_table.specs.Partitions.{sectors_of}
+use Rattle.partition_commands.specs.Kinds.{kind_name}
+use Rattle.partition_commands.specs.Labels.{label_text}
+
+-- the number, the first sector and how many there are
+unfoldable pub range_text : Partition → List ℕ
+range_text p = decimal p.number ++ (codes " " ++ (decimal p.first ++ (codes " " ++ (decimal (sectors_of p) ++ codes " "))))
+
+-- an identifier and a space
+unfoldable pub uuid_word : List ℕ → List ℕ
+uuid_word uuid = hyphenated_text lower uuid ++ codes " "
+
+-- the type, its name, and the partition's own identifier
+unfoldable pub uuids_text : Partition → List ℕ
+uuids_text p = uuid_word p.kind ++ (kind_name p.kind ++ (codes " " ++ uuid_word p.uuid))
+
+-- a partition: its number, first sector, sectors, type, the type's name, identifier and label
+unfoldable pub partition_line : Partition → List ℕ
+partition_line p = range_text p ++ (uuids_text p ++ (label_text p.label ++ codes "\n"))
+
+-- the partition that is wrong, behind a space
+abbrev pub number_word : Option ℕ → List ℕ
+number_word (Some number) = codes " " ++ decimal number
+number_word None = codes ""
+
+-- which copy is good, which isn't, and why
+unfoldable pub fault_line : List ℕ → ReadFault → List ℕ
+fault_line good fault = good ++ (read_name fault ++ (number_word (read_partition fault) ++ codes "\n"))
+
+-- which copies of the table are good
+abbrev pub source_line : Source → List ℕ
+source_line Both = codes "copies both\n"
+source_line (Primary fault) = fault_line (codes "copies primary, backup ") fault
+source_line (Backup fault) = fault_line (codes "copies backup, primary ") fault
+
+-- a line for each partition
+abbrev pub partition_lines : List Partition → List ℕ
+partition_lines partitions = flat_map partition_line partitions
+
+-- a table: which copies are good, and its partitions
+abbrev pub table_text : List Partition → Source → List ℕ
+table_text partitions source = source_line source ++ partition_lines partitions

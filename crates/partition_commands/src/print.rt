@@ -1,0 +1,58 @@
+//! The command `partitions`: the partitions of an image.
+ghost use Rattle.std.specs.Prelude.{IfErr, OnOk};
+ghost use Rattle.std.specs.Io.KnownBytes.{Appends};
+ghost use Rattle.partition_table.specs.Reads.{IsOnlyRead};
+ghost use Rattle.partition_table.specs.Tables.{table_reads};
+ghost use Rattle.partition_commands.specs.Lines.{partition_lines, table_text};
+ghost use Rattle.partition_commands.specs.Prints.{IsPrintEnd, IsSayEnd, PrintsTable};
+
+use crate::PrintFault;
+use crate::line::{say_partition, say_source};
+use block_device::BlockDev;
+use counted_io::Counted;
+use partition_table::{Partition, PartitionTable, SectorSize, read_table};
+use std::alloc::Global;
+use std::io::Write;
+
+/// `partitions IMAGE`: which copies of the device's table are good, and a line for each partition.
+pub fn print_partitions<D: BlockDev, W: Write>(
+    alloc: Global,
+    device: &mut D,
+    size: SectorSize,
+    writer: &mut Counted<W>,
+) -> Result<(), PrintFault>
+    ensures read { IsOnlyRead (D.state device.old) table_reads (D.state device.new) }
+    ensures ok { OnOk result (PrintsTable (D.state device.old) (D.state device.new) size (W.contents writer.old.inner) (W.contents writer.new.inner)) }
+    ensures err { IfErr result (IsPrintEnd (D.state device.old) (D.state device.new) size writer.new.failed) }
+{
+    let table = read_table(alloc, device, size)?;
+    say_table(alloc, writer, &table)
+}
+
+// Which copies are good, and the partitions.
+fn say_table<W: Write>(
+    alloc: Global,
+    writer: &mut Counted<W>,
+    table: &PartitionTable,
+) -> Result<(), PrintFault>
+    ensures ok { OnOk result (Appends (W.contents writer.old.inner) (W.contents writer.new.inner) (table_text table.now.partitions.items table.now.source)) }
+    ensures err { IfErr result (IsSayEnd writer.new.failed) }
+{
+    say_source(writer, table.source)?;
+    say_partitions(alloc, writer, &table.partitions)
+}
+
+// A line for each partition.
+fn say_partitions<W: Write>(
+    alloc: Global,
+    writer: &mut Counted<W>,
+    partitions: &[Partition],
+) -> Result<(), PrintFault>
+    ensures ok { OnOk result (Appends (W.contents writer.old.inner) (W.contents writer.new.inner) (partition_lines partitions.now)) }
+    ensures err { IfErr result (IsSayEnd writer.new.failed) }
+{
+    for partition in partitions {
+        say_partition(alloc, writer, partition)?;
+    }
+    Ok(())
+}
