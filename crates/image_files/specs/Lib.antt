@@ -1,3 +1,5 @@
+pub mod FileRelations
 pub mod FileUses
 pub mod OneFile
 pub mod Opened
+pub mod Opener

@@ -1,10 +1,14 @@
-//! The files of images, as the commands of a program open them.
+//! The images and texts that the commands of a program open, and which of them are one file.
 #![tactic(auto)]
 
+mod file_images;
 mod file_use;
+mod images;
 mod one_file;
 mod opening;
 
+pub use file_images::FileImages;
 pub use file_use::{FileUse, has_clash, is_clash, output_use};
+pub use images::{FileText, Images, OpenImage, TextFault};
 pub use one_file::is_one_file;
-pub use opening::{UnopenedFile, open_file};
+pub use opening::{UnopenedFile, open_file, open_image};

@@ -1,7 +1,9 @@
 //! Opens the images that a command line names.
 ghost use Rattle.std.specs.Prelude.{◌≡◌, IfOk, IfErr};
-ghost use Rattle.image_files.specs.Opened.{IsOpened};
+ghost use Rattle.image_files.specs.Opened.{IsOpened, Opens, Refuses};
+ghost use Rattle.image_files.specs.Opener.{IsFresh, calls};
 
+use crate::images::{Images, OpenImage};
 use block_device::{BlockDev, FileDev, OpenFault};
 use std::fs::File;
 use std::rt::Files;
@@ -11,6 +13,22 @@ use std::rt::Files;
 pub struct UnopenedFile<'a> {
     pub fault: OpenFault,
     pub path: &'a str,
+}
+
+/// The image under a path.
+pub fn open_image<'a, I: Images>(
+    images: &mut I,
+    path: &'a str,
+    writable: bool,
+) -> Result<OpenImage<I::Dev>, UnopenedFile<'a>>
+    ensures ok { IfOk result (Opens (calls I.relations I.Dev.state images.old images.new) path.now writable) }
+    ensures fresh { IfOk result (λ image. IsFresh (I.Dev.state image.device) writable) }
+    ensures err { IfErr result (Refuses (calls I.relations I.Dev.state images.old images.new) path.now writable) }
+{
+    match images.open(path, writable) {
+        Ok(image) => Ok(image),
+        Err(fault) => Err(UnopenedFile { fault, path }),
+    }
 }
 
 /// The file as a device.

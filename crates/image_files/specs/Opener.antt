@@ -1,0 +1,32 @@
+-- What a proof sees of what commands open. S is the opener, D a device that it opens.
+use Rattle.std.specs.Prelude.{◌≡◌, ℕ, Bool, false, List, Result}
+use Rattle.block_device.specs.declared.open_fault.OpenFault.{OpenFault}
+use Rattle.block_device.specs.Device.{Device}
+use Rattle.image_files.specs.declared.images.FileText.{FileText}
+use Rattle.image_files.specs.declared.images.OpenImage.{OpenImage}
+use Rattle.image_files.specs.declared.images.TextFault.{TextFault}
+
+-- Relations of the opener before a call, the call's arguments, its outcome, and the opener after it. What is generic over the
+-- opener knows none of them but by a call, so that a clause that cites one says which call was made.
+pub record Opener (S D : Type 0) : Type 1 where
+  -- a path, and whether its image is opened for writing too
+  pub opens : S → List ℕ → Bool → Result (OpenImage D) OpenFault → S → Type 0
+  -- a path, and how many bytes of its file are taken at most
+  pub tells : S → List ℕ → ℕ → Result FileText TextFault → S → Type 0
+  -- a path, and the device that is given back
+  pub takes : S → List ℕ → D → S → Type 0
+
+-- a device that was just opened
+pub record IsFresh (device : Device) (writable : Bool) : Type 0 where
+  pub may_write : device.may_write ≡ writable
+  pub clean : device.dirty ≡ false
+
+-- an opener before and after some calls, its relations, and what a proof sees of its devices
+pub record Calls (S D : Type 0) : Type 1 where
+  pub relations : Opener S D
+  pub state : D → Device
+  pub old : S
+  pub new : S
+
+abbrev pub calls : {S D : Type 0} → Opener S D → (D → Device) → S → S → Calls S D
+calls relations state old new = record { relations = relations; state = state; old = old; new = new }

@@ -1,0 +1,53 @@
+//! What commands open: images and texts under paths.
+ghost use Rattle.std.specs.Prelude.{◌≤◌, length, IfOk};
+ghost use Rattle.image_files.specs.Opener.{IsFresh, Opener};
+
+use block_device::{FileId, OpenFault, SyncDev};
+
+/// An image that was opened, and which file it is, where that is known.
+#[derive(Drop)]
+pub struct OpenImage<D> {
+    pub device: D,
+    pub id: Option<FileId>,
+}
+
+/// The first bytes of a file, and which one it is, where that is known.
+#[derive(Drop)]
+pub struct FileText {
+    pub bytes: Vec<u8>,
+    pub id: Option<FileId>,
+}
+
+/// Why a text isn't read.
+#[derive(Clone, Copy, Debug, PartialEq, Eq)]
+pub enum TextFault {
+    /// Its file isn't opened or can't be read.
+    Open(OpenFault),
+    /// Memory ran out.
+    NoMemory,
+}
+
+/// What commands open: images and texts under paths.
+///
+/// Two that have the same known id are one file (`is_one_file`).
+pub trait Images {
+    /// An open image.
+    type Dev: SyncDev + Drop;
+
+    /// What each call gives, and what it leaves.
+    ghost relations: { Opener Self Self.Dev };
+
+    /// Opens the image under this path for reading, and for writing too where `writable` says so.
+    fn open(&mut self, path: &str, writable: bool) -> Result<OpenImage<Self::Dev>, OpenFault>
+        ensures opened { relations.opens self.old path.now writable result self.new }
+        ensures fresh { IfOk result (λ image. IsFresh (Self.Dev.state image.device) writable) };
+
+    /// At most so many first bytes of the file under this path.
+    fn read_text(&mut self, path: &str, most: usize) -> Result<FileText, TextFault>
+        ensures told { relations.tells self.old path.now most result self.new }
+        ensures most { IfOk result (λ text. length text.bytes.items ≤ most) };
+
+    /// Takes an image back: what the device holds is what stands under this path from then on.
+    fn close(&mut self, path: &str, device: Self::Dev)
+        ensures { relations.takes self.old path.now device self.new };
+}
