@@ -14,7 +14,8 @@ use Rattle.clap.specs.Walk.{Row, Text, all_of, first_of, rows_of}
 use Rattle.clap.specs.declared.parser.matches.ArgMatches.{ArgMatches}
 use Rattle.clap.specs.declared.parser.matches.Found.{Found}
 use Rattle.command_line.specs.CommandWords.{invocation_of}
-use Rattle.command_line.specs.CommandLines.{invoked}
+use Rattle.command_line.specs.CommandLines.{invoked, options_said, texts_in}
+use Rattle.command_line.specs.FormatOptions.{OptionTexts}
 use Rattle.command_line.specs.Grammar.{grammar}
 
 -- what the getters read
@@ -55,3 +56,9 @@ pub invoked-is : (words : List Text) (matches : ArgMatches) (found : Found) (nam
     → texts ≡ unwrap_or (option_map raw_values (matched_of found (codes "words"))) [] → invoked words ≡ invocation_of bytes cache texts
 invoked-is words matches found name bytes cache texts cut named are same is_cache are_texts =
     invoked-some words bytes found cache texts (sym cut ∙ entered-is matches bytes (rows_of found) (ap (λ t. Some t) same ∙ named) are) is_cache are_texts
+
+-- the options of the command that a parse met
+pub options_said-is : (words : List Text) (matches : ArgMatches) (found : Found) (name : Text) (texts : OptionTexts) → subcommand_rows_of matches ≡ subcommand_of grammar words
+    → Some name ≡ subcommand_name_of matches → Some (rows_of found) ≡ option_map (λ p. p.1) (subcommand_rows_of matches) → texts ≡ texts_in (rows_of found) → options_said words ≡ Some texts
+options_said-is words matches found name texts cut named are is =
+    ap (option_map (λ p. texts_in p.1)) (sym cut ∙ entered-is matches name (rows_of found) named are) ∙ ap (λ t. Some t) (sym is)

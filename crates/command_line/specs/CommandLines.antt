@@ -1,13 +1,11 @@
 -- What clap makes of the words of a command line: a command's name, its options and its positional words.
 use Rattle.std.specs.Prelude.{◌≡◌, ◌⊎◌, true, List, [], codes, Option, None, option_map, unwrap_or}
 use Rattle.std.specs.Option.{option_and_then}
-use Rattle.clap.specs.Matches.{first_value}
 use Rattle.clap.specs.Simple.{subcommand_of}
 use Rattle.clap.specs.Takes.{takes}
-use Rattle.clap.specs.Walk.{Text, all_of, first_of}
-use Rattle.clap.specs.declared.parser.matches.Found.{Found}
-use Rattle.command_line.specs.declared.image_options.OptionWords.{OptionWords}
+use Rattle.clap.specs.Walk.{Row, Text, all_of, first_of}
 use Rattle.command_line.specs.CommandWords.{InvocationRecord, invocation_of}
+use Rattle.command_line.specs.FormatOptions.{OptionTexts}
 use Rattle.command_line.specs.Grammar.{grammar}
 
 -- what the words of a command line invoke, as clap cuts them into a command's name, its options and its positional words
@@ -19,10 +17,16 @@ invoked words =
 abbrev pub IsNoCommand : List Text → Type 0
 IsNoCommand words = (takes grammar words ≡ true → ⊥) ⊎ (invoked words ≡ None)
 
--- the values of `format`'s options are those that clap found under their names
-pub record AreOptions (found : Found) (options : OptionWords) : Type 0 where
-  pub data_block : option_map (λ word. word.now) options.data_block ≡ first_value found (codes "data-block")
-  pub hash_block : option_map (λ word. word.now) options.hash_block ≡ first_value found (codes "hash-block")
-  pub blocks : option_map (λ word. word.now) options.blocks ≡ first_value found (codes "blocks")
-  pub salt : option_map (λ word. word.now) options.salt ≡ first_value found (codes "salt")
-  pub uuid : option_map (λ word. word.now) options.uuid ≡ first_value found (codes "uuid")
+-- what stands under the names of `format`'s options
+abbrev pub texts_in : List Row → OptionTexts
+texts_in rows = record {
+  data_block = first_of (codes "data-block") rows;
+  hash_block = first_of (codes "hash-block") rows;
+  blocks = first_of (codes "blocks") rows;
+  salt = first_of (codes "salt") rows;
+  uuid = first_of (codes "uuid") rows;
+}
+
+-- the values of `format`'s options, as they stand in the words of a command line
+abbrev pub options_said : List Text → Option OptionTexts
+options_said words = option_map (λ cut. texts_in cut.1) (subcommand_of grammar words)

@@ -1,5 +1,6 @@
 -- What the words of `format`'s options say.
 use Rattle.std.specs.Prelude.{ℕ, ◌≡◌, ◌==◌, nat_lt, List, [], length, codes, Option, Some, None, option_map, if◌then◌else◌}
+use Rattle.std.specs.Borrow.{Bor}
 use Rattle.std.specs.Str.{bytes_eq}
 use Rattle.std.specs.Result.{result_ok}
 use Rattle.hex.specs.Hex.{decode_of}
@@ -20,10 +21,31 @@ salt_of word =
     else if length word == 0 then None
     else result_ok (decode_of word)
 
--- each value is the one that its word says; where there is no word, it is 4,096 for a block size, and none for the others
-pub record AreSaid (words : OptionWords) (options : ImageOptions) : Type 0 where
-  pub data_block : block_size_of (option_map (λ word. word.now) words.data_block) ≡ Some options.data_block
-  pub hash_block : block_size_of (option_map (λ word. word.now) words.hash_block) ≡ Some options.hash_block
-  pub blocks : option_map (λ word. number word.now) words.blocks ≡ option_map Some options.blocks
-  pub salt : option_map (λ word. salt_of word.now) words.salt ≡ option_map Some options.salt
-  pub uuid : option_map (λ word. parsed word.now) words.uuid ≡ option_map Some options.uuid
+-- the values of the options, as texts
+pub record OptionTexts : Type 0 where
+  pub data_block : Option (List ℕ)
+  pub hash_block : Option (List ℕ)
+  pub blocks : Option (List ℕ)
+  pub salt : Option (List ℕ)
+  pub uuid : Option (List ℕ)
+
+-- what the program's own value says
+abbrev pub text_of : Option (Bor (List ℕ)) → Option (List ℕ)
+text_of word = option_map (λ w. w.now) word
+
+abbrev pub option_texts : OptionWords → OptionTexts
+option_texts words = record {
+  data_block = text_of words.data_block;
+  hash_block = text_of words.hash_block;
+  blocks = text_of words.blocks;
+  salt = text_of words.salt;
+  uuid = text_of words.uuid;
+}
+
+-- each value is the one that its text says; where there is no text, it is 4,096 for a block size, and none for the others
+pub record AreSaid (texts : OptionTexts) (options : ImageOptions) : Type 0 where
+  pub data_block : block_size_of texts.data_block ≡ Some options.data_block
+  pub hash_block : block_size_of texts.hash_block ≡ Some options.hash_block
+  pub blocks : option_map number texts.blocks ≡ option_map Some options.blocks
+  pub salt : option_map salt_of texts.salt ≡ option_map Some options.salt
+  pub uuid : option_map parsed texts.uuid ≡ option_map Some options.uuid

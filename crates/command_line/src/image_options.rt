@@ -1,11 +1,12 @@
 //! The options of `format`, as words and as what they say.
 ghost use Rattle.std.specs.Prelude.{◌≡◌, IfErr, IfOk, Some, option_map};
 ghost use Rattle.clap.specs.Matches.{found_of};
+ghost use Rattle.clap.specs.Walk.{rows_of};
 ghost use Rattle.uuid.specs.Text.{parsed};
 ghost use Rattle.dm_table.specs.Numbers.{number};
-ghost use Rattle.command_line.specs.CommandLines.{AreOptions};
+ghost use Rattle.command_line.specs.CommandLines.{texts_in};
 ghost use Rattle.command_line.specs.CommandWords.{IsUsage};
-ghost use Rattle.command_line.specs.FormatOptions.{AreSaid, block_size_of, salt_of};
+ghost use Rattle.command_line.specs.FormatOptions.{AreSaid, block_size_of, option_texts, salt_of, text_of};
 
 use crate::fault::WordsFault;
 use clap::ArgMatches;
@@ -39,7 +40,7 @@ pub struct OptionWords<'a> {
 
 /// The values of the options that clap found.
 pub fn option_words<'a>(found: &ArgMatches<'a>) -> OptionWords<'a>
-    ensures { AreOptions (found_of found.now) result }
+    ensures { option_texts result ≡ texts_in (rows_of (found_of found.now)) }
 {
     OptionWords {
         data_block: found.get_str("data-block"),
@@ -52,7 +53,7 @@ pub fn option_words<'a>(found: &ArgMatches<'a>) -> OptionWords<'a>
 
 /// `[--data-block N] [--hash-block N] [--blocks N] [--salt HEX] [--uuid U]`
 pub fn options_of(alloc: Global, words: &OptionWords<'_>) -> Result<ImageOptions, WordsFault>
-    ensures ok { IfOk result (λ options. AreSaid words.now options) }
+    ensures ok { IfOk result (λ options. AreSaid (option_texts words.now) options) }
     ensures err { IfErr result (λ fault. IsUsage fault (Unit {0})) }
 {
     let data_block = block_size_of(words.data_block)?;
@@ -71,7 +72,7 @@ pub fn options_of(alloc: Global, words: &OptionWords<'_>) -> Result<ImageOptions
 
 // A block size of 4,096 bytes unless the word says another.
 fn block_size_of(word: Option<&str>) -> Result<u32, WordsFault>
-    ensures ok { IfOk result (λ size. block_size_of (option_map (λ word. word.now) word.entry) ≡ Some size) }
+    ensures ok { IfOk result (λ size. block_size_of (text_of word.entry) ≡ Some size) }
     ensures err { IfErr result (λ fault. IsUsage fault (Unit {0})) }
 {
     match count_of(word)? {
@@ -84,7 +85,7 @@ fn block_size_of(word: Option<&str>) -> Result<u32, WordsFault>
 }
 
 fn count_of(word: Option<&str>) -> Result<Option<u64>, WordsFault>
-    ensures ok { IfOk result (λ count. option_map (λ word. number word.now) word.entry ≡ option_map Some count) }
+    ensures ok { IfOk result (λ count. option_map number (text_of word.entry) ≡ option_map Some count) }
     ensures err { IfErr result (λ fault. IsUsage fault (Unit {0})) }
 {
     let Some(word) = word else {
@@ -98,7 +99,7 @@ fn count_of(word: Option<&str>) -> Result<Option<u64>, WordsFault>
 
 // `-` for an empty salt, or 2 to 512 hexadecimal digits.
 fn salt_of(alloc: Global, word: Option<&str>) -> Result<Option<Salt>, WordsFault>
-    ensures ok { IfOk result (λ salt. option_map (λ word. salt_of word.now) word.entry ≡ option_map Some salt) }
+    ensures ok { IfOk result (λ salt. option_map salt_of (text_of word.entry) ≡ option_map Some salt) }
     ensures err { IfErr result (λ fault. IsUsage fault (Unit {0})) }
 {
     let Some(word) = word else {
@@ -122,7 +123,7 @@ fn salt_of(alloc: Global, word: Option<&str>) -> Result<Option<Salt>, WordsFault
 }
 
 fn uuid_of(word: Option<&str>) -> Result<Option<[u8; 16]>, WordsFault>
-    ensures ok { IfOk result (λ uuid. option_map (λ word. parsed word.now) word.entry ≡ option_map Some uuid) }
+    ensures ok { IfOk result (λ uuid. option_map parsed (text_of word.entry) ≡ option_map Some uuid) }
     ensures err { IfErr result (λ fault. IsUsage fault (Unit {0})) }
 {
     let Some(word) = word else {

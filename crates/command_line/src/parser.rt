@@ -1,7 +1,8 @@
 //! Reads the words behind the program's name.
 ghost use Rattle.std.specs.Prelude.{◌≡◌, map, string_bytes, Some, IfOk, IfErr};
-ghost use Rattle.command_line.specs.CommandLines.{IsNoCommand, invoked};
+ghost use Rattle.command_line.specs.CommandLines.{IsNoCommand, invoked, options_said};
 ghost use Rattle.command_line.specs.CommandWords.{IsUsage, invocation_record};
+ghost use Rattle.command_line.specs.FormatOptions.{option_texts};
 
 use crate::command_words::invocation_of;
 use crate::fault::WordsFault;
@@ -20,6 +21,7 @@ pub struct CommandLine<'a> {
 /// The command that the words invoke.
 pub fn parse<'a>(alloc: Global, words: &'a [String]) -> Result<CommandLine<'a>, WordsFault>
     ensures ok { IfOk result (λ line. invoked (map string_bytes words.now) ≡ Some (invocation_record line.invocation)) }
+    ensures options { IfOk result (λ line. options_said (map string_bytes words.now) ≡ Some (option_texts line.options)) }
     ensures err { IfErr result (λ fault. IsUsage fault (IsNoCommand (map string_bytes words.now))) }
 {
     let matches = matches_of(alloc, words)?;

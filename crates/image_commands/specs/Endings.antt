@@ -1,15 +1,16 @@
 -- How the commands on verity images end early.
 use Rattle.std.specs.Prelude.{◌≡◌, ◌≢◌, ℕ, Bool, true, List, Option}
+use Rattle.image_files.specs.declared.opening.UnopenedFile.{UnopenedFile}
 use Rattle.verity_format.specs.declared.verifying.VerifyFault.{VerifyFault}
 use Rattle.verity_format.specs.declared.verifying.Verdict.{Verdict}
 use Rattle.verity_format.specs.declared.verifying.Verdict.TheVariants as verdicts
 use Rattle.image_commands.specs.declared.fault.ImageFault.{ImageFault}
 use Rattle.image_commands.specs.declared.fault.ImageFault.TheVariants.{NoMemory, Open, Verify, Differs, Write}
 
--- the file at this path isn't opened
-abbrev pub IsUnopened : List ℕ → ImageFault → Type 0
-IsUnopened path (Open file) = file.path.now ≡ path
-IsUnopened path fault = ⊥
+-- an image isn't opened, as is said of it
+abbrev pub IsUnopened : (UnopenedFile → Type 0) → ImageFault → Type 0
+IsUnopened Refused (Open file) = Refused file
+IsUnopened Refused fault = ⊥
 
 -- a line can't be written: the writer failed
 abbrev pub IsUnwritten : Bool → ImageFault → Type 0

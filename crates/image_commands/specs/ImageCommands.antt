@@ -1,89 +1,103 @@
 -- What the commands on verity images print where they succeed, and how they end early.
-use Rattle.std.specs.Prelude.{◌≡◌, ◌⊎◌, ℕ, Bool, true, false, List, codes, Option, IfSome}
+use Rattle.std.specs.Prelude.{◌≡◌, ◌⊎◌, ℕ, Bool, true, false, List, codes, Option, Ok}
 use Rattle.std.specs.Io.KnownBytes.{Appends}
-use Rattle.block_device.specs.Device.{Device}
 use Rattle.verity_format.specs.declared.formatting.FormatOptions.{FormatOptions}
 use Rattle.verity_format.specs.declared.verifying.Verdict.TheVariants.{Matches}
 use Rattle.verity_format.specs.Superblock.{SuperRecord}
 use Rattle.verity_format.specs.Verifying.{IsFound, IsReadCause, IsVerifyCause}
+use Rattle.command_line.specs.declared.image_options.ImageOptions.{ImageOptions}
+use Rattle.image_files.specs.declared.images.OpenImage.{OpenImage}
+use Rattle.image_files.specs.Opened.{Opens, Refuses}
+use Rattle.image_files.specs.Opener.{Calls}
 use Rattle.image_commands.specs.declared.fault.ImageFault.{ImageFault}
 use Rattle.image_commands.specs.declared.fault.ImageFault.TheVariants.{Random}
-use Rattle.image_files.specs.Opened.{IsOpened}
-use Rattle.image_commands.specs.Endings.{IsComparisonEnd, IsUnopened, IsUnwritten, IsVerifyEnd}
 use Rattle.image_commands.specs.declared.format.MadeImage.{MadeImage}
-use Rattle.command_line.specs.declared.image_options.ImageOptions.{ImageOptions}
+use Rattle.image_commands.specs.declared.paths.TwoImages.{TwoImages}
+use Rattle.image_commands.specs.Drawing.{AreGiven, Drawing, IsUndrawn}
+use Rattle.image_commands.specs.Endings.{IsComparisonEnd, IsUnopened, IsUnwritten, IsVerifyEnd}
 use Rattle.image_commands.specs.Formats.{IsFormatEnd, IsMade, made_text}
+use Rattle.image_commands.specs.Openings.{FailsToOpenApart, FailsToOpenTwo, OpensApart, OpensTwo, TwoPaths}
 use Rattle.image_commands.specs.SuperblockTexts.{SaysSuperblock}
 
--- `dump` and `table`: the text of the superblock of an image that is only read
-abbrev pub PrintsSuperblock : (SuperRecord → List ℕ) → Option (List ℕ) → Option (List ℕ) → Type 0
-PrintsSuperblock text old new = (image : Device) × IsOpened image false × SaysSuperblock image text old new
+-- `dump` and `table`: the text of the superblock of the image under the path, which is only read
+pub record PrintsSuperblock {S D : Type 0} (w : Calls S D) (path : List ℕ) (text : SuperRecord → List ℕ) (old new : Option (List ℕ)) : Type 0 where
+  pub image : OpenImage D
+  pub opened : Opens w path false image
+  pub says : SaysSuperblock (w.state image.device) text old new
 
--- its file isn't opened, its superblock isn't read, memory ran out, or the text can't be written
-abbrev pub IsSuperblockEnd : List ℕ → Bool → ImageFault → Type 0
-IsSuperblockEnd path failed fault =
-    IsUnopened path fault ⊎ ((image image' : Device) × IsOpened image false × IsVerifyEnd (IsReadCause image image') failed fault)
+-- the image is opened, but its superblock isn't read, memory ran out, or the text can't be written
+pub record EndsSuperblock {S D : Type 0} (w : Calls S D) (path : List ℕ) (failed : Bool) (fault : ImageFault) : Type 0 where
+  pub image : OpenImage D
+  pub device' : D
+  pub opened : Opens w path false image
+  pub ends : IsVerifyEnd (IsReadCause (w.state image.device) (w.state device')) failed fault
+
+-- the same, or it isn't opened
+abbrev pub IsSuperblockEnd : {S D : Type 0} → Calls S D → List ℕ → Bool → ImageFault → Type 0
+IsSuperblockEnd w path failed fault = IsUnopened (Refuses w path false) fault ⊎ EndsSuperblock w path failed fault
 
 -- `verify`: that the hash image has the tree of the data image, and this root
-pub record PrintsMatches (root : List ℕ) (old new : Option (List ℕ)) : Type 0 where
-  pub data_dev : Device
-  pub hash_dev : Device
-  pub data_dev' : Device
-  pub hash_dev' : Device
-  pub data_opened : IsOpened data_dev false
-  pub hash_opened : IsOpened hash_dev false
-  pub found : IsFound data_dev hash_dev data_dev' hash_dev' root Matches
+pub record PrintsMatches {S D : Type 0} (w : Calls S D) (paths : TwoPaths) (root : List ℕ) (old new : Option (List ℕ)) : Type 0 where
+  pub two : TwoImages D
+  pub data_dev' : D
+  pub hash_dev' : D
+  pub opened : OpensTwo w paths false two
+  pub found : IsFound (w.state two.data.device) (w.state two.hash.device) (w.state data_dev') (w.state hash_dev') root Matches
   pub printed : Appends old new (codes "matches\n")
 
--- a comparison that was made of two images ends early
-pub record EndsComparison (root : List ℕ) (failed : Bool) (fault : ImageFault) : Type 0 where
-  pub data_dev : Device
-  pub hash_dev : Device
-  pub data_dev' : Device
-  pub hash_dev' : Device
-  pub data_opened : IsOpened data_dev false
-  pub hash_opened : IsOpened hash_dev false
-  pub ends : IsComparisonEnd (IsVerifyCause data_dev hash_dev data_dev' hash_dev') (IsFound data_dev hash_dev data_dev' hash_dev' root) failed fault
+-- a comparison that was made of the two images ends early
+pub record EndsComparison {S D : Type 0} (w : Calls S D) (paths : TwoPaths) (root : List ℕ) (failed : Bool) (fault : ImageFault) : Type 0 where
+  pub two : TwoImages D
+  pub data_dev' : D
+  pub hash_dev' : D
+  pub opened : OpensTwo w paths false two
+  pub ends : IsComparisonEnd (IsVerifyCause (w.state two.data.device) (w.state two.hash.device) (w.state data_dev') (w.state hash_dev')) (IsFound (w.state two.data.device) (w.state two.hash.device) (w.state data_dev') (w.state hash_dev') root) failed fault
 
--- one of the two files isn't opened, or the comparison ends early
-abbrev pub IsVerifyFilesEnd : List ℕ → List ℕ → List ℕ → Bool → ImageFault → Type 0
-IsVerifyFilesEnd data_path hash_path root failed fault = IsUnopened data_path fault ⊎ (IsUnopened hash_path fault ⊎ EndsComparison root failed fault)
+-- one of the two isn't opened, or the comparison ends early
+abbrev pub IsVerifyFilesEnd : {S D : Type 0} → Calls S D → TwoPaths → List ℕ → Bool → ImageFault → Type 0
+IsVerifyFilesEnd w paths root failed fault = IsUnopened (FailsToOpenTwo w paths false) fault ⊎ EndsComparison w paths root failed fault
 
--- the options as they are given, with some salt and some identifier where none is
-pub record AreGiven (options : ImageOptions) (given : FormatOptions) : Type 0 where
-  pub data_block : given.data_block ≡ options.data_block
-  pub hash_block : given.hash_block ≡ options.hash_block
-  pub blocks : given.blocks ≡ options.blocks
-  pub salt : IfSome options.salt (λ salt. given.salt ≡ salt)
-  pub uuid : IfSome options.uuid (λ uuid. given.uuid ≡ uuid)
-
--- `format`: what was made of the images, with these options
-pub record PrintsMade (options : ImageOptions) (old new : Option (List ℕ)) : Type 0 where
+-- What was made of the two images, with the options as they are given or drawn. The hash image was synced and given back
+-- under its path.
+pub record Makes {S D T G : Type 0} (w : Calls S D) (d : Drawing T G) (options : ImageOptions) (paths : TwoPaths) (image : MadeImage) : Type 0 where
   pub given : FormatOptions
-  pub data_dev : Device
-  pub hash_dev : Device
-  pub data_dev' : Device
-  pub hash_dev' : Device
-  pub image : MadeImage
-  pub are_given : AreGiven options given
-  pub data_opened : IsOpened data_dev false
-  pub hash_opened : IsOpened hash_dev true
-  pub made : IsMade given data_dev hash_dev data_dev' hash_dev' image
-  pub printed : Appends old new (made_text image)
+  pub two : TwoImages D
+  pub data_dev' : D
+  pub hash_dev' : D
+  pub between : S
+  pub opened : OpensApart (record w { new = between }) paths two
+  pub are_given : AreGiven d options given
+  pub made : IsMade given (w.state two.data.device) (w.state two.hash.device) (w.state data_dev') (w.state hash_dev') image
+  pub closed : w.relations.takes between paths.hash_path hash_dev' w.new
 
--- a formatting of two images ends early
-pub record EndsFormat (options : ImageOptions) (fault : ImageFault) : Type 0 where
+-- `format`: its root, salt, identifier and number of blocks
+abbrev pub PrintsMade : {S D T G : Type 0} → Calls S D → Drawing T G → ImageOptions → TwoPaths → Option (List ℕ) → Option (List ℕ) → Type 0
+PrintsMade w d options paths old new = (image : MadeImage) × Makes w d options paths image × Appends old new (made_text image)
+
+-- a formatting of the two images ends early
+pub record EndsFormat {S D T G : Type 0} (w : Calls S D) (d : Drawing T G) (options : ImageOptions) (paths : TwoPaths) (fault : ImageFault) : Type 0 where
   pub given : FormatOptions
-  pub data_dev : Device
-  pub hash_dev : Device
-  pub data_dev' : Device
-  pub hash_dev' : Device
-  pub are_given : AreGiven options given
-  pub data_opened : IsOpened data_dev false
-  pub hash_opened : IsOpened hash_dev true
-  pub ends : IsFormatEnd given data_dev hash_dev data_dev' hash_dev' fault
+  pub two : TwoImages D
+  pub data_dev' : D
+  pub hash_dev' : D
+  pub opened : OpensApart w paths two
+  pub are_given : AreGiven d options given
+  pub ends : IsFormatEnd given (w.state two.data.device) (w.state two.hash.device) (w.state data_dev') (w.state hash_dev') fault
 
--- one of the two files isn't opened, there are no random bytes, the formatting ends early, or its text can't be written
-abbrev pub IsFormatFilesEnd : List ℕ → List ℕ → ImageOptions → Bool → ImageFault → Type 0
-IsFormatFilesEnd data_path hash_path options failed fault =
-    IsUnopened data_path fault ⊎ (IsUnopened hash_path fault ⊎ ((fault ≡ Random) ⊎ (EndsFormat options fault ⊎ IsUnwritten failed fault)))
+-- both are open, and something has to be drawn, but there are no random bytes
+pub record EndsUndrawn {S D T G : Type 0} (w : Calls S D) (d : Drawing T G) (options : ImageOptions) (paths : TwoPaths) (fault : ImageFault) : Type 0 where
+  pub two : TwoImages D
+  pub opened : OpensApart w paths two
+  pub undrawn : IsUndrawn d options
+  pub is : fault ≡ Random
+
+-- before anything is drawn one of the two isn't opened
+pub record EndsUnopened {S D T G : Type 0} (w : Calls S D) (d : Drawing T G) (paths : TwoPaths) (fault : ImageFault) : Type 0 where
+  pub unopened : IsUnopened (FailsToOpenApart w paths) fault
+  pub same : d.new ≡ d.old
+
+-- one of the two isn't opened, nothing can be drawn, the formatting ends early, or its text can't be written
+abbrev pub IsFormatFilesEnd : {S D T G : Type 0} → Calls S D → Drawing T G → ImageOptions → TwoPaths → Bool → ImageFault → Type 0
+IsFormatFilesEnd w d options paths failed fault =
+    EndsUnopened w d paths fault ⊎ (EndsUndrawn w d options paths fault ⊎ (EndsFormat w d options paths fault
+    ⊎ ((image : MadeImage) × Makes w d options paths image × IsUnwritten failed fault)))

@@ -1,6 +1,7 @@
 //! The command `dump`: what a superblock says.
 ghost use Rattle.std.specs.Prelude.{◌≡◌, OnOk, IfErr};
 ghost use Rattle.block_device.specs.Device.{Device};
+ghost use Rattle.image_files.specs.Opener.{calls};
 ghost use Rattle.verity_format.specs.Blocks.{IsOnlyRead};
 ghost use Rattle.verity_format.specs.Verifying.{IsReadCause};
 ghost use Rattle.image_commands.specs.Endings.{IsQuiet, IsVerifyEnd};
@@ -11,25 +12,23 @@ use crate::fault::ImageFault;
 use crate::superblock_text::say_superblock;
 use block_device::BlockDev;
 use counted_io::Counted;
-use image_files::open_file;
-use std::fs::File;
+use image_files::{Images, open_image};
 use std::io::Write;
-use std::rt::Files;
 use verity_format::read_superblock;
 
-/// `dump HASH`: the fields of the file's superblock.
+/// `dump HASH`: the fields of the image's superblock.
 #[tactic(auto, using(crate::proofs::lemmas::EndingLemmas::quiet))]
-pub fn dump_file<'a, R: Files<File = File>, W: Write>(
-    rt: &R,
+pub fn dump_image<'a, I: Images, W: Write>(
+    images: &mut I,
     hash: &'a str,
     writer: &mut Counted<W>,
 ) -> Result<(), ImageFault<'a>>
-    ensures ok { OnOk result (PrintsSuperblock superblock_text (W.contents writer.old.inner) (W.contents writer.new.inner)) }
-    ensures err { IfErr result (IsSuperblockEnd hash.now writer.new.failed) }
+    ensures ok { OnOk result (PrintsSuperblock (calls I.relations I.Dev.state images.old images.new) hash.now superblock_text (W.contents writer.old.inner) (W.contents writer.new.inner)) }
+    ensures err { IfErr result (IsSuperblockEnd (calls I.relations I.Dev.state images.old images.new) hash.now writer.new.failed) }
     ensures quiet { IfErr result (λ fault. IsQuiet fault (W.contents writer.old.inner) (W.contents writer.new.inner)) }
 {
-    let mut hash_dev = open_file(rt, hash, false)?;
-    dump(&mut hash_dev, writer)
+    let mut image = open_image(images, hash, false)?;
+    dump(&mut image.device, writer)
 }
 
 // Writes the fields of the device's superblock.

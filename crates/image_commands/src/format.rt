@@ -1,27 +1,23 @@
 //! The command `format`: makes a hash image over a data image.
-ghost use Rattle.std.specs.Prelude.{false, true, ◌≡◌, IfErr, IfOk, OnOk};
-ghost use Rattle.block_device.specs.FileId.{file_id};
-ghost use Rattle.image_files.specs.OneFile.{is_one_file};
+ghost use Rattle.std.specs.Prelude.{◌≡◌, IfErr, IfOk, OnOk};
 ghost use Rattle.counted_io.specs.Counted.{Writes};
+ghost use Rattle.image_files.specs.Opener.{calls};
+ghost use Rattle.image_commands.specs.Drawing.{AreGiven, IsUndrawn, drawing};
 ghost use Rattle.image_commands.specs.Endings.{IsQuiet};
-ghost use Rattle.image_files.specs.Opened.{IsOpened};
 ghost use Rattle.image_commands.specs.Formats.{IsFormatEnd, IsMade, made_text};
-ghost use Rattle.image_commands.specs.ImageCommands.{AreGiven, IsFormatFilesEnd, PrintsMade};
+ghost use Rattle.image_commands.specs.ImageCommands.{IsFormatFilesEnd, PrintsMade};
+ghost use Rattle.image_commands.specs.Openings.{two_paths};
 
 use crate::fault::ImageFault;
-use crate::random::draw;
+use crate::paths::{ImagePaths, TwoImages, open_apart};
+use crate::random::{Generators, draw};
 use crate::superblock_text::{say_blocks, say_root, say_salt, say_uuid};
-use block_device::{BlockDev, FileDev, OpenFault, SyncDev};
+use block_device::{BlockDev, SyncDev};
 use command_line::ImageOptions;
 use counted_io::{Counted, WriteFault};
-use image_files::{UnopenedFile, is_one_file, open_file};
-use rand::make_rng;
-use rand::rngs::StdRng;
+use image_files::{Images, OpenImage};
 use std::alloc::Global;
-use std::fs::File;
 use std::io::Write;
-use std::random::RandomSource;
-use std::rt::Files;
 use tree_shape::{Digest, Salt};
 use verity_format::{FormatFault, FormatOptions, format_with, given_blocks};
 
@@ -35,42 +31,34 @@ pub struct MadeImage {
 }
 
 /// `format [OPTIONS] DATA HASH`: formats the hash image, and writes its root, salt, identifier and number of blocks.
-/// The hash image is synced before anything is written.
+/// The hash image is synced and given back before anything is written.
 #[tactic(auto, using(crate::proofs::lemmas::EndingLemmas::quiet))]
-pub fn format_files<'a, R: Files<File = File> + AllocGlobal + RandomSource, W: Write>(
-    rt: &R,
+pub fn format_images<'a, I: Images, G: Generators, W: Write>(
+    alloc: Global,
+    images: &mut I,
+    generators: &mut G,
     options: ImageOptions,
-    data_path: &'a str,
-    hash_path: &'a str,
+    paths: ImagePaths<'a>,
     writer: &mut Counted<W>,
 ) -> Result<(), ImageFault<'a>>
-    ensures ok { OnOk result (PrintsMade options (W.contents writer.old.inner) (W.contents writer.new.inner)) }
-    ensures err { IfErr result (IsFormatFilesEnd data_path.now hash_path.now options writer.new.failed) }
+    ensures ok { OnOk result (PrintsMade (calls I.relations I.Dev.state images.old images.new) (drawing G.gives G.Generator.stream generators.old generators.new) options (two_paths paths.entry) (W.contents writer.old.inner) (W.contents writer.new.inner)) }
+    ensures err { IfErr result (IsFormatFilesEnd (calls I.relations I.Dev.state images.old images.new) (drawing G.gives G.Generator.stream generators.old generators.new) options (two_paths paths.entry) writer.new.failed) }
     ensures quiet { IfErr result (λ fault. IsQuiet fault (W.contents writer.old.inner) (W.contents writer.new.inner)) }
 {
-    let mut data_dev = open_file(rt, data_path, false)?;
-    let mut hash_dev = open_hash(rt, hash_path, &data_dev)?;
-    let options = given_or_drawn(rt, options)?;
-    let made = make(rt.alloc(), &mut data_dev, &mut hash_dev, options)?;
+    let TwoImages {
+        data: OpenImage {
+            device: mut data_dev,
+            id: _,
+        },
+        hash: OpenImage {
+            device: mut hash_dev,
+            id: _,
+        },
+    } = open_apart(images, paths)?;
+    let options = given_or_drawn(generators, options)?;
+    let made = make(alloc, &mut data_dev, &mut hash_dev, options)?;
+    images.close(paths.hash, hash_dev);
     Ok(say_made(writer, &made)?)
-}
-
-// The hash image, which may not be the data image.
-fn open_hash<'a, R: Files<File = File>>(
-    rt: &R,
-    path: &'a str,
-    data_dev: &FileDev,
-) -> Result<FileDev, UnopenedFile<'a>>
-    ensures opened { IfOk result (λ hash_dev. IsOpened (⟦<FileDev as BlockDev>⟧.state hash_dev) true) }
-    ensures apart { IfOk result (λ hash_dev. is_one_file (file_id data_dev.now) (file_id hash_dev) ≡ false) }
-    ensures err { IfErr result (λ file. file.path.now ≡ path.now) }
-{
-    let hash_dev = open_file(rt, path, true)?;
-    if is_one_file(data_dev.id(), hash_dev.id()) {
-        let fault = OpenFault::SameFile;
-        return Err(UnopenedFile { fault, path });
-    }
-    Ok(hash_dev)
 }
 
 // Formats the hash device over the data device, and has that put on the medium.
@@ -108,13 +96,13 @@ fn say_made<W: Write>(writer: &mut Counted<W>, made: &MadeImage) -> Result<(), W
     say_blocks(writer, made.blocks)
 }
 
-// The options with a salt and an identifier. One draw gives what is missing.
-fn given_or_drawn<'a, R: RandomSource>(
-    rt: &R,
+// The options with a salt and an identifier. One generator gives what is missing.
+fn given_or_drawn<'a, G: Generators>(
+    generators: &mut G,
     options: ImageOptions,
 ) -> Result<FormatOptions, ImageFault<'a>>
-    ensures ok { IfOk result (AreGiven options) }
-    ensures err { IfErr result (λ fault. fault ≡ ImageFault.Random) }
+    ensures ok { IfOk result (AreGiven (drawing G.gives G.Generator.stream generators.old generators.new) options) }
+    ensures err { IfErr result (λ fault. (fault ≡ ImageFault.Random) × IsUndrawn (drawing G.gives G.Generator.stream generators.old generators.new) options) }
 {
     let ImageOptions {
         data_block,
@@ -126,11 +114,11 @@ fn given_or_drawn<'a, R: RandomSource>(
     let (salt, uuid) = match (salt, uuid) {
         (Some(salt), Some(uuid)) => (salt, uuid),
         (salt, uuid) => {
-            let mut random: StdRng = match make_rng(rt) {
-                Ok(random) => random,
+            let mut generator = match generators.generator() {
+                Ok(generator) => generator,
                 Err(_) => return Err(ImageFault::Random),
             };
-            let (drawn_salt, drawn_uuid) = draw(&mut random);
+            let (drawn_salt, drawn_uuid) = draw(&mut generator);
             (salt.unwrap_or(drawn_salt), uuid.unwrap_or(drawn_uuid))
         }
     };

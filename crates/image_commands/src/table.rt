@@ -1,6 +1,7 @@
 //! The command `table`: the table line of a hash image.
 ghost use Rattle.std.specs.Prelude.{◌≡◌, OnOk, IfErr};
 ghost use Rattle.block_device.specs.Device.{Device};
+ghost use Rattle.image_files.specs.Opener.{calls};
 ghost use Rattle.verity_format.specs.Blocks.{IsOnlyRead};
 ghost use Rattle.verity_format.specs.Verifying.{IsReadCause};
 ghost use Rattle.image_commands.specs.Endings.{IsQuiet, IsVerifyEnd};
@@ -10,11 +11,9 @@ ghost use Rattle.image_commands.specs.SuperblockTexts.{SaysSuperblock, line_text
 use crate::fault::ImageFault;
 use block_device::BlockDev;
 use counted_io::Counted;
-use image_files::open_file;
+use image_files::{Images, open_image};
 use std::alloc::Global;
-use std::fs::File;
 use std::io::Write;
-use std::rt::Files;
 use tree_shape::Digest;
 use verity_format::{read_superblock, table_line};
 
@@ -26,20 +25,21 @@ pub struct LineWords<'a> {
     pub hash_name: &'a str,
 }
 
-/// `table HASH ROOT DATANAME HASHNAME`: the table line of the file.
+/// `table HASH ROOT DATANAME HASHNAME`: the table line of the image.
 #[tactic(auto, using(crate::proofs::lemmas::EndingLemmas::quiet))]
-pub fn print_table_of_file<'a, R: Files<File = File> + AllocGlobal, W: Write>(
-    rt: &R,
+pub fn print_table_of_image<'a, I: Images, W: Write>(
+    alloc: Global,
+    images: &mut I,
     hash: &'a str,
     words: LineWords<'_>,
     writer: &mut Counted<W>,
 ) -> Result<(), ImageFault<'a>>
-    ensures ok { OnOk result (PrintsSuperblock (λ s. line_text s words.entry.data_name.now words.entry.hash_name.now words.entry.root.now) (W.contents writer.old.inner) (W.contents writer.new.inner)) }
-    ensures err { IfErr result (IsSuperblockEnd hash.now writer.new.failed) }
+    ensures ok { OnOk result (PrintsSuperblock (calls I.relations I.Dev.state images.old images.new) hash.now (λ s. line_text s words.entry.data_name.now words.entry.hash_name.now words.entry.root.now) (W.contents writer.old.inner) (W.contents writer.new.inner)) }
+    ensures err { IfErr result (IsSuperblockEnd (calls I.relations I.Dev.state images.old images.new) hash.now writer.new.failed) }
     ensures quiet { IfErr result (λ fault. IsQuiet fault (W.contents writer.old.inner) (W.contents writer.new.inner)) }
 {
-    let mut hash_dev = open_file(rt, hash, false)?;
-    print_table(rt.alloc(), &mut hash_dev, words, writer)
+    let mut image = open_image(images, hash, false)?;
+    print_table(alloc, &mut image.device, words, writer)
 }
 
 // Writes the table line by the device's superblock.

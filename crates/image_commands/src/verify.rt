@@ -2,38 +2,44 @@
 ghost use Rattle.std.specs.Prelude.{◌≡◌, OnOk, IfErr, codes};
 ghost use Rattle.std.specs.Io.KnownBytes.{Appends};
 ghost use Rattle.block_device.specs.Device.{Device};
+ghost use Rattle.image_files.specs.Opener.{calls};
 ghost use Rattle.verity_format.specs.Blocks.{IsOnlyRead};
 ghost use Rattle.verity_format.specs.Verifying.{IsFound, IsVerifyCause};
 ghost use Rattle.image_commands.specs.Endings.{IsComparisonEnd, IsQuiet};
 ghost use Rattle.image_commands.specs.ImageCommands.{IsVerifyFilesEnd, PrintsMatches};
+ghost use Rattle.image_commands.specs.Openings.{two_paths};
 
 use crate::fault::ImageFault;
+use crate::paths::{ImagePaths, open_two};
 use block_device::BlockDev;
 use counted_io::Counted;
-use image_files::open_file;
+use image_files::Images;
 use std::alloc::Global;
-use std::fs::File;
 use std::io::Write;
-use std::rt::Files;
 use tree_shape::Digest;
 use verity_format::{Verdict, verify};
 
 /// `verify DATA HASH ROOT`: `matches`; a difference is the fault `Differs`.
 #[tactic(auto, using(crate::proofs::lemmas::EndingLemmas::quiet))]
-pub fn verify_files<'a, R: Files<File = File> + AllocGlobal, W: Write>(
-    rt: &R,
-    data_path: &'a str,
-    hash_path: &'a str,
+pub fn verify_images<'a, I: Images, W: Write>(
+    alloc: Global,
+    images: &mut I,
+    paths: ImagePaths<'a>,
     root: &Digest,
     writer: &mut Counted<W>,
 ) -> Result<(), ImageFault<'a>>
-    ensures ok { OnOk result (PrintsMatches root.now (W.contents writer.old.inner) (W.contents writer.new.inner)) }
-    ensures err { IfErr result (IsVerifyFilesEnd data_path.now hash_path.now root.now writer.new.failed) }
+    ensures ok { OnOk result (PrintsMatches (calls I.relations I.Dev.state images.old images.new) (two_paths paths.entry) root.now (W.contents writer.old.inner) (W.contents writer.new.inner)) }
+    ensures err { IfErr result (IsVerifyFilesEnd (calls I.relations I.Dev.state images.old images.new) (two_paths paths.entry) root.now writer.new.failed) }
     ensures quiet { IfErr result (λ fault. IsQuiet fault (W.contents writer.old.inner) (W.contents writer.new.inner)) }
 {
-    let mut data_dev = open_file(rt, data_path, false)?;
-    let mut hash_dev = open_file(rt, hash_path, false)?;
-    compare(rt.alloc(), &mut data_dev, &mut hash_dev, root, writer)
+    let mut two = open_two(images, paths, false)?;
+    compare(
+        alloc,
+        &mut two.data.device,
+        &mut two.hash.device,
+        root,
+        writer,
+    )
 }
 
 // Compares the tree over the data device with the one on the hash device.

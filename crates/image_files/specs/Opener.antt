@@ -4,7 +4,6 @@ use Rattle.block_device.specs.declared.open_fault.OpenFault.{OpenFault}
 use Rattle.block_device.specs.Device.{Device}
 use Rattle.image_files.specs.declared.images.FileText.{FileText}
 use Rattle.image_files.specs.declared.images.OpenImage.{OpenImage}
-use Rattle.image_files.specs.declared.images.TextFault.{TextFault}
 
 -- Relations of the opener before a call, the call's arguments, its outcome, and the opener after it. What is generic over the
 -- opener knows none of them but by a call, so that a clause that cites one says which call was made.
@@ -12,7 +11,7 @@ pub record Opener (S D : Type 0) : Type 1 where
   -- a path, and whether its image is opened for writing too
   pub opens : S → List ℕ → Bool → Result (OpenImage D) OpenFault → S → Type 0
   -- a path, and how many bytes of its file are taken at most
-  pub tells : S → List ℕ → ℕ → Result FileText TextFault → S → Type 0
+  pub tells : S → List ℕ → ℕ → Result FileText OpenFault → S → Type 0
   -- a path, and the device that is given back
   pub takes : S → List ℕ → D → S → Type 0
 

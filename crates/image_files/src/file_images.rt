@@ -1,5 +1,5 @@
 //! Images in files.
-use crate::images::{FileText, Images, OpenImage, TextFault};
+use crate::images::{FileText, Images, OpenImage};
 use block_device::{FileDev, FileId, OpenFault};
 use std::fs;
 use std::fs::File;
@@ -32,20 +32,20 @@ impl<R: Files<File = File> + AllocGlobal> Images for FileImages<'_, R> {
     }
 
     // A file of any kind that can be read.
-    fn read_text(&mut self, path: &str, most: usize) -> Result<FileText, TextFault> {
+    fn read_text(&mut self, path: &str, most: usize) -> Result<FileText, OpenFault> {
         let file = match fs::open(self.rt, path) {
             Ok(file) => file,
-            Err(error) => return Err(TextFault::Open(OpenFault::from(error.kind()))),
+            Err(error) => return Err(OpenFault::from(error.kind())),
         };
         let id = match file.metadata() {
             Ok(metadata) => FileId::of(&metadata),
-            Err(error) => return Err(TextFault::Open(OpenFault::from(error.kind()))),
+            Err(error) => return Err(OpenFault::from(error.kind())),
         };
         let mut bytes = Vec::new(self.rt.alloc());
         match file.take(most as u64).read_to_end(&mut bytes) {
             Ok(_) if bytes.len() <= most => Ok(FileText { bytes, id }),
-            Err(error) if error.kind() == ErrorKind::OutOfMemory => Err(TextFault::NoMemory),
-            _ => Err(TextFault::Open(OpenFault::OtherFault)),
+            Err(error) if error.kind() == ErrorKind::OutOfMemory => Err(OpenFault::NoMemory),
+            _ => Err(OpenFault::OtherFault),
         }
     }
 

@@ -18,15 +18,6 @@ pub struct FileText {
     pub id: Option<FileId>,
 }
 
-/// Why a text isn't read.
-#[derive(Clone, Copy, Debug, PartialEq, Eq)]
-pub enum TextFault {
-    /// Its file isn't opened or can't be read.
-    Open(OpenFault),
-    /// Memory ran out.
-    NoMemory,
-}
-
 /// What commands open: images and texts under paths.
 ///
 /// Two that have the same known id are one file (`is_one_file`).
@@ -43,7 +34,7 @@ pub trait Images {
         ensures fresh { IfOk result (λ image. IsFresh (Self.Dev.state image.device) writable) };
 
     /// At most so many first bytes of the file under this path.
-    fn read_text(&mut self, path: &str, most: usize) -> Result<FileText, TextFault>
+    fn read_text(&mut self, path: &str, most: usize) -> Result<FileText, OpenFault>
         ensures told { relations.tells self.old path.now most result self.new }
         ensures most { IfOk result (λ text. length text.bytes.items ≤ most) };
 

@@ -9,6 +9,6 @@ mod opening;
 
 pub use file_images::FileImages;
 pub use file_use::{FileUse, has_clash, is_clash, output_use};
-pub use images::{FileText, Images, OpenImage, TextFault};
+pub use images::{FileText, Images, OpenImage};
 pub use one_file::is_one_file;
 pub use opening::{UnopenedFile, open_file, open_image};

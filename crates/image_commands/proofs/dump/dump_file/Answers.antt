@@ -1,8 +1,0 @@
-use Rattle.std.proofs.Common.{inr}
-use Rattle.std.proofs.lemmas.Result.{IfErr-weaker}
-use Rattle.block_device.specs.contracts.file.FileDevBlockDev.TheImpl.{ghosts}
-use Rattle.image_commands.proofs.dump.dump_file.Goals as goal
-
-pub returns-clause-err : goal.returns-clause-err
-returns-clause-err g c =
-    IfErr-weaker c.dump.result _ _ (λ fault ends. inr (ghosts.state c.in_ok-hash_dev.hash_dev, ghosts.state c.dump.new.hash_dev, c.in_ok-hash_dev.ensures.ok, ends)) c.dump.ensures.err

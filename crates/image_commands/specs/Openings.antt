@@ -1,0 +1,50 @@
+-- The images of a command: which paths are opened, in which order and with which rights.
+use Rattle.std.specs.Prelude.{◌≡◌, ◌⊎◌, ℕ, List, Bool, true, false, Ok}
+use Rattle.block_device.specs.declared.open_fault.OpenFault.TheVariants.{SameFile}
+use Rattle.image_files.specs.declared.images.OpenImage.{OpenImage}
+use Rattle.image_files.specs.declared.opening.UnopenedFile.{UnopenedFile}
+use Rattle.image_files.specs.OneFile.{is_one_file}
+use Rattle.image_files.specs.Opened.{Refuses}
+use Rattle.image_files.specs.Opener.{Calls}
+use Rattle.image_commands.specs.declared.paths.ImagePaths.{ImagePaths}
+use Rattle.image_commands.specs.declared.paths.TwoImages.{TwoImages}
+
+-- the paths of a data image and of its hash image
+pub record TwoPaths : Type 0 where
+  pub data_path : List ℕ
+  pub hash_path : List ℕ
+
+abbrev pub two_paths : ImagePaths → TwoPaths
+two_paths paths = record { data_path = paths.data.now; hash_path = paths.hash.now }
+
+-- the data image was opened for reading, and then the hash image
+pub record OpensTwo {S D : Type 0} (w : Calls S D) (paths : TwoPaths) (writable : Bool) (two : TwoImages D) : Type 0 where
+  pub between : S
+  pub data_opened : w.relations.opens w.old paths.data_path false (Ok two.data) between
+  pub hash_opened : w.relations.opens between paths.hash_path writable (Ok two.hash) w.new
+
+-- the data image was opened, and the hash image wasn't
+pub record RefusesHash {S D : Type 0} (w : Calls S D) (paths : TwoPaths) (writable : Bool) (file : UnopenedFile) : Type 0 where
+  pub data_image : OpenImage D
+  pub between : S
+  pub data_opened : w.relations.opens w.old paths.data_path false (Ok data_image) between
+  pub refused : Refuses (record w { old = between }) paths.hash_path writable file
+
+-- one of them isn't opened, the first that the opener refuses
+abbrev pub FailsToOpenTwo : {S D : Type 0} → Calls S D → TwoPaths → Bool → UnopenedFile → Type 0
+FailsToOpenTwo w paths writable file = Refuses w paths.data_path false file ⊎ RefusesHash w paths writable file
+
+-- for a format both were opened, the hash image for writing, and they are two files, as far as the opener tells
+pub record OpensApart {S D : Type 0} (w : Calls S D) (paths : TwoPaths) (two : TwoImages D) : Type 0 where
+  pub opened : OpensTwo w paths true two
+  pub apart : is_one_file two.data.id two.hash.id ≡ false
+
+-- both were opened, but are one file
+pub record AreOneFile {S D : Type 0} (w : Calls S D) (paths : TwoPaths) (file : UnopenedFile) : Type 0 where
+  pub two : TwoImages D
+  pub opened : OpensTwo w paths true two
+  pub one : is_one_file two.data.id two.hash.id ≡ true
+  pub is : (file.fault ≡ SameFile) × (file.path.now ≡ paths.hash_path)
+
+abbrev pub FailsToOpenApart : {S D : Type 0} → Calls S D → TwoPaths → UnopenedFile → Type 0
+FailsToOpenApart w paths file = FailsToOpenTwo w paths true file ⊎ AreOneFile w paths file

@@ -1,0 +1,54 @@
+//! The two images of a command, opened one behind the other.
+ghost use Rattle.std.specs.Prelude.{◌≡◌, true, IfOk, IfErr};
+ghost use Rattle.image_files.specs.Opener.{IsFresh, calls};
+ghost use Rattle.image_commands.specs.Openings.{FailsToOpenApart, FailsToOpenTwo, OpensApart, OpensTwo, two_paths};
+
+use block_device::OpenFault;
+use image_files::{Images, OpenImage, UnopenedFile, is_one_file, open_image};
+
+/// The paths of a data image and of its hash image.
+#[derive(Clone, Copy, Debug, PartialEq, Eq)]
+pub struct ImagePaths<'a> {
+    pub data: &'a str,
+    pub hash: &'a str,
+}
+
+/// A data image and its hash image, open.
+#[derive(Drop)]
+pub struct TwoImages<D> {
+    pub data: OpenImage<D>,
+    pub hash: OpenImage<D>,
+}
+
+/// Opens the data image for reading, and then the hash image, for writing too where `writable` says so.
+pub fn open_two<'a, I: Images>(
+    images: &mut I,
+    paths: ImagePaths<'a>,
+    writable: bool,
+) -> Result<TwoImages<I::Dev>, UnopenedFile<'a>>
+    ensures ok { IfOk result (OpensTwo (calls I.relations I.Dev.state images.old images.new) (two_paths paths.entry) writable) }
+    ensures fresh { IfOk result (λ two. IsFresh (I.Dev.state two.hash.device) writable) }
+    ensures err { IfErr result (FailsToOpenTwo (calls I.relations I.Dev.state images.old images.new) (two_paths paths.entry) writable) }
+{
+    let data = open_image(images, paths.data, false)?;
+    let hash = open_image(images, paths.hash, writable)?;
+    Ok(TwoImages { data, hash })
+}
+
+/// Opens the two as a format does: the hash image for writing too, which may not be the data image.
+pub fn open_apart<'a, I: Images>(
+    images: &mut I,
+    paths: ImagePaths<'a>,
+) -> Result<TwoImages<I::Dev>, UnopenedFile<'a>>
+    ensures ok { IfOk result (OpensApart (calls I.relations I.Dev.state images.old images.new) (two_paths paths.entry)) }
+    ensures fresh { IfOk result (λ two. IsFresh (I.Dev.state two.hash.device) true) }
+    ensures err { IfErr result (FailsToOpenApart (calls I.relations I.Dev.state images.old images.new) (two_paths paths.entry)) }
+{
+    let two = open_two(images, paths, true)?;
+    if is_one_file(two.data.id, two.hash.id) {
+        let fault = OpenFault::SameFile;
+        let path = paths.hash;
+        return Err(UnopenedFile { fault, path });
+    }
+    Ok(two)
+}
