@@ -2,6 +2,8 @@
 #![tactic(auto)]
 
 use counted_io::Counted;
+use image_commands::SystemGenerators;
+use image_files::FileImages;
 use stack_commands::{CommandFault, command, end};
 use std::fs::File;
 use std::io::{BufWriter, ErrorKind};
@@ -21,7 +23,14 @@ fn main(rt: HostRuntime) -> ExitCode {
     let mut reader = Counted::new(rt.reader());
     let mut writer = Counted::new(buffered);
     let status = match words_of(&rt) {
-        Ok(words) => command(&rt, words.as_slice(), &mut reader, &mut writer),
+        Ok(words) => command(
+            &rt,
+            &mut FileImages::new(&rt),
+            &mut SystemGenerators::new(&rt),
+            words.as_slice(),
+            &mut reader,
+            &mut writer,
+        ),
         Err(error) if error.kind() == ErrorKind::OutOfMemory => {
             end(&mut writer, CommandFault::NoMemory)
         }
