@@ -40,7 +40,7 @@ def calls_of(crate):
         if it.is_pub and not it.owner:
             patterns.append(rf"(?<![\w.:]){it.name}\(")
         elif it.owner and it.is_public():
-            patterns += [rf"\b{it.owner}::{it.name}\(", rf"\.{it.name}\("]
+            patterns += [rf"\b{it.owner}(::<[^>]*>)?::{it.name}\(", rf"\.{it.name}\("]
     return patterns
 
 

@@ -187,10 +187,11 @@ def handshakes(runner):
         bad += [whole[:7] + struct.pack(">H", n) + whole[9:] for n in (0, 2, 65535)]
         for data in bad:
             runner.run(f"{number} with {data.hex()}", "low", flags(3) + option(number, data) + option(LIST), GREETING + option_reply(number, INVALID) + listed)
-    for length in (65536, 65537, 1 << 20):
+    for length in (1, 65535, 65536, 65537, 1 << 20):
         kind = UNSUPPORTED if length <= 65536 else TOO_BIG
         runner.run(f"option of {length} bytes", "low", flags(3) + option(99, bytes(length)) + option(LIST), GREETING + option_reply(99, kind) + listed)
         runner.run(f"name of {length} bytes", "low", flags(3) + option(EXPORT_NAME, bytes(length)), GREETING, status=4)
+        runner.run(f"abort of {length} bytes", "low", flags(3) + option(ABORT, bytes(length)) + option(LIST), GREETING + option_reply(ABORT, ACK))
     for k in range(8):
         wrong = bytearray(option(LIST))
         wrong[k] ^= 1

@@ -3,6 +3,7 @@ pub mod Failing
 pub mod OpenFault
 pub mod File
 pub mod FileId
+pub mod Identity
 pub mod Memory
 pub mod Any
 pub mod Script

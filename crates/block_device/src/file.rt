@@ -1,8 +1,9 @@
 //! A device in a file.
-ghost use Rattle.std.specs.Prelude.{◌≡◌, ◌≤◌, ◌^◌, ◌/◌, ◌↔◌, ℕ, false, refl, IfOk, IfErr, IsOk, IsTrue, OnErr, OnOk, Ok};
+ghost use Rattle.std.specs.Prelude.{◌≡◌, ◌≤◌, ◌^◌, ◌/◌, ◌↔◌, ℕ, length, false, refl, IfOk, IfErr, IfSome, IsOk, IsTrue, OnErr, OnOk, Ok};
 ghost use Rattle.std.specs.Fs.{metadata_len, file_type, IsFile};
 ghost use Rattle.block_device.specs.Device.{Device, IsUnsynced, synced, zeros_image};
-ghost use Rattle.block_device.specs.File.{opened, IsRefused, IsImage, IsBlockDevice};
+ghost use Rattle.block_device.specs.File.{opened, HasSectors, IsRefused, IsImage, IsBlockDevice};
+ghost use Rattle.block_device.specs.Identity.{IsIdOf};
 ghost use Rattle.block_device.specs.Whole.{whole_zeros};
 
 use crate::{BlockDev, DeviceFault, FileId, OpenFault, SyncDev};
@@ -57,12 +58,15 @@ impl FileDev {
             Ok(_) => return Err(OpenFault::OtherFault),
             Err(e) => return Err(OpenFault::from(e.kind())),
         }
-        let file = match OpenOptions::new().read(true).write(writable).open(rt, path) {
+        let mut file = match OpenOptions::new().read(true).write(writable).open(rt, path) {
             Ok(file) => file,
             Err(e) => return Err(OpenFault::from(e.kind())),
         };
         match file.metadata() {
-            Ok(metadata) => device_of(file, &metadata, writable),
+            Ok(metadata) => {
+                let sectors = sectors_in(&mut file, &metadata)?;
+                Ok(device_of(file, &metadata, sectors, writable))
+            }
             Err(e) => Err(OpenFault::from(e.kind())),
         }
     }
@@ -81,35 +85,41 @@ pub(crate) fn is_block_device(metadata: &Metadata) -> bool
     metadata.mode() & KIND_BITS == BLOCK_DEVICE
 }
 
-// How many bytes an open file has: as the system says, or up to a block device's end.
-fn bytes_in(file: &mut File, metadata: &Metadata) -> Result<u64, OpenFault>
-    ensures file { IsFile (file_type metadata.now) → result ≡ Ok (metadata_len metadata.now) }
-    ensures image { IfOk result (λ n. IsImage (file_type metadata.now)) }
-    ensures err { IfErr result (IsRefused metadata.now) }
+// How many bytes stand before the end of what can be sought in.
+fn end_of<S: Seek>(file: &mut S) -> Result<u64, OpenFault>
+    ensures { IfSome (S.stream_position file.old) (λ at. IfSome (S.stream_bytes file.old) (λ bytes. IfOk result (λ n. n ≡ length bytes))) }
 {
-    if metadata.is_file() {
-        return Ok(metadata.len());
-    }
-    if !is_block_device(metadata) {
-        return Err(OpenFault::OtherFault);
-    }
     match file.seek(SeekFrom::End(0)) {
         Ok(end) => Ok(end),
         Err(e) => Err(OpenFault::from(e.kind())),
     }
 }
 
-// The device of an open file, by what the system says of it.
-fn device_of(mut file: File, metadata: &Metadata, writable: bool) -> Result<FileDev, OpenFault>
-    ensures ok { IfOk result (λ f. IsImage (file_type metadata.now) × (⟦<FileDev as BlockDev>⟧.state f ≡ opened (⟦<FileDev as BlockDev>⟧.state f).size writable)) }
-    ensures size { IsFile (file_type metadata.now) → IfOk result (λ f. (⟦<FileDev as BlockDev>⟧.state f).size ≡ metadata_len metadata.now / 512) }
+// How many whole sectors an open file has: as the system says, or up to a block device's end.
+fn sectors_in<S: Seek>(file: &mut S, metadata: &Metadata) -> Result<u64, OpenFault>
+    ensures ok { HasSectors metadata.now (S.stream_position file.old) (S.stream_bytes file.old) result }
     ensures err { IfErr result (IsRefused metadata.now) }
 {
-    let sectors = bytes_in(&mut file, metadata)? / 512;
-    if sectors > MAX_SECTORS {
+    let bytes = if metadata.is_file() {
+        metadata.len()
+    } else if is_block_device(metadata) {
+        end_of(file)?
+    } else {
+        return Err(OpenFault::OtherFault);
+    };
+    if bytes / 512 > MAX_SECTORS {
         return Err(OpenFault::TooLarge);
     }
-    Ok(FileDev {
+    Ok(bytes / 512)
+}
+
+// The device of an open file of so many sectors.
+fn device_of(file: File, metadata: &Metadata, sectors: u64, writable: bool) -> FileDev
+    requires { sectors ≤ 2 ^ 54 }
+    ensures state { ⟦<FileDev as BlockDev>⟧.state result ≡ opened sectors writable }
+    ensures id { IsIdOf (file_type metadata.now) result.id }
+{
+    FileDev {
         file,
         id: FileId::of(metadata),
         sectors,
@@ -118,7 +128,7 @@ fn device_of(mut file: File, metadata: &Metadata, writable: bool) -> Result<File
         reads: 0,
         writes: 0,
         failures: 0,
-    })
+    }
 }
 
 impl BlockDev for FileDev {

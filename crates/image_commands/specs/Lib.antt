@@ -3,4 +3,9 @@ pub mod Endings
 pub mod Formats
 pub mod ImageCommands
 pub mod Openings
+pub mod PlacedFormats
+pub mod PlacedImages
+pub mod PlacedLines
+pub mod Places
+pub mod RootFiles
 pub mod SuperblockTexts

@@ -20,6 +20,10 @@ pub enum ImageFault<'a> {
     Verify(VerifyFault),
     /// The images were compared and differ.
     Differs(Verdict),
+    /// A file doesn't begin with the digits of a root digest.
+    RootText,
+    /// No hash block begins at the place of the superblock.
+    Unaligned,
     /// There are no random bytes.
     Random,
     /// A line can't be written.

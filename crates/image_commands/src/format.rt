@@ -61,15 +61,15 @@ pub fn format_images<'a, I: Images, G: Generators, W: Write>(
     Ok(say_made(writer, &made)?)
 }
 
-// Formats the hash device over the data device, and has that put on the medium.
-fn make<'a, D: BlockDev, H: SyncDev>(
+/// Formats the hash device over the data device, and has that put on the medium.
+pub(crate) fn make<D: BlockDev, H: SyncDev>(
     alloc: Global,
     data_dev: &mut D,
     hash_dev: &mut H,
     options: FormatOptions,
-) -> Result<MadeImage, ImageFault<'a>>
+) -> Result<MadeImage, FormatFault>
     ensures ok { IfOk result (IsMade options (D.state data_dev.old) (H.state hash_dev.old) (D.state data_dev.new) (H.state hash_dev.new)) }
-    ensures err { IfErr result (IsFormatEnd options (D.state data_dev.old) (H.state hash_dev.old) (D.state data_dev.new) (H.state hash_dev.new)) }
+    ensures err { IfErr result (λ fault. IsFormatEnd options (D.state data_dev.old) (H.state hash_dev.old) (D.state data_dev.new) (H.state hash_dev.new) (ImageFault.Format fault)) }
 {
     let blocks = given_blocks(options.blocks, options.data_block, data_dev.sectors());
     let salt = options.salt;
@@ -82,12 +82,16 @@ fn make<'a, D: BlockDev, H: SyncDev>(
             uuid,
             blocks,
         }),
-        Err(_) => Err(ImageFault::Format(FormatFault::Device)),
+        Err(_) => Err(FormatFault::Device),
     }
 }
 
+/// What is printed of an image that was made.
 #[tactic(auto, unfolding(crate::specs::Formats::made_text))]
-fn say_made<W: Write>(writer: &mut Counted<W>, made: &MadeImage) -> Result<(), WriteFault>
+pub(crate) fn say_made<W: Write>(
+    writer: &mut Counted<W>,
+    made: &MadeImage,
+) -> Result<(), WriteFault>
     ensures { Writes W.contents writer.old writer.new (made_text made.now) result }
 {
     say_root(writer, &made.root)?;
@@ -96,8 +100,8 @@ fn say_made<W: Write>(writer: &mut Counted<W>, made: &MadeImage) -> Result<(), W
     say_blocks(writer, made.blocks)
 }
 
-// The options with a salt and an identifier. One generator gives what is missing.
-fn given_or_drawn<'a, G: Generators>(
+/// The options with a salt and an identifier. One generator gives what is missing.
+pub(crate) fn given_or_drawn<'a, G: Generators>(
     generators: &mut G,
     options: ImageOptions,
 ) -> Result<FormatOptions, ImageFault<'a>>

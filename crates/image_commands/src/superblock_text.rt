@@ -121,9 +121,17 @@ fn say_digits<W: Write>(writer: &mut Counted<W>, bytes: &[u8]) -> Result<(), Wri
     requires { length bytes.now ≤ 256 }
     ensures { Writes W.contents writer.old writer.new (encode_lower bytes.now ++ codes "\n") result }
 {
+    say_hex(writer, bytes)?;
+    writer.put(b"\n")
+}
+
+/// At most 256 bytes in hexadecimal digits.
+pub(crate) fn say_hex<W: Write>(writer: &mut Counted<W>, bytes: &[u8]) -> Result<(), WriteFault>
+    requires { length bytes.now ≤ 256 }
+    ensures { Writes W.contents writer.old writer.new (encode_lower bytes.now) result }
+{
     let mut buffer = [0u8; 512];
     let digits = &mut buffer[..2 * bytes.len()];
     hex::encode_to_slice(bytes, digits).unwrap();
-    writer.put(digits)?;
-    writer.put(b"\n")
+    writer.put(digits)
 }

@@ -42,9 +42,9 @@ pub fn verify_images<'a, I: Images, W: Write>(
     )
 }
 
-// Compares the tree over the data device with the one on the hash device.
+/// Compares the tree over the data device with the one on the hash device.
 #[tactic(auto, using(crate::proofs::lemmas::EndingLemmas::quiet))]
-fn compare<'a, D: BlockDev, H: BlockDev, W: Write>(
+pub(crate) fn compare<'a, D: BlockDev, H: BlockDev, W: Write>(
     alloc: Global,
     data_dev: &mut D,
     hash_dev: &mut H,

@@ -65,7 +65,6 @@ stops-reading input fault.Flags stops is = cc
 stops-reading input fault.NoSuchExport stops is = cc
 stops-reading input fault.ReadFault stops is = cc
 stops-reading input fault.WriteFault stops is = stops
-stops-reading input fault.NoMemory stops is = cc
 
 pub of-fault : {T : Type 0} (result : Result T ServiceFault) (x : ServiceFault) → fault_of result ≡ Some x → result ≡ Err x
 of-fault (Ok value) x is = cc

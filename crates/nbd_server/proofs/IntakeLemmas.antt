@@ -93,12 +93,6 @@ into-none count at none = record { takes = record { bytes = []; count = sym none
 pub into-all : (bytes : List ℕ) (count : ℕ) (old new : Option (List ℕ)) → length bytes ≡ count → Consumes old new bytes → TakesInto (Some bytes) count old new
 into-all bytes count old new size c = record { takes = record { bytes = bytes; count = size; consumed = c }; kept = refl }
 
--- the same, as the front of a vector
-pub into-front : (bytes rest : List ℕ) (len count : ℕ) (old new : Option (List ℕ)) → length bytes ≡ len → len ≡ count → Consumes old new bytes → TakesInto (Some (take len (bytes ++ rest))) count old new
-into-front bytes rest len count old new size is c =
-    let front : take len (bytes ++ rest) ≡ bytes = subst (λ m. take m (bytes ++ rest) ≡ bytes) size (take-append_seam bytes rest) in
-    subst (λ l. TakesInto (Some l) count old new) (sym front) (into-all bytes count old new (size ∙ is) c)
-
 -- at their place in the front of a vector
 pub into-place : (bytes rest : List ℕ) (len start count : ℕ) (old new : Option (List ℕ)) → length bytes ≡ len → start + count ≤ len → Consumes old new (take count (drop start bytes))
     → TakesInto (Some (take count (drop start (take len (bytes ++ rest))))) count old new

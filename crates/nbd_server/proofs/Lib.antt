@@ -5,3 +5,4 @@ pub mod IntakeLemmas
 pub mod ServiceLemmas
 pub mod StoreLemmas
 pub mod MessageLemmas
+pub mod RunLemmas

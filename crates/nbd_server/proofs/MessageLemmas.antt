@@ -15,12 +15,12 @@ use Rattle.nbd_server.specs.declared.phase.Phase.TheVariants.{Greeted, Haggling,
 use Rattle.nbd_server.specs.declared.header.Header.{Header}
 use Rattle.nbd_server.specs.Numbers.{number32}
 use Rattle.nbd_server.specs.Exports.{ExportRecord, is_asked}
-use Rattle.nbd_server.specs.Handshake.{names_export}
+use Rattle.nbd_server.specs.Handshake.{answer_to, answer_to_long, most_data, names_export, phase_after, phase_after_long}
 use Rattle.nbd_server.specs.Headers.{header_of, payload_len, request_magic}
 use Rattle.nbd_server.specs.Causes.{Breaks, IsCut, IsCutWithin, IsNaming}
 use Rattle.nbd_server.specs.Streaming.{IsShort, Spoken, Stops, TakesInto}
 use Rattle.nbd_server.specs.Transmission.{RequestOutcome, Serves, simple_reply}
-use Rattle.nbd_server.specs.Service.{Answers, AnswersOption, HasNoRoom, IsAnswered, IsUnnamed, IsUnread, Turns}
+use Rattle.nbd_server.specs.Service.{Answers, AnswersOption, IsTooLong, IsAnswered, IsUnnamed, IsUnread, TakesOption, TakesRequest, Turns}
 
 -- what came of a message that the service ends in
 broken : (e : ExportRecord) (phase : Phase) (w w' : World) (old new : Streams) (x : ServiceFault) → w' ≡ w → (part : List ℕ) → Consumes old.input new.input part → Keeps old.output new.output → Breaks e phase part new.input x
@@ -40,8 +40,7 @@ turns-fault e phase w w' old new fault.Magic same part c k cause = broken e phas
 turns-fault e phase w w' old new fault.Flags same part c k cause = broken e phase w w' old new fault.Flags same part c k cause
 turns-fault e phase w w' old new fault.NoSuchExport same part c k cause = broken e phase w w' old new fault.NoSuchExport same part c k cause
 turns-fault e phase w w' old new fault.ReadFault same part c k cause = broken e phase w w' old new fault.ReadFault same part c k cause
-turns-fault e phase w w' old new fault.WriteFault same part c k cause = tt
-turns-fault e phase w w' old new fault.NoMemory same part c k cause = broken e phase w w' old new fault.NoMemory same part c k cause
+turns-fault e phase w w' old new fault.WriteFault same part c k cause = absurd cause
 
 -- a message that began and didn't end, or didn't begin
 cut-breaks : (e : ExportRecord) (phase : Phase) (rest : List ℕ) (input : Option (List ℕ)) (x : ServiceFault) → Stops input x → (x ≡ fault.Lost → IsCut phase rest) → (rest ≡ []) ⊎ IsCut phase rest → Breaks e phase rest input x
@@ -51,7 +50,6 @@ cut-breaks e phase rest input fault.Flags stops lost failed = absurd stops
 cut-breaks e phase rest input fault.NoSuchExport stops lost failed = absurd stops
 cut-breaks e phase rest input fault.ReadFault stops lost failed = failed
 cut-breaks e phase rest input fault.WriteFault stops lost failed = absurd stops
-cut-breaks e phase rest input fault.NoMemory stops lost failed = absurd stops
 
 module _ (e : ExportRecord) (phase : Phase) (size : ℕ) (within : (rest : List ℕ) → IsCutWithin size rest → IsCut phase rest) where
   begun : (rest : List ℕ) → length rest < size → (rest ≡ []) ⊎ IsCut phase rest
@@ -80,13 +78,12 @@ unanswered Is Ends old new none fault.Flags k is = cc
 unanswered Is Ends old new none fault.NoSuchExport k is = cc
 unanswered Is Ends old new none fault.ReadFault k is = none k.1
 unanswered Is Ends old new none fault.WriteFault k is = cc
-unanswered Is Ends old new none fault.NoMemory k is = cc
-
-pub unread-writing : (Is : List ℕ → Phase → Type 0) (option count : ℕ) (old new : Option (List ℕ)) (x : ServiceFault) → Answers Is (IsUnread option count) old new (Err x) → Some x ≢ Some fault.ReadFault
-unread-writing Is option count old new x k = unanswered Is (IsUnread option count) old new (λ none. none) x k
 
 other-name : fault.ReadFault ≡ fault.NoSuchExport → ⊥
 other-name is = cc
+
+pub unread-writing : (Is : List ℕ → Phase → Type 0) (option count : ℕ) (old new : Option (List ℕ)) (x : ServiceFault) → Answers Is (IsUnread option count) old new (Err x) → Some x ≢ Some fault.ReadFault
+unread-writing Is option count old new x k = unanswered Is (IsUnread option count) old new (λ p. other-name p.0) x k
 
 pub unnamed-writing : (Is : List ℕ → Phase → Type 0) (e : ExportRecord) (option : ℕ) (content : List ℕ) (old new : Option (List ℕ)) (x : ServiceFault) → Answers Is (IsUnnamed e option content) old new (Err x) → Some x ≢ Some fault.ReadFault
 unnamed-writing Is e option content old new x k = unanswered Is (IsUnnamed e option content) old new (λ p. other-name p.0) x k
@@ -112,6 +109,15 @@ long-name e name longer = neither (length name == 0) (bytes_eq name e.name) (ne_
     apart true is = let equal = (bytes_eq-Decides name e.name).0 is in absurd (omega (arith, ap length equal, longer))
     apart false is = refl
 
+-- what is replied to an option whose data are too long
+pub too-long : (no_zeroes : Bool) (option count : ℕ) → most_data < count → option ≢ 1 → IsTooLong no_zeroes option count (answer_to_long option) (phase_after_long no_zeroes option)
+too-long no_zeroes option count long other = record { long = long; other = other; reply_is = refl; next_is = refl }
+
+-- and to one whose data are there
+pub is-answered : (e : ExportRecord) (no_zeroes : Bool) (option : ℕ) (content : List ℕ) → length content ≤ most_data → names_export e option content ≡ true
+    → IsAnswered e no_zeroes option content (answer_to e no_zeroes option content) (phase_after e no_zeroes option content)
+is-answered e no_zeroes option content short named = record { short = short; named = named; reply_is = refl; next_is = refl }
+
 module _ (e : ExportRecord) (no_zeroes : Bool) (w : World) (input mid input' : Option (List ℕ)) (header : List ℕ) (first : Consumes input mid header) (size : length header ≡ 16) where
   pub option-unlike : (output : Option (List ℕ)) → take 8 header ≢ codes "IHAVEOPT" → Turns e (Haggling no_zeroes) w w (streams input output) (streams mid output) (Err fault.Magic)
   option-unlike output other = turns-fault e (Haggling no_zeroes) w w (streams input output) (streams mid output) fault.Magic refl header first (Keeps-refl output) (size, other)
@@ -124,6 +130,9 @@ module _ (e : ExportRecord) (no_zeroes : Bool) (w : World) (input mid input' : O
         turns-fault e (Haggling no_zeroes) w w (streams input output) (streams input' output) x refl (header ++ s.part) (Consumes-trans input mid input' header s.part first s.consumed) (Keeps-refl output)
         (cut-breaks e (Haggling no_zeroes) (header ++ s.part) input' x s.cause (λ lost. cut) (inr cut))
 
+    option-takes : (content : List ℕ) → length content ≡ number32 header 12 → (next : Phase) (reply : List ℕ) → AnswersOption e no_zeroes (number32 header 8) content reply next → TakesOption e no_zeroes (header ++ content) reply next
+    option-takes content count next reply answered = record { header = header; content = content; message_is = refl; size = size; magic = magic; count = count; answered = answered }
+
     option-answered : (content : List ℕ) → Consumes mid input' content → length content ≡ number32 header 12 → (next : Phase) (reply : List ℕ) → AnswersOption e no_zeroes (number32 header 8) content reply next → Appends output output' reply
         → Turns e (Haggling no_zeroes) w w (streams input output) (streams input' output') (Ok (Some next))
     option-answered content c count next reply answered a = record {
@@ -131,19 +140,25 @@ module _ (e : ExportRecord) (no_zeroes : Bool) (w : World) (input mid input' : O
       written = reply;
       consumed = Consumes-trans input mid input' header content first c;
       appended = a;
-      holds = (record { header = header; content = content; message_is = refl; size = size; magic = magic; count = count; answered = answered }, refl);
+      holds = (option-takes content count next reply answered, refl);
     }
 
-    -- it has no reply
-    pub option-ends : (content : List ℕ) → Consumes mid input' content → (Is : List ℕ → Phase → Type 0) (Ends : ServiceFault → Type 0) (x : ServiceFault) → (Ends x → Breaks e (Haggling no_zeroes) (header ++ content) input' x)
+    -- it has no reply, or the writer failed in that
+    pub option-ends : (content : List ℕ) → Consumes mid input' content → length content ≡ number32 header 12 → (Is : List ℕ → Phase → Type 0) (Ends : ServiceFault → Type 0) (x : ServiceFault)
+        → ((reply : List ℕ) (next : Phase) → Is reply next → AnswersOption e no_zeroes (number32 header 8) content reply next) → (Ends x → Breaks e (Haggling no_zeroes) (header ++ content) input' x)
         → Answers Is Ends output output' (Err x) → Turns e (Haggling no_zeroes) w w (streams input output) (streams input' output') (Err x)
-    option-ends content c Is Ends fault.Lost breaks k = turns-fault e (Haggling no_zeroes) w w (streams input output) (streams input' output') fault.Lost refl (header ++ content) (Consumes-trans input mid input' header content first c) k.0 (breaks k.1)
-    option-ends content c Is Ends fault.Magic breaks k = turns-fault e (Haggling no_zeroes) w w (streams input output) (streams input' output') fault.Magic refl (header ++ content) (Consumes-trans input mid input' header content first c) k.0 (breaks k.1)
-    option-ends content c Is Ends fault.Flags breaks k = turns-fault e (Haggling no_zeroes) w w (streams input output) (streams input' output') fault.Flags refl (header ++ content) (Consumes-trans input mid input' header content first c) k.0 (breaks k.1)
-    option-ends content c Is Ends fault.NoSuchExport breaks k = turns-fault e (Haggling no_zeroes) w w (streams input output) (streams input' output') fault.NoSuchExport refl (header ++ content) (Consumes-trans input mid input' header content first c) k.0 (breaks k.1)
-    option-ends content c Is Ends fault.ReadFault breaks k = turns-fault e (Haggling no_zeroes) w w (streams input output) (streams input' output') fault.ReadFault refl (header ++ content) (Consumes-trans input mid input' header content first c) k.0 (breaks k.1)
-    option-ends content c Is Ends fault.WriteFault breaks k = tt
-    option-ends content c Is Ends fault.NoMemory breaks k = turns-fault e (Haggling no_zeroes) w w (streams input output) (streams input' output') fault.NoMemory refl (header ++ content) (Consumes-trans input mid input' header content first c) k.0 (breaks k.1)
+    option-ends content c count Is Ends fault.Lost answers breaks k = turns-fault e (Haggling no_zeroes) w w (streams input output) (streams input' output') fault.Lost refl (header ++ content) (Consumes-trans input mid input' header content first c) k.0 (breaks k.1)
+    option-ends content c count Is Ends fault.Magic answers breaks k = turns-fault e (Haggling no_zeroes) w w (streams input output) (streams input' output') fault.Magic refl (header ++ content) (Consumes-trans input mid input' header content first c) k.0 (breaks k.1)
+    option-ends content c count Is Ends fault.Flags answers breaks k = turns-fault e (Haggling no_zeroes) w w (streams input output) (streams input' output') fault.Flags refl (header ++ content) (Consumes-trans input mid input' header content first c) k.0 (breaks k.1)
+    option-ends content c count Is Ends fault.NoSuchExport answers breaks k = turns-fault e (Haggling no_zeroes) w w (streams input output) (streams input' output') fault.NoSuchExport refl (header ++ content) (Consumes-trans input mid input' header content first c) k.0 (breaks k.1)
+    option-ends content c count Is Ends fault.ReadFault answers breaks k = turns-fault e (Haggling no_zeroes) w w (streams input output) (streams input' output') fault.ReadFault refl (header ++ content) (Consumes-trans input mid input' header content first c) k.0 (breaks k.1)
+    option-ends content c count Is Ends fault.WriteFault answers breaks k = record {
+      message = header ++ content;
+      reply = k.0;
+      next = k.1;
+      consumed = Consumes-trans input mid input' header content first c;
+      takes = (option-takes content count k.1 k.0 (answers k.0 k.1 k.2), refl);
+    }
 
     naming : (name : List ℕ) → length name ≡ number32 header 12 → number32 header 8 ≡ 1 → IsNaming (header ++ name) name
     naming name count option = record { header = header; rest_is = refl; is_header = record { size = size; magic = magic }; option = option; count = count }
@@ -153,17 +168,11 @@ module _ (e : ExportRecord) (no_zeroes : Bool) (w : World) (input mid input' : O
         → Breaks e (Haggling no_zeroes) (header ++ content) input' x
     unnamed-breaks content count option is x p = subst (Breaks e (Haggling no_zeroes) (header ++ content) input') (sym p.0) (content, naming content count (sym is ∙ p.1), p.2)
 
-    -- a name for which there is no room
+    -- a name that is too long
     pub unread-breaks : length e.name < 2 ^ 16 → (content : List ℕ) → length content ≡ number32 header 12 → (option n : ℕ) → option ≡ number32 header 8 → n ≡ number32 header 12 → (x : ServiceFault) → IsUnread option n x
         → Breaks e (Haggling no_zeroes) (header ++ content) input' x
-    unread-breaks short content count option n is same fault.Lost p = absurd p
-    unread-breaks short content count option n is same fault.Magic p = absurd p
-    unread-breaks short content count option n is same fault.Flags p = absurd p
-    unread-breaks short content count option n is same fault.NoSuchExport p =
-        (content, naming content count (sym is ∙ p.0), long-name e content (omega (arith, p.1, count, same, short)))
-    unread-breaks short content count option n is same fault.ReadFault p = absurd p
-    unread-breaks short content count option n is same fault.WriteFault p = absurd p
-    unread-breaks short content count option n is same fault.NoMemory p = (content, naming content count (sym is ∙ p.0), omega (arith, p.1, count, same), omega (arith, p.2, count, same))
+    unread-breaks short content count option n is same x p =
+        subst (Breaks e (Haggling no_zeroes) (header ++ content) input') (sym p.0) (content, naming content count (sym is ∙ p.1), long-name e content (omega (arith, p.2, count, same, short)))
 
     -- an option whose data are there
     pub option-told : (content : List ℕ) → TakesInto (Some content) (number32 header 12) mid input' → (next : Phase) (Ends : ServiceFault → Type 0) → Answers (IsAnswered e no_zeroes (number32 header 8) content) Ends output output' (Ok next)
@@ -171,11 +180,11 @@ module _ (e : ExportRecord) (no_zeroes : Bool) (w : World) (input mid input' : O
     option-told content t next Ends a =
         option-answered content (subst (λ l. Consumes mid input' l) (sym t.kept) t.takes.consumed) (ap length t.kept ∙ t.takes.count) next a.0 (inl a.1) a.2
 
-    -- one for whose data there is no room
-    pub option-refused : TakesInto None (number32 header 12) mid input' → (next : Phase) (Ends : ServiceFault → Type 0) → Answers (HasNoRoom no_zeroes (number32 header 8) (number32 header 12)) Ends output output' (Ok next)
+    -- one whose data are too long
+    pub option-refused : TakesInto None (number32 header 12) mid input' → (next : Phase) (Ends : ServiceFault → Type 0) → Answers (IsTooLong no_zeroes (number32 header 8) (number32 header 12)) Ends output output' (Ok next)
         → Turns e (Haggling no_zeroes) w w (streams input output) (streams input' output') (Ok (Some next))
     option-refused t next Ends a =
-        let room = subst (λ n. HasNoRoom no_zeroes (number32 header 8) n a.0 next) (sym t.takes.count) a.1 in
+        let room = subst (λ n. IsTooLong no_zeroes (number32 header 8) n a.0 next) (sym t.takes.count) a.1 in
         option-answered t.takes.bytes t.takes.consumed t.takes.count next a.0 (inr room) a.2
 
 -- ---- requests
@@ -192,6 +201,19 @@ module _ (e : ExportRecord) (w w' : World) (input mid input' : Option (List ℕ)
       turns-fault e Serving w w' (streams input output) (streams input' output) x p.1 (header ++ p.0.part) (Consumes-trans input mid input' header p.0.part first p.0.consumed) (Keeps-refl output)
       (cut-breaks e Serving (header ++ p.0.part) input' x p.0.cause (λ lost. cut) (inr cut))
 
+  -- it was taken and served
+  request-takes : (outcome : RequestOutcome) → (header_of header).kind ≢ 2 → (payload : List ℕ) → length payload ≡ payload_len (header_of header) → Serves e w (header_of header) payload outcome w'
+      → TakesRequest e w (header ++ payload) (simple_reply (header_of header).cookie outcome) Serving w'
+  request-takes outcome other payload count serves = record {
+    header = header;
+    payload = payload;
+    message_is = refl;
+    size = size;
+    magic = magic;
+    count = count;
+    answered = inr (other, record { outcome = outcome; serves = serves; reply_is = refl; next_is = refl });
+  }
+
   pub request-served : (output output' : Option (List ℕ)) (outcome : RequestOutcome) → (header_of header).kind ≢ 2
       → (payload : List ℕ) × (length payload ≡ payload_len (header_of header)) × Consumes mid input' payload × Serves e w (header_of header) payload outcome w'
       → Appends output output' (simple_reply (header_of header).cookie outcome) → Turns e Serving w w' (streams input output) (streams input' output') (Ok (Some Serving))
@@ -200,15 +222,19 @@ module _ (e : ExportRecord) (w w' : World) (input mid input' : Option (List ℕ)
     written = simple_reply (header_of header).cookie outcome;
     consumed = Consumes-trans input mid input' header p.0 first p.2;
     appended = a;
-    holds = record {
-      header = header;
-      payload = p.0;
-      message_is = refl;
-      size = size;
-      magic = magic;
-      count = p.1;
-      answered = inr (other, record { outcome = outcome; serves = p.3; reply_is = refl; next_is = refl });
-    };
+    holds = request-takes outcome other p.0 p.1 p.3;
+  }
+
+  -- and the writer failed in its reply
+  pub request-unanswered : (output output' : Option (List ℕ)) (outcome : RequestOutcome) → (header_of header).kind ≢ 2
+      → (payload : List ℕ) × (length payload ≡ payload_len (header_of header)) × Consumes mid input' payload × Serves e w (header_of header) payload outcome w'
+      → Turns e Serving w w' (streams input output) (streams input' output') (Err fault.WriteFault)
+  request-unanswered output output' outcome other p = record {
+    message = header ++ p.0;
+    reply = simple_reply (header_of header).cookie outcome;
+    next = Serving;
+    consumed = Consumes-trans input mid input' header p.0 first p.2;
+    takes = request-takes outcome other p.0 p.1 p.3;
   }
 
 last-payload : (h : Header) → h.kind ≡ 2 → 0 ≡ payload_len h

@@ -1,8 +1,10 @@
 -- A service, message by message.
 use Rattle.std.proofs.Common.{◌≡◌, ◌≢◌, ℕ, ◌+◌, ◌-◌, ◌/◌, ◌%◌, List, [], ◌∷◌, ◌++◌, length, refl, ap, sym, ◌∙◌, subst, append_assoc, append-nil, inl, inr, Option, Some, None, Result, Ok, Err}
 use Rattle.std.specs.Prelude.{◌⊎◌, Bool, true, false, replicate}
-use Rattle.std.specs.Io.KnownBytes.{Appends, Keeps}
+use Rattle.std.specs.Io.KnownBytes.{Appends, Consumes, Keeps}
 use Rattle.std.proofs.KnownBytes.{Appends-nil, Appends-trans, Appends-kept, Consumes-nil, Consumes-trans}
+use Rattle.request_queue.specs.Parts.{EachPart}
+use Rattle.request_queue.specs.Runs.{IsLed}
 use Rattle.request_queue.specs.World.{World}
 use Rattle.counted_io.specs.Streams.{Streams, streams}
 use Rattle.nbd_server.specs.declared.fault.ServiceFault.{ServiceFault}
@@ -14,12 +16,13 @@ use Rattle.nbd_server.specs.declared.header.Command.TheVariants.{Read, Write, Ze
 use Rattle.nbd_server.specs.declared.request_error.RequestError.{RequestError}
 use Rattle.nbd_server.specs.Exports.{ExportRecord, IsExport}
 use Rattle.nbd_server.specs.Headers.{command_of, header_of}
-use Rattle.nbd_server.specs.Sectors.{FailsToFetch, EndsIn, StopsAfter, EndsPut, StopsPut}
+use Rattle.nbd_server.specs.Sectors.{FailsToFetch, EndsIn, HasNoBuffer, EndsPut, StopsPut}
 use Rattle.nbd_server.specs.Transmission.{RequestOutcome, FailsToReadEnds, Flushes, IsFramed, ReadsBytes, ServesCommand, Settles, WritesBytes, WritesGiven, WritesSome, room_behind, touched}
 use Rattle.nbd_server.specs.Handshake.{greeting}
 use Rattle.nbd_server.specs.Causes.{Breaks}
 use Rattle.nbd_server.specs.Streaming.{Spoken}
 use Rattle.nbd_server.specs.Service.{Conversation, begins, goes_on, Turns, IsService, IsLast, IsServed, TakesMessage}
+use Rattle.nbd_server.proofs.RunLemmas.{talk-led}
 
 -- the messages so far, and the greeting and their replies
 abbrev pub IsTalk : ExportRecord → World → Phase → World → List ℕ → List ℕ → Type 0
@@ -69,12 +72,14 @@ held-none {e = e} {first = first} {now = now} {phase = phase} {old = old} {mid =
           ends = (none.holds.0, inr t.1);
         };
       };
+      done = λ is. (cc);
+      led = subst (IsLed EachPart first) (sym none.holds.2) (talk-led h.holds.1);
     }
 
--- the service ends in a message
-ends-in : {e : ExportRecord} {first now : World} {phase : Phase} {old mid : Streams} (now' : World) (new : Streams) (x : ServiceFault) → Held e first phase now old mid
+-- the service ends in a message, for another fault than the writer's
+ends-in : {e : ExportRecord} {first now : World} {phase : Phase} {old mid : Streams} (now' : World) (new : Streams) (x : ServiceFault) → x ≢ fault.WriteFault → Held e first phase now old mid
     → Spoken mid new (λ taken written. (written ≡ []) × (now' ≡ now) × Breaks e phase taken new.input x) → IsService e first now' old new (Err x)
-ends-in {e = e} {first = first} {now = now} {phase = phase} {old = old} {mid = mid} now' new x h t = record {
+ends-in {e = e} {first = first} {now = now} {phase = phase} {old = old} {mid = mid} now' new x apart h t = record {
   held = λ other. record {
     taken = h.taken ++ t.taken;
     written = h.written ++ t.written;
@@ -91,31 +96,72 @@ ends-in {e = e} {first = first} {now = now} {phase = phase} {old = old} {mid = m
       ends = t.holds.2;
     };
   };
+  done = λ is. absurd (apart (cc));
+  led = subst (IsLed EachPart first) (sym t.holds.1) (talk-led h.holds.1);
 }
 
--- nothing is said where the writer failed
-pub writer-failed : (e : ExportRecord) (first last : World) (old new : Streams) → IsService e first last old new (Err fault.WriteFault)
-writer-failed e first last old new = record { held = λ other. absurd (other refl) }
+-- ---- the writer failed
+
+-- those messages were taken and done
+stuck : {e : ExportRecord} {first last : World} {phase : Phase} {old new : Streams} (whole replies : List ℕ) → Consumes old.input new.input whole → Conversation e first phase last whole replies → IsService e first last old new (Err fault.WriteFault)
+stuck {phase = phase} whole replies c talk = record {
+  held = λ other. absurd (other refl);
+  done = λ is. record { phase = phase; whole = whole; replies = replies; consumed = c; talk = talk };
+  led = talk-led talk;
+}
+
+-- in the greeting
+pub held-unsaid : (e : ExportRecord) (first : World) (input output output' : Option (List ℕ)) → IsService e first first (streams input output) (streams input output') (Err fault.WriteFault)
+held-unsaid e first input output output' = stuck {old = streams input output} {new = streams input output'} [] [] (Consumes-nil input) begins
+
+-- between two messages
+pub held-stuck : {e : ExportRecord} {first now : World} {phase : Phase} {old : Streams} (input output output' : Option (List ℕ)) → Held e first phase now old (streams input output) → IsService e first now old (streams input output') (Err fault.WriteFault)
+held-stuck {old = old} input output output' h = stuck {old = old} {new = streams input output'} h.taken h.holds.0 h.consumed h.holds.1
+
+-- ---- any fault
 
 pub held-ends : {e : ExportRecord} {first now : World} {phase : Phase} {old mid : Streams} (now' : World) (new : Streams) (x : ServiceFault) → Held e first phase now old mid → Turns e phase now now' mid new (Err x) → IsService e first now' old new (Err x)
-held-ends now' new fault.Lost h t = ends-in now' new fault.Lost h t
-held-ends now' new fault.Magic h t = ends-in now' new fault.Magic h t
-held-ends now' new fault.Flags h t = ends-in now' new fault.Flags h t
-held-ends now' new fault.NoSuchExport h t = ends-in now' new fault.NoSuchExport h t
-held-ends now' new fault.ReadFault h t = ends-in now' new fault.ReadFault h t
-held-ends {e = e} {first = first} {old = old} now' new fault.WriteFault h t = writer-failed e first now' old new
-held-ends now' new fault.NoMemory h t = ends-in now' new fault.NoMemory h t
+held-ends now' new fault.Lost h t = ends-in now' new fault.Lost (λ is. (cc)) h t
+held-ends now' new fault.Magic h t = ends-in now' new fault.Magic (λ is. (cc)) h t
+held-ends now' new fault.Flags h t = ends-in now' new fault.Flags (λ is. (cc)) h t
+held-ends now' new fault.NoSuchExport h t = ends-in now' new fault.NoSuchExport (λ is. (cc)) h t
+held-ends now' new fault.ReadFault h t = ends-in now' new fault.ReadFault (λ is. (cc)) h t
+held-ends {old = old} {mid = mid} now' new fault.WriteFault h t =
+    stuck {old = old} {new = new} (h.taken ++ t.message) (h.holds.0 ++ t.reply) (Consumes-trans old.input mid.input new.input h.taken t.message h.consumed t.consumed) (goes_on t.message t.reply h.holds.1 t.takes)
 
 -- the reader was called too often
 pub held-stops : {e : ExportRecord} {first now : World} {phase : Phase} {old : Streams} (new : Streams) → Held e first phase now old new → IsService e first now old new (Err fault.ReadFault)
 held-stops {now = now} new h =
-    ends-in {mid = new} now new fault.ReadFault h (record { taken = []; written = []; consumed = Consumes-nil new.input; appended = Appends-nil new.output; holds = (refl, refl, inl refl) })
+    ends-in {mid = new} now new fault.ReadFault (λ is. (cc)) h (record { taken = []; written = []; consumed = Consumes-nil new.input; appended = Appends-nil new.output; holds = (refl, refl, inl refl) })
+
+-- the client has ended it
+pub held-over : {e : ExportRecord} {first now : World} {phase : Phase} {old new : Streams} (done : Unit) → Held e first phase now old new → phase ≡ Over → IsService e first now old new (Ok done)
+held-over {phase = phase} done h over = record {
+  held = λ other. record {
+    taken = h.taken;
+    written = h.written;
+    consumed = h.consumed;
+    appended = h.appended;
+    holds = record {
+      phase = phase;
+      whole = h.taken;
+      replies = h.holds.0;
+      rest = [];
+      talk = h.holds.1;
+      taken_is = sym (append-nil h.taken);
+      written_is = h.holds.2;
+      ends = (refl, inl over);
+    };
+  };
+  done = λ is. (cc);
+  led = talk-led h.holds.1;
+}
 
 -- ---- the configuration stays
 
-fails-config : (w : World) (d first count : ℕ) (error : RequestError) (w' : World) → EndsIn w d first count error w' ⊎ StopsAfter w d first count error w' → w'.stack.config ≡ w.stack.config
-fails-config w d first count error w' (inl x) = x.2.config
-fails-config w d first count error w' (inr x) = x.4.read.config
+fails-config : (w : World) (d first count : ℕ) (error : RequestError) (w' : World) → EndsIn w d first count error w' ⊎ HasNoBuffer w error w' → w'.stack.config ≡ w.stack.config
+fails-config w d first count error w' (inl x) = x.read.config
+fails-config w d first count error w' (inr x) = ap (λ (v : World). v.stack.config) x.1
 
 pub fetch-config : (w : World) (d first count : ℕ) (error : RequestError) (w' : World) → FailsToFetch w d first count error w' → w'.stack.config ≡ w.stack.config
 fetch-config w d first count error w' p = fails-config w d first count error w' p.cause
@@ -123,7 +169,7 @@ fetch-config w d first count error w' p = fails-config w d first count error w' 
 same-config : (w w' : World) → w' ≡ w → w'.stack.config ≡ w.stack.config
 same-config w w' same = ap (λ (x : World). x.stack.config) same
 
-read-config : (e : ExportRecord) (w : World) (offset length : ℕ) (outcome : RequestOutcome) (w' : World) → ReadsBytes e w offset length outcome w' → w'.stack.config ≡ w.stack.config
+pub read-config : (e : ExportRecord) (w : World) (offset length : ℕ) (outcome : RequestOutcome) (w' : World) → ReadsBytes e w offset length outcome w' → w'.stack.config ≡ w.stack.config
 read-config e w offset length (Ok content) w' p = p.1.read.config
 read-config e w offset length (Err error) w' p = fetch-config w e.device (offset / 512) (touched offset length) error w' p
 

@@ -3,10 +3,9 @@ use Rattle.std.specs.Prelude.{◌≡◌, ◌≢◌, ◌⊎◌, ◌<◌, ◌≤�
 use Rattle.std.specs.Io.KnownBytes.{IsAtEnd}
 use Rattle.nbd_server.specs.Numbers.{number32}
 use Rattle.nbd_server.specs.Exports.{ExportRecord, is_asked}
-use Rattle.nbd_server.specs.Handshake.{most_data}
 use Rattle.nbd_server.specs.Headers.{header_of, payload_len, request_magic}
 use Rattle.nbd_server.specs.declared.fault.ServiceFault.{ServiceFault}
-use Rattle.nbd_server.specs.declared.fault.ServiceFault.TheVariants.{Lost, Magic, Flags, NoSuchExport, ReadFault, WriteFault, NoMemory}
+use Rattle.nbd_server.specs.declared.fault.ServiceFault.TheVariants.{Lost, Magic, Flags, NoSuchExport, ReadFault, WriteFault}
 use Rattle.nbd_server.specs.declared.phase.Phase.{Phase}
 use Rattle.nbd_server.specs.declared.phase.Phase.TheVariants.{Greeted, Haggling, Serving, Over}
 
@@ -74,11 +73,6 @@ abbrev pub NamesOther : ExportRecord → Phase → List ℕ → Type 0
 NamesOther e (Haggling no_zeroes) rest = (name : List ℕ) × IsNaming rest name × (is_asked e name ≡ false)
 NamesOther e phase rest = ⊥
 
--- its name wants memory
-abbrev pub NamesSome : Phase → List ℕ → Type 0
-NamesSome (Haggling no_zeroes) rest = (name : List ℕ) × IsNaming rest name × (0 < length name) × (length name ≤ most_data)
-NamesSome phase rest = ⊥
-
 -- Why the service ends in that phase, where this came of a message and that is left of the input. `HasRead` says of
 -- ReadFault that the reader failed, and `HasWritten` of WriteFault that the writer did.
 abbrev pub Breaks : ExportRecord → Phase → List ℕ → Option (List ℕ) → ServiceFault → Type 0
@@ -88,4 +82,3 @@ Breaks e phase rest input Flags = HasOtherFlags phase rest
 Breaks e phase rest input NoSuchExport = NamesOther e phase rest
 Breaks e phase rest input ReadFault = (rest ≡ []) ⊎ IsCut phase rest
 Breaks e phase rest input WriteFault = ⊥
-Breaks e phase rest input NoMemory = NamesSome phase rest

@@ -104,6 +104,13 @@ answer_to e no_zeroes option content =
     else if (option == 6) || (option == 7) then info_reply e option content
     else refused Unsupported option
 
+-- what is replied where the data are longer than that, and what comes then
+abbrev pub answer_to_long : ℕ → List ℕ
+answer_to_long option = if option == 2 then acknowledged 2 else refused TooBig option
+
+abbrev pub phase_after_long : Bool → ℕ → Phase
+phase_after_long no_zeroes option = if option == 2 then Over else Haggling no_zeroes
+
 -- GO that asks for the export begins the transmission, as EXPORT_NAME does, and ABORT ends all
 unfoldable pub phase_after : ExportRecord → Bool → ℕ → List ℕ → Phase
 phase_after e no_zeroes option content =

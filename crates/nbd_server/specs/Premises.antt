@@ -1,5 +1,6 @@
 -- What the calls on a client's messages stand on.
 use Rattle.std.specs.Prelude.{◌≡◌, ◌≢◌, ◌<◌, ◌≤◌, ℕ, ◌+◌, ◌*◌, ◌/◌, ◌%◌, ◌^◌, List, length}
+use Rattle.stack_rules.specs.Names.{mapped, size}
 use Rattle.stack_rules.specs.Records.{Configuration}
 use Rattle.nbd_server.specs.Exports.{ExportRecord, IsExport}
 use Rattle.nbd_server.specs.Transmission.{room_behind}
@@ -12,10 +13,16 @@ pub record IsGoing (c : Configuration) (e : ExportRecord) (phase : Phase) : Type
   pub export : IsExport c e
   pub going : phase ≢ Over
 
--- bytes of the export, whose end has 64 bits
+-- bytes of the export
 pub record AreBytesOf (c : Configuration) (e : ExportRecord) (offset count : ℕ) : Type 0 where
   pub export : IsExport c e
-  pub within : offset + count < 2 ^ 64
+  pub within : offset + count ≤ e.size
+
+-- so many sectors of the export, from the first on
+pub record AreSectorsOf (c : Configuration) (e : ExportRecord) (first count : ℕ) : Type 0 where
+  pub export : IsExport c e
+  pub inside : first + count ≤ size c (mapped e.device)
+  pub few : count < 2 ^ 32
 
 -- how many bytes stand before some bytes in the first sector that they touch, and behind them in the last
 pub record HaveSizes (offset count : ℕ) (front back : List ℕ) : Type 0 where

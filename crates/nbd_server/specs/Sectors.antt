@@ -1,8 +1,12 @@
--- Sectors of the export, read and written by runs of the queue.
-use Rattle.std.specs.Prelude.{◌≡◌, ◌⊎◌, ◌≤◌, ℕ, ◌*◌, List, length, take, Ok, Err}
+-- Sectors of the export, read at once and written by runs of the queue.
+use Rattle.std.specs.Prelude.{◌≡◌, ◌⊎◌, ◌≤◌, ℕ, ◌*◌, All, List, length, take, Ok, Err}
+use Rattle.stack_rules.specs.Names.{mapped}
 use Rattle.stack_meaning.specs.declared.fault.IoFault.{IoFault}
 use Rattle.stack_meaning.specs.declared.fault.IoFault.TheVariants as io
 use Rattle.stack_meaning.specs.Found.{FoundRecord}
+use Rattle.stack_meaning.specs.Meaning.{said_at}
+use Rattle.stack_meaning.specs.Reading.{MeetVerity}
+use Rattle.stack_engine.specs.Bytes.{IsGoodChain}
 use Rattle.stack_engine.specs.WritePieces.{WritesInPieces}
 use Rattle.request_queue.specs.Parts.{EachPart}
 use Rattle.request_queue.specs.Ranges.{range_at}
@@ -18,24 +22,32 @@ error_of (io.Stack fault) = InputOutput
 error_of (io.Device leaf) = InputOutput
 error_of io.NoMemory = NoMemory
 
--- The sectors of a mapped device were read, as one read of them all: such bytes as its lines allow, and over steady
--- leaves those that the stack means.
+-- The sectors of a mapped device were read, as one read of them all: such bytes as its lines allow with some chains, each
+-- good for its line, and over steady leaves those that the stack means.
 pub record IsFetched (w : World) (d first count : ℕ) (bytes : List ℕ) (w' : World) : Type 0 where
   pub chains : List FoundRecord
   pub read : ReadsWhole w.stack (range_at d first count) (Ok (record { bytes = bytes; chains = chains })) w'.stack
+  pub good : All (IsGoodChain w.stack.config) chains
   pub led : IsLed EachPart w w'
 
--- they ended in that fault, as one read of them all
-abbrev pub EndsIn : World → ℕ → ℕ → ℕ → RequestError → World → Type 0
-EndsIn w d first count error w' = (fault : IoFault) × (error ≡ error_of fault) × ReadsWhole w.stack (range_at d first count) (Err fault) w'.stack
+-- memory runs out in a read where a verity line is on its way alone
+abbrev pub HasCause : World → ℕ → ℕ → ℕ → IoFault → Type 0
+HasCause w d first count fault = fault ≡ io.NoMemory → MeetVerity (said_at w.stack.config (mapped d)) first count
 
--- memory ran out, or the queue was full, after the first of them
-abbrev pub StopsAfter : World → ℕ → ℕ → ℕ → RequestError → World → Type 0
-StopsAfter w d first count error w' = (error ≡ NoMemory) × (k : ℕ) × (k ≤ count) × (bytes : List ℕ) × IsFetched w d first k bytes w'
+-- they ended in that fault, as one read of them all
+pub record EndsIn (w : World) (d first count : ℕ) (error : RequestError) (w' : World) : Type 0 where
+  pub fault : IoFault
+  pub told : error ≡ error_of fault
+  pub cause : HasCause w d first count fault
+  pub read : ReadsWhole w.stack (range_at d first count) (Err fault) w'.stack
+
+-- there was no memory for their bytes, and nothing was read
+abbrev pub HasNoBuffer : World → RequestError → World → Type 0
+HasNoBuffer w error w' = (error ≡ NoMemory) × (w' ≡ w)
 
 -- they couldn't be read
 pub record FailsToFetch (w : World) (d first count : ℕ) (error : RequestError) (w' : World) : Type 0 where
-  pub cause : EndsIn w d first count error w' ⊎ StopsAfter w d first count error w'
+  pub cause : EndsIn w d first count error w' ⊎ HasNoBuffer w error w'
   pub led : IsLed EachPart w w'
 
 -- The sectors of a mapped device from the first on were put: these bytes, as one write of them all.

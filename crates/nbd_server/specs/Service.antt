@@ -1,18 +1,19 @@
 -- The service of a client: its messages one after another, and what is replied to each.
 use Rattle.std.specs.Prelude.{◌≡◌, ◌≢◌, ◌⊎◌, ℕ, ◌<◌, ◌≤◌, nat_le, Bool, true, false, List, [], ◌++◌, length, take, codes, Option, Some, None, Result, Ok, Err}
-use Rattle.std.specs.Io.KnownBytes.{Appends, IsAtEnd, Keeps}
+use Rattle.std.specs.Io.KnownBytes.{Appends, Consumes, IsAtEnd, Keeps}
+use Rattle.request_queue.specs.Parts.{EachPart}
+use Rattle.request_queue.specs.Runs.{IsLed}
 use Rattle.request_queue.specs.World.{World}
 use Rattle.counted_io.specs.Streams.{Streams}
 use Rattle.nbd_server.specs.Numbers.{number32}
 use Rattle.nbd_server.specs.Exports.{ExportRecord, is_asked}
-use Rattle.nbd_server.specs.Handshake.{greeting, answer_to, phase_after, names_export, most_data, refused}
-use Rattle.nbd_server.specs.declared.option_reply.Refusal.TheVariants.{TooBig}
+use Rattle.nbd_server.specs.Handshake.{greeting, answer_to, answer_to_long, phase_after, phase_after_long, names_export, most_data}
 use Rattle.nbd_server.specs.Headers.{header_of, payload_len, request_magic}
 use Rattle.nbd_server.specs.Causes.{Breaks}
 use Rattle.nbd_server.specs.Streaming.{Spoken}
 use Rattle.nbd_server.specs.Transmission.{RequestOutcome, Serves, simple_reply}
 use Rattle.nbd_server.specs.declared.fault.ServiceFault.{ServiceFault}
-use Rattle.nbd_server.specs.declared.fault.ServiceFault.TheVariants.{NoSuchExport, WriteFault, NoMemory}
+use Rattle.nbd_server.specs.declared.fault.ServiceFault.TheVariants.{NoSuchExport, WriteFault}
 use Rattle.nbd_server.specs.declared.phase.Phase.{Phase}
 use Rattle.nbd_server.specs.declared.phase.Phase.TheVariants.{Greeted, Haggling, Serving, Over}
 
@@ -30,15 +31,15 @@ pub record IsAnswered (e : ExportRecord) (no_zeroes : Bool) (option : ℕ) (cont
   pub reply_is : reply ≡ answer_to e no_zeroes option content
   pub next_is : next ≡ phase_after e no_zeroes option content
 
--- an option for whose data, so many bytes, there is no room: they are too long, or memory ran out
-pub record HasNoRoom (no_zeroes : Bool) (option count : ℕ) (reply : List ℕ) (next : Phase) : Type 0 where
-  pub some : 0 < count
+-- an option whose data, so many bytes, are too long
+pub record IsTooLong (no_zeroes : Bool) (option count : ℕ) (reply : List ℕ) (next : Phase) : Type 0 where
+  pub long : most_data < count
   pub other : option ≢ 1
-  pub reply_is : reply ≡ refused TooBig option
-  pub next_is : next ≡ Haggling no_zeroes
+  pub reply_is : reply ≡ answer_to_long option
+  pub next_is : next ≡ phase_after_long no_zeroes option
 
 abbrev pub AnswersOption : ExportRecord → Bool → ℕ → List ℕ → List ℕ → Phase → Type 0
-AnswersOption e no_zeroes option content reply next = IsAnswered e no_zeroes option content reply next ⊎ HasNoRoom no_zeroes option (length content) reply next
+AnswersOption e no_zeroes option content reply next = IsAnswered e no_zeroes option content reply next ⊎ IsTooLong no_zeroes option (length content) reply next
 
 -- An option: its magic, its number, the length of its data, and the data.
 pub record TakesOption (e : ExportRecord) (no_zeroes : Bool) (message reply : List ℕ) (next : Phase) : Type 0 where
@@ -91,24 +92,30 @@ pub data Conversation (e : ExportRecord) (first : World) : Phase → World → L
 abbrev pub IsUnnamed : ExportRecord → ℕ → List ℕ → ServiceFault → Type 0
 IsUnnamed e option content fault = (fault ≡ NoSuchExport) × (option ≡ 1) × (is_asked e content ≡ false)
 
--- the same for whose name there is no room: it is too long for the export's, or memory ran out
+-- the same whose name is too long for the export's
 abbrev pub IsUnread : ℕ → ℕ → ServiceFault → Type 0
-IsUnread option count NoSuchExport = (option ≡ 1) × (most_data < count)
-IsUnread option count NoMemory = (option ≡ 1) × (0 < count) × (count ≤ most_data)
-IsUnread option count fault = ⊥
+IsUnread option count fault = (fault ≡ NoSuchExport) × (option ≡ 1) × (most_data < count)
 
--- how a reply ends: it was written and leads to a phase, or there is none, for such a fault
+-- how a reply ends: it was written and leads to a phase, or the writer failed in it, or there is none, for such a fault
 abbrev pub Answers : (List ℕ → Phase → Type 0) → (ServiceFault → Type 0) → Option (List ℕ) → Option (List ℕ) → Result Phase ServiceFault → Type 0
 Answers Is Ends old new (Ok next) = (reply : List ℕ) × Is reply next × Appends old new reply
-Answers Is Ends old new (Err WriteFault) = Unit {0}
+Answers Is Ends old new (Err WriteFault) = (reply : List ℕ) × (next : Phase) × Is reply next
 Answers Is Ends old new (Err fault) = Keeps old new × Ends fault
 
--- how a message ends: it was taken, the input ended before it, or the service ends in it for its cause; then nothing
--- happened
+-- a message was taken and done, and the writer failed in its reply
+pub record IsUnanswered (e : ExportRecord) (phase : Phase) (w w' : World) (old new : Option (List ℕ)) : Type 0 where
+  pub message : List ℕ
+  pub reply : List ℕ
+  pub next : Phase
+  pub consumed : Consumes old new message
+  pub takes : TakesMessage e phase w message reply next w'
+
+-- how a message ends: it was taken, the input ended before it, the writer failed in its reply, or the service ends in it
+-- for its cause; then nothing happened
 abbrev pub Turns : ExportRecord → Phase → World → World → Streams → Streams → Result (Option Phase) ServiceFault → Type 0
 Turns e phase w w' old new (Ok (Some next)) = Spoken old new (λ message reply. TakesMessage e phase w message reply next w')
 Turns e phase w w' old new (Ok None) = Spoken old new (λ taken written. (taken ≡ []) × (written ≡ []) × (w' ≡ w)) × IsAtEnd new.input
-Turns e phase w w' old new (Err WriteFault) = Unit {0}
+Turns e phase w w' old new (Err WriteFault) = IsUnanswered e phase w w' old.input new.input
 Turns e phase w w' old new (Err fault) = Spoken old new (λ taken written. (written ≡ []) × (w' ≡ w) × Breaks e phase taken new.input fault)
 
 -- how the service ends after those messages: the client ended it or went away, or the fault has its cause in the rest
@@ -127,7 +134,19 @@ pub record IsHeld (e : ExportRecord) (first last : World) (input : Option (List 
   pub written_is : written ≡ greeting ++ replies
   pub ends : EndsSo e phase rest input result
 
+-- what was taken is whole messages, and these were done; their replies may not all be written
+pub record IsDone (e : ExportRecord) (first last : World) (old new : Option (List ℕ)) : Type 0 where
+  pub phase : Phase
+  pub whole : List ℕ
+  pub replies : List ℕ
+  pub consumed : Consumes old new whole
+  pub talk : Conversation e first phase last whole replies
+
 -- What a service read and wrote, from the first world of its queue to the last.
 pub record IsService (e : ExportRecord) (first last : World) (old new : Streams) (result : Result Unit ServiceFault) : Type 0 where
   -- unless the writer failed
   pub held : result ≢ Err WriteFault → Spoken old new (IsHeld e first last new.input result)
+  -- where it failed
+  pub done : result ≡ Err WriteFault → IsDone e first last old.input new.input
+  -- however it ended, its messages are a run of the queue, of which the queue's law speaks
+  pub led : IsLed EachPart first last

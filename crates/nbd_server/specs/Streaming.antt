@@ -1,5 +1,5 @@
 -- What was taken from a client and written to it.
-use Rattle.std.specs.Prelude.{◌≡◌, ◌≢◌, ◌⊎◌, ◌<◌, ◌≤◌, ◌+◌, ◌-◌, ◌*◌, ◌^◌, ℕ, Bool, true, false, List, Vec, [], length, take, drop, Option, Some, None, IfSome, option_map, Result, Ok, Err}
+use Rattle.std.specs.Prelude.{◌≡◌, ◌≢◌, ◌⊎◌, ◌<◌, ◌≤◌, ◌+◌, ◌-◌, ◌*◌, ◌^◌, ℕ, Bool, true, false, List, Vec, [], length, take, drop, Option, Some, None, IfSome, option_map, Result, Ok, Err, if◌then◌else◌}
 use Rattle.std.specs.Global.{Global}
 use Rattle.std.specs.Io.KnownBytes.{Appends, Consumes, IsAtEnd}
 use Rattle.block_device.specs.Device.{capped}
@@ -54,6 +54,10 @@ pub record Takes (n : ℕ) (old new : Option (List ℕ)) : Type 0 where
 pub record TakesInto (found : Option (List ℕ)) (n : ℕ) (old new : Option (List ℕ)) : Type 0 where
   pub takes : Takes n old new
   pub kept : IfSome found (λ bytes. bytes ≡ takes.bytes)
+
+-- the data of an option, at the front of a buffer where they fit in
+abbrev pub content_in : Bool → ℕ → List ℕ → Option (List ℕ)
+content_in fits count room = if fits then Some (take count room) else None
 
 -- n bytes were taken, and stand at their place in so many sectors where there was room for these
 pub record TakesToPlace (found : Option (Vec ℕ Global)) (sectors start n : ℕ) (old new : Option (List ℕ)) : Type 0 where

@@ -1,6 +1,6 @@
 //! Bytes of the export, read and written by the sectors that they touch.
 ghost use Rattle.std.specs.Prelude.{◌≡◌, ◌<◌, ◌≤◌, ◌+◌, ◌*◌, ◌%◌, ◌^◌, drop, length, replicate, take, Ok, IfErr, IfOk};
-ghost use Rattle.nbd_server.specs.Exports.{IsExport, export_record};
+ghost use Rattle.nbd_server.specs.Exports.{export_record};
 ghost use Rattle.nbd_server.specs.Premises.{AreBytesOf, HaveSizes};
 ghost use Rattle.nbd_server.specs.Transmission.{FailsToReadEnds, IsInside, ReadsBytes, ReadsEnds, WritesBytes, WritesSome, data_of, outcome_of, touched, written};
 
@@ -29,7 +29,7 @@ pub(crate) fn read_bytes<D: BlockDev>(
     offset: u64,
     len: u32,
 ) -> Result<Data, RequestError>
-    requires { IsExport queue.old.stack.config (export_record export.now) }
+    requires { AreBytesOf queue.old.stack.config (export_record export.now) offset len }
     ensures value { ReadsBytes (export_record export.now) queue.old offset len (outcome_of result) queue.new }
     ensures inside { IsInside result }
     ensures size { IfOk result (λ d. d.length ≡ len) }

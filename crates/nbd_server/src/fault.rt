@@ -26,9 +26,6 @@ pub enum ServiceFault {
     /// The writer failed.
     #[error("the writer failed")]
     WriteFault = 6,
-    /// Memory ran out for the name by which a client asks for an export.
-    #[error("out of memory")]
-    NoMemory = 7,
 }
 
 impl From<WriteFault> for ServiceFault {

@@ -1,25 +1,24 @@
 //! The handshake's messages: the client's flags, and the options that it haggles over.
-ghost use Rattle.std.specs.Prelude.{◌≡◌, ◌≢◌, ◌<◌, ◌≤◌, ◌^◌, ℕ, List, length, MatchOption, Option, option_map, IfOk, IfErr};
+ghost use Rattle.std.specs.Prelude.{◌≡◌, ◌≢◌, ◌<◌, ◌≤◌, ◌^◌, ℕ, List, length, nat_le, Option, IfOk, IfErr};
 ghost use Rattle.counted_io.specs.Streams.{streams};
 ghost use Rattle.request_queue.specs.World.{World};
 ghost use Rattle.nbd_server.specs.Exports.{ExportRecord, export_record};
-ghost use Rattle.nbd_server.specs.Service.{Answers, HasNoRoom, IsAnswered, IsUnnamed, IsUnread, Turns};
-ghost use Rattle.nbd_server.specs.Streaming.{HasRead, HasWritten, IsShort, TakesInto, fault_of};
+ghost use Rattle.nbd_server.specs.Service.{Answers, IsAnswered, IsTooLong, IsUnnamed, IsUnread, Turns};
+ghost use Rattle.nbd_server.specs.Streaming.{HasRead, HasWritten, IsShort, TakesInto, content_in, fault_of};
 ghost use Rattle.nbd_server.specs.declared.phase.Phase.TheVariants.{Greeted, Haggling};
 
 use crate::export::Export;
 use crate::fault::ServiceFault;
-use crate::intake::{fill, skip, take_bytes};
+use crate::intake::{fill, fill_part, skip};
 use crate::numbers::number32;
-use crate::option::{EXPORT_NAME, names_export, phase_after, say_answer};
-use crate::option_reply::{Refusal, refuse};
+use crate::option::{ABORT, EXPORT_NAME, names_export, phase_after, say_answer};
+use crate::option_reply::{Refusal, acknowledge, refuse};
 use crate::phase::Phase;
 use counted_io::Counted;
-use std::alloc::Global;
 use std::io::{Read, Write};
 
 // The most bytes of an option's data.
-const MOST_DATA: u32 = 65536;
+const MOST_DATA: usize = 65536;
 
 /// Takes the client's flags.
 pub(crate) fn take_flags<R: Read>(reader: &mut Counted<R>) -> Result<Option<Phase>, ServiceFault>
@@ -40,41 +39,48 @@ pub(crate) fn take_flags<R: Read>(reader: &mut Counted<R>) -> Result<Option<Phas
     }))
 }
 
-// Takes the data of an option. `None`: there is no room for them, and they are gone.
+// Takes the data of an option into the front of a buffer. `false`: they are too long for it, and are gone.
 fn take_content<R: Read>(
-    alloc: Global,
     reader: &mut Counted<R>,
+    room: &mut [u8],
     count: u32,
-) -> Result<Option<Vec<u8>>, ServiceFault>
-    ensures ok { IfOk result (λ found. TakesInto (option_map (λ v. v.items) found) count (R.remaining reader.old.inner) (R.remaining reader.new.inner)) }
-    ensures room { IfOk result (λ found. MatchOption found (0 < count) (λ v. length v.items ≤ MOST_DATA)) }
+) -> Result<bool, ServiceFault>
+    requires { length room.old ≡ MOST_DATA }
+    ensures ok { IfOk result (λ fits. TakesInto (content_in fits count room.new) count (R.remaining reader.old.inner) (R.remaining reader.new.inner)) }
+    ensures fits { IfOk result (λ fits. fits ≡ nat_le count MOST_DATA) }
     ensures err { IfErr result (IsShort count (R.remaining reader.old.inner) (R.remaining reader.new.inner)) }
     ensures reader { HasRead 0 reader.old reader.new (fault_of result) }
 {
-    if count > MOST_DATA {
+    if count as usize > MOST_DATA {
         skip(reader, count)?;
-        return Ok(None);
+        return Ok(false);
     }
-    take_bytes(alloc, reader, count)
+    if count == 0 {
+        return Ok(true);
+    }
+    if !fill_part(reader, room, 0, count as usize)? {
+        return Err(ServiceFault::Lost);
+    }
+    Ok(true)
 }
 
-// Says that there is no room for the data of an option, so many bytes. A name has no reply: one that is too long is no
-// export's, and for another memory ran out.
+// Answers an option whose data are too long.
 fn refuse_content<W: Write>(
     no_zeroes: bool,
     option: u32,
     count: u32,
     writer: &mut Counted<W>,
 ) -> Result<Phase, ServiceFault>
-    requires { 0 < count }
-    ensures answer { Answers (HasNoRoom no_zeroes option count) (IsUnread option count) (W.contents writer.old.inner) (W.contents writer.new.inner) result }
+    requires { MOST_DATA < count }
+    ensures answer { Answers (IsTooLong no_zeroes option count) (IsUnread option count) (W.contents writer.old.inner) (W.contents writer.new.inner) result }
     ensures writer { HasWritten writer.old writer.new (fault_of result) }
 {
-    if option == EXPORT_NAME && count > MOST_DATA {
+    if option == EXPORT_NAME {
         return Err(ServiceFault::NoSuchExport);
     }
-    if option == EXPORT_NAME {
-        return Err(ServiceFault::NoMemory);
+    if option == ABORT {
+        acknowledge(writer, ABORT)?;
+        return Ok(Phase::Over);
     }
     refuse(writer, option, Refusal::TooBig)?;
     Ok(Phase::Haggling { no_zeroes })
@@ -102,7 +108,6 @@ fn answer_option<W: Write>(
 
 /// Takes an option, and replies to it.
 pub(crate) fn take_option<R: Read, W: Write>(
-    alloc: Global,
     export: &Export<'_>,
     no_zeroes: bool,
     reader: &mut Counted<R>,
@@ -123,8 +128,10 @@ pub(crate) fn take_option<R: Read, W: Write>(
     }
     let option = number32(&header, 8);
     let count = number32(&header, 12);
-    let Some(content) = take_content(alloc, reader, count)? else {
+    let mut room = [0u8; MOST_DATA];
+    if !take_content(reader, &mut room, count)? {
         return Ok(Some(refuse_content(no_zeroes, option, count, writer)?));
-    };
-    Ok(Some(answer_option(export, no_zeroes, option, content.as_slice(), writer)?))
+    }
+    let content = &room[..count as usize];
+    Ok(Some(answer_option(export, no_zeroes, option, content, writer)?))
 }

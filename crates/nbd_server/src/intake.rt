@@ -1,7 +1,7 @@
 //! Takes bytes from a client.
-ghost use Rattle.std.specs.Prelude.{◌≡◌, ℕ, ◌<◌, ◌≤◌, ◌+◌, ◌*◌, ◌^◌, drop, length, take, OnOk, IfOk, IfErr, IfSome, MatchOption, option_map};
+ghost use Rattle.std.specs.Prelude.{◌≡◌, ℕ, ◌<◌, ◌≤◌, ◌+◌, ◌*◌, ◌^◌, drop, length, take, OnOk, IfOk, IfErr};
 ghost use Rattle.nbd_server.specs.Premises.{HavePlace};
-ghost use Rattle.nbd_server.specs.Streaming.{Fills, HasRead, IsShort, Takes, TakesInto, TakesToPlace, fault_of};
+ghost use Rattle.nbd_server.specs.Streaming.{Fills, HasRead, IsShort, Takes, TakesToPlace, fault_of};
 
 use crate::fault::ServiceFault;
 use counted_io::Counted;
@@ -58,8 +58,8 @@ pub(crate) fn skip<R: Read>(reader: &mut Counted<R>, count: u32) -> Result<(), S
     Ok(())
 }
 
-// Fills a part of a buffer. `false`: the input ended before its first byte.
-fn fill_part<R: Read>(
+/// Fills a part of a buffer. `false`: the input ended before its first byte.
+pub(crate) fn fill_part<R: Read>(
     reader: &mut Counted<R>,
     buffer: &mut [u8],
     start: usize,
@@ -96,32 +96,8 @@ pub(crate) fn take_sectors<R: Read>(
     Ok(Some(bytes))
 }
 
-/// Takes so many bytes. `None`: memory ran out, and they are gone.
-pub(crate) fn take_bytes<R: Read>(
-    alloc: Global,
-    reader: &mut Counted<R>,
-    count: u32,
-) -> Result<Option<Vec<u8>>, ServiceFault>
-    ensures ok { IfOk result (λ found. TakesInto (option_map (λ v. v.items) found) count (R.remaining reader.old.inner) (R.remaining reader.new.inner)) }
-    ensures room { IfOk result (λ found. MatchOption found (0 < count) (λ v. length v.items ≡ count)) }
-    ensures err { IfErr result (IsShort count (R.remaining reader.old.inner) (R.remaining reader.new.inner)) }
-    ensures reader { HasRead 0 reader.old reader.new (fault_of result) }
-{
-    if count == 0 {
-        return Ok(Some(Vec::new(alloc)));
-    }
-    let Ok(mut bytes) = zeros(alloc, count as usize) else {
-        skip(reader, count)?;
-        return Ok(None);
-    };
-    if !fill(reader, bytes.as_mut_slice())? {
-        return Err(ServiceFault::Lost);
-    }
-    Ok(Some(bytes))
-}
-
-// Room for so many bytes.
-fn zeros(alloc: Global, count: usize) -> Result<Vec<u8>, AllocError>
+/// Room for so many bytes.
+pub(crate) fn zeros(alloc: Global, count: usize) -> Result<Vec<u8>, AllocError>
     ensures { IfOk result (λ bytes. length bytes.items ≡ count) }
 {
     vec![in alloc; 0u8; count]

@@ -14,7 +14,8 @@ use std::io::Write;
 /// The option that ends the handshake and has no reply but the export's.
 pub(crate) const EXPORT_NAME: u32 = 1;
 
-const ABORT: u32 = 2;
+/// The option by which a client ends the service.
+pub(crate) const ABORT: u32 = 2;
 
 const INFO: u32 = 6;
 

@@ -37,7 +37,7 @@ fn take_message<D: SyncDev, R: Read, W: Write>(
 {
     match phase {
         Phase::Greeted => take_flags(reader),
-        Phase::Haggling { no_zeroes } => take_option(alloc, export, no_zeroes, reader, writer),
+        Phase::Haggling { no_zeroes } => take_option(export, no_zeroes, reader, writer),
         Phase::Serving => take_request(alloc, queue, export, reader, writer),
         Phase::Over => unreachable!(),
     }

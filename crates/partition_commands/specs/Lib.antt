@@ -1,4 +1,11 @@
+pub mod Commands
 pub mod Kinds
 pub mod Labels
 pub mod Lines
+pub mod Names
+pub mod Parts
 pub mod Prints
+pub mod RefusalNames
+pub mod RootStacks
+pub mod Roots
+pub mod Stacks

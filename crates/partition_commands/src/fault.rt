@@ -1,8 +1,12 @@
 //! Why partitions aren't printed.
 ghost use Rattle.std.specs.Prelude.{◌≡◌};
 ghost use Rattle.partition_commands.specs.declared.fault.PrintFault.TheVariants as print_fault;
+ghost use Rattle.partition_commands.specs.declared.fault.PartitionsFault.TheVariants as partitions_fault;
+ghost use Rattle.partition_commands.specs.declared.refusal.PartitionRefusal.TheVariants as refusals;
 
+use crate::PartitionRefusal;
 use counted_io::WriteFault;
+use image_files::UnopenedFile;
 use partition_table::NoTable;
 use std::alloc::AllocError;
 
@@ -38,5 +42,58 @@ impl From<WriteFault> for PrintFault {
 
     fn from(_fault: WriteFault) -> Self {
         PrintFault::Write
+    }
+}
+
+/// Why a command on the partitions of an image ends early.
+#[derive(Clone, Copy, Debug, PartialEq, Eq)]
+pub enum PartitionsFault<'a> {
+    /// Memory ran out.
+    NoMemory,
+    /// The image isn't opened.
+    Open(UnopenedFile<'a>),
+    /// Its partitions can't serve.
+    Refused(PartitionRefusal),
+    /// A line can't be written.
+    Write,
+}
+
+impl From<AllocError> for PartitionsFault<'_> {
+    ghost from_gives = { λ _ fault. fault ≡ partitions_fault.NoMemory };
+
+    fn from(_error: AllocError) -> Self {
+        PartitionsFault::NoMemory
+    }
+}
+
+impl<'a> From<UnopenedFile<'a>> for PartitionsFault<'a> {
+    ghost from_gives = { λ file given. given ≡ partitions_fault.Open file };
+
+    fn from(file: UnopenedFile<'a>) -> Self {
+        PartitionsFault::Open(file)
+    }
+}
+
+impl From<NoTable> for PartitionsFault<'_> {
+    ghost from_gives = { λ fault given. given ≡ partitions_fault.Refused (refusals.Table fault) };
+
+    fn from(fault: NoTable) -> Self {
+        PartitionsFault::Refused(PartitionRefusal::Table(fault))
+    }
+}
+
+impl From<PartitionRefusal> for PartitionsFault<'_> {
+    ghost from_gives = { λ refusal given. given ≡ partitions_fault.Refused refusal };
+
+    fn from(refusal: PartitionRefusal) -> Self {
+        PartitionsFault::Refused(refusal)
+    }
+}
+
+impl From<WriteFault> for PartitionsFault<'_> {
+    ghost from_gives = { λ _ given. given ≡ partitions_fault.Write };
+
+    fn from(_fault: WriteFault) -> Self {
+        PartitionsFault::Write
     }
 }

@@ -1,13 +1,26 @@
-//! The partitions of an image, printed.
+//! The partitions of an image: printed, and the stacks over them.
 #![tactic(auto)]
 
+mod entries;
 mod fault;
+mod image;
 mod kinds;
 mod label;
 mod line;
+mod names;
+mod parts;
 mod print;
+mod refusal;
+mod root;
+mod root_stack;
 
-pub use fault::PrintFault;
+pub use fault::{PartitionsFault, PrintFault};
+pub use image::{partitions_of_image, stack_of_image};
 pub use kinds::kind_name;
 pub use label::label_text;
+pub use names::partition_name;
+pub use parts::part_of;
 pub use print::print_partitions;
+pub use refusal::{PartitionRefusal, say_refusal};
+pub use root::ImagePartitions;
+pub use root_stack::root_stack_of_image;

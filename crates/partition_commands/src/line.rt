@@ -100,7 +100,11 @@ fn say_fault<W: Write>(
     writer.put(b"\n")
 }
 
-fn say_number<W: Write>(writer: &mut Counted<W>, number: Option<u32>) -> Result<(), WriteFault>
+/// The number of a partition behind a space, where there is one.
+pub(crate) fn say_number<W: Write>(
+    writer: &mut Counted<W>,
+    number: Option<u32>,
+) -> Result<(), WriteFault>
     ensures { Writes W.contents writer.old writer.new (number_word number) result }
 {
     match number {

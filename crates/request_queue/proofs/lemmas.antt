@@ -5,6 +5,9 @@ pub mod PartLemmas
 pub mod PremiseLemmas
 pub mod BudgetLemmas
 pub mod ChainLemmas
+pub mod BytesLemmas
 pub mod ServedLemmas
 pub mod WholeRunLemmas
 pub mod LedLemmas
+pub mod ChangesLemmas
+pub mod QueueLawLemmas

@@ -1,5 +1,5 @@
 -- The chains that answers hand out, and what holds of each whatever the leaves answered.
-use Rattle.std.specs.Prelude.{◌≡◌, ◌≢◌, ℕ, List, [], ◌++◌, Result, Ok, Err}
+use Rattle.std.specs.Prelude.{◌≡◌, ◌≢◌, ℕ, List, [], ◌++◌, All, Result, Ok, Err}
 use Rattle.std.specs.List.{slice_index_or}
 use Rattle.hash_tree.specs.declared.difference.Place.{Place}
 use Rattle.hash_tree.specs.Chain.{ChainRecord, IsGood, formed}
@@ -7,17 +7,19 @@ use Rattle.hash_tree.specs.Difference.{IsTopmostDifference, block_at}
 use Rattle.hash_tree.specs.Laws.{AreBlocks}
 use Rattle.hash_tree.specs.Tree.{root}
 use Rattle.dm_table.specs.declared.verity.Verity.{Verity}
+use Rattle.stack_rules.specs.Names.{mapped}
 use Rattle.stack_rules.specs.Records.{Configuration}
 use Rattle.stack_rules.specs.Trees.{tree_of}
 use Rattle.stack_meaning.specs.declared.fault.IoFault.{IoFault}
 use Rattle.stack_meaning.specs.Found.{FoundRecord}
+use Rattle.stack_meaning.specs.May.{MayRead}
 use Rattle.stack_engine.specs.Laws.{digests_of, IsSha256Collision}
 use Rattle.stack_lines.specs.Walks.{HasVerity}
 use Rattle.request_queue.specs.declared.reply.Progress.{Progress}
 use Rattle.request_queue.specs.declared.reply.Progress.TheVariants.{More, Done}
 use Rattle.request_queue.specs.declared.reply.Reply.{Reply}
 use Rattle.request_queue.specs.declared.reply.Reply.TheVariants.{Sectors, Written}
-use Rattle.request_queue.specs.World.{Event, submit, step, load, remove_device, run, sync}
+use Rattle.request_queue.specs.World.{Event, submit, step, read_bytes, load, remove_device, run, sync}
 
 -- ---- the chains that are handed out
 
@@ -38,6 +40,7 @@ abbrev pub chains_of : Event → List FoundRecord
 chains_of (submit r reply) = []
 chains_of (step t (Ok progress)) = progress_chains progress
 chains_of (step t (Err none)) = []
+chains_of (read_bytes d first bytes reply) = []
 chains_of (load text reply) = []
 chains_of (remove_device name reply) = []
 chains_of (run r (Ok answer)) = answer_chains answer
@@ -66,3 +69,9 @@ pub record IsVerified (c : Configuration) (x : FoundRecord) : Type 0 where
   pub good : IsGood (tree_of line) line.salt line.root x.chain
   pub forged : (blocks : List (List ℕ)) → AreDataOf line blocks → x.chain.content ≢ slice_index_or blocks x.chain.index []
       → NamesCollision line.salt (formed (tree_of line) line.salt blocks x.chain.index) x.chain
+
+-- n sectors of mapped device d from the first on may be these bytes by chains that are all so, and aren't handed out.
+pub record AreVerified (c : Configuration) (d first n : ℕ) (bytes : List ℕ) : Type 0 where
+  pub chains : List FoundRecord
+  pub read : MayRead c (mapped d) first n bytes chains
+  pub verified : All (IsVerified c) chains

@@ -1,5 +1,5 @@
 -- What runs give the requests that are in flight in them.
-use Rattle.std.specs.Prelude.{◌≡◌, ℕ, ◌+◌, ◌*◌, ◌<◌, ◌≤◌, Bool, true, false, List, [], ◌∷◌, length, All, Option, Some, None, Result, Ok, Err, if◌then◌else◌}
+use Rattle.std.specs.Prelude.{◌≡◌, ℕ, ◌+◌, ◌*◌, ◌/◌, ◌<◌, ◌≤◌, Bool, true, false, List, [], ◌∷◌, length, All, Option, Some, None, Result, Ok, Err, if◌then◌else◌}
 use Rattle.stack_rules.specs.Records.{Configuration}
 use Rattle.stack_meaning.specs.declared.fault.IoFault.{IoFault}
 use Rattle.stack_meaning.specs.Leaves.{AllSteady}
@@ -7,13 +7,14 @@ use Rattle.stack_engine.specs.Stacks.{StackRecord, AnswerRecord}
 use Rattle.request_queue.specs.declared.reply.Progress.TheVariants.{More, Done}
 use Rattle.request_queue.specs.declared.reply.Reply.{Reply}
 use Rattle.request_queue.specs.declared.range.SectorRange.{SectorRange}
-use Rattle.request_queue.specs.Chains.{chains_of, IsVerified}
+use Rattle.request_queue.specs.Chains.{chains_of, AreVerified, IsVerified}
+use Rattle.request_queue.specs.Changes.{StaysBut, changes}
 use Rattle.request_queue.specs.Flights.{FlightRecord, first_flight, next_flight, reply_to, work_cost, first_work}
 use Rattle.request_queue.specs.Parts.{PartRelation, AnyPart, SteadyPart, EachPart, Asks}
 use Rattle.request_queue.specs.Ranges.{IsCut, piece_len}
 use Rattle.request_queue.specs.Requests.{RequestRecord}
 use Rattle.request_queue.specs.Runs.{Turn, Run, last, total, is_step, flight_of, moved_for}
-use Rattle.request_queue.specs.World.{World, Event, submit, step, load, remove_device, run, sync, Step, Begins}
+use Rattle.request_queue.specs.World.{World, Event, submit, step, read_bytes, load, remove_device, run, sync, Step, Begins}
 
 -- ---- the steps of one request in a run
 
@@ -36,6 +37,7 @@ end_of (submit r reply) = None
 end_of (step u (Ok More)) = None
 end_of (step u (Ok (Done answer))) = Some answer
 end_of (step u (Err none)) = None
+end_of (read_bytes d first bytes reply) = None
 end_of (load text reply) = None
 end_of (remove_device name reply) = None
 end_of (run r reply) = None
@@ -95,6 +97,8 @@ is_refusal (submit r (Ok ticket)) = false
 is_refusal (submit r (Err fault)) = true
 is_refusal (step t (Ok progress)) = false
 is_refusal (step t (Err none)) = true
+is_refusal (read_bytes d first bytes (Ok answer)) = false
+is_refusal (read_bytes d first bytes (Err fault)) = true
 is_refusal (load text (Ok done)) = false
 is_refusal (load text (Err fault)) = true
 is_refusal (remove_device name (Ok done)) = false
@@ -109,7 +113,9 @@ pub record TurnLaw (w : World) (x : Turn) : Type 0 where
   pub refused : is_refusal x.event ≡ true → x.after ≡ w
 
 -- What holds of every run from a world on. Each chain that an answer hands out is good for its verity line, whatever
--- the leaves answered, and where it is unlike the data formatted for that line it shows a collision.
+-- the leaves answered, and where it is unlike the data formatted for that line it shows a collision. The bytes of a read
+-- at once are such as some chains allow of which the same holds. Any list of calls leaves the sectors of steady leaves
+-- as they were that none of its writes reaches.
 pub record QueueLaw (w : World) : Type 0 where
   pub requests : (before : List Turn) → Run EachPart w before → (r : RequestRecord) (t : ℕ) (v : World) → (b : Begins (last w before) r t v)
       → (turns : List Turn) → Run EachPart v turns → RequestLaw (last w before) r t b.range v turns
@@ -117,3 +123,7 @@ pub record QueueLaw (w : World) : Type 0 where
       → RunLaw (last w before) r answer w'
   pub turns : (before : List Turn) → Run EachPart w before → (x : Turn) → Step EachPart (last w before) x.event x.after → TurnLaw (last w before) x
   pub chains : (before : List Turn) → Run EachPart w before → (x : Turn) → Step EachPart (last w before) x.event x.after → All (IsVerified (last w before).stack.config) (chains_of x.event)
+  pub bytes : (before : List Turn) → Run EachPart w before → (d first size : ℕ) (got : List ℕ) (w' : World) → Step EachPart (last w before) (read_bytes d first size (Ok (Ok got))) w'
+      → AreVerified (last w before).stack.config d first (size / 512) got
+  pub images : (before : List Turn) → Run EachPart w before → (turns : List Turn) → Run EachPart (last w before) turns
+      → StaysBut (changes (last w before) turns) (last w before).stack.leaves (last (last w before) turns).stack.leaves

@@ -8,5 +8,6 @@ pub mod Serving
 pub mod Runs
 pub mod Replies
 pub mod Chains
+pub mod Changes
 pub mod Laws
 pub mod WholeRuns

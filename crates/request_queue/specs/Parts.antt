@@ -1,15 +1,17 @@
 -- Parts of requests, each of which one call of the engine answers.
-use Rattle.std.specs.Prelude.{ℕ, ◌-◌, ◌*◌, List, take, drop, Result, Ok, Err}
+use Rattle.std.specs.Prelude.{ℕ, ◌-◌, ◌*◌, List, [], take, drop, Result, Ok, Err}
 use Rattle.stack_meaning.specs.declared.fault.IoFault.{IoFault}
+use Rattle.stack_engine.specs.Bytes.{AnyBytes, SteadyBytes, EachBytes}
 use Rattle.stack_engine.specs.Pieces.{AnyPiece, SteadyPiece, EachPiece}
 use Rattle.stack_engine.specs.WritePieces.{AnyWrite, SteadyWrite, EachWrite}
 use Rattle.stack_engine.specs.Stacks.{StackRecord, AnswerRecord}
 use Rattle.request_queue.specs.Flights.{FlightRecord, WorkRecord, reads, writes}
 use Rattle.request_queue.specs.Ranges.{piece_len}
 
--- so many sectors are read, or these bytes are written
+-- so many sectors are read, with their chains or the bytes alone, or these bytes are written
 pub data Part : Type 0 where
   read_part : ℕ → Part
+  bytes_part : ℕ → Part
   write_part : List ℕ → Part
 
 -- How a part is answered: of the stack, at mapped device d from the first sector on; and the stack that the answer
@@ -22,19 +24,32 @@ abbrev pub ending : Result AnswerRecord IoFault → Result Unit IoFault
 ending (Ok got) = Ok tt
 ending (Err fault) = Err fault
 
+-- how a read of the bytes alone ends
+abbrev pub bytes_read : Result AnswerRecord IoFault → Result (List ℕ) IoFault
+bytes_read (Ok got) = Ok got.bytes
+bytes_read (Err fault) = Err fault
+
+-- an answer that has bytes and no chains
+abbrev pub without_chains : Result (List ℕ) IoFault → Result AnswerRecord IoFault
+without_chains (Ok bytes) = Ok (record { bytes = bytes; chains = [] })
+without_chains (Err fault) = Err fault
+
 -- whatever the leaves answer
 abbrev pub AnyPart : PartRelation
 AnyPart v d first (read_part n) answer v' = AnyPiece v d first n answer v'
+AnyPart v d first (bytes_part n) answer v' = AnyBytes v d first n (bytes_read answer) v'
 AnyPart v d first (write_part bytes) answer v' = AnyWrite v d first bytes (ending answer) v'
 
 -- over steady leaves: what the stack means
 abbrev pub SteadyPart : PartRelation
 SteadyPart v d first (read_part n) answer v' = SteadyPiece v d first n answer v'
+SteadyPart v d first (bytes_part n) answer v' = SteadyBytes v d first n (bytes_read answer) v'
 SteadyPart v d first (write_part bytes) answer v' = SteadyWrite v d first bytes (ending answer) v'
 
 -- both
 abbrev pub EachPart : PartRelation
 EachPart v d first (read_part n) answer v' = EachPiece v d first n answer v'
+EachPart v d first (bytes_part n) answer v' = EachBytes v d first n (bytes_read answer) v'
 EachPart v d first (write_part bytes) answer v' = EachWrite v d first bytes (ending answer) v'
 
 -- the next n sectors of a request, after as many as are done

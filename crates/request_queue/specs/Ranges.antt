@@ -1,5 +1,6 @@
 -- Ranges of a mapped device's sectors, and their pieces.
-use Rattle.std.specs.Prelude.{ℕ, suc, ◌+◌, ◌-◌, ◌^◌, ◌<◌, ◌≤◌, ◌||◌, ◌==◌, nat_lt, min, List, length, Option, Some, None, Result, Ok, Err, if◌then◌else◌}
+use Rattle.std.specs.Prelude.{◌≡◌, ℕ, suc, ◌+◌, ◌-◌, ◌/◌, ◌%◌, ◌^◌, ◌<◌, ◌≤◌, ◌||◌, ◌==◌, not, nat_le, nat_lt, min, List, length, Option, Some, None, Result, Ok, Err, if◌then◌else◌}
+use Rattle.std.specs.Int.{div_ceil}
 use Rattle.std.specs.Option.{option_map_or}
 use Rattle.stack_rules.specs.Records.{Configuration}
 use Rattle.stack_rules.specs.Names.{mapped, device_named, size}
@@ -50,3 +51,19 @@ piece_len c range =
 pub data IsCut (c : Configuration) : SectorRange → ℕ → Type 0 where
   last_piece : {range : SectorRange} → range.count ≤ piece_len c range → IsCut c range 1
   next_piece : {range : SectorRange} {n : ℕ} → piece_len c range < range.count → IsCut c (range_after range (piece_len c range)) n → IsCut c range (suc n)
+
+-- ---- sectors that are read at once
+
+-- the sectors of so many bytes of mapped device d, from the first on, or the first reason why they aren't read
+abbrev pub bytes_range : Configuration → ℕ → ℕ → ℕ → Result SectorRange SubmitFault
+bytes_range c d first bytes =
+    if nat_le (length c.devices) d then Err NoSuchDevice
+    else if nat_lt (size c (mapped d)) (first + div_ceil bytes 512) then Err OutOfRange
+    else if not (bytes % 512 == 0) then Err Length
+    else Ok (range_at d first (bytes / 512))
+
+-- bytes of whole sectors, which lie inside their device
+pub record HaveSectors (c : Configuration) (d first bytes : ℕ) : Type 0 where
+  pub whole : bytes % 512 ≡ 0
+  pub inside : first + bytes / 512 ≤ size c (mapped d)
+  pub fits : first + bytes / 512 < 2 ^ 64

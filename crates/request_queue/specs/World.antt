@@ -20,10 +20,10 @@ use Rattle.request_queue.specs.declared.range.SectorRange.{SectorRange}
 use Rattle.request_queue.specs.declared.reply.Progress.{Progress}
 use Rattle.request_queue.specs.declared.reply.Progress.TheVariants.{More, Done}
 use Rattle.request_queue.specs.declared.reply.Reply.{Reply}
-use Rattle.request_queue.specs.Ranges.{piece_len}
+use Rattle.request_queue.specs.Ranges.{bytes_range, piece_len}
 use Rattle.request_queue.specs.Requests.{RequestRecord, sectors_for}
 use Rattle.request_queue.specs.Flights.{FlightRecord, IsSoundFlight, first_flight, next_flight, reply_to, has_ticket}
-use Rattle.request_queue.specs.Parts.{PartRelation, Asks}
+use Rattle.request_queue.specs.Parts.{PartRelation, Asks, bytes_part, without_chains}
 
 -- a stack, how many tickets were given, and the requests in flight in the order of their tickets
 pub record World : Type 0 where
@@ -116,6 +116,21 @@ abbrev pub Steps : PartRelation → World → ℕ → Result Progress NoSuchTick
 Steps part w ticket (Ok progress) w' = Serves part w ticket progress w'
 Steps part w ticket (Err none) w' = (position (has_ticket ticket) w.in_flight ≡ None) × (w' ≡ w)
 
+-- ---- reads at once
+
+-- The sectors of so many bytes of mapped device d, from the first on, were read, or their read ended in that fault. All
+-- requests stay in flight as they were.
+pub record BytesRead (part : PartRelation) (w : World) (d first bytes : ℕ) (answer : Result (List ℕ) IoFault) (w' : World) : Type 0 where
+  pub range : SectorRange
+  pub admits : bytes_range w.stack.config d first bytes ≡ Ok range
+  pub stack : StackRecord
+  pub asks : part w.stack range.device.0 range.first (bytes_part range.count) (without_chains answer) stack
+  pub leaves : w' ≡ world stack w.given w.in_flight
+
+abbrev pub ReadsBytes : PartRelation → World → ℕ → ℕ → ℕ → Result (Result (List ℕ) IoFault) SubmitFault → World → Type 0
+ReadsBytes part w d first bytes (Ok answer) w' = BytesRead part w d first bytes answer w'
+ReadsBytes part w d first bytes (Err fault) w' = (bytes_range w.stack.config d first bytes ≡ Err fault) × (w' ≡ w)
+
 -- ---- loads and removals
 
 -- the devices of a text are put in, and no rule refuses the configuration that stands then
@@ -185,6 +200,7 @@ Runs part w r (Err fault) w' = IsRefused w r fault w'
 pub data Event : Type 0 where
   submit : RequestRecord → Result ℕ SubmitFault → Event
   step : ℕ → Result Progress NoSuchTicket → Event
+  read_bytes : ℕ → ℕ → ℕ → Result (Result (List ℕ) IoFault) SubmitFault → Event
   load : List Entry → Result Unit (Held LoadFault) → Event
   remove_device : List ℕ → Result Unit (Held RemoveFault) → Event
   run : RequestRecord → Result (Result Reply IoFault) SubmitFault → Event
@@ -194,6 +210,7 @@ pub data Event : Type 0 where
 abbrev pub Step : PartRelation → World → Event → World → Type 0
 Step part w (submit r reply) w' = Submits w r reply w'
 Step part w (step ticket reply) w' = Steps part w ticket reply w'
+Step part w (read_bytes d first bytes reply) w' = ReadsBytes part w d first bytes reply w'
 Step part w (load text reply) w' = Loads w text reply w'
 Step part w (remove_device name reply) w' = Removes w name reply w'
 Step part w (run r reply) w' = Runs part w r reply w'

@@ -1,6 +1,7 @@
 //! Why calls of a queue are refused, and how a run fails.
 ghost use Rattle.std.specs.Prelude.{◌≡◌};
 ghost use Rattle.request_queue.specs.SubmitFaults.{submit_name, submit_number};
+ghost use Rattle.request_queue.specs.declared.fault.BytesFault.TheVariants as bytes_fault;
 
 use crate::request::Request;
 use stack_engine::IoFault;
@@ -68,4 +69,29 @@ pub enum RunFault {
     Submit(SubmitFault, Request),
     /// It ended by a fault.
     Io(IoFault),
+}
+
+/// Why sectors aren't read at once.
+#[derive(Clone, Copy, Debug, PartialEq, Eq)]
+pub enum BytesFault {
+    /// They can't be asked for: `NoSuchDevice`, `OutOfRange`, or `Length` where the bytes aren't whole sectors.
+    Refused(SubmitFault),
+    /// Their read ended by a fault.
+    Failed(IoFault),
+}
+
+impl From<SubmitFault> for BytesFault {
+    ghost from_gives = { λ fault given. given ≡ bytes_fault.Refused fault };
+
+    fn from(fault: SubmitFault) -> Self {
+        BytesFault::Refused(fault)
+    }
+}
+
+impl From<IoFault> for BytesFault {
+    ghost from_gives = { λ fault given. given ≡ bytes_fault.Failed fault };
+
+    fn from(fault: IoFault) -> Self {
+        BytesFault::Failed(fault)
+    }
 }

@@ -2,6 +2,7 @@
 #![tactic(auto)]
 
 mod admit;
+mod at_once;
 mod fault;
 mod flight;
 mod queue;
@@ -10,7 +11,7 @@ mod reply;
 mod request;
 mod work;
 
-pub use fault::{Held, NoSuchTicket, RunFault, SubmitFault};
+pub use fault::{BytesFault, Held, NoSuchTicket, RunFault, SubmitFault};
 pub use queue::Queue;
 pub use range::SectorRange;
 pub use reply::{Progress, Reply, Ticket};

@@ -1,26 +1,32 @@
 //! A queue of requests over a stack.
-ghost use Rattle.std.specs.Prelude.{◌≡◌, ◌≢◌, [], length, option_map, IfOk, IfErr, Ok, Err, None};
+ghost use Rattle.std.specs.Prelude.{◌≡◌, ◌≢◌, ◌/◌, [], length, option_map, IfOk, IfErr, Ok, Err, None};
+ghost use Rattle.stack_meaning.specs.Meaning.{said_at};
+ghost use Rattle.stack_meaning.specs.Reading.{MeetVerity};
+ghost use Rattle.stack_rules.specs.Names.{mapped};
 ghost use Rattle.request_queue.specs.Laws.{QueueLaw};
 ghost use Rattle.request_queue.specs.Parts.{EachPart};
-ghost use Rattle.request_queue.specs.Replies.{outcome_of};
+ghost use Rattle.request_queue.specs.Replies.{bytes_outcome, outcome_of};
 ghost use Rattle.request_queue.specs.Requests.{request_record};
 ghost use Rattle.request_queue.specs.Runs.{flight_of};
 ghost use Rattle.request_queue.specs.WholeRuns.{RunAnswers};
-ghost use Rattle.request_queue.specs.World.{Ends, IsSoundWorld, Step, admission, load, remove_device, run, step, submit, sync};
+ghost use Rattle.request_queue.specs.World.{Ends, IsSoundWorld, Step, admission, load, read_bytes, remove_device, run, step, submit, sync};
 ghost use Rattle.request_queue.specs.Flights.{IsAdmissible};
+ghost use Rattle.request_queue.specs.declared.fault.BytesFault.{BytesFault};
 ghost use Rattle.request_queue.specs.declared.fault.SubmitFault.{SubmitFault};
 ghost use Rattle.request_queue.specs.declared.request.Request.{Request};
 
 use crate::admit::sectors_for;
-use crate::fault::{Held, NoSuchTicket, RunFault, SubmitFault};
+use crate::at_once::read_pieces;
+use crate::fault::{BytesFault, Held, NoSuchTicket, RunFault, SubmitFault};
 use crate::flight::{Flight, first_of, place_of};
-use crate::range::SectorRange;
+use crate::range::{SectorRange, bytes_range};
 use crate::reply::{Progress, Reply, Ticket};
 use crate::request::Request;
 use crate::work::Work;
 use block_device::{BlockDev, SyncDev};
 use dm_table::StackText;
-use stack_engine::laws::{answered_chains_are_good, forged_answers_collide};
+use stack_config::DevId;
+use stack_engine::laws::{answered_chains_are_good, forged_answers_collide, forged_bytes_collide};
 use stack_engine::{IoFault, Stack};
 use stack_loader::{LoadFault, RemoveFault};
 use std::alloc::Global;
@@ -56,6 +62,7 @@ impl<D: BlockDev> Queue<D> {
         // The laws of pieces, and what holds of every stack, are learned from calls.
         answered_chains_are_good();
         forged_answers_collide();
+        forged_bytes_collide();
         let _loaded = stack.config();
         Queue {
             alloc,
@@ -186,6 +193,24 @@ impl<D: BlockDev> Queue<D> {
             },
             Err((fault, request)) => Err(RunFault::Submit(fault, request)),
         }
+    }
+
+    /// Reads sectors of a device, from `first` on, into the slice, at once and whatever requests are in flight. The
+    /// slice has room for any number of whole sectors inside the device. No chain is handed out: that there are some
+    /// which show the bytes is what `law` says of `new`. Behind a fault nothing is known of the slice. It takes memory
+    /// only where a `verity` line is on the way.
+    pub fn read_bytes(
+        &mut self,
+        device: DevId,
+        first: u64,
+        out: &mut [u8],
+    ) -> Result<(), BytesFault>
+        ensures step { Step EachPart self.old (read_bytes device.0 first (length out.old) (bytes_outcome result out.new)) self.new }
+        ensures memory { result ≡ Err (BytesFault.Failed IoFault.NoMemory) → MeetVerity (said_at self.old.stack.config (mapped device.0)) first (length out.old / 512) }
+    {
+        bytes_range(self.stack.config(), device, first, out.len())?;
+        read_pieces(&mut self.stack, device, first, out)?;
+        Ok(())
     }
 
     /// Puts the devices of a text in, all or none. It is `Busy` where a request is in flight.

@@ -1,7 +1,7 @@
 //! Ranges of a mapped device's sectors.
-ghost use Rattle.std.specs.Prelude.{◌≡◌, ◌+◌, ◌≤◌, ◌<◌, length, IfOk};
+ghost use Rattle.std.specs.Prelude.{◌≡◌, ◌+◌, ◌≤◌, ◌<◌, length, IfOk, OnOk};
 ghost use Rattle.stack_rules.specs.Names.{mapped, size};
-ghost use Rattle.request_queue.specs.Ranges.{IsInside, piece_len, range_of};
+ghost use Rattle.request_queue.specs.Ranges.{HaveSectors, IsInside, bytes_range, piece_len, range_of};
 
 use crate::fault::SubmitFault;
 use stack_config::{Config, DevId};
@@ -36,6 +36,34 @@ pub(crate) fn range_of(
         return Err(SubmitFault::OutOfRange);
     }
     if count == 0 || count > MOST_COUNT {
+        return Err(SubmitFault::Length);
+    }
+    Ok(SectorRange {
+        device,
+        first,
+        count,
+    })
+}
+
+/// The sectors of so many bytes of a device, or why they aren't read.
+pub(crate) fn bytes_range(
+    config: &Config,
+    device: DevId,
+    first: u64,
+    bytes: usize,
+) -> Result<SectorRange, SubmitFault>
+    ensures value { result ≡ bytes_range config.now device.0 first bytes }
+    ensures have { OnOk result (HaveSectors config.now device.0 first bytes) }
+{
+    if device.0 as usize >= config.count() {
+        return Err(SubmitFault::NoSuchDevice);
+    }
+    let size = config.sectors(device);
+    let count = bytes.div_ceil(512) as u64;
+    if count > size || first > size - count {
+        return Err(SubmitFault::OutOfRange);
+    }
+    if !bytes.is_multiple_of(512) {
         return Err(SubmitFault::Length);
     }
     Ok(SectorRange {

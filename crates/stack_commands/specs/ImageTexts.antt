@@ -48,5 +48,7 @@ image_text (image.Open file) = open_text file
 image_text (image.Format fault) = format_text fault
 image_text (image.Verify fault) = verify_text fault
 image_text (image.Differs found) = verdict_text found
+image_text image.Unaligned = codes "refused 18 Unaligned\n"
+image_text image.RootText = codes "refused 19 RootText\n"
 image_text image.Random = codes "refused random\n"
 image_text image.Write = []

@@ -116,6 +116,8 @@ fn say_image_fault<W: Write>(
         ImageFault::Format(fault) => say_format_fault(writer, fault),
         ImageFault::Verify(fault) => say_verify_fault(writer, fault),
         ImageFault::Differs(verdict) => say_verdict(writer, verdict),
+        ImageFault::Unaligned => writer.put(b"refused 18 Unaligned\n"),
+        ImageFault::RootText => writer.put(b"refused 19 RootText\n"),
         ImageFault::Random => writer.put(b"refused random\n"),
         ImageFault::Write => Ok(()),
     }

@@ -1,6 +1,5 @@
 -- Whole data blocks of a verity line of a configuration, which are read at once.
-use Rattle.std.proofs.Common.{◌≡◌, ℕ, zero, suc, ◌+◌, ◌-◌, ◌*◌, ◌/◌, ◌%◌, ◌<◌, ◌≤◌, Bool, true, false, cond, List, [], ◌∷◌, ◌++◌, length, get_or, take, drop, Option, Some, Result, Ok, Err, inl, inr, refl, sym, ap, ◌∙◌, subst, arith}
-use Rattle.std.specs.Prelude.{◌&&◌}
+use Rattle.std.proofs.Common.{◌≡◌, ℕ, zero, suc, ◌+◌, ◌*◌, ◌/◌, ◌%◌, ◌<◌, ◌≤◌, Bool, true, false, cond, List, [], ◌∷◌, ◌++◌, length, get_or, take, drop, Option, Some, Result, Ok, Err, inl, inr, refl, sym, ap, ◌∙◌, subst, arith}
 use Rattle.std.proofs.lemmas.Bool.{cases_lt}
 use Rattle.std.proofs.lemmas.List.{take_all, length-take-le, length-drop}
 use Rattle.std.proofs.lemmas.List.Elements.{All-cons, All-nil, All-append, Contains-push}
@@ -43,8 +42,7 @@ use Rattle.stack_meaning.proofs.lemmas.FoundLemmas.{IsMono, Grown-none, kept-lat
 use Rattle.stack_meaning.proofs.lemmas.RunLemmas.{Passes, pass, AllMono, run_ok, run_err}
 use Rattle.stack_lines.proofs.lemmas.VerityLineLemmas.{IsWholeSectors, same-verity, data-whole, place-named}
 use Rattle.stack_lines.proofs.lemmas.ReadRunLemmas.{blocks-aligned, blocks-whole, blocks-inside, blocks-below}
-use Rattle.stack_meaning.proofs.lemmas.SizedLemmas.{AreSized, span-part}
-use Rattle.stack_engine.proofs.lemmas.WalkLemmas.{checked-same, data_read, walk_ends, walk_fails}
+use Rattle.stack_engine.proofs.lemmas.WalkLemmas.{checked-same, data_zeros, data_read, walk_ends, walk_fails}
 use Rattle.stack_engine.proofs.lemmas.BlockLemmas.{block_place, chain_fills, block_fails, AllKept-push, Grown-push}
 use Rattle.stack_engine.proofs.PathLemmas.{checked-at}
 
@@ -72,6 +70,14 @@ same-images : {old a b : List Device} {q r : ℕ} → AreRead old q a → AreRea
 same-images {old = old} {a = a} {b = b} x y steady =
     let before : AllSteady old = AllSteady-kept b old (sym y.moved.fixed) steady in
     (AllSteady-kept old a x.moved.fixed before, images-kept y before ∙ sym (images-kept x before))
+
+-- data block k of a part was read from the device beneath, since when no image changed, and its digest was made
+pub record IsRead (c : Configuration) (v : Verity) (p : BlockPart) (lower : Lower) (old : List Device) (k : ℕ) (block made : List ℕ) : Type 0 where
+  pub from : List Device
+  pub ways : ℕ
+  pub first : AreRead old ways from
+  pub means : AllSteady from → span (λ s. ((place_of c lower).said s).means (images_of from)) (p.first + k * block_sectors v) (block_sectors v) ≡ Ok block
+  pub made_is : made ≡ digest v.salt block
 
 module _ (c : Configuration) (v : Verity) (p : BlockPart) (n m : ℕ) (loaded : IsLoaded c) (line : HasVerity c p.device.0 p.line v) (aligned : p.first % block_sectors v ≡ 0) (size : IsWholeSectors v.data_block) (count : m * block_sectors v ≡ n) where
   abbrev pub index : ℕ
@@ -101,63 +107,60 @@ module _ (c : Configuration) (v : Verity) (p : BlockPart) (n m : ℕ) (loaded : 
     cost = omega arith;
   }
 
-  -- ---- a block that was read with the others
-
-  -- block j of what was read
-  abbrev pub block : ℕ → List ℕ → List ℕ
-  block j bytes = take (512 * block_sectors v) (drop (512 * (j * block_sectors v)) bytes)
+  -- ---- a block that was read with others
 
   fits : (j : ℕ) → j < m → j * block_sectors v + block_sectors v ≤ n
   fits j inside =
       let below : (j + 1) * block_sectors v ≤ m * block_sectors v = mul-le-mul_right (block_sectors v) (omega (arith, inside)) in
       omega (arith, below, count, add-mul j 1 (block_sectors v))
 
-  pub block-length : (j : ℕ) (bytes : List ℕ) → j < m → length bytes ≡ 512 * n → length (block j bytes) ≡ 512 * block_sectors v
+  pub block-length : (j : ℕ) (bytes : List ℕ) → j < m → length bytes ≡ 512 * n → length (take (512 * block_sectors v) (drop (512 * (j * block_sectors v)) bytes)) ≡ 512 * block_sectors v
   block-length j bytes inside len = length-take-le (512 * block_sectors v) (drop (512 * (j * block_sectors v)) bytes) (omega (arith, fits j inside, len, length-drop (512 * (j * block_sectors v)) bytes))
 
-  module _ (lower : Lower) (is : named c v.data ≡ Some lower) (taken : v.ignore_zero_blocks ≡ false) {old a b : List Device} {q : ℕ} (first : AreRead old q a) (sized : AllSteady a → AreSized (λ s. ((place_of c lower).said s).means (images_of a)))
-      (chains : List FoundRecord) (bytes : List ℕ) (got : Gets (run_expected (place_of c lower) chains p.first n) a b (Ok bytes)) (j : ℕ) (inside : j < m) where
-    means : AllSteady a → span (λ s. ((place_of c lower).said s).means (images_of a)) (p.first + j * block_sectors v) (block_sectors v) ≡ Ok (block j bytes)
-    means steady =
-        let f : ℕ → Outcome = λ s. ((place_of c lower).said s).means (images_of a) in
-        let rest : j * block_sectors v + (block_sectors v + (n - (j * block_sectors v + block_sectors v))) ≡ n = omega (arith, fits j inside) in
-        span-part f (sized steady) p.first (j * block_sectors v) (block_sectors v) (n - (j * block_sectors v + block_sectors v)) bytes (ap (span f p.first) rest ∙ got.exact steady)
+  module _ (lower : Lower) (is : named c v.data ≡ Some lower) (j : ℕ) {old mid now : List Device} {r : ℕ} (later : AreRead old r now) {expected : List ℕ} {path : List (List ℕ)} (walked : IsWalked (block_in c v (index + j)) 0 expected path mid now)
+      (block made : List ℕ) where
+    here : IsRead c v p lower old j block made → AllSteady now → span (λ s. ((place_of c lower).said s).means (images_of now)) (p.first + j * block_sectors v) (block_sectors v) ≡ Ok block
+    here was steady =
+        let same = same-images was.first later steady in
+        ap (λ (i : Images). span (λ s. ((place_of c lower).said s).means i) (p.first + j * block_sectors v) (block_sectors v)) same.1 ∙ was.means same.0
 
-    module _ {mid now : List Device} {r : ℕ} (later : AreRead old r now) {expected : List ℕ} {path : List (List ℕ)} (walked : IsWalked (block_in c v (index + j)) 0 expected path mid now) where
-      here : AllSteady now → span (λ s. ((place_of c lower).said s).means (images_of now)) (p.first + j * block_sectors v) (block_sectors v) ≡ Ok (block j bytes)
-      here steady =
-          let same = same-images first later steady in
-          ap (λ (i : Images). span (λ s. ((place_of c lower).said s).means i) (p.first + j * block_sectors v) (block_sectors v)) same.1 ∙ means same.0
+    at-place : (result : Result (List ℕ) IoFault) → Gets (checked_expected (λ (x : List ℕ). x) (place_of c lower) (p.first + j * block_sectors v) (block_sectors v) v.salt expected) now now result
+        → Gets (checked_expected (λ (x : List ℕ). x) (block_in c v (index + j)).on_data (block_sectors v * (index + j)) (block_sectors v) v.salt expected) now now result
+    at-place result one =
+        let e : p.first + j * block_sectors v ≡ block_sectors v * (index + j) = omega (arith, start, add-mul index j (block_sectors v), mul_comm (block_sectors v) (index + j)) in
+        checked-at c v.data lower (block_sectors v * (index + j)) (block_sectors v) v.salt expected result (record { lower = lower; first = block_sectors v * (index + j); sectors = block_sectors v }) is refl
+        (subst (λ (k : ℕ). Gets (checked_expected (λ (x : List ℕ). x) (place_of c lower) k (block_sectors v) v.salt expected) now now result) e one)
 
-      at-place : (result : Result (List ℕ) IoFault) → Gets (checked_expected (λ (x : List ℕ). x) (place_of c lower) (p.first + j * block_sectors v) (block_sectors v) v.salt expected) now now result
-          → Gets (checked_expected (λ (x : List ℕ). x) (block_in c v (index + j)).on_data (block_sectors v * (index + j)) (block_sectors v) v.salt expected) now now result
-      at-place result one =
-          let e : p.first + j * block_sectors v ≡ block_sectors v * (index + j) = omega (arith, start, add-mul index j (block_sectors v), mul_comm (block_sectors v) (index + j)) in
-          checked-at c v.data lower (block_sectors v * (index + j)) (block_sectors v) v.salt expected result (record { lower = lower; first = block_sectors v * (index + j); sectors = block_sectors v }) is refl
-          (subst (λ (k : ℕ). Gets (checked_expected (λ (x : List ℕ). x) (place_of c lower) k (block_sectors v) v.salt expected) now now result) e one)
+    -- it has the digest
+    pub block-had : is_ignored v expected ≡ false → IsRead c v p lower old j block made → length block ≡ 512 * block_sectors v → index + j < v.blocks → made ≡ expected
+        → GetsChain (block_in c v (index + j)) mid now (Ok (record { index = index + j; content = block; path = path }))
+    block-had taken was len there same =
+        let good : digest v.salt block ≡ expected = sym was.made_is ∙ same in
+        walk_ends (λ (x : List ℕ). x) (block_in c v (index + j)) size.whole walked block there
+        (data_read (λ (x : List ℕ). x) (block_in c v (index + j)) expected (Ok block) taken
+        (at-place (Ok block) (record {
+          moved = AreRead-none _ now;
+          may = (len, good);
+          exact = λ steady. ap (λ (s : Outcome). then_outcome s (checked v.salt expected)) (here was steady) ∙ checked-same v.salt expected block good;
+        })))
 
-      not-ignored : is_ignored v expected ≡ false
-      not-ignored = ap (λ (x : Bool). x && bytes_eq (digest v.salt (zero_block v)) expected) taken
+    -- it is ignored
+    pub block-zeros : is_ignored v expected ≡ true → block ≡ zero_block v → index + j < v.blocks → GetsChain (block_in c v (index + j)) mid now (Ok (record { index = index + j; content = block; path = path }))
+    block-zeros ignored zeros there =
+        walk_ends (λ (x : List ℕ). x) (block_in c v (index + j)) size.whole walked block there
+        (data_zeros (λ (x : List ℕ). x) (block_in c v (index + j)) expected now block size.whole ignored zeros)
 
-      pub block-had : index + j < v.blocks → digest v.salt (block j bytes) ≡ expected → GetsChain (block_in c v (index + j)) mid now (Ok (record { index = index + j; content = block j bytes; path = path }))
-      block-had there good =
-          walk_ends (λ (x : List ℕ). x) (block_in c v (index + j)) size.whole walked (block j bytes) there
-          (data_read (λ (x : List ℕ). x) (block_in c v (index + j)) expected (Ok (block j bytes)) not-ignored
-          (at-place (Ok (block j bytes)) (record {
-            moved = AreRead-none _ now;
-            may = (block-length j bytes inside got.may.len, good);
-            exact = λ steady. ap (λ (s : Outcome). then_outcome s (checked v.salt expected)) (here steady) ∙ checked-same v.salt expected (block j bytes) good;
-          })))
-
-      pub block-other : (digest v.salt (block j bytes) ≡ expected → ⊥) → GetsChain (block_in c v (index + j)) mid now (Err (io.Stack mismatch))
-      block-other other =
-          walk_fails (λ (x : List ℕ). x) (block_in c v (index + j)) size.whole walked (io.Stack mismatch)
-          (data_read (λ (x : List ℕ). x) (block_in c v (index + j)) expected (Err (io.Stack mismatch)) not-ignored
-          (at-place (Err (io.Stack mismatch)) (record {
-            moved = AreRead-none _ now;
-            may = inl refl;
-            exact = λ steady. ap (λ (s : Outcome). then_outcome s (checked v.salt expected)) (here steady) ∙ checked-other v.salt expected (block j bytes) other;
-          })))
+    -- it has another one
+    pub block-other : is_ignored v expected ≡ false → IsRead c v p lower old j block made → (made ≡ expected → ⊥) → GetsChain (block_in c v (index + j)) mid now (Err (io.Stack mismatch))
+    block-other taken was different =
+        let other : digest v.salt block ≡ expected → ⊥ = λ good. different (was.made_is ∙ good) in
+        walk_fails (λ (x : List ℕ). x) (block_in c v (index + j)) size.whole walked (io.Stack mismatch)
+        (data_read (λ (x : List ℕ). x) (block_in c v (index + j)) expected (Err (io.Stack mismatch)) taken
+        (at-place (Err (io.Stack mismatch)) (record {
+          moved = AreRead-none _ now;
+          may = inl refl;
+          exact = λ steady. ap (λ (s : Outcome). then_outcome s (checked v.salt expected)) (here was steady) ∙ checked-other v.salt expected block other;
+        })))
 
   -- ---- the read goes on
 
@@ -171,17 +174,19 @@ module _ (c : Configuration) (v : Verity) (p : BlockPart) (n m : ℕ) (loaded : 
   chain-cost : (i : ℕ) → (chain_expected (block_in c v i)).cost ≤ read_cost c (mapped p.device.0)
   chain-cost i = subst (λ (t : Target). line_read_cost (by_name c 0 (read_cost c)) t ≤ read_cost c (mapped p.device.0)) line.has (line-read-cost c p.device.0 p.line line.line loaded.valid line.is)
 
-  pub total-cost : (j : ℕ) → j ≤ m → read_cost_so_far c v n j ≤ n * read_cost c (mapped p.device.0)
-  total-cost j most =
+  pub total-cost : (r j : ℕ) → r ≤ m → j ≤ m → read_cost_so_far c v (r * block_sectors v) j ≤ n * read_cost c (mapped p.device.0)
+  total-cost r j read most =
       let dc : ℕ = (block_in c v 0).on_data.cost in
       let path : ℕ = path_cost c v in
       let one : block_sectors v * dc + path ≤ read_cost c (mapped p.device.0) = omega (arith, chain-cost 0, mul_assoc (levels (tree_of v)) (hash_sectors v) (block_in c v 0).on_hash.cost) in
       let all : n * (block_sectors v * dc + path) ≤ n * read_cost c (mapped p.device.0) = mul-le-mul_left n one in
       let once : 1 * dc ≤ block_sectors v * dc = mul-le-mul_right dc size.some in
       let blocks_cost : n * dc ≤ n * (block_sectors v * dc) = mul-le-mul_left n (omega (arith, once)) in
+      let few : r * block_sectors v ≤ m * block_sectors v = mul-le-mul_right (block_sectors v) read in
+      let read_cost : r * block_sectors v * dc ≤ n * dc = mul-le-mul_right dc (omega (arith, few, count)) in
       let each : m * 1 ≤ m * block_sectors v = mul-le-mul_left m size.some in
       let ways : j * path ≤ n * path = mul-le-mul_right path (omega (arith, most, each, count)) in
-      omega (arith, all, blocks_cost, ways)
+      omega (arith, all, blocks_cost, read_cost, ways)
 
   -- ---- the read goes on
 
@@ -264,32 +269,24 @@ module _ (c : Configuration) (v : Verity) (p : BlockPart) (n m : ℕ) (loaded : 
     pub blocks-differ : {now : List Device} → GetsChain (block_in c v (index + j)) mid now (Err (io.Stack mismatch)) → Finds (blocks_place c p n) c 0 n (record { old = old; new = new; before = u; after = w }) (Err (io.Stack mismatch))
     blocks-differ got = let end = block-stops (io.Stack mismatch) got in stops (io.Stack mismatch) (record { moved = AreRead-more step-cost moved; may = end.may; exact = end.exact })
 
+    -- of the data, beneath which no fault of a line is met
+    pub row-stops : {at : List Device} {q first rows : ℕ} (lower : Lower) (chains : List FoundRecord) (fault : IoFault) → MeetNone (place_of c lower).said first rows → AreRead mid q at
+        → Gets (run_expected (place_of c lower) chains first rows) at new (Err fault) → Finds (blocks_place c p n) c 0 n (record { old = old; new = new; before = u; after = w }) (Err fault)
+    row-stops lower chains (io.Stack fault) clear walked got = absurd (clear fault got.may)
+    row-stops lower chains (io.Device i) clear walked got = stops (io.Device i) (record { moved = AreRead-more step-cost moved; may = (got.may.0, failed_later walked.moved got.moved.moved got.may.1); exact = λ steady. tt })
+    row-stops lower chains io.NoMemory clear walked got = stops io.NoMemory (record { moved = AreRead-more step-cost moved; may = tt; exact = λ steady. tt })
+
     -- or where memory is short
     pub blocks-full : Finds (blocks_place c p n) c 0 n (record { old = old; new = new; before = u; after = w }) (Err io.NoMemory)
     blocks-full = stops io.NoMemory (record { moved = AreRead-more step-cost moved; may = tt; exact = λ steady. tt })
 
   -- ---- the whole read
 
-  pub blocks-read : (did : Read) (answer : Result (List ℕ) IoFault) (j : ℕ) → j ≤ m → AreRead did.old (read_cost_so_far c v n j) did.new → Finds (blocks_place c p n) c 0 n did answer → ReadsSource c (Blocks p) n did answer
-  blocks-read did answer j most moved found = record {
-    got = record { moved = AreRead-more (total-cost j most) moved; may = found.got.may; exact = found.got.exact };
+  pub blocks-read : (did : Read) (answer : Result (List ℕ) IoFault) (r j : ℕ) → r ≤ m → j ≤ m → AreRead did.old (read_cost_so_far c v (r * block_sectors v) j) did.new → Finds (blocks_place c p n) c 0 n did answer → ReadsSource c (Blocks p) n did answer
+  blocks-read did answer r j read most moved found = record {
+    got = record { moved = AreRead-more (total-cost r j read most) moved; may = found.got.may; exact = found.got.exact };
     grown = found.grown;
     kept = found.kept;
-  }
-
-  -- the data that couldn't be read: no fault is met beneath them
-  pub data-stops : {old a b : List Device} {q r : ℕ} (lower : Lower) (chains w : List FoundRecord) (fault : IoFault) → MeetNone (place_of c lower).said p.first n → AllKept c old w → AreRead old q a → AreRead old r b → r ≤ n * read_cost c (mapped p.device.0)
-      → Gets (run_expected (place_of c lower) chains p.first n) a b (Err fault) → ReadsSource c (Blocks p) n (record { old = old; new = b; before = w; after = w }) (Err fault)
-  data-stops lower chains w (io.Stack fault) clear kept first moved few got = absurd (clear fault got.may)
-  data-stops lower chains w (io.Device i) clear kept first moved few got = record {
-    got = record { moved = AreRead-more few moved; may = (got.may.0, failed_later first.moved got.moved.moved got.may.1); exact = λ steady. tt };
-    grown = Grown-none _ 0 n w;
-    kept = kept-later c w moved kept;
-  }
-  data-stops lower chains w io.NoMemory clear kept first moved few got = record {
-    got = record { moved = AreRead-more few moved; may = tt; exact = λ steady. tt };
-    grown = Grown-none _ 0 n w;
-    kept = kept-later c w moved kept;
   }
 
 -- a verity line is on the way
@@ -308,7 +305,6 @@ pub record BlocksAt (c : Configuration) (v : Verity) (p : BlockPart) (n m : ℕ)
   pub count : m * block_sectors v ≡ n
   pub some : 0 < m
   pub few : n ≤ 128
-  pub taken : v.ignore_zero_blocks ≡ false
   pub clear : MeetNone (place_of c lower).said p.first n
   pub before : AreBefore p.device.0 p.line (p.first / block_sectors v) found
   pub below : p.first + n ≤ lower_size c lower
@@ -328,7 +324,6 @@ blocks-at c v p n found lower loaded some line blocks go is =
       count = count;
       some = quotient-some (n / block_sectors v) (block_sectors v) n count some;
       few = go.few;
-      taken = subst (λ (u : Verity). u.ignore_zero_blocks ≡ false) same go.taken;
       clear = subst (λ (q : Place). MeetNone q.said p.first n) (place-named c v.data lower is) (subst (λ (u : Verity). MeetNone (said_by_name c u.data) p.first n) same go.clear);
       before = subst (λ (u : Verity). AreBefore p.device.0 p.line (p.first / block_sectors u) found) same go.before;
       below = blocks-below c p.device.0 p.line p.first n v loaded line blocks lower is;

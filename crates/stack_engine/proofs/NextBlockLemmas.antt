@@ -1,11 +1,13 @@
 -- Whole data blocks that were read at once, gone through one after another.
-use Rattle.std.proofs.Common.{◌≡◌, ℕ, ◌+◌, ◌-◌, ◌*◌, ◌/◌, ◌%◌, ◌<◌, ◌≤◌, Bool, true, false, not, List, [], ◌∷◌, ◌++◌, length, get_or, map, take, drop, Some, Ok, Err, refl, sym, ap, ◌∙◌, subst, arith}
-use Rattle.std.proofs.lemmas.List.{take_all, length-map, length-take, get_or-map}
-use Rattle.std.proofs.Math.Seq.{take-add}
+use Rattle.std.proofs.Common.{◌≡◌, ℕ, ◌+◌, ◌-◌, ◌*◌, ◌/◌, ◌%◌, ◌<◌, ◌≤◌, max, ◌⊎◌, Bool, true, false, List, [], ◌∷◌, ◌++◌, length, get_or, map, take, drop, Some, Result, Ok, Err, inl, inr, refl, sym, ap, ◌∙◌, subst, arith}
+use Rattle.std.proofs.lemmas.Bool.{cases_lt}
+use Rattle.std.proofs.lemmas.List.{take_all, length-map, length-take, length-take-le, length-drop, drop-drop, drop-append-le, take-append-le, get_or-drop, get_or-map}
+use Rattle.std.proofs.lemmas.Slice.{drop-put_mid}
+use Rattle.std.proofs.Math.ListN.{get_or-append}
+use Rattle.std.proofs.Math.Seq.{take-add, drop-append_seam}
 use Rattle.std.proofs.Math.Nat.{add-mul, mul_comm, mul_assoc, mul-le-mul_left, mul-le-mul_right, mul-mod_left, mul-div_cancel}
 use Rattle.std.proofs.lemmas.Nat.{div-add-mod'}
-use Rattle.std.proofs.lemmas.Slice.Eq.{bytes_eq-Decides}
-use Rattle.std.specs.Str.{bytes_eq}
+use borrow.Rule.Slice.PartMut.{put_mid}
 use Rattle.tree_shape.specs.Digests.{digest}
 use Rattle.tree_shape.specs.Shape.{levels}
 use Rattle.hash_tree.specs.Tree.{cut}
@@ -14,31 +16,32 @@ use Rattle.block_device.specs.Device.{Device}
 use Rattle.dm_table.specs.declared.verity.Verity.{Verity}
 use Rattle.stack_rules.specs.declared.lower.Lower.{Lower}
 use Rattle.stack_rules.specs.Records.{Configuration}
-use Rattle.stack_rules.specs.Names.{mapped, named}
+use Rattle.stack_rules.specs.Names.{mapped, named, size}
 use Rattle.stack_rules.specs.Descend.{read_cost}
 use Rattle.stack_rules.specs.Rules.{IsLoaded}
-use Rattle.stack_rules.specs.Trees.{tree_of, block_sectors}
+use Rattle.stack_rules.specs.Trees.{tree_of, block_sectors, zero_block}
 use Rattle.stack_meaning.specs.declared.fault.IoFault.{IoFault}
 use Rattle.stack_meaning.specs.declared.fault.IoFault.TheVariants as io
 use Rattle.stack_lines.specs.declared.source.BlockPart.{BlockPart}
 use Rattle.stack_lines.specs.declared.source.Source.TheVariants.{Blocks}
 use Rattle.stack_meaning.specs.Changes.{AllWhole}
-use Rattle.stack_meaning.specs.Outcomes.{mismatch}
+use Rattle.stack_meaning.specs.Blocks.{is_ignored}
+use Rattle.stack_meaning.specs.Outcomes.{Outcome, mismatch, span}
 use Rattle.stack_meaning.specs.Found.{FoundRecord}
 use Rattle.stack_meaning.specs.Kept.{AllKept}
-use Rattle.stack_meaning.specs.Leaves.{images_of, AllSteady, AreRead}
+use Rattle.stack_meaning.specs.Leaves.{images_of, AreRead}
 use Rattle.stack_meaning.specs.Places.{Place, place_of, run_expected, Read}
 use Rattle.stack_meaning.specs.Reading.{Gets, Finds}
-use Rattle.stack_lines.specs.AtOnce.{AreBefore}
+use Rattle.stack_lines.specs.AtOnce.{AreBefore, MeetNone}
 use Rattle.stack_lines.specs.Sources.{ReadsSource}
 use Rattle.stack_lines.specs.Walks.{HasVerity, block_in, GetsChain, IsWalked}
 use Rattle.verified_cache.specs.Cache.{CachedBlock}
 use Rattle.stack_meaning.proofs.lemmas.LeafListLemmas.{AreRead-none, AreRead-more, AreRead-then}
-use Rattle.stack_meaning.proofs.lemmas.SizedLemmas.{AreSized}
+use Rattle.stack_meaning.proofs.lemmas.SizedLemmas.{AreSized, span-part}
 use Rattle.stack_lines.proofs.lemmas.SizeLemmas.{sector-size}
 use Rattle.stack_lines.proofs.lemmas.UnitReadLemmas.{images-whole}
 use Rattle.stack_lines.proofs.lemmas.VerityLineLemmas.{place-named}
-use Rattle.stack_engine.proofs.BlocksLemmas.{blocks_place, path_cost, read_cost_so_far, BlocksAt, block-length, block-had, block-other, total-cost, before-more, none-read, blocks-more, blocks-stop, blocks-differ, blocks-full, blocks-read, data-stops}
+use Rattle.stack_engine.proofs.BlocksLemmas.{blocks_place, path_cost, read_cost_so_far, BlocksAt, IsRead, block-had, block-zeros, total-cost, before-more, none-read, blocks-more, blocks-stop, blocks-differ, blocks-full, row-stops, blocks-read}
 
 -- ---- digests of blocks that stand one after another
 
@@ -78,33 +81,77 @@ module _ (bytes : List ℕ) (u m : ℕ) (some : 0 < u) (len : length bytes ≡ 5
 
 -- ---- where the read stands
 
--- n sectors of a part were read from the device beneath, behind some hash blocks
-pub record WereRead (c : Configuration) (p : BlockPart) (n : ℕ) (lower : Lower) (bytes : List ℕ) (old : List Device) : Type 0 where
-  pub from : List Device
-  pub to : List Device
-  pub chains : List FoundRecord
-  pub ways : ℕ
-  pub first : AreRead old ways from
-  pub whole : AllWhole from
-  pub got : Gets (run_expected (place_of c lower) chains p.first n) from to (Ok bytes)
-
--- the blocks before block j were had
-pub record WereHad (c : Configuration) (v : Verity) (p : BlockPart) (n j : ℕ) (bytes : List ℕ) (did : Read) : Type 0 where
+-- the blocks before block j were had, where data were read as far as block r
+pub record WereHad (c : Configuration) (v : Verity) (p : BlockPart) (n r j : ℕ) (bytes : List ℕ) (did : Read) : Type 0 where
   pub so_far : Finds (blocks_place c p n) c 0 (j * block_sectors v) did (Ok (take (512 * (j * block_sectors v)) bytes))
-  pub moved : AreRead did.old (read_cost_so_far c v n j) did.new
+  pub moved : AreRead did.old (read_cost_so_far c v (r * block_sectors v) j) did.new
   pub before : AreBefore p.device.0 p.line (p.first / block_sectors v + j) did.after
 
--- block j is the next one: those before it were had, and the way to it was walked
-pub record IsNext (c : Configuration) (v : Verity) (p : BlockPart) (n j : ℕ) (bytes expected : List ℕ) (path : List (List ℕ)) (did : Read) : Type 0 where
+-- the blocks from block j on, as far as block r, stand in the bytes as they were read, and their digests were made
+abbrev pub AreReadAhead : Configuration → Verity → BlockPart → Lower → ℕ → ℕ → List ℕ → List (List ℕ) → List Device → Type 0
+AreReadAhead c v p lower j r bytes made old = (k : ℕ) → j ≤ k → k < r → (x : List ℕ)
+    → IsRead c v p lower old k (take (512 * block_sectors v) (drop (512 * (k * block_sectors v)) bytes)) (get_or made k x)
+
+-- block j is the next one: those before it were had, the way to it was walked, and data were read as far as block r
+pub record IsNext (c : Configuration) (v : Verity) (p : BlockPart) (n r j : ℕ) (bytes expected : List ℕ) (path : List (List ℕ)) (did : Read) : Type 0 where
   pub mid : List Device
   pub here : List Device
   pub ways : ℕ
   pub so_far : Finds (blocks_place c p n) c 0 (j * block_sectors v) (record { old = did.old; new = mid; before = did.before; after = did.after }) (Ok (take (512 * (j * block_sectors v)) bytes))
   pub walked : IsWalked (block_in c v (p.first / block_sectors v + j)) 0 expected path mid here
   pub later : AreRead did.old ways here
-  pub moved : AreRead did.old (read_cost_so_far c v n (j + 1)) did.new
-  pub rest : AreRead mid (read_cost_so_far c v n (j + 1)) did.new
+  pub moved : AreRead did.old (read_cost_so_far c v (r * block_sectors v) (j + 1)) did.new
+  pub rest : AreRead mid (read_cost_so_far c v (r * block_sectors v) (j + 1)) did.new
   pub before : AreBefore p.device.0 p.line (p.first / block_sectors v + j) did.after
+
+-- ---- costs
+
+-- what a read of so many blocks more costs, behind one way more
+cost-row : (r many to u dc : ℕ) → r + many ≤ to → r * u * dc + many * u * dc ≤ to * u * dc
+cost-row r many to u dc more =
+    let sectors : (r + many) * u ≤ to * u = mul-le-mul_right u more in
+    let all : (r + many) * u * dc ≤ to * u * dc = mul-le-mul_right dc sectors in
+    let split : (r + many) * u * dc ≡ r * u * dc + many * u * dc = ap (λ (k : ℕ). k * dc) (add-mul r many u) ∙ add-mul (r * u) (many * u) dc in
+    omega (arith, all, split)
+
+sum-row : (a b x path j cost : ℕ) → a + b ≤ x → cost ≡ b → a + j * path + (path + cost) ≤ x + (j + 1) * path
+sum-row a b x path j cost most same = omega (arith, most, same, add-mul j 1 path)
+
+le-sum : (a b x : ℕ) → a + b ≤ x → b ≤ x
+le-sum a b x h = omega (arith, h)
+
+sum-way : (a path j : ℕ) → a + j * path + path ≡ a + (j + 1) * path
+sum-way a path j = omega (arith, add-mul j 1 path)
+
+pub sub-same : (a b : ℕ) → a + b - a ≡ b
+sub-same a b = omega arith
+
+-- ---- a part of a list that is written
+
+module _ {X : Type 0} (a w : ℕ) (xs ys : List X) (fits : a ≤ length xs) where
+  behind-put : drop a (put_mid a w xs ys) ≡ ys ++ drop (a + w) xs
+  behind-put =
+      let len : a ≡ length (take a xs) = sym (length-take-le a xs fits) in
+      ap (λ (k : ℕ). drop k (put_mid a w xs ys)) len ∙ drop-append_seam (take a xs) (ys ++ drop w (drop a xs)) ∙ ap (λ (l : List X). ys ++ l) (drop-drop w a xs)
+
+  -- it holds what was written
+  pub part-put : (n m : ℕ) → n + m ≤ length ys → take m (drop (a + n) (put_mid a w xs ys)) ≡ take m (drop n ys)
+  part-put n m inside =
+      ap (take m) (sym (drop-drop n a (put_mid a w xs ys)) ∙ ap (drop n) behind-put ∙ drop-append-le n ys (drop (a + w) xs) (omega (arith, inside)))
+      ∙ take-append-le m (drop n ys) (drop (a + w) xs) (omega (arith, inside, length-drop n ys))
+
+  pub item-put : (n : ℕ) (d : X) → n < length ys → get_or (put_mid a w xs ys) (a + n) d ≡ get_or ys n d
+  item-put n d inside = sym (get_or-drop a (put_mid a w xs ys) n d) ∙ ap (λ (l : List X). get_or l n d) behind-put ∙ get_or-append ys (drop (a + w) xs) d n inside
+
+  -- what stands behind it stays
+  pub rest-put : (n m : ℕ) → a + w ≤ n → length ys ≡ w → take m (drop n (put_mid a w xs ys)) ≡ take m (drop n xs)
+  rest-put n m past same = ap (take m) (drop-put_mid a w xs ys n past fits same)
+
+  pub item-rest : (n : ℕ) (d : X) → a + w ≤ n → length ys ≡ w → get_or (put_mid a w xs ys) n d ≡ get_or xs n d
+  item-rest n d past same =
+      let on : n + 0 ≡ n = omega arith in
+      ap (λ (k : ℕ). get_or (put_mid a w xs ys) k d) (sym on) ∙ sym (get_or-drop n (put_mid a w xs ys) 0 d)
+      ∙ ap (λ (l : List X). get_or l 0 d) (drop-put_mid a w xs ys n past fits same) ∙ get_or-drop n xs 0 d ∙ ap (λ (k : ℕ). get_or xs k d) on
 
 -- the hash blocks of a way that was walked stand in the path
 pub way-whole : (c : Configuration) (v : Verity) (index : ℕ) {expected : List ℕ} (path : List CachedBlock) {old new : List Device} → IsWalked (block_in c v index) 0 expected (map (λ (b : CachedBlock). b.bytes) (take (levels (tree_of v)) path)) old new → levels (tree_of v) ≤ length path
@@ -112,202 +159,269 @@ way-whole c v index path walked =
     let most : levels (tree_of v) ≡ length (take (levels (tree_of v)) path) = omega (arith, walked.count, length-map (take (levels (tree_of v)) path) (λ (b : CachedBlock). b.bytes)) in
     omega (arith, most, length-take (levels (tree_of v)) path)
 
--- what a comparison that begins with `not` tells
-not-false : (b : Bool) → true ≡ not b → b ≡ false
-not-false true h = absurd cc
-not-false false h = refl
-
-not-true : (b : Bool) → false ≡ not b → b ≡ true
-not-true true h = refl
-not-true false h = absurd cc
-
-pub same-digest : (made expected block salt : List ℕ) → made ≡ digest salt block → false ≡ not (bytes_eq made expected) → digest salt block ≡ expected
-same-digest made expected block salt is e = sym is ∙ (bytes_eq-Decides made expected).0 (not-true (bytes_eq made expected) e)
-
-pub other-digest : (made expected block salt : List ℕ) → made ≡ digest salt block → true ≡ not (bytes_eq made expected) → digest salt block ≡ expected → ⊥
-other-digest made expected block salt is e same = apart (bytes_eq made expected) (not-false (bytes_eq made expected) e) ((bytes_eq-Decides made expected).1 (is ∙ same))
-  where
-    apart : (b : Bool) → b ≡ false → b ≡ true → ⊥
-    apart true e h = absurd cc
-    apart false e h = absurd cc
-
--- block j of those that stand one after another, as a slice
-pub block-slice : (bytes : List ℕ) (u size j : ℕ) → 512 * u ≡ size → take ((j + 1) * size - j * size) (drop (j * size) bytes) ≡ take (512 * u) (drop (512 * (j * u)) bytes)
-block-slice bytes u size j is =
-    let width : (j + 1) * size - j * size ≡ 512 * u = omega (arith, add-mul j 1 size, is) in
-    let place : j * size ≡ 512 * (j * u) = ap (λ (k : ℕ). j * k) (sym is) ∙ sym (mul_assoc j 512 u) ∙ ap (λ (k : ℕ). k * u) (mul_comm j 512) ∙ mul_assoc 512 j u in
-    ap (λ (k : ℕ). take k (drop (j * size) bytes)) width ∙ ap (λ (k : ℕ). take (512 * u) (drop k bytes)) place
-
 module _ (c : Configuration) (v : Verity) (p : BlockPart) (n : ℕ) (lower : Lower) (found : List FoundRecord) (loaded : IsLoaded c) (line : HasVerity c p.device.0 p.line v) (is : named c v.data ≡ Some lower) (at : BlocksAt c v p n (n / block_sectors v) found lower) where
+  abbrev m : ℕ
+  m = n / block_sectors v
+
+  abbrev first : ℕ
+  first = p.first / block_sectors v
+
   -- how many they are
   pub few-blocks : n / block_sectors v ≤ n
-  few-blocks = let each : n / block_sectors v * 1 ≤ n / block_sectors v * block_sectors v = mul-le-mul_left (n / block_sectors v) at.size.some in omega (arith, each, at.count)
+  few-blocks = let each : m * 1 ≤ m * block_sectors v = mul-le-mul_left m at.size.some in omega (arith, each, at.count)
 
   pub block-size : block_sectors v * 512 ≡ v.data_block
   block-size = omega (arith, at.size.whole)
 
-  all-bytes : (bytes : List ℕ) → length bytes ≡ 512 * n → length bytes ≡ 512 * (n / block_sectors v * block_sectors v)
-  all-bytes bytes len = len ∙ ap (λ (k : ℕ). 512 * k) (sym at.count)
-
   pub digest-count : (bytes : List ℕ) → length bytes ≡ 512 * n → length bytes / v.data_block ≡ n / block_sectors v
-  digest-count bytes len = ap (λ (k : ℕ). length bytes / k) (sym block-size) ∙ cut-count bytes (block_sectors v) (n / block_sectors v) (omega (arith, at.size.some)) (all-bytes bytes len)
+  digest-count bytes len =
+      ap (λ (k : ℕ). length bytes / k) (sym block-size) ∙ cut-count bytes (block_sectors v) m (omega (arith, at.size.some)) (len ∙ ap (λ (k : ℕ). 512 * k) (sym at.count))
 
-  pub whole-blocks : (bytes : List ℕ) → length bytes ≡ 512 * n → length bytes % v.data_block ≡ 0
-  whole-blocks bytes len = ap (λ (k : ℕ). length bytes % k) (sym block-size) ∙ cut-whole bytes (block_sectors v) (n / block_sectors v) (omega (arith, at.size.some)) (all-bytes bytes len)
+  -- block j begins there
+  pub block-begin : (j : ℕ) → j * v.data_block ≡ 512 * (j * block_sectors v)
+  block-begin j = ap (λ (k : ℕ). j * k) (sym block-size) ∙ sym (mul_assoc j (block_sectors v) 512) ∙ mul_comm (j * block_sectors v) 512
 
-  pub digests-are : (bytes : List ℕ) (got : List (List ℕ)) → length bytes ≡ 512 * n → got ≡ map (digest v.salt) (cut v.data_block bytes)
-      → (length got ≡ n / block_sectors v) × ((j : ℕ) (x : List ℕ) → j < n / block_sectors v → get_or got j x ≡ digest v.salt (take (512 * block_sectors v) (drop (512 * (j * block_sectors v)) bytes)))
-  digests-are bytes got len is =
-      let all : got ≡ map (digest v.salt) (cut (block_sectors v * 512) bytes) = is ∙ ap (λ (k : ℕ). map (digest v.salt) (cut k bytes)) (sym block-size) in (
-        ap (λ (l : List (List ℕ)). length l) all ∙ cell-count bytes (block_sectors v) (n / block_sectors v) (omega (arith, at.size.some)) (all-bytes bytes len) v.salt,
-        λ j x inside. ap (λ (l : List (List ℕ)). get_or l j x) all ∙ cell-digest bytes (block_sectors v) (n / block_sectors v) (omega (arith, at.size.some)) (all-bytes bytes len) v.salt j x inside,
-      )
-
-  -- block j ends within the bytes, and its number is small
-  pub block-ends : (bytes : List ℕ) (j : ℕ) → length bytes ≡ 512 * n → j < n / block_sectors v → (j + 1) * v.data_block ≤ length bytes
-  block-ends bytes j len inside =
-      let below : (j + 1) * block_sectors v ≤ n / block_sectors v * block_sectors v = mul-le-mul_right (block_sectors v) (omega (arith, inside)) in
-      let wide : (j + 1) * v.data_block ≡ (j + 1) * block_sectors v * 512 = ap (λ (k : ℕ). (j + 1) * k) (sym block-size) ∙ sym (mul_assoc (j + 1) (block_sectors v) 512) in
-      omega (arith, below, wide, at.count, len)
+  -- so many blocks end within the bytes
+  pub blocks-end : (bytes : List ℕ) (j : ℕ) → length bytes ≡ 512 * n → j ≤ n / block_sectors v → j * v.data_block ≤ length bytes
+  blocks-end bytes j len most =
+      let below : j * block_sectors v ≤ m * block_sectors v = mul-le-mul_right (block_sectors v) most in
+      omega (arith, below, block-begin j, at.count, len)
 
   pub small-index : (j : ℕ) → j < n / block_sectors v → p.first / block_sectors v + (j + 1) ≤ p.first + n
   small-index j inside =
-      let part : p.first / block_sectors v * 1 ≤ p.first / block_sectors v * block_sectors v = mul-le-mul_left (p.first / block_sectors v) at.size.some in
+      let part : first * 1 ≤ first * block_sectors v = mul-le-mul_left first at.size.some in
       omega (arith, part, div-add-mod' p.first (block_sectors v), inside, few-blocks)
 
+  -- where block j begins on the device beneath, and that so many from there on lie inside it
+  place : (j : ℕ) → block_sectors v * (first + j) ≡ p.first + j * block_sectors v
+  place j = let all : first * block_sectors v ≡ p.first = omega (arith, div-add-mod' p.first (block_sectors v), at.aligned) in omega (arith, mul_comm (block_sectors v) (first + j), add-mul first j (block_sectors v), all)
+
+  inner : (j many : ℕ) → j + many ≤ m → j * block_sectors v + many * block_sectors v ≤ n
+  inner j many most =
+      let below : (j + many) * block_sectors v ≤ m * block_sectors v = mul-le-mul_right (block_sectors v) most in
+      omega (arith, below, add-mul j many (block_sectors v), at.count)
+
+  pub row-inside : (j many : ℕ) → j + many ≤ n / block_sectors v → block_sectors v * (p.first / block_sectors v + j) + many * block_sectors v ≤ size c lower
+  row-inside j many most = omega (arith, place j, inner j many most, at.below)
+
+  -- ---- the way to a block
+
   -- none of them yet
-  none-had : {old : List Device} (bytes : List ℕ) → AllKept c old found → WereHad c v p n 0 bytes (record { old = old; new = old; before = found; after = found })
+  pub none-had : {old : List Device} (bytes : List ℕ) → AllKept c old found → WereHad c v p n 0 0 bytes (record { old = old; new = old; before = found; after = found })
   none-had {old = old} bytes kept =
       let nothing : 0 ≡ 512 * (0 * block_sectors v) = omega arith in
       let front : [] ≡ take (512 * (0 * block_sectors v)) bytes = ap (λ (k : ℕ). take k bytes) nothing in
-      let start : p.first / block_sectors v ≡ p.first / block_sectors v + 0 = omega arith in
+      let start : first ≡ first + 0 = omega arith in
       record {
         so_far = subst (λ (l : List ℕ). Finds (blocks_place c p n) c 0 (0 * block_sectors v) (record { old = old; new = old; before = found; after = found }) (Ok l)) front
-            (none-read c v p n (n / block_sectors v) loaded line at.aligned at.size at.count found kept);
+            (none-read c v p n m loaded line at.aligned at.size at.count found kept);
         moved = AreRead-none _ old;
         before = subst (λ (k : ℕ). AreBefore p.device.0 p.line k found) start at.before;
       }
 
-  -- the way to the first one was walked, and then all were read
-  pub first-next : (bytes expected : List ℕ) (path : List (List ℕ)) {old from to : List Device} (chains : List FoundRecord) → AllKept c old found → IsWalked (block_in c v (p.first / block_sectors v)) 0 expected path old from → AreRead old (path_cost c v) from
-      → Gets (run_expected (place_of c lower) chains p.first n) from to (Ok bytes) → IsNext c v p n 0 bytes expected path (record { old = old; new = to; before = found; after = found })
-  first-next bytes expected path {old = old} {from = from} {to = to} chains kept walked moved got =
-      let none = none-had {old = old} bytes kept in
-      let start : p.first / block_sectors v ≡ p.first / block_sectors v + 0 = omega arith in
-      let cost : (block_in c v 0).on_data.cost ≡ read_cost c lower = ap (λ (q : Place). q.cost) (place-named c v.data lower is) in
-      let all : n * (block_in c v 0).on_data.cost ≡ n * read_cost c lower = ap (λ (k : ℕ). n * k) cost in
-      let both : AreRead old (read_cost_so_far c v n (0 + 1)) to = AreRead-more (omega (arith, all)) (AreRead-then moved got.moved) in
-      record {
-        mid = old;
-        here = from;
-        ways = path_cost c v;
-        so_far = none.so_far;
-        walked = subst (λ (k : ℕ). IsWalked (block_in c v k) 0 expected path old from) start walked;
-        later = moved;
-        moved = both;
-        rest = both;
-        before = none.before;
-      }
+  cost : (block_in c v 0).on_data.cost ≡ read_cost c lower
+  cost = ap (λ (q : Place). q.cost) (place-named c v.data lower is)
 
-  -- the way to the next one was walked
-  pub had-next : (j : ℕ) (bytes expected : List ℕ) (path : List (List ℕ)) (did : Read) {new : List Device} → WereHad c v p n j bytes did → IsWalked (block_in c v (p.first / block_sectors v + j)) 0 expected path did.new new → AreRead did.new (path_cost c v) new
-      → IsNext c v p n j bytes expected path (record { old = did.old; new = new; before = did.before; after = did.after })
-  had-next j bytes expected path did {new = new} had walked moved =
-      let both = AreRead-then had.moved moved in
-      let one : (j + 1) * path_cost c v ≡ j * path_cost c v + 1 * path_cost c v = add-mul j 1 (path_cost c v) in
-      record {
+  -- it ended in a fault
+  pub had-fails : (r j : ℕ) (bytes : List ℕ) (did : Read) {new : List Device} (fault : IoFault) → r ≤ n / block_sectors v → j < n / block_sectors v → WereHad c v p n r j bytes did → AreRead did.new (path_cost c v) new
+      → GetsChain (block_in c v (p.first / block_sectors v + j)) did.new new (Err fault) → ReadsSource c (Blocks p) n (record { old = did.old; new = new; before = did.before; after = did.after }) (Err fault)
+  had-fails r j bytes did {new = new} fault read inside had moved got =
+      let most = total-cost c v p n m loaded line at.aligned at.size at.count r (j + 1) read (omega (arith, inside)) in
+      let way = sum-way (r * block_sectors v * (block_in c v 0).on_data.cost) (path_cost c v) j in
+      let few : path_cost c v ≤ n * read_cost c (mapped p.device.0) =
+      le-sum (r * block_sectors v * (block_in c v 0).on_data.cost + j * path_cost c v) (path_cost c v) (n * read_cost c (mapped p.device.0)) (subst (λ (k : ℕ). k ≤ n * read_cost c (mapped p.device.0)) (sym way) most) in
+      let both : AreRead did.old (read_cost_so_far c v (r * block_sectors v) (j + 1)) new = subst (λ (k : ℕ). AreRead did.old k new) way (AreRead-then had.moved moved) in
+      blocks-read c v p n m loaded line at.aligned at.size at.count (record { old = did.old; new = new; before = did.before; after = did.after }) (Err fault) r (j + 1) read (omega (arith, inside)) both
+      (blocks-stop c v p n m loaded line at.aligned at.size at.count j inside had.so_far moved few fault got)
+
+  module _ (r j many : ℕ) (bytes expected : List ℕ) (path : List (List ℕ)) (did : Read) (walk : List Device) (inside : j < n / block_sectors v) (read : r ≤ n / block_sectors v) (most : j + many ≤ n / block_sectors v) (fresh : (many ≡ 0) ⊎ (r ≤ j))
+      (had : WereHad c v p n r j bytes did) (moved : AreRead did.new (path_cost c v) walk) (to : ℕ) (as_far : to ≡ max r (j + many)) (walked : IsWalked (block_in c v (p.first / block_sectors v + j)) 0 expected path did.new walk) where
+    more : r + many ≤ to
+    more = elim fresh [ inl none ↦ omega (arith, none, as_far) | inr old ↦ omega (arith, old, as_far) ]
+
+    pub far : to ≤ n / block_sectors v
+    far = omega (arith, as_far, read, most)
+
+    row-cost : r * block_sectors v * (block_in c v 0).on_data.cost + many * block_sectors v * (block_in c v 0).on_data.cost ≤ to * block_sectors v * (block_in c v 0).on_data.cost
+    row-cost = cost-row r many to (block_sectors v) (block_in c v 0).on_data.cost more
+
+    same-cost : many * block_sectors v * read_cost c lower ≡ many * block_sectors v * (block_in c v 0).on_data.cost
+    same-cost = ap (λ (k : ℕ). many * block_sectors v * k) (sym cost)
+
+    both-cost : read_cost_so_far c v (r * block_sectors v) j + (path_cost c v + many * block_sectors v * read_cost c lower) ≤ read_cost_so_far c v (to * block_sectors v) (j + 1)
+    both-cost = sum-row (r * block_sectors v * (block_in c v 0).on_data.cost) (many * block_sectors v * (block_in c v 0).on_data.cost) (to * block_sectors v * (block_in c v 0).on_data.cost) (path_cost c v) j (many * block_sectors v * read_cost c lower) row-cost same-cost
+
+    last-cost : path_cost c v + many * block_sectors v * read_cost c lower ≤ read_cost_so_far c v (to * block_sectors v) (j + 1)
+    last-cost = le-sum (read_cost_so_far c v (r * block_sectors v) j) (path_cost c v + many * block_sectors v * read_cost c lower) (read_cost_so_far c v (to * block_sectors v) (j + 1)) both-cost
+
+    -- and the read of the data behind it did
+    module _ (new : List Device) (chains : List FoundRecord) (answer : Result (List ℕ) IoFault) (got : Gets (run_expected (place_of c lower) chains (block_sectors v * (p.first / block_sectors v + j)) (many * block_sectors v)) walk new answer) where
+      all-moved : AreRead did.old (read_cost_so_far c v (to * block_sectors v) (j + 1)) new
+      all-moved = AreRead-more both-cost (AreRead-then had.moved (AreRead-then moved got.moved))
+
+      rest-moved : AreRead did.new (read_cost_so_far c v (to * block_sectors v) (j + 1)) new
+      rest-moved = AreRead-more last-cost (AreRead-then moved got.moved)
+
+      pub row-next : IsNext c v p n to j bytes expected path (record { old = did.old; new = new; before = did.before; after = did.after })
+      row-next = record {
         mid = did.new;
-        here = new;
-        ways = read_cost_so_far c v n j + path_cost c v;
+        here = walk;
+        ways = read_cost_so_far c v (r * block_sectors v) j + path_cost c v;
         so_far = had.so_far;
         walked = walked;
-        later = both;
-        moved = AreRead-more (omega (arith, one)) both;
-        rest = AreRead-more (omega (arith, one)) moved;
+        later = AreRead-then had.moved moved;
+        moved = all-moved;
+        rest = rest-moved;
         before = had.before;
       }
 
-  -- or it ended in a fault
-  pub had-fails : (j : ℕ) (bytes : List ℕ) (did : Read) {new : List Device} (fault : IoFault) → j < n / block_sectors v → WereHad c v p n j bytes did → AreRead did.new (path_cost c v) new → GetsChain (block_in c v (p.first / block_sectors v + j)) did.new new (Err fault)
-      → ReadsSource c (Blocks p) n (record { old = did.old; new = new; before = did.before; after = did.after }) (Err fault)
-  had-fails j bytes did {new = new} fault inside had moved got =
-      let one : (j + 1) * path_cost c v ≡ j * path_cost c v + 1 * path_cost c v = add-mul j 1 (path_cost c v) in
-      let most = total-cost c v p n (n / block_sectors v) loaded line at.aligned at.size at.count (j + 1) (omega (arith, inside)) in
-      let few : path_cost c v ≤ n * read_cost c (mapped p.device.0) = omega (arith, most, one) in
-      let both : AreRead did.old (read_cost_so_far c v n (j + 1)) new = AreRead-more (omega (arith, one)) (AreRead-then had.moved moved) in
-      blocks-read c v p n (n / block_sectors v) loaded line at.aligned at.size at.count (record { old = did.old; new = new; before = did.before; after = did.after }) (Err fault) (j + 1) (omega (arith, inside)) both
-      (blocks-stop c v p n (n / block_sectors v) loaded line at.aligned at.size at.count j inside had.so_far moved few fault got)
+    pub row-fails : (new : List Device) (chains : List FoundRecord) (fault : IoFault) → Gets (run_expected (place_of c lower) chains (block_sectors v * (p.first / block_sectors v + j)) (many * block_sectors v)) walk new (Err fault)
+        → ReadsSource c (Blocks p) n (record { old = did.old; new = new; before = did.before; after = did.after }) (Err fault)
+    row-fails new chains fault got =
+        let total = total-cost c v p n m loaded line at.aligned at.size at.count to (j + 1) far (omega (arith, inside)) in
+        let none : MeetNone (place_of c lower).said (block_sectors v * (first + j)) (many * block_sectors v) =
+        λ f some. at.clear f (j * block_sectors v + some.0, omega (arith, some.1, inner j many most), subst (λ (k : ℕ). ((place_of c lower).said k).meets f) (omega (arith, place j)) some.2) in
+        blocks-read c v p n m loaded line at.aligned at.size at.count (record { old = did.old; new = new; before = did.before; after = did.after }) (Err fault) to (j + 1) far (omega (arith, inside)) (all-moved new chains (Err fault) got)
+        (row-stops c v p n m loaded line at.aligned at.size at.count j inside had.so_far (rest-moved new chains (Err fault) got) total lower chains fault none moved got)
 
-  pub first-fails : {old new : List Device} (fault : IoFault) → AllKept c old found → AreRead old (path_cost c v) new → GetsChain (block_in c v (p.first / block_sectors v)) old new (Err fault)
-      → ReadsSource c (Blocks p) n (record { old = old; new = new; before = found; after = found }) (Err fault)
-  first-fails {old = old} {new = new} fault kept moved got =
-      let start : p.first / block_sectors v ≡ p.first / block_sectors v + 0 = omega arith in
-      had-fails 0 [] (record { old = old; new = old; before = found; after = found }) fault at.some (none-had [] kept) moved
-      (subst (λ (k : ℕ). GetsChain (block_in c v k) old new (Err fault)) start got)
+    -- those that were read
+    pub row-ahead : (new : List Device) (row : List ℕ) (made made' : List (List ℕ)) (chains : List FoundRecord) → AllWhole walk → length bytes ≡ 512 * n → length made ≡ 128 → j + many ≤ 128 → AreReadAhead c v p lower j r bytes made did.old
+        → Gets (run_expected (place_of c lower) chains (block_sectors v * (p.first / block_sectors v + j)) (many * block_sectors v)) walk new (Ok row)
+        → made' ≡ put_mid j many made (map (digest v.salt) (cut v.data_block row))
+        → AreReadAhead c v p lower j to (put_mid (j * v.data_block) (many * v.data_block) bytes row) made' did.old
+    row-ahead new row made made' chains whole len room few ahead got is k low below x = elim (cases_lt k (j + many)) [
+      | inl near ↦ in-row near
+      | inr high ↦ behind high
+    ]
+      where
+        u : ℕ
+        u = block_sectors v
 
-  -- or the read of the data did
-  pub data-fails : {old from to : List Device} (chains : List FoundRecord) (fault : IoFault) → AllKept c old found → AreRead old (path_cost c v) from → Gets (run_expected (place_of c lower) chains p.first n) from to (Err fault)
-      → ReadsSource c (Blocks p) n (record { old = old; new = to; before = found; after = found }) (Err fault)
-  data-fails {old = old} {from = from} {to = to} chains fault kept moved got =
-      let cost : (block_in c v 0).on_data.cost ≡ read_cost c lower = ap (λ (q : Place). q.cost) (place-named c v.data lower is) in
-      let all : n * (block_in c v 0).on_data.cost ≡ n * read_cost c lower = ap (λ (k : ℕ). n * k) cost in
-      let most = total-cost c v p n (n / block_sectors v) loaded line at.aligned at.size at.count 1 (omega (arith, at.some)) in
-      data-stops c v p n (n / block_sectors v) loaded line at.aligned at.size at.count lower chains found fault at.clear kept moved (AreRead-then moved got.moved) (omega (arith, most, all)) got
+        a : ℕ
+        a = j * v.data_block
 
-  -- all of them
-  pub had-all : (j : ℕ) (bytes : List ℕ) (did : Read) → j ≡ n / block_sectors v → length bytes ≡ 512 * n → WereHad c v p n j bytes did → ReadsSource c (Blocks p) n did (Ok bytes)
-  had-all j bytes did all len had =
-      let count : j * block_sectors v ≡ n = ap (λ (k : ℕ). k * block_sectors v) all ∙ at.count in
-      let whole : take (512 * (j * block_sectors v)) bytes ≡ bytes = take_all (512 * (j * block_sectors v)) bytes (omega (arith, len, count)) in
-      blocks-read c v p n (n / block_sectors v) loaded line at.aligned at.size at.count did (Ok bytes) j (omega (arith, all)) had.moved
-      (subst (λ (k : ℕ). Finds (blocks_place c p n) c 0 k did (Ok bytes)) count
-      (subst (λ (l : List ℕ). Finds (blocks_place c p n) c 0 (j * block_sectors v) did (Ok l)) whole had.so_far))
+        out : List ℕ
+        out = put_mid (j * v.data_block) (many * v.data_block) bytes row
 
-  module _ (j : ℕ) (bytes expected : List ℕ) (path : List (List ℕ)) (did : Read) (inside : j < n / block_sectors v) (were : WereRead c p n lower bytes did.old) (next : IsNext c v p n j bytes expected path did) where
-    abbrev block : List ℕ
-    block = take (512 * block_sectors v) (drop (512 * (j * block_sectors v)) bytes)
+        some : 0 < block_sectors v
+        some = omega (arith, at.size.some)
 
-    sized : AllSteady were.from → AreSized (λ s. ((place_of c lower).said s).means (images_of were.from))
-    sized steady = λ s. sector-size c (images_of were.from) loaded (images-whole were.from were.whole) lower s
+        fits : j * v.data_block ≤ length bytes
+        fits = blocks-end bytes j len (omega (arith, inside))
 
-    few : read_cost_so_far c v n (j + 1) ≤ n * read_cost c (mapped p.device.0)
-    few = total-cost c v p n (n / block_sectors v) loaded line at.aligned at.size at.count (j + 1) (omega (arith, inside))
+        row-len : length row ≡ 512 * (many * block_sectors v)
+        row-len = got.may.len
 
-    longer : take (512 * (j * block_sectors v)) bytes ++ block ≡ take (512 * (j * block_sectors v + block_sectors v)) bytes
-    longer =
-        let e : 512 * (j * block_sectors v) + 512 * block_sectors v ≡ 512 * (j * block_sectors v + block_sectors v) = omega arith in
-        sym (take-add (512 * (j * block_sectors v)) (512 * block_sectors v) bytes) ∙ ap (λ (k : ℕ). take k bytes) e
+        wide : length row ≡ many * v.data_block
+        wide = got.may.len ∙ sym (block-begin many)
 
-    -- it has the digest, and its chain is there
-    pub next-had : (number : ℕ) (content : List ℕ) (way : List (List ℕ)) → number ≡ p.first / block_sectors v + j → content ≡ block → way ≡ path → digest v.salt block ≡ expected
-        → WereHad c v p n (j + 1) bytes (record { old = did.old; new = did.new; before = did.before; after = did.after ++ (record { device = p.device.0; line = p.line; chain = record { index = number; content = content; path = way } } ∷ []) })
-    next-had number content way here holds goes good =
-        let got = block-had c v p n (n / block_sectors v) loaded line at.aligned at.size at.count lower is at.taken were.first sized were.chains bytes were.got j inside next.later next.walked (at.there j inside) good in
-        let len = block-length c v p n (n / block_sectors v) loaded line at.aligned at.size at.count j bytes inside were.got.may.len in
-        let more = blocks-more c v p n (n / block_sectors v) loaded line at.aligned at.size at.count j inside next.so_far next.rest few block path len next.before got in
-        let count : j * block_sectors v + block_sectors v ≡ (j + 1) * block_sectors v = omega (arith, add-mul j 1 (block_sectors v)) in
-        let one : FoundRecord = record { device = p.device.0; line = p.line; chain = record { index = p.first / block_sectors v + j; content = block; path = path } } in
-        let same : record { device = p.device.0; line = p.line; chain = record { index = number; content = content; path = way } } ≡ one =
-        ap {B = FoundRecord} (λ (i : ℕ). record { device = p.device.0; line = p.line; chain = record { index = i; content = content; path = way } }) here
-        ∙ ap {B = FoundRecord} (λ (b : List ℕ). record { device = p.device.0; line = p.line; chain = record { index = p.first / block_sectors v + j; content = b; path = way } }) holds
-        ∙ ap {B = FoundRecord} (λ (w : List (List ℕ)). record { device = p.device.0; line = p.line; chain = record { index = p.first / block_sectors v + j; content = block; path = w } }) goes in
+        digests : length (map (digest v.salt) (cut v.data_block row)) ≡ many
+        digests = ap (λ (s : ℕ). length (map (digest v.salt) (cut s row))) (sym block-size) ∙ cell-count row (block_sectors v) many some row-len v.salt
+
+        in-row : k < j + many → IsRead c v p lower did.old k (take (512 * block_sectors v) (drop (512 * (k * block_sectors v)) out)) (get_or made' k x)
+        in-row near =
+            let t : ℕ = k - j in
+            let at_k : k ≡ j + t = omega (arith, low) in
+            let here : t < many = omega (arith, near, low) in
+            let up : (t + 1) * u ≤ many * u = mul-le-mul_right u (omega (arith, here)) in
+            let room_in : t * u + u ≤ many * u = omega (arith, up, add-mul t 1 u) in
+            let begin : 512 * (k * u) ≡ a + 512 * (t * u) = omega (arith, block-begin j, ap (λ (i : ℕ). i * u) at_k, add-mul j t u) in
+            let block : take (512 * u) (drop (512 * (k * u)) out) ≡ take (512 * u) (drop (512 * (t * u)) row) =
+            ap (λ (i : ℕ). take (512 * u) (drop i out)) begin ∙ part-put a (many * v.data_block) bytes row fits (512 * (t * u)) (512 * u) (omega (arith, room_in, got.may.len)) in
+            let made_k : get_or made' k x ≡ digest v.salt (take (512 * u) (drop (512 * (t * u)) row)) =
+            ap (λ (l : List (List ℕ)). get_or l k x) is ∙ ap (λ (i : ℕ). get_or (put_mid j many made (map (digest v.salt) (cut v.data_block row))) i x) at_k
+            ∙ item-put j many made (map (digest v.salt) (cut v.data_block row)) (omega (arith, room, few)) t x (omega (arith, here, digests))
+            ∙ ap (λ (s : ℕ). get_or (map (digest v.salt) (cut s row)) t x) (sym block-size) ∙ cell-digest row u many some row-len v.salt t x here in
+            let is_read : IsRead c v p lower did.old k (take (512 * u) (drop (512 * (t * u)) row)) (get_or made' k x) = record {
+              from = walk;
+              ways = _;
+              first = AreRead-then had.moved moved;
+              means = λ steady.
+                  let f : ℕ → Outcome = λ s. ((place_of c lower).said s).means (images_of walk) in
+                  let sized : AreSized f = λ s. sector-size c (images_of walk) loaded (images-whole walk whole) lower s in
+                  let all : t * u + (u + (many * u - (t * u + u))) ≡ many * u = omega (arith, room_in) in
+                  let begins : block_sectors v * (first + j) + t * u ≡ p.first + k * u = omega (arith, place j, ap (λ (i : ℕ). i * u) at_k, add-mul j t u) in
+                  ap (λ (i : ℕ). span f i u) (sym begins) ∙ span-part f sized (block_sectors v * (first + j)) (t * u) u (many * u - (t * u + u)) row (ap (span f (block_sectors v * (first + j))) all ∙ got.exact steady);
+              made_is = made_k;
+            } in
+            subst (λ (l : List ℕ). IsRead c v p lower did.old k l (get_or made' k x)) (sym block) is_read
+
+        behind : j + many ≤ k → IsRead c v p lower did.old k (take (512 * block_sectors v) (drop (512 * (k * block_sectors v)) out)) (get_or made' k x)
+        behind high =
+            let up : (j + many) * u ≤ k * u = mul-le-mul_right u high in
+            let past : a + many * v.data_block ≤ 512 * (k * u) = omega (arith, block-begin j, block-begin many, up, add-mul j many u) in
+            let block = rest-put a (many * v.data_block) bytes row fits (512 * (k * u)) (512 * u) past wide in
+            let same : get_or made' k x ≡ get_or made k x =
+            ap (λ (l : List (List ℕ)). get_or l k x) is ∙ item-rest j many made (map (digest v.salt) (cut v.data_block row)) (omega (arith, room, few)) k x high digests in
+            subst (λ (l : List ℕ). IsRead c v p lower did.old k l (get_or made' k x)) (sym block)
+            (subst (λ (y : List ℕ). IsRead c v p lower did.old k (take (512 * u) (drop (512 * (k * u)) bytes)) y) (sym same) (ahead k low (omega (arith, below, high, as_far)) x))
+
+  -- those behind block j stay, where it is written
+  pub ahead-rest : (j r : ℕ) (bytes block : List ℕ) (made : List (List ℕ)) (old : List Device) (w : ℕ) → w ≡ v.data_block → length block ≡ w → length bytes ≡ 512 * n → j < n / block_sectors v → AreReadAhead c v p lower j r bytes made old
+      → AreReadAhead c v p lower (j + 1) r (put_mid (j * v.data_block) w bytes block) made old
+  ahead-rest j r bytes block made old w wide long len inside ahead k low below x =
+      let u : ℕ = block_sectors v in
+      let up : (j + 1) * u ≤ k * u = mul-le-mul_right u low in
+      let past : j * v.data_block + w ≤ 512 * (k * u) = omega (arith, block-begin j, block-size, wide, up, add-mul j 1 u) in
+      subst (λ (l : List ℕ). IsRead c v p lower old k l (get_or made k x)) (sym (rest-put (j * v.data_block) w bytes block (blocks-end bytes j len (omega (arith, inside))) (512 * (k * u)) (512 * u) past long))
+      (ahead k (omega (arith, low)) below x)
+
+  -- ---- the next block
+
+  module _ (r j : ℕ) (bytes expected : List ℕ) (path : List (List ℕ)) (did : Read) (inside : j < n / block_sectors v) (read : r ≤ n / block_sectors v) (next : IsNext c v p n r j bytes expected path did) where
+    few : read_cost_so_far c v (r * block_sectors v) (j + 1) ≤ n * read_cost c (mapped p.device.0)
+    few = total-cost c v p n m loaded line at.aligned at.size at.count r (j + 1) read (omega (arith, inside))
+
+    -- its chain is there
+    pub next-had : (bytes' block : List ℕ) (number : ℕ) (way : List (List ℕ)) → take (512 * (j * block_sectors v)) bytes' ≡ take (512 * (j * block_sectors v)) bytes → block ≡ take (512 * block_sectors v) (drop (512 * (j * block_sectors v)) bytes')
+        → length block ≡ 512 * block_sectors v → number ≡ p.first / block_sectors v + j → way ≡ path
+        → GetsChain (block_in c v (p.first / block_sectors v + j)) next.mid next.here (Ok (record { index = p.first / block_sectors v + j; content = block; path = path }))
+        → WereHad c v p n r (j + 1) bytes' (record { old = did.old; new = did.new; before = did.before; after = did.after ++ (record { device = p.device.0; line = p.line; chain = record { index = number; content = block; path = way } } ∷ []) })
+    next-had bytes' block number way front holds len here goes got =
+        let u : ℕ = block_sectors v in
+        let more = blocks-more c v p n m loaded line at.aligned at.size at.count j inside next.so_far next.rest few block path len next.before got in
+        let count : j * u + u ≡ (j + 1) * u = omega (arith, add-mul j 1 u) in
+        let one : FoundRecord = record { device = p.device.0; line = p.line; chain = record { index = first + j; content = block; path = path } } in
+        let same : record { device = p.device.0; line = p.line; chain = record { index = number; content = block; path = way } } ≡ one =
+        ap {B = FoundRecord} (λ (i : ℕ). record { device = p.device.0; line = p.line; chain = record { index = i; content = block; path = way } }) here
+        ∙ ap {B = FoundRecord} (λ (w : List (List ℕ)). record { device = p.device.0; line = p.line; chain = record { index = first + j; content = block; path = w } }) goes in
         let now : Read = record { old = did.old; new = did.new; before = did.before; after = did.after ++ (one ∷ []) } in
-        subst (λ (x : FoundRecord). WereHad c v p n (j + 1) bytes (record { old = did.old; new = did.new; before = did.before; after = did.after ++ (x ∷ []) })) (sym same) (record {
-          so_far = subst (λ (k : ℕ). Finds (blocks_place c p n) c 0 k now (Ok (take (512 * k) bytes))) count
-              (subst (λ (l : List ℕ). Finds (blocks_place c p n) c 0 (j * block_sectors v + block_sectors v) now (Ok l)) longer more);
+        let e : 512 * (j * u) + 512 * u ≡ 512 * (j * u + u) = omega arith in
+        let longer : take (512 * (j * u)) bytes ++ block ≡ take (512 * (j * u + u)) bytes' =
+        ap (λ (l : List ℕ). l ++ block) (sym front) ∙ ap (λ (l : List ℕ). take (512 * (j * u)) bytes' ++ l) holds ∙ sym (take-add (512 * (j * u)) (512 * u) bytes') ∙ ap (λ (k : ℕ). take k bytes') e in
+        subst (λ (x : FoundRecord). WereHad c v p n r (j + 1) bytes' (record { old = did.old; new = did.new; before = did.before; after = did.after ++ (x ∷ []) })) (sym same) (record {
+          so_far = subst (λ (k : ℕ). Finds (blocks_place c p n) c 0 k now (Ok (take (512 * k) bytes'))) count
+              (subst (λ (l : List ℕ). Finds (blocks_place c p n) c 0 (j * u + u) now (Ok l)) longer more);
           moved = next.moved;
-          before = before-more c v p n (n / block_sectors v) loaded line at.aligned at.size at.count did.after j block path next.before;
+          before = before-more c v p n m loaded line at.aligned at.size at.count did.after j block path next.before;
         })
 
-    -- it has another one
-    pub next-differs : (digest v.salt block ≡ expected → ⊥) → ReadsSource c (Blocks p) n did (Err (io.Stack mismatch))
-    next-differs other =
-        let got = block-other c v p n (n / block_sectors v) loaded line at.aligned at.size at.count lower is at.taken were.first sized were.chains bytes were.got j inside next.later next.walked other in
-        blocks-read c v p n (n / block_sectors v) loaded line at.aligned at.size at.count did (Err (io.Stack mismatch)) (j + 1) (omega (arith, inside)) next.moved
-        (blocks-differ c v p n (n / block_sectors v) loaded line at.aligned at.size at.count j inside next.so_far next.rest few got)
+    -- it is ignored, or has the digest
+    pub settled : (ignored : Bool) (stood block made : List ℕ) → ignored ≡ is_ignored v expected → length stood ≡ 512 * block_sectors v → (ignored ≡ true → block ≡ zero_block v) → (ignored ≡ false → (made ≡ expected) × (block ≡ stood))
+        → (ignored ≡ false → IsRead c v p lower did.old j stood made) → GetsChain (block_in c v (p.first / block_sectors v + j)) next.mid next.here (Ok (record { index = p.first / block_sectors v + j; content = block; path = path }))
+    settled true stood block made same len zeros other was = block-zeros c v p n m loaded line at.aligned at.size at.count lower is j next.later next.walked block made (sym same) (zeros refl) (at.there j inside)
+    settled false stood block made same len zeros other was =
+        let good = other refl in
+        subst (λ (b : List ℕ). GetsChain (block_in c v (first + j)) next.mid next.here (Ok (record { index = first + j; content = b; path = path }))) (sym good.1)
+        (block-had c v p n m loaded line at.aligned at.size at.count lower is j next.later next.walked stood made (sym same) (was refl) len (at.there j inside) good.0)
+
+    -- it has another digest
+    pub next-differs : GetsChain (block_in c v (p.first / block_sectors v + j)) next.mid next.here (Err (io.Stack mismatch)) → ReadsSource c (Blocks p) n did (Err (io.Stack mismatch))
+    next-differs got =
+        blocks-read c v p n m loaded line at.aligned at.size at.count did (Err (io.Stack mismatch)) r (j + 1) read (omega (arith, inside)) next.moved
+        (blocks-differ c v p n m loaded line at.aligned at.size at.count j inside next.so_far next.rest few got)
 
     -- no memory for its chain
     pub next-full : ReadsSource c (Blocks p) n did (Err io.NoMemory)
     next-full =
-        blocks-read c v p n (n / block_sectors v) loaded line at.aligned at.size at.count did (Err io.NoMemory) (j + 1) (omega (arith, inside)) next.moved
-        (blocks-full c v p n (n / block_sectors v) loaded line at.aligned at.size at.count j inside next.so_far next.rest few)
+        blocks-read c v p n m loaded line at.aligned at.size at.count did (Err io.NoMemory) r (j + 1) read (omega (arith, inside)) next.moved
+        (blocks-full c v p n m loaded line at.aligned at.size at.count j inside next.so_far next.rest few)
+
+  -- all of them
+  pub had-all : (r j : ℕ) (bytes : List ℕ) (did : Read) → r ≤ n / block_sectors v → j ≡ n / block_sectors v → length bytes ≡ 512 * n → WereHad c v p n r j bytes did → ReadsSource c (Blocks p) n did (Ok bytes)
+  had-all r j bytes did read all len had =
+      let count : j * block_sectors v ≡ n = ap (λ (k : ℕ). k * block_sectors v) all ∙ at.count in
+      let whole : take (512 * (j * block_sectors v)) bytes ≡ bytes = take_all (512 * (j * block_sectors v)) bytes (omega (arith, len, count)) in
+      blocks-read c v p n m loaded line at.aligned at.size at.count did (Ok bytes) r j read (omega (arith, all)) had.moved
+      (subst (λ (k : ℕ). Finds (blocks_place c p n) c 0 k did (Ok bytes)) count
+      (subst (λ (l : List ℕ). Finds (blocks_place c p n) c 0 (j * block_sectors v) did (Ok l)) whole had.so_far))

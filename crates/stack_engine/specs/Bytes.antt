@@ -15,7 +15,7 @@ use Rattle.stack_meaning.specs.Kept.{AllKept}
 use Rattle.stack_meaning.specs.Meaning.{sector}
 use Rattle.stack_meaning.specs.May.{MayRead, MayFault}
 use Rattle.stack_meaning.specs.Leaves.{images_of, AllSteady, AreRead}
-use Rattle.stack_meaning.specs.Places.{Place, run_expected}
+use Rattle.stack_meaning.specs.Places.{Place, place_of, run_expected}
 use Rattle.stack_meaning.specs.Reading.{Ends, Answers, Gets}
 use Rattle.stack_lines.specs.Walks.{HasVerity}
 use Rattle.stack_engine.specs.Stacks.{StackRecord}
@@ -57,3 +57,8 @@ pub record FindsBytes (place : Place) (c : Configuration) (first n : ℕ) (old n
   pub got : Gets (run_expected place chains first n) old new answer
   pub used : AreUsed (λ s. (place.said s).entries) first n chains
   pub kept : AllKept c new chains
+
+-- A read of n sectors of a leaf or device, from the first on, whose chains were dropped.
+pub record GetsBytes (c : Configuration) (lower : Lower) (first n : ℕ) (old new : List Device) (answer : Result (List ℕ) IoFault) : Type 0 where
+  pub chains : List FoundRecord
+  pub got : Gets (run_expected (place_of c lower) chains first n) old new answer

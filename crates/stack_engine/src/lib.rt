@@ -9,6 +9,7 @@ pub mod laws;
 mod path;
 mod read;
 mod reader;
+mod rows;
 mod stack;
 mod sync;
 mod write;

@@ -1,10 +1,10 @@
 //! Reads through the lines of a stack, down to its leaves.
-ghost use Rattle.std.specs.Prelude.{◌≡◌, ◌≤◌, ◌<◌, ◌*◌, ◌/◌, List, length, map, take, get_or, All, OnOk, IfOk, IfErr, Err};
+ghost use Rattle.std.specs.Prelude.{◌≡◌, ◌≤◌, ◌<◌, ◌+◌, ◌*◌, ◌/◌, ◌%◌, List, length, map, take, get_or, All, OnOk, IfOk, IfErr, Err};
 ghost use Rattle.tree_shape.specs.Shape.{levels};
 ghost use Rattle.stack_rules.specs.Trees.{tree_of};
 ghost use Rattle.stack_meaning.specs.Blocks.{hash_sectors, hash_start};
 ghost use Rattle.stack_meaning.specs.Leaves.{AreRead};
-ghost use Rattle.stack_rules.specs.Names.{mapped};
+ghost use Rattle.stack_rules.specs.Names.{mapped, size};
 ghost use Rattle.stack_lines.specs.declared.source.Source.TheVariants.{Below};
 ghost use Rattle.stack_meaning.specs.Found.{FoundRecord};
 ghost use Rattle.stack_meaning.specs.Places.{place_of, run_expected};
@@ -15,6 +15,7 @@ ghost use Rattle.stack_lines.specs.Extents.{LiesInside};
 ghost use Rattle.stack_lines.specs.Walks.{HasDataBlock, block_in, checked_expected, data_expected, GetsChain, IsWalked};
 ghost use Rattle.stack_lines.specs.Caches.{IsCached, KeepsCache, IsPlaceOf};
 ghost use Rattle.verified_cache.specs.Cache.{CachedBlock};
+ghost use Rattle.stack_engine.specs.Bytes.{GetsBytes};
 ghost use Rattle.stack_engine.specs.Stacks.{IsSound, IsStack};
 ghost use Rattle.stack_engine.specs.Premises.{FitsIn, CanRead};
 ghost use Rattle.stack_engine.specs.Keeping.{ReadsBlocks};
@@ -22,6 +23,7 @@ ghost use Rattle.stack_engine.specs.Keeping.{ReadsBlocks};
 use crate::buffer::{fill_zeros, zero_block, zero_sectors};
 use crate::path::{Chains, PathBlock, WantedBlock, put, stands};
 use crate::reader::Reader;
+use crate::rows::{NextBlock, read_as_far, row_len, settle};
 use block_device::BlockDev;
 use dm_table::Verity;
 use hash_tree::{Chain, digest_blocks};
@@ -214,8 +216,8 @@ fn read_block<D: BlockDev>(
     }
 }
 
-/// Whole data blocks of a verity line, of their chains, which are found here and kept or dropped. The way to the first
-/// is read before them; the blocks are read at once, and each is checked once the way to it was read.
+/// Whole data blocks of a verity line, of their chains, which are found here and kept or dropped. Each is checked once the
+/// way to it was read. It is read with those behind it, as far as the line ignores none, unless that was done.
 #[cycle(read)]
 pub(crate) fn read_blocks<D: BlockDev>(
     config: &Config,
@@ -236,41 +238,72 @@ pub(crate) fn read_blocks<D: BlockDev>(
     let tree = tree_at(config, part.device, part.line, verity);
     let levels = tree.shape.levels() as usize;
     let size = verity.data_block as usize;
-    let mut index = part.first / u64::from(verity.data_block / 512);
-    let mut path = Vec::new(reader.alloc);
-    let mut expected = match walk_path(config, reader, verity, &tree, index, &mut path) {
-        Err(fault) => return Err(fault),
-        Ok(expected) => expected,
-    };
-    let mut beneath = Vec::new(reader.alloc);
-    match read_lower(config, reader, tree.data, part.first, out, &mut beneath) {
-        Err(fault) => return Err(fault),
-        Ok(()) => {}
-    }
+    let first = part.first / u64::from(verity.data_block / 512);
+    let count = out.len() / size;
     let mut room = [Digest::new([0; Digest::SIZE]); 128];
-    let got = &mut room[..out.len() / size];
-    digest_blocks(&verity.salt, size, out, got);
+    let made = room.as_mut_slice();
+    let mut path = Vec::new(reader.alloc);
+    let mut read = 0;
     let mut at = 0;
-    'checks: loop {
-        if got[at] != expected {
-            return Err(IoFault::Stack(Fault::Mismatch));
-        }
+    'checks: while at < count {
+        let index = first + at as u64;
+        let expected = match walk_path(config, reader, verity, &tree, index, &mut path) {
+            Err(first) => return Err(first),
+            Ok(expected) => expected,
+        };
         let way = &path.as_slice()[..levels];
-        let content = &out[at * size..(at + 1) * size];
-        match chains.keep(part, index, way, content, found) {
-            Err(_) => return Err(IoFault::NoMemory),
+        let ignored = is_ignored(config, verity, &tree, &expected);
+        let next = NextBlock {
+            block: index,
+            at,
+            read,
+            count,
+            ignored,
+        };
+        let many = row_len(config, verity, &tree, way, next);
+        let from = at * size;
+        let extent = data_extent(config, verity, &tree, index);
+        let row = &mut out[from..from + many * size];
+        match read_beneath(config, reader, tree.data, extent.first, row) {
+            Err(met) => return Err(met),
             Ok(()) => {}
         }
-        at += 1;
-        if at == got.len() {
-            return Ok(());
+        let row = &out[from..from + many * size];
+        digest_blocks(&verity.salt, size, row, &mut made[at..at + many]);
+        read = read_as_far(next, many);
+        let digest = &made[at];
+        if !settle(ignored, digest, &expected, &mut out[from..from + size]) {
+            return Err(IoFault::Stack(Fault::Mismatch));
         }
-        index += 1;
-        match walk_path(config, reader, verity, &tree, index, &mut path) {
-            Err(first) => return Err(first),
-            Ok(next) => expected = next,
+        match chains.keep(part, index, way, &out[from..from + size], found) {
+            Err(_) => return Err(IoFault::NoMemory),
+            Ok(()) => at += 1,
         }
     }
+    Ok(())
+}
+
+/// The sectors of a leaf or a mapped device, of which there may be none. Chains of lines beneath are dropped.
+#[cycle(read)]
+fn read_beneath<D: BlockDev>(
+    config: &Config,
+    reader: &mut Reader<D>,
+    lower: Lower,
+    first: u64,
+    out: &mut [u8],
+) -> Result<(), IoFault>
+    requires stack { IsStack config.now (map D.state reader.old.devices.items) reader.old.cache }
+    requires whole { length out.old % 512 ≡ 0 }
+    requires inside { first + length out.old / 512 ≤ size config.now lower }
+    ensures reads { GetsBytes config.now lower first (length out.old / 512)
+        (map D.state reader.old.devices.items) (map D.state reader.new.devices.items) (buffer_answer result out.new) }
+    ensures cached { KeepsCache config.now (map D.state reader.new.devices.items) reader.old.cache reader.new.cache }
+{
+    if out.is_empty() {
+        return Ok(());
+    }
+    let mut beneath = Vec::new(reader.alloc);
+    read_lower(config, reader, lower, first, out, &mut beneath)
 }
 
 /// The chain of a data block, from the root down to the first block that has another digest.

@@ -1,5 +1,5 @@
 -- Data blocks of a verity line that can be read at once.
-use Rattle.std.specs.Prelude.{◌≡◌, ℕ, ◌/◌, ◌<◌, ◌≤◌, false, List, All}
+use Rattle.std.specs.Prelude.{◌≡◌, ℕ, ◌/◌, ◌<◌, ◌≤◌, List, All}
 use Rattle.dm_table.specs.declared.verity.Verity.{Verity}
 use Rattle.stack_rules.specs.Records.{Configuration}
 use Rattle.stack_rules.specs.Trees.{block_sectors}
@@ -20,13 +20,12 @@ MeetNone said first n = (fault : Fault) → SomeOf (λ s. (said s).meets fault) 
 abbrev pub AreBefore : ℕ → ℕ → ℕ → List FoundRecord → Type 0
 AreBefore d l i found = All (λ x. x.device ≡ d → x.line ≡ l → x.chain.index < i) found
 
--- n sectors of a verity line, which are whole data blocks: the line ignores none of them, no fault is met beneath them,
--- and no chain of them or of later ones was found
+-- n sectors of a verity line, which are whole data blocks: no fault is met beneath them, and no chain of them or of later
+-- ones was found
 pub record GoAtOnce (c : Configuration) (b : BlockPart) (n : ℕ) (found : List FoundRecord) : Type 0 where
   pub verity : Verity
   pub line : HasVerity c b.device.0 b.line verity
   pub few : n ≤ 128
-  pub taken : verity.ignore_zero_blocks ≡ false
   pub clear : MeetNone (said_by_name c verity.data) b.first n
   pub before : AreBefore b.device.0 b.line (b.first / block_sectors verity) found
 

@@ -41,9 +41,6 @@ fn go_at_once(config: &Config, part: BlockPart, count: u64, found: &[Found]) -> 
         return false;
     }
     let verity = verity_at(config, part.device, part.line);
-    if verity.ignore_zero_blocks {
-        return false;
-    }
     let sectors = u64::from(verity.data_block / 512);
     if !are_before(found, part.device.0, part.line, part.first / sectors) {
         return false;

@@ -1,3 +1,4 @@
+pub mod lemmas
 mod AlikeLemmas
 mod CopyLemmas
 mod LongestLemmas

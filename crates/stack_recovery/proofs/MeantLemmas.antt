@@ -16,6 +16,7 @@ use Rattle.stack_meaning.proofs.lemmas.LeafListLemmas.{AllSteady-kept, images-ke
 use Rattle.stack_recovery.specs.Alike.{AreAlike}
 use Rattle.stack_recovery.specs.Laws.{AreSure, StatesAreMeant, meant_state, meant_states}
 use Rattle.stack_recovery.specs.Surveys.{Finding, IsPieceRead, State, again, all_states, had, lost, states_found, states_of}
+use Rattle.stack_recovery.proofs.lemmas.LostLemmas.{span-fault}
 
 -- ---- sectors of a span
 
@@ -53,26 +54,6 @@ meant-bytes at first zero bytes e = refl
 meant-bytes at first (suc n) bytes e =
     let rest = joint-rest (at first) (span at (suc first) n) bytes e in
     ap (λ (x : State). x ∷ meant_states at (suc first) n) (joint-first (at first) (span at (suc first) n) bytes e) ∙ ap (λ (l : List State). None ∷ l) (meant-bytes at (suc first) n rest.0 rest.1)
-
--- the sector by which a span has its fault
-span-fault : (at : ℕ → Outcome) (first n : ℕ) (fault : Fault) → span at first n ≡ Err fault → (j : ℕ) × (j < n) × (at (first + j) ≡ Err fault)
-span-fault at first zero fault e = let clash : Ok [] ≡ Err fault = e in cc
-span-fault at first (suc n) fault e = go (at first) refl (span-fault at (suc first) n fault)
-  where
-    go : (x : Outcome) → at first ≡ x → (span at (suc first) n ≡ Err fault → (j : ℕ) × (j < n) × (at (suc first + j) ≡ Err fault)) → (j : ℕ) × (j < suc n) × (at (first + j) ≡ Err fault)
-    go (Err f) is deeper =
-        let same : Err f ≡ Err fault = sym (ap (λ (y : Outcome). joint_outcome y (span at (suc first) n)) is) ∙ e in
-        let here : first + 0 ≡ first = omega arith in
-        (0, omega arith, ap at here ∙ is ∙ same)
-    go (Ok bytes) is deeper = later (span at (suc first) n) refl
-      where
-        later : (y : Outcome) → span at (suc first) n ≡ y → (j : ℕ) × (j < suc n) × (at (first + j) ≡ Err fault)
-        later (Ok more) rest = let clash : Ok (bytes ++ more) ≡ Err fault = sym (ap (λ (z : Outcome). joint_outcome z (span at (suc first) n)) is ∙ ap (joint_outcome (Ok bytes)) rest) ∙ e in cc
-        later (Err f) rest =
-            let same : Err f ≡ Err fault = sym (ap (λ (z : Outcome). joint_outcome z (span at (suc first) n)) is ∙ ap (joint_outcome (Ok bytes)) rest) ∙ e in
-            let found = deeper (rest ∙ same) in
-            let step : first + suc found.0 ≡ suc first + found.0 = omega arith in
-            (suc found.0, omega (arith, found.1), ap at step ∙ found.2)
 
 -- sectors that are lost together, by the fault of one
 meant-fault : (c : Configuration) (images : Images) (d first n : ℕ) (fault : Fault) → AreAlike c d first n → span (sector c images (mapped d)) first n ≡ Err fault

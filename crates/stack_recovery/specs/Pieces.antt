@@ -2,7 +2,6 @@
 use Rattle.std.specs.Prelude.{◌≡◌, ℕ, ◌+◌, ◌%◌, ◌≤◌, false, IsTrue}
 use Rattle.dm_table.specs.declared.table.Target.{Target}
 use Rattle.dm_table.specs.declared.table.Target.TheVariants.{Error, Verity}
-use Rattle.stack_rules.specs.Names.{mapped, size}
 use Rattle.stack_rules.specs.Records.{Configuration}
 use Rattle.stack_rules.specs.Trees.{block_sectors}
 use Rattle.stack_recovery.specs.declared.piece.Piece.{Piece}
@@ -14,11 +13,11 @@ AreLostTogether Error w n = Unit {0}
 AreLostTogether (Verity v) w n = w % block_sectors v + n ≤ block_sectors v
 AreLostTogether target w n = n ≤ 1
 
--- A piece of device d from sector first on, of sectors that are lost together, or of at most so many.
-pub record IsPiece (c : Configuration) (d first most : ℕ) (piece : Piece) : Type 0 where
+-- A piece of device d from sector first on and before the end, of sectors that are lost together, or of at most so many.
+pub record IsPiece (c : Configuration) (d first end most : ℕ) (piece : Piece) : Type 0 where
   pub some : 1 ≤ piece.count
   pub few : piece.count ≤ 128
-  pub inside : first + piece.count ≤ size c (mapped d)
+  pub inside : first + piece.count ≤ end
   pub alike : IsTrue piece.alike → AreAlike c d first piece.count
   pub apart : piece.alike ≡ false → (2 ≤ piece.count) × (piece.count ≤ most)
 

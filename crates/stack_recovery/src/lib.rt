@@ -12,5 +12,7 @@ mod tally;
 
 pub use discard::Discard;
 pub use fault::RecoveryFault;
-pub use lost_run::LostRun;
+pub use lost_run::{LostRun, is_same};
+pub use pace::Pace;
+pub use piece::{Piece, piece_at};
 pub use recovery::{Counts, recover};

@@ -18,7 +18,7 @@ pub struct LostRun {
 }
 
 /// Whether both are one fault, of a device also of one leaf.
-pub(crate) fn is_same(a: IoFault, b: IoFault) -> bool
+pub fn is_same(a: IoFault, b: IoFault) -> bool
     ensures { result ≡ is_same a b }
 {
     match (a, b) {

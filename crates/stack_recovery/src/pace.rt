@@ -7,14 +7,14 @@ const MOST_PIECE: u32 = 128;
 /// How many sectors the next piece has at most, and where the last piece ended that was lost in part: up to there
 /// pieces get shorter, behind it longer.
 #[derive(Clone, Copy)]
-pub(crate) struct Pace {
-    pub(crate) most: u32,
+pub struct Pace {
+    pub most: u32,
     doubt: u64,
 }
 
 impl Pace {
     /// As in front of sectors of which nothing is known.
-    pub(crate) fn new() -> Pace
+    pub fn new() -> Pace
         ensures { IsPace result.most }
     {
         Pace {
@@ -24,7 +24,7 @@ impl Pace {
     }
 
     /// Behind a piece of so many sectors that was had, at sector `at`.
-    pub(crate) fn after_bytes(self, count: u32, at: u64) -> Pace
+    pub fn after_bytes(self, count: u32, at: u64) -> Pace
         requires { IsPace count }
         ensures { IsPace result.most }
     {
@@ -40,14 +40,14 @@ impl Pace {
     }
 
     /// Behind sectors that are lost.
-    pub(crate) fn after_loss() -> Pace
+    pub fn after_loss() -> Pace
         ensures { IsPace result.most }
     {
         Pace { most: 1, doubt: 0 }
     }
 
     /// Where a piece of so many sectors, which ends before sector `end`, is lost in part.
-    pub(crate) fn after_failure(count: u32, end: u64) -> Pace
+    pub fn after_failure(count: u32, end: u64) -> Pace
         requires some { 2 ≤ count }
         requires few { count ≤ 128 }
         ensures pace { IsPace result.most }

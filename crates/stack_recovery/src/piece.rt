@@ -11,9 +11,9 @@ const MOST_PIECE: u64 = 128;
 
 /// So many sectors, and whether they are lost together where they are lost.
 #[derive(Clone, Copy)]
-pub(crate) struct Piece {
-    pub(crate) count: u32,
-    pub(crate) alike: bool,
+pub struct Piece {
+    pub count: u32,
+    pub alike: bool,
 }
 
 /// How many sectors are lost together from one on, and in a part behind them.
@@ -46,13 +46,14 @@ fn unit_of(target: &Target, within: u64) -> Unit
     }
 }
 
-/// The piece from sector `first` on, of at most so many sectors where they aren't lost together. It stays in one line,
-/// and ends where such a part ends.
-pub(crate) fn piece_at(config: &Config, d: DevId, first: u64, most: u32) -> Piece
+/// The piece from sector `first` on and before sector `end`, of at most so many sectors where they aren't lost together.
+/// It stays in one line, and ends where such a part ends.
+pub fn piece_at(config: &Config, d: DevId, first: u64, end: u64, most: u32) -> Piece
     requires device { d.0 < length config.now.devices }
-    requires inside { first < size config.now (mapped d.0) }
+    requires some { first < end }
+    requires inside { end ≤ size config.now (mapped d.0) }
     requires most { IsPace most }
-    ensures { IsPiece config.now d.0 first most result }
+    ensures { IsPiece config.now d.0 first end most result }
 {
     // What holds of every loaded configuration is learned from a call.
     let _loaded = config.count();
@@ -62,7 +63,7 @@ pub(crate) fn piece_at(config: &Config, d: DevId, first: u64, most: u32) -> Piec
     let Unit { rest, whole } = unit_of(&line.target, first - line.start);
     let wanted = u64::from(most);
     let behind = wanted.saturating_sub(rest) / whole * whole;
-    let room = left.min(config.sectors(d) - first).min(MOST_PIECE);
+    let room = left.min(end - first).min(MOST_PIECE);
     let count = (rest + behind).min(room);
     Piece {
         count: count as u32,

@@ -63,7 +63,7 @@ fn recover_by<D: BlockDev, O: BlockDev, W: Write>(
     let mut pace = Pace::new();
     let mut at = 0;
     'pieces: while at < sectors {
-        let piece = piece_at(stack.config(), d, at, pace.most);
+        let piece = piece_at(stack.config(), d, at, sectors, pace.most);
         let count = u64::from(piece.count);
         let bytes = &mut room[..piece.count as usize * 512];
         match stack.read_bytes(d, at, bytes) {

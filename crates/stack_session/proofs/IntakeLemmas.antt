@@ -1,15 +1,18 @@
 -- What a session has taken from its reader.
-use Rattle.std.proofs.Common.{◌≡◌, ℕ, ◌+◌, ◌<◌, ◌≤◌, List, [], ◌++◌, length, take, refl, ap, sym, ◌∙◌, append_assoc, append-nil, arith, subst, length-append}
-use Rattle.std.specs.Prelude.{Some, None, Option, IfSome}
+use Rattle.std.proofs.Common.{◌≡◌, ℕ, ◌+◌, ◌<◌, ◌≤◌, List, [], ◌++◌, length, take, refl, sym, ◌∙◌, append-nil, arith, subst, length-append, Option}
+use Rattle.std.specs.Prelude.{Result, Ok, Err, IsErrOf}
 use Rattle.std.specs.Io.KnownBytes.{Consumes, Keeps, IsAtEnd}
 use Rattle.std.proofs.KnownBytes.{Consumes-nil, Consumes-trans, Consumes-kept}
-use Rattle.counted_io.specs.Counted.{Grows}
-use Rattle.stack_session.specs.Session.{Replying, ServesWhole, ServesAll, WritesWhole}
+use Rattle.counted_io.specs.Counted.{CountedRecord, Grows}
+use Rattle.stack_session.specs.declared.fault.SessionFault.{SessionFault}
+use Rattle.stack_session.specs.declared.fault.SessionFault.TheVariants.{WriteFault, NoMemory}
+use Rattle.stack_session.specs.Session.{Replying, IsOneLine, IsSession, IsStopped, ServesFront, ServesWhole, Taking, WritesAll, WritesReply, WritesWhole}
 use Rattle.counted_io.specs.Streams.{Streams}
+use Rattle.stack_session.proofs.FrontLemmas.{front-one, front-then, front-whole, grows-then}
 use Rattle.stack_session.proofs.SessionLemmas.{serves_nothing, serves_more, serves_end}
 use Rattle.counted_io.proofs.lemmas.CountedLemmas.{Grows-kept}
 use Rattle.std.proofs.lemmas.List.Elements.{All-nil}
-use Rattle.std.proofs.lemmas.List.{take-append-le}
+use Rattle.std.proofs.lemmas.List.{take_all}
 use Rattle.std.proofs.Math.Seq.{take-append-add}
 
 -- what was taken was served, and left bytes may still come
@@ -48,53 +51,102 @@ intake_kept {old = old} {mid = mid} new r input output = record {
   whole = Grows-kept new.output r.whole output;
 }
 
--- at its end the reader gave all that it had
-all_taken : (a b c : Option (List ℕ)) (bs : List ℕ) → Consumes a b bs → Consumes b c [] → IsAtEnd c → IfSome a (λ xs. xs ≡ bs)
-all_taken None b c bs p q e = tt
-all_taken (Some x) None c bs p q e = absurd p
-all_taken (Some x) (Some y) None bs p q e = absurd q
-all_taken (Some x) (Some y) (Some z) bs p q e = p ∙ ap (λ t. bs ++ t) (q ∙ e) ∙ append-nil bs
+-- what was taken isn't past the limit
+within : {old mid : Streams} {left : ℕ} {Served : List ℕ → List ℕ → Type 0} (r : Intake old mid left Served) → take 16777216 r.taken ≡ r.taken
+within r = take_all 16777216 r.taken (omega (arith, r.counted))
 
-pub if_some_map : (a : Option (List ℕ)) (P Q : List ℕ → Type 0) → ((x : List ℕ) → P x → Q x) → IfSome a P → IfSome a Q
-if_some_map None P Q f p = tt
-if_some_map (Some x) P Q f p = f x p
+-- nothing more came
+none-more : (a b c : Option (List ℕ)) (bs : List ℕ) → Consumes a b bs → Consumes b c [] → Consumes a c bs
+none-more a b c bs p q = subst (λ l. Consumes a c l) (append-nil bs) (Consumes-trans a b c bs [] p q)
 
 -- the input's end, and the reply to the line that it ends
 pub intake_ends : {S : Type 0} {replies : Replying S} {first now : S} {left : ℕ} {rest : List ℕ} {old mid : Streams} (new : Streams) (last : S)
     → Intake old mid left (λ taken. ServesWhole replies first taken now rest) → Consumes mid.input new.input [] → IsAtEnd new.input
-    → Grows mid.output new.output (λ reply. replies now rest reply last)
-    → IfSome old.input (λ input. (length input ≤ 16777216) × Grows old.output new.output (ServesAll replies first input last))
-intake_ends {replies = replies} {first = first} {old = old} {mid = mid} new last r c e w =
-    if_some_map old.input (λ input. input ≡ r.taken) (λ input. (length input ≤ 16777216) × Grows old.output new.output (ServesAll replies first input last))
-    (λ input same.
-    let all : (length r.taken ≤ 16777216) × Grows old.output new.output (ServesAll replies first r.taken last) =
-    (omega (arith, r.counted), serves_end last new.output r.whole w) in
-    subst (λ t. (length t ≤ 16777216) × Grows old.output new.output (ServesAll replies first t last)) (sym same) all)
-    (all_taken old.input mid.input new.input r.taken r.consumed c e)
+    → Grows mid.output new.output (λ reply. replies now rest reply last) → Taking old new (WritesAll replies first last old new)
+intake_ends {old = old} {mid = mid} new last r c e w = record {
+  taken = r.taken;
+  consumed = none-more old.input mid.input new.input r.taken r.consumed c;
+  holds = record { small = omega (arith, r.counted); at_end = e; written = serves_end last new.output r.whole w };
+}
 
--- what was taken stands at the front
-front_taken : (a b : Option (List ℕ)) (bs : List ℕ) → Consumes a b bs → IfSome a (λ xs. (ys : List ℕ) × (xs ≡ bs ++ ys))
-front_taken None b bs p = tt
-front_taken (Some x) None bs p = absurd p
-front_taken (Some x) (Some y) bs p = (y, p)
+-- what is taken with a piece, up to the limit
+front-of : {S : Type 0} {replies : Replying S} {first now : S} {left : ℕ} {rest : List ℕ} {old mid : Streams} (piece : List ℕ)
+    → (r : Intake old mid left (λ taken. ServesWhole replies first taken now rest)) → take 16777216 (r.taken ++ piece) ≡ r.taken ++ take left piece
+front-of {left = left} piece r = subst (λ n. take n (r.taken ++ piece) ≡ r.taken ++ take left piece) r.counted (take-append-add r.taken piece left)
 
 -- a piece that goes past the limit
 pub intake_too_long : {S : Type 0} {replies : Replying S} {first now : S} {left : ℕ} {rest : List ℕ} {old mid : Streams} (new : Streams) (last : S) (tail piece : List ℕ)
     → Intake old mid left (λ taken. ServesWhole replies first taken now rest) → Consumes mid.input new.input piece → left < length piece
     → Grows mid.output new.output (ServesWhole replies now (rest ++ take left piece) last tail)
-    → IfSome old.input (λ input. (16777216 < length input) × WritesWhole replies first (take 16777216 input) last old new)
-intake_too_long {replies = replies} {first = first} {left = left} {old = old} {mid = mid} new last tail piece r c more w =
-    if_some_map old.input (λ input. (ys : List ℕ) × (input ≡ (r.taken ++ piece) ++ ys)) (λ input. (16777216 < length input) × WritesWhole replies first (take 16777216 input) last old new)
-    (λ input seen.
-    let ys : List ℕ = seen.0 in
-    let long : 16777216 < length ((r.taken ++ piece) ++ ys) = omega (arith, length-append (r.taken ++ piece) ys, length-append r.taken piece, r.counted) in
-    let cut : take 16777216 ((r.taken ++ piece) ++ ys) ≡ r.taken ++ take left piece =
-    let e : length r.taken + left ≡ 16777216 = r.counted in
-    let le : left ≤ length piece = omega arith in
-    ap (λ t. take 16777216 t) (append_assoc r.taken piece ys)
-    ∙ subst (λ n. take n (r.taken ++ (piece ++ ys)) ≡ r.taken ++ take left (piece ++ ys)) e (take-append-add r.taken (piece ++ ys) left)
-    ∙ ap (λ t. r.taken ++ t) (take-append-le left piece ys le) in
-    let all : (16777216 < length ((r.taken ++ piece) ++ ys)) × WritesWhole replies first (take 16777216 ((r.taken ++ piece) ++ ys)) last old new =
-    (long, (tail, subst (λ t. Grows old.output new.output (ServesWhole replies first t last tail)) (sym cut) (serves_more (take left piece) r.whole w))) in
-    subst (λ t. (16777216 < length t) × WritesWhole replies first (take 16777216 t) last old new) (sym seen.1) all)
-    (front_taken old.input new.input (r.taken ++ piece) (Consumes-trans old.input mid.input new.input r.taken piece r.consumed c))
+    → Taking old new (λ taken. (16777216 < length taken) × WritesWhole replies first (take 16777216 taken) last old new)
+intake_too_long {replies = replies} {first = first} {left = left} {old = old} {mid = mid} new last tail piece r c more w = record {
+  taken = r.taken ++ piece;
+  consumed = Consumes-trans old.input mid.input new.input r.taken piece r.consumed c;
+  holds = (
+    omega (arith, length-append r.taken piece, r.counted),
+    (tail, subst (λ t. Grows old.output new.output (ServesWhole replies first t last tail)) (sym (front-of piece r)) (serves_more (take left piece) r.whole w)),
+  );
+}
+
+-- the reader failed, or was called too often
+pub intake_fails : {S : Type 0} {replies : Replying S} {first now : S} {left : ℕ} {rest : List ℕ} {old new : Streams}
+    → Intake old new left (λ taken. ServesWhole replies first taken now rest) → Taking old new (λ taken. (length taken ≤ 16777216) × WritesWhole replies first taken now old new)
+intake_fails {rest = rest} r = record { taken = r.taken; consumed = r.consumed; holds = (omega (arith, r.counted), (rest, r.whole)) }
+
+-- ---- the writer failed, or memory ran out
+
+-- the front that was served, whatever was written
+abbrev pub Front : {S : Type 0} → Replying S → S → S → List ℕ → Type 0
+Front replies first last taken = (output : List ℕ) × ServesFront replies first (take 16777216 taken) last output
+
+-- the replies to whole lines can't be handed on
+pub intake_stuck : {S : Type 0} {replies : Replying S} {first now : S} {left : ℕ} {rest : List ℕ} {old mid : Streams} (new : Streams)
+    → Intake old mid left (λ taken. ServesWhole replies first taken now rest) → Consumes mid.input new.input [] → Taking old new (Front replies first now)
+intake_stuck {replies = replies} {first = first} {now = now} {old = old} {mid = mid} new r c = record {
+  taken = r.taken;
+  consumed = none-more old.input mid.input new.input r.taken r.consumed c;
+  holds = (r.whole.text, subst (λ t. ServesFront replies first t now r.whole.text) (sym (within r)) (front-whole r.whole.holds));
+}
+
+-- the reply to the last line can't be written
+pub intake_unwritten : {S : Type 0} {replies : Replying S} {first now : S} {left : ℕ} {rest : List ℕ} {old mid : Streams} (new : Streams) (last : S) (reply : List ℕ)
+    → Intake old mid left (λ taken. ServesWhole replies first taken now rest) → Consumes mid.input new.input [] → replies now rest reply last → Taking old new (Front replies first last)
+intake_unwritten {replies = replies} {first = first} {now = now} {rest = rest} {old = old} {mid = mid} new last reply r c is =
+    let one = front-one replies now last (rest ++ []) reply (subst IsOneLine (sym (append-nil rest)) r.whole.holds.cut.open_end) (subst (λ l. replies now l reply last) (sym (append-nil rest)) is) in
+    let front = front-then [] r.whole.holds one in
+    record {
+      taken = r.taken;
+      consumed = none-more old.input mid.input new.input r.taken r.consumed c;
+      holds = (r.whole.text ++ reply, subst (λ t. ServesFront replies first t last (r.whole.text ++ reply)) (append-nil r.taken ∙ sym (within r)) front);
+    }
+
+-- the writer failed in a piece
+pub intake_write_fault : {S T : Type 0} {replies : Replying S} {first now : S} {left : ℕ} {rest : List ℕ} {old mid : Streams} {result : Result T SessionFault} (new : Streams) (last : S) (piece : List ℕ)
+    → Intake old mid left (λ taken. ServesWhole replies first taken now rest) → Consumes mid.input new.input piece
+    → IsStopped mid.output new.output (ServesFront replies now (rest ++ take left piece) last) result → IsErrOf result WriteFault → Taking old new (Front replies first last)
+intake_write_fault {replies = replies} {first = first} {left = left} {old = old} {mid = mid} new last piece r c s is =
+    let p = s.write_fault is in
+    record {
+      taken = r.taken ++ piece;
+      consumed = Consumes-trans old.input mid.input new.input r.taken piece r.consumed c;
+      holds = (r.whole.text ++ p.0, subst (λ t. ServesFront replies first t last (r.whole.text ++ p.0)) (sym (front-of piece r)) (front-then (take left piece) r.whole.holds p.1));
+    }
+
+-- memory ran out there
+pub intake_no_memory : {S T : Type 0} {replies : Replying S} {first now : S} {left : ℕ} {rest : List ℕ} {old mid : Streams} {result : Result T SessionFault} (new : Streams) (last : S) (piece : List ℕ)
+    → Intake old mid left (λ taken. ServesWhole replies first taken now rest) → Consumes mid.input new.input piece
+    → IsStopped mid.output new.output (ServesFront replies now (rest ++ take left piece) last) result → IsErrOf result NoMemory
+    → Taking old new (λ taken. Grows old.output new.output (ServesFront replies first (take 16777216 taken) last))
+intake_no_memory {replies = replies} {first = first} {left = left} {old = old} {mid = mid} new last piece r c s is = record {
+  taken = r.taken ++ piece;
+  consumed = Consumes-trans old.input mid.input new.input r.taken piece r.consumed c;
+  holds = subst (λ t. Grows old.output new.output (ServesFront replies first t last)) (sym (front-of piece r)) (grows-then (take left piece) r.whole (s.no_memory is));
+}
+
+-- the session that this ends
+pub session-stuck : {S : Type 0} {replies : Replying S} {first last : S} {old new : Streams} → Taking old new (Front replies first last) → IsSession replies first last old new (Err WriteFault)
+session-stuck t = record { ok = tt; too_long = λ is. (cc); read_fault = λ is. (cc); write_fault = λ is. t; no_memory = λ is. (cc) }
+
+-- a reply that was written
+pub reply-grows : {W : Type 0} {contents : W → Option (List ℕ)} {old new : CountedRecord W} {P : List ℕ → Type 0} {done : Unit} → WritesReply contents old new P (Ok done) → Grows (contents old.inner) (contents new.inner) P
+reply-grows w = record { text = w.reply; holds = w.holds; written = w.writes.ok }

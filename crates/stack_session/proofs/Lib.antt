@@ -2,6 +2,7 @@ pub mod lemmas
 pub mod IntakeLemmas
 pub mod CommandLemmas
 pub mod FilledLemmas
+pub mod FrontLemmas
 pub mod ReplyLemmas
 pub mod ReplyingLemmas
 pub mod SectorTextLemmas

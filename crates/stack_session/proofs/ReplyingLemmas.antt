@@ -1,11 +1,10 @@
 -- Lines that are replied to in another way.
-use Rattle.std.proofs.Common.{◌<◌, ◌≤◌, length, take, ℕ, List, [], ◌∷◌, ◌++◌, Result, Ok, Err, Option}
-use Rattle.std.specs.Prelude.{IfSome, OnOk}
+use Rattle.std.proofs.Common.{take, ℕ, List, [], ◌∷◌, ◌++◌, Result, Ok, Err, Option}
+use Rattle.std.specs.Prelude.{OnOk}
 use Rattle.stack_session.specs.declared.fault.SessionFault.{SessionFault}
 use Rattle.counted_io.specs.Counted.{Grows}
-use Rattle.stack_session.specs.Session.{Replying, ServesLines, ServesWhole, ServesAll, WritesWhole, IsSession}
+use Rattle.stack_session.specs.Session.{Replying, ServesLines, ServesWhole, ServesAll, ServesFront, Taking, WritesAll, WritesWhole, IsSession}
 use Rattle.counted_io.specs.Streams.{Streams}
-use Rattle.stack_session.proofs.IntakeLemmas.{if_some_map}
 
 -- each reply of one way is one of the other, and a fact about the states goes on
 abbrev pub Follows : {S : Type 0} → Replying S → Replying S → (S → Type 0) → Type 0
@@ -19,7 +18,7 @@ ServesLines-as r q P f a b (x ∷ xs) (y ∷ rs) p run =
     let step : q a x y run.0 × P run.0 = f a x y run.0 p run.1 in
     (run.0, step.0, ServesLines-as r q P f run.0 b xs rs step.1 run.2)
 
-pub ServesAll-as : {S : Type 0} (r q : Replying S) (P : S → Type 0) → Follows r q P
+ServesAll-as : {S : Type 0} (r q : Replying S) (P : S → Type 0) → Follows r q P
     → {a b : S} {input : List ℕ} {old new : Option (List ℕ)} → P a → Grows old new (ServesAll r a input b) → Grows old new (ServesAll q a input b)
 ServesAll-as r q P f {a} {b} p w = record {
   text = w.text;
@@ -34,7 +33,19 @@ ServesAll-as r q P f {a} {b} p w = record {
   written = w.written;
 }
 
-pub WritesWhole-as : {S : Type 0} (r q : Replying S) (P : S → Type 0) → Follows r q P
+ServesFront-as : {S : Type 0} (r q : Replying S) (P : S → Type 0) → Follows r q P
+    → (a : S) (input : List ℕ) (b : S) (output : List ℕ) → P a → ServesFront r a input b output → ServesFront q a input b output
+ServesFront-as r q P f a input b output p w = record {
+  lines = w.lines;
+  texts = w.texts;
+  left = w.left;
+  cut = w.cut;
+  each = w.each;
+  run = ServesLines-as r q P f a b w.lines w.texts p w.run;
+  joined = w.joined;
+}
+
+WritesWhole-as : {S : Type 0} (r q : Replying S) (P : S → Type 0) → Follows r q P
     → (a : S) (input : List ℕ) (b : S) (old new : Streams) → P a → WritesWhole r a input b old new → WritesWhole q a input b old new
 WritesWhole-as r q P f a input b old new p w =
     let grows : Grows old.output new.output (ServesWhole q a input b w.0) = record {
@@ -50,13 +61,16 @@ WritesWhole-as r q P f a input b old new p w =
     } in
     (w.0, grows)
 
+taking-as : {old new : Streams} {P Q : List ℕ → Type 0} → ((taken : List ℕ) → P taken → Q taken) → Taking old new P → Taking old new Q
+taking-as f t = record { taken = t.taken; consumed = t.consumed; holds = f t.taken t.holds }
+
 ok-as : {S : Type 0} (r q : Replying S) (P : S → Type 0) → Follows r q P
     → (first last : S) (old new : Streams) (result : Result Unit SessionFault) → P first
-    → OnOk result (IfSome old.input (λ bytes. (length bytes ≤ 16777216) × Grows old.output new.output (ServesAll r first bytes last)))
-    → OnOk result (IfSome old.input (λ bytes. (length bytes ≤ 16777216) × Grows old.output new.output (ServesAll q first bytes last)))
+    → OnOk result (Taking old new (WritesAll r first last old new)) → OnOk result (Taking old new (WritesAll q first last old new))
 ok-as r q P f first last old new (Ok done) p h =
-    if_some_map old.input (λ bytes. (length bytes ≤ 16777216) × Grows old.output new.output (ServesAll r first bytes last)) (λ bytes. (length bytes ≤ 16777216) × Grows old.output new.output (ServesAll q first bytes last))
-    (λ bytes k. (k.0, ServesAll-as r q P f p k.1)) h
+    let each : (taken : List ℕ) → WritesAll r first last old new taken → WritesAll q first last old new taken =
+    λ taken k. record { small = k.small; at_end = k.at_end; written = ServesAll-as r q P f p k.written } in
+    taking-as each h
 ok-as r q P f first last old new (Err fault) p h = tt
 
 -- a session whose replies hold in another way
@@ -65,7 +79,10 @@ pub IsSession-as : {S : Type 0} (r q : Replying S) (P : S → Type 0) → Follow
     → IsSession r first last old new result → IsSession q first last old new result
 IsSession-as r q P f first last old new result p s = record {
   ok = ok-as r q P f first last old new result p s.ok;
-  too_long = λ is. if_some_map old.input (λ bytes. (16777216 < length bytes) × WritesWhole r first (take 16777216 bytes) last old new) (λ bytes. (16777216 < length bytes) × WritesWhole q first (take 16777216 bytes) last old new)
-      (λ bytes k. (k.0, WritesWhole-as r q P f first (take 16777216 bytes) last old new p k.1)) (s.too_long is);
-  read_fault = λ is. let seen = s.read_fault is in (seen.0, seen.1, seen.2, WritesWhole-as r q P f first seen.0 last old new p seen.3);
+  too_long = λ is. taking-as (λ taken k. (k.0, WritesWhole-as r q P f first (take 16777216 taken) last old new p k.1)) (s.too_long is);
+  read_fault = λ is. taking-as (λ taken k. (k.0, WritesWhole-as r q P f first taken last old new p k.1)) (s.read_fault is);
+  write_fault = λ is. taking-as (λ taken k. (k.0, ServesFront-as r q P f first (take 16777216 taken) last k.0 p k.1)) (s.write_fault is);
+  no_memory = λ is. taking-as (λ taken k.
+      let grows : Grows old.output new.output (ServesFront q first (take 16777216 taken) last) =
+      record { text = k.text; holds = ServesFront-as r q P f first (take 16777216 taken) last k.text p k.holds; written = k.written } in grows) (s.no_memory is);
 }

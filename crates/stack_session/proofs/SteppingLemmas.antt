@@ -1,5 +1,5 @@
 -- Sessions over another relation of steps: whatever the leaves answer, over steady ones.
-use Rattle.std.proofs.Common.{◌++◌, ◌≡◌, ◌≤◌, length, ℕ, List, [], ◌∷◌, sym, subst, inl, inr, Result, Ok, Err}
+use Rattle.std.proofs.Common.{◌++◌, ◌≡◌, ℕ, List, [], ◌∷◌, refl, sym, subst, inl, inr, Result, Ok, Err}
 use Rattle.block_device.specs.Device.{Device}
 use Rattle.dm_table.specs.declared.stack.Entry.{Entry}
 use Rattle.dm_table.specs.declared.fault.TextFault.{TextFault}
@@ -10,14 +10,12 @@ use Rattle.request_queue.specs.Runs.{IsLed, Turn}
 use Rattle.request_queue.specs.World.{World, Event, Step}
 use Rattle.request_queue.proofs.lemmas.PremiseLemmas.{step-any, run-steady}
 use Rattle.stack_session.specs.declared.fault.SessionFault.{SessionFault}
-use Rattle.std.specs.Prelude.{IfSome, OnOk}
-use Rattle.counted_io.specs.Counted.{Grows}
-use Rattle.stack_session.specs.Session.{ServesAll, IsSession}
+use Rattle.stack_session.specs.declared.fault.SessionFault.TheVariants as fault
+use Rattle.stack_session.specs.Session.{IsSession}
 use Rattle.counted_io.specs.Streams.{Streams}
 use Rattle.stack_session.specs.QueueSessions.{IsQueueSession}
 use Rattle.stack_session.specs.Commands.{CommandRecord, nothing, load, run, submit, step, remove, cost, table, moved, usage, command_of}
 use Rattle.stack_session.specs.Replies.{Stepping, WholeStep, RepliesToText, RepliesTo, Replies}
-use Rattle.stack_session.proofs.IntakeLemmas.{if_some_map}
 use Rattle.stack_session.proofs.ReplyingLemmas.{IsSession-as}
 use Rattle.stack_session.proofs.lemmas.QueueRunLemmas.{lines-led}
 
@@ -69,11 +67,17 @@ yields_steady w e w' steady s =
 yields_each : Yields WholeStep (Step EachPart) (λ leaves. Unit {0})
 yields_each w e w' p s = (s.each, tt)
 
-session-led : (first last : World) (old new : Streams) (result : Result Unit SessionFault) → IsSession (Replies (Step EachPart)) first last old new result → OnOk result (IfSome old.input (λ bytes. IsLed EachPart first last))
-session-led first last old new (Err fault) s = tt
+session-led : (first last : World) (old new : Streams) (result : Result Unit SessionFault) → IsSession (Replies (Step EachPart)) first last old new result → IsLed EachPart first last
 session-led first last old new (Ok done) s =
-    if_some_map old.input (λ bytes. (length bytes ≤ 16777216) × Grows old.output new.output (ServesAll (Replies (Step EachPart)) first bytes last)) (λ bytes. IsLed EachPart first last)
-    (λ bytes k. lines-led EachPart first (k.1.holds.whole ++ k.1.holds.rest ∷ []) k.1.holds.texts last k.1.holds.run) s.ok
+    let all = s.ok.holds.written.holds in lines-led EachPart first (all.whole ++ all.rest ∷ []) all.texts last all.run
+session-led first last old new (Err fault.TooLong) s =
+    let served = (s.too_long refl).holds.1.1.holds in lines-led EachPart first served.whole served.texts last served.run
+session-led first last old new (Err fault.ReadFault) s =
+    let served = (s.read_fault refl).holds.1.1.holds in lines-led EachPart first served.whole served.texts last served.run
+session-led first last old new (Err fault.WriteFault) s =
+    let served = (s.write_fault refl).holds.1 in lines-led EachPart first served.lines served.texts last served.run
+session-led first last old new (Err fault.NoMemory) s =
+    let served = (s.no_memory refl).holds.holds in lines-led EachPart first served.lines served.texts last served.run
 
 -- all that is said of a session follows from what is known of each step
 pub queue-session : (first last : World) (old new : Streams) (result : Result Unit SessionFault) → IsSession (Replies WholeStep) first last old new result → IsQueueSession first last old new result

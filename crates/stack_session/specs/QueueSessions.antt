@@ -1,5 +1,5 @@
 -- A session whose lines are served by a queue.
-use Rattle.std.specs.Prelude.{Result, IfSome, OnOk}
+use Rattle.std.specs.Prelude.{Result}
 use Rattle.stack_meaning.specs.Leaves.{AllSteady}
 use Rattle.request_queue.specs.Parts.{AnyPart, SteadyPart, EachPart}
 use Rattle.request_queue.specs.Runs.{IsLed}
@@ -17,5 +17,5 @@ pub record IsQueueSession (first end : World) (old new : Streams) (result : Resu
   pub steady : AllSteady first.stack.leaves → IsSession (Replies (Step SteadyPart)) first end old new result
   -- each read and each write as a whole, both at once
   pub whole : IsSession (Replies WholeStep) first end old new result
-  -- its lines are a run of the queue, of which the queue's law speaks
-  pub led : OnOk result (IfSome old.input (λ bytes. IsLed EachPart first end))
+  -- however it ended, the lines that it served are a run of the queue, of which the queue's law speaks
+  pub led : IsLed EachPart first end

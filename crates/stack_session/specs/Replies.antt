@@ -91,6 +91,7 @@ pub record Replies (steps : Stepping) (w : World) (line reply : List ℕ) (w' : 
 abbrev pub IsWhole : World → Event → World → Type 0
 IsWhole w (event.submit r result) w' = Unit {0}
 IsWhole w (event.step ticket result) w' = Unit {0}
+IsWhole w (event.read_bytes d first bytes result) w' = Unit {0}
 IsWhole w (event.load text result) w' = Unit {0}
 IsWhole w (event.remove_device name result) w' = Unit {0}
 IsWhole w (event.run r result) w' = RunAnswers w r result w'

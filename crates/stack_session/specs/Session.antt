@@ -1,12 +1,13 @@
 -- A whole session: the lines of an input, and the replies to them, one after another. How one line is
 -- replied to is a parameter, `replies`: from the first state, the line may get the reply and leave the second.
-use Rattle.std.specs.Prelude.{◌≡◌, ◌≢◌, ◌≤◌, ◌<◌, ◌+◌, ◌⊎◌, true, false, ℕ, List, [], ◌∷◌, ◌++◌, length, take, All, flat_map, Option, Result, Err, IfSome, OnOk, IsErrOf}
-use Rattle.std.specs.Io.KnownBytes.{Consumes}
+use Rattle.std.specs.Prelude.{◌≡◌, ◌≢◌, ◌≤◌, ◌<◌, ◌+◌, ◌⊎◌, true, false, ℕ, List, [], ◌∷◌, ◌++◌, length, take, All, flat_map, Option, Result, Err, OnOk, IsErrOf}
+use Rattle.std.specs.Io.KnownBytes.{Consumes, IsAtEnd}
 use Rattle.block_device.specs.Device.{capped}
 use Rattle.stack_session.specs.declared.fault.SessionFault.{SessionFault}
 use Rattle.stack_session.specs.declared.fault.SessionFault.TheVariants.{TooLong, ReadFault, WriteFault, NoMemory}
 use Rattle.stack_session.specs.declared.lines.TheConstants.{LIMIT}
-use Rattle.counted_io.specs.Counted.{CountedRecord, Grows}
+use Rattle.counted_io.specs.declared.fault.WriteFault.{WriteFault as WriterFailed}
+use Rattle.counted_io.specs.Counted.{CountedRecord, Grows, Writes}
 use Rattle.counted_io.specs.Streams.{Streams}
 
 -- a text with its newline
@@ -50,18 +51,56 @@ pub record ServesAll {S : Type 0} (replies : Replying S) (first : S) (input : Li
   pub run : ServesLines replies first (whole ++ rest ∷ []) texts last
   pub joined : output ≡ flat_map (λ text. text) texts
 
+-- The first lines of the input were served, from the first state to the last, and these are their replies. The last
+-- of them may be one that has no newline.
+pub record ServesFront {S : Type 0} (replies : Replying S) (first : S) (input : List ℕ) (last : S) (output : List ℕ) : Type 0 where
+  pub lines : List (List ℕ)
+  pub texts : List (List ℕ)
+  pub left : List ℕ
+  pub cut : ended input ≡ flat_map ended lines ++ left
+  pub each : All IsOneLine lines
+  pub run : ServesLines replies first lines texts last
+  pub joined : output ≡ flat_map (λ text. text) texts
+
+-- a reply of which P holds was written, or the writer failed in it
+pub record WritesReply {T : Type 0} (contents : T → Option (List ℕ)) (old new : CountedRecord T) (P : List ℕ → Type 0) (result : Result Unit WriterFailed) : Type 0 where
+  pub reply : List ℕ
+  pub holds : P reply
+  pub writes : Writes contents old new reply result
+
+-- What was taken of the input, and what holds of it. Where nobody knows the input, these are some bytes.
+pub record Taking (old new : Streams) (Is : List ℕ → Type 0) : Type 0 where
+  pub taken : List ℕ
+  pub consumed : Consumes old.input new.input taken
+  pub holds : Is taken
+
+-- all lines of a whole input were replied to, and the server is as they left it
+pub record WritesAll {S : Type 0} (replies : Replying S) (first last : S) (old new : Streams) (input : List ℕ) : Type 0 where
+  pub small : length input ≤ LIMIT
+  pub at_end : IsAtEnd new.input
+  pub written : Grows old.output new.output (ServesAll replies first input last)
+
 -- the replies to the whole lines of the input were written, and the server is as they left it
 abbrev pub WritesWhole : {S : Type 0} → Replying S → S → List ℕ → S → Streams → Streams → Type 0
 WritesWhole replies first input last old new = (rest : List ℕ) × Grows old.output new.output (ServesWhole replies first input last rest)
 
--- What a session read and wrote, from the first state of its server to the last.
+-- the lines that were served, where the writer failed within their replies, or where memory ran out behind them
+pub record IsStopped {T : Type 0} (old new : Option (List ℕ)) (Front : List ℕ → Type 0) (result : Result T SessionFault) : Type 0 where
+  pub write_fault : IsErrOf result WriteFault → (output : List ℕ) × Front output
+  pub no_memory : IsErrOf result NoMemory → Grows old new Front
+
+-- What a session read and wrote, from the first state of its server to the last, of some bytes that it took.
 pub record IsSession {S : Type 0} (replies : Replying S) (first last : S) (old new : Streams) (result : Result Unit SessionFault) : Type 0 where
   -- all was read and served, and what is written is the replies
-  pub ok : OnOk result (IfSome old.input (λ bytes. (length bytes ≤ LIMIT) × Grows old.output new.output (ServesAll replies first bytes last)))
-  -- the replies to the whole lines within the limit are written
-  pub too_long : IsErrOf result TooLong → IfSome old.input (λ bytes. (LIMIT < length bytes) × WritesWhole replies first (take LIMIT bytes) last old new)
+  pub ok : OnOk result (Taking old new (WritesAll replies first last old new))
+  -- more than the limit was taken, and the replies to the whole lines within it are written
+  pub too_long : IsErrOf result TooLong → Taking old new (λ taken. (LIMIT < length taken) × WritesWhole replies first (take LIMIT taken) last old new)
   -- the replies to the whole lines of what was taken are written, which isn't past the limit
-  pub read_fault : IsErrOf result ReadFault → (taken : List ℕ) × (length taken ≤ LIMIT) × Consumes old.input new.input taken × WritesWhole replies first taken last old new
+  pub read_fault : IsErrOf result ReadFault → Taking old new (λ taken. (length taken ≤ LIMIT) × WritesWhole replies first taken last old new)
+  -- the writer failed within the replies to the first lines, none behind the limit, and the server is as these left it
+  pub write_fault : IsErrOf result WriteFault → Taking old new (λ taken. (output : List ℕ) × ServesFront replies first (take LIMIT taken) last output)
+  -- memory ran out behind them, and what is written is their replies
+  pub no_memory : IsErrOf result NoMemory → Taking old new (λ taken. Grows old.output new.output (ServesFront replies first (take LIMIT taken) last))
 
 -- How a session ended, where neither its reader nor its writer had failed before.
 pub record IsEnding {R W : Type 0} (reader reader' : CountedRecord R) (writer' : CountedRecord W) (result : Result Unit SessionFault) : Type 0 where

@@ -1,7 +1,7 @@
 //! A session over any server of lines: reads the input, cuts it into lines, and has each line served.
 ghost use Rattle.std.specs.Prelude.{true, false, ◌≡◌, ◌≢◌, ℕ, ◌+◌, ◌≤◌, ◌<◌, List, [], ◌∷◌, ◌++◌, length, take, IfOk, OnOk, OnErr, MatchOption, IsErrOf, ◌⊎◌};
-ghost use Rattle.counted_io.specs.Counted.{Grows, WritesSome};
-ghost use Rattle.stack_session.specs.Session.{IsOneLine, ServesWhole, IsRemembered, IsSession, IsEnding};
+ghost use Rattle.counted_io.specs.Counted.{Grows};
+ghost use Rattle.stack_session.specs.Session.{IsOneLine, ServesFront, ServesWhole, IsRemembered, IsSession, IsEnding, IsStopped, WritesReply};
 ghost use Rattle.counted_io.specs.Streams.{streams};
 
 use crate::fault::SessionFault;
@@ -28,7 +28,7 @@ pub trait LineServer {
         writer: &mut Counted<W>,
     ) -> Result<(), WriteFault>
         requires { length line.now ≤ LIMIT }
-        ensures { WritesSome W.contents writer.old writer.new (λ reply. replies self.old line.now reply self.new) result };
+        ensures { WritesReply W.contents writer.old writer.new (λ reply. replies self.old line.now reply self.new) result };
 }
 
 // The first line, and what comes after its newline.
@@ -59,9 +59,11 @@ fn end_line<S: LineServer, W: Write>(
     end: &[u8],
     writer: &mut Counted<W>,
 ) -> Result<(), SessionFault>
-    requires { length rest.old.items + length end.now ≤ LIMIT }
+    requires line { IsOneLine (rest.old.items ++ end.now) }
+    requires room { length rest.old.items + length end.now ≤ LIMIT }
     ensures ok { OnOk result ((rest.new.items ≡ []) × Grows (W.contents writer.old.inner) (W.contents writer.new.inner)
         (λ reply. S.replies server.old (rest.old.items ++ end.now) reply server.new)) }
+    ensures stopped { IsStopped (W.contents writer.old.inner) (W.contents writer.new.inner) (ServesFront S.replies server.old (rest.old.items ++ end.now) server.new) result }
     ensures writer { IsRemembered writer.old writer.new result }
     ensures kinds { OnErr result ((result ≡ Err SessionFault.WriteFault) ⊎ (result ≡ Err SessionFault.NoMemory)) }
 {
@@ -87,6 +89,7 @@ fn feed<S: LineServer, W: Write>(
     requires room { length rest.old.items + length piece.now ≤ LIMIT }
     ensures ok { OnOk result ((length rest.new.items ≤ length rest.old.items + length piece.now)
         × Grows (W.contents writer.old.inner) (W.contents writer.new.inner) (ServesWhole S.replies server.old (rest.old.items ++ piece.now) server.new rest.new.items)) }
+    ensures stopped { IsStopped (W.contents writer.old.inner) (W.contents writer.new.inner) (ServesFront S.replies server.old (rest.old.items ++ piece.now) server.new) result }
     ensures writer { IsRemembered writer.old writer.new result }
     ensures kinds { OnErr result ((result ≡ Err SessionFault.WriteFault) ⊎ (result ≡ Err SessionFault.NoMemory)) }
 {
@@ -114,8 +117,8 @@ fn absorb<S: LineServer, W: Write>(
         × Grows (W.contents writer.old.inner) (W.contents writer.new.inner) (ServesWhole S.replies server.old (rest.old.items ++ piece.now) server.new rest.new.items)) }
     ensures too_long { IsErrOf result SessionFault.TooLong → (left < length piece.now) × (writer.new.pending ≡ false)
         × Grows (W.contents writer.old.inner) (W.contents writer.new.inner) (ServesWhole S.replies server.old (rest.old.items ++ take left piece.now) server.new rest.new.items) }
-    ensures writer { IsRemembered writer.old writer.new result }
-    ensures no_read_fault { result ≢ Err SessionFault.ReadFault }
+    ensures stopped { IsStopped (W.contents writer.old.inner) (W.contents writer.new.inner) (ServesFront S.replies server.old (rest.old.items ++ take left piece.now) server.new) result }
+    ensures writer { IsRemembered writer.old writer.new result × (result ≢ Err SessionFault.ReadFault) }
 {
     if piece.len() > left {
         feed(alloc, server, rest, &piece[..left], writer)?;

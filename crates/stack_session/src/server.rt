@@ -2,10 +2,9 @@
 ghost use Rattle.std.specs.Prelude.{true, false, ◌≡◌, ◌≤◌, ℕ, List, length};
 ghost use Rattle.stack_session.specs.Accesses.{IsSmall, access_record};
 ghost use Rattle.stack_session.specs.Commands.{load, run, submit, step, remove, cost, table, moved};
-ghost use Rattle.counted_io.specs.Counted.{WritesSome};
 ghost use Rattle.stack_session.specs.Replies.{Replies, RepliesTo, WholeStep};
 ghost use Rattle.stack_session.specs.QueueSessions.{IsQueueSession};
-ghost use Rattle.stack_session.specs.Session.{IsEnding};
+ghost use Rattle.stack_session.specs.Session.{IsEnding, WritesReply};
 ghost use Rattle.counted_io.specs.Streams.{streams};
 
 use crate::access::Access;
@@ -36,7 +35,7 @@ fn reply_to_load<D: BlockDev, W: Write>(
     writer: &mut Counted<W>,
 ) -> Result<(), WriteFault>
     requires { length text.now ≤ LIMIT }
-    ensures { WritesSome W.contents writer.old writer.new (λ reply. RepliesTo WholeStep queue.old (load text.now) reply queue.new) result }
+    ensures { WritesReply W.contents writer.old writer.new (λ reply. RepliesTo WholeStep queue.old (load text.now) reply queue.new) result }
 {
     let entries = match parse_stack(alloc, text) {
         Ok(entries) => entries,
@@ -59,7 +58,7 @@ fn reply_to_run<D: BlockDev, W: Write>(
     writer: &mut Counted<W>,
 ) -> Result<(), WriteFault>
     requires { IsSmall access }
-    ensures { WritesSome W.contents writer.old writer.new (λ reply. RepliesTo WholeStep queue.old (run (access_record access.entry)) reply queue.new) result }
+    ensures { WritesReply W.contents writer.old writer.new (λ reply. RepliesTo WholeStep queue.old (run (access_record access.entry)) reply queue.new) result }
 {
     let Ok(request) = access.request(alloc) else {
         return say_no_memory(writer);
@@ -82,7 +81,7 @@ fn reply_to_submit<D: BlockDev, W: Write>(
     writer: &mut Counted<W>,
 ) -> Result<(), WriteFault>
     requires { IsSmall access }
-    ensures { WritesSome W.contents writer.old writer.new (λ reply. RepliesTo WholeStep queue.old (submit (access_record access.entry)) reply queue.new) result }
+    ensures { WritesReply W.contents writer.old writer.new (λ reply. RepliesTo WholeStep queue.old (submit (access_record access.entry)) reply queue.new) result }
 {
     let Ok(request) = access.request(alloc) else {
         return say_no_memory(writer);
@@ -102,7 +101,7 @@ fn reply_to_step<D: BlockDev, W: Write>(
     ticket: u64,
     writer: &mut Counted<W>,
 ) -> Result<(), WriteFault>
-    ensures { WritesSome W.contents writer.old writer.new (λ reply. RepliesTo WholeStep queue.old (step ticket) reply queue.new) result }
+    ensures { WritesReply W.contents writer.old writer.new (λ reply. RepliesTo WholeStep queue.old (step ticket) reply queue.new) result }
 {
     let first = queue.first_sector(Ticket(ticket)).unwrap_or(0);
     match queue.step(Ticket(ticket)) {
@@ -119,7 +118,7 @@ fn reply_to_remove<D: BlockDev, W: Write>(
     name: &[u8],
     writer: &mut Counted<W>,
 ) -> Result<(), WriteFault>
-    ensures { WritesSome W.contents writer.old writer.new (λ reply. RepliesTo WholeStep queue.old (remove name.now) reply queue.new) result }
+    ensures { WritesReply W.contents writer.old writer.new (λ reply. RepliesTo WholeStep queue.old (remove name.now) reply queue.new) result }
 {
     match queue.remove(name) {
         Ok(()) => say_removed(writer),
@@ -134,7 +133,7 @@ fn reply_to_cost<D: BlockDev, W: Write>(
     name: &[u8],
     writer: &mut Counted<W>,
 ) -> Result<(), WriteFault>
-    ensures { WritesSome W.contents writer.old writer.new (λ reply. RepliesTo WholeStep queue.now (cost name.now) reply queue.now) result }
+    ensures { WritesReply W.contents writer.old writer.new (λ reply. RepliesTo WholeStep queue.now (cost name.now) reply queue.now) result }
 {
     let config = queue.stack().config();
     match config.device(name) {
@@ -150,7 +149,7 @@ fn reply_to_table<D: BlockDev, W: Write>(
     name: &[u8],
     writer: &mut Counted<W>,
 ) -> Result<(), WriteFault>
-    ensures { WritesSome W.contents writer.old writer.new (λ reply. RepliesTo WholeStep queue.now (table name.now) reply queue.now) result }
+    ensures { WritesReply W.contents writer.old writer.new (λ reply. RepliesTo WholeStep queue.now (table name.now) reply queue.now) result }
 {
     let config = queue.stack().config();
     let Some(d) = config.device(name) else {
@@ -167,7 +166,7 @@ fn reply_to_moved<D: BlockDev, W: Write>(
     queue: &Queue<D>,
     writer: &mut Counted<W>,
 ) -> Result<(), WriteFault>
-    ensures { WritesSome W.contents writer.old writer.new (λ reply. RepliesTo WholeStep queue.now moved reply queue.now) result }
+    ensures { WritesReply W.contents writer.old writer.new (λ reply. RepliesTo WholeStep queue.now moved reply queue.now) result }
 {
     let (reads, writes) = queue.stack().moved();
     say_moved(writer, reads, writes)

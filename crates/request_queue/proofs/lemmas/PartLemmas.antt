@@ -9,12 +9,13 @@ use Rattle.stack_meaning.specs.declared.fault.IoFault.{IoFault}
 use Rattle.stack_meaning.specs.Leaves.{AllSteady, fixed_part}
 use Rattle.stack_engine.specs.Stacks.{StackRecord, AnswerRecord}
 use Rattle.request_queue.specs.Flights.{WorkRecord, reads, writes, work_cost}
-use Rattle.request_queue.specs.Parts.{Part, read_part, write_part, AnyPart, SteadyPart, EachPart, part_of_work}
+use Rattle.request_queue.specs.Parts.{Part, read_part, bytes_part, write_part, AnyPart, SteadyPart, EachPart, part_of_work}
 use Rattle.request_queue.specs.Runs.{moved_of}
 
 -- the most leaf sectors that it moves
 abbrev pub part_cost : Configuration → ℕ → Part → ℕ
 part_cost c d (read_part n) = n * read_cost c (mapped d)
+part_cost c d (bytes_part n) = n * read_cost c (mapped d)
 part_cost c d (write_part bytes) = length bytes / 512 * write_cost c (mapped d)
 
 -- what it leaves of the stack, and what it moved
@@ -29,6 +30,11 @@ any-keeps v d first (read_part n) answer v' p = record {
   fixed = p.moved.moved.fixed;
   moved = omega (arith, p.moved.moved.reads.sum, p.moved.moved.writes.sum);
 }
+any-keeps v d first (bytes_part n) answer v' p = record {
+  config = p.config;
+  fixed = p.moved.moved.fixed;
+  moved = omega (arith, p.moved.moved.reads.sum, p.moved.moved.writes.sum);
+}
 any-keeps v d first (write_part bytes) answer v' p = record {
   config = p.config;
   fixed = p.moved.moved.fixed;
@@ -37,10 +43,12 @@ any-keeps v d first (write_part bytes) answer v' p = record {
 
 pub each-any : (v : StackRecord) (d first : ℕ) (part : Part) (answer : Result AnswerRecord IoFault) (v' : StackRecord) → EachPart v d first part answer v' → AnyPart v d first part answer v'
 each-any v d first (read_part n) answer v' p = p.any
+each-any v d first (bytes_part n) answer v' p = p.any
 each-any v d first (write_part bytes) answer v' p = p.any
 
 pub each-steady : (v : StackRecord) (d first : ℕ) (part : Part) (answer : Result AnswerRecord IoFault) (v' : StackRecord) → AllSteady v.leaves → EachPart v d first part answer v' → SteadyPart v d first part answer v'
 each-steady v d first (read_part n) answer v' steady p = p.steady steady
+each-steady v d first (bytes_part n) answer v' steady p = p.steady steady
 each-steady v d first (write_part bytes) answer v' steady p = p.steady steady
 
 pub part_cost-work : (c : Configuration) (d : ℕ) (work : WorkRecord) (done n : ℕ) → part_cost c d (part_of_work work done n) ≤ n * work_cost c d work
@@ -52,4 +60,5 @@ part_cost-work c d (writes bytes) done n =
 
 pub steady-any-part : (v : StackRecord) (d first : ℕ) (part : Part) (answer : Result AnswerRecord IoFault) (v' : StackRecord) → SteadyPart v d first part answer v' → AnyPart v d first part answer v'
 steady-any-part v d first (read_part n) answer v' p = p.any
+steady-any-part v d first (bytes_part n) answer v' p = p.any
 steady-any-part v d first (write_part bytes) answer v' p = p.any

@@ -18,8 +18,8 @@ use Rattle.request_queue.specs.declared.reply.Progress.TheVariants.{More, Done}
 use Rattle.request_queue.specs.declared.reply.Reply.{Reply}
 use Rattle.request_queue.specs.Requests.{RequestRecord}
 use Rattle.request_queue.specs.Flights.{FlightRecord}
-use Rattle.request_queue.specs.Parts.{Part, PartRelation, AnyPart, SteadyPart, EachPart, part_of_work}
-use Rattle.request_queue.specs.World.{World, Event, submit, step, load, remove_device, run, sync, Step, Begins, Answers, Serves, Loads, Removes, Syncs, Ends, at_once, later, Runs}
+use Rattle.request_queue.specs.Parts.{Part, PartRelation, AnyPart, SteadyPart, EachPart, bytes_part, part_of_work, without_chains}
+use Rattle.request_queue.specs.World.{World, Event, submit, step, read_bytes, load, remove_device, run, sync, Step, Begins, Answers, Serves, ReadsBytes, Loads, Removes, Syncs, Ends, at_once, later, Runs}
 use Rattle.request_queue.specs.Runs.{Turn, Run, last}
 use Rattle.request_queue.proofs.lemmas.PartLemmas.{any-keeps, each-any, each-steady, steady-any-part}
 
@@ -82,12 +82,19 @@ module _ (P Q : PartRelation) (F : List Device → Type 0) (pass : Passes P Q F)
       let p = ends-as (w.given + 1) answer s.begun w' (begins-leaves w r (w.given + 1) s.begun s.begins h) s.ends in
       (record { begun = s.begun; begins = s.begins; ends = p.0 }, p.1)
 
+  bytes-as : (w : World) (d first bytes : ℕ) (reply : Result (Result (List ℕ) IoFault) SubmitFault) (w' : World) → F w.stack.leaves → ReadsBytes P w d first bytes reply w' → ReadsBytes Q w d first bytes reply w' × F w'.stack.leaves
+  bytes-as w d first bytes (Err fault) w' h s = (s, same-leaves w w' s.1 h)
+  bytes-as w d first bytes (Ok answer) w' h s =
+      let p = pass w.stack s.range.device.0 s.range.first (bytes_part s.range.count) (without_chains answer) s.stack h s.asks in
+      (record { range = s.range; admits = s.admits; stack = s.stack; asks = p.0; leaves = s.leaves }, subst (λ (x : World). F x.stack.leaves) (sym s.leaves) p.1)
+
   -- an event, with parts of the other kind
   pub step-as : (w : World) (e : Event) (w' : World) → F w.stack.leaves → Step P w e w' → Step Q w e w' × F w'.stack.leaves
   step-as w (submit r (Ok t)) w' h s = (s, begins-leaves w r t w' s h)
   step-as w (submit r (Err fault)) w' h s = (s, same-leaves w w' s.same h)
   step-as w (step t (Ok progress)) w' h s = serves-as w t progress w' h s
   step-as w (step t (Err none)) w' h s = (s, same-leaves w w' s.1 h)
+  step-as w (read_bytes d first bytes reply) w' h s = bytes-as w d first bytes reply w' h s
   step-as w (load text reply) w' h s = (s, loads-leaves w text reply w' s h)
   step-as w (remove_device name reply) w' h s = (s, removes-leaves w name reply w' s h)
   step-as w (run r reply) w' h s = runs-as w r reply w' h s

@@ -3,7 +3,6 @@ use Rattle.std.proofs.Common.{◌≡◌, ◌==◌, ◌+◌, ◌<◌, ◌≤◌, 
 use Rattle.std.specs.Prelude.{remove}
 use Rattle.std.proofs.lemmas.List.Elements.{All-cons, All-head, All-nil, All-tail}
 use Rattle.stack_rules.specs.Records.{Configuration}
-use Rattle.stack_engine.specs.Laws.{AnsweredChainsAreGood, ForgedAnswersCollide}
 use Rattle.stack_meaning.specs.declared.fault.IoFault.{IoFault}
 use Rattle.stack_meaning.specs.Leaves.{AllSteady}
 use Rattle.stack_engine.specs.Stacks.{StackRecord}
@@ -16,12 +15,11 @@ use Rattle.request_queue.specs.Ranges.{IsCut, last_piece, next_piece, piece_len,
 use Rattle.request_queue.specs.Requests.{RequestRecord}
 use Rattle.request_queue.specs.Flights.{FlightRecord, first_flight, next_flight}
 use Rattle.request_queue.specs.Parts.{PartRelation, AnyPart, SteadyPart, EachPart, Asks}
-use Rattle.request_queue.specs.World.{World, world, Event, submit, step, load, remove_device, run, sync, Step, Serves, Begins, Ends, at_once, later, next_count}
+use Rattle.request_queue.specs.World.{World, world, Event, submit, step, read_bytes, load, remove_device, run, sync, Step, Serves, Begins, Ends, at_once, later, next_count}
 use Rattle.request_queue.specs.Runs.{Turn, Run, last, total, is_step, flight_of, served_for}
-use Rattle.request_queue.specs.Laws.{Passage, passage, passages, end_of, answer_to, IsServed, waits, goes_on, finishes, fails, IsOver, RequestLaw, RunLaw, is_refusal, TurnLaw, QueueLaw}
+use Rattle.request_queue.specs.Laws.{Passage, passage, passages, end_of, answer_to, IsServed, waits, goes_on, finishes, fails, IsOver, RequestLaw, RunLaw, is_refusal, TurnLaw}
 use Rattle.request_queue.proofs.lemmas.TicketLemmas.{test-same, at-ticket, find-at, find-changed, find-removed}
 use Rattle.request_queue.proofs.lemmas.PremiseLemmas.{step-any, run-any, run-steady}
-use Rattle.request_queue.proofs.lemmas.ChainLemmas.{IsHonest, honest-run, honest-turn}
 use Rattle.request_queue.proofs.lemmas.BudgetLemmas.{InOrder, Knows, Turned, own_turn, other_turn, turned, knows-turn, newly, whole-budget, whole-steps, untouched}
 
 -- a request that is over has no steps more
@@ -44,6 +42,7 @@ own-step part t v (step u (Ok progress)) w' is s =
     let same = test-same u t is in
     own_step progress (ap (λ n. step n (Ok progress)) same) (subst (λ n. Serves part v n progress w') same s)
 own-step part t v (step u (Err none)) w' is s = let clash : false ≡ true = is in cc
+own-step part t v (read_bytes d first bytes reply) w' is s = let clash : false ≡ true = is in cc
 own-step part t v (load text reply) w' is s = let clash : false ≡ true = is in cc
 own-step part t v (remove_device name reply) w' is s = let clash : false ≡ true = is in cc
 own-step part t v (run r reply) w' is s = let clash : false ≡ true = is in cc
@@ -236,6 +235,8 @@ refusal-same part w (submit r (Ok ticket)) w' is s = let clash : false ≡ true 
 refusal-same part w (submit r (Err fault)) w' is s = s.same
 refusal-same part w (step t (Ok progress)) w' is s = let clash : false ≡ true = is in cc
 refusal-same part w (step t (Err none)) w' is s = s.1
+refusal-same part w (read_bytes d first bytes (Ok answer)) w' is s = let clash : false ≡ true = is in cc
+refusal-same part w (read_bytes d first bytes (Err fault)) w' is s = s.1
 refusal-same part w (load text (Ok done)) w' is s = let clash : false ≡ true = is in cc
 refusal-same part w (load text (Err Busy)) w' is s = s.1
 refusal-same part w (load text (Err (Fault fault))) w' is s = s.2
@@ -246,7 +247,7 @@ refusal-same part w (run r (Ok answer)) w' is s = let clash : false ≡ true = i
 refusal-same part w (run r (Err fault)) w' is s = s.same
 refusal-same part w (sync reply) w' is s = let clash : false ≡ true = is in cc
 
-order-kept : (w : World) (turns : List Turn) → InOrder w → Run EachPart w turns → InOrder (last w turns)
+pub order-kept : (w : World) (turns : List Turn) → InOrder w → Run EachPart w turns → InOrder (last w turns)
 order-kept w [] order r = order
 order-kept w (x ∷ more) order r =
     let turn = turned w x.after 0 x.event order (omega arith) (step-any w x.event x.after r.0) in
@@ -256,14 +257,4 @@ pub turn-law : (w : World) (x : Turn) → InOrder w → Step EachPart w x.event 
 turn-law w x order s = record {
   others = λ t old other. untouched w x.after t x.event order old (step-any w x.event x.after s) other;
   refused = λ is. refusal-same EachPart w x.event x.after is s;
-}
-
--- every run from a world whose tickets are in order, and which holds verified chains
-pub queue-law : AnsweredChainsAreGood → ForgedAnswersCollide → (w : World) → InOrder w → IsHonest w → QueueLaw w
-queue-law good forged w order honest = record {
-  requests = λ before done r t v b turns each. request-law (last w before) r t v turns (order-kept w before order done) b each;
-  runs = λ before done r answer w' s. run-law (last w before) r answer w' (order-kept w before order done) s;
-  turns = λ before done x s. turn-law (last w before) x (order-kept w before order done) s;
-  chains = λ before done x s.
-      (honest-turn good forged (last w before) x.event x.after (honest-run good forged w before honest (run-any w before done)) (step-any (last w before) x.event x.after s)).chains;
 }

@@ -23,10 +23,11 @@ use Rattle.stack_meaning.specs.Meaning.{Said, crypt_said, said_at}
 use Rattle.stack_meaning.specs.Changes.{AllWhole}
 use Rattle.stack_meaning.specs.Places.{Read}
 use Rattle.stack_meaning.specs.Reading.{Reads, Finds, IsPlain}
+use Rattle.stack_lines.specs.AtOnce.{MeetNone}
 use Rattle.stack_lines.specs.Sources.{HasCrypt, AreUnits, LieInUnit, IsWholeOf, source_said, source_place, ReadsSource}
 use Rattle.stack_rules.proofs.lemmas.UnitLemmas.{unit_sectors-some, unit-bytes}
 use Rattle.stack_lines.proofs.lemmas.UnitLineLemmas.{unit-line, unit-line-on, cost-beneath, unit-said, same-crypt}
-use Rattle.stack_lines.proofs.lemmas.UnitReadLemmas.{units_said, units_place, units-some, units-meet, units_ok, units_err, same-first, part_ok, part_err}
+use Rattle.stack_lines.proofs.lemmas.UnitReadLemmas.{units_said, units_place, unit_first-more, units-some, units-meet, units_ok, units_err, same-first, part_ok, part_err}
 use Rattle.stack_meaning.proofs.lemmas.FoundLemmas.{in-gathered}
 use Rattle.stack_meaning.proofs.lemmas.UnitLemmas.{unit-fits}
 use Rattle.stack_meaning.proofs.lemmas.PlainLemmas.{plain-as, plain-up}
@@ -102,6 +103,18 @@ module _ (c : Configuration) (b : BlockPart) (n : ℕ) (crypt : Crypt) (loaded :
   pub units-failed : (did : Read) → AllWhole did.old → (fault : IoFault) → Reads c lower (unit_first crypt b.first) n did (Err fault) → ReadsSource c (Units b) n did (Err fault)
   unfolding cost
   units-failed did all fault p = pass passes did (Err fault) (units_err c lower crypt b.first n (source_place c (Units b)).cost did aligned whole paid fault loaded all p)
+
+  -- no fault is met, where none is beneath them
+  pub units-clear : MeetNone (said_at c lower) (unit_first crypt b.first) n → MeetNone (source_said c (Units b)) 0 n
+  units-clear none fault x =
+      let u : ℕ = unit_sectors crypt in
+      let j : ℕ = x.0 in
+      let some : 0 < u = omega (arith, unit_sectors-some crypt) in
+      let here : SomeOf (λ t. (said_at c lower t).meets fault) (unit_first crypt (b.first + (0 + j))) u = subst (λ (y : Said). y.meets fault) (sym (on-line (0 + j))) x.2 in
+      let own : 0 + j ≡ j = omega arith in
+      let first : unit_first crypt (b.first + (0 + j)) ≡ unit_first crypt b.first + j / u * u = ap (λ (k : ℕ). unit_first crypt (b.first + k)) own ∙ unit_first-more (said_at c lower) crypt b.first aligned j in
+      let at : unit_first crypt (b.first + (0 + j)) + here.0 ≡ unit_first crypt b.first + (j / u * u + here.0) = omega (arith, first) in
+      none fault (j / u * u + here.0, omega (arith, unit-fits u n j some whole x.1, here.1), subst (λ (t : ℕ). (said_at c lower t).meets fault) at here.2)
 
   pub units-plain : {old new : List Device} {result : Result Unit IoFault} → IsPlain (said_at c lower) (unit_first crypt b.first) n old new result → IsPlain (source_said c (Units b)) 0 n old new result
   units-plain p =

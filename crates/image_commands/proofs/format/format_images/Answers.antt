@@ -10,7 +10,7 @@ returns-in_err-options-clause-err g c =
 
 pub returns-in_err-made-clause-err : goal.returns-in_err-made-clause-err
 returns-in_err-made-clause-err g c =
-    err-from c.from_residual-in_err-made.result _ c.in_err-made.field-0.0 c.from_residual-in_err-made.ensures.1
+    err-from c.from_residual-in_err-made.result _ (Format c.in_err-made.field-0.0) c.from_residual-in_err-made.ensures.1
     (inr (inr (inl (record {
       given = c.in_ok-options.options;
       two = c.in_ok-data_dev.field-0;

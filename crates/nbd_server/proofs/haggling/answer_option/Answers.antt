@@ -4,7 +4,7 @@ use Rattle.std.proofs.lemmas.Result.{err_from_is_err_and}
 use Rattle.nbd_server.specs.declared.fault.ServiceFault.TheVariants as fault
 use Rattle.nbd_server.specs.Exports.{export_record}
 use Rattle.nbd_server.proofs.CountedLemmas.{written-same, written-ok, written-failed}
-use Rattle.nbd_server.proofs.MessageLemmas.{names-other}
+use Rattle.nbd_server.proofs.MessageLemmas.{names-other, is-answered}
 use Rattle.nbd_server.proofs.haggling.answer_option.Goals as goal
 
 pub returns-then-not-names_export-clause-answer : goal.returns-then-not-names_export-clause-answer
@@ -22,3 +22,8 @@ returns-in_err-say_answer-clause-writer g c =
 
 pub returns-clause-writer : goal.returns-clause-writer
 returns-clause-writer g c = written-ok c.in_ok-say_answer.ensures.kept
+
+pub returns-in_err-say_answer-clause-answer : goal.returns-in_err-say_answer-clause-answer
+returns-in_err-say_answer-clause-answer g c =
+    let p = err_from_is_err_and c.from_residual.result c.from_residual.ensures.1 in
+    rw (p.1, p.2) (_, _, is-answered (export_record c.args.export.now) c.args.no_zeroes c.args.option c.args.content.now c.requires.short (sym c.names_export.ensures ∙ c.if-not-names_export.false))

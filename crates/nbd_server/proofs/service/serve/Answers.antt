@@ -4,7 +4,7 @@ use Rattle.counted_io.specs.Streams.{streams}
 use Rattle.nbd_server.specs.declared.fault.ServiceFault.TheVariants as fault
 use Rattle.nbd_server.specs.Exports.{export_record}
 use Rattle.nbd_server.proofs.CountedLemmas.{read-none, read-then, read-fewer, read-over, read-other, written-ok, written-other, written-then, written-failed}
-use Rattle.nbd_server.proofs.ServiceLemmas.{held-starts, held-kept, held-more, held-none, held-ends, held-stops, export-kept}
+use Rattle.nbd_server.proofs.ServiceLemmas.{held-starts, held-kept, held-more, held-none, held-ends, held-over, held-stops, held-stuck, held-unsaid, export-kept}
 use Rattle.nbd_server.proofs.service.serve.Goals as goal
 
 pub loop-turn-init : goal.loop-turn-init
@@ -94,3 +94,19 @@ returns-in-Over-clause-reader g c = read-fewer 0 c.loop-turn.invariant.read (ome
 
 pub returns-in-Over-clause-writer : goal.returns-in-Over-clause-writer
 returns-in-Over-clause-writer g c = written-then c.loop-turn.invariant.written (written-ok c.in_ok-flush.ensures.kept)
+
+pub returns-in_err-put-clause-service : goal.returns-in_err-put-clause-service
+returns-in_err-put-clause-service g c =
+    let p = err_from_is_err_and c.from_residual.result c.from_residual.ensures.1 in
+    rw (p.1, p.2) (held-unsaid (export_record c.args.export.now) c.args.queue.now (g.R.Read.remaining c.args.reader.now.inner) (g.W.Write.contents c.args.writer.now.inner) (g.W.Write.contents c.put.new.self.inner))
+
+pub returns-in_err-flush-clause-service : goal.returns-in_err-flush-clause-service
+returns-in_err-flush-clause-service g c =
+    let p = err_from_is_err_and c.from_residual-in_err-flush.result c.from_residual-in_err-flush.ensures.1 in
+    rw (p.1, p.2) (held-stuck (g.R.Read.remaining c.loop-turn.reader.inner) (g.W.Write.contents c.loop-turn.writer.inner) (g.W.Write.contents c.flush.new.self.inner) c.loop-turn.invariant.held)
+
+pub returns-in-Over-clause-service : goal.returns-in-Over-clause-service
+returns-in-Over-clause-service g c =
+    let input = g.R.Read.remaining c.loop-turn.reader.inner in
+    let held = held-kept input (g.W.Write.contents c.loop-turn.writer.inner) (g.W.Write.contents c.flush.new.self.inner) c.loop-turn.invariant.held c.in_ok-flush.ensures.ok.0 in
+    held-over tt held c.in-Over.is

@@ -9,7 +9,7 @@ use Rattle.nbd_server.specs.Numbers.{number32}
 use Rattle.nbd_server.specs.Streaming.{Fills}
 use Rattle.nbd_server.specs.Transmission.{outcome_of}
 use Rattle.nbd_server.proofs.CountedLemmas.{read-then, read-other, written-same, written-ok, written-failed, stops-reading}
-use Rattle.nbd_server.proofs.MessageLemmas.{header-cut, request-last, request-lost, request-served, request-unlike}
+use Rattle.nbd_server.proofs.MessageLemmas.{header-cut, request-last, request-lost, request-served, request-unanswered, request-unlike}
 use Rattle.nbd_server.proofs.transmission.take_request.Goals as goal
 
 -- ---- the header
@@ -86,6 +86,21 @@ returns-in_err-outcome-clause-writer g c =
     rw (p.1, p.2) (written-same c.args.writer.now (Some x) (stops-reading (g.R.Read.remaining c.serve_request.new.reader.inner) x c.in_err-outcome.ensures.err.0.cause))
 
 -- ---- the reply
+
+pub returns-in_err-say_reply-clause-turn : goal.returns-in_err-say_reply-clause-turn
+returns-in_err-say_reply-clause-turn g c =
+    let input = g.R.Read.remaining c.args.reader.now.inner in
+    let mid = g.R.Read.remaining c.fill.new.reader.inner in
+    let input' = g.R.Read.remaining c.serve_request.new.reader.inner in
+    let bytes = c.fill.new.buffer in
+    let first = subst (λ b. Fills input mid bytes (Ok b)) c.if-not-branch.false c.in_ok-fill.ensures.filled in
+    let size : length bytes ≡ 28 = omega (arith, c.fill.auto.buffer) in
+    let magic : number32 bytes 0 ≡ request_magic = omega (arith, c.number32.ensures, c.if-number32-ne-MAGIC.false) in
+    let other : (header_of bytes).kind ≢ 2 = λ is. c.if-header-eq-DISCONNECT.false (ap (λ (h : Header). h.kind) c.of-header.ensures ∙ is) in
+    let p = err_from_is_err_and c.from_residual-in_err-say_reply.result c.from_residual-in_err-say_reply.ensures.1 in
+    rw (p.1, p.2) (request-unanswered (export_record c.args.export.now) c.args.queue.now c.serve_request.new.queue input mid input' bytes first size magic
+    (g.W.Write.contents c.args.writer.now.inner) (g.W.Write.contents c.say_reply.new.writer.inner) (outcome_of c.in_ok-outcome.outcome) other
+    (let p = rw c.of-header.ensures at c.in_ok-outcome.ensures.ok in (p.payload, p.size, p.consumed, p.serves)))
 
 pub returns-in_err-say_reply-clause-reader : goal.returns-in_err-say_reply-clause-reader
 returns-in_err-say_reply-clause-reader g c =

@@ -1,18 +1,20 @@
-use Rattle.std.proofs.Common.{All, ◌≡◌, ◌<◌, ◌≤◌, ◌+◌, ◌/◌, ◌*◌, ◌-◌, ◌%◌, length, take, drop, map, replicate, get_or, ℕ, List, [], ◌∷◌, ◌++◌, Vec, Global, Option, Result, Ok, Err, refl, sym, ap, ◌∙◌, subst, arith}
-use Rattle.std.proofs.lemmas.List.{length-take, length-take-le, length-append, map-append}
-use Rattle.std.proofs.Math.Nat.{mul-le-mul_right}
+use Rattle.std.proofs.Common.{All, ◌≡◌, ◌<◌, ◌≤◌, ◌+◌, ◌/◌, ◌*◌, ◌-◌, ◌%◌, length, take, drop, map, replicate, get_or, ℕ, List, [], ◌∷◌, ◌++◌, Vec, Global, Option, Result, Ok, Err, true, false, inl, inr, refl, sym, ap, ◌∙◌, subst, arith}
+use Rattle.std.proofs.lemmas.List.{length-take, length-take-le, length-drop, length-append, map-append}
+use Rattle.std.proofs.Math.Nat.{add-mul, mul_comm, mul-mod_left, mul-div_cancel}
 use Rattle.std.proofs.Math.Seq.{get_or-append_seam}
 use Rattle.std.proofs.lemmas.Slice.Eq.{bytes_eq-Decides}
-use Rattle.std.proofs.lemmas.Slice.{take-put_mid}
+use Rattle.std.proofs.lemmas.Bool.{cases_lt, eqb-true}
+use Rattle.std.proofs.lemmas.Slice.{take-put_mid, take-put_mid_below, between-put_mid}
 use Rattle.std.proofs.lemmas.List.{with_items_is}
-use Rattle.std.specs.Prelude.{option_map}
+use Rattle.std.specs.Prelude.{option_map, max}
 use Rattle.std.specs.Vec.{with_items}
-use borrow.Rule.Slice.PartMut.{put_mid}
+use borrow.Rule.Slice.PartMut.{put_mid, same_len_mid}
 use Rattle.tree_shape.specs.Digests.{digest, digest_in}
 use Rattle.tree_shape.specs.Shape.{ShapeRecord, slot, ancestor, levels}
 use Rattle.stack_rules.specs.Names.{mapped}
 use Rattle.stack_rules.specs.Descend.{depth}
-use Rattle.stack_rules.specs.Trees.{tree_of, block_sectors}
+use Rattle.hash_tree.specs.Tree.{cut}
+use Rattle.stack_rules.specs.Trees.{tree_of, block_sectors, zero_block}
 use Rattle.stack_rules.specs.declared.lower.DevId.{DevId}
 use Rattle.stack_rules.specs.declared.lower.Lower.TheVariants.{Leaf}
 use Rattle.stack_rules.specs.declared.lower.Lower.{Lower}
@@ -21,9 +23,8 @@ use Rattle.stack_meaning.specs.declared.fault.IoFault.TheVariants.{Stack}
 use Rattle.stack_lines.specs.declared.source.Source.{Source}
 use Rattle.stack_lines.specs.declared.source.Source.TheVariants.{Units, UnitPart, Block}
 use Rattle.stack_meaning.specs.Found.{FoundRecord, entry_of}
-use Rattle.stack_meaning.specs.Kept.{IsKept, AllKept}
 use Rattle.stack_lines.specs.declared.tree.Extent.{Extent}
-use Rattle.stack_lines.specs.Caches.{IsCacheOf}
+use Rattle.stack_lines.specs.Caches.{IsCacheOf, KeepsCache}
 use Rattle.stack_meaning.specs.Blocks.{hash_sectors, hash_start, next_digest}
 use Rattle.stack_lines.specs.Walks.{block_in, checked_expected, GetsChain, IsWalked}
 use Rattle.stack_meaning.specs.declared.fault.IoFault.{IoFault}
@@ -57,10 +58,10 @@ use Rattle.verified_cache.specs.Cache.{CachedBlock}
 use Rattle.stack_lines.specs.AtOnce.{CanGo}
 use Rattle.stack_lines.specs.Caches.{IsCached}
 use Rattle.stack_engine.proofs.PathLemmas.{path-read, path-hit, path-put, path-down, path-failed, path-stopped, path-ended, path-whole, no_block}
-use Rattle.stack_engine.proofs.BlocksLemmas.{blocks-at, blocks_plain}
-use Rattle.stack_engine.proofs.NextBlockLemmas.{way-whole, same-digest, other-digest, block-slice, few-blocks, digest-count, whole-blocks, digests-are, block-ends, small-index, first-next, first-fails, data-fails, had-all, had-next, had-fails, next-had, next-differs, next-full}
+use Rattle.stack_engine.proofs.BlocksLemmas.{IsRead, blocks-at, blocks_plain, block-other}
+use Rattle.stack_engine.proofs.NextBlockLemmas.{sub-same, AreReadAhead, way-whole, few-blocks, block-size, digest-count, block-begin, blocks-end, small-index, row-inside, none-had, had-fails, far, row-next, row-fails, row-ahead, ahead-rest, settled, next-had, next-differs, next-full, had-all}
 use Rattle.stack_engine.specs.Keeping.{AreHandedOut}
-use Rattle.stack_engine.proofs.KeepingLemmas.{kept-reads, none-out, one-out}
+use Rattle.stack_engine.proofs.KeepingLemmas.{kept-reads, none-out, one-out, gets-none}
 use Rattle.stack_engine.proofs.read.+read.Goals as goal
 
 pub read_device-overflow_add-first : goal.read_device-overflow_add-first
@@ -850,143 +851,7 @@ read_run-returns-in-Blocks-clause-reads g t c = rw c.in-Blocks.is (kept-reads c.
 pub read_run-returns-in-Blocks-clause-plain : goal.read_run-returns-in-Blocks-clause-plain
 read_run-returns-in-Blocks-clause-plain g t c = rw c.in-Blocks.is c.read_blocks.ensures.plain
 
-pub read_blocks-walk_path-requires : goal.read_blocks-walk_path-requires
-read_blocks-walk_path-requires g t c κs within =
-    let config = c.args.config.now in
-    let p = c.args.part in
-    let n : ℕ = length c.args.out.now / 512 in
-    let v = c.verity_at-verity.result.now in
-    let tree = c.tree_at-tree.result in
-    let old = map g.D.BlockDev.state c.args.reader.now.devices.items in
-    let found = c.args.found.now.items in
-    let loaded = c.requires.stack.sound.loaded in
-    let line = c.verity_at-verity.ensures in
-    let is = c.tree_at-tree.ensures.tree.on_data in
-    let at = blocks-at config v p n found tree.data loaded (omega (arith, c.requires.fits.sectors.some, c.requires.fits.sectors.whole)) line c.requires.fits.holds c.requires.can_go is in
-    let sectors : c.from.result ≡ block_sectors v = c.from.ensures in
-    let depths : depth config (mapped tree.device.0) ≡ depth config (mapped p.device.0) = ap (λ (x : DevId). depth config (mapped x.0)) c.tree_at-tree.ensures.at in
-    let there : p.first / block_sectors v < v.blocks = omega (arith, at.there 0 at.some) in
-    let index = subst (λ (k : ℕ). p.first / k < v.blocks) (sym sectors) there in
-    let held = subst (All (IsCached config old)) (sym c.new-path.ensures.items) (All-nil (IsCached config old)) in
-    (omega (arith, depths), (within, (c.requires.stack, (record { lies = c.tree_at-tree.ensures.tree; there = index }, held))))
-
-pub read_blocks-returns-in-Err-clause-reads : goal.read_blocks-returns-in-Err-clause-reads
-read_blocks-returns-in-Err-clause-reads g t c =
-    let config = c.args.config.now in
-    let p = c.args.part in
-    let n : ℕ = length c.args.out.now / 512 in
-    let v = c.verity_at-verity.result.now in
-    let tree = c.tree_at-tree.result in
-    let old = map g.D.BlockDev.state c.args.reader.now.devices.items in
-    let found = c.args.found.now.items in
-    let loaded = c.requires.stack.sound.loaded in
-    let line = c.verity_at-verity.ensures in
-    let is = c.tree_at-tree.ensures.tree.on_data in
-    let at = blocks-at config v p n found tree.data loaded (omega (arith, c.requires.fits.sectors.some, c.requires.fits.sectors.whole)) line c.requires.fits.holds c.requires.can_go is in
-    let sectors : c.from.result ≡ block_sectors v = c.from.ensures in
-    let got = subst (λ (k : ℕ). GetsChain (block_in config v (p.first / k)) old (map g.D.BlockDev.state c.walk_path.new.reader.devices.items) (Err c.in-Err.fault)) sectors c.in-Err.ensures.err in
-    record { after = found; out = none-out c.args.chains found; reads = first-fails config v p n tree.data found loaded line is at c.in-Err.fault c.requires.kept c.in-Err.ensures.moved got }
-
-pub read_blocks-read_lower-requires : goal.read_blocks-read_lower-requires
-read_blocks-read_lower-requires g t c κs within =
-    let config = c.args.config.now in
-    let p = c.args.part in
-    let n : ℕ = length c.args.out.now / 512 in
-    let v = c.verity_at-verity.result.now in
-    let tree = c.tree_at-tree.result in
-    let old = map g.D.BlockDev.state c.args.reader.now.devices.items in
-    let found = c.args.found.now.items in
-    let loaded = c.requires.stack.sound.loaded in
-    let line = c.verity_at-verity.ensures in
-    let is = c.tree_at-tree.ensures.tree.on_data in
-    let at = blocks-at config v p n found tree.data loaded (omega (arith, c.requires.fits.sectors.some, c.requires.fits.sectors.whole)) line c.requires.fits.holds c.requires.can_go is in
-    let depths : depth config (mapped tree.device.0) ≡ depth config (mapped p.device.0) = ap (λ (x : DevId). depth config (mapped x.0)) c.tree_at-tree.ensures.at in
-    let deep = data-depth config v tree loaded c.tree_at-tree.ensures.tree in
-    let leaves = map g.D.BlockDev.state c.walk_path.new.reader.devices.items in (
-      omega (arith, deep, depths),
-      (
-        within,
-        record {
-          stack = stack-later config c.in-Ok.ensures.moved.moved.fixed c.requires.stack c.in-Ok.ensures.cached;
-          kept = subst (AllKept config leaves) (sym c.new-beneath.ensures.items) (All-nil (IsKept config leaves));
-          fits = record { sectors = c.requires.fits.sectors; holds = at.below };
-          can_go = tt;
-        },
-      ),
-    )
-
-pub read_blocks-returns-in-Err-read_lower-clause-reads : goal.read_blocks-returns-in-Err-read_lower-clause-reads
-read_blocks-returns-in-Err-read_lower-clause-reads g t c =
-    let config = c.args.config.now in
-    let p = c.args.part in
-    let n : ℕ = length c.args.out.now / 512 in
-    let v = c.verity_at-verity.result.now in
-    let tree = c.tree_at-tree.result in
-    let old = map g.D.BlockDev.state c.args.reader.now.devices.items in
-    let found = c.args.found.now.items in
-    let loaded = c.requires.stack.sound.loaded in
-    let line = c.verity_at-verity.ensures in
-    let is = c.tree_at-tree.ensures.tree.on_data in
-    let at = blocks-at config v p n found tree.data loaded (omega (arith, c.requires.fits.sectors.some, c.requires.fits.sectors.whole)) line c.requires.fits.holds c.requires.can_go is in
-    record {
-      after = found;
-      out = none-out c.args.chains found;
-      reads = data-fails config v p n tree.data found loaded line is at c.read_lower.new.found.items c.in-Err-read_lower.fault c.requires.kept c.in-Ok.ensures.moved c.in-Err-read_lower.ensures.reads.got;
-    }
-
-pub read_blocks-slice_bounds-got-end : goal.read_blocks-slice_bounds-got-end
-read_blocks-slice_bounds-got-end g t c =
-    let config = c.args.config.now in
-    let p = c.args.part in
-    let n : ℕ = length c.args.out.now / 512 in
-    let v = c.verity_at-verity.result.now in
-    let tree = c.tree_at-tree.result in
-    let old = map g.D.BlockDev.state c.args.reader.now.devices.items in
-    let found = c.args.found.now.items in
-    let loaded = c.requires.stack.sound.loaded in
-    let line = c.verity_at-verity.ensures in
-    let is = c.tree_at-tree.ensures.tree.on_data in
-    let at = blocks-at config v p n found tree.data loaded (omega (arith, c.requires.fits.sectors.some, c.requires.fits.sectors.whole)) line c.requires.fits.holds c.requires.can_go is in
-    let bytes_read : List ℕ = c.read_lower.new.out in
-    let len : length bytes_read ≡ 512 * n = omega (arith, c.read_lower.auto.out, c.requires.fits.sectors.whole) in
-    let many = digest-count config v p n tree.data found loaded line is at bytes_read len in
-    omega (arith, many, few-blocks config v p n tree.data found loaded line is at, at.few)
-
-pub read_blocks-digest_blocks-requires-clause-whole : goal.read_blocks-digest_blocks-requires-clause-whole
-read_blocks-digest_blocks-requires-clause-whole g t c =
-    let config = c.args.config.now in
-    let p = c.args.part in
-    let n : ℕ = length c.args.out.now / 512 in
-    let v = c.verity_at-verity.result.now in
-    let tree = c.tree_at-tree.result in
-    let old = map g.D.BlockDev.state c.args.reader.now.devices.items in
-    let found = c.args.found.now.items in
-    let loaded = c.requires.stack.sound.loaded in
-    let line = c.verity_at-verity.ensures in
-    let is = c.tree_at-tree.ensures.tree.on_data in
-    let at = blocks-at config v p n found tree.data loaded (omega (arith, c.requires.fits.sectors.some, c.requires.fits.sectors.whole)) line c.requires.fits.holds c.requires.can_go is in
-    let bytes_read : List ℕ = c.read_lower.new.out in
-    let len : length bytes_read ≡ 512 * n = omega (arith, c.read_lower.auto.out, c.requires.fits.sectors.whole) in
-    whole-blocks config v p n tree.data found loaded line is at bytes_read len
-
-pub read_blocks-digest_blocks-requires-clause-count : goal.read_blocks-digest_blocks-requires-clause-count
-read_blocks-digest_blocks-requires-clause-count g t c =
-    let config = c.args.config.now in
-    let p = c.args.part in
-    let n : ℕ = length c.args.out.now / 512 in
-    let v = c.verity_at-verity.result.now in
-    let tree = c.tree_at-tree.result in
-    let old = map g.D.BlockDev.state c.args.reader.now.devices.items in
-    let found = c.args.found.now.items in
-    let loaded = c.requires.stack.sound.loaded in
-    let line = c.verity_at-verity.ensures in
-    let is = c.tree_at-tree.ensures.tree.on_data in
-    let at = blocks-at config v p n found tree.data loaded (omega (arith, c.requires.fits.sectors.some, c.requires.fits.sectors.whole)) line c.requires.fits.holds c.requires.can_go is in
-    let bytes_read : List ℕ = c.read_lower.new.out in
-    let len : length bytes_read ≡ 512 * n = omega (arith, c.read_lower.auto.out, c.requires.fits.sectors.whole) in
-    let many = digest-count config v p n tree.data found loaded line is at bytes_read len in
-    let few = few-blocks config v p n tree.data found loaded line is at in
-    length-take-le (length bytes_read / v.data_block) _ (omega (arith, many, few, at.few))
+-- ---- data blocks in rows
 
 pub read_blocks-checks-init : goal.read_blocks-checks-init
 read_blocks-checks-init g t c =
@@ -995,187 +860,94 @@ read_blocks-checks-init g t c =
     let n : ℕ = length c.args.out.now / 512 in
     let v = c.verity_at-verity.result.now in
     let tree = c.tree_at-tree.result in
-    let old = map g.D.BlockDev.state c.args.reader.now.devices.items in
+    let state = g.D.BlockDev.state in
+    let old = map state c.args.reader.now.devices.items in
     let found = c.args.found.now.items in
     let loaded = c.requires.stack.sound.loaded in
     let line = c.verity_at-verity.ensures in
     let is = c.tree_at-tree.ensures.tree.on_data in
     let at = blocks-at config v p n found tree.data loaded (omega (arith, c.requires.fits.sectors.some, c.requires.fits.sectors.whole)) line c.requires.fits.holds c.requires.can_go is in
     let sectors : c.from.result ≡ block_sectors v = c.from.ensures in
-    let bytes_read : List ℕ = c.read_lower.new.out in
-    let len : length bytes_read ≡ 512 * n = omega (arith, c.read_lower.auto.out, c.requires.fits.sectors.whole) in
-    let moved = c.in-Ok.ensures.moved in
-    let got = c.in-Ok-read_lower.ensures.reads.got in
-    let from = map g.D.BlockDev.state c.walk_path.new.reader.devices.items in
-    let way = map block_bytes (take (levels (tree_of v)) c.walk_path.new.path.items) in
-    let walked = subst (λ (k : ℕ). IsWalked (block_in config v (p.first / k)) 0 c.in-Ok.expected way old from) sectors c.in-Ok.ensures.ok in
-    let are = digests-are config v p n tree.data found loaded line is at bytes_read _ len c.digest_blocks.ensures in
+    let whole_out : length c.args.out.now ≡ 512 * n = omega (arith, c.requires.fits.sectors.whole) in
+    let many_are : length c.args.out.now / v.data_block ≡ n / block_sectors v = digest-count config v p n tree.data found loaded line is at c.args.out.now whole_out in
+    let blocks_few = few-blocks config v p n tree.data found loaded line is at in
     record {
-      inside = omega (arith, are.0, at.some);
-      index = let e : p.first / c.from.result ≡ p.first / block_sectors v = ap (λ (k : ℕ). p.first / k) sectors in omega (arith, e);
-      all = c.digest_blocks.ensures;
+      size = refl;
+      room = ap (λ (l : List (List ℕ)). length l) c.as_mut_slice-made.ensures.value;
+      within = omega arith;
+      most = omega arith;
       after = found;
       out = none-out c.args.chains found;
-      held = path-read config c.walk_path.new.path.items got.moved c.in-Ok.ensures.held;
-      were = record { from = from; to = _; chains = c.read_lower.new.found.items; ways = _; first = moved; whole = all-whole g.D.BlockDev.state g.met.D.BlockDev.whole c.walk_path.new.reader.devices.items; got = got };
-      next = first-next config v p n tree.data found loaded line is at bytes_read c.in-Ok.expected way c.read_lower.new.found.items c.requires.kept walked moved got;
-      cached = record { capacity = c.in-Ok-read_lower.ensures.cached.capacity ∙ c.in-Ok.ensures.cached.capacity; sound = c.in-Ok-read_lower.ensures.cached.sound };
+      held = subst (All (IsCached config old)) (sym c.new-path.ensures.items) (All-nil (IsCached config old));
+      had = none-had config v p n tree.data found loaded line is at c.args.out.now c.requires.kept;
+      ahead = λ k low below. absurd (omega (arith, below));
+      cached = record { capacity = refl; sound = c.requires.stack.cached };
     }
 
-pub read_blocks-returns-then-ne-clause-reads : goal.read_blocks-returns-then-ne-clause-reads
-read_blocks-returns-then-ne-clause-reads g t c =
+pub read_blocks-walk_path-requires : goal.read_blocks-walk_path-requires
+read_blocks-walk_path-requires g t c κs within =
     let config = c.args.config.now in
     let p = c.args.part in
     let n : ℕ = length c.args.out.now / 512 in
     let v = c.verity_at-verity.result.now in
     let tree = c.tree_at-tree.result in
-    let old = map g.D.BlockDev.state c.args.reader.now.devices.items in
+    let state = g.D.BlockDev.state in
+    let old = map state c.args.reader.now.devices.items in
     let found = c.args.found.now.items in
     let loaded = c.requires.stack.sound.loaded in
     let line = c.verity_at-verity.ensures in
     let is = c.tree_at-tree.ensures.tree.on_data in
     let at = blocks-at config v p n found tree.data loaded (omega (arith, c.requires.fits.sectors.some, c.requires.fits.sectors.whole)) line c.requires.fits.holds c.requires.can_go is in
-    let bytes_read : List ℕ = c.read_lower.new.out in
-    let len : length bytes_read ≡ 512 * n = omega (arith, c.read_lower.auto.out, c.requires.fits.sectors.whole) in
+    let sectors : c.from.result ≡ block_sectors v = c.from.ensures in
+    let whole_out : length c.args.out.now ≡ 512 * n = omega (arith, c.requires.fits.sectors.whole) in
+    let many_are : length c.args.out.now / v.data_block ≡ n / block_sectors v = digest-count config v p n tree.data found loaded line is at c.args.out.now whole_out in
+    let blocks_few = few-blocks config v p n tree.data found loaded line is at in
     let inv = c.checks.invariant in
     let j : ℕ = c.checks.at in
-    let are = digests-are config v p n tree.data found loaded line is at bytes_read _ len inv.all in
-    let inside : j < n / block_sectors v = omega (arith, inv.inside, are.0) in
-    let did : Read = record { old = old; new = map g.D.BlockDev.state c.checks.reader.devices.items; before = found; after = inv.after } in
-    let way = map block_bytes (take (levels (tree_of v)) c.checks.path.items) in
-    record {
-      after = inv.after;
-      out = inv.out;
-      reads = next-differs config v p n tree.data found loaded line is at j bytes_read c.checks.expected way did inside inv.were inv.next (other-digest _ c.checks.expected _ v.salt (are.1 j _ inside) c.if-ne.ensures);
-    }
+    let r : ℕ = c.checks.read in
+    let len : length c.checks.out ≡ 512 * n = omega (arith, inv.size, whole_out) in
+    let inside : j < n / block_sectors v = omega (arith, c.checks-test.true, many_are) in
+    let read : r ≤ n / block_sectors v = omega (arith, inv.most, many_are) in
+    let index : p.first / c.from.result + j ≡ p.first / block_sectors v + j = ap (λ (k : ℕ). p.first / k + j) sectors in
+    let there : p.first / c.from.result + j < v.blocks = omega (arith, index, at.there j inside) in
+    let did : Read = record { old = old; new = map state c.checks.reader.devices.items; before = found; after = inv.after } in
+    let end_j = blocks-end config v p n tree.data found loaded line is at c.checks.out (j + 1) len (omega (arith, inside)) in
+    let size = block-size config v p n tree.data found loaded line is at in
+    let depths : depth config (mapped tree.device.0) ≡ depth config (mapped p.device.0) = ap (λ (x : DevId). depth config (mapped x.0)) c.tree_at-tree.ensures.at in
+    let stack = stack-later config inv.had.moved.moved.fixed c.requires.stack inv.cached in
+    (omega (arith, depths), (within, (stack, (record { lies = c.tree_at-tree.ensures.tree; there = there }, inv.held))))
 
-pub read_blocks-slice_bounds-way-end : goal.read_blocks-slice_bounds-way-end
-read_blocks-slice_bounds-way-end g t c =
+pub read_blocks-returns-in-Err-clause-reads : goal.read_blocks-returns-in-Err-clause-reads
+read_blocks-returns-in-Err-clause-reads g t c =
     let config = c.args.config.now in
     let p = c.args.part in
     let n : ℕ = length c.args.out.now / 512 in
     let v = c.verity_at-verity.result.now in
     let tree = c.tree_at-tree.result in
-    let old = map g.D.BlockDev.state c.args.reader.now.devices.items in
+    let state = g.D.BlockDev.state in
+    let old = map state c.args.reader.now.devices.items in
     let found = c.args.found.now.items in
     let loaded = c.requires.stack.sound.loaded in
     let line = c.verity_at-verity.ensures in
     let is = c.tree_at-tree.ensures.tree.on_data in
     let at = blocks-at config v p n found tree.data loaded (omega (arith, c.requires.fits.sectors.some, c.requires.fits.sectors.whole)) line c.requires.fits.holds c.requires.can_go is in
-    let inv = c.checks.invariant in
-    let levels_are : c.levels-levels.result ≡ levels (tree_of v) = c.levels-levels.ensures.value ∙ ap levels c.tree_at-tree.ensures.tree.shape_is in
-    let long = way-whole config v (p.first / block_sectors v + c.checks.at) c.checks.path.items inv.next.walked in
-    let value : length c.as_slice.result.now ≡ length c.checks.path.items = ap (λ (l : List CachedBlock). length l) c.as_slice.ensures.value in
-    sym (length-take-le c.levels-levels.result c.as_slice.result.now (omega (arith, long, levels_are, value)))
-
-pub read_blocks-overflow_mul-content : goal.read_blocks-overflow_mul-content
-read_blocks-overflow_mul-content g t c =
-    let config = c.args.config.now in
-    let p = c.args.part in
-    let n : ℕ = length c.args.out.now / 512 in
-    let v = c.verity_at-verity.result.now in
-    let tree = c.tree_at-tree.result in
-    let old = map g.D.BlockDev.state c.args.reader.now.devices.items in
-    let found = c.args.found.now.items in
-    let loaded = c.requires.stack.sound.loaded in
-    let line = c.verity_at-verity.ensures in
-    let is = c.tree_at-tree.ensures.tree.on_data in
-    let at = blocks-at config v p n found tree.data loaded (omega (arith, c.requires.fits.sectors.some, c.requires.fits.sectors.whole)) line c.requires.fits.holds c.requires.can_go is in
-    let bytes_read : List ℕ = c.read_lower.new.out in
-    let len : length bytes_read ≡ 512 * n = omega (arith, c.read_lower.auto.out, c.requires.fits.sectors.whole) in
+    let sectors : c.from.result ≡ block_sectors v = c.from.ensures in
+    let whole_out : length c.args.out.now ≡ 512 * n = omega (arith, c.requires.fits.sectors.whole) in
+    let many_are : length c.args.out.now / v.data_block ≡ n / block_sectors v = digest-count config v p n tree.data found loaded line is at c.args.out.now whole_out in
+    let blocks_few = few-blocks config v p n tree.data found loaded line is at in
     let inv = c.checks.invariant in
     let j : ℕ = c.checks.at in
-    let are = digests-are config v p n tree.data found loaded line is at bytes_read _ len inv.all in
-    let inside : j < n / block_sectors v = omega (arith, inv.inside, are.0) in
-    let did : Read = record { old = old; new = map g.D.BlockDev.state c.checks.reader.devices.items; before = found; after = inv.after } in
-    let way = map block_bytes (take (levels (tree_of v)) c.checks.path.items) in
-    let ends = block-ends config v p n tree.data found loaded line is at bytes_read j len inside in
-    let starts : j * v.data_block ≤ (j + 1) * v.data_block = mul-le-mul_right v.data_block (omega arith) in
-    omega (arith, ends, starts, c.read_lower.auto.out)
-
-pub read_blocks-slice_bounds-content-end : goal.read_blocks-slice_bounds-content-end
-read_blocks-slice_bounds-content-end g t c =
-    let config = c.args.config.now in
-    let p = c.args.part in
-    let n : ℕ = length c.args.out.now / 512 in
-    let v = c.verity_at-verity.result.now in
-    let tree = c.tree_at-tree.result in
-    let old = map g.D.BlockDev.state c.args.reader.now.devices.items in
-    let found = c.args.found.now.items in
-    let loaded = c.requires.stack.sound.loaded in
-    let line = c.verity_at-verity.ensures in
-    let is = c.tree_at-tree.ensures.tree.on_data in
-    let at = blocks-at config v p n found tree.data loaded (omega (arith, c.requires.fits.sectors.some, c.requires.fits.sectors.whole)) line c.requires.fits.holds c.requires.can_go is in
-    let bytes_read : List ℕ = c.read_lower.new.out in
-    let len : length bytes_read ≡ 512 * n = omega (arith, c.read_lower.auto.out, c.requires.fits.sectors.whole) in
-    let inv = c.checks.invariant in
-    let j : ℕ = c.checks.at in
-    let are = digests-are config v p n tree.data found loaded line is at bytes_read _ len inv.all in
-    let inside : j < n / block_sectors v = omega (arith, inv.inside, are.0) in
-    let did : Read = record { old = old; new = map g.D.BlockDev.state c.checks.reader.devices.items; before = found; after = inv.after } in
-    let way = map block_bytes (take (levels (tree_of v)) c.checks.path.items) in
-    let ends = block-ends config v p n tree.data found loaded line is at bytes_read j len inside in
-    let starts : j * v.data_block ≤ (j + 1) * v.data_block = mul-le-mul_right v.data_block (omega arith) in
-    omega (arith, ends, starts, c.read_lower.auto.out)
-
-pub read_blocks-returns-in-Err-keep-clause-reads : goal.read_blocks-returns-in-Err-keep-clause-reads
-read_blocks-returns-in-Err-keep-clause-reads g t c =
-    let config = c.args.config.now in
-    let p = c.args.part in
-    let n : ℕ = length c.args.out.now / 512 in
-    let v = c.verity_at-verity.result.now in
-    let tree = c.tree_at-tree.result in
-    let old = map g.D.BlockDev.state c.args.reader.now.devices.items in
-    let found = c.args.found.now.items in
-    let loaded = c.requires.stack.sound.loaded in
-    let line = c.verity_at-verity.ensures in
-    let is = c.tree_at-tree.ensures.tree.on_data in
-    let at = blocks-at config v p n found tree.data loaded (omega (arith, c.requires.fits.sectors.some, c.requires.fits.sectors.whole)) line c.requires.fits.holds c.requires.can_go is in
-    let bytes_read : List ℕ = c.read_lower.new.out in
-    let len : length bytes_read ≡ 512 * n = omega (arith, c.read_lower.auto.out, c.requires.fits.sectors.whole) in
-    let inv = c.checks.invariant in
-    let j : ℕ = c.checks.at in
-    let are = digests-are config v p n tree.data found loaded line is at bytes_read _ len inv.all in
-    let inside : j < n / block_sectors v = omega (arith, inv.inside, are.0) in
-    let did : Read = record { old = old; new = map g.D.BlockDev.state c.checks.reader.devices.items; before = found; after = inv.after } in
-    let way = map block_bytes (take (levels (tree_of v)) c.checks.path.items) in
-    record {
-      after = inv.after;
-      out = subst (AreHandedOut c.args.chains found inv.after) (sym c.in-Err-keep.ensures.err) inv.out;
-      reads = next-full config v p n tree.data found loaded line is at j bytes_read c.checks.expected way did inside inv.were inv.next;
-    }
-
-pub read_blocks-returns-then-at-got-clause-reads : goal.read_blocks-returns-then-at-got-clause-reads
-read_blocks-returns-then-at-got-clause-reads g t c =
-    let config = c.args.config.now in
-    let p = c.args.part in
-    let n : ℕ = length c.args.out.now / 512 in
-    let v = c.verity_at-verity.result.now in
-    let tree = c.tree_at-tree.result in
-    let old = map g.D.BlockDev.state c.args.reader.now.devices.items in
-    let found = c.args.found.now.items in
-    let loaded = c.requires.stack.sound.loaded in
-    let line = c.verity_at-verity.ensures in
-    let is = c.tree_at-tree.ensures.tree.on_data in
-    let at = blocks-at config v p n found tree.data loaded (omega (arith, c.requires.fits.sectors.some, c.requires.fits.sectors.whole)) line c.requires.fits.holds c.requires.can_go is in
-    let bytes_read : List ℕ = c.read_lower.new.out in
-    let len : length bytes_read ≡ 512 * n = omega (arith, c.read_lower.auto.out, c.requires.fits.sectors.whole) in
-    let inv = c.checks.invariant in
-    let j : ℕ = c.checks.at in
-    let are = digests-are config v p n tree.data found loaded line is at bytes_read _ len inv.all in
-    let inside : j < n / block_sectors v = omega (arith, inv.inside, are.0) in
-    let did : Read = record { old = old; new = map g.D.BlockDev.state c.checks.reader.devices.items; before = found; after = inv.after } in
-    let way = map block_bytes (take (levels (tree_of v)) c.checks.path.items) in
-    let good = same-digest _ c.checks.expected _ v.salt (are.1 j _ inside) c.if-ne.ensures in
-    let content = c.as_slice.ensures.value in
-    let levels_are : c.levels-levels.result ≡ levels (tree_of v) = c.levels-levels.ensures.value ∙ ap levels c.tree_at-tree.ensures.tree.shape_is in
-    let goes : map block_bytes (take c.levels-levels.result c.as_slice.result.now) ≡ way =
-    ap (λ (l : List CachedBlock). map block_bytes (take c.levels-levels.result l)) c.as_slice.ensures.value ∙ ap (λ (k : ℕ). map block_bytes (take k c.checks.path.items)) levels_are in
-    let block : List ℕ = take ((j + 1) * v.data_block - j * v.data_block) (drop (j * v.data_block) bytes_read) in
-    let one : FoundRecord = record { device = p.device.0; line = p.line; chain = record { index = c.checks.index; content = block; path = map block_bytes (take c.levels-levels.result c.as_slice.result.now) } } in
-    let out = one-out c.args.chains found inv.after c.checks.found.items _ one inv.out c.in-Ok-keep.ensures.ok in
-    let had = next-had config v p n tree.data found loaded line is at j bytes_read c.checks.expected way did inside inv.were inv.next c.checks.index block _ inv.index (block-slice bytes_read (block_sectors v) v.data_block j at.size.whole) goes good in
-    record { after = inv.after ++ (one ∷ []); out = out; reads = had-all config v p n tree.data found loaded line is at (j + 1) bytes_read _ (omega (arith, are.0, c.if-at-got.true)) len had }
+    let r : ℕ = c.checks.read in
+    let len : length c.checks.out ≡ 512 * n = omega (arith, inv.size, whole_out) in
+    let inside : j < n / block_sectors v = omega (arith, c.checks-test.true, many_are) in
+    let read : r ≤ n / block_sectors v = omega (arith, inv.most, many_are) in
+    let index : p.first / c.from.result + j ≡ p.first / block_sectors v + j = ap (λ (k : ℕ). p.first / k + j) sectors in
+    let there : p.first / c.from.result + j < v.blocks = omega (arith, index, at.there j inside) in
+    let did : Read = record { old = old; new = map state c.checks.reader.devices.items; before = found; after = inv.after } in
+    let end_j = blocks-end config v p n tree.data found loaded line is at c.checks.out (j + 1) len (omega (arith, inside)) in
+    let size = block-size config v p n tree.data found loaded line is at in
+    let got = subst (λ (k : ℕ). GetsChain (block_in config v k) did.new (map state c.walk_path.new.reader.devices.items) (Err c.in-Err.first)) index c.in-Err.ensures.err in
+    record { after = inv.after; out = inv.out; reads = had-fails config v p n tree.data found loaded line is at r j c.checks.out did c.in-Err.first read inside inv.had c.in-Err.ensures.moved got }
 
 pub read_blocks-overflow_add-index : goal.read_blocks-overflow_add-index
 read_blocks-overflow_add-index g t c =
@@ -1184,89 +956,758 @@ read_blocks-overflow_add-index g t c =
     let n : ℕ = length c.args.out.now / 512 in
     let v = c.verity_at-verity.result.now in
     let tree = c.tree_at-tree.result in
-    let old = map g.D.BlockDev.state c.args.reader.now.devices.items in
+    let state = g.D.BlockDev.state in
+    let old = map state c.args.reader.now.devices.items in
     let found = c.args.found.now.items in
     let loaded = c.requires.stack.sound.loaded in
     let line = c.verity_at-verity.ensures in
     let is = c.tree_at-tree.ensures.tree.on_data in
     let at = blocks-at config v p n found tree.data loaded (omega (arith, c.requires.fits.sectors.some, c.requires.fits.sectors.whole)) line c.requires.fits.holds c.requires.can_go is in
-    let bytes_read : List ℕ = c.read_lower.new.out in
-    let len : length bytes_read ≡ 512 * n = omega (arith, c.read_lower.auto.out, c.requires.fits.sectors.whole) in
+    let sectors : c.from.result ≡ block_sectors v = c.from.ensures in
+    let whole_out : length c.args.out.now ≡ 512 * n = omega (arith, c.requires.fits.sectors.whole) in
+    let many_are : length c.args.out.now / v.data_block ≡ n / block_sectors v = digest-count config v p n tree.data found loaded line is at c.args.out.now whole_out in
+    let blocks_few = few-blocks config v p n tree.data found loaded line is at in
     let inv = c.checks.invariant in
     let j : ℕ = c.checks.at in
-    let are = digests-are config v p n tree.data found loaded line is at bytes_read _ len inv.all in
-    let inside : j < n / block_sectors v = omega (arith, inv.inside, are.0) in
-    let did : Read = record { old = old; new = map g.D.BlockDev.state c.checks.reader.devices.items; before = found; after = inv.after } in
-    let way = map block_bytes (take (levels (tree_of v)) c.checks.path.items) in
+    let r : ℕ = c.checks.read in
+    let len : length c.checks.out ≡ 512 * n = omega (arith, inv.size, whole_out) in
+    let inside : j < n / block_sectors v = omega (arith, c.checks-test.true, many_are) in
+    let read : r ≤ n / block_sectors v = omega (arith, inv.most, many_are) in
+    let index : p.first / c.from.result + j ≡ p.first / block_sectors v + j = ap (λ (k : ℕ). p.first / k + j) sectors in
+    let there : p.first / c.from.result + j < v.blocks = omega (arith, index, at.there j inside) in
+    let did : Read = record { old = old; new = map state c.checks.reader.devices.items; before = found; after = inv.after } in
+    let end_j = blocks-end config v p n tree.data found loaded line is at c.checks.out (j + 1) len (omega (arith, inside)) in
+    let size = block-size config v p n tree.data found loaded line is at in
     let small = size-small config tree.data loaded in
     let low = small-index config v p n tree.data found loaded line is at j inside in
-    omega (arith, small, low, at.below, inv.index)
+    omega (arith, small, low, at.below, index)
 
-pub read_blocks-walk_path-requires-in-checks : goal.read_blocks-walk_path-requires-in-checks
-read_blocks-walk_path-requires-in-checks g t c κs within =
+pub read_blocks-overflow_mul-from : goal.read_blocks-overflow_mul-from
+read_blocks-overflow_mul-from g t c =
     let config = c.args.config.now in
     let p = c.args.part in
     let n : ℕ = length c.args.out.now / 512 in
     let v = c.verity_at-verity.result.now in
     let tree = c.tree_at-tree.result in
-    let old = map g.D.BlockDev.state c.args.reader.now.devices.items in
+    let state = g.D.BlockDev.state in
+    let old = map state c.args.reader.now.devices.items in
     let found = c.args.found.now.items in
     let loaded = c.requires.stack.sound.loaded in
     let line = c.verity_at-verity.ensures in
     let is = c.tree_at-tree.ensures.tree.on_data in
     let at = blocks-at config v p n found tree.data loaded (omega (arith, c.requires.fits.sectors.some, c.requires.fits.sectors.whole)) line c.requires.fits.holds c.requires.can_go is in
-    let bytes_read : List ℕ = c.read_lower.new.out in
-    let len : length bytes_read ≡ 512 * n = omega (arith, c.read_lower.auto.out, c.requires.fits.sectors.whole) in
+    let sectors : c.from.result ≡ block_sectors v = c.from.ensures in
+    let whole_out : length c.args.out.now ≡ 512 * n = omega (arith, c.requires.fits.sectors.whole) in
+    let many_are : length c.args.out.now / v.data_block ≡ n / block_sectors v = digest-count config v p n tree.data found loaded line is at c.args.out.now whole_out in
+    let blocks_few = few-blocks config v p n tree.data found loaded line is at in
     let inv = c.checks.invariant in
     let j : ℕ = c.checks.at in
-    let are = digests-are config v p n tree.data found loaded line is at bytes_read _ len inv.all in
-    let inside : j < n / block_sectors v = omega (arith, inv.inside, are.0) in
-    let did : Read = record { old = old; new = map g.D.BlockDev.state c.checks.reader.devices.items; before = found; after = inv.after } in
-    let way = map block_bytes (take (levels (tree_of v)) c.checks.path.items) in
-    let more : j + 1 < n / block_sectors v = omega (arith, are.0, inside, c.if-at-got.false) in
+    let r : ℕ = c.checks.read in
+    let len : length c.checks.out ≡ 512 * n = omega (arith, inv.size, whole_out) in
+    let inside : j < n / block_sectors v = omega (arith, c.checks-test.true, many_are) in
+    let read : r ≤ n / block_sectors v = omega (arith, inv.most, many_are) in
+    let index : p.first / c.from.result + j ≡ p.first / block_sectors v + j = ap (λ (k : ℕ). p.first / k + j) sectors in
+    let there : p.first / c.from.result + j < v.blocks = omega (arith, index, at.there j inside) in
+    let did : Read = record { old = old; new = map state c.checks.reader.devices.items; before = found; after = inv.after } in
+    let end_j = blocks-end config v p n tree.data found loaded line is at c.checks.out (j + 1) len (omega (arith, inside)) in
+    let size = block-size config v p n tree.data found loaded line is at in
+    omega (arith, end_j, add-mul j 1 v.data_block)
+
+pub read_blocks-read_beneath-requires : goal.read_blocks-read_beneath-requires
+read_blocks-read_beneath-requires g t c κs within =
+    let config = c.args.config.now in
+    let p = c.args.part in
+    let n : ℕ = length c.args.out.now / 512 in
+    let v = c.verity_at-verity.result.now in
+    let tree = c.tree_at-tree.result in
+    let state = g.D.BlockDev.state in
+    let old = map state c.args.reader.now.devices.items in
+    let found = c.args.found.now.items in
+    let loaded = c.requires.stack.sound.loaded in
+    let line = c.verity_at-verity.ensures in
+    let is = c.tree_at-tree.ensures.tree.on_data in
+    let at = blocks-at config v p n found tree.data loaded (omega (arith, c.requires.fits.sectors.some, c.requires.fits.sectors.whole)) line c.requires.fits.holds c.requires.can_go is in
+    let sectors : c.from.result ≡ block_sectors v = c.from.ensures in
+    let whole_out : length c.args.out.now ≡ 512 * n = omega (arith, c.requires.fits.sectors.whole) in
+    let many_are : length c.args.out.now / v.data_block ≡ n / block_sectors v = digest-count config v p n tree.data found loaded line is at c.args.out.now whole_out in
+    let blocks_few = few-blocks config v p n tree.data found loaded line is at in
+    let inv = c.checks.invariant in
+    let j : ℕ = c.checks.at in
+    let r : ℕ = c.checks.read in
+    let len : length c.checks.out ≡ 512 * n = omega (arith, inv.size, whole_out) in
+    let inside : j < n / block_sectors v = omega (arith, c.checks-test.true, many_are) in
+    let read : r ≤ n / block_sectors v = omega (arith, inv.most, many_are) in
+    let index : p.first / c.from.result + j ≡ p.first / block_sectors v + j = ap (λ (k : ℕ). p.first / k + j) sectors in
+    let there : p.first / c.from.result + j < v.blocks = omega (arith, index, at.there j inside) in
+    let did : Read = record { old = old; new = map state c.checks.reader.devices.items; before = found; after = inv.after } in
+    let end_j = blocks-end config v p n tree.data found loaded line is at c.checks.out (j + 1) len (omega (arith, inside)) in
+    let size = block-size config v p n tree.data found loaded line is at in
+    let walk = map state c.walk_path.new.reader.devices.items in
+    let way = map block_bytes (take (levels (tree_of v)) c.walk_path.new.path.items) in
+    let expected = c.in-Ok.expected in
+    let walked = subst (λ (k : ℕ). IsWalked (block_in config v k) 0 expected way did.new walk) index c.in-Ok.ensures.ok in
+    let many : ℕ = c.row_len-many.result in
+    let most : j + many ≤ n / block_sectors v = omega (arith, c.row_len-many.ensures.most, many_are) in
+    let end_row = blocks-end config v p n tree.data found loaded line is at c.checks.out (j + many) len most in
+    let row_end : j * v.data_block + many * v.data_block ≤ length c.checks.out = omega (arith, end_row, add-mul j many v.data_block) in
+    let wide = block-begin config v p n tree.data found loaded line is at many in
+    let extent : c.data_extent-extent.result.first ≡ block_sectors v * (p.first / block_sectors v + j) = ap (λ (e : Extent). e.first) c.data_extent-extent.ensures.value ∙ ap (λ (k : ℕ). block_sectors v * k) index in
+    let part_len = length-take-le (j * v.data_block + many * v.data_block - j * v.data_block) (drop (j * v.data_block) c.checks.out) (omega (arith, row_end, length-drop (j * v.data_block) c.checks.out)) in
+    let row_sectors : length (take (j * v.data_block + many * v.data_block - j * v.data_block) (drop (j * v.data_block) c.checks.out)) / 512 ≡ many * block_sectors v = omega (arith, part_len, wide) in
     let depths : depth config (mapped tree.device.0) ≡ depth config (mapped p.device.0) = ap (λ (x : DevId). depth config (mapped x.0)) c.tree_at-tree.ensures.at in
-    let there : c.checks.index + 1 < v.blocks = omega (arith, at.there (j + 1) more, inv.index) in
-    let stack = stack-later config inv.next.moved.moved.fixed c.requires.stack inv.cached in
-    (omega (arith, depths), (within, (stack, (record { lies = c.tree_at-tree.ensures.tree; there = there }, inv.held))))
+    let deep = data-depth config v tree loaded c.tree_at-tree.ensures.tree in
+    let fits = row-inside config v p n tree.data found loaded line is at j many most in
+    let before = stack-later config inv.had.moved.moved.fixed c.requires.stack inv.cached in
+    let stack = stack-later config c.in-Ok.ensures.moved.moved.fixed before c.in-Ok.ensures.cached in
+    (omega (arith, deep, depths), (within, (stack, (omega (arith, part_len, wide), omega (arith, fits, extent, row_sectors)))))
 
-pub read_blocks-returns-in-Err-walk_path-clause-reads : goal.read_blocks-returns-in-Err-walk_path-clause-reads
-read_blocks-returns-in-Err-walk_path-clause-reads g t c =
+pub read_blocks-returns-in-Err-read_beneath-clause-reads : goal.read_blocks-returns-in-Err-read_beneath-clause-reads
+read_blocks-returns-in-Err-read_beneath-clause-reads g t c =
     let config = c.args.config.now in
     let p = c.args.part in
     let n : ℕ = length c.args.out.now / 512 in
     let v = c.verity_at-verity.result.now in
     let tree = c.tree_at-tree.result in
-    let old = map g.D.BlockDev.state c.args.reader.now.devices.items in
+    let state = g.D.BlockDev.state in
+    let old = map state c.args.reader.now.devices.items in
     let found = c.args.found.now.items in
     let loaded = c.requires.stack.sound.loaded in
     let line = c.verity_at-verity.ensures in
     let is = c.tree_at-tree.ensures.tree.on_data in
     let at = blocks-at config v p n found tree.data loaded (omega (arith, c.requires.fits.sectors.some, c.requires.fits.sectors.whole)) line c.requires.fits.holds c.requires.can_go is in
-    let bytes_read : List ℕ = c.read_lower.new.out in
-    let len : length bytes_read ≡ 512 * n = omega (arith, c.read_lower.auto.out, c.requires.fits.sectors.whole) in
+    let sectors : c.from.result ≡ block_sectors v = c.from.ensures in
+    let whole_out : length c.args.out.now ≡ 512 * n = omega (arith, c.requires.fits.sectors.whole) in
+    let many_are : length c.args.out.now / v.data_block ≡ n / block_sectors v = digest-count config v p n tree.data found loaded line is at c.args.out.now whole_out in
+    let blocks_few = few-blocks config v p n tree.data found loaded line is at in
     let inv = c.checks.invariant in
     let j : ℕ = c.checks.at in
-    let are = digests-are config v p n tree.data found loaded line is at bytes_read _ len inv.all in
-    let inside : j < n / block_sectors v = omega (arith, inv.inside, are.0) in
-    let did : Read = record { old = old; new = map g.D.BlockDev.state c.checks.reader.devices.items; before = found; after = inv.after } in
-    let way = map block_bytes (take (levels (tree_of v)) c.checks.path.items) in
-    let more : j + 1 < n / block_sectors v = omega (arith, are.0, inside, c.if-at-got.false) in
-    let good = same-digest _ c.checks.expected _ v.salt (are.1 j _ inside) c.if-ne.ensures in
-    let content = c.as_slice.ensures.value in
-    let levels_are : c.levels-levels.result ≡ levels (tree_of v) = c.levels-levels.ensures.value ∙ ap levels c.tree_at-tree.ensures.tree.shape_is in
-    let goes : map block_bytes (take c.levels-levels.result c.as_slice.result.now) ≡ way =
-    ap (λ (l : List CachedBlock). map block_bytes (take c.levels-levels.result l)) c.as_slice.ensures.value ∙ ap (λ (k : ℕ). map block_bytes (take k c.checks.path.items)) levels_are in
-    let block : List ℕ = take ((j + 1) * v.data_block - j * v.data_block) (drop (j * v.data_block) bytes_read) in
-    let one : FoundRecord = record { device = p.device.0; line = p.line; chain = record { index = c.checks.index; content = block; path = map block_bytes (take c.levels-levels.result c.as_slice.result.now) } } in
-    let out = one-out c.args.chains found inv.after c.checks.found.items _ one inv.out c.in-Ok-keep.ensures.ok in
-    let had = next-had config v p n tree.data found loaded line is at j bytes_read c.checks.expected way did inside inv.were inv.next c.checks.index block _ inv.index (block-slice bytes_read (block_sectors v) v.data_block j at.size.whole) goes good in
-    let number : c.checks.index + 1 ≡ p.first / block_sectors v + (j + 1) = omega (arith, inv.index) in
-    let new = map g.D.BlockDev.state c.walk_path-in-checks.new.reader.devices.items in
-    let got = subst (λ (k : ℕ). GetsChain (block_in config v k) did.new new (Err c.in-Err-walk_path.first)) number c.in-Err-walk_path.ensures.err in
+    let r : ℕ = c.checks.read in
+    let len : length c.checks.out ≡ 512 * n = omega (arith, inv.size, whole_out) in
+    let inside : j < n / block_sectors v = omega (arith, c.checks-test.true, many_are) in
+    let read : r ≤ n / block_sectors v = omega (arith, inv.most, many_are) in
+    let index : p.first / c.from.result + j ≡ p.first / block_sectors v + j = ap (λ (k : ℕ). p.first / k + j) sectors in
+    let there : p.first / c.from.result + j < v.blocks = omega (arith, index, at.there j inside) in
+    let did : Read = record { old = old; new = map state c.checks.reader.devices.items; before = found; after = inv.after } in
+    let end_j = blocks-end config v p n tree.data found loaded line is at c.checks.out (j + 1) len (omega (arith, inside)) in
+    let size = block-size config v p n tree.data found loaded line is at in
+    let walk = map state c.walk_path.new.reader.devices.items in
+    let way = map block_bytes (take (levels (tree_of v)) c.walk_path.new.path.items) in
+    let expected = c.in-Ok.expected in
+    let walked = subst (λ (k : ℕ). IsWalked (block_in config v k) 0 expected way did.new walk) index c.in-Ok.ensures.ok in
+    let many : ℕ = c.row_len-many.result in
+    let most : j + many ≤ n / block_sectors v = omega (arith, c.row_len-many.ensures.most, many_are) in
+    let end_row = blocks-end config v p n tree.data found loaded line is at c.checks.out (j + many) len most in
+    let row_end : j * v.data_block + many * v.data_block ≤ length c.checks.out = omega (arith, end_row, add-mul j many v.data_block) in
+    let wide = block-begin config v p n tree.data found loaded line is at many in
+    let extent : c.data_extent-extent.result.first ≡ block_sectors v * (p.first / block_sectors v + j) = ap (λ (e : Extent). e.first) c.data_extent-extent.ensures.value ∙ ap (λ (k : ℕ). block_sectors v * k) index in
+    let part_len = length-take-le (j * v.data_block + many * v.data_block - j * v.data_block) (drop (j * v.data_block) c.checks.out) (omega (arith, row_end, length-drop (j * v.data_block) c.checks.out)) in
+    let row_sectors : length (take (j * v.data_block + many * v.data_block - j * v.data_block) (drop (j * v.data_block) c.checks.out)) / 512 ≡ many * block_sectors v = omega (arith, part_len, wide) in
+    let gets = c.in-Err-read_beneath.ensures.reads in
+    let new = map state c.read_beneath.new.reader.devices.items in
+    let fault = c.in-Err-read_beneath.met in
+    let got = subst (λ (k : ℕ). Gets (run_expected (place_of config tree.data) gets.chains (block_sectors v * (p.first / block_sectors v + j)) k) walk new (Err fault)) row_sectors
+    (subst (λ (k : ℕ). Gets (run_expected (place_of config tree.data) gets.chains k (length (take (j * v.data_block + many * v.data_block - j * v.data_block) (drop (j * v.data_block) c.checks.out)) / 512)) walk new (Err fault)) extent gets.got) in
     record {
-      after = inv.after ++ (one ∷ []);
-      out = out;
-      reads = had-fails config v p n tree.data found loaded line is at (j + 1) bytes_read _ c.in-Err-walk_path.first more had c.in-Err-walk_path.ensures.moved got;
+      after = inv.after;
+      out = inv.out;
+      reads = row-fails config v p n tree.data found loaded line is at r j many c.checks.out expected way did walk inside read most c.row_len-many.ensures.fresh inv.had c.in-Ok.ensures.moved (max r (j + many)) refl walked new gets.chains fault got;
+    }
+
+pub read_blocks-shape_of-out-in-Err : goal.read_blocks-shape_of-out-in-Err
+read_blocks-shape_of-out-in-Err g t c =
+    c.checks.invariant.size
+
+pub read_blocks-slice_bounds-way-end : goal.read_blocks-slice_bounds-way-end
+read_blocks-slice_bounds-way-end g t c =
+    let config = c.args.config.now in
+    let p = c.args.part in
+    let n : ℕ = length c.args.out.now / 512 in
+    let v = c.verity_at-verity.result.now in
+    let tree = c.tree_at-tree.result in
+    let state = g.D.BlockDev.state in
+    let old = map state c.args.reader.now.devices.items in
+    let found = c.args.found.now.items in
+    let loaded = c.requires.stack.sound.loaded in
+    let line = c.verity_at-verity.ensures in
+    let is = c.tree_at-tree.ensures.tree.on_data in
+    let at = blocks-at config v p n found tree.data loaded (omega (arith, c.requires.fits.sectors.some, c.requires.fits.sectors.whole)) line c.requires.fits.holds c.requires.can_go is in
+    let sectors : c.from.result ≡ block_sectors v = c.from.ensures in
+    let whole_out : length c.args.out.now ≡ 512 * n = omega (arith, c.requires.fits.sectors.whole) in
+    let many_are : length c.args.out.now / v.data_block ≡ n / block_sectors v = digest-count config v p n tree.data found loaded line is at c.args.out.now whole_out in
+    let blocks_few = few-blocks config v p n tree.data found loaded line is at in
+    let inv = c.checks.invariant in
+    let j : ℕ = c.checks.at in
+    let r : ℕ = c.checks.read in
+    let len : length c.checks.out ≡ 512 * n = omega (arith, inv.size, whole_out) in
+    let inside : j < n / block_sectors v = omega (arith, c.checks-test.true, many_are) in
+    let read : r ≤ n / block_sectors v = omega (arith, inv.most, many_are) in
+    let index : p.first / c.from.result + j ≡ p.first / block_sectors v + j = ap (λ (k : ℕ). p.first / k + j) sectors in
+    let there : p.first / c.from.result + j < v.blocks = omega (arith, index, at.there j inside) in
+    let did : Read = record { old = old; new = map state c.checks.reader.devices.items; before = found; after = inv.after } in
+    let end_j = blocks-end config v p n tree.data found loaded line is at c.checks.out (j + 1) len (omega (arith, inside)) in
+    let size = block-size config v p n tree.data found loaded line is at in
+    let levels_are : c.levels-levels.result ≡ levels (tree_of v) = c.levels-levels.ensures.value ∙ ap levels c.tree_at-tree.ensures.tree.shape_is in
+    let long = way-whole config v (p.first / c.from.result + j) c.walk_path.new.path.items c.in-Ok.ensures.ok in
+    let value : length c.as_slice.result.now ≡ length c.walk_path.new.path.items = ap (λ (l : List CachedBlock). length l) c.as_slice.ensures.value in
+    sym (length-take-le c.levels-levels.result c.as_slice.result.now (omega (arith, long, levels_are, value)))
+
+pub read_blocks-shape_of-out : goal.read_blocks-shape_of-out
+read_blocks-shape_of-out g t c =
+    c.checks.invariant.size
+
+pub read_blocks-shape_of-out-in-Err-read_beneath : goal.read_blocks-shape_of-out-in-Err-read_beneath
+read_blocks-shape_of-out-in-Err-read_beneath g t c =
+    same_len_mid _ _ _ _ c.read_beneath.auto.out ∙ c.checks.invariant.size
+
+pub read_blocks-shape_of-out-then-not-settle : goal.read_blocks-shape_of-out-then-not-settle
+read_blocks-shape_of-out-then-not-settle g t c =
+    same_len_mid _ _ _ _ c.settle.auto.block ∙ same_len_mid _ _ _ _ c.read_beneath.auto.out ∙ c.checks.invariant.size
+
+pub read_blocks-shape_of-out-in-Err-keep : goal.read_blocks-shape_of-out-in-Err-keep
+read_blocks-shape_of-out-in-Err-keep g t c =
+    same_len_mid _ _ _ _ c.settle.auto.block ∙ same_len_mid _ _ _ _ c.read_beneath.auto.out ∙ c.checks.invariant.size
+
+pub read_blocks-data_extent-extent-requires-clause-block : goal.read_blocks-data_extent-extent-requires-clause-block
+read_blocks-data_extent-extent-requires-clause-block g t c =
+    let config = c.args.config.now in
+    let p = c.args.part in
+    let n : ℕ = length c.args.out.now / 512 in
+    let v = c.verity_at-verity.result.now in
+    let tree = c.tree_at-tree.result in
+    let state = g.D.BlockDev.state in
+    let old = map state c.args.reader.now.devices.items in
+    let found = c.args.found.now.items in
+    let loaded = c.requires.stack.sound.loaded in
+    let line = c.verity_at-verity.ensures in
+    let is = c.tree_at-tree.ensures.tree.on_data in
+    let at = blocks-at config v p n found tree.data loaded (omega (arith, c.requires.fits.sectors.some, c.requires.fits.sectors.whole)) line c.requires.fits.holds c.requires.can_go is in
+    let sectors : c.from.result ≡ block_sectors v = c.from.ensures in
+    let whole_out : length c.args.out.now ≡ 512 * n = omega (arith, c.requires.fits.sectors.whole) in
+    let many_are : length c.args.out.now / v.data_block ≡ n / block_sectors v = digest-count config v p n tree.data found loaded line is at c.args.out.now whole_out in
+    let blocks_few = few-blocks config v p n tree.data found loaded line is at in
+    let inv = c.checks.invariant in
+    let j : ℕ = c.checks.at in
+    let r : ℕ = c.checks.read in
+    let len : length c.checks.out ≡ 512 * n = omega (arith, inv.size, whole_out) in
+    let inside : j < n / block_sectors v = omega (arith, c.checks-test.true, many_are) in
+    let read : r ≤ n / block_sectors v = omega (arith, inv.most, many_are) in
+    let index : p.first / c.from.result + j ≡ p.first / block_sectors v + j = ap (λ (k : ℕ). p.first / k + j) sectors in
+    let there : p.first / c.from.result + j < v.blocks = omega (arith, index, at.there j inside) in
+    let did : Read = record { old = old; new = map state c.checks.reader.devices.items; before = found; after = inv.after } in
+    let end_j = blocks-end config v p n tree.data found loaded line is at c.checks.out (j + 1) len (omega (arith, inside)) in
+    let size = block-size config v p n tree.data found loaded line is at in
+    record { lies = c.tree_at-tree.ensures.tree; there = there }
+
+pub read_blocks-slice_bounds-row-end : goal.read_blocks-slice_bounds-row-end
+read_blocks-slice_bounds-row-end g t c =
+    let config = c.args.config.now in
+    let p = c.args.part in
+    let n : ℕ = length c.args.out.now / 512 in
+    let v = c.verity_at-verity.result.now in
+    let tree = c.tree_at-tree.result in
+    let state = g.D.BlockDev.state in
+    let old = map state c.args.reader.now.devices.items in
+    let found = c.args.found.now.items in
+    let loaded = c.requires.stack.sound.loaded in
+    let line = c.verity_at-verity.ensures in
+    let is = c.tree_at-tree.ensures.tree.on_data in
+    let at = blocks-at config v p n found tree.data loaded (omega (arith, c.requires.fits.sectors.some, c.requires.fits.sectors.whole)) line c.requires.fits.holds c.requires.can_go is in
+    let sectors : c.from.result ≡ block_sectors v = c.from.ensures in
+    let whole_out : length c.args.out.now ≡ 512 * n = omega (arith, c.requires.fits.sectors.whole) in
+    let many_are : length c.args.out.now / v.data_block ≡ n / block_sectors v = digest-count config v p n tree.data found loaded line is at c.args.out.now whole_out in
+    let blocks_few = few-blocks config v p n tree.data found loaded line is at in
+    let inv = c.checks.invariant in
+    let j : ℕ = c.checks.at in
+    let r : ℕ = c.checks.read in
+    let len : length c.checks.out ≡ 512 * n = omega (arith, inv.size, whole_out) in
+    let inside : j < n / block_sectors v = omega (arith, c.checks-test.true, many_are) in
+    let read : r ≤ n / block_sectors v = omega (arith, inv.most, many_are) in
+    let index : p.first / c.from.result + j ≡ p.first / block_sectors v + j = ap (λ (k : ℕ). p.first / k + j) sectors in
+    let there : p.first / c.from.result + j < v.blocks = omega (arith, index, at.there j inside) in
+    let did : Read = record { old = old; new = map state c.checks.reader.devices.items; before = found; after = inv.after } in
+    let end_j = blocks-end config v p n tree.data found loaded line is at c.checks.out (j + 1) len (omega (arith, inside)) in
+    let size = block-size config v p n tree.data found loaded line is at in
+    let walk = map state c.walk_path.new.reader.devices.items in
+    let way = map block_bytes (take (levels (tree_of v)) c.walk_path.new.path.items) in
+    let expected = c.in-Ok.expected in
+    let walked = subst (λ (k : ℕ). IsWalked (block_in config v k) 0 expected way did.new walk) index c.in-Ok.ensures.ok in
+    let many : ℕ = c.row_len-many.result in
+    let most : j + many ≤ n / block_sectors v = omega (arith, c.row_len-many.ensures.most, many_are) in
+    let end_row = blocks-end config v p n tree.data found loaded line is at c.checks.out (j + many) len most in
+    let row_end : j * v.data_block + many * v.data_block ≤ length c.checks.out = omega (arith, end_row, add-mul j many v.data_block) in
+    let wide = block-begin config v p n tree.data found loaded line is at many in
+    let extent : c.data_extent-extent.result.first ≡ block_sectors v * (p.first / block_sectors v + j) = ap (λ (e : Extent). e.first) c.data_extent-extent.ensures.value ∙ ap (λ (k : ℕ). block_sectors v * k) index in
+    let part_len = length-take-le (j * v.data_block + many * v.data_block - j * v.data_block) (drop (j * v.data_block) c.checks.out) (omega (arith, row_end, length-drop (j * v.data_block) c.checks.out)) in
+    let row_sectors : length (take (j * v.data_block + many * v.data_block - j * v.data_block) (drop (j * v.data_block) c.checks.out)) / 512 ≡ many * block_sectors v = omega (arith, part_len, wide) in
+    omega (arith, row_end)
+
+pub read_blocks-overflow_add-row-in-checks : goal.read_blocks-overflow_add-row-in-checks
+read_blocks-overflow_add-row-in-checks g t c =
+    let config = c.args.config.now in
+    let p = c.args.part in
+    let n : ℕ = length c.args.out.now / 512 in
+    let v = c.verity_at-verity.result.now in
+    let tree = c.tree_at-tree.result in
+    let state = g.D.BlockDev.state in
+    let old = map state c.args.reader.now.devices.items in
+    let found = c.args.found.now.items in
+    let loaded = c.requires.stack.sound.loaded in
+    let line = c.verity_at-verity.ensures in
+    let is = c.tree_at-tree.ensures.tree.on_data in
+    let at = blocks-at config v p n found tree.data loaded (omega (arith, c.requires.fits.sectors.some, c.requires.fits.sectors.whole)) line c.requires.fits.holds c.requires.can_go is in
+    let sectors : c.from.result ≡ block_sectors v = c.from.ensures in
+    let whole_out : length c.args.out.now ≡ 512 * n = omega (arith, c.requires.fits.sectors.whole) in
+    let many_are : length c.args.out.now / v.data_block ≡ n / block_sectors v = digest-count config v p n tree.data found loaded line is at c.args.out.now whole_out in
+    let blocks_few = few-blocks config v p n tree.data found loaded line is at in
+    let inv = c.checks.invariant in
+    let j : ℕ = c.checks.at in
+    let r : ℕ = c.checks.read in
+    let len : length c.checks.out ≡ 512 * n = omega (arith, inv.size, whole_out) in
+    let inside : j < n / block_sectors v = omega (arith, c.checks-test.true, many_are) in
+    let read : r ≤ n / block_sectors v = omega (arith, inv.most, many_are) in
+    let index : p.first / c.from.result + j ≡ p.first / block_sectors v + j = ap (λ (k : ℕ). p.first / k + j) sectors in
+    let there : p.first / c.from.result + j < v.blocks = omega (arith, index, at.there j inside) in
+    let did : Read = record { old = old; new = map state c.checks.reader.devices.items; before = found; after = inv.after } in
+    let end_j = blocks-end config v p n tree.data found loaded line is at c.checks.out (j + 1) len (omega (arith, inside)) in
+    let size = block-size config v p n tree.data found loaded line is at in
+    let walk = map state c.walk_path.new.reader.devices.items in
+    let way = map block_bytes (take (levels (tree_of v)) c.walk_path.new.path.items) in
+    let expected = c.in-Ok.expected in
+    let walked = subst (λ (k : ℕ). IsWalked (block_in config v k) 0 expected way did.new walk) index c.in-Ok.ensures.ok in
+    let many : ℕ = c.row_len-many.result in
+    let most : j + many ≤ n / block_sectors v = omega (arith, c.row_len-many.ensures.most, many_are) in
+    let end_row = blocks-end config v p n tree.data found loaded line is at c.checks.out (j + many) len most in
+    let row_end : j * v.data_block + many * v.data_block ≤ length c.checks.out = omega (arith, end_row, add-mul j many v.data_block) in
+    let wide = block-begin config v p n tree.data found loaded line is at many in
+    let extent : c.data_extent-extent.result.first ≡ block_sectors v * (p.first / block_sectors v + j) = ap (λ (e : Extent). e.first) c.data_extent-extent.ensures.value ∙ ap (λ (k : ℕ). block_sectors v * k) index in
+    let part_len = length-take-le (j * v.data_block + many * v.data_block - j * v.data_block) (drop (j * v.data_block) c.checks.out) (omega (arith, row_end, length-drop (j * v.data_block) c.checks.out)) in
+    let row_sectors : length (take (j * v.data_block + many * v.data_block - j * v.data_block) (drop (j * v.data_block) c.checks.out)) / 512 ≡ many * block_sectors v = omega (arith, part_len, wide) in
+    omega (arith, row_end, len, at.few)
+
+pub read_blocks-slice_bounds-digest_blocks-end : goal.read_blocks-slice_bounds-digest_blocks-end
+read_blocks-slice_bounds-digest_blocks-end g t c =
+    let config = c.args.config.now in
+    let p = c.args.part in
+    let n : ℕ = length c.args.out.now / 512 in
+    let v = c.verity_at-verity.result.now in
+    let tree = c.tree_at-tree.result in
+    let state = g.D.BlockDev.state in
+    let old = map state c.args.reader.now.devices.items in
+    let found = c.args.found.now.items in
+    let loaded = c.requires.stack.sound.loaded in
+    let line = c.verity_at-verity.ensures in
+    let is = c.tree_at-tree.ensures.tree.on_data in
+    let at = blocks-at config v p n found tree.data loaded (omega (arith, c.requires.fits.sectors.some, c.requires.fits.sectors.whole)) line c.requires.fits.holds c.requires.can_go is in
+    let sectors : c.from.result ≡ block_sectors v = c.from.ensures in
+    let whole_out : length c.args.out.now ≡ 512 * n = omega (arith, c.requires.fits.sectors.whole) in
+    let many_are : length c.args.out.now / v.data_block ≡ n / block_sectors v = digest-count config v p n tree.data found loaded line is at c.args.out.now whole_out in
+    let blocks_few = few-blocks config v p n tree.data found loaded line is at in
+    let inv = c.checks.invariant in
+    let j : ℕ = c.checks.at in
+    let r : ℕ = c.checks.read in
+    let len : length c.checks.out ≡ 512 * n = omega (arith, inv.size, whole_out) in
+    let inside : j < n / block_sectors v = omega (arith, c.checks-test.true, many_are) in
+    let read : r ≤ n / block_sectors v = omega (arith, inv.most, many_are) in
+    let index : p.first / c.from.result + j ≡ p.first / block_sectors v + j = ap (λ (k : ℕ). p.first / k + j) sectors in
+    let there : p.first / c.from.result + j < v.blocks = omega (arith, index, at.there j inside) in
+    let did : Read = record { old = old; new = map state c.checks.reader.devices.items; before = found; after = inv.after } in
+    let end_j = blocks-end config v p n tree.data found loaded line is at c.checks.out (j + 1) len (omega (arith, inside)) in
+    let size = block-size config v p n tree.data found loaded line is at in
+    let walk = map state c.walk_path.new.reader.devices.items in
+    let way = map block_bytes (take (levels (tree_of v)) c.walk_path.new.path.items) in
+    let expected = c.in-Ok.expected in
+    let walked = subst (λ (k : ℕ). IsWalked (block_in config v k) 0 expected way did.new walk) index c.in-Ok.ensures.ok in
+    let many : ℕ = c.row_len-many.result in
+    let most : j + many ≤ n / block_sectors v = omega (arith, c.row_len-many.ensures.most, many_are) in
+    let end_row = blocks-end config v p n tree.data found loaded line is at c.checks.out (j + many) len most in
+    let row_end : j * v.data_block + many * v.data_block ≤ length c.checks.out = omega (arith, end_row, add-mul j many v.data_block) in
+    let wide = block-begin config v p n tree.data found loaded line is at many in
+    let extent : c.data_extent-extent.result.first ≡ block_sectors v * (p.first / block_sectors v + j) = ap (λ (e : Extent). e.first) c.data_extent-extent.ensures.value ∙ ap (λ (k : ℕ). block_sectors v * k) index in
+    let part_len = length-take-le (j * v.data_block + many * v.data_block - j * v.data_block) (drop (j * v.data_block) c.checks.out) (omega (arith, row_end, length-drop (j * v.data_block) c.checks.out)) in
+    let row_sectors : length (take (j * v.data_block + many * v.data_block - j * v.data_block) (drop (j * v.data_block) c.checks.out)) / 512 ≡ many * block_sectors v = omega (arith, part_len, wide) in
+    omega (arith, inv.room, most, blocks_few, at.few)
+
+pub read_blocks-digest_blocks-requires-clause-whole : goal.read_blocks-digest_blocks-requires-clause-whole
+read_blocks-digest_blocks-requires-clause-whole g t c =
+    let config = c.args.config.now in
+    let p = c.args.part in
+    let n : ℕ = length c.args.out.now / 512 in
+    let v = c.verity_at-verity.result.now in
+    let tree = c.tree_at-tree.result in
+    let state = g.D.BlockDev.state in
+    let old = map state c.args.reader.now.devices.items in
+    let found = c.args.found.now.items in
+    let loaded = c.requires.stack.sound.loaded in
+    let line = c.verity_at-verity.ensures in
+    let is = c.tree_at-tree.ensures.tree.on_data in
+    let at = blocks-at config v p n found tree.data loaded (omega (arith, c.requires.fits.sectors.some, c.requires.fits.sectors.whole)) line c.requires.fits.holds c.requires.can_go is in
+    let sectors : c.from.result ≡ block_sectors v = c.from.ensures in
+    let whole_out : length c.args.out.now ≡ 512 * n = omega (arith, c.requires.fits.sectors.whole) in
+    let many_are : length c.args.out.now / v.data_block ≡ n / block_sectors v = digest-count config v p n tree.data found loaded line is at c.args.out.now whole_out in
+    let blocks_few = few-blocks config v p n tree.data found loaded line is at in
+    let inv = c.checks.invariant in
+    let j : ℕ = c.checks.at in
+    let r : ℕ = c.checks.read in
+    let len : length c.checks.out ≡ 512 * n = omega (arith, inv.size, whole_out) in
+    let inside : j < n / block_sectors v = omega (arith, c.checks-test.true, many_are) in
+    let read : r ≤ n / block_sectors v = omega (arith, inv.most, many_are) in
+    let index : p.first / c.from.result + j ≡ p.first / block_sectors v + j = ap (λ (k : ℕ). p.first / k + j) sectors in
+    let there : p.first / c.from.result + j < v.blocks = omega (arith, index, at.there j inside) in
+    let did : Read = record { old = old; new = map state c.checks.reader.devices.items; before = found; after = inv.after } in
+    let end_j = blocks-end config v p n tree.data found loaded line is at c.checks.out (j + 1) len (omega (arith, inside)) in
+    let size = block-size config v p n tree.data found loaded line is at in
+    let walk = map state c.walk_path.new.reader.devices.items in
+    let way = map block_bytes (take (levels (tree_of v)) c.walk_path.new.path.items) in
+    let expected = c.in-Ok.expected in
+    let walked = subst (λ (k : ℕ). IsWalked (block_in config v k) 0 expected way did.new walk) index c.in-Ok.ensures.ok in
+    let many : ℕ = c.row_len-many.result in
+    let most : j + many ≤ n / block_sectors v = omega (arith, c.row_len-many.ensures.most, many_are) in
+    let end_row = blocks-end config v p n tree.data found loaded line is at c.checks.out (j + many) len most in
+    let row_end : j * v.data_block + many * v.data_block ≤ length c.checks.out = omega (arith, end_row, add-mul j many v.data_block) in
+    let wide = block-begin config v p n tree.data found loaded line is at many in
+    let extent : c.data_extent-extent.result.first ≡ block_sectors v * (p.first / block_sectors v + j) = ap (λ (e : Extent). e.first) c.data_extent-extent.ensures.value ∙ ap (λ (k : ℕ). block_sectors v * k) index in
+    let part_len = length-take-le (j * v.data_block + many * v.data_block - j * v.data_block) (drop (j * v.data_block) c.checks.out) (omega (arith, row_end, length-drop (j * v.data_block) c.checks.out)) in
+    let row_sectors : length (take (j * v.data_block + many * v.data_block - j * v.data_block) (drop (j * v.data_block) c.checks.out)) / 512 ≡ many * block_sectors v = omega (arith, part_len, wide) in
+    let row : List ℕ = c.read_beneath.new.out in
+    let a : ℕ = j * v.data_block in
+    let w : ℕ = j * v.data_block + many * v.data_block - j * v.data_block in
+    let fits : a ≤ length c.checks.out = omega (arith, end_j, add-mul j 1 v.data_block) in
+    let out1 : List ℕ = put_mid a w c.checks.out row in
+    let w_is : w ≡ many * v.data_block = omega arith in
+    let row_is : length row ≡ w = omega (arith, c.read_beneath.auto.out, part_len) in
+    let out1_len : length out1 ≡ 512 * n = same_len_mid a w c.checks.out row (omega (arith, row_is, part_len)) ∙ len in
+    let row2_is : take w (drop a out1) ≡ row = between-put_mid a w c.checks.out row (a + many * v.data_block) fits row_is in
+    let end1 = blocks-end config v p n tree.data found loaded line is at out1 (j + 1) out1_len (omega (arith, inside)) in
+    let some_size : 0 < v.data_block = omega (arith, size, at.size.some) in
+    let made_few : j + many ≤ 128 = omega (arith, most, blocks_few, at.few) in
+    ap (λ (l : List ℕ). length l % v.data_block) row2_is ∙ ap (λ (k : ℕ). k % v.data_block) (row_is ∙ w_is) ∙ mul-mod_left many v.data_block
+
+pub read_blocks-digest_blocks-requires-clause-count : goal.read_blocks-digest_blocks-requires-clause-count
+read_blocks-digest_blocks-requires-clause-count g t c =
+    let config = c.args.config.now in
+    let p = c.args.part in
+    let n : ℕ = length c.args.out.now / 512 in
+    let v = c.verity_at-verity.result.now in
+    let tree = c.tree_at-tree.result in
+    let state = g.D.BlockDev.state in
+    let old = map state c.args.reader.now.devices.items in
+    let found = c.args.found.now.items in
+    let loaded = c.requires.stack.sound.loaded in
+    let line = c.verity_at-verity.ensures in
+    let is = c.tree_at-tree.ensures.tree.on_data in
+    let at = blocks-at config v p n found tree.data loaded (omega (arith, c.requires.fits.sectors.some, c.requires.fits.sectors.whole)) line c.requires.fits.holds c.requires.can_go is in
+    let sectors : c.from.result ≡ block_sectors v = c.from.ensures in
+    let whole_out : length c.args.out.now ≡ 512 * n = omega (arith, c.requires.fits.sectors.whole) in
+    let many_are : length c.args.out.now / v.data_block ≡ n / block_sectors v = digest-count config v p n tree.data found loaded line is at c.args.out.now whole_out in
+    let blocks_few = few-blocks config v p n tree.data found loaded line is at in
+    let inv = c.checks.invariant in
+    let j : ℕ = c.checks.at in
+    let r : ℕ = c.checks.read in
+    let len : length c.checks.out ≡ 512 * n = omega (arith, inv.size, whole_out) in
+    let inside : j < n / block_sectors v = omega (arith, c.checks-test.true, many_are) in
+    let read : r ≤ n / block_sectors v = omega (arith, inv.most, many_are) in
+    let index : p.first / c.from.result + j ≡ p.first / block_sectors v + j = ap (λ (k : ℕ). p.first / k + j) sectors in
+    let there : p.first / c.from.result + j < v.blocks = omega (arith, index, at.there j inside) in
+    let did : Read = record { old = old; new = map state c.checks.reader.devices.items; before = found; after = inv.after } in
+    let end_j = blocks-end config v p n tree.data found loaded line is at c.checks.out (j + 1) len (omega (arith, inside)) in
+    let size = block-size config v p n tree.data found loaded line is at in
+    let walk = map state c.walk_path.new.reader.devices.items in
+    let way = map block_bytes (take (levels (tree_of v)) c.walk_path.new.path.items) in
+    let expected = c.in-Ok.expected in
+    let walked = subst (λ (k : ℕ). IsWalked (block_in config v k) 0 expected way did.new walk) index c.in-Ok.ensures.ok in
+    let many : ℕ = c.row_len-many.result in
+    let most : j + many ≤ n / block_sectors v = omega (arith, c.row_len-many.ensures.most, many_are) in
+    let end_row = blocks-end config v p n tree.data found loaded line is at c.checks.out (j + many) len most in
+    let row_end : j * v.data_block + many * v.data_block ≤ length c.checks.out = omega (arith, end_row, add-mul j many v.data_block) in
+    let wide = block-begin config v p n tree.data found loaded line is at many in
+    let extent : c.data_extent-extent.result.first ≡ block_sectors v * (p.first / block_sectors v + j) = ap (λ (e : Extent). e.first) c.data_extent-extent.ensures.value ∙ ap (λ (k : ℕ). block_sectors v * k) index in
+    let part_len = length-take-le (j * v.data_block + many * v.data_block - j * v.data_block) (drop (j * v.data_block) c.checks.out) (omega (arith, row_end, length-drop (j * v.data_block) c.checks.out)) in
+    let row_sectors : length (take (j * v.data_block + many * v.data_block - j * v.data_block) (drop (j * v.data_block) c.checks.out)) / 512 ≡ many * block_sectors v = omega (arith, part_len, wide) in
+    let row : List ℕ = c.read_beneath.new.out in
+    let a : ℕ = j * v.data_block in
+    let w : ℕ = j * v.data_block + many * v.data_block - j * v.data_block in
+    let fits : a ≤ length c.checks.out = omega (arith, end_j, add-mul j 1 v.data_block) in
+    let out1 : List ℕ = put_mid a w c.checks.out row in
+    let w_is : w ≡ many * v.data_block = omega arith in
+    let row_is : length row ≡ w = omega (arith, c.read_beneath.auto.out, part_len) in
+    let out1_len : length out1 ≡ 512 * n = same_len_mid a w c.checks.out row (omega (arith, row_is, part_len)) ∙ len in
+    let row2_is : take w (drop a out1) ≡ row = between-put_mid a w c.checks.out row (a + many * v.data_block) fits row_is in
+    let end1 = blocks-end config v p n tree.data found loaded line is at out1 (j + 1) out1_len (omega (arith, inside)) in
+    let some_size : 0 < v.data_block = omega (arith, size, at.size.some) in
+    let made_few : j + many ≤ 128 = omega (arith, most, blocks_few, at.few) in
+    length-take-le (j + many - j) (drop j c.checks.made) (omega (arith, inv.room, made_few, length-drop j c.checks.made))
+    ∙ sym (ap (λ (l : List ℕ). length l / v.data_block) row2_is ∙ ap (λ (k : ℕ). k / v.data_block) (row_is ∙ w_is) ∙ mul-div_cancel many some_size ∙ omega arith)
+
+pub read_blocks-bounds-made-at : goal.read_blocks-bounds-made-at
+read_blocks-bounds-made-at g t c =
+    let config = c.args.config.now in
+    let p = c.args.part in
+    let n : ℕ = length c.args.out.now / 512 in
+    let v = c.verity_at-verity.result.now in
+    let tree = c.tree_at-tree.result in
+    let state = g.D.BlockDev.state in
+    let old = map state c.args.reader.now.devices.items in
+    let found = c.args.found.now.items in
+    let loaded = c.requires.stack.sound.loaded in
+    let line = c.verity_at-verity.ensures in
+    let is = c.tree_at-tree.ensures.tree.on_data in
+    let at = blocks-at config v p n found tree.data loaded (omega (arith, c.requires.fits.sectors.some, c.requires.fits.sectors.whole)) line c.requires.fits.holds c.requires.can_go is in
+    let sectors : c.from.result ≡ block_sectors v = c.from.ensures in
+    let whole_out : length c.args.out.now ≡ 512 * n = omega (arith, c.requires.fits.sectors.whole) in
+    let many_are : length c.args.out.now / v.data_block ≡ n / block_sectors v = digest-count config v p n tree.data found loaded line is at c.args.out.now whole_out in
+    let blocks_few = few-blocks config v p n tree.data found loaded line is at in
+    let inv = c.checks.invariant in
+    let j : ℕ = c.checks.at in
+    let r : ℕ = c.checks.read in
+    let len : length c.checks.out ≡ 512 * n = omega (arith, inv.size, whole_out) in
+    let inside : j < n / block_sectors v = omega (arith, c.checks-test.true, many_are) in
+    let read : r ≤ n / block_sectors v = omega (arith, inv.most, many_are) in
+    let index : p.first / c.from.result + j ≡ p.first / block_sectors v + j = ap (λ (k : ℕ). p.first / k + j) sectors in
+    let there : p.first / c.from.result + j < v.blocks = omega (arith, index, at.there j inside) in
+    let did : Read = record { old = old; new = map state c.checks.reader.devices.items; before = found; after = inv.after } in
+    let end_j = blocks-end config v p n tree.data found loaded line is at c.checks.out (j + 1) len (omega (arith, inside)) in
+    let size = block-size config v p n tree.data found loaded line is at in
+    omega (arith, same_len_mid j (j + c.row_len-many.result - j) c.checks.made c.digest_blocks.new.out c.digest_blocks.auto.out, inv.room, inside, blocks_few, at.few)
+
+pub read_blocks-slice_bounds-settle-end : goal.read_blocks-slice_bounds-settle-end
+read_blocks-slice_bounds-settle-end g t c =
+    let config = c.args.config.now in
+    let p = c.args.part in
+    let n : ℕ = length c.args.out.now / 512 in
+    let v = c.verity_at-verity.result.now in
+    let tree = c.tree_at-tree.result in
+    let state = g.D.BlockDev.state in
+    let old = map state c.args.reader.now.devices.items in
+    let found = c.args.found.now.items in
+    let loaded = c.requires.stack.sound.loaded in
+    let line = c.verity_at-verity.ensures in
+    let is = c.tree_at-tree.ensures.tree.on_data in
+    let at = blocks-at config v p n found tree.data loaded (omega (arith, c.requires.fits.sectors.some, c.requires.fits.sectors.whole)) line c.requires.fits.holds c.requires.can_go is in
+    let sectors : c.from.result ≡ block_sectors v = c.from.ensures in
+    let whole_out : length c.args.out.now ≡ 512 * n = omega (arith, c.requires.fits.sectors.whole) in
+    let many_are : length c.args.out.now / v.data_block ≡ n / block_sectors v = digest-count config v p n tree.data found loaded line is at c.args.out.now whole_out in
+    let blocks_few = few-blocks config v p n tree.data found loaded line is at in
+    let inv = c.checks.invariant in
+    let j : ℕ = c.checks.at in
+    let r : ℕ = c.checks.read in
+    let len : length c.checks.out ≡ 512 * n = omega (arith, inv.size, whole_out) in
+    let inside : j < n / block_sectors v = omega (arith, c.checks-test.true, many_are) in
+    let read : r ≤ n / block_sectors v = omega (arith, inv.most, many_are) in
+    let index : p.first / c.from.result + j ≡ p.first / block_sectors v + j = ap (λ (k : ℕ). p.first / k + j) sectors in
+    let there : p.first / c.from.result + j < v.blocks = omega (arith, index, at.there j inside) in
+    let did : Read = record { old = old; new = map state c.checks.reader.devices.items; before = found; after = inv.after } in
+    let end_j = blocks-end config v p n tree.data found loaded line is at c.checks.out (j + 1) len (omega (arith, inside)) in
+    let size = block-size config v p n tree.data found loaded line is at in
+    let walk = map state c.walk_path.new.reader.devices.items in
+    let way = map block_bytes (take (levels (tree_of v)) c.walk_path.new.path.items) in
+    let expected = c.in-Ok.expected in
+    let walked = subst (λ (k : ℕ). IsWalked (block_in config v k) 0 expected way did.new walk) index c.in-Ok.ensures.ok in
+    let many : ℕ = c.row_len-many.result in
+    let most : j + many ≤ n / block_sectors v = omega (arith, c.row_len-many.ensures.most, many_are) in
+    let end_row = blocks-end config v p n tree.data found loaded line is at c.checks.out (j + many) len most in
+    let row_end : j * v.data_block + many * v.data_block ≤ length c.checks.out = omega (arith, end_row, add-mul j many v.data_block) in
+    let wide = block-begin config v p n tree.data found loaded line is at many in
+    let extent : c.data_extent-extent.result.first ≡ block_sectors v * (p.first / block_sectors v + j) = ap (λ (e : Extent). e.first) c.data_extent-extent.ensures.value ∙ ap (λ (k : ℕ). block_sectors v * k) index in
+    let part_len = length-take-le (j * v.data_block + many * v.data_block - j * v.data_block) (drop (j * v.data_block) c.checks.out) (omega (arith, row_end, length-drop (j * v.data_block) c.checks.out)) in
+    let row_sectors : length (take (j * v.data_block + many * v.data_block - j * v.data_block) (drop (j * v.data_block) c.checks.out)) / 512 ≡ many * block_sectors v = omega (arith, part_len, wide) in
+    let row : List ℕ = c.read_beneath.new.out in
+    let a : ℕ = j * v.data_block in
+    let w : ℕ = j * v.data_block + many * v.data_block - j * v.data_block in
+    let fits : a ≤ length c.checks.out = omega (arith, end_j, add-mul j 1 v.data_block) in
+    let out1 : List ℕ = put_mid a w c.checks.out row in
+    let w_is : w ≡ many * v.data_block = omega arith in
+    let row_is : length row ≡ w = omega (arith, c.read_beneath.auto.out, part_len) in
+    let out1_len : length out1 ≡ 512 * n = same_len_mid a w c.checks.out row (omega (arith, row_is, part_len)) ∙ len in
+    let row2_is : take w (drop a out1) ≡ row = between-put_mid a w c.checks.out row (a + many * v.data_block) fits row_is in
+    let end1 = blocks-end config v p n tree.data found loaded line is at out1 (j + 1) out1_len (omega (arith, inside)) in
+    let some_size : 0 < v.data_block = omega (arith, size, at.size.some) in
+    let made_few : j + many ≤ 128 = omega (arith, most, blocks_few, at.few) in
+    omega (arith, end1, add-mul j 1 v.data_block)
+
+pub read_blocks-returns-then-not-settle-clause-reads : goal.read_blocks-returns-then-not-settle-clause-reads
+read_blocks-returns-then-not-settle-clause-reads g t c =
+    let config = c.args.config.now in
+    let p = c.args.part in
+    let n : ℕ = length c.args.out.now / 512 in
+    let v = c.verity_at-verity.result.now in
+    let tree = c.tree_at-tree.result in
+    let state = g.D.BlockDev.state in
+    let old = map state c.args.reader.now.devices.items in
+    let found = c.args.found.now.items in
+    let loaded = c.requires.stack.sound.loaded in
+    let line = c.verity_at-verity.ensures in
+    let is = c.tree_at-tree.ensures.tree.on_data in
+    let at = blocks-at config v p n found tree.data loaded (omega (arith, c.requires.fits.sectors.some, c.requires.fits.sectors.whole)) line c.requires.fits.holds c.requires.can_go is in
+    let sectors : c.from.result ≡ block_sectors v = c.from.ensures in
+    let whole_out : length c.args.out.now ≡ 512 * n = omega (arith, c.requires.fits.sectors.whole) in
+    let many_are : length c.args.out.now / v.data_block ≡ n / block_sectors v = digest-count config v p n tree.data found loaded line is at c.args.out.now whole_out in
+    let blocks_few = few-blocks config v p n tree.data found loaded line is at in
+    let inv = c.checks.invariant in
+    let j : ℕ = c.checks.at in
+    let r : ℕ = c.checks.read in
+    let len : length c.checks.out ≡ 512 * n = omega (arith, inv.size, whole_out) in
+    let inside : j < n / block_sectors v = omega (arith, c.checks-test.true, many_are) in
+    let read : r ≤ n / block_sectors v = omega (arith, inv.most, many_are) in
+    let index : p.first / c.from.result + j ≡ p.first / block_sectors v + j = ap (λ (k : ℕ). p.first / k + j) sectors in
+    let there : p.first / c.from.result + j < v.blocks = omega (arith, index, at.there j inside) in
+    let did : Read = record { old = old; new = map state c.checks.reader.devices.items; before = found; after = inv.after } in
+    let end_j = blocks-end config v p n tree.data found loaded line is at c.checks.out (j + 1) len (omega (arith, inside)) in
+    let size = block-size config v p n tree.data found loaded line is at in
+    let walk = map state c.walk_path.new.reader.devices.items in
+    let way = map block_bytes (take (levels (tree_of v)) c.walk_path.new.path.items) in
+    let expected = c.in-Ok.expected in
+    let walked = subst (λ (k : ℕ). IsWalked (block_in config v k) 0 expected way did.new walk) index c.in-Ok.ensures.ok in
+    let many : ℕ = c.row_len-many.result in
+    let most : j + many ≤ n / block_sectors v = omega (arith, c.row_len-many.ensures.most, many_are) in
+    let end_row = blocks-end config v p n tree.data found loaded line is at c.checks.out (j + many) len most in
+    let row_end : j * v.data_block + many * v.data_block ≤ length c.checks.out = omega (arith, end_row, add-mul j many v.data_block) in
+    let wide = block-begin config v p n tree.data found loaded line is at many in
+    let extent : c.data_extent-extent.result.first ≡ block_sectors v * (p.first / block_sectors v + j) = ap (λ (e : Extent). e.first) c.data_extent-extent.ensures.value ∙ ap (λ (k : ℕ). block_sectors v * k) index in
+    let part_len = length-take-le (j * v.data_block + many * v.data_block - j * v.data_block) (drop (j * v.data_block) c.checks.out) (omega (arith, row_end, length-drop (j * v.data_block) c.checks.out)) in
+    let row_sectors : length (take (j * v.data_block + many * v.data_block - j * v.data_block) (drop (j * v.data_block) c.checks.out)) / 512 ≡ many * block_sectors v = omega (arith, part_len, wide) in
+    let row : List ℕ = c.read_beneath.new.out in
+    let gets = c.in-Ok-read_beneath.ensures.reads in
+    let new = map state c.read_beneath.new.reader.devices.items in
+    let got = subst (λ (k : ℕ). Gets (run_expected (place_of config tree.data) gets.chains (block_sectors v * (p.first / block_sectors v + j)) k) walk new (Ok row)) row_sectors
+    (subst (λ (k : ℕ). Gets (run_expected (place_of config tree.data) gets.chains k (length (take (j * v.data_block + many * v.data_block - j * v.data_block) (drop (j * v.data_block) c.checks.out)) / 512)) walk new (Ok row)) extent gets.got) in
+    let to : ℕ = c.read_as_far-read.result in
+    let next = row-next config v p n tree.data found loaded line is at r j many c.checks.out expected way did walk inside read most c.row_len-many.ensures.fresh inv.had c.in-Ok.ensures.moved to c.read_as_far-read.ensures walked new gets.chains (Ok row) got in
+    let a : ℕ = j * v.data_block in
+    let w : ℕ = j * v.data_block + many * v.data_block - j * v.data_block in
+    let fits : a ≤ length c.checks.out = omega (arith, end_j, add-mul j 1 v.data_block) in
+    let out1 : List ℕ = put_mid a w c.checks.out row in
+    let w_is : w ≡ many * v.data_block = omega arith in
+    let row_is : length row ≡ w = omega (arith, c.read_beneath.auto.out, part_len) in
+    let out1_len : length out1 ≡ 512 * n = same_len_mid a w c.checks.out row (omega (arith, row_is, part_len)) ∙ len in
+    let row2_is : take w (drop a out1) ≡ row = between-put_mid a w c.checks.out row (a + many * v.data_block) fits row_is in
+    let end1 = blocks-end config v p n tree.data found loaded line is at out1 (j + 1) out1_len (omega (arith, inside)) in
+    let some_size : 0 < v.data_block = omega (arith, size, at.size.some) in
+    let made_few : j + many ≤ 128 = omega (arith, most, blocks_few, at.few) in
+    let made_w : ℕ = j + many - j in
+    let made1 : List (List ℕ) = put_mid j made_w c.checks.made c.digest_blocks.new.out in
+    let made1_is : made1 ≡ put_mid j many c.checks.made (map (digest v.salt) (cut v.data_block row)) =
+    ap (λ (k : ℕ). put_mid j k c.checks.made c.digest_blocks.new.out) (omega arith)
+    ∙ ap (λ (l : List (List ℕ)). put_mid j many c.checks.made l) (c.digest_blocks.ensures ∙ ap (λ (l : List ℕ). map (digest v.salt) (cut v.data_block l)) row2_is) in
+    let made1_len : length made1 ≡ 128 = same_len_mid j made_w c.checks.made c.digest_blocks.new.out c.digest_blocks.auto.out ∙ inv.room in
+    let ahead = row-ahead config v p n tree.data found loaded line is at r j many c.checks.out expected way did walk inside read most c.row_len-many.ensures.fresh inv.had c.in-Ok.ensures.moved to c.read_as_far-read.ensures walked new row c.checks.made made1 gets.chains
+    (all-whole state g.met.D.BlockDev.whole c.walk_path.new.reader.devices.items) len inv.room made_few inv.ahead got made1_is in
+    let ahead1 : AreReadAhead config v p tree.data j to out1 made1 old = subst (λ (k : ℕ). AreReadAhead config v p tree.data j to (put_mid a k c.checks.out row) made1 old) (sym w_is) ahead in
+    let far_to = far config v p n tree.data found loaded line is at r j many c.checks.out expected way did walk inside read most c.row_len-many.ensures.fresh inv.had c.in-Ok.ensures.moved to c.read_as_far-read.ensures walked in
+    let did1 : Read = record { old = old; new = new; before = found; after = inv.after } in
+    let ws : ℕ = a + v.data_block - a in
+    let ws_is : ws ≡ 512 * block_sectors v = omega (arith, size) in
+    let stood : List ℕ = take ws (drop a out1) in
+    let stood_len : length stood ≡ ws = length-take-le ws (drop a out1) (omega (arith, end1, add-mul j 1 v.data_block, length-drop a out1)) in
+    let begin = block-begin config v p n tree.data found loaded line is at j in
+    let stood_is : stood ≡ take (512 * block_sectors v) (drop (512 * (j * block_sectors v)) out1) =
+    ap (λ (k : ℕ). take k (drop a out1)) ws_is ∙ ap (λ (k : ℕ). take (512 * block_sectors v) (drop k out1)) begin in
+    let made_j : List ℕ = get_or made1 j c.index-made-at.result in
+    let within_to : c.is_ignored-ignored.result ≡ false → j < to = λ taken. elim (cases_lt j r) [
+      | inl low ↦ omega (arith, low, c.read_as_far-read.ensures)
+      | inr high ↦ omega (arith, c.row_len-many.ensures.some taken high, c.read_as_far-read.ensures)
+    ] in
+    let was : c.is_ignored-ignored.result ≡ false → IsRead config v p tree.data old j stood made_j = λ taken. subst (λ (l : List ℕ). IsRead config v p tree.data old j l made_j) (sym stood_is) (ahead1 j (omega arith) (within_to taken) c.index-made-at.result) in
+    let cached_now : KeepsCache config new c.args.reader.now.cache c.read_beneath.new.reader.cache = record { capacity = c.in-Ok-read_beneath.ensures.cached.capacity ∙ c.in-Ok.ensures.cached.capacity ∙ inv.cached.capacity; sound = c.in-Ok-read_beneath.ensures.cached.sound } in
+    let other = c.if-not-settle.ensures.other refl in
+    let got_other = block-other config v p n (n / block_sectors v) loaded line at.aligned at.size at.count tree.data is j next.later next.walked stood made_j (sym c.is_ignored-ignored.ensures ∙ other.0) (was other.0) other.1 in
+    record { after = inv.after; out = inv.out; reads = next-differs config v p n tree.data found loaded line is at to j c.checks.out expected way did1 inside far_to next got_other }
+
+pub read_blocks-returns-then-not-settle-clause-cached : goal.read_blocks-returns-then-not-settle-clause-cached
+read_blocks-returns-then-not-settle-clause-cached g t c =
+    record { capacity = c.in-Ok-read_beneath.ensures.cached.capacity ∙ c.in-Ok.ensures.cached.capacity ∙ c.checks.invariant.cached.capacity; sound = c.in-Ok-read_beneath.ensures.cached.sound }
+
+pub read_blocks-returns-in-Err-keep-clause-cached : goal.read_blocks-returns-in-Err-keep-clause-cached
+read_blocks-returns-in-Err-keep-clause-cached g t c =
+    record { capacity = c.in-Ok-read_beneath.ensures.cached.capacity ∙ c.in-Ok.ensures.cached.capacity ∙ c.checks.invariant.cached.capacity; sound = c.in-Ok-read_beneath.ensures.cached.sound }
+
+pub read_blocks-returns-in-Err-keep-clause-reads : goal.read_blocks-returns-in-Err-keep-clause-reads
+read_blocks-returns-in-Err-keep-clause-reads g t c =
+    let config = c.args.config.now in
+    let p = c.args.part in
+    let n : ℕ = length c.args.out.now / 512 in
+    let v = c.verity_at-verity.result.now in
+    let tree = c.tree_at-tree.result in
+    let state = g.D.BlockDev.state in
+    let old = map state c.args.reader.now.devices.items in
+    let found = c.args.found.now.items in
+    let loaded = c.requires.stack.sound.loaded in
+    let line = c.verity_at-verity.ensures in
+    let is = c.tree_at-tree.ensures.tree.on_data in
+    let at = blocks-at config v p n found tree.data loaded (omega (arith, c.requires.fits.sectors.some, c.requires.fits.sectors.whole)) line c.requires.fits.holds c.requires.can_go is in
+    let sectors : c.from.result ≡ block_sectors v = c.from.ensures in
+    let whole_out : length c.args.out.now ≡ 512 * n = omega (arith, c.requires.fits.sectors.whole) in
+    let many_are : length c.args.out.now / v.data_block ≡ n / block_sectors v = digest-count config v p n tree.data found loaded line is at c.args.out.now whole_out in
+    let blocks_few = few-blocks config v p n tree.data found loaded line is at in
+    let inv = c.checks.invariant in
+    let j : ℕ = c.checks.at in
+    let r : ℕ = c.checks.read in
+    let len : length c.checks.out ≡ 512 * n = omega (arith, inv.size, whole_out) in
+    let inside : j < n / block_sectors v = omega (arith, c.checks-test.true, many_are) in
+    let read : r ≤ n / block_sectors v = omega (arith, inv.most, many_are) in
+    let index : p.first / c.from.result + j ≡ p.first / block_sectors v + j = ap (λ (k : ℕ). p.first / k + j) sectors in
+    let there : p.first / c.from.result + j < v.blocks = omega (arith, index, at.there j inside) in
+    let did : Read = record { old = old; new = map state c.checks.reader.devices.items; before = found; after = inv.after } in
+    let end_j = blocks-end config v p n tree.data found loaded line is at c.checks.out (j + 1) len (omega (arith, inside)) in
+    let size = block-size config v p n tree.data found loaded line is at in
+    let walk = map state c.walk_path.new.reader.devices.items in
+    let way = map block_bytes (take (levels (tree_of v)) c.walk_path.new.path.items) in
+    let expected = c.in-Ok.expected in
+    let walked = subst (λ (k : ℕ). IsWalked (block_in config v k) 0 expected way did.new walk) index c.in-Ok.ensures.ok in
+    let many : ℕ = c.row_len-many.result in
+    let most : j + many ≤ n / block_sectors v = omega (arith, c.row_len-many.ensures.most, many_are) in
+    let end_row = blocks-end config v p n tree.data found loaded line is at c.checks.out (j + many) len most in
+    let row_end : j * v.data_block + many * v.data_block ≤ length c.checks.out = omega (arith, end_row, add-mul j many v.data_block) in
+    let wide = block-begin config v p n tree.data found loaded line is at many in
+    let extent : c.data_extent-extent.result.first ≡ block_sectors v * (p.first / block_sectors v + j) = ap (λ (e : Extent). e.first) c.data_extent-extent.ensures.value ∙ ap (λ (k : ℕ). block_sectors v * k) index in
+    let part_len = length-take-le (j * v.data_block + many * v.data_block - j * v.data_block) (drop (j * v.data_block) c.checks.out) (omega (arith, row_end, length-drop (j * v.data_block) c.checks.out)) in
+    let row_sectors : length (take (j * v.data_block + many * v.data_block - j * v.data_block) (drop (j * v.data_block) c.checks.out)) / 512 ≡ many * block_sectors v = omega (arith, part_len, wide) in
+    let row : List ℕ = c.read_beneath.new.out in
+    let gets = c.in-Ok-read_beneath.ensures.reads in
+    let new = map state c.read_beneath.new.reader.devices.items in
+    let got = subst (λ (k : ℕ). Gets (run_expected (place_of config tree.data) gets.chains (block_sectors v * (p.first / block_sectors v + j)) k) walk new (Ok row)) row_sectors
+    (subst (λ (k : ℕ). Gets (run_expected (place_of config tree.data) gets.chains k (length (take (j * v.data_block + many * v.data_block - j * v.data_block) (drop (j * v.data_block) c.checks.out)) / 512)) walk new (Ok row)) extent gets.got) in
+    let to : ℕ = c.read_as_far-read.result in
+    let next = row-next config v p n tree.data found loaded line is at r j many c.checks.out expected way did walk inside read most c.row_len-many.ensures.fresh inv.had c.in-Ok.ensures.moved to c.read_as_far-read.ensures walked new gets.chains (Ok row) got in
+    let a : ℕ = j * v.data_block in
+    let w : ℕ = j * v.data_block + many * v.data_block - j * v.data_block in
+    let fits : a ≤ length c.checks.out = omega (arith, end_j, add-mul j 1 v.data_block) in
+    let out1 : List ℕ = put_mid a w c.checks.out row in
+    let w_is : w ≡ many * v.data_block = omega arith in
+    let row_is : length row ≡ w = omega (arith, c.read_beneath.auto.out, part_len) in
+    let out1_len : length out1 ≡ 512 * n = same_len_mid a w c.checks.out row (omega (arith, row_is, part_len)) ∙ len in
+    let row2_is : take w (drop a out1) ≡ row = between-put_mid a w c.checks.out row (a + many * v.data_block) fits row_is in
+    let end1 = blocks-end config v p n tree.data found loaded line is at out1 (j + 1) out1_len (omega (arith, inside)) in
+    let some_size : 0 < v.data_block = omega (arith, size, at.size.some) in
+    let made_few : j + many ≤ 128 = omega (arith, most, blocks_few, at.few) in
+    let made_w : ℕ = j + many - j in
+    let made1 : List (List ℕ) = put_mid j made_w c.checks.made c.digest_blocks.new.out in
+    let made1_is : made1 ≡ put_mid j many c.checks.made (map (digest v.salt) (cut v.data_block row)) =
+    ap (λ (k : ℕ). put_mid j k c.checks.made c.digest_blocks.new.out) (omega arith)
+    ∙ ap (λ (l : List (List ℕ)). put_mid j many c.checks.made l) (c.digest_blocks.ensures ∙ ap (λ (l : List ℕ). map (digest v.salt) (cut v.data_block l)) row2_is) in
+    let made1_len : length made1 ≡ 128 = same_len_mid j made_w c.checks.made c.digest_blocks.new.out c.digest_blocks.auto.out ∙ inv.room in
+    let ahead = row-ahead config v p n tree.data found loaded line is at r j many c.checks.out expected way did walk inside read most c.row_len-many.ensures.fresh inv.had c.in-Ok.ensures.moved to c.read_as_far-read.ensures walked new row c.checks.made made1 gets.chains
+    (all-whole state g.met.D.BlockDev.whole c.walk_path.new.reader.devices.items) len inv.room made_few inv.ahead got made1_is in
+    let ahead1 : AreReadAhead config v p tree.data j to out1 made1 old = subst (λ (k : ℕ). AreReadAhead config v p tree.data j to (put_mid a k c.checks.out row) made1 old) (sym w_is) ahead in
+    let far_to = far config v p n tree.data found loaded line is at r j many c.checks.out expected way did walk inside read most c.row_len-many.ensures.fresh inv.had c.in-Ok.ensures.moved to c.read_as_far-read.ensures walked in
+    let did1 : Read = record { old = old; new = new; before = found; after = inv.after } in
+    let ws : ℕ = a + v.data_block - a in
+    let ws_is : ws ≡ 512 * block_sectors v = omega (arith, size) in
+    let stood : List ℕ = take ws (drop a out1) in
+    let stood_len : length stood ≡ ws = length-take-le ws (drop a out1) (omega (arith, end1, add-mul j 1 v.data_block, length-drop a out1)) in
+    let begin = block-begin config v p n tree.data found loaded line is at j in
+    let stood_is : stood ≡ take (512 * block_sectors v) (drop (512 * (j * block_sectors v)) out1) =
+    ap (λ (k : ℕ). take k (drop a out1)) ws_is ∙ ap (λ (k : ℕ). take (512 * block_sectors v) (drop k out1)) begin in
+    let made_j : List ℕ = get_or made1 j c.index-made-at.result in
+    let within_to : c.is_ignored-ignored.result ≡ false → j < to = λ taken. elim (cases_lt j r) [
+      | inl low ↦ omega (arith, low, c.read_as_far-read.ensures)
+      | inr high ↦ omega (arith, c.row_len-many.ensures.some taken high, c.read_as_far-read.ensures)
+    ] in
+    let was : c.is_ignored-ignored.result ≡ false → IsRead config v p tree.data old j stood made_j = λ taken. subst (λ (l : List ℕ). IsRead config v p tree.data old j l made_j) (sym stood_is) (ahead1 j (omega arith) (within_to taken) c.index-made-at.result) in
+    let cached_now : KeepsCache config new c.args.reader.now.cache c.read_beneath.new.reader.cache = record { capacity = c.in-Ok-read_beneath.ensures.cached.capacity ∙ c.in-Ok.ensures.cached.capacity ∙ inv.cached.capacity; sound = c.in-Ok-read_beneath.ensures.cached.sound } in
+    record {
+      after = inv.after;
+      out = subst (AreHandedOut c.args.chains found inv.after) (sym c.in-Err-keep.ensures.err) inv.out;
+      reads = next-full config v p n tree.data found loaded line is at to j c.checks.out expected way did1 inside far_to next;
     }
 
 pub read_blocks-checks-preserved : goal.read_blocks-checks-preserved
@@ -1276,60 +1717,151 @@ read_blocks-checks-preserved g t c =
     let n : ℕ = length c.args.out.now / 512 in
     let v = c.verity_at-verity.result.now in
     let tree = c.tree_at-tree.result in
-    let old = map g.D.BlockDev.state c.args.reader.now.devices.items in
+    let state = g.D.BlockDev.state in
+    let old = map state c.args.reader.now.devices.items in
     let found = c.args.found.now.items in
     let loaded = c.requires.stack.sound.loaded in
     let line = c.verity_at-verity.ensures in
     let is = c.tree_at-tree.ensures.tree.on_data in
     let at = blocks-at config v p n found tree.data loaded (omega (arith, c.requires.fits.sectors.some, c.requires.fits.sectors.whole)) line c.requires.fits.holds c.requires.can_go is in
-    let bytes_read : List ℕ = c.read_lower.new.out in
-    let len : length bytes_read ≡ 512 * n = omega (arith, c.read_lower.auto.out, c.requires.fits.sectors.whole) in
+    let sectors : c.from.result ≡ block_sectors v = c.from.ensures in
+    let whole_out : length c.args.out.now ≡ 512 * n = omega (arith, c.requires.fits.sectors.whole) in
+    let many_are : length c.args.out.now / v.data_block ≡ n / block_sectors v = digest-count config v p n tree.data found loaded line is at c.args.out.now whole_out in
+    let blocks_few = few-blocks config v p n tree.data found loaded line is at in
     let inv = c.checks.invariant in
     let j : ℕ = c.checks.at in
-    let are = digests-are config v p n tree.data found loaded line is at bytes_read _ len inv.all in
-    let inside : j < n / block_sectors v = omega (arith, inv.inside, are.0) in
-    let did : Read = record { old = old; new = map g.D.BlockDev.state c.checks.reader.devices.items; before = found; after = inv.after } in
-    let way = map block_bytes (take (levels (tree_of v)) c.checks.path.items) in
-    let more : j + 1 < n / block_sectors v = omega (arith, are.0, inside, c.if-at-got.false) in
-    let good = same-digest _ c.checks.expected _ v.salt (are.1 j _ inside) c.if-ne.ensures in
-    let content = c.as_slice.ensures.value in
+    let r : ℕ = c.checks.read in
+    let len : length c.checks.out ≡ 512 * n = omega (arith, inv.size, whole_out) in
+    let inside : j < n / block_sectors v = omega (arith, c.checks-test.true, many_are) in
+    let read : r ≤ n / block_sectors v = omega (arith, inv.most, many_are) in
+    let index : p.first / c.from.result + j ≡ p.first / block_sectors v + j = ap (λ (k : ℕ). p.first / k + j) sectors in
+    let did : Read = record { old = old; new = map state c.checks.reader.devices.items; before = found; after = inv.after } in
+    let end_j = blocks-end config v p n tree.data found loaded line is at c.checks.out (j + 1) len (omega (arith, inside)) in
+    let size = block-size config v p n tree.data found loaded line is at in
+    let walk = map state c.walk_path.new.reader.devices.items in
+    let way = map block_bytes (take (levels (tree_of v)) c.walk_path.new.path.items) in
+    let expected = c.in-Ok.expected in
+    let walked = subst (λ (k : ℕ). IsWalked (block_in config v k) 0 expected way did.new walk) index c.in-Ok.ensures.ok in
+    let many : ℕ = c.row_len-many.result in
+    let most : j + many ≤ n / block_sectors v = omega (arith, c.row_len-many.ensures.most, many_are) in
+    let end_row = blocks-end config v p n tree.data found loaded line is at c.checks.out (j + many) len most in
+    let row_end : j * v.data_block + many * v.data_block ≤ length c.checks.out = omega (arith, end_row, add-mul j many v.data_block) in
+    let wide = block-begin config v p n tree.data found loaded line is at many in
+    let extent : c.data_extent-extent.result.first ≡ block_sectors v * (p.first / block_sectors v + j) = ap (λ (e : Extent). e.first) c.data_extent-extent.ensures.value ∙ ap (λ (k : ℕ). block_sectors v * k) index in
+    let part_len = length-take-le (j * v.data_block + many * v.data_block - j * v.data_block) (drop (j * v.data_block) c.checks.out) (omega (arith, row_end, length-drop (j * v.data_block) c.checks.out)) in
+    let row_sectors : length (take (j * v.data_block + many * v.data_block - j * v.data_block) (drop (j * v.data_block) c.checks.out)) / 512 ≡ many * block_sectors v = omega (arith, part_len, wide) in
+    let row : List ℕ = c.read_beneath.new.out in
+    let gets = c.in-Ok-read_beneath.ensures.reads in
+    let new = map state c.read_beneath.new.reader.devices.items in
+    let got = subst (λ (k : ℕ). Gets (run_expected (place_of config tree.data) gets.chains (block_sectors v * (p.first / block_sectors v + j)) k) walk new (Ok row)) row_sectors
+    (subst (λ (k : ℕ). Gets (run_expected (place_of config tree.data) gets.chains k (length (take (j * v.data_block + many * v.data_block - j * v.data_block) (drop (j * v.data_block) c.checks.out)) / 512)) walk new (Ok row)) extent gets.got) in
+    let to : ℕ = c.read_as_far-read.result in
+    let next = row-next config v p n tree.data found loaded line is at r j many c.checks.out expected way did walk inside read most c.row_len-many.ensures.fresh inv.had c.in-Ok.ensures.moved to c.read_as_far-read.ensures walked new gets.chains (Ok row) got in
+    let a : ℕ = j * v.data_block in
+    let w : ℕ = j * v.data_block + many * v.data_block - j * v.data_block in
+    let fits : a ≤ length c.checks.out = omega (arith, end_j, add-mul j 1 v.data_block) in
+    let out1 : List ℕ = put_mid a w c.checks.out row in
+    let w_is : w ≡ many * v.data_block = sub-same a (many * v.data_block) in
+    let row_is : length row ≡ w = c.read_beneath.auto.out ∙ part_len in
+    let out1_len : length out1 ≡ 512 * n = same_len_mid a w c.checks.out row c.read_beneath.auto.out ∙ len in
+    let row2_is : take w (drop a out1) ≡ row = between-put_mid a w c.checks.out row (a + many * v.data_block) fits row_is in
+    let end1 = blocks-end config v p n tree.data found loaded line is at out1 (j + 1) out1_len (omega (arith, inside)) in
+    let made_few : j + many ≤ 128 = omega (arith, most, blocks_few, at.few) in
+    let made_w : ℕ = j + many - j in
+    let made1 : List (List ℕ) = put_mid j made_w c.checks.made c.digest_blocks.new.out in
+    let made1_is : made1 ≡ put_mid j many c.checks.made (map (digest v.salt) (cut v.data_block row)) =
+    ap (λ (k : ℕ). put_mid j k c.checks.made c.digest_blocks.new.out) (sub-same j many)
+    ∙ ap (λ (l : List (List ℕ)). put_mid j many c.checks.made l) (c.digest_blocks.ensures ∙ ap (λ (l : List ℕ). map (digest v.salt) (cut v.data_block l)) row2_is) in
+    let made1_len : length made1 ≡ 128 = same_len_mid j made_w c.checks.made c.digest_blocks.new.out c.digest_blocks.auto.out ∙ inv.room in
+    let ahead = row-ahead config v p n tree.data found loaded line is at r j many c.checks.out expected way did walk inside read most c.row_len-many.ensures.fresh inv.had c.in-Ok.ensures.moved to c.read_as_far-read.ensures walked new row c.checks.made made1 gets.chains
+    (all-whole state g.met.D.BlockDev.whole c.walk_path.new.reader.devices.items) len inv.room made_few inv.ahead got made1_is in
+    let ahead1 : AreReadAhead config v p tree.data j to out1 made1 old = subst (λ (k : ℕ). AreReadAhead config v p tree.data j to (put_mid a k c.checks.out row) made1 old) (sym w_is) ahead in
+    let far_to = far config v p n tree.data found loaded line is at r j many c.checks.out expected way did walk inside read most c.row_len-many.ensures.fresh inv.had c.in-Ok.ensures.moved to c.read_as_far-read.ensures walked in
+    let did1 : Read = record { old = old; new = new; before = found; after = inv.after } in
+    let ws : ℕ = a + v.data_block - a in
+    let ws_is : ws ≡ 512 * block_sectors v = sub-same a v.data_block ∙ sym size ∙ mul_comm (block_sectors v) 512 in
+    let stood : List ℕ = take ws (drop a out1) in
+    let stood_len : length stood ≡ ws = length-take-le ws (drop a out1) (omega (arith, end1, add-mul j 1 v.data_block, length-drop a out1)) in
+    let begin = block-begin config v p n tree.data found loaded line is at j in
+    let stood_is : stood ≡ take (512 * block_sectors v) (drop (512 * (j * block_sectors v)) out1) =
+    ap (λ (k : ℕ). take k (drop a out1)) ws_is ∙ ap (λ (k : ℕ). take (512 * block_sectors v) (drop k out1)) begin in
+    let made_j : List ℕ = get_or made1 j c.index-made-at.result in
+    let within_to : c.is_ignored-ignored.result ≡ false → j < to = λ taken. elim (cases_lt j r) [
+      | inl low ↦ omega (arith, low, c.read_as_far-read.ensures)
+      | inr high ↦ omega (arith, c.row_len-many.ensures.some taken high, c.read_as_far-read.ensures)
+    ] in
+    let was : c.is_ignored-ignored.result ≡ false → IsRead config v p tree.data old j stood made_j = λ taken. subst (λ (l : List ℕ). IsRead config v p tree.data old j l made_j) (sym stood_is) (ahead1 j (omega arith) (within_to taken) c.index-made-at.result) in
+    let cached_now : KeepsCache config new c.args.reader.now.cache c.read_beneath.new.reader.cache = record { capacity = c.in-Ok-read_beneath.ensures.cached.capacity ∙ c.in-Ok.ensures.cached.capacity ∙ inv.cached.capacity; sound = c.in-Ok-read_beneath.ensures.cached.sound } in
+    let block : List ℕ = c.settle.new.block in
+    let block_len : length block ≡ ws = c.settle.auto.block ∙ stood_len in
+    let out2 : List ℕ = put_mid a ws out1 block in
+    let fits1 : a ≤ length out1 = subst (λ (k : ℕ). a ≤ k) (len ∙ sym out1_len) fits in
+    let low : 512 * (j * block_sectors v) ≤ a = omega (arith, begin) in
+    let content : List ℕ = take ws (drop a out2) in
+    let content_is : content ≡ block = between-put_mid a ws out1 block (a + v.data_block) fits1 block_len in
+    let zeros : c.is_ignored-ignored.result ≡ true → block ≡ zero_block v = λ ignored. c.if-not-settle.ensures.zeros refl ignored ∙ ap (λ (k : ℕ). replicate k 0) (stood_len ∙ sub-same a v.data_block) in
+    let got_block = settled config v p n tree.data found loaded line is at to j c.checks.out expected way did1 inside far_to next c.is_ignored-ignored.result stood block made_j c.is_ignored-ignored.ensures (stood_len ∙ ws_is) zeros (λ taken. c.if-not-settle.ensures.same refl taken) was in
+    let got_content = subst (λ (b : List ℕ). GetsChain (block_in config v (p.first / block_sectors v + j)) next.mid next.here (Ok (record { index = p.first / block_sectors v + j; content = b; path = way }))) (sym content_is) got_block in
+    let front : take (512 * (j * block_sectors v)) out2 ≡ take (512 * (j * block_sectors v)) c.checks.out =
+    take-put_mid_below a ws out1 block (512 * (j * block_sectors v)) low fits1 ∙ take-put_mid_below a w c.checks.out row (512 * (j * block_sectors v)) low fits in
+    let holds : content ≡ take (512 * block_sectors v) (drop (512 * (j * block_sectors v)) out2) =
+    ap (λ (k : ℕ). take k (drop a out2)) ws_is ∙ ap (λ (k : ℕ). take (512 * block_sectors v) (drop k out2)) begin in
     let levels_are : c.levels-levels.result ≡ levels (tree_of v) = c.levels-levels.ensures.value ∙ ap levels c.tree_at-tree.ensures.tree.shape_is in
-    let goes : map block_bytes (take c.levels-levels.result c.as_slice.result.now) ≡ way =
-    ap (λ (l : List CachedBlock). map block_bytes (take c.levels-levels.result l)) c.as_slice.ensures.value ∙ ap (λ (k : ℕ). map block_bytes (take k c.checks.path.items)) levels_are in
-    let block : List ℕ = take ((j + 1) * v.data_block - j * v.data_block) (drop (j * v.data_block) bytes_read) in
-    let one : FoundRecord = record { device = p.device.0; line = p.line; chain = record { index = c.checks.index; content = block; path = map block_bytes (take c.levels-levels.result c.as_slice.result.now) } } in
-    let out = one-out c.args.chains found inv.after c.checks.found.items _ one inv.out c.in-Ok-keep.ensures.ok in
-    let had = next-had config v p n tree.data found loaded line is at j bytes_read c.checks.expected way did inside inv.were inv.next c.checks.index block _ inv.index (block-slice bytes_read (block_sectors v) v.data_block j at.size.whole) goes good in
-    let number : c.checks.index + 1 ≡ p.first / block_sectors v + (j + 1) = omega (arith, inv.index) in
-    let new = map g.D.BlockDev.state c.walk_path-in-checks.new.reader.devices.items in
-    let next_way = map block_bytes (take (levels (tree_of v)) c.walk_path-in-checks.new.path.items) in
-    let walked = subst (λ (k : ℕ). IsWalked (block_in config v k) 0 c.in-Ok-walk_path.next next_way did.new new) number c.in-Ok-walk_path.ensures.ok in
+    let slice : List CachedBlock = c.as_slice.result.now in
+    let goes : map block_bytes (take c.levels-levels.result slice) ≡ way =
+    ap (λ (l : List CachedBlock). map block_bytes (take c.levels-levels.result l)) c.as_slice.ensures.value ∙ ap (λ (k : ℕ). map block_bytes (take k c.walk_path.new.path.items)) levels_are in
+    let one : FoundRecord = record { device = p.device.0; line = p.line; chain = record { index = p.first / c.from.result + j; content = content; path = map block_bytes (take c.levels-levels.result slice) } } in
     record {
-      inside = omega (arith, are.0, more);
-      index = omega (arith, inv.index);
-      all = inv.all;
+      size = same_len_mid _ _ _ _ c.settle.auto.block ∙ same_len_mid _ _ _ _ c.read_beneath.auto.out ∙ inv.size;
+      room = made1_len;
+      within = omega (arith, inside, many_are);
+      most = subst (λ (k : ℕ). to ≤ k) (sym many_are) far_to;
       after = inv.after ++ (one ∷ []);
-      out = out;
-      held = c.in-Ok-walk_path.ensures.held;
-      were = inv.were;
-      next = had-next config v p n tree.data found loaded line is at (j + 1) bytes_read c.in-Ok-walk_path.next next_way _ had walked c.in-Ok-walk_path.ensures.moved;
-      cached = record { capacity = c.in-Ok-walk_path.ensures.cached.capacity ∙ inv.cached.capacity; sound = c.in-Ok-walk_path.ensures.cached.sound };
+      out = one-out c.args.chains found inv.after c.checks.found.items _ one inv.out c.in-Ok-keep.ensures.ok;
+      held = path-read config c.walk_path.new.path.items gets.got.moved c.in-Ok.ensures.held;
+      had = next-had config v p n tree.data found loaded line is at to j c.checks.out expected way did1 inside far_to next out2 content (p.first / c.from.result + j) (map block_bytes (take c.levels-levels.result slice)) front holds (ap (λ (l : List ℕ). length l) content_is ∙ block_len ∙ ws_is) index goes got_content;
+      ahead = ahead-rest config v p n tree.data found loaded line is at j to out1 block made1 old ws (sub-same a v.data_block) block_len out1_len inside ahead1;
+      cached = cached_now;
     }
+
+pub read_blocks-returns-clause-reads : goal.read_blocks-returns-clause-reads
+read_blocks-returns-clause-reads g t c =
+    let config = c.args.config.now in
+    let p = c.args.part in
+    let n : ℕ = length c.args.out.now / 512 in
+    let v = c.verity_at-verity.result.now in
+    let tree = c.tree_at-tree.result in
+    let state = g.D.BlockDev.state in
+    let old = map state c.args.reader.now.devices.items in
+    let found = c.args.found.now.items in
+    let loaded = c.requires.stack.sound.loaded in
+    let line = c.verity_at-verity.ensures in
+    let is = c.tree_at-tree.ensures.tree.on_data in
+    let at = blocks-at config v p n found tree.data loaded (omega (arith, c.requires.fits.sectors.some, c.requires.fits.sectors.whole)) line c.requires.fits.holds c.requires.can_go is in
+    let sectors : c.from.result ≡ block_sectors v = c.from.ensures in
+    let whole_out : length c.args.out.now ≡ 512 * n = omega (arith, c.requires.fits.sectors.whole) in
+    let many_are : length c.args.out.now / v.data_block ≡ n / block_sectors v = digest-count config v p n tree.data found loaded line is at c.args.out.now whole_out in
+    let blocks_few = few-blocks config v p n tree.data found loaded line is at in
+    let inv = c.checks.invariant in
+    let len : length c.checks.out ≡ 512 * n = omega (arith, inv.size, whole_out) in
+    let did : Read = record { old = old; new = map state c.checks.reader.devices.items; before = found; after = inv.after } in
+    record { after = inv.after; out = inv.out; reads = had-all config v p n tree.data found loaded line is at c.checks.read c.checks.at c.checks.out did (omega (arith, inv.most, many_are)) (omega (arith, inv.within, c.checks-test.false, many_are)) len inv.had }
+
+pub read_beneath-returns-then-is_empty-clause-reads : goal.read_beneath-returns-then-is_empty-clause-reads
+read_beneath-returns-then-is_empty-clause-reads g t c =
+    gets-none c.args.config.now c.args.lower c.args.first (map g.D.BlockDev.state c.args.reader.now.devices.items) c.args.out.now (eqb-true (length c.args.out.now) 0 (sym c.if-is_empty.ensures))
 
 pub read_blocks-returns-in-Err-clause-plain : goal.read_blocks-returns-in-Err-clause-plain
 read_blocks-returns-in-Err-clause-plain g t c = blocks_plain c.args.config.now c.args.part (length c.args.out.now / 512) (omega (arith, c.requires.fits.sectors.some, c.requires.fits.sectors.whole)) c.requires.fits.holds
 
-pub read_blocks-returns-in-Err-read_lower-clause-plain : goal.read_blocks-returns-in-Err-read_lower-clause-plain
-read_blocks-returns-in-Err-read_lower-clause-plain g t c = blocks_plain c.args.config.now c.args.part (length c.args.out.now / 512) (omega (arith, c.requires.fits.sectors.some, c.requires.fits.sectors.whole)) c.requires.fits.holds
+pub read_blocks-returns-in-Err-read_beneath-clause-plain : goal.read_blocks-returns-in-Err-read_beneath-clause-plain
+read_blocks-returns-in-Err-read_beneath-clause-plain g t c = blocks_plain c.args.config.now c.args.part (length c.args.out.now / 512) (omega (arith, c.requires.fits.sectors.some, c.requires.fits.sectors.whole)) c.requires.fits.holds
 
-pub read_blocks-returns-then-ne-clause-plain : goal.read_blocks-returns-then-ne-clause-plain
-read_blocks-returns-then-ne-clause-plain g t c = blocks_plain c.args.config.now c.args.part (length c.args.out.now / 512) (omega (arith, c.requires.fits.sectors.some, c.requires.fits.sectors.whole)) c.requires.fits.holds
+pub read_blocks-returns-then-not-settle-clause-plain : goal.read_blocks-returns-then-not-settle-clause-plain
+read_blocks-returns-then-not-settle-clause-plain g t c = blocks_plain c.args.config.now c.args.part (length c.args.out.now / 512) (omega (arith, c.requires.fits.sectors.some, c.requires.fits.sectors.whole)) c.requires.fits.holds
 
 pub read_blocks-returns-in-Err-keep-clause-plain : goal.read_blocks-returns-in-Err-keep-clause-plain
 read_blocks-returns-in-Err-keep-clause-plain g t c = blocks_plain c.args.config.now c.args.part (length c.args.out.now / 512) (omega (arith, c.requires.fits.sectors.some, c.requires.fits.sectors.whole)) c.requires.fits.holds
 
-pub read_blocks-returns-then-at-got-clause-plain : goal.read_blocks-returns-then-at-got-clause-plain
-read_blocks-returns-then-at-got-clause-plain g t c = blocks_plain c.args.config.now c.args.part (length c.args.out.now / 512) (omega (arith, c.requires.fits.sectors.some, c.requires.fits.sectors.whole)) c.requires.fits.holds
-
-pub read_blocks-returns-in-Err-walk_path-clause-plain : goal.read_blocks-returns-in-Err-walk_path-clause-plain
-read_blocks-returns-in-Err-walk_path-clause-plain g t c = blocks_plain c.args.config.now c.args.part (length c.args.out.now / 512) (omega (arith, c.requires.fits.sectors.some, c.requires.fits.sectors.whole)) c.requires.fits.holds
+pub read_blocks-returns-clause-plain : goal.read_blocks-returns-clause-plain
+read_blocks-returns-clause-plain g t c = blocks_plain c.args.config.now c.args.part (length c.args.out.now / 512) (omega (arith, c.requires.fits.sectors.some, c.requires.fits.sectors.whole)) c.requires.fits.holds

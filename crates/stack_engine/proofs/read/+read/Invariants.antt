@@ -1,4 +1,4 @@
-use Rattle.std.proofs.Common.{All, List, length, take, map, ◌-◌, ◌≡◌, ◌<◌, ◌≤◌, ◌+◌, ◌/◌, ◌*◌, ◌%◌, Ok}
+use Rattle.std.proofs.Common.{All, List, length, take, map, ◌-◌, ◌≡◌, ◌≤◌, ◌+◌, ◌/◌, ◌*◌, ◌%◌, Ok}
 use Rattle.stack_rules.specs.Names.{mapped}
 use Rattle.stack_rules.specs.Descend.{depth}
 use Rattle.stack_meaning.specs.Meaning.{said_at}
@@ -6,13 +6,9 @@ use Rattle.stack_meaning.specs.Reading.{Reads, IsPlain}
 use Rattle.stack_lines.specs.Sources.{source_depth}
 use Rattle.stack_lines.specs.Walks.{block_in, IsWalked}
 use Rattle.stack_lines.specs.Caches.{IsCached, KeepsCache}
-use Rattle.tree_shape.specs.Digests.{digest}
-use Rattle.hash_tree.specs.Tree.{cut}
-use Rattle.tree_shape.specs.Shape.{levels}
-use Rattle.stack_rules.specs.Trees.{tree_of, block_sectors}
 use Rattle.stack_meaning.specs.Found.{FoundRecord}
 use Rattle.stack_engine.specs.Keeping.{AreHandedOut}
-use Rattle.stack_engine.proofs.NextBlockLemmas.{WereRead, IsNext}
+use Rattle.stack_engine.proofs.NextBlockLemmas.{WereHad, AreReadAhead}
 use Rattle.stack_engine.proofs.read.+read.Given as goal
 
 -- 8 times the depth and a rank, of which 0 to 4 are left for the steps of a target: part of a unit takes 4, whole units 3,
@@ -96,20 +92,24 @@ invariant-walk_path-loop-left g l = record {
 abbrev pub decreases-walk_path-loop-left : goal.decreases-walk_path-loop-left
 decreases-walk_path-loop-left g l = l.left
 
--- the next block is at hand, with the way to it, and those before it were had
+abbrev pub decreases-read_beneath : goal.decreases-read_beneath
+decreases-read_beneath g l = 8 * depth l.config.now l.lower + 8
+
+-- the blocks so far were had, and those behind them stand as they were read last
 abbrev pub invariant-read_blocks-checks : goal.invariant-read_blocks-checks
 invariant-read_blocks-checks g l = record {
-  inside : l.at < length l.got;
-  index : l.index ≡ l.fn.part.first / block_sectors l.verity + l.at;
-  all : l.got ≡ map (digest l.verity.salt) (cut l.size l.out);
+  size : length l.out ≡ length l.fn.out;
+  room : length l.made ≡ 128;
+  within : l.at ≤ l.count;
+  most : l.read ≤ l.count;
   after : List FoundRecord;
   out : AreHandedOut l.fn.chains l.fn.found.items after l.found.items;
   held : All (IsCached l.config (map g.D.BlockDev.state l.reader.devices.items)) l.path.items;
-  were : WereRead l.config l.fn.part (length l.fn.out / 512) l.tree.data l.out (map g.D.BlockDev.state l.fn.reader.devices.items);
-  next : IsNext l.config l.verity l.fn.part (length l.fn.out / 512) l.at l.out l.expected (map (λ b. b.bytes) (take (levels (tree_of l.verity)) l.path.items))
+  had : WereHad l.config l.verity l.fn.part (length l.fn.out / 512) l.read l.at l.out
       (record { old = map g.D.BlockDev.state l.fn.reader.devices.items; new = map g.D.BlockDev.state l.reader.devices.items; before = l.fn.found.items; after = after });
+  ahead : AreReadAhead l.config l.verity l.fn.part l.tree.data l.at l.read l.out l.made (map g.D.BlockDev.state l.fn.reader.devices.items);
   cached : KeepsCache l.config (map g.D.BlockDev.state l.reader.devices.items) l.fn.reader.cache l.reader.cache;
 }
 
 abbrev pub decreases-read_blocks-checks : goal.decreases-read_blocks-checks
-decreases-read_blocks-checks g l = length l.got - l.at
+decreases-read_blocks-checks g l = l.count - l.at

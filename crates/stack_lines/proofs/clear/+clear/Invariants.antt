@@ -17,6 +17,9 @@ decreases-device_is_clear l = 8 * depth l.config.now (mapped l.d.0) + 6
 abbrev pub decreases-run_is_clear : goal.decreases-run_is_clear
 decreases-run_is_clear l = 8 * source_depth l.config.now l.source + 5
 
+abbrev pub decreases-units_are_clear : goal.decreases-units_are_clear
+decreases-units_are_clear l = 8 * depth l.config.now (mapped l.part.device.0) + 3
+
 -- none so far
 abbrev pub invariant-device_is_clear-loop-at : goal.invariant-device_is_clear-loop-at
 invariant-device_is_clear-loop-at l = record {

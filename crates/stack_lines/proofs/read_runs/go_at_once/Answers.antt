@@ -19,7 +19,6 @@ returns c sure =
       verity = v;
       line = c.verity_at-verity.ensures;
       few = omega (arith, c.if-count-gt-MOST.false);
-      taken = c.if-verity.false;
       clear = clear-named c.args.config.now v.data tree.result.data p.first c.args.count tree.ensures.tree.on_data (c.lower_is_clear.ensures sure);
       before = subst (λ (k : ℕ). AreBefore p.device.0 p.line (p.first / k) c.args.found.now) sectors (c.if-not-are_before.ensures refl);
     }

@@ -26,9 +26,9 @@ returns c =
     let behind : c.saturating_sub.result / c.unit_of-rest.result.whole * c.unit_of-rest.result.whole ≤ c.saturating_sub.result = omega (arith, div-add-mod' c.saturating_sub.result c.unit_of-rest.result.whole) in
     let together = subst (λ (x : Line). AreLostTogether x.target (c.args.first - x.start) rest) same c.unit_of-rest.ensures.together in
     record {
-      some = omega (arith, count, room, left, here.some, c.requires.inside, c.sectors.ensures, c.unit_of-rest.ensures.rest);
+      some = omega (arith, count, room, left, here.some, c.requires.some, c.unit_of-rest.ensures.rest);
       few = omega (arith, count, room);
-      inside = omega (arith, count, room, left, c.sectors.ensures, c.requires.inside);
+      inside = omega (arith, count, room, left, c.requires.some);
       alike = λ is.
           alike-at c.args.config.now c.count-loaded.ensures.loaded c.args.d.0 c.args.first c.min-count.result number here.line here.is here.start (omega (arith, here.ends, count, room, left))
           (fewer-together here.line.target (c.args.first - here.line.start) c.min-count.result rest (omega (arith, leb-true _ _ is)) together);

@@ -45,7 +45,7 @@ pieces-preserved-in-Ok g c =
     let number : length (take (n * 512) c.pieces.room) / 512 ≡ n = omega (arith, wide) in
     let bytes : List ℕ = c.read_bytes.new.out in
     let piece = subst (λ (m : ℕ). EachBytes c.pieces.stack c.args.d.0 c.pieces.at m (Ok bytes) c.read_bytes.new.self) number (record { any = c.in-Ok.ensures.any; steady = c.in-Ok.ensures.steady }) in
-    let inside : c.pieces.at + n ≤ size c.args.stack.now.config (mapped c.args.d.0) = subst (λ (x : Configuration). c.pieces.at + n ≤ size x (mapped c.args.d.0)) (c.config-in-pieces.ensures.value ∙ before.config) c.piece_at-piece.ensures.inside in
+    let inside : c.pieces.at + n ≤ size c.args.stack.now.config (mapped c.args.d.0) = subst (λ (m : ℕ). c.pieces.at + n ≤ m) before.all c.piece_at-piece.ensures.inside in
     let len : length bytes ≡ 512 * n = piece.any.may.read.run.len in
     let old : Sides = sides c.args.stack.now (g.O.BlockDev.state c.args.out.now) (g.W.Write.contents c.args.writer.now.inner) in
     let new : Sides = sides c.read_bytes.new.self (g.O.BlockDev.state c.write.new.self) (g.W.Write.contents c.close.new.writer.inner) in
@@ -73,7 +73,7 @@ pub lose-requires : goal.lose-requires
 lose-requires g c =
     let before = c.pieces.invariant in
     let n : ℕ = c.piece_at-piece.result.count in
-    let inside : c.pieces.at + n ≤ size c.args.stack.now.config (mapped c.args.d.0) = subst (λ (x : Configuration). c.pieces.at + n ≤ size x (mapped c.args.d.0)) (c.config-in-pieces.ensures.value ∙ before.config) c.piece_at-piece.ensures.inside in
+    let inside : c.pieces.at + n ≤ size c.args.stack.now.config (mapped c.args.d.0) = subst (λ (m : ℕ). c.pieces.at + n ≤ m) before.all c.piece_at-piece.ensures.inside in
     record {
       ends = subst (EndsAt c.pieces.tally.last) (sym before.so_far.here) before.so_far.tallied.ends;
       lost = few c.args.d.0 _ _ c.pieces.at c.pieces.tally before.so_far;
@@ -87,7 +87,7 @@ pieces-preserved-then-piece g c =
     let wide : length (take (n * 512) c.pieces.room) ≡ n * 512 = length-take-le (n * 512) c.pieces.room (omega (arith, c.requires.buffer, c.pieces.auto.room, c.piece_at-piece.ensures.few)) in
     let number : length (take (n * 512) c.pieces.room) / 512 ≡ n = omega (arith, wide) in
     let piece = subst (λ (m : ℕ). EachBytes c.pieces.stack c.args.d.0 c.pieces.at m (Err c.in-Err.fault) c.read_bytes.new.self) number (record { any = c.in-Err.ensures.any; steady = c.in-Err.ensures.steady }) in
-    let inside : c.pieces.at + n ≤ size c.args.stack.now.config (mapped c.args.d.0) = subst (λ (x : Configuration). c.pieces.at + n ≤ size x (mapped c.args.d.0)) (c.config-in-pieces.ensures.value ∙ before.config) c.piece_at-piece.ensures.inside in
+    let inside : c.pieces.at + n ≤ size c.args.stack.now.config (mapped c.args.d.0) = subst (λ (m : ℕ). c.pieces.at + n ≤ m) before.all c.piece_at-piece.ensures.inside in
     let alike : AreAlike c.pieces.stack.config c.args.d.0 c.pieces.at n = subst (λ (x : Configuration). AreAlike x c.args.d.0 c.pieces.at n) c.config-in-pieces.ensures.value (c.piece_at-piece.ensures.alike c.if-piece.true) in
     let none : c.in-Err.fault ≡ NoMemory → ⊥ = λ e. false≢true (sym c.if-is_same.false ∙ c.is_same.ensures ∙ ap (λ (f : IoFault). is_same f NoMemory) e) in
     let old : Sides = sides c.args.stack.now (g.O.BlockDev.state c.args.out.now) (g.W.Write.contents c.args.writer.now.inner) in

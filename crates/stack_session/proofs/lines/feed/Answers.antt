@@ -1,4 +1,6 @@
 use Rattle.std.proofs.Common.{◌+◌, refl, ap, ◌∙◌, ◌∷◌, arith, length, length-append}
+use Rattle.std.proofs.lemmas.Result.{err_from_is_err_and}
+use Rattle.stack_session.proofs.FrontLemmas.{feeding_stops, feeding_full}
 use Rattle.stack_session.proofs.SessionLemmas.{feeding_starts, feeding_line, feeding_ends}
 use Rattle.stack_session.proofs.lines.feed.Goals as goal
 
@@ -23,3 +25,11 @@ pub returns-clause-ok : goal.returns-clause-ok
 returns-clause-ok g c =
     feeding_ends c.args.rest.now.items c.keep.new.rest.items (length c.args.rest.now.items + length c.args.piece.now) c.keep.result
     c.in_default.ensures c.lines.invariant.room c.lines.invariant.feeding c.keep.ensures.ok
+
+pub returns-clause-stopped : goal.returns-clause-stopped
+returns-clause-stopped g c = feeding_full c.args.rest.now.items c.keep.result c.keep.ensures.kind c.lines.invariant.feeding
+
+pub returns-in_err-end_line-clause-stopped : goal.returns-in_err-end_line-clause-stopped
+returns-in_err-end_line-clause-stopped g c =
+    let p = err_from_is_err_and c.from_residual.result c.from_residual.ensures.1 in
+    rw (p.1, p.2) (feeding_stops c.args.rest.now.items c.in-Some.line.now c.in-Some.after.now c.in_err-end_line.field-0.0 c.in-Some.ensures.1 refl c.lines.invariant.feeding c.in_err-end_line.ensures.stopped)

@@ -5,13 +5,13 @@ use Rattle.request_queue.specs.declared.fault.SubmitFault.TheVariants.{NoSuchDev
 use Rattle.stack_session.specs.Commands.{table}
 use Rattle.stack_session.specs.Texts.{submit_text}
 use Rattle.stack_session.specs.Replies.{table_of, RepliesTo, WholeStep}
-use Rattle.stack_session.proofs.ReplyLemmas.{writes_some, device_text-none, device_text-some}
+use Rattle.stack_session.proofs.ReplyLemmas.{writes_reply, device_text-none, device_text-some}
 use Rattle.stack_session.proofs.server.reply_to_table.Goals as goal
 
 pub returns-in_default : goal.returns-in_default
 returns-in_default g c =
     let none = rw (c.config-config.ensures.value, c.stack.ensures) at c.in_default.ensures in
-    writes_some g.W.Write.contents (λ reply. RepliesTo WholeStep c.args.queue.now (table c.args.name.now) reply c.args.queue.now) (submit_text NoSuchDevice)
+    writes_reply g.W.Write.contents (λ reply. RepliesTo WholeStep c.args.queue.now (table c.args.name.now) reply c.args.queue.now) (submit_text NoSuchDevice)
     (inl (device_text-none c.args.queue.now.stack.config c.args.name.now (table_of c.args.queue.now.stack.config) none, refl))
     c.say_submit_fault.ensures
 
@@ -20,6 +20,6 @@ returns-in-Ok g c =
     let found = rw (c.config-config.ensures.value, c.stack.ensures) at c.in-Some.ensures in
     let lines = rw (c.config-config.ensures.value, c.stack.ensures) at c.table.ensures in
     let printed = c.as_slice.ensures.value ∙ c.in-Ok.ensures.text ∙ ap (table_text false) lines in
-    writes_some g.W.Write.contents (λ reply. RepliesTo WholeStep c.args.queue.now (table c.args.name.now) reply c.args.queue.now) c.as_slice.result.now
+    writes_reply g.W.Write.contents (λ reply. RepliesTo WholeStep c.args.queue.now (table c.args.name.now) reply c.args.queue.now) c.as_slice.result.now
     (inl (printed ∙ device_text-some c.args.queue.now.stack.config c.args.name.now (table_of c.args.queue.now.stack.config) c.in-Some.d found, refl))
     c.put.ensures.writes

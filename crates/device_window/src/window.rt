@@ -1,0 +1,159 @@
+//! A part of a device as a device.
+ghost use Rattle.std.specs.Prelude.{◌≡◌, ◌/◌, ◌+◌, ◌^◌, ◌≤◌, length, is_ok, ◌↔◌, IsOk, IsTrue, IfOk, OnErr, OnOk};
+ghost use Rattle.std.specs.Option.{ForSome};
+ghost use Rattle.std.specs.List.{concat};
+ghost use Rattle.block_device.specs.Device.{HasFailed, IsInside, IsRead, IsUnsynced, IsWritten, run_of, sectors_of, spliced, synced};
+ghost use Rattle.block_device.specs.Failing.{IsInnerRead, IsInnerSync, IsInnerWrite};
+ghost use Rattle.device_window.specs.Parts.{LiesInside, StandOutside, part_before, part_behind};
+ghost use Rattle.device_window.specs.Windows.{windowed, windowed-whole};
+
+use crate::{Beside, OutsideDevice, Part};
+use block_device::{BlockDev, DeviceFault, SyncDev};
+use std::marker::{Brand, PhantomData};
+
+/// A part of a device: its sectors alone are read and written. Counters, flags and faults are those of the whole
+/// device, whose other sectors stay as they are.
+#[derive(Drop)]
+pub struct Window<D: BlockDev, K: Beside = Brand> {
+    /// The whole device.
+    pub inner: D,
+    pub part: Part,
+    pub beside: PhantomData<K>,
+    pub ghost inside: { LiesInside (D.state inner) part },
+    pub ghost small: { part.first + part.count ≤ 2 ^ 54 },
+    pub ghost kept: { ForSome K.outside (StandOutside (D.state inner) part) },
+}
+
+impl<D: BlockDev, K: Beside> Window<D, K> {
+    /// That part of the device, where it lies inside of it.
+    pub fn new(inner: D, part: Part) -> Result<Window<D, K>, OutsideDevice>
+    where
+        D: Drop,
+        requires { ForSome K.outside (StandOutside (D.state inner) part) }
+        ensures ok { IfOk result (λ w. (w.inner ≡ inner) × (w.part ≡ part)) }
+        ensures inside { IsOk result ↔ LiesInside (D.state inner) part }
+    {
+        if !part.is_inside(&inner) {
+            return Err(OutsideDevice);
+        }
+        Ok(Window {
+            inner,
+            part,
+            beside: PhantomData,
+        })
+    }
+
+    /// What lies on the device from that sector on; no sector where the device ends before it.
+    pub fn behind(inner: D, first: u64) -> Window<D, K>
+        requires { ForSome K.outside (StandOutside (D.state inner) (part_behind (D.state inner) first)) }
+        ensures inner { result.inner ≡ inner }
+        ensures part { result.part ≡ part_behind (D.state inner) first }
+    {
+        let part = Part::behind(&inner, first);
+        Window {
+            inner,
+            part,
+            beside: PhantomData,
+        }
+    }
+
+    /// What lies on the device before that sector, which may be behind its end.
+    pub fn before(inner: D, end: u64) -> Window<D, K>
+        requires { ForSome K.outside (StandOutside (D.state inner) (part_before (D.state inner) end)) }
+        ensures inner { result.inner ≡ inner }
+        ensures part { result.part ≡ part_before (D.state inner) end }
+    {
+        let part = Part::before(&inner, end);
+        Window {
+            inner,
+            part,
+            beside: PhantomData,
+        }
+    }
+
+    /// The whole device again. What stands outside of the part is what stood there.
+    pub fn into_inner(self) -> D
+        ensures value { result ≡ self.inner }
+        ensures kept { ForSome K.outside (StandOutside (D.state result) self.part) }
+    {
+        let Window {
+            inner,
+            part: _,
+            beside: _,
+        } = self;
+        inner
+    }
+}
+
+impl<D: BlockDev, K: Beside> BlockDev for Window<D, K> {
+    ghost state = { λ w. windowed (D.state w.inner) w.part };
+
+    ghost whole = { λ w. windowed-whole (D.state w.inner) w.part w.inside (D.whole w.inner) };
+
+    fn sectors(&self) -> u64 {
+        self.part.count
+    }
+
+    fn writable(&self) -> bool {
+        self.inner.writable()
+    }
+
+    fn read(&mut self, first: u64, out: &mut [u8]) -> Result<(), DeviceFault>
+        requires { IsInside (⟦<Window<D, K> as BlockDev>⟧.state self.old) first (length out.old) }
+        ensures moved { IsRead (⟦<Window<D, K> as BlockDev>⟧.state self.old) (length out.old / 512) (is_ok result) (⟦<Window<D, K> as BlockDev>⟧.state self.new) }
+        ensures bytes { OnOk result (IsTrue (⟦<Window<D, K> as BlockDev>⟧.state self.old).steady → out.new ≡ concat (run_of (⟦<Window<D, K> as BlockDev>⟧.state self.old).image first (length out.old / 512))) }
+        ensures sure { IsTrue (⟦<Window<D, K> as BlockDev>⟧.state self.old).never_fails → IsOk result }
+        ensures fault { OnErr result (HasFailed (⟦<Window<D, K> as BlockDev>⟧.state self.old) (⟦<Window<D, K> as BlockDev>⟧.state self.new)) }
+
+        // It is one of the whole device, that far behind the part's first sector.
+        ensures inner { IsInnerRead (D.state self.old.inner) (self.old.part.first + first) (length out.old / 512) (is_ok result) (D.state self.new.inner) out.new }
+        ensures part { self.new.part ≡ self.old.part }
+    {
+        self.inner.read(self.part.first + first, out)
+    }
+
+    fn write(&mut self, first: u64, bytes: &[u8]) -> Result<(), DeviceFault>
+        requires range { IsInside (⟦<Window<D, K> as BlockDev>⟧.state self.old) first (length bytes.now) }
+        requires allowed { IsTrue (⟦<Window<D, K> as BlockDev>⟧.state self.old).may_write }
+        ensures moved { IsWritten (⟦<Window<D, K> as BlockDev>⟧.state self.old) first (length bytes.now / 512) (is_ok result) (⟦<Window<D, K> as BlockDev>⟧.state self.new) }
+        ensures image { OnOk result (IsTrue (⟦<Window<D, K> as BlockDev>⟧.state self.old).steady → (⟦<Window<D, K> as BlockDev>⟧.state self.new).image ≡ spliced (⟦<Window<D, K> as BlockDev>⟧.state self.old).image first (sectors_of (length bytes.now / 512) bytes.now)) }
+        ensures sure { IsTrue (⟦<Window<D, K> as BlockDev>⟧.state self.old).never_fails → IsOk result }
+        ensures fault { OnErr result (HasFailed (⟦<Window<D, K> as BlockDev>⟧.state self.old) (⟦<Window<D, K> as BlockDev>⟧.state self.new)) }
+
+        // It is one of the whole device, that far behind the part's first sector.
+        ensures inner { IsInnerWrite (D.state self.old.inner) (self.old.part.first + first) (length bytes.now / 512) (is_ok result) (D.state self.new.inner) bytes.now }
+        ensures part { self.new.part ≡ self.old.part }
+    {
+        self.inner.write(self.part.first + first, bytes)
+    }
+
+    fn reads(&self) -> u64 {
+        self.inner.reads()
+    }
+
+    fn writes(&self) -> u64 {
+        self.inner.writes()
+    }
+
+    fn failures(&self) -> u64 {
+        self.inner.failures()
+    }
+}
+
+impl<D: SyncDev, K: Beside> SyncDev for Window<D, K> {
+    fn is_dirty(&self) -> bool {
+        self.inner.is_dirty()
+    }
+
+    fn sync(&mut self) -> Result<(), DeviceFault>
+        ensures ok { OnOk result (⟦<Window<D, K> as BlockDev>⟧.state self.new ≡ synced (⟦<Window<D, K> as BlockDev>⟧.state self.old)) }
+        ensures err { OnErr result (IsUnsynced (⟦<Window<D, K> as BlockDev>⟧.state self.old) (⟦<Window<D, K> as BlockDev>⟧.state self.new)) }
+        ensures sure { IsTrue (⟦<Window<D, K> as BlockDev>⟧.state self.old).never_fails → IsOk result }
+
+        // It is one of the whole device.
+        ensures inner { IsInnerSync (D.state self.old.inner) (is_ok result) (D.state self.new.inner) }
+        ensures part { self.new.part ≡ self.old.part }
+    {
+        self.inner.sync()
+    }
+}

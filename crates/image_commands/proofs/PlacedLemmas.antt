@@ -1,0 +1,21 @@
+-- Windows of devices that are the same.
+use Rattle.std.proofs.Common.{◌≡◌, ℕ, List, ap, subst, ◌∙◌}
+use Rattle.block_device.specs.Device.{Device}
+use Rattle.device_window.specs.declared.part.Part.{Part}
+use Rattle.device_window.specs.Windows.{windowed}
+use Rattle.verity_format.specs.declared.formatting.FormatFault.{FormatFault}
+use Rattle.verity_format.specs.declared.formatting.FormatOptions.{FormatOptions}
+use Rattle.image_commands.specs.declared.fault.ImageFault.TheVariants.{Format}
+use Rattle.image_commands.specs.declared.format.MadeImage.{MadeImage}
+use Rattle.image_commands.specs.Formats.{IsFormatEnd, IsMade}
+
+pub windowed-same : (d d' : Device) (p p' : Part) → d ≡ d' → p ≡ p' → windowed d p ≡ windowed d' p'
+windowed-same d d' p p' e f = ap (λ (x : Device). windowed x p) e ∙ ap (windowed d') f
+
+pub made-as : (o : FormatOptions) (a a' b b' d e e' : Device) (image : MadeImage) → a ≡ a' → b ≡ b' → e ≡ e' → IsMade o a b d e image → IsMade o a' b' d e' image
+made-as o a a' b b' d e e' image x y z made =
+    subst (λ (v : Device). IsMade o v b' d e' image) x (subst (λ (v : Device). IsMade o a v d e' image) y (subst (λ (v : Device). IsMade o a b d v image) z made))
+
+pub end-as : (o : FormatOptions) (a a' b b' d e e' : Device) (fault : FormatFault) → a ≡ a' → b ≡ b' → e ≡ e' → IsFormatEnd o a b d e (Format fault) → IsFormatEnd o a' b' d e' (Format fault)
+end-as o a a' b b' d e e' fault x y z ends =
+    subst (λ (v : Device). IsFormatEnd o v b' d e' (Format fault)) x (subst (λ (v : Device). IsFormatEnd o a v d e' (Format fault)) y (subst (λ (v : Device). IsFormatEnd o a b d v (Format fault)) z ends))

@@ -1,0 +1,72 @@
+use Rattle.std.proofs.Common.{◌≡◌, ℕ, Result, inl, inr, refl, subst}
+use Rattle.std.specs.Prelude.{IfErr, IfOk}
+use Rattle.verity_format.specs.declared.formatting.FormatFault.{FormatFault}
+use Rattle.image_commands.specs.declared.format.MadeImage.{MadeImage}
+use Rattle.image_commands.specs.declared.fault.ImageFault.TheVariants.{Format, Write}
+use Rattle.image_commands.specs.PlacedFormats.{IsMadePlaced, IsPlacedEnd, Placing}
+use Rattle.image_commands.proofs.OpeningLemmas.{err-from}
+use Rattle.image_commands.proofs.placed_format.format_placed.Goals as goal
+
+pub returns-in_err-options-clause-err : goal.returns-in_err-options-clause-err
+returns-in_err-options-clause-err g c =
+    err-from c.from_residual-in_err-options.result _ c.in_err-options.field-0.0 c.from_residual-in_err-options.ensures.1
+    (inr (inr (inl (record { two = c.in_ok-two.two; opened = c.in_ok-two.ensures.ok; undrawn = c.in_err-options.ensures.err.1; is = c.in_err-options.ensures.err.0 }))))
+
+pub returns-in_err-made-clause-err : goal.returns-in_err-made-clause-err
+returns-in_err-made-clause-err g c =
+    let cause = c.in_err-made.field-0.0 in
+    let placing : ℕ → Placing = λ end. record { data_dev = g.I.Dev.BlockDev.state c.in_ok-two.two.data.device; hash_dev = g.I.Dev.BlockDev.state c.in_ok-two.two.hash.device; hash_dev' = g.I.Dev.BlockDev.state c.make_behind-hash_dev.result.0; end = end; first = c.args.places.hash_first } in
+    let ends : IsPlacedEnd c.in_ok-options.options (placing c.data_end-end.result) cause = subst (λ (r : Result MadeImage FormatFault). IfErr r (IsPlacedEnd c.in_ok-options.options (placing c.data_end-end.result))) c.in_err-made.was c.make_behind-hash_dev.ensures.err in
+    err-from c.from_residual-in_err-made.result _ (Format cause) c.from_residual-in_err-made.ensures.1
+    (inr (inr (inr (inl (record {
+      given = c.in_ok-options.options;
+      two = c.in_ok-two.two;
+      hash_dev' = c.make_behind-hash_dev.result.0;
+      cause = cause;
+      opened = c.in_ok-two.ensures.ok;
+      are_given = c.in_ok-options.ensures.ok;
+      ends = subst (λ (end : ℕ). IsPlacedEnd c.in_ok-options.options (placing end) cause) c.data_end-end.ensures ends;
+      is = refl;
+    })))))
+
+pub returns-in_err-say_made-clause-err : goal.returns-in_err-say_made-clause-err
+returns-in_err-say_made-clause-err g c =
+    let image = c.in_ok-made.made in
+    let placing : ℕ → Placing = λ end. record { data_dev = g.I.Dev.BlockDev.state c.in_ok-two.two.data.device; hash_dev = g.I.Dev.BlockDev.state c.in_ok-two.two.hash.device; hash_dev' = g.I.Dev.BlockDev.state c.make_behind-hash_dev.result.0; end = end; first = c.args.places.hash_first } in
+    let made : IsMadePlaced c.in_ok-options.options (placing c.data_end-end.result) image = subst (λ (r : Result MadeImage FormatFault). IfOk r (IsMadePlaced c.in_ok-options.options (placing c.data_end-end.result))) c.in_ok-made.was c.make_behind-hash_dev.ensures.ok in
+    err-from c.from_residual-in_err-say_made.result _ Write c.from_residual-in_err-say_made.ensures.1
+    (inr (inr (inr (inr (
+      image,
+      record {
+        given = c.in_ok-options.options;
+        two = c.in_ok-two.two;
+        hash_dev' = c.make_behind-hash_dev.result.0;
+        between = c.open_placed.new.images;
+        aligned = cc (c.if-not-is_aligned.ensures);
+        opened = c.in_ok-two.ensures.ok;
+        are_given = c.in_ok-options.ensures.ok;
+        made = subst (λ (end : ℕ). IsMadePlaced c.in_ok-options.options (placing end) image) c.data_end-end.ensures made;
+        closed = c.close.ensures;
+      },
+      c.in_err-say_made.ensures.failed,
+    )))))
+
+pub returns-clause-ok : goal.returns-clause-ok
+returns-clause-ok g c =
+    let image = c.in_ok-made.made in
+    let placing : ℕ → Placing = λ end. record { data_dev = g.I.Dev.BlockDev.state c.in_ok-two.two.data.device; hash_dev = g.I.Dev.BlockDev.state c.in_ok-two.two.hash.device; hash_dev' = g.I.Dev.BlockDev.state c.make_behind-hash_dev.result.0; end = end; first = c.args.places.hash_first } in
+    let made : IsMadePlaced c.in_ok-options.options (placing c.data_end-end.result) image = subst (λ (r : Result MadeImage FormatFault). IfOk r (IsMadePlaced c.in_ok-options.options (placing c.data_end-end.result))) c.in_ok-made.was c.make_behind-hash_dev.ensures.ok in (
+      image,
+      record {
+        given = c.in_ok-options.options;
+        two = c.in_ok-two.two;
+        hash_dev' = c.make_behind-hash_dev.result.0;
+        between = c.open_placed.new.images;
+        aligned = cc (c.if-not-is_aligned.ensures);
+        opened = c.in_ok-two.ensures.ok;
+        are_given = c.in_ok-options.ensures.ok;
+        made = subst (λ (end : ℕ). IsMadePlaced c.in_ok-options.options (placing end) image) c.data_end-end.ensures made;
+        closed = c.close.ensures;
+      },
+      c.in_ok-say_made.ensures.ok,
+    )

@@ -1,0 +1,103 @@
+-- What `format` makes of a hash image behind a sector of a file, and how it ends early.
+use Rattle.std.specs.Prelude.{◌≡◌, ◌⊎◌, ℕ, Bool, true, false, List, Option}
+use Rattle.std.specs.Io.KnownBytes.{Appends}
+use Rattle.block_device.specs.Device.{Device}
+use Rattle.device_window.specs.Parts.{StandOutside, outside_of, part_behind}
+use Rattle.device_window.specs.Windows.{windowed}
+use Rattle.verity_format.specs.declared.formatting.FormatFault.{FormatFault}
+use Rattle.verity_format.specs.declared.formatting.FormatOptions.{FormatOptions}
+use Rattle.command_line.specs.declared.image_options.ImageOptions.{ImageOptions}
+use Rattle.image_files.specs.Opener.{Calls}
+use Rattle.image_commands.specs.declared.fault.ImageFault.{ImageFault}
+use Rattle.image_commands.specs.declared.fault.ImageFault.TheVariants.{Format, Random, Unaligned}
+use Rattle.image_commands.specs.declared.format.MadeImage.{MadeImage}
+use Rattle.image_commands.specs.declared.paths.TwoImages.{TwoImages}
+use Rattle.image_commands.specs.Drawing.{AreGiven, Drawing, IsUndrawn}
+use Rattle.image_commands.specs.Endings.{IsUnopened, IsUnwritten}
+use Rattle.image_commands.specs.Formats.{IsFormatEnd, IsMade, made_text}
+use Rattle.image_commands.specs.Places.{FailsToOpenPlaced, OpensPlaced, TwoPlaces, before, behind, data_end, is_aligned}
+
+-- the two devices before and behind a formatting, the sector where the data end, and the one where the hash image begins
+pub record Placing : Type 0 where
+  pub data_dev : Device
+  pub hash_dev : Device
+  pub hash_dev' : Device
+  pub end : ℕ
+  pub first : ℕ
+
+-- the hash image, behind the formatting
+abbrev pub image_behind : Placing → Device
+image_behind p = windowed p.hash_dev' (part_behind p.hash_dev p.first)
+
+-- over a steady device all before the hash image is as it was
+abbrev pub KeepsBefore : Placing → Type 0
+KeepsBefore p = StandOutside p.hash_dev' (part_behind p.hash_dev p.first) (outside_of p.hash_dev.image (part_behind p.hash_dev p.first))
+
+-- the hash image was made of the data that lie before their end
+pub record IsMadePlaced (options : FormatOptions) (p : Placing) (image : MadeImage) : Type 0 where
+  pub data_dev' : Device
+  pub made : IsMade options (before p.data_dev p.end) (behind p.hash_dev p.first) data_dev' (image_behind p) image
+  pub kept : KeepsBefore p
+
+-- it was refused, not finished, or not synced
+pub record IsPlacedEnd (options : FormatOptions) (p : Placing) (fault : FormatFault) : Type 0 where
+  pub data_dev' : Device
+  pub ends : IsFormatEnd options (before p.data_dev p.end) (behind p.hash_dev p.first) data_dev' (image_behind p) (Format fault)
+  pub kept : KeepsBefore p
+
+-- the devices of two images
+abbrev pub placing_of : {S D : Type 0} → Calls S D → TwoImages D → ℕ → D → Placing
+placing_of w two first hash_dev' = record { data_dev = w.state two.data.device; hash_dev = w.state two.hash.device; hash_dev' = w.state hash_dev'; end = data_end two first; first = first }
+
+-- What was made of the two images, with the options as they are given or drawn. The hash image was synced and given back
+-- under its path.
+pub record MakesPlaced {S D T G : Type 0} (w : Calls S D) (d : Drawing T G) (options : ImageOptions) (places : TwoPlaces) (image : MadeImage) : Type 0 where
+  pub given : FormatOptions
+  pub two : TwoImages D
+  pub hash_dev' : D
+  pub between : S
+  pub aligned : is_aligned places.first options.hash_block ≡ true
+  pub opened : OpensPlaced (record w { new = between }) places two
+  pub are_given : AreGiven d options given
+  pub made : IsMadePlaced given (placing_of w two places.first hash_dev') image
+  pub closed : w.relations.takes between places.paths.hash_path hash_dev' w.new
+
+-- `format`: its root, salt, identifier and number of blocks
+abbrev pub PrintsPlaced : {S D T G : Type 0} → Calls S D → Drawing T G → ImageOptions → TwoPlaces → Option (List ℕ) → Option (List ℕ) → Type 0
+PrintsPlaced w d options places old new = (image : MadeImage) × MakesPlaced w d options places image × Appends old new (made_text image)
+
+-- no hash block begins there, and nothing was opened or drawn
+pub record EndsUnaligned {S D T G : Type 0} (w : Calls S D) (d : Drawing T G) (options : ImageOptions) (places : TwoPlaces) (fault : ImageFault) : Type 0 where
+  pub unaligned : is_aligned places.first options.hash_block ≡ false
+  pub is : fault ≡ Unaligned
+  pub same_images : w.new ≡ w.old
+  pub same : d.new ≡ d.old
+
+-- before anything is drawn one of the two isn't opened
+pub record EndsUnopenedPlaced {S D T G : Type 0} (w : Calls S D) (d : Drawing T G) (places : TwoPlaces) (fault : ImageFault) : Type 0 where
+  pub unopened : IsUnopened (FailsToOpenPlaced w places) fault
+  pub same : d.new ≡ d.old
+
+-- both are open, and something has to be drawn, but there are no random bytes
+pub record EndsUndrawnPlaced {S D T G : Type 0} (w : Calls S D) (d : Drawing T G) (options : ImageOptions) (places : TwoPlaces) (fault : ImageFault) : Type 0 where
+  pub two : TwoImages D
+  pub opened : OpensPlaced w places two
+  pub undrawn : IsUndrawn d options
+  pub is : fault ≡ Random
+
+-- a formatting of the two images ends early
+pub record EndsPlaced {S D T G : Type 0} (w : Calls S D) (d : Drawing T G) (options : ImageOptions) (places : TwoPlaces) (fault : ImageFault) : Type 0 where
+  pub given : FormatOptions
+  pub two : TwoImages D
+  pub hash_dev' : D
+  pub cause : FormatFault
+  pub opened : OpensPlaced w places two
+  pub are_given : AreGiven d options given
+  pub ends : IsPlacedEnd given (placing_of w two places.first hash_dev') cause
+  pub is : fault ≡ Format cause
+
+-- one of these, or the text of what was made can't be written
+abbrev pub IsFormatPlacedEnd : {S D T G : Type 0} → Calls S D → Drawing T G → ImageOptions → TwoPlaces → Bool → ImageFault → Type 0
+IsFormatPlacedEnd w d options places failed fault =
+    EndsUnaligned w d options places fault ⊎ (EndsUnopenedPlaced w d places fault ⊎ (EndsUndrawnPlaced w d options places fault ⊎ (EndsPlaced w d options places fault
+    ⊎ ((image : MadeImage) × MakesPlaced w d options places image × IsUnwritten failed fault))))

@@ -1,0 +1,84 @@
+-- What the other commands on a hash image behind a sector of a file print, and how they end early.
+use Rattle.std.specs.Prelude.{◌≡◌, ◌⊎◌, ℕ, Bool, true, false, List, codes, Option}
+use Rattle.std.specs.Io.KnownBytes.{Appends}
+use Rattle.block_device.specs.Device.{Device}
+use Rattle.image_files.specs.declared.images.OpenImage.{OpenImage}
+use Rattle.image_files.specs.Opened.{Opens, Refuses}
+use Rattle.image_files.specs.Opener.{Calls}
+use Rattle.verity_format.specs.declared.verifying.Verdict.TheVariants.{Matches}
+use Rattle.verity_format.specs.Blocks.{IsOnlyRead}
+use Rattle.verity_format.specs.Superblock.{SuperRecord}
+use Rattle.verity_format.specs.Verifying.{IsFound, IsReadCause, IsReadFrom, IsVerifyCause}
+use Rattle.image_commands.specs.declared.fault.ImageFault.{ImageFault}
+use Rattle.image_commands.specs.declared.fault.ImageFault.TheVariants.{Unaligned}
+use Rattle.image_commands.specs.declared.paths.TwoImages.{TwoImages}
+use Rattle.image_commands.specs.Endings.{IsComparisonEnd, IsUnopened, IsVerifyEnd}
+use Rattle.image_commands.specs.Openings.{FailsToOpenTwo, OpensTwo}
+use Rattle.image_commands.specs.Places.{TwoPlaces, before, behind, data_end, is_aligned}
+
+-- the superblock behind that sector was read, and a text of it written; where it must be, its tree may stand there
+pub record SaysPlaced (device : Device) (first : ℕ) (may : SuperRecord → Bool) (text : SuperRecord → List ℕ) (old new : Option (List ℕ)) : Type 0 where
+  pub super : SuperRecord
+  pub sector : List ℕ
+  pub read : IsReadFrom (behind device first) sector super
+  pub allowed : may super ≡ true
+  pub printed : Appends old new (text super)
+
+-- `dump` and `table`, of the image under the path, which is only read
+pub record PrintsPlacedSuper {S D : Type 0} (w : Calls S D) (path : List ℕ) (first : ℕ) (may : SuperRecord → Bool) (text : SuperRecord → List ℕ) (old new : Option (List ℕ)) : Type 0 where
+  pub image : OpenImage D
+  pub opened : Opens w path false image
+  pub says : SaysPlaced (w.state image.device) first may text old new
+
+-- the superblock was read, but no hash block begins there
+pub record IsUnaligned (device : Device) (first : ℕ) (fault : ImageFault) : Type 0 where
+  pub super : SuperRecord
+  pub sector : List ℕ
+  pub read : IsReadFrom (behind device first) sector super
+  pub unaligned : is_aligned first super.hash_block ≡ false
+  pub is : fault ≡ Unaligned
+
+-- it isn't read, no tree may stand there, memory ran out, or the text can't be written
+abbrev pub IsPlacedSuperEnd : Device → ℕ → Bool → ImageFault → Type 0
+IsPlacedSuperEnd device first failed fault = ((device' : Device) × IsVerifyEnd (IsReadCause (behind device first) device') failed fault) ⊎ IsUnaligned device first fault
+
+pub record EndsPlacedSuper {S D : Type 0} (w : Calls S D) (path : List ℕ) (first : ℕ) (failed : Bool) (fault : ImageFault) : Type 0 where
+  pub image : OpenImage D
+  pub opened : Opens w path false image
+  pub ends : IsPlacedSuperEnd (w.state image.device) first failed fault
+
+abbrev pub IsPlacedImageEnd : {S D : Type 0} → Calls S D → List ℕ → ℕ → Bool → ImageFault → Type 0
+IsPlacedImageEnd w path first failed fault = IsUnopened (Refuses w path false) fault ⊎ EndsPlacedSuper w path first failed fault
+
+-- `verify`: what lies before the data's end and what lies behind that sector; the superblock was read once before
+pub record MatchesPlaced (data_dev hash_dev : Device) (end first : ℕ) (root : List ℕ) (old new : Option (List ℕ)) : Type 0 where
+  pub read_dev : Device
+  pub data_dev' : Device
+  pub hash_dev' : Device
+  pub first_read : IsOnlyRead (behind hash_dev first) read_dev
+  pub found : IsFound (before data_dev end) read_dev data_dev' hash_dev' root Matches
+  pub printed : Appends old new (codes "matches\n")
+
+pub record PrintsPlacedMatches {S D : Type 0} (w : Calls S D) (places : TwoPlaces) (root : List ℕ) (old new : Option (List ℕ)) : Type 0 where
+  pub two : TwoImages D
+  pub opened : OpensTwo w places.paths false two
+  pub matches : MatchesPlaced (w.state two.data.device) (w.state two.hash.device) (data_end two places.first) places.first root old new
+
+-- a comparison that was made ends early
+pub record EndsMatching (data_dev hash_dev : Device) (end first : ℕ) (root : List ℕ) (failed : Bool) (fault : ImageFault) : Type 0 where
+  pub read_dev : Device
+  pub data_dev' : Device
+  pub hash_dev' : Device
+  pub first_read : IsOnlyRead (behind hash_dev first) read_dev
+  pub ends : IsComparisonEnd (IsVerifyCause (before data_dev end) read_dev data_dev' hash_dev') (IsFound (before data_dev end) read_dev data_dev' hash_dev' root) failed fault
+
+abbrev pub IsMatchingEnd : Device → Device → ℕ → ℕ → List ℕ → Bool → ImageFault → Type 0
+IsMatchingEnd data_dev hash_dev end first root failed fault = IsPlacedSuperEnd hash_dev first failed fault ⊎ EndsMatching data_dev hash_dev end first root failed fault
+
+pub record EndsPlacedMatches {S D : Type 0} (w : Calls S D) (places : TwoPlaces) (root : List ℕ) (failed : Bool) (fault : ImageFault) : Type 0 where
+  pub two : TwoImages D
+  pub opened : OpensTwo w places.paths false two
+  pub ends : IsMatchingEnd (w.state two.data.device) (w.state two.hash.device) (data_end two places.first) places.first root failed fault
+
+abbrev pub IsPlacedMatchesEnd : {S D : Type 0} → Calls S D → TwoPlaces → List ℕ → Bool → ImageFault → Type 0
+IsPlacedMatchesEnd w places root failed fault = IsUnopened (FailsToOpenTwo w places.paths false) fault ⊎ EndsPlacedMatches w places root failed fault

@@ -1,0 +1,54 @@
+-- Hash images that begin behind a sector of a file: superblock and tree stand there, and the data may be what lies before.
+use Rattle.std.specs.Prelude.{◌≡◌, ◌⊎◌, ℕ, ◌+◌, ◌-◌, ◌/◌, ◌%◌, ◌^◌, ◌==◌, ◌&&◌, nat_lt, Bool, true, false, List, if◌then◌else◌}
+use Rattle.block_device.specs.Device.{Device}
+use Rattle.block_device.specs.declared.open_fault.OpenFault.TheVariants.{SameFile}
+use Rattle.device_window.specs.Parts.{part_before, part_behind}
+use Rattle.device_window.specs.Windows.{windowed}
+use Rattle.image_files.specs.declared.opening.UnopenedFile.{UnopenedFile}
+use Rattle.image_files.specs.OneFile.{is_one_file}
+use Rattle.image_files.specs.Opener.{Calls}
+use Rattle.image_commands.specs.declared.paths.TwoImages.{TwoImages}
+use Rattle.image_commands.specs.declared.places.ImagePlaces.{ImagePlaces}
+use Rattle.image_commands.specs.Openings.{FailsToOpenTwo, OpensTwo, TwoPaths}
+
+-- the paths of two images, and the sector of the hash image's file where the hash image begins
+pub record TwoPlaces : Type 0 where
+  pub paths : TwoPaths
+  pub first : ℕ
+
+abbrev pub two_places : ImagePlaces → TwoPlaces
+two_places places = record { paths = record { data_path = places.data.now; hash_path = places.hash.now }; first = places.hash_first }
+
+-- a tree of such blocks may stand behind that sector: it is the first one of such a block
+abbrev pub is_aligned : ℕ → ℕ → Bool
+is_aligned first size = if nat_lt size 512 then true else first % (size / 512) == 0
+
+-- the hash block of the file at which a tree begins whose superblock stands at that sector
+abbrev pub start_behind : ℕ → ℕ → ℕ
+start_behind first size = if nat_lt size 512 then 1 else first / (size / 512) + 1
+
+-- the hash image, and what lies before a sector, as devices of their own
+abbrev pub behind : Device → ℕ → Device
+behind device first = windowed device (part_behind device first)
+
+abbrev pub before : Device → ℕ → Device
+before device end = windowed device (part_before device end)
+
+-- where the data end: in one file before the hash image, else at the end of theirs
+abbrev pub data_end : {D : Type 0} → TwoImages D → ℕ → ℕ
+data_end two first = if nat_lt 0 first && is_one_file two.data.id two.hash.id then first else 2 ^ 64 - 1
+
+-- for a format both were opened; one file only where the hash image doesn't begin at its first sector
+pub record OpensPlaced {S D : Type 0} (w : Calls S D) (places : TwoPlaces) (two : TwoImages D) : Type 0 where
+  pub opened : OpensTwo w places.paths true two
+  pub apart : ((places.first == 0) && is_one_file two.data.id two.hash.id) ≡ false
+
+-- both were opened, but are one file without a place for the hash image
+pub record AreOneImage {S D : Type 0} (w : Calls S D) (places : TwoPlaces) (file : UnopenedFile) : Type 0 where
+  pub two : TwoImages D
+  pub opened : OpensTwo w places.paths true two
+  pub one : ((places.first == 0) && is_one_file two.data.id two.hash.id) ≡ true
+  pub is : (file.fault ≡ SameFile) × (file.path.now ≡ places.paths.hash_path)
+
+abbrev pub FailsToOpenPlaced : {S D : Type 0} → Calls S D → TwoPlaces → UnopenedFile → Type 0
+FailsToOpenPlaced w places file = FailsToOpenTwo w places.paths true file ⊎ AreOneImage w places file

@@ -1,0 +1,188 @@
+//! The commands `dump`, `table` and `verify` with a place for the hash image in its file.
+ghost use Rattle.std.specs.Prelude.{◌++◌, true, IfErr, OnOk};
+ghost use Rattle.counted_io.specs.Counted.{Writes};
+ghost use Rattle.image_files.specs.Opener.{calls};
+ghost use Rattle.image_commands.specs.Endings.{IsQuiet};
+ghost use Rattle.image_commands.specs.PlacedImages.{IsMatchingEnd, IsPlacedImageEnd, IsPlacedMatchesEnd, IsPlacedSuperEnd, MatchesPlaced, PrintsPlacedMatches, PrintsPlacedSuper, SaysPlaced};
+ghost use Rattle.image_commands.specs.PlacedLines.{entry_head, placed_line};
+ghost use Rattle.image_commands.specs.Places.{is_aligned, two_places};
+ghost use Rattle.image_commands.specs.SuperblockTexts.{superblock_text};
+
+use crate::fault::ImageFault;
+use crate::paths::{ImagePaths, TwoImages, open_two};
+use crate::placed_line::say_placed_line;
+use crate::places::{Bounds, HashPlace, ImagePlaces, data_end, is_aligned};
+use crate::superblock_text::say_superblock;
+use crate::table::LineWords;
+use crate::verify::compare;
+use block_device::BlockDev;
+use counted_io::{Counted, WriteFault};
+use device_window::Window;
+use image_files::{Images, OpenImage, open_image};
+use std::alloc::Global;
+use std::io::Write;
+use std::marker::Brand;
+use tree_shape::Digest;
+use verity_format::{Superblock, read_superblock};
+
+/// `dump --hash-offset BYTES HASH`: the fields of the superblock at that place.
+#[tactic(auto, using(crate::proofs::lemmas::EndingLemmas::quiet))]
+pub fn dump_placed<'a, I: Images, W: Write>(
+    images: &mut I,
+    place: HashPlace<'a>,
+    writer: &mut Counted<W>,
+) -> Result<(), ImageFault<'a>>
+    ensures ok { OnOk result (PrintsPlacedSuper (calls I.relations I.Dev.state images.old images.new) place.entry.path.now place.entry.first (λ s. true) superblock_text (W.contents writer.old.inner) (W.contents writer.new.inner)) }
+    ensures err { IfErr result (IsPlacedImageEnd (calls I.relations I.Dev.state images.old images.new) place.entry.path.now place.entry.first writer.new.failed) }
+    ensures quiet { IfErr result (λ fault. IsQuiet fault (W.contents writer.old.inner) (W.contents writer.new.inner)) }
+{
+    let HashPlace { path, first } = place;
+    let image = open_image(images, path, false)?;
+    dump_behind(image.device, first, writer)
+}
+
+#[tactic(auto, using(crate::proofs::lemmas::EndingLemmas::quiet))]
+fn dump_behind<'a, H: BlockDev + Drop, W: Write>(
+    hash_dev: H,
+    first: u64,
+    writer: &mut Counted<W>,
+) -> Result<(), ImageFault<'a>>
+    ensures ok { OnOk result (SaysPlaced (H.state hash_dev) first (λ s. true) superblock_text (W.contents writer.old.inner) (W.contents writer.new.inner)) }
+    ensures err { IfErr result (IsPlacedSuperEnd (H.state hash_dev) first writer.new.failed) }
+    ensures quiet { IfErr result (λ fault. IsQuiet fault (W.contents writer.old.inner) (W.contents writer.new.inner)) }
+{
+    let mut window = Window::<H, Brand>::behind(hash_dev, first);
+    let superblock = read_superblock(&mut window)?;
+    say_superblock(writer, &superblock)?;
+    Ok(())
+}
+
+/// `table --hash-offset BYTES [--name NAME] HASH ROOT DATANAME HASHNAME`: the table line, its tree counted from the
+/// beginning of the file; with a name the whole entry of a read-only device.
+#[tactic(auto, using(crate::proofs::lemmas::EndingLemmas::quiet))]
+pub fn table_placed<'a, I: Images, W: Write>(
+    images: &mut I,
+    place: HashPlace<'a>,
+    name: Option<&str>,
+    words: LineWords<'_>,
+    writer: &mut Counted<W>,
+) -> Result<(), ImageFault<'a>>
+    ensures ok { OnOk result (PrintsPlacedSuper (calls I.relations I.Dev.state images.old images.new) place.entry.path.now place.entry.first (λ s. is_aligned place.entry.first s.hash_block) (λ s. entry_head name.entry ++ placed_line s words.entry place.entry.first) (W.contents writer.old.inner) (W.contents writer.new.inner)) }
+    ensures err { IfErr result (IsPlacedImageEnd (calls I.relations I.Dev.state images.old images.new) place.entry.path.now place.entry.first writer.new.failed) }
+    ensures quiet { IfErr result (λ fault. IsQuiet fault (W.contents writer.old.inner) (W.contents writer.new.inner)) }
+{
+    let HashPlace { path, first } = place;
+    let image = open_image(images, path, false)?;
+    table_behind(image.device, first, name, words, writer)
+}
+
+#[tactic(auto, using(crate::proofs::lemmas::EndingLemmas::quiet))]
+fn table_behind<'a, H: BlockDev + Drop, W: Write>(
+    hash_dev: H,
+    first: u64,
+    name: Option<&str>,
+    words: LineWords<'_>,
+    writer: &mut Counted<W>,
+) -> Result<(), ImageFault<'a>>
+    ensures ok { OnOk result (SaysPlaced (H.state hash_dev) first (λ s. is_aligned first s.hash_block) (λ s. entry_head name.entry ++ placed_line s words.entry first) (W.contents writer.old.inner) (W.contents writer.new.inner)) }
+    ensures err { IfErr result (IsPlacedSuperEnd (H.state hash_dev) first writer.new.failed) }
+    ensures quiet { IfErr result (λ fault. IsQuiet fault (W.contents writer.old.inner) (W.contents writer.new.inner)) }
+{
+    let mut window = Window::<H, Brand>::behind(hash_dev, first);
+    let superblock = read_superblock(&mut window)?;
+    if !is_aligned(first, superblock.hash_block()) {
+        return Err(ImageFault::Unaligned);
+    }
+    say_named_line(writer, name, &superblock, words, first)?;
+    Ok(())
+}
+
+// The line, or the whole entry.
+fn say_named_line<W: Write>(
+    writer: &mut Counted<W>,
+    name: Option<&str>,
+    superblock: &Superblock,
+    words: LineWords<'_>,
+    first: u64,
+) -> Result<(), WriteFault>
+    ensures { Writes W.contents writer.old writer.new (entry_head name.entry ++ placed_line superblock.now words.entry first) result }
+{
+    say_head(writer, name)?;
+    say_placed_line(writer, superblock, words, first)
+}
+
+// What makes the line a whole entry, where there is a name.
+fn say_head<W: Write>(writer: &mut Counted<W>, name: Option<&str>) -> Result<(), WriteFault>
+    ensures { Writes W.contents writer.old writer.new (entry_head name.entry) result }
+{
+    match name {
+        Some(name) => {
+            writer.put(name.as_bytes())?;
+            writer.put(b",,,ro,")
+        }
+        None => Ok(()),
+    }
+}
+
+/// `verify --hash-offset BYTES DATA HASH ROOT`: as `verify_images`, of the hash image that begins at that sector of HASH.
+/// Where both are one file, the data are what lies before.
+#[tactic(auto, using(crate::proofs::lemmas::EndingLemmas::quiet))]
+pub fn verify_placed<'a, I: Images, W: Write>(
+    alloc: Global,
+    images: &mut I,
+    places: ImagePlaces<'a>,
+    root: &Digest,
+    writer: &mut Counted<W>,
+) -> Result<(), ImageFault<'a>>
+    ensures ok { OnOk result (PrintsPlacedMatches (calls I.relations I.Dev.state images.old images.new) (two_places places.entry) root.now (W.contents writer.old.inner) (W.contents writer.new.inner)) }
+    ensures err { IfErr result (IsPlacedMatchesEnd (calls I.relations I.Dev.state images.old images.new) (two_places places.entry) root.now writer.new.failed) }
+    ensures quiet { IfErr result (λ fault. IsQuiet fault (W.contents writer.old.inner) (W.contents writer.new.inner)) }
+{
+    let ImagePlaces {
+        data,
+        hash,
+        hash_first: first,
+    } = places;
+    let two = open_two(images, ImagePaths { data, hash }, false)?;
+    let end = data_end(&two, first);
+    let TwoImages {
+        data: OpenImage {
+            device: data_dev,
+            id: _,
+        },
+        hash: OpenImage {
+            device: hash_dev,
+            id: _,
+        },
+    } = two;
+    compare_behind(
+        alloc,
+        data_dev,
+        hash_dev,
+        Bounds { end, first },
+        root,
+        writer,
+    )
+}
+
+#[tactic(auto, using(crate::proofs::lemmas::EndingLemmas::quiet))]
+fn compare_behind<'a, D: BlockDev + Drop, H: BlockDev + Drop, W: Write>(
+    alloc: Global,
+    data_dev: D,
+    hash_dev: H,
+    bounds: Bounds,
+    root: &Digest,
+    writer: &mut Counted<W>,
+) -> Result<(), ImageFault<'a>>
+    ensures ok { OnOk result (MatchesPlaced (D.state data_dev) (H.state hash_dev) bounds.end bounds.first root.now (W.contents writer.old.inner) (W.contents writer.new.inner)) }
+    ensures err { IfErr result (IsMatchingEnd (D.state data_dev) (H.state hash_dev) bounds.end bounds.first root.now writer.new.failed) }
+    ensures quiet { IfErr result (λ fault. IsQuiet fault (W.contents writer.old.inner) (W.contents writer.new.inner)) }
+{
+    let mut before = Window::<D, Brand>::before(data_dev, bounds.end);
+    let mut behind = Window::<H, Brand>::behind(hash_dev, bounds.first);
+    let superblock = read_superblock(&mut behind)?;
+    if !is_aligned(bounds.first, superblock.hash_block()) {
+        return Err(ImageFault::Unaligned);
+    }
+    compare(alloc, &mut before, &mut behind, root, writer)
+}

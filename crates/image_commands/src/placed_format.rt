@@ -1,0 +1,96 @@
+//! The command `format` with a place for the hash image in its file.
+ghost use Rattle.std.specs.Prelude.{◌≡◌, Some, IfErr, IfOk, OnOk};
+ghost use Rattle.std.specs.Option.{ForSome};
+ghost use Rattle.device_window.specs.Parts.{StandOutside, outside_of, part_behind};
+ghost use Rattle.image_files.specs.Opener.{calls};
+ghost use Rattle.image_commands.specs.Drawing.{drawing};
+ghost use Rattle.image_commands.specs.Endings.{IsQuiet};
+ghost use Rattle.image_commands.specs.PlacedFormats.{IsFormatPlacedEnd, IsMadePlaced, IsPlacedEnd, PrintsPlaced};
+ghost use Rattle.image_commands.specs.Places.{two_places};
+
+use crate::fault::ImageFault;
+use crate::format::{MadeImage, given_or_drawn, make, say_made};
+use crate::paths::TwoImages;
+use crate::places::{Bounds, ImagePlaces, data_end, is_aligned, open_placed};
+use crate::random::Generators;
+use block_device::{BlockDev, SyncDev};
+use command_line::ImageOptions;
+use counted_io::Counted;
+use device_window::{Beside, Window};
+use image_files::{Images, OpenImage};
+use std::alloc::Global;
+use std::io::Write;
+use std::marker::Brand;
+use verity_format::{FormatFault, FormatOptions};
+
+/// `format --hash-offset BYTES [OPTIONS] DATA HASH`: as `format_images`, of the hash image that begins at that sector of
+/// HASH. Both may be one file; the data are then what lies before.
+#[tactic(auto, using(crate::proofs::lemmas::EndingLemmas::quiet))]
+pub fn format_placed<'a, I: Images, G: Generators, W: Write>(
+    alloc: Global,
+    images: &mut I,
+    generators: &mut G,
+    options: ImageOptions,
+    places: ImagePlaces<'a>,
+    writer: &mut Counted<W>,
+) -> Result<(), ImageFault<'a>>
+    ensures ok { OnOk result (PrintsPlaced (calls I.relations I.Dev.state images.old images.new) (drawing G.gives G.Generator.stream generators.old generators.new) options (two_places places.entry) (W.contents writer.old.inner) (W.contents writer.new.inner)) }
+    ensures err { IfErr result (IsFormatPlacedEnd (calls I.relations I.Dev.state images.old images.new) (drawing G.gives G.Generator.stream generators.old generators.new) options (two_places places.entry) writer.new.failed) }
+    ensures quiet { IfErr result (λ fault. IsQuiet fault (W.contents writer.old.inner) (W.contents writer.new.inner)) }
+{
+    let first = places.hash_first;
+    let hash = places.hash;
+    if !is_aligned(first, options.hash_block) {
+        return Err(ImageFault::Unaligned);
+    }
+    let two = open_placed(images, places)?;
+    let end = data_end(&two, first);
+    let TwoImages {
+        data: OpenImage {
+            device: data_dev,
+            id: _,
+        },
+        hash: OpenImage {
+            device: hash_dev,
+            id: _,
+        },
+    } = two;
+    let options = given_or_drawn(generators, options)?;
+    let (hash_dev, made) = make_behind(alloc, data_dev, hash_dev, Bounds { end, first }, options);
+    let made = made?;
+    images.close(hash, hash_dev);
+    Ok(say_made(writer, &made)?)
+}
+
+// Formats what lies behind a sector of the hash device over what lies before one of the data device, and gives the hash
+// device back.
+fn make_behind<D: BlockDev + Drop, H: SyncDev + Drop>(
+    alloc: Global,
+    data_dev: D,
+    hash_dev: H,
+    bounds: Bounds,
+    options: FormatOptions,
+) -> (H, Result<MadeImage, FormatFault>)
+    ensures ok { IfOk result.1 (IsMadePlaced options (record { data_dev = D.state data_dev; hash_dev = H.state hash_dev; hash_dev' = H.state result.0; end = bounds.end; first = bounds.first })) }
+    ensures err { IfErr result.1 (IsPlacedEnd options (record { data_dev = D.state data_dev; hash_dev = H.state hash_dev; hash_dev' = H.state result.0; end = bounds.end; first = bounds.first })) }
+{
+    make_beside::<D, H, Brand>(alloc, data_dev, hash_dev, bounds, options)
+}
+
+// The same. What stands before the hash image is known by the type parameter.
+fn make_beside<D: BlockDev + Drop, H: SyncDev + Drop, K: Beside>(
+    alloc: Global,
+    data_dev: D,
+    hash_dev: H,
+    bounds: Bounds,
+    options: FormatOptions,
+) -> (H, Result<MadeImage, FormatFault>)
+    requires { K.outside ≡ Some (outside_of (H.state hash_dev).image (part_behind (H.state hash_dev) bounds.first)) }
+    ensures ok { IfOk result.1 (IsMadePlaced options (record { data_dev = D.state data_dev; hash_dev = H.state hash_dev; hash_dev' = H.state result.0; end = bounds.end; first = bounds.first })) }
+    ensures err { IfErr result.1 (IsPlacedEnd options (record { data_dev = D.state data_dev; hash_dev = H.state hash_dev; hash_dev' = H.state result.0; end = bounds.end; first = bounds.first })) }
+{
+    let mut before = Window::<D, Brand>::before(data_dev, bounds.end);
+    let mut behind = Window::<H, K>::behind(hash_dev, bounds.first);
+    let made = make(alloc, &mut before, &mut behind, options);
+    (behind.into_inner(), made)
+}

@@ -1,0 +1,87 @@
+//! Hash images that begin behind a sector of a file.
+ghost use Rattle.std.specs.Prelude.{◌≡◌, ◌&&◌, nat_lt, true, false, IfOk, IfErr};
+ghost use Rattle.image_files.specs.Opener.{IsFresh, calls};
+ghost use Rattle.image_commands.specs.Places.{FailsToOpenPlaced, OpensPlaced, data_end, is_aligned, start_behind, two_places};
+
+use crate::paths::{ImagePaths, TwoImages, open_two};
+use block_device::OpenFault;
+use image_files::{Images, UnopenedFile, is_one_file};
+
+/// The paths of a data image and of its hash image, and the sector of 512 bytes of the hash image's file where the hash
+/// image begins.
+#[derive(Clone, Copy, Debug, PartialEq, Eq)]
+pub struct ImagePlaces<'a> {
+    pub data: &'a str,
+    pub hash: &'a str,
+    pub hash_first: u64,
+}
+
+/// The path of a hash image's file, and the sector of 512 bytes where the hash image begins.
+#[derive(Clone, Copy, Debug, PartialEq, Eq)]
+pub struct HashPlace<'a> {
+    pub path: &'a str,
+    pub first: u64,
+}
+
+/// The sector where the data end, and the one where the hash image begins.
+#[derive(Clone, Copy)]
+pub(crate) struct Bounds {
+    pub end: u64,
+    pub first: u64,
+}
+
+/// Whether a tree of hash blocks of that size may stand behind that sector: one begins there. A size below 512 bytes,
+/// of which no hash block is, is refused elsewhere.
+pub fn is_aligned(first: u64, size: u32) -> bool
+    ensures { result ≡ is_aligned first size }
+{
+    if size < 512 {
+        return true;
+    }
+    first % u64::from(size / 512) == 0
+}
+
+/// The hash block of the file at which a tree begins whose superblock stands at that sector.
+pub(crate) fn start_behind(first: u64, size: u32) -> u128
+    ensures { result ≡ start_behind first size }
+{
+    if size < 512 {
+        return 1;
+    }
+    u128::from(first / u64::from(size / 512)) + 1
+}
+
+/// Opens the two as a format does: the hash image for writing too. They may be one file where the hash image doesn't
+/// begin at its first sector.
+pub(crate) fn open_placed<'a, I: Images>(
+    images: &mut I,
+    places: ImagePlaces<'a>,
+) -> Result<TwoImages<I::Dev>, UnopenedFile<'a>>
+    ensures ok { IfOk result (OpensPlaced (calls I.relations I.Dev.state images.old images.new) (two_places places.entry)) }
+    ensures fresh { IfOk result (λ two. IsFresh (I.Dev.state two.hash.device) true) }
+    ensures err { IfErr result (FailsToOpenPlaced (calls I.relations I.Dev.state images.old images.new) (two_places places.entry)) }
+{
+    let ImagePlaces {
+        data,
+        hash,
+        hash_first,
+    } = places;
+    let two = open_two(images, ImagePaths { data, hash }, true)?;
+    if hash_first == 0 && is_one_file(two.data.id, two.hash.id) {
+        return Err(UnopenedFile {
+            fault: OpenFault::SameFile,
+            path: hash,
+        });
+    }
+    Ok(two)
+}
+
+/// The sector where the data end: in one file before the hash image, else at the end of theirs.
+pub(crate) fn data_end<D>(two: &TwoImages<D>, first: u64) -> u64
+    ensures { result ≡ data_end two.now first }
+{
+    if first > 0 && is_one_file(two.data.id, two.hash.id) {
+        return first;
+    }
+    u64::MAX
+}

@@ -1,0 +1,83 @@
+-- The service of a client as a run of the queue, of which its law speaks.
+use Rattle.std.proofs.Common.{◌≡◌, ◌≢◌, ℕ, ◌+◌, ◌-◌, ◌%◌, List, [], ◌∷◌, length, inl, inr, subst, sym, Ok, Err, Result}
+use Rattle.std.specs.Prelude.{◌⊎◌, Bool, true, false, replicate}
+use Rattle.request_queue.specs.Parts.{EachPart}
+use Rattle.request_queue.specs.Runs.{IsLed}
+use Rattle.request_queue.specs.World.{World, sync}
+use Rattle.request_queue.proofs.lemmas.LedLemmas.{led-none, led-one, led-then}
+use Rattle.nbd_server.specs.declared.header.Command.{Command}
+use Rattle.nbd_server.specs.declared.header.Command.TheVariants.{Read, Write, Zero, Hint, Flush}
+use Rattle.nbd_server.specs.declared.phase.Phase.{Phase}
+use Rattle.nbd_server.specs.declared.phase.Phase.TheVariants.{Greeted, Haggling, Serving, Over}
+use Rattle.nbd_server.specs.declared.request_error.RequestError.{RequestError}
+use Rattle.nbd_server.specs.Exports.{ExportRecord}
+use Rattle.nbd_server.specs.Headers.{command_of, header_of}
+use Rattle.nbd_server.specs.Transmission.{RequestOutcome, FailsToReadEnds, Flushes, IsFramed, ReadsBytes, ServesCommand, Settles, WritesBytes, WritesGiven, WritesSome, room_behind}
+use Rattle.nbd_server.specs.Service.{Conversation, begins, goes_on, IsLast, IsServed, TakesMessage}
+
+stays-led : (w w' : World) → w' ≡ w → IsLed EachPart w w'
+stays-led w w' same = subst (IsLed EachPart w) (sym same) (led-none EachPart w)
+
+read-led : (e : ExportRecord) (w : World) (offset length : ℕ) (outcome : RequestOutcome) (w' : World) → ReadsBytes e w offset length outcome w' → IsLed EachPart w w'
+read-led e w offset length (Ok content) w' p = p.1.led
+read-led e w offset length (Err error) w' p = p.led
+
+ends-led : (e : ExportRecord) (w mid w' : World) (offset length : ℕ) (before behind : RequestOutcome) → ReadsBytes e w (offset - offset % 512) (offset % 512) before mid
+    → ReadsBytes e mid (offset + length) (room_behind offset length) behind w' → IsLed EachPart w w'
+ends-led e w mid w' offset length before behind p q =
+    led-then EachPart w mid w' (read-led e w (offset - offset % 512) (offset % 512) before mid p) (read-led e mid (offset + length) (room_behind offset length) behind w' q)
+
+framed-led : (e : ExportRecord) (w : World) (offset : ℕ) (bytes sectors : List ℕ) (w' : World) → IsFramed e w offset bytes sectors w' → IsLed EachPart w w'
+framed-led e w offset bytes sectors w' p = ends-led e w p.ends.mid w' offset (length bytes) (Ok p.before) (Ok p.behind) p.ends.first p.ends.last
+
+unread-led : (e : ExportRecord) (w : World) (offset length : ℕ) (error : RequestError) (w' : World) → FailsToReadEnds e w offset length error w' → IsLed EachPart w w'
+unread-led e w offset length error w' (inl p) = read-led e w (offset - offset % 512) (offset % 512) (Err error) w' p
+unread-led e w offset length error w' (inr p) = ends-led e w p.1 w' offset length (Ok p.0) (Err error) p.2 p.3
+
+bytes-led : (e : ExportRecord) (w : World) (offset : ℕ) (bytes : List ℕ) (outcome : RequestOutcome) (w' : World) → WritesBytes e w offset bytes outcome w' → IsLed EachPart w w'
+bytes-led e w offset bytes (Ok content) w' p = led-then EachPart w p.2 w' (framed-led e w offset bytes p.1 p.2 p.3) p.4.led
+bytes-led e w offset bytes (Err error) w' (inl p) = unread-led e w offset (length bytes) error w' p
+bytes-led e w offset bytes (Err error) w' (inr p) = led-then EachPart w p.1 w' (framed-led e w offset bytes p.0 p.1 p.2) p.3.led
+
+write-led : (e : ExportRecord) (w : World) (offset : ℕ) (bytes : List ℕ) (outcome : RequestOutcome) (w' : World) → WritesSome e w offset bytes outcome w' → IsLed EachPart w w'
+write-led e w offset [] outcome w' p = stays-led w w' p.1
+write-led e w offset (byte ∷ more) outcome w' p = bytes-led e w offset (byte ∷ more) outcome w' p
+
+given-led : (e : ExportRecord) (w : World) (offset : ℕ) (bytes : List ℕ) (outcome : RequestOutcome) (w' : World) → WritesGiven e w offset bytes outcome w' → IsLed EachPart w w'
+given-led e w offset bytes outcome w' (inl p) = stays-led w w' p.1
+given-led e w offset bytes outcome w' (inr p) = write-led e w offset bytes outcome w' p
+
+flush-led : (w : World) (outcome : RequestOutcome) (w' : World) → Flushes w outcome w' → IsLed EachPart w w'
+flush-led w (Ok content) w' p = led-one EachPart w (sync (Ok tt)) w' p.1
+flush-led w (Err error) w' p = led-one EachPart w (sync (Err p.1)) w' p.2
+
+settle-led : (w : World) (fua : Bool) (Does : RequestOutcome → World → Type 0) → ((o : RequestOutcome) (v : World) → Does o v → IsLed EachPart w v) → (outcome : RequestOutcome) (w' : World)
+    → Settles fua Does outcome w' → IsLed EachPart w w'
+settle-led w false Does led outcome w' p = led outcome w' p
+settle-led w true Does led (Ok content) w' p = led-then EachPart w p.0 w' (led (Ok []) p.0 p.1) (flush-led p.0 (Ok content) w' p.2)
+settle-led w true Does led (Err error) w' (inl p) = led (Err error) w' p
+settle-led w true Does led (Err error) w' (inr p) = led-then EachPart w p.0 w' (led (Ok []) p.0 p.1) (flush-led p.0 (Err error) w' p.2)
+
+command-led : (e : ExportRecord) (w : World) (command : Result Command RequestError) (payload : List ℕ) (outcome : RequestOutcome) (w' : World) → ServesCommand e w command payload outcome w' → IsLed EachPart w w'
+command-led e w (Err error) payload outcome w' p = stays-led w w' p.1
+command-led e w (Ok (Read offset length)) payload outcome w' p = read-led e w offset length outcome w' p
+command-led e w (Ok (Write offset length fua)) payload outcome w' p = settle-led w fua (WritesGiven e w offset payload) (λ o v q. given-led e w offset payload o v q) outcome w' p
+command-led e w (Ok (Zero offset length fua)) payload outcome w' p = settle-led w fua (WritesSome e w offset (replicate length 0)) (λ o v q. write-led e w offset (replicate length 0) o v q) outcome w' p
+command-led e w (Ok Hint) payload outcome w' p = stays-led w w' p.1
+command-led e w (Ok Flush) payload outcome w' p = flush-led w outcome w' p
+
+request-led : (e : ExportRecord) (w : World) (header payload reply : List ℕ) (next : Phase) (w' : World) → IsLast w header reply next w' ⊎ ((header_of header).kind ≢ 2) × IsServed e w header payload reply next w' → IsLed EachPart w w'
+request-led e w header payload reply next w' (inl x) = stays-led w w' x.same
+request-led e w header payload reply next w' (inr x) = command-led e w (command_of e (header_of header)) payload x.1.outcome w' x.1.serves
+
+message-led : (e : ExportRecord) (phase : Phase) (w : World) (message reply : List ℕ) (next : Phase) (w' : World) → TakesMessage e phase w message reply next w' → IsLed EachPart w w'
+message-led e Greeted w message reply next w' p = stays-led w w' p.1
+message-led e (Haggling no_zeroes) w message reply next w' p = stays-led w w' p.1
+message-led e Serving w message reply next w' p = request-led e w p.header p.payload reply next w' p.answered
+message-led e Over w message reply next w' p = absurd p
+
+-- messages one after another are a run of the queue
+pub talk-led : {e : ExportRecord} {first : World} {phase : Phase} {w : World} {taken written : List ℕ} → Conversation e first phase w taken written → IsLed EachPart first w
+talk-led {e = e} {first = first} begins = led-none EachPart first
+talk-led {e = e} {first = first} (goes_on {phase = phase} {next = next} {w = w} {w' = w'} message reply talk takes) =
+    led-then EachPart first w w' (talk-led talk) (message-led e phase w message reply next w' takes)

@@ -1,0 +1,18 @@
+use Rattle.nbd_server.specs.Exports.{export_record}
+use Rattle.nbd_server.proofs.FetchLemmas.{fetched, unfetched, named-below, not-refused}
+use Rattle.nbd_server.proofs.fetch.read_into.Goals as goal
+
+pub returns-in-Ok-clause-ok : goal.returns-in-Ok-clause-ok
+returns-in-Ok-clause-ok g c = fetched c.args.queue.now c.read_bytes.new.self c.args.export.now.device.0 c.args.first c.args.count _ c.requires.room c.read_bytes.new.out c.in-Ok.ensures.step
+
+pub returns-in-Err-Failed-clause-err : goal.returns-in-Err-Failed-clause-err
+returns-in-Err-Failed-clause-err g c =
+    let ended = rw c.in-Err-Failed.field-0-is at c.in-Err-Failed.ensures in
+    rw c.from.ensures (unfetched c.args.queue.now c.read_bytes.new.self c.args.export.now.device.0 c.args.first c.args.count _ c.requires.room c.in-Err-Failed.fault ended.memory ended.step)
+
+pub unreachable-requires : goal.unreachable-requires
+unreachable-requires g c =
+    let ended = rw c.in-Err-Refused.field-0-is at c.in-Err-Refused.ensures in
+    let e = c.requires.sectors.export in
+    not-refused c.args.queue.now c.read_bytes.new.self c.args.export.now.device.0 c.args.first c.args.count _ c.requires.room _
+    (named-below c.args.queue.now.stack.config (export_record c.args.export.now).name c.args.export.now.device.0 e.found) c.requires.sectors.inside ended.step.0

@@ -1,0 +1,60 @@
+use Rattle.std.proofs.Common.{List, inl, inr, refl, ap, sym, ◌∙◌}
+use Rattle.std.proofs.lemmas.Result.{IfErr-weaker, on_ok_weaker}
+use Rattle.partition_commands.specs.declared.fault.PartitionsFault.TheVariants.{Refused}
+use Rattle.partition_commands.specs.declared.refusal.PartitionRefusal.TheVariants.{Table}
+use Rattle.partition_table.specs.declared.partition.Partition.{Partition}
+use Rattle.partition_commands.specs.Roots.{image_partitions}
+use Rattle.partition_commands.proofs.EndingLemmas.{err-from, say-root}
+use Rattle.partition_commands.proofs.root_stack.print_root_stack.Goals as goal
+
+pub returns-in_err-table-clause-err : goal.returns-in_err-table-clause-err
+returns-in_err-table-clause-err g c =
+    err-from c.from_residual.result _ (Refused (Table c.in_err-table.field-0.0)) c.from_residual.ensures.1
+    (inl (record { fault = c.in_err-table.field-0.0; read_device = g.D.BlockDev.state c.read_table.new.device; none = c.in_err-table.ensures.err; is = refl }))
+
+pub returns-in_err-both-clause-err : goal.returns-in_err-both-clause-err
+returns-in_err-both-clause-err g c =
+    err-from c.from_residual-in_err-both.result _ (Refused c.in_err-both.field-0.0) c.from_residual-in_err-both.ensures.1
+    (inr (inl (record {
+      partitions = c.in_ok-table.table.partitions.items;
+      source = c.in_ok-table.table.source;
+      read_device = g.D.BlockDev.state c.read_table.new.device;
+      found = c.in_ok-table.ensures.ok;
+      refused = ap (λ (ps : List Partition). image_partitions ps c.args.root.now) (sym c.deref.ensures.value) ∙ sym c.in_err-both.ensures;
+    })))
+
+pub returns-in_err-superblock-clause-err : goal.returns-in_err-superblock-clause-err
+returns-in_err-superblock-clause-err g c =
+    err-from c.from_residual-in_err-superblock.result _ (Refused c.in_err-superblock.field-0.0) c.from_residual-in_err-superblock.ensures.1
+    (inr (inr (
+      g.D.BlockDev.state c.in_err-superblock.ensures.err.0,
+      record {
+        partitions = c.in_ok-table.table.partitions.items;
+        source = c.in_ok-table.table.source;
+        read_device = g.D.BlockDev.state c.read_table.new.device;
+        found = c.in_ok-table.ensures.ok;
+        both = c.in_ok-both.both;
+        both_is = ap (λ (ps : List Partition). image_partitions ps c.args.root.now) (sym c.deref.ensures.value) ∙ sym c.in_ok-both.ensures;
+        ends = rw c.part_of.ensures at c.in_err-superblock.ensures.err.1;
+      },
+    )))
+
+pub returns-clause-ok : goal.returns-clause-ok
+returns-clause-ok g c =
+    on_ok_weaker c.say_root_stack.result
+    (λ printed. record {
+      partitions = c.in_ok-table.table.partitions.items;
+      source = c.in_ok-table.table.source;
+      read_device = g.D.BlockDev.state c.read_table.new.device;
+      found = c.in_ok-table.ensures.ok;
+      both = c.in_ok-both.both;
+      both_is = ap (λ (ps : List Partition). image_partitions ps c.args.root.now) (sym c.deref.ensures.value) ∙ sym c.in_ok-both.ensures;
+      super = c.in_ok-superblock.superblock;
+      sector = c.in_ok-superblock.ensures.ok.0;
+      read = rw c.part_of.ensures at c.in_ok-superblock.ensures.ok.1;
+      printed = printed;
+    })
+    c.say_root_stack.ensures.ok
+
+pub returns-clause-err : goal.returns-clause-err
+returns-clause-err g c = IfErr-weaker c.say_root_stack.result _ _ (say-root c.args.size c.args.root.now c.say_root_stack.new.writer.failed (g.D.BlockDev.state c.args.device)) c.say_root_stack.ensures.err

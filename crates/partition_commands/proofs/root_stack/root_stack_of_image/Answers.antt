@@ -1,0 +1,15 @@
+use Rattle.std.proofs.Common.{inr}
+use Rattle.std.proofs.lemmas.Result.{IfErr-weaker, on_ok_weaker}
+use Rattle.partition_commands.proofs.root_stack.root_stack_of_image.Goals as goal
+
+pub returns-clause-ok : goal.returns-clause-ok
+returns-clause-ok g c =
+    on_ok_weaker c.print_root_stack.result
+    (λ prints. record { image = c.in_ok-image.image; opened = c.in_ok-image.ensures.ok; prints = prints })
+    c.print_root_stack.ensures.ok
+
+pub returns-clause-err : goal.returns-clause-err
+returns-clause-err g c =
+    IfErr-weaker c.print_root_stack.result _ _
+    (λ fault ended. inr (record { image = c.in_ok-image.image; opened = c.in_ok-image.ensures.ok; ended = ended }))
+    c.print_root_stack.ensures.err

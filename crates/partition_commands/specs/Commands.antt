@@ -1,0 +1,133 @@
+-- What the commands on the partitions of an image print where they succeed, and how they end early.
+use Rattle.std.specs.Prelude.{◌≡◌, ◌⊎◌, ℕ, Bool, true, false, List, Option, Ok, Err}
+use Rattle.std.specs.Io.KnownBytes.{Appends}
+use Rattle.block_device.specs.Device.{Device}
+use Rattle.device_window.specs.declared.part.Part.{Part}
+use Rattle.device_window.specs.Parts.{LiesInside}
+use Rattle.device_window.specs.Windows.{windowed}
+use Rattle.image_files.specs.declared.images.OpenImage.{OpenImage}
+use Rattle.image_files.specs.declared.opening.UnopenedFile.{UnopenedFile}
+use Rattle.image_files.specs.Opened.{Opens, Refuses}
+use Rattle.image_files.specs.Opener.{Calls}
+use Rattle.partition_table.specs.declared.partition.Partition.{Partition}
+use Rattle.partition_table.specs.declared.sector_size.SectorSize.{SectorSize}
+use Rattle.partition_table.specs.declared.table.NoTable.{NoTable}
+use Rattle.partition_table.specs.declared.table.Source.{Source}
+use Rattle.partition_table.specs.Tables.{IsNoTable, IsTable}
+use Rattle.verity_format.specs.Superblock.{SuperRecord}
+use Rattle.verity_format.specs.Verifying.{IsReadCause, IsReadFrom}
+use Rattle.partition_commands.specs.declared.fault.PartitionsFault.{PartitionsFault}
+use Rattle.partition_commands.specs.declared.fault.PartitionsFault.TheVariants.{NoMemory, Open, Refused, Write}
+use Rattle.partition_commands.specs.declared.refusal.PartitionRefusal.{PartitionRefusal}
+use Rattle.partition_commands.specs.declared.refusal.PartitionRefusal.TheVariants.{OutsideDevice, Superblock, Table}
+use Rattle.partition_commands.specs.declared.root.ImagePartitions.{ImagePartitions}
+use Rattle.partition_commands.specs.Parts.{part_of}
+use Rattle.partition_commands.specs.RootStacks.{root_stack_text}
+use Rattle.partition_commands.specs.Roots.{image_partitions}
+
+-- a text of the table that was found on the device was written
+pub record PrintsPartitions (old new : Device) (size : SectorSize) (text : List Partition → Source → List ℕ) (written now_written : Option (List ℕ)) : Type 0 where
+  pub partitions : List Partition
+  pub source : Source
+  pub found : IsTable old new size partitions source
+  pub printed : Appends written now_written (text partitions source)
+
+-- the same of the image under the path, which is only read
+pub record PrintsOfImage {S D : Type 0} (w : Calls S D) (path : List ℕ) (size : SectorSize) (text : List Partition → Source → List ℕ) (old new : Option (List ℕ)) : Type 0 where
+  pub image : OpenImage D
+  pub device' : D
+  pub opened : Opens w path false image
+  pub prints : PrintsPartitions (w.state image.device) (w.state device') size text old new
+
+-- there is no table, memory ran out, or a line can't be written
+abbrev pub IsTableEnd : Device → Device → SectorSize → Bool → PartitionsFault → Type 0
+IsTableEnd old new size failed NoMemory = Unit {0}
+IsTableEnd old new size failed Write = failed ≡ true
+IsTableEnd old new size failed (Refused (Table fault)) = IsNoTable old new size fault
+IsTableEnd old new size failed fault = ⊥
+
+-- memory ran out, or a text can't be written
+abbrev pub IsSayFault : Bool → PartitionsFault → Type 0
+IsSayFault failed NoMemory = Unit {0}
+IsSayFault failed Write = failed ≡ true
+IsSayFault failed fault = ⊥
+
+-- an image isn't opened, as is said of it
+abbrev pub IsUnopened : (UnopenedFile → Type 0) → PartitionsFault → Type 0
+IsUnopened Because (Open file) = Because file
+IsUnopened Because fault = ⊥
+
+-- the image is opened, and then the command ends early, as is said of the device before and after it
+pub record EndsOfImage {S D : Type 0} (w : Calls S D) (path : List ℕ) (ends : Device → Device → PartitionsFault → Type 0) (fault : PartitionsFault) : Type 0 where
+  pub image : OpenImage D
+  pub device' : D
+  pub opened : Opens w path false image
+  pub ended : ends (w.state image.device) (w.state device') fault
+
+abbrev pub IsImageEnd : {S D : Type 0} → Calls S D → List ℕ → (Device → Device → PartitionsFault → Type 0) → PartitionsFault → Type 0
+IsImageEnd w path ends fault = IsUnopened (Refuses w path false) fault ⊎ EndsOfImage w path ends fault
+
+-- the two partitions of the root were found on the device, and the superblock in the verity partition
+pub record PrintsRoot (device : Device) (size : SectorSize) (root : List ℕ) (old new : Option (List ℕ)) : Type 0 where
+  pub partitions : List Partition
+  pub source : Source
+  pub read_device : Device
+  pub found : IsTable device read_device size partitions source
+  pub both : ImagePartitions
+  pub both_is : image_partitions partitions root ≡ Ok both
+  pub super : SuperRecord
+  pub sector : List ℕ
+  pub read : IsReadFrom (windowed read_device (part_of size both.verity)) sector super
+  pub printed : Appends old new (root_stack_text size both super root)
+
+pub record PrintsRootOfImage {S D : Type 0} (w : Calls S D) (path : List ℕ) (size : SectorSize) (root : List ℕ) (old new : Option (List ℕ)) : Type 0 where
+  pub image : OpenImage D
+  pub opened : Opens w path false image
+  pub prints : PrintsRoot (w.state image.device) size root old new
+
+-- a table was found, but not the two partitions
+pub record LacksPartitions (device : Device) (size : SectorSize) (root : List ℕ) (refusal : PartitionRefusal) : Type 0 where
+  pub partitions : List Partition
+  pub source : Source
+  pub read_device : Device
+  pub found : IsTable device read_device size partitions source
+  pub refused : image_partitions partitions root ≡ Err refusal
+
+-- why there is no superblock in a part of a device
+abbrev pub IsSuperEnd : Device → Device → Part → PartitionRefusal → Type 0
+IsSuperEnd old new part OutsideDevice = LiesInside old part → ⊥
+IsSuperEnd old new part (Superblock fault) = IsReadCause (windowed old part) (windowed new part) fault
+IsSuperEnd old new part refusal = ⊥
+
+-- both were found, but no superblock
+pub record LacksSuperblock (device device' : Device) (size : SectorSize) (root : List ℕ) (refusal : PartitionRefusal) : Type 0 where
+  pub partitions : List Partition
+  pub source : Source
+  pub read_device : Device
+  pub found : IsTable device read_device size partitions source
+  pub both : ImagePartitions
+  pub both_is : image_partitions partitions root ≡ Ok both
+  pub ends : IsSuperEnd read_device device' (part_of size both.verity) refusal
+
+-- there is no table
+pub record LacksTable (device : Device) (size : SectorSize) (refusal : PartitionRefusal) : Type 0 where
+  pub fault : NoTable
+  pub read_device : Device
+  pub none : IsNoTable device read_device size fault
+  pub is : refusal ≡ Table fault
+
+-- one of these, memory ran out, or the text can't be written
+abbrev pub IsRootEnd : SectorSize → List ℕ → Bool → Device → PartitionsFault → Type 0
+IsRootEnd size root failed device NoMemory = Unit {0}
+IsRootEnd size root failed device Write = failed ≡ true
+IsRootEnd size root failed device (Open file) = ⊥
+IsRootEnd size root failed device (Refused refusal) =
+    LacksTable device size refusal ⊎ (LacksPartitions device size root refusal ⊎ ((device' : Device) × LacksSuperblock device device' size root refusal))
+
+pub record EndsRoot {S D : Type 0} (w : Calls S D) (path : List ℕ) (size : SectorSize) (root : List ℕ) (failed : Bool) (fault : PartitionsFault) : Type 0 where
+  pub image : OpenImage D
+  pub opened : Opens w path false image
+  pub ended : IsRootEnd size root failed (w.state image.device) fault
+
+abbrev pub IsRootOfImageEnd : {S D : Type 0} → Calls S D → List ℕ → SectorSize → List ℕ → Bool → PartitionsFault → Type 0
+IsRootOfImageEnd w path size root failed fault = IsUnopened (Refuses w path false) fault ⊎ EndsRoot w path size root failed fault

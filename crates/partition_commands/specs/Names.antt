@@ -1,0 +1,24 @@
+-- What the mapped device over a partition is called.
+use Rattle.std.specs.Prelude.{ℕ, ◌==◌, ◌&&◌, ◌||◌, not, Bool, List, ◌++◌, codes, decimal, if◌then◌else◌}
+use Rattle.std.specs.List.{list_any}
+use Rattle.std.specs.Str.{bytes_eq}
+use Rattle.dm_table.specs.Names.{is_mapped_name}
+use Rattle.partition_table.specs.declared.partition.Partition.{Partition}
+use Rattle.partition_commands.specs.Labels.{label_text}
+
+-- `p` and the number
+unfoldable pub numbered_name : ℕ → List ℕ
+numbered_name number = codes "p" ++ decimal number
+
+-- another partition has that label, or that name by its number
+unfoldable pub is_taken_by : ℕ → List ℕ → Partition → Bool
+is_taken_by number name q = not (q.number == number) && (bytes_eq (label_text q.label) name || bytes_eq (numbered_name q.number) name)
+
+abbrev pub is_taken : List Partition → ℕ → List ℕ → Bool
+is_taken partitions number name = list_any (is_taken_by number name) partitions
+
+-- the label, where it is a name and no other partition's, else the name by its number
+unfoldable pub partition_name : List Partition → Partition → List ℕ
+partition_name partitions p =
+    if is_mapped_name (label_text p.label) && not (is_taken partitions p.number (label_text p.label)) then label_text p.label
+    else numbered_name p.number

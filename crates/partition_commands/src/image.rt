@@ -1,0 +1,110 @@
+//! The commands `partitions` and `partitions --stack`, of an image.
+ghost use Rattle.std.specs.Prelude.{IfErr, OnOk};
+ghost use Rattle.std.specs.Io.KnownBytes.{Appends};
+ghost use Rattle.image_files.specs.Opener.{calls};
+ghost use Rattle.partition_commands.specs.Commands.{IsImageEnd, IsSayFault, IsTableEnd, PrintsOfImage, PrintsPartitions};
+ghost use Rattle.partition_commands.specs.Lines.{table_text};
+ghost use Rattle.partition_commands.specs.Stacks.{partition_entry, stack_text};
+
+use crate::entries::say_linear_entry;
+use crate::{PartitionsFault, PrintFault, part_of, partition_name, print_partitions};
+use block_device::BlockDev;
+use counted_io::Counted;
+use image_files::{Images, open_image};
+use partition_table::{Partition, SectorSize, read_table};
+use std::alloc::Global;
+use std::io::Write;
+
+/// `partitions IMAGE`: which copies of the image's table are good, and a line for each partition.
+pub fn partitions_of_image<'a, I: Images, W: Write>(
+    alloc: Global,
+    images: &mut I,
+    path: &'a str,
+    size: SectorSize,
+    writer: &mut Counted<W>,
+) -> Result<(), PartitionsFault<'a>>
+    ensures ok { OnOk result (PrintsOfImage (calls I.relations I.Dev.state images.old images.new) path.now size table_text (W.contents writer.old.inner) (W.contents writer.new.inner)) }
+    ensures err { IfErr result (IsImageEnd (calls I.relations I.Dev.state images.old images.new) path.now (λ old new. IsTableEnd old new size writer.new.failed)) }
+{
+    let mut image = open_image(images, path, false)?;
+    list_partitions(alloc, &mut image.device, size, writer)
+}
+
+// The same of a device.
+fn list_partitions<'a, D: BlockDev, W: Write>(
+    alloc: Global,
+    device: &mut D,
+    size: SectorSize,
+    writer: &mut Counted<W>,
+) -> Result<(), PartitionsFault<'a>>
+    ensures ok { OnOk result (PrintsPartitions (D.state device.old) (D.state device.new) size table_text (W.contents writer.old.inner) (W.contents writer.new.inner)) }
+    ensures err { IfErr result (IsTableEnd (D.state device.old) (D.state device.new) size writer.new.failed) }
+{
+    match print_partitions(alloc, device, size, writer) {
+        Ok(()) => Ok(()),
+        Err(PrintFault::NoMemory) => Err(PartitionsFault::NoMemory),
+        Err(PrintFault::Table(fault)) => Err(PartitionsFault::from(fault)),
+        Err(PrintFault::Write) => Err(PartitionsFault::Write),
+    }
+}
+
+/// `partitions --stack IMAGE`: the text of a stack with a read-only device for each partition, over the leaf DISK.
+pub fn stack_of_image<'a, I: Images, W: Write>(
+    alloc: Global,
+    images: &mut I,
+    path: &'a str,
+    size: SectorSize,
+    writer: &mut Counted<W>,
+) -> Result<(), PartitionsFault<'a>>
+    ensures ok { OnOk result (PrintsOfImage (calls I.relations I.Dev.state images.old images.new) path.now size (λ partitions source. stack_text size partitions) (W.contents writer.old.inner) (W.contents writer.new.inner)) }
+    ensures err { IfErr result (IsImageEnd (calls I.relations I.Dev.state images.old images.new) path.now (λ old new. IsTableEnd old new size writer.new.failed)) }
+{
+    let mut image = open_image(images, path, false)?;
+    list_entries(alloc, &mut image.device, size, writer)
+}
+
+// The same of a device.
+fn list_entries<'a, D: BlockDev, W: Write>(
+    alloc: Global,
+    device: &mut D,
+    size: SectorSize,
+    writer: &mut Counted<W>,
+) -> Result<(), PartitionsFault<'a>>
+    ensures ok { OnOk result (PrintsPartitions (D.state device.old) (D.state device.new) size (λ partitions source. stack_text size partitions) (W.contents writer.old.inner) (W.contents writer.new.inner)) }
+    ensures err { IfErr result (IsTableEnd (D.state device.old) (D.state device.new) size writer.new.failed) }
+{
+    let table = read_table(alloc, device, size)?;
+    say_entries(alloc, writer, size, &table.partitions)
+}
+
+// An entry for each partition.
+fn say_entries<'a, W: Write>(
+    alloc: Global,
+    writer: &mut Counted<W>,
+    size: SectorSize,
+    partitions: &[Partition],
+) -> Result<(), PartitionsFault<'a>>
+    ensures ok { OnOk result (Appends (W.contents writer.old.inner) (W.contents writer.new.inner) (stack_text size partitions.now)) }
+    ensures err { IfErr result (IsSayFault writer.new.failed) }
+{
+    for partition in partitions {
+        say_partition_entry(alloc, writer, size, partitions, partition)?;
+    }
+    Ok(())
+}
+
+#[tactic(auto, unfolding(crate::specs::Stacks::partition_entry))]
+fn say_partition_entry<'a, W: Write>(
+    alloc: Global,
+    writer: &mut Counted<W>,
+    size: SectorSize,
+    partitions: &[Partition],
+    partition: &Partition,
+) -> Result<(), PartitionsFault<'a>>
+    ensures ok { OnOk result (Appends (W.contents writer.old.inner) (W.contents writer.new.inner) (partition_entry size partitions.now partition.now)) }
+    ensures err { IfErr result (IsSayFault writer.new.failed) }
+{
+    let name = partition_name(alloc, partitions, partition)?;
+    say_linear_entry(writer, name.as_bytes(), part_of(size, partition))?;
+    Ok(())
+}

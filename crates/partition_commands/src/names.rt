@@ -1,0 +1,67 @@
+//! What the mapped device over a partition is called.
+ghost use Rattle.std.specs.Prelude.{◌≡◌, ◌&&◌, ◌||◌, ◌==◌, not, IfOk, string_bytes};
+ghost use Rattle.std.specs.Str.{bytes_eq};
+ghost use Rattle.dm_table.specs.Names.{is_mapped_name};
+ghost use Rattle.partition_commands.specs.Labels.{label_text};
+ghost use Rattle.partition_commands.specs.Names.{is_taken, is_taken_by, numbered_name, partition_name};
+
+use crate::label_text;
+use dm_table::is_mapped_name;
+use partition_table::Partition;
+use std::alloc::{AllocError, Global};
+
+/// The label, where it is a name of a mapped device and no other partition's, and else `p` and the number.
+#[tactic(auto, unfolding(crate::specs::Names::partition_name))]
+pub fn partition_name(
+    alloc: Global,
+    partitions: &[Partition],
+    partition: &Partition,
+) -> Result<String, AllocError>
+    ensures { IfOk result (λ name. string_bytes name ≡ partition_name partitions.now partition.now) }
+{
+    let label = label_text(alloc, &partition.label)?;
+    if is_mapped_name(label.as_bytes())
+        && !is_taken(alloc, partitions, partition.number, label.as_str())?
+    {
+        return Ok(label);
+    }
+    numbered_name(alloc, partition.number)
+}
+
+// Whether another partition has that label, or that name by its number.
+fn is_taken(
+    alloc: Global,
+    partitions: &[Partition],
+    number: u32,
+    name: &str,
+) -> Result<bool, AllocError>
+    ensures { IfOk result (λ taken. taken ≡ is_taken partitions.now number name.now) }
+{
+    for partition in partitions {
+        if is_taken_by(alloc, number, name, partition)? {
+            return Ok(true);
+        }
+    }
+    Ok(false)
+}
+
+#[tactic(auto, unfolding(crate::specs::Names::is_taken_by))]
+fn is_taken_by(
+    alloc: Global,
+    number: u32,
+    name: &str,
+    partition: &Partition,
+) -> Result<bool, AllocError>
+    ensures { IfOk result (λ taken. taken ≡ is_taken_by number name.now partition.now) }
+{
+    let label = label_text(alloc, &partition.label)?;
+    let numbered = numbered_name(alloc, partition.number)?;
+    Ok(partition.number != number && (label.as_str() == name || numbered.as_str() == name))
+}
+
+#[tactic(auto, unfolding(crate::specs::Names::numbered_name))]
+fn numbered_name(alloc: Global, number: u32) -> Result<String, AllocError>
+    ensures { IfOk result (λ name. string_bytes name ≡ numbered_name number) }
+{
+    format!(in alloc; "p{number}")
+}

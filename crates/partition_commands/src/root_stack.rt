@@ -1,0 +1,107 @@
+//! The command `partitions --root`: the stack that opens a verity image of two partitions.
+ghost use Rattle.std.specs.Prelude.{ℕ, List, IfErr, IfOk, OnOk};
+ghost use Rattle.std.specs.Io.KnownBytes.{Appends};
+ghost use Rattle.device_window.specs.Windows.{windowed};
+ghost use Rattle.image_files.specs.Opener.{calls};
+ghost use Rattle.verity_format.specs.Verifying.{IsReadFrom};
+ghost use Rattle.partition_commands.specs.Commands.{IsRootEnd, IsRootOfImageEnd, IsSayFault, IsSuperEnd, PrintsRoot, PrintsRootOfImage};
+ghost use Rattle.partition_commands.specs.RootStacks.{root_entry, root_stack_text};
+
+use crate::entries::{say_entry, say_linear_entry};
+use crate::{ImagePartitions, PartitionRefusal, PartitionsFault, part_of};
+use block_device::BlockDev;
+use counted_io::Counted;
+use device_window::{Part, Window};
+use image_files::{Images, open_image};
+use partition_table::{SectorSize, read_table};
+use std::alloc::Global;
+use std::io::Write;
+use std::marker::Brand;
+use tree_shape::Digest;
+use verity_format::{Superblock, read_superblock, table_line};
+
+/// `partitions --root ROOT IMAGE`: the text of a stack with the devices `data` and `hash` over the two partitions of the
+/// root, and `root`, the data blocks checked.
+pub fn root_stack_of_image<'a, I: Images, W: Write>(
+    alloc: Global,
+    images: &mut I,
+    path: &'a str,
+    size: SectorSize,
+    root: &Digest,
+    writer: &mut Counted<W>,
+) -> Result<(), PartitionsFault<'a>>
+    ensures ok { OnOk result (PrintsRootOfImage (calls I.relations I.Dev.state images.old images.new) path.now size root.now (W.contents writer.old.inner) (W.contents writer.new.inner)) }
+    ensures err { IfErr result (IsRootOfImageEnd (calls I.relations I.Dev.state images.old images.new) path.now size root.now writer.new.failed) }
+{
+    let image = open_image(images, path, false)?;
+    print_root_stack(alloc, image.device, size, root, writer)
+}
+
+// The same of a device.
+fn print_root_stack<'a, D: BlockDev + Drop, W: Write>(
+    alloc: Global,
+    device: D,
+    size: SectorSize,
+    root: &Digest,
+    writer: &mut Counted<W>,
+) -> Result<(), PartitionsFault<'a>>
+    ensures ok { OnOk result (PrintsRoot (D.state device) size root.now (W.contents writer.old.inner) (W.contents writer.new.inner)) }
+    ensures err { IfErr result (IsRootEnd size root.now writer.new.failed (D.state device)) }
+{
+    let mut device = device;
+    let table = read_table(alloc, &mut device, size)?;
+    let both = ImagePartitions::find(&table.partitions, root)?;
+    let superblock = superblock_in(device, part_of(size, &both.verity))?;
+    say_root_stack(alloc, writer, size, &both, &superblock, root)
+}
+
+// The superblock at the beginning of a part of a device.
+fn superblock_in<D: BlockDev + Drop>(device: D, part: Part) -> Result<Superblock, PartitionRefusal>
+    ensures ok { IfOk result (λ s. (sector : List ℕ) × IsReadFrom (windowed (D.state device) part) sector s) }
+    ensures err { IfErr result (λ refusal. (after : D) × IsSuperEnd (D.state device) (D.state after) part refusal) }
+{
+    let mut window = match Window::<D, Brand>::new(device, part) {
+        Ok(window) => window,
+        Err(_) => return Err(PartitionRefusal::OutsideDevice),
+    };
+    Ok(read_superblock(&mut window)?)
+}
+
+// The two partitions, and the data blocks over both.
+#[tactic(auto, unfolding(crate::specs::RootStacks::root_stack_text))]
+fn say_root_stack<'a, W: Write>(
+    alloc: Global,
+    writer: &mut Counted<W>,
+    size: SectorSize,
+    both: &ImagePartitions,
+    superblock: &Superblock,
+    root: &Digest,
+) -> Result<(), PartitionsFault<'a>>
+    ensures ok { OnOk result (Appends (W.contents writer.old.inner) (W.contents writer.new.inner) (root_stack_text size both.now superblock.now root.now)) }
+    ensures err { IfErr result (IsSayFault writer.new.failed) }
+{
+    say_linear_entry(writer, b"data", part_of(size, &both.data))?;
+    say_linear_entry(writer, b"hash", part_of(size, &both.verity))?;
+    say_root_entry(alloc, writer, superblock, root)
+}
+
+#[tactic(auto, unfolding(crate::specs::RootStacks::root_entry))]
+fn say_root_entry<'a, W: Write>(
+    alloc: Global,
+    writer: &mut Counted<W>,
+    superblock: &Superblock,
+    root: &Digest,
+) -> Result<(), PartitionsFault<'a>>
+    ensures ok { OnOk result (Appends (W.contents writer.old.inner) (W.contents writer.new.inner) (root_entry superblock.now root.now)) }
+    ensures err { IfErr result (IsSayFault writer.new.failed) }
+{
+    let line = table_line(
+        alloc,
+        superblock,
+        b"/dev/mapper/data",
+        b"/dev/mapper/hash",
+        root,
+    )?;
+    say_entry(writer, b"root", &line)?;
+    Ok(())
+}

@@ -1,0 +1,82 @@
+//! Progress on one line of a terminal.
+use crate::progress::Progress;
+use std::io;
+use std::rt::Clock;
+use std::time::Instant;
+
+const MIB: u64 = 1 << 20;
+
+/// The least time between two lines, in milliseconds.
+const BETWEEN: u128 = 500;
+
+/// Prints to standard error, at most twice a second, one line that is written over: the bytes that are done, of how many,
+/// the speed, and the seconds that are left. Where standard error or the clock fails it shows nothing.
+#[derive(Drop)]
+pub struct ProgressLine<'a, R> {
+    rt: &'a R,
+    begun: Option<Instant>,
+    shown: Option<Instant>,
+}
+
+impl<'a, R: Clock + Eprint> ProgressLine<'a, R> {
+    /// Begins to count the time.
+    pub fn new(rt: &'a R) -> ProgressLine<'a, R> {
+        let begun = Instant::now(rt).ok();
+        ProgressLine {
+            rt,
+            begun,
+            shown: None,
+        }
+    }
+
+    /// Ends the line, where one was begun.
+    pub fn finish(&mut self) {
+        if self.shown.take().is_some() {
+            let _ended = self.rt.eprintln("");
+        }
+    }
+
+    // Whether it is time for the next line.
+    fn is_due(&self, now: Instant) -> bool {
+        match self.shown {
+            None => true,
+            Some(shown) => now.duration_since(shown).as_millis() >= BETWEEN,
+        }
+    }
+
+    fn show(&self, done: u64, all: Option<u64>, millis: u128) -> io::Result<()> {
+        let speed = per_second(done, millis);
+        let had = done / MIB;
+        let rate = speed / MIB;
+        match all {
+            None => self.rt.eprint(format_args!("\r{had} MiB, {rate} MiB/s  ")),
+            Some(all) => {
+                let whole = all / MIB;
+                let left = all.saturating_sub(done).checked_div(speed).unwrap_or(0);
+                let text = format_args!("\r{had} of {whole} MiB, {rate} MiB/s, {left} s left  ");
+                self.rt.eprint(text)
+            }
+        }
+    }
+}
+
+// How many bytes in a second, where so many were done in that time.
+fn per_second(done: u64, millis: u128) -> u64 {
+    let speed = (u128::from(done) * 1000).checked_div(millis).unwrap_or(0);
+    u64::try_from(speed).unwrap_or(u64::MAX)
+}
+
+impl<R: Clock + Eprint> Progress for ProgressLine<'_, R> {
+    fn tell(&mut self, done: u64, all: Option<u64>) {
+        let Some(begun) = self.begun else {
+            return;
+        };
+        let Ok(now) = Instant::now(self.rt) else {
+            return;
+        };
+        if self.is_due(now) {
+            let _printed = self.show(done, all, now.duration_since(begun).as_millis());
+            self.shown = Some(now);
+        }
+    }
+}

@@ -1,0 +1,109 @@
+//! Data blocks that are read together, and how each is judged.
+ghost use Rattle.std.specs.Prelude.{◌≡◌, ◌⊎◌, true, false, ◌<◌, ◌≤◌, ◌+◌, max, length, replicate, IsTrue};
+ghost use Rattle.stack_lines.specs.Walks.{IsTreeOf};
+
+use crate::path::PathBlock;
+use dm_table::Verity;
+use stack_config::Config;
+use stack_lines::tree::{Tree, is_ignored};
+use tree_shape::{Digest, digest_in};
+
+/// The next of `count` data blocks, the way to which was walked: its number in the line, its place among them, how many
+/// of them were gone over when data were read last, and whether the line ignores it.
+#[derive(Clone, Copy)]
+pub(crate) struct NextBlock {
+    pub(crate) block: u64,
+    pub(crate) at: usize,
+    pub(crate) read: usize,
+    pub(crate) count: usize,
+    pub(crate) ignored: bool,
+}
+
+/// How many data blocks are taken in a row, at least one and so many at most: those that the line doesn't ignore, as far as
+/// the last hash block on the way to the first one tells.
+fn taken_in_a_row(
+    config: &Config,
+    verity: &Verity,
+    tree: &Tree,
+    path: &[PathBlock],
+    index: u64,
+    most: usize,
+) -> usize
+    requires tree { IsTreeOf config.now verity.now tree.now }
+    requires some { 0 < most }
+    ensures some { 0 < result }
+    ensures most { result ≤ most }
+{
+    let block = match path.last() {
+        None => return 1,
+        Some(block) => block.bytes.as_slice(),
+    };
+    let slot = tree.shape.slot_on_path(0, index) as usize;
+    let digests = block.len() / Digest::SIZE;
+    if digests <= slot {
+        return 1;
+    }
+    let room = most.min(digests - slot);
+    let mut many = 1;
+    while many < room {
+        let expected = digest_in(block, (slot + many) as u64);
+        if is_ignored(config, verity, tree, &expected) {
+            return many;
+        }
+        many += 1;
+    }
+    many
+}
+
+/// How many data blocks are read from that one on: none where it is ignored or was read; else all, or those that the line
+/// doesn't ignore.
+pub(crate) fn row_len(
+    config: &Config,
+    verity: &Verity,
+    tree: &Tree,
+    path: &[PathBlock],
+    next: NextBlock,
+) -> usize
+    requires tree { IsTreeOf config.now verity.now tree.now }
+    requires some { next.at < next.count }
+    ensures fresh { (result ≡ 0) ⊎ (next.read ≤ next.at) }
+    ensures some { next.ignored ≡ false → next.read ≤ next.at → 0 < result }
+    ensures most { next.at + result ≤ next.count }
+{
+    if next.ignored {
+        return 0;
+    }
+    if next.at < next.read {
+        return 0;
+    }
+    let most = next.count - next.at;
+    if !verity.ignore_zero_blocks {
+        return most;
+    }
+    taken_in_a_row(config, verity, tree, path, next.block, most)
+}
+
+/// How many of the blocks were gone over behind a read of so many from that one on.
+pub(crate) fn read_as_far(next: NextBlock, many: usize) -> usize
+    requires { next.at + many ≤ next.count }
+    ensures { result ≡ max next.read (next.at + many) }
+{
+    let end = next.at + many;
+    if end < next.read {
+        return next.read;
+    }
+    end
+}
+
+/// Whether a data block may be answered: zeros are put in the place of one that is ignored, and another one must have the digest.
+pub(crate) fn settle(ignored: bool, made: &Digest, expected: &Digest, block: &mut [u8]) -> bool
+    ensures zeros { IsTrue result → ignored ≡ true → block.new ≡ replicate (length block.old) 0 }
+    ensures same { IsTrue result → ignored ≡ false → (made.now ≡ expected.now) × (block.new ≡ block.old) }
+    ensures other { result ≡ false → (ignored ≡ false) × (made.now ≡ expected.now → ⊥) }
+{
+    if ignored {
+        block.fill(0);
+        return true;
+    }
+    *made == *expected
+}

@@ -1,0 +1,3 @@
+mod CatLemmas
+mod FillLemmas
+mod StoreLemmas

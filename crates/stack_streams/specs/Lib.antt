@@ -1,0 +1,3 @@
+pub mod Cats
+pub mod Filling
+pub mod Stores

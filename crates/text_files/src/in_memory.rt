@@ -1,0 +1,38 @@
+//! A text in memory.
+ghost use Rattle.std.specs.Prelude.{◌≡◌};
+
+use crate::texts::{ReplaceFault, Texts};
+use std::alloc::Global;
+
+/// One text, whatever the path.
+#[derive(Drop)]
+pub struct MemoryText {
+    pub bytes: Vec<u8>,
+    alloc: Global,
+}
+
+impl MemoryText {
+    /// An empty text.
+    pub fn new(alloc: Global) -> MemoryText {
+        MemoryText {
+            bytes: Vec::new(alloc),
+            alloc,
+        }
+    }
+}
+
+impl Texts for MemoryText {
+    ghost use Rattle.std.specs.Prelude.{MatchResult, ◌≡◌};
+
+    ghost replaces = { λ old path bytes result new. MatchResult result (λ _. new.bytes.items ≡ bytes) (λ _. new ≡ old) };
+
+    fn replace(&mut self, _path: &str, bytes: &[u8]) -> Result<(), ReplaceFault> {
+        match Vec::from_slice(self.alloc, bytes) {
+            Ok(text) => {
+                self.bytes = text;
+                Ok(())
+            }
+            Err(_) => Err(ReplaceFault::NoMemory),
+        }
+    }
+}

@@ -1,0 +1,80 @@
+//! The command `diff`: which data blocks of two images differ, by their hash trees.
+ghost use Rattle.std.specs.Prelude.{◌≡◌, OnOk, IfErr};
+ghost use Rattle.counted_io.specs.Counted.{Writes};
+ghost use Rattle.image_files.specs.Opener.{calls};
+ghost use Rattle.tree_difference.specs.Comparisons.{world};
+ghost use Rattle.tree_commands.specs.Diffs.{IsDiffEnd, IsDiffFilesEnd, PrintsSame, SaysSame, is_unchanged, totals_text};
+ghost use Rattle.tree_commands.specs.Openings.{both_paths};
+
+use crate::fault::TreeFault;
+use crate::paths::{HashPaths, open_both};
+use block_device::BlockDev;
+use counted_io::{Counted, WriteFault};
+use image_files::Images;
+use std::alloc::Global;
+use std::io::Write;
+use tree_difference::{Roots, Totals, compare_trees};
+
+/// `diff [--blocks N] HASH1 ROOT1 HASH2 ROOT2`: a line for each longest run of data blocks that differ, and the totals.
+/// Where the two aren't the same, that is the fault `Differs`.
+pub fn diff_images<'a, I: Images, W: Write>(
+    alloc: Global,
+    images: &mut I,
+    paths: HashPaths<'a>,
+    roots: Roots,
+    most: Option<u64>,
+    writer: &mut Counted<W>,
+) -> Result<(), TreeFault<'a>>
+    ensures ok { OnOk result (PrintsSame (calls I.relations I.Dev.state images.old images.new) (both_paths paths.entry) roots most (W.contents writer.old.inner) (W.contents writer.new.inner)) }
+    ensures err { IfErr result (IsDiffFilesEnd (calls I.relations I.Dev.state images.old images.new) (both_paths paths.entry) roots most (W.contents writer.old.inner) (W.contents writer.new.inner) writer.new.failed) }
+{
+    let mut two = open_both(images, paths)?;
+    diff(
+        alloc,
+        &mut two.first.device,
+        &mut two.second.device,
+        roots,
+        most,
+        writer,
+    )
+}
+
+// Compares the trees of the two devices.
+fn diff<'a, D: BlockDev, E: BlockDev, W: Write>(
+    alloc: Global,
+    first: &mut D,
+    second: &mut E,
+    roots: Roots,
+    most: Option<u64>,
+    writer: &mut Counted<W>,
+) -> Result<(), TreeFault<'a>>
+    ensures ok { OnOk result (SaysSame (world (D.state first.old) (E.state second.old) (D.state first.new) (E.state second.new) (W.contents writer.old.inner) (W.contents writer.new.inner)) roots most) }
+    ensures err { IfErr result (IsDiffEnd (world (D.state first.old) (E.state second.old) (D.state first.new) (E.state second.new) (W.contents writer.old.inner) (W.contents writer.new.inner)) roots most writer.new.failed) }
+{
+    let totals = compare_trees(alloc, first, second, roots, most, writer)?;
+    say_totals(writer, totals)?;
+    if !is_unchanged(totals) {
+        return Err(TreeFault::Differs);
+    }
+    Ok(())
+}
+
+fn is_unchanged(totals: Totals) -> bool
+    ensures { result ≡ is_unchanged totals }
+{
+    totals.changed == 0 && totals.removed == 0 && totals.added == 0
+}
+
+#[tactic(auto, unfolding(crate::specs::Diffs::totals_text))]
+fn say_totals<W: Write>(writer: &mut Counted<W>, totals: Totals) -> Result<(), WriteFault>
+    ensures { Writes W.contents writer.old writer.new (totals_text totals) result }
+{
+    let Totals {
+        same,
+        changed,
+        removed,
+        added,
+    } = totals;
+    writer.print(format_args!("same {same} changed {changed} "))?;
+    writer.print(format_args!("removed {removed} added {added}\n"))
+}

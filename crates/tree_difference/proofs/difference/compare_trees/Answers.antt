@@ -1,0 +1,98 @@
+use Rattle.std.proofs.Common.{◌≡◌, ◌-◌, ◌*◌, ◌/◌, ◌+◌, ℕ, List, Option, None, sym, ap, ◌∙◌, arith, subst}
+use Rattle.std.proofs.lemmas.Result.{IfErr-weaker}
+use Rattle.block_device.specs.Device.{Device}
+use Rattle.tree_shape.specs.Shape.{ShapeRecord}
+use Rattle.verity_format.specs.Blocks.{IsFullRead, IsOnlyRead}
+use Rattle.verity_format.specs.Superblock.{SuperRecord, shape_of}
+use Rattle.tree_path.proofs.lemmas.DeviceLemmas.{only_read-then}
+use Rattle.tree_difference.specs.declared.walk.Walk.{Walk}
+use Rattle.tree_difference.specs.Comparisons.{Compares, Reads, world}
+use Rattle.tree_difference.specs.Differences.{HaveTrees, IsWalkOf, trees_in, trees_of}
+use Rattle.tree_difference.specs.Superblocks.{unlike}
+use Rattle.tree_difference.specs.Trees.{Trees}
+use Rattle.tree_difference.proofs.DifferenceLemmas.{aligned-read, aligned-read-second, can-compare, compares-was, comparison-cause, have-trees, image-second, reads-was, same-trees, walk-cause}
+use Rattle.tree_difference.proofs.ErrLemmas.{err-from, ok-both}
+use Rattle.tree_difference.proofs.difference.compare_trees.Goals as goal
+
+pub returns-in_err-two-clause-err : goal.returns-in_err-two-clause-err
+returns-in_err-two-clause-err g c =
+    err-from c.from_residual-in_err-two.result _ c.in_err-two.field-0.0 c.from_residual-in_err-two.ensures.1
+    (image-second (world (g.D.BlockDev.state c.args.first.now) (g.E.BlockDev.state c.args.second.now) (g.D.BlockDev.state c.superblock_of.new.device) (g.E.BlockDev.state c.superblock_of-2.new.device) (g.W.Write.contents c.args.writer.now.inner) (g.W.Write.contents c.args.writer.now.inner))
+    c.args.roots c.args.writer.now.failed c.in_err-two.field-0.0 c.in_err-two.ensures.err)
+
+pub align-requires : goal.align-requires
+align-requires g c =
+    have-trees c.in_ok-one.one c.in_ok-two.two c.args.roots c.in_ok-walk.walk (g.D.BlockDev.state c.args.first.now) (g.D.BlockDev.state c.superblock_of.new.device) (g.E.BlockDev.state c.args.second.now) (g.E.BlockDev.state c.superblock_of-2.new.device)
+    c.in_ok-walk.ensures (sym c.in-None.ensures) c.in_ok-one.ensures.found c.in_ok-two.ensures.found c.superblock_of.ensures.read.same.size c.superblock_of-2.ensures.read.same.size
+
+pub returns-in_err-align-clause-err : goal.returns-in_err-align-clause-err
+returns-in_err-align-clause-err g c =
+    err-from c.from_residual-in_err-align.result _ c.in_err-align.field-0.0 c.from_residual-in_err-align.ensures.1
+    (walk-cause c.in_ok-one.one c.in_ok-two.two c.args.roots c.in_ok-walk.walk (g.D.BlockDev.state c.args.first.now) (g.D.BlockDev.state c.superblock_of.new.device) (g.E.BlockDev.state c.args.second.now) (g.E.BlockDev.state c.superblock_of-2.new.device)
+    (g.D.BlockDev.state c.align.new.first) (g.E.BlockDev.state c.align.new.second) (g.W.Write.contents c.args.writer.now.inner) (g.W.Write.contents c.args.writer.now.inner) c.args.writer.now.failed
+    c.in_ok-one.ensures.found c.in_ok-two.ensures.found c.in_ok-walk.ensures.trees c.superblock_of.ensures.read c.superblock_of-2.ensures.read c.in_ok-one.ensures.full.failures c.in_ok-two.ensures.full.failures
+    c.in_err-align.field-0.0 c.in_err-align.ensures.err)
+
+pub compare-requires : goal.compare-requires
+compare-requires g c =
+    let d : Device = g.D.BlockDev.state c.superblock_of.new.device in
+    let e : Device = g.E.BlockDev.state c.superblock_of-2.new.device in
+    let have : HaveTrees c.in_ok-walk.walk d e =
+    have-trees c.in_ok-one.one c.in_ok-two.two c.args.roots c.in_ok-walk.walk (g.D.BlockDev.state c.args.first.now) d (g.E.BlockDev.state c.args.second.now) e
+    c.in_ok-walk.ensures (sym c.in-None.ensures) c.in_ok-one.ensures.found c.in_ok-two.ensures.found c.superblock_of.ensures.read.same.size c.superblock_of-2.ensures.read.same.size in
+    can-compare c.in_ok-walk.walk c.align.new.walk d e (g.D.BlockDev.state c.align.new.first) (g.E.BlockDev.state c.align.new.second) have c.in_ok-align.ensures.ok
+
+pub returns-clause-ok : goal.returns-clause-ok
+returns-clause-ok g c =
+    let a : SuperRecord = c.in_ok-one.one in
+    let b : SuperRecord = c.in_ok-two.two in
+    let w : Walk = c.in_ok-walk.walk in
+    let w' : Walk = c.align.new.walk in
+    let t : Trees = trees_of a b c.args.roots in
+    let d0 : Device = g.D.BlockDev.state c.args.first.now in
+    let e0 : Device = g.E.BlockDev.state c.args.second.now in
+    let d1 : Device = g.D.BlockDev.state c.superblock_of.new.device in
+    let e1 : Device = g.E.BlockDev.state c.superblock_of-2.new.device in
+    let d2 : Device = g.D.BlockDev.state c.align.new.first in
+    let e2 : Device = g.E.BlockDev.state c.align.new.second in
+    let d3 : Device = g.D.BlockDev.state c.compare.new.first in
+    let e3 : Device = g.E.BlockDev.state c.compare.new.second in
+    let old : Option (List ℕ) = g.W.Write.contents c.args.writer.now.inner in
+    let new : Option (List ℕ) = g.W.Write.contents c.compare.new.writer.inner in
+    let aligned = c.in_ok-align.ensures.ok in
+    let have : HaveTrees w d1 e1 =
+    have-trees a b c.args.roots w d0 d1 e0 e1 c.in_ok-walk.ensures (sym c.in-None.ensures) c.in_ok-one.ensures.found c.in_ok-two.ensures.found c.superblock_of.ensures.read.same.size c.superblock_of-2.ensures.read.same.size in
+    let is : trees_in w' ≡ t = same-trees w w' d1 e1 d2 e2 have aligned ∙ c.in_ok-walk.ensures.trees in
+    ok-both c.compare.result _ _ _ c.compare.ensures.ok c.compare.ensures.reads (λ totals found reads. record {
+      a = a;
+      b = b;
+      first_image = c.in_ok-one.ensures.found;
+      second_image = c.in_ok-two.ensures.found;
+      alike = sym c.in-None.ensures;
+      compares = compares-was t d0 e0 d2 e2 d3 e3 old new c.args.most totals (only_read-then c.superblock_of.ensures.read aligned.first.full.read) (only_read-then c.superblock_of-2.ensures.read aligned.second.full.read)
+          (subst (λ (x : Trees). Compares x (world d2 e2 d3 e3 old new) c.args.most totals) is found);
+      reads = reads-was t d0 e0 d2 e2 d3 e3 old new _ _
+          (aligned-read w w' d0 d1 d2 e1 e2 (shape_of a) t c.in_ok-one.ensures.full (ap (λ (x : Trees). x.first) c.in_ok-walk.ensures.trees) c.in_ok-walk.ensures.levels aligned)
+          (aligned-read-second w w' e0 d1 d2 e1 e2 (shape_of b) t c.in_ok-two.ensures.full (ap (λ (x : Trees). x.second) c.in_ok-walk.ensures.trees) c.in_ok-walk.ensures.levels aligned)
+          (subst (λ (x : Trees). Reads x (world d2 e2 d3 e3 old new) 0 0) is reads);
+    })
+
+pub returns-clause-err : goal.returns-clause-err
+returns-clause-err g c =
+    let a : SuperRecord = c.in_ok-one.one in
+    let b : SuperRecord = c.in_ok-two.two in
+    let w : Walk = c.in_ok-walk.walk in
+    let d1 : Device = g.D.BlockDev.state c.superblock_of.new.device in
+    let e1 : Device = g.E.BlockDev.state c.superblock_of-2.new.device in
+    let d2 : Device = g.D.BlockDev.state c.align.new.first in
+    let e2 : Device = g.E.BlockDev.state c.align.new.second in
+    let aligned = c.in_ok-align.ensures.ok in
+    let have : HaveTrees w d1 e1 =
+    have-trees a b c.args.roots w (g.D.BlockDev.state c.args.first.now) d1 (g.E.BlockDev.state c.args.second.now) e1 c.in_ok-walk.ensures (sym c.in-None.ensures) c.in_ok-one.ensures.found c.in_ok-two.ensures.found c.superblock_of.ensures.read.same.size c.superblock_of-2.ensures.read.same.size in
+    IfErr-weaker c.compare.result _ _
+    (λ fault cause. comparison-cause a b c.args.roots c.align.new.walk (g.D.BlockDev.state c.args.first.now) d2 (g.E.BlockDev.state c.args.second.now) e2 (g.D.BlockDev.state c.compare.new.first) (g.E.BlockDev.state c.compare.new.second)
+    (g.W.Write.contents c.args.writer.now.inner) (g.W.Write.contents c.compare.new.writer.inner) c.compare.new.writer.failed c.in_ok-one.ensures.found c.in_ok-two.ensures.found
+    (same-trees w c.align.new.walk d1 e1 d2 e2 have aligned ∙ c.in_ok-walk.ensures.trees)
+    (only_read-then c.superblock_of.ensures.read aligned.first.full.read) (only_read-then c.superblock_of-2.ensures.read aligned.second.full.read)
+    (aligned.first.full.failures ∙ c.in_ok-one.ensures.full.failures) (aligned.second.full.failures ∙ c.in_ok-two.ensures.full.failures) fault cause)
+    c.compare.ensures.err

@@ -1,0 +1,46 @@
+-- Why two trees aren't compared.
+use Rattle.std.specs.Prelude.{◌≡◌, ◌≢◌, ◌⊎◌, ℕ, ◌+◌, ◌<◌, ◌≤◌, Bool, true, IsTrue, List}
+use Rattle.block_device.specs.Device.{Device, HasFailed}
+use Rattle.tree_shape.specs.Digests.{digest}
+use Rattle.tree_shape.specs.Shape.{ShapeRecord, ancestor, levels}
+use Rattle.verity_format.specs.declared.verifying.VerifyFault.{VerifyFault}
+use Rattle.verity_format.specs.declared.verifying.VerifyFault.TheVariants.{Super, TooSmall, Device as DeviceFailed, NoMemory as NoRoom}
+use Rattle.verity_format.specs.Image.{tree_sectors}
+use Rattle.verity_format.specs.Superblock.{SuperRecord, shape_of}
+use Rattle.verity_format.specs.Verifying.{IsReadCause, IsReadFrom}
+use Rattle.tree_path.specs.Path.{PathRecord, IsPathOf, LeadsTo, AreStored, block_of, digest_on}
+use Rattle.tree_path.specs.Steps.{Steps, IsStopped}
+use Rattle.tree_difference.specs.declared.fault.DifferenceFault.{DifferenceFault}
+use Rattle.tree_difference.specs.declared.fault.DifferenceFault.TheVariants.{Image, Unlike, Hash, NoMemory, Write}
+use Rattle.tree_difference.specs.declared.fault.Unlike.{Unlike as Field}
+use Rattle.tree_difference.specs.declared.fault.Unlike.TheVariants.{DataBlockSize, HashBlockSize, Salt}
+use Rattle.tree_difference.specs.declared.fault.Which.{Which}
+use Rattle.tree_difference.specs.declared.fault.Which.TheVariants.{First, Second}
+use Rattle.tree_difference.specs.declared.walk.Walk.{Walk}
+
+-- on the way to a data block the hash block of a level has another digest than stands above it, or the device failed
+abbrev pub IsReadingCause : Steps → Which → ℕ → DifferenceFault → Type 0
+IsReadingCause w which to (Hash tree level number) = (tree ≡ which) × IsStopped w to level × (number ≡ ancestor w.old.shape (level + 1) w.index)
+IsReadingCause w which to (Image tree DeviceFailed) = (tree ≡ which) × HasFailed w.device w.device'
+IsReadingCause w which to fault = ⊥
+
+-- The hash block of that level and number has another digest than stands above it, and those above it are good. Over a
+-- steady device that is what stands there.
+pub record IsBadBlock (shape : ShapeRecord) (salt root : List ℕ) (device : Device) (level number : ℕ) : Type 0 where
+  pub path : PathRecord
+  pub index : ℕ
+  pub is_of : IsPathOf shape salt root path
+  pub inside : index < shape.blocks
+  pub low : level < levels shape
+  pub number_is : number ≡ ancestor shape (level + 1) index
+  pub leads : LeadsTo path index (level + 1)
+  pub bad : digest path.salt (block_of path level) ≢ digest_on path index (level + 1)
+  pub stored : IsTrue device.steady → AreStored path device.image index level
+
+-- why a walk ends early
+abbrev pub IsWalkCause : Walk → Device → Device → Device → Device → DifferenceFault → Type 0
+IsWalkCause w first second first' second' (Hash First level number) = IsBadBlock w.first.shape w.first.salt w.first.root first level number
+IsWalkCause w first second first' second' (Hash Second level number) = IsBadBlock w.second.shape w.second.salt w.second.root second level number
+IsWalkCause w first second first' second' (Image First DeviceFailed) = HasFailed first first'
+IsWalkCause w first second first' second' (Image Second DeviceFailed) = HasFailed second second'
+IsWalkCause w first second first' second' fault = ⊥

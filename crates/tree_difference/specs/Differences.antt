@@ -1,0 +1,100 @@
+-- The trees of two hash images, and what ends their comparison.
+use Rattle.std.specs.Prelude.{◌≡◌, ◌⊎◌, ℕ, ◌+◌, ◌-◌, ◌*◌, ◌/◌, ◌<◌, ◌≤◌, nat_lt, if◌then◌else◌, Bool, true, List, Option, Some, None}
+use Rattle.block_device.specs.Device.{Device, HasFailed}
+use Rattle.tree_shape.specs.Shape.{ShapeRecord, IsShape, levels}
+use Rattle.verity_format.specs.Image.{tree_sectors}
+use Rattle.verity_format.specs.Superblock.{SuperRecord, shape_of}
+use Rattle.verity_format.specs.Verifying.{IsReadCause}
+use Rattle.tree_path.specs.Path.{IsPathOf}
+use Rattle.tree_path.specs.Steps.{IsDown, steps}
+use Rattle.tree_runs.specs.declared.run.Kind.TheVariants.{Removed, Added}
+use Rattle.tree_runs.specs.declared.run.Run.{Run}
+use Rattle.tree_runs.specs.Runs.{run}
+use Rattle.tree_difference.specs.declared.difference.Roots.{Roots}
+use Rattle.tree_difference.specs.declared.difference.Totals.{Totals}
+use Rattle.tree_difference.specs.declared.fault.DifferenceFault.{DifferenceFault}
+use Rattle.tree_difference.specs.declared.fault.DifferenceFault.TheVariants.{Image, Unlike, Hash, NoMemory, Write}
+use Rattle.tree_difference.specs.declared.fault.Which.TheVariants.{First, Second}
+use Rattle.tree_difference.specs.declared.walk.Walk.{Walk}
+use Rattle.tree_difference.specs.Causes.{IsBadBlock, IsWalkCause}
+use Rattle.tree_difference.specs.Comparisons.{Compares, Reads, World}
+use Rattle.tree_difference.specs.Superblocks.{IsCut, IsImageRead, unlike}
+use Rattle.tree_difference.specs.Trees.{Trees, AreAlike, common_blocks, common_levels}
+use Rattle.tree_difference.specs.Walks.{HaveBlock, IsOn, Sides}
+
+-- the trees of two superblocks and two roots
+abbrev pub trees_of : SuperRecord → SuperRecord → Roots → Trees
+trees_of a b roots = record { first = shape_of a; second = shape_of b; first_salt = a.salt; second_salt = b.salt; first_root = roots.first; second_root = roots.second }
+
+-- the trees of a walk
+abbrev pub trees_in : Walk → Trees
+trees_in w = record { first = w.first.shape; second = w.second.shape; first_salt = w.first.salt; second_salt = w.second.salt; first_root = w.first.root; second_root = w.second.root }
+
+-- a walk in these trees
+pub record IsWalkOf (t : Trees) (w : Walk) : Type 0 where
+  pub trees : trees_in w ≡ t
+  pub shape : w.shape ≡ t.first
+  pub levels : w.levels ≡ common_levels t
+  pub blocks : w.blocks ≡ common_blocks t
+
+-- both trees are shapes, and lie on the devices
+pub record HaveTrees (w : Walk) (first second : Device) : Type 0 where
+  pub of : IsWalkOf (trees_in w) w
+  pub alike : AreAlike (trees_in w)
+  pub first_valid : IsShape w.first.shape
+  pub second_valid : IsShape w.second.shape
+  pub first_fits : tree_sectors w.first.shape ≤ first.size
+  pub second_fits : tree_sectors w.second.shape ≤ second.size
+
+-- the hash blocks of the levels that the other tree doesn't have were read
+pub record IsAligned (s : Sides) : Type 0 where
+  pub first : IsDown (steps s.old.first s.new.first s.first s.first' 0 (levels s.old.first.shape)) s.old.levels s.old.levels
+  pub second : IsDown (steps s.old.second s.new.second s.second s.second' 0 (levels s.old.second.shape)) s.old.levels s.old.levels
+  pub shape : s.new.shape ≡ s.old.shape
+  pub levels : s.new.levels ≡ s.old.levels
+  pub blocks : s.new.blocks ≡ s.old.blocks
+
+pub record CanCompare (w : Walk) (first second : Device) : Type 0 where
+  pub have : HaveTrees w first second
+  pub on : IsOn w first second 0 w.levels
+
+-- the data blocks that one of the two trees alone has
+abbrev pub rest_of : Walk → Option Run
+rest_of w =
+    if nat_lt w.blocks w.first.shape.blocks then Some (run w.blocks (w.first.shape.blocks - w.blocks) Removed)
+    else if nat_lt w.blocks w.second.shape.blocks then Some (run w.blocks (w.second.shape.blocks - w.blocks) Added)
+    else None
+
+-- a walk ended early, or a line can't be written
+abbrev pub IsComparisonCause : Walk → World → Bool → DifferenceFault → Type 0
+IsComparisonCause w i failed Write = failed ≡ true
+IsComparisonCause w i failed fault = IsWalkCause w i.first i.second i.first' i.second' fault
+
+-- how many sectors of an image are read beside the pairs of hash blocks that differ: the superblock's, and those of the
+-- first hash block of each level that the other tree doesn't have
+abbrev pub sectors_before : ShapeRecord → Trees → ℕ
+sectors_before s t = 1 + (levels s - common_levels t) * (s.hash_block / 512)
+
+-- both superblocks were read, and the trees compared
+pub record IsDifference (w : World) (roots : Roots) (most : Option ℕ) (totals : Totals) : Type 0 where
+  pub a : SuperRecord
+  pub b : SuperRecord
+  pub first_image : IsImageRead w.first a
+  pub second_image : IsImageRead w.second b
+  pub alike : unlike a b ≡ None
+  pub compares : Compares (trees_of a b roots) w most totals
+  pub reads : Reads (trees_of a b roots) w (sectors_before (shape_of a) (trees_of a b roots)) (sectors_before (shape_of b) (trees_of a b roots))
+
+-- both superblocks were read, and say this
+abbrev pub AreRead : World → (SuperRecord → SuperRecord → Type 0) → Type 0
+AreRead w P = (a : SuperRecord) × ((b : SuperRecord) × (IsImageRead w.first a × (IsImageRead w.second b × P a b)))
+
+-- why two images aren't compared
+abbrev pub IsDifferenceCause : World → Roots → Bool → DifferenceFault → Type 0
+IsDifferenceCause w roots failed (Image First fault) = IsReadCause w.first w.first' fault ⊎ IsCut w.first fault
+IsDifferenceCause w roots failed (Image Second fault) = IsReadCause w.second w.second' fault ⊎ IsCut w.second fault
+IsDifferenceCause w roots failed (Unlike field) = AreRead w (λ a b. unlike a b ≡ Some field)
+IsDifferenceCause w roots failed (Hash First level number) = AreRead w (λ a b. IsBadBlock (shape_of a) a.salt roots.first w.first level number)
+IsDifferenceCause w roots failed (Hash Second level number) = AreRead w (λ a b. IsBadBlock (shape_of b) b.salt roots.second w.second level number)
+IsDifferenceCause w roots failed NoMemory = (w.first'.failures ≡ w.first.failures) × (w.second'.failures ≡ w.second.failures)
+IsDifferenceCause w roots failed Write = failed ≡ true

@@ -1,0 +1,44 @@
+-- What a comparison says of all data under the two roots.
+use Rattle.std.specs.Prelude.{◌≡◌, ◌≢◌, ◌⊎◌, ℕ, List, [], length, map}
+use Rattle.std.specs.List.{slice_index_or}
+use Rattle.tree_shape.specs.Digests.{digest}
+use Rattle.tree_shape.specs.Shape.{IsShape}
+use Rattle.hash_tree.specs.Chain.{ChainRecord, IsGood}
+use Rattle.hash_tree.specs.Laws.{AreBlocks}
+use Rattle.hash_tree.specs.Tree.{root}
+use Rattle.tree_path.specs.Laws.{Collide}
+use Rattle.tree_difference.specs.Trees.{Trees, AreAlike, IsSame, IsDifferent, common_blocks}
+use Rattle.std.specs.Prelude.{◌<◌}
+
+-- two chains to one data block, each good under one of the roots
+pub record AreChains (t : Trees) (i : ℕ) (a b : ChainRecord) : Type 0 where
+  pub first_index : a.index ≡ i
+  pub second_index : b.index ≡ i
+  pub first_good : IsGood t.first t.first_salt t.first_root a
+  pub second_good : IsGood t.second t.second_salt t.second_root b
+
+-- a data block that is seen as the same has one content in both chains, or two different inputs have one digest
+abbrev pub SameBlocksAreSame : Type 0
+SameBlocksAreSame = (t : Trees) → AreAlike t → (i : ℕ) → IsSame t i → (a b : ChainRecord) → AreChains t i a b → (a.content ≡ b.content) ⊎ Collide t.first_salt
+
+-- one that is seen as changed has two contents, or two different inputs have one digest
+abbrev pub ChangedBlocksDiffer : Type 0
+ChangedBlocksDiffer = (t : Trees) → AreAlike t → (i : ℕ) → IsDifferent t i → (a b : ChainRecord) → AreChains t i a b → (a.content ≢ b.content) ⊎ Collide t.first_salt
+
+-- lists of data blocks whose trees have these roots
+pub record AreContents (t : Trees) (first second : List (List ℕ)) : Type 0 where
+  pub first_shape : IsShape t.first
+  pub second_shape : IsShape t.second
+  pub first_blocks : AreBlocks t.first.blocks t.first.data_block first
+  pub second_blocks : AreBlocks t.second.blocks t.second.data_block second
+  pub first_root : t.first_root ≡ root t.first.hash_block t.first_salt (map (digest t.first_salt) first)
+  pub second_root : t.second_root ≡ root t.second.hash_block t.second_salt (map (digest t.second_salt) second)
+
+-- the same of the data blocks themselves
+abbrev pub SameContentsAreSame : Type 0
+SameContentsAreSame = (t : Trees) → AreAlike t → (first second : List (List ℕ)) → AreContents t first second → (i : ℕ) → i < common_blocks t → IsSame t i
+    → (slice_index_or first i [] ≡ slice_index_or second i []) ⊎ Collide t.first_salt
+
+abbrev pub ChangedContentsDiffer : Type 0
+ChangedContentsDiffer = (t : Trees) → AreAlike t → (first second : List (List ℕ)) → AreContents t first second → (i : ℕ) → i < common_blocks t → IsDifferent t i
+    → (slice_index_or first i [] ≢ slice_index_or second i []) ⊎ Collide t.first_salt

@@ -1,0 +1,201 @@
+//! Two trees compared from their roots down.
+ghost use Rattle.std.specs.Prelude.{◌≡◌, ◌≤◌, ◌<◌, ◌+◌, ◌-◌, ◌^◌, OnOk, IfOk, IfErr, IfSome};
+ghost use Rattle.counted_io.specs.Counted.{Writes};
+ghost use Rattle.tree_runs.specs.Limits.{lines_of};
+ghost use Rattle.tree_runs.specs.Tallies.{EndsAt};
+ghost use Rattle.tree_difference.specs.Causes.{IsWalkCause};
+ghost use Rattle.tree_difference.specs.Comparisons.{Compares, Reads, world};
+ghost use Rattle.tree_difference.specs.Differences.{CanCompare, HaveTrees, IsAligned, IsComparisonCause, IsDifference, IsDifferenceCause, IsWalkOf, rest_of, trees_in, trees_of};
+ghost use Rattle.tree_difference.specs.Rests.{last_runs};
+ghost use Rattle.tree_difference.specs.Walks.{sides};
+
+use crate::fault::{DifferenceFault, Which};
+use crate::reading::read_down;
+use crate::superblocks::{check_alike, superblock_of};
+use crate::walk::Walk;
+use block_device::BlockDev;
+use counted_io::{Counted, WriteFault};
+use std::alloc::{AllocError, Global};
+use std::io::Write;
+use tree_path::{TreePath, span, top_at};
+use tree_runs::{Kind, Run, Tally};
+use tree_shape::Digest;
+use verity_format::Superblock;
+
+/// The root digests of two trees.
+#[derive(Clone, Copy, Debug, PartialEq, Eq)]
+pub struct Roots {
+    pub first: Digest,
+    pub second: Digest,
+}
+
+/// How many data blocks both trees have with the same digest, how many with different ones, and how many one of the two
+/// alone has.
+#[derive(Clone, Copy, Debug, PartialEq, Eq)]
+pub struct Totals {
+    pub same: u64,
+    pub changed: u64,
+    pub removed: u64,
+    pub added: u64,
+}
+
+/// Compares the trees of two hash images from their roots down, and prints a line for each longest run of data blocks
+/// that differ, in rising order: at most so many lines, and then `more`. A subtree is gone into only where its digests
+/// differ, and each hash block is checked against the digest above it.
+pub fn compare_trees<D: BlockDev, E: BlockDev, W: Write>(
+    alloc: Global,
+    first: &mut D,
+    second: &mut E,
+    roots: Roots,
+    most: Option<u64>,
+    writer: &mut Counted<W>,
+) -> Result<Totals, DifferenceFault>
+    ensures ok { IfOk result (IsDifference (world (D.state first.old) (E.state second.old) (D.state first.new) (E.state second.new) (W.contents writer.old.inner) (W.contents writer.new.inner)) roots most) }
+    ensures err { IfErr result (IsDifferenceCause (world (D.state first.old) (E.state second.old) (D.state first.new) (E.state second.new) (W.contents writer.old.inner) (W.contents writer.new.inner)) roots writer.new.failed) }
+{
+    let one = superblock_of(first, Which::First)?;
+    let two = superblock_of(second, Which::Second)?;
+    match check_alike(&one, &two) {
+        Some(field) => return Err(DifferenceFault::Unlike(field)),
+        None => {}
+    }
+    let mut walk = begin(alloc, &one, &two, roots)?;
+    align(&mut walk, first, second)?;
+    compare(&mut walk, first, second, most, writer)
+}
+
+// The paths of two trees, with nothing read.
+fn begin(
+    alloc: Global,
+    one: &Superblock,
+    two: &Superblock,
+    roots: Roots,
+) -> Result<Walk, AllocError>
+    ensures { IfOk result (IsWalkOf (trees_of one.now two.now roots)) }
+{
+    let shape = one.shape();
+    let other = two.shape();
+    let first = TreePath::new(alloc, shape, one.salt(), roots.first)?;
+    let second = TreePath::new(alloc, other, two.salt(), roots.second)?;
+    Ok(Walk {
+        first,
+        second,
+        shape,
+        levels: shape.levels().min(other.levels()),
+        blocks: shape.blocks().min(other.blocks()),
+    })
+}
+
+// Reads the first hash block of each level that the other tree doesn't have.
+fn align<D: BlockDev, E: BlockDev>(
+    walk: &mut Walk,
+    first: &mut D,
+    second: &mut E,
+) -> Result<(), DifferenceFault>
+    requires { HaveTrees walk.old (D.state first.old) (E.state second.old) }
+    ensures ok { OnOk result (IsAligned (sides walk.old walk.new (D.state first.old) (E.state second.old) (D.state first.new) (E.state second.new))) }
+    ensures err { IfErr result (IsWalkCause walk.old (D.state first.old) (E.state second.old) (D.state first.new) (E.state second.new)) }
+{
+    let levels = walk.levels;
+    let top = walk.first.levels();
+    read_down(&mut walk.first, first, Which::First, 0, top, levels)?;
+    let top = walk.second.levels();
+    read_down(&mut walk.second, second, Which::Second, 0, top, levels)
+}
+
+// Compares the trees from the levels that both have on down.
+fn compare<D: BlockDev, E: BlockDev, W: Write>(
+    walk: &mut Walk,
+    first: &mut D,
+    second: &mut E,
+    most: Option<u64>,
+    writer: &mut Counted<W>,
+) -> Result<Totals, DifferenceFault>
+    requires { CanCompare walk.old (D.state first.old) (E.state second.old) }
+    ensures ok { IfOk result (Compares (trees_in walk.old) (world (D.state first.old) (E.state second.old) (D.state first.new) (E.state second.new) (W.contents writer.old.inner) (W.contents writer.new.inner)) most) }
+    ensures reads { OnOk result (Reads (trees_in walk.old) (world (D.state first.old) (E.state second.old) (D.state first.new) (E.state second.new) (W.contents writer.old.inner) (W.contents writer.new.inner)) 0 0) }
+    ensures err { IfErr result (IsComparisonCause walk.old (world (D.state first.old) (E.state second.old) (D.state first.new) (E.state second.new) (W.contents writer.old.inner) (W.contents writer.new.inner)) writer.new.failed) }
+{
+    let mut tally = Tally::new(most);
+    let mut changed = 0;
+    let mut at = 0;
+    let shape = walk.shape;
+    let levels = walk.levels;
+    let blocks = walk.blocks;
+    'spans: while at < blocks {
+        let top = top_at(&shape, levels, at);
+        let stop = walk.descend(first, second, at, top)?;
+        let count = span(&shape, stop.level, blocks - at);
+        if stop.same {
+            tally.close(writer)?;
+        } else {
+            let run = Run {
+                first: at,
+                count,
+                kind: Kind::Changed,
+            };
+            tally.add(writer, run)?;
+            changed += count;
+        }
+        at += count;
+    }
+    finish(walk, &mut tally, writer)?;
+    Ok(totals_after(walk, changed))
+}
+
+// Prints the last run, and the data blocks that one of the two trees alone has.
+fn finish<W: Write>(
+    walk: &Walk,
+    tally: &mut Tally,
+    writer: &mut Counted<W>,
+) -> Result<(), WriteFault>
+    requires { EndsAt tally.old.last walk.now.blocks }
+    ensures { Writes W.contents writer.old writer.new (lines_of tally.old.limit (last_runs tally.old.last (rest_of walk.now))) result }
+{
+    match rest(walk) {
+        Some(run) => {
+            tally.add(writer, run)?;
+            tally.close(writer)
+        }
+        None => tally.close(writer),
+    }
+}
+
+// How many data blocks are the same, are not, or are in one of the two trees alone.
+fn totals_after(walk: &Walk, changed: u64) -> Totals
+    requires few { changed ≤ walk.now.blocks }
+    requires first { walk.now.blocks ≤ walk.now.first.shape.blocks }
+    requires second { walk.now.blocks ≤ walk.now.second.shape.blocks }
+    ensures { result ≡ record { same = walk.now.blocks - changed; changed = changed; removed = walk.now.first.shape.blocks - walk.now.blocks; added = walk.now.second.shape.blocks - walk.now.blocks } }
+{
+    Totals {
+        same: walk.blocks - changed,
+        changed,
+        removed: walk.first.data_blocks() - walk.blocks,
+        added: walk.second.data_blocks() - walk.blocks,
+    }
+}
+
+// The data blocks that one of the two trees alone has.
+fn rest(walk: &Walk) -> Option<Run>
+    ensures value { result ≡ rest_of walk.now }
+    ensures inside { IfSome result (λ r. r.first + r.count < 2 ^ 64) }
+{
+    let removed = walk.first.data_blocks();
+    if walk.blocks < removed {
+        return Some(Run {
+            first: walk.blocks,
+            count: removed - walk.blocks,
+            kind: Kind::Removed,
+        });
+    }
+    let added = walk.second.data_blocks();
+    if walk.blocks < added {
+        return Some(Run {
+            first: walk.blocks,
+            count: added - walk.blocks,
+            kind: Kind::Added,
+        });
+    }
+    None
+}

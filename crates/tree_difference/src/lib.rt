@@ -1,0 +1,12 @@
+//! Two hash trees compared from their roots down.
+#![tactic(auto)]
+
+mod difference;
+mod fault;
+pub mod laws;
+mod reading;
+mod superblocks;
+mod walk;
+
+pub use difference::{Roots, Totals, compare_trees};
+pub use fault::{DifferenceFault, Unlike, Which};

@@ -1,0 +1,35 @@
+//! Hash blocks read down to a data block, with the fault that names one that isn't good.
+ghost use Rattle.std.specs.Prelude.{◌≡◌, OnOk, IfErr};
+ghost use Rattle.verity_format.specs.Blocks.{IsOnlyRead};
+ghost use Rattle.tree_path.specs.Steps.{CanDescend, IsDown, steps};
+ghost use Rattle.tree_difference.specs.Causes.{IsReadingCause};
+
+use crate::fault::{DifferenceFault, Which};
+use block_device::BlockDev;
+use tree_path::TreePath;
+use verity_format::VerifyFault;
+
+/// Reads the hash blocks of the levels from `from - 1` down to `to` on the way to a data block.
+pub(crate) fn read_down<H: BlockDev>(
+    path: &mut TreePath,
+    device: &mut H,
+    which: Which,
+    index: u64,
+    from: u32,
+    to: u32,
+) -> Result<(), DifferenceFault>
+    requires { CanDescend path.old (H.state device.old) index from to }
+    ensures read { IsOnlyRead (H.state device.old) (H.state device.new) }
+    ensures ok { OnOk result (IsDown (steps path.old path.new (H.state device.old) (H.state device.new) index from) to to) }
+    ensures err { IfErr result (IsReadingCause (steps path.old path.new (H.state device.old) (H.state device.new) index from) which to) }
+{
+    match path.descend(device, index, from, to) {
+        Ok(None) => Ok(()),
+        Ok(Some(level)) => Err(DifferenceFault::Hash(
+            which,
+            level,
+            path.block_number(level, index),
+        )),
+        Err(_) => Err(DifferenceFault::Image(which, VerifyFault::Device)),
+    }
+}

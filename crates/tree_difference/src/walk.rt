@@ -1,0 +1,92 @@
+//! The ways down two trees to one data block.
+ghost use Rattle.std.specs.Prelude.{◌≡◌, ◌≤◌, OnOk, IfOk, IfErr};
+ghost use Rattle.std.specs.Str.{bytes_eq};
+ghost use Rattle.tree_difference.specs.Causes.{IsWalkCause};
+ghost use Rattle.tree_difference.specs.Walks.{CanEnter, CanWalk, HasEntered, HasStopped, sides};
+
+use crate::fault::{DifferenceFault, Which};
+use crate::reading::read_down;
+use block_device::BlockDev;
+use tree_path::TreePath;
+use tree_shape::{Digest, Shape};
+
+/// A path of each tree, the first tree's shape, and how many levels and data blocks both trees have.
+#[derive(Drop)]
+pub(crate) struct Walk {
+    pub(crate) first: TreePath,
+    pub(crate) second: TreePath,
+    pub(crate) shape: Shape,
+    pub(crate) levels: u32,
+    pub(crate) blocks: u64,
+}
+
+/// The level of the digests at which a way down ended, and whether they are the same.
+#[derive(Clone, Copy)]
+pub(crate) struct Stop {
+    pub(crate) level: u32,
+    pub(crate) same: bool,
+}
+
+impl Walk {
+    /// Goes down both trees to a data block while the digests differ, from so many levels above it.
+    pub(crate) fn descend<D: BlockDev, E: BlockDev>(
+        &mut self,
+        first: &mut D,
+        second: &mut E,
+        index: u64,
+        top: u32,
+    ) -> Result<Stop, DifferenceFault>
+        requires { CanWalk self.old (D.state first.old) (E.state second.old) index top }
+        ensures ok { IfOk result (λ stop. HasStopped (sides self.old self.new (D.state first.old) (E.state second.old) (D.state first.new) (E.state second.new)) index top stop.level stop.same) }
+        ensures err { IfErr result (IsWalkCause self.old (D.state first.old) (E.state second.old) (D.state first.new) (E.state second.new)) }
+    {
+        let mut level = top;
+        'levels: while !is_same(
+            &self.first.digest_at(level, index),
+            &self.second.digest_at(level, index),
+        ) {
+            if level == 0 {
+                return Ok(Stop { level, same: false });
+            }
+            level -= 1;
+            self.enter(first, second, index, level)?;
+        }
+        Ok(Stop { level, same: true })
+    }
+
+    // Reads the hash block of that level on the way to a data block, of both trees.
+    fn enter<D: BlockDev, E: BlockDev>(
+        &mut self,
+        first: &mut D,
+        second: &mut E,
+        index: u64,
+        level: u32,
+    ) -> Result<(), DifferenceFault>
+        requires { CanEnter self.old (D.state first.old) (E.state second.old) index level }
+        ensures ok { OnOk result (HasEntered (sides self.old self.new (D.state first.old) (E.state second.old) (D.state first.new) (E.state second.new)) index level) }
+        ensures err { IfErr result (IsWalkCause self.old (D.state first.old) (E.state second.old) (D.state first.new) (E.state second.new)) }
+    {
+        read_down(
+            &mut self.first,
+            first,
+            Which::First,
+            index,
+            level + 1,
+            level,
+        )?;
+        read_down(
+            &mut self.second,
+            second,
+            Which::Second,
+            index,
+            level + 1,
+            level,
+        )
+    }
+}
+
+fn is_same(a: &Digest, b: &Digest) -> bool
+    ensures { result ≡ bytes_eq a.now b.now }
+{
+    a == b
+}

@@ -1,0 +1,5 @@
+-- What callers may cite.
+pub mod ChainLemmas
+pub mod DeviceLemmas
+pub mod PathLemmas
+pub mod SpanLemmas

@@ -1,0 +1,5 @@
+pub mod Path
+pub mod Seen
+pub mod Spans
+pub mod Steps
+pub mod Laws

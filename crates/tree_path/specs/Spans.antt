@@ -1,0 +1,8 @@
+-- Which subtree begins at a data block.
+use Rattle.std.specs.Prelude.{◌≡◌, ◌≢◌, ℕ, suc, ◌%◌, ◌^◌, ◌<◌, ◌≤◌}
+
+-- a subtree of level k begins at data block i, where p digests stand in a hash block, and none of a higher level does
+pub record IsTopAt (p most i k : ℕ) : Type 0 where
+  pub few : k ≤ most
+  pub begins : i % p ^ k ≡ 0
+  pub top : k < most → i % p ^ suc k ≢ 0

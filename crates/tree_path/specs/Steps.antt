@@ -1,0 +1,55 @@
+-- Hash blocks read level by level on the way down to a data block.
+use Rattle.std.specs.Prelude.{◌≡◌, ◌≢◌, ℕ, ◌+◌, ◌-◌, ◌*◌, ◌/◌, ◌<◌, ◌≤◌, Bool, IsTrue, List, length, Option, Some, None}
+use Rattle.std.specs.Str.{bytes_eq}
+use Rattle.std.specs.Prelude.{slice_set}
+use Rattle.block_device.specs.Device.{Device}
+use Rattle.tree_shape.specs.Digests.{digest}
+use Rattle.tree_shape.specs.Shape.{levels, position, ancestor}
+use Rattle.verity_format.specs.Blocks.{IsFullRead, IsBlockRead}
+use Rattle.verity_format.specs.Image.{tree_sectors}
+use Rattle.tree_path.specs.Path.{PathRecord, IsPathOf, LeadsTo, block_of, digest_on, stored_block}
+
+-- a path and a device before and after, the data block that is gone to, and from which level
+pub record Steps : Type 0 where
+  pub old : PathRecord
+  pub new : PathRecord
+  pub device : Device
+  pub device' : Device
+  pub index : ℕ
+  pub from : ℕ
+
+abbrev pub steps : PathRecord → PathRecord → Device → Device → ℕ → ℕ → Steps
+steps old new device device' index from = record { old = old; new = new; device = device; device' = device'; index = index; from = from }
+
+-- the data block is one of the tree, which lies on the device
+pub record CanDescend (p : PathRecord) (device : Device) (i from to : ℕ) : Type 0 where
+  pub index : i < p.shape.blocks
+  pub order : to ≤ from
+  pub few : from ≤ levels p.shape
+  pub fits : tree_sectors p.shape ≤ device.size
+
+-- the hash block of level `from` was read, and is good where its digest stands above it
+pub record IsLoaded (w : Steps) (good : Bool) : Type 0 where
+  pub block : List ℕ
+  pub inside : w.from < length w.old.blocks
+  pub is : w.new ≡ record w.old { blocks = slice_set w.old.blocks w.from block }
+  pub test : good ≡ bytes_eq (digest w.old.salt block) (digest_on w.old w.index (w.from + 1))
+  pub read : IsBlockRead w.device w.old.shape.hash_block (position w.old.shape w.from (ancestor w.old.shape (w.from + 1) w.index)) block w.device'
+
+-- The hash blocks of the levels below `from` down to one were read, each once, and those down to another are good.
+pub record IsDown (w : Steps) (good level : ℕ) : Type 0 where
+  pub same : IsPathOf w.old.shape w.old.salt w.old.root w.new
+  pub kept : (l : ℕ) → w.from ≤ l → block_of w.new l ≡ block_of w.old l
+  pub goods : (l : ℕ) → good ≤ l → l < w.from → digest w.new.salt (block_of w.new l) ≡ digest_on w.new w.index (l + 1)
+  pub stored : IsTrue w.device.steady → (l : ℕ) → level ≤ l → l < w.from → block_of w.new l ≡ stored_block w.old.shape w.device.image l w.index
+  pub full : IsFullRead w.device ((w.from - level) * (w.old.shape.hash_block / 512)) w.device'
+
+-- that of a level has another digest than stands above it, and those between are good
+pub record IsStopped (w : Steps) (to level : ℕ) : Type 0 where
+  pub between : (to ≤ level) × (level < w.from)
+  pub down : IsDown w (level + 1) level
+  pub bad : digest w.new.salt (block_of w.new level) ≢ digest_on w.new w.index (level + 1)
+
+abbrev pub HasCome : Steps → ℕ → Option ℕ → Type 0
+HasCome w to None = IsDown w to to
+HasCome w to (Some level) = IsStopped w to level

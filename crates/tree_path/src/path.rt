@@ -1,0 +1,142 @@
+//! The hash blocks on the way to a data block.
+ghost use Rattle.std.specs.Prelude.{◌≡◌, ◌≤◌, ◌<◌, ◌+◌, OnErr, IfOk};
+ghost use Rattle.std.specs.Str.{bytes_eq};
+ghost use Rattle.block_device.specs.Device.{HasFailed};
+ghost use Rattle.tree_shape.specs.Shape.{ancestor, levels};
+ghost use Rattle.verity_format.specs.Blocks.{IsOnlyRead};
+ghost use Rattle.verity_format.specs.Image.{tree_sectors};
+ghost use Rattle.tree_path.specs.Path.{IsPathOf, digest_on};
+ghost use Rattle.tree_path.specs.Steps.{CanDescend, HasCome, IsLoaded, steps};
+
+use crate::reading::{read_block, zero_blocks};
+use block_device::{BlockDev, DeviceFault};
+use std::alloc::{AllocError, Global};
+use std::marker::Model;
+use tree_shape::{Digest, Salt, Shape, digest_in};
+
+/// A tree, and a hash block of each of its levels, which stand on the way to a data block.
+#[derive(Drop)]
+pub struct TreePath {
+    shape: Shape,
+    salt: Salt,
+    root: Digest,
+    blocks: Vec<Vec<u8>>,
+}
+
+impl Model for TreePath {
+    ghost use Rattle.tree_path.specs.Path.{IsPath, PathRecord};
+    ghost use Rattle.tree_path.specs.Seen.{seen};
+
+    ghost Value = { PathRecord };
+
+    ghost view = { seen };
+
+    ghost invariant = { λ p. IsPath (seen p) };
+}
+
+impl TreePath {
+    /// Memory for the hash blocks of each level, with nothing read.
+    pub fn new(
+        alloc: Global,
+        shape: Shape,
+        salt: Salt,
+        root: Digest,
+    ) -> Result<TreePath, AllocError>
+        ensures { IfOk result (IsPathOf shape salt root) }
+    {
+        let blocks = zero_blocks(alloc, shape.levels(), shape.hash_block() as usize)?;
+        Ok(TreePath {
+            shape,
+            salt,
+            root,
+            blocks,
+        })
+    }
+
+    /// The digest that stands so many levels above a data block: at level 0 that of the data block, at the highest
+    /// the root.
+    pub fn digest_at(&self, level: u32, index: u64) -> Digest
+        requires { level ≤ levels self.now.shape }
+        ensures { result ≡ digest_on self.now index level }
+    {
+        if level == self.shape.levels() {
+            return self.root;
+        }
+        let slot = self.shape.slot_on_path(level, index);
+        digest_in(&self.blocks[level as usize], slot)
+    }
+
+    /// How many levels the tree has.
+    pub fn levels(&self) -> u32
+        ensures { result ≡ levels self.now.shape }
+    {
+        self.shape.levels()
+    }
+
+    /// How many data blocks.
+    pub fn data_blocks(&self) -> u64
+        ensures { result ≡ self.now.shape.blocks }
+    {
+        self.shape.blocks()
+    }
+
+    /// The number, within its level, of the hash block on the way to a data block.
+    pub fn block_number(&self, level: u32, index: u64) -> u64
+        requires { index < self.now.shape.blocks }
+        ensures { result ≡ ancestor self.now.shape (level + 1) index }
+    {
+        self.shape.block_on_path(level, index)
+    }
+
+    /// Reads the hash blocks of the levels from `from - 1` down to `to` on the way to a data block, and checks each
+    /// against the digest that stands above it. It ends with the first whose digest is another one, and names its level.
+    pub fn descend<H: BlockDev>(
+        &mut self,
+        device: &mut H,
+        index: u64,
+        from: u32,
+        to: u32,
+    ) -> Result<Option<u32>, DeviceFault>
+        requires { CanDescend self.old (H.state device.old) index from to }
+        ensures read { IsOnlyRead (H.state device.old) (H.state device.new) }
+        ensures ok { IfOk result (HasCome (steps self.old self.new (H.state device.old) (H.state device.new) index from) to) }
+        ensures fault { OnErr result (HasFailed (H.state device.old) (H.state device.new)) }
+    {
+        let mut level = from;
+        'levels: while level > to {
+            level -= 1;
+            if !self.load(device, level, index)? {
+                return Ok(Some(level));
+            }
+        }
+        Ok(None)
+    }
+
+    // Reads the hash block of a level on the way to a data block, and tells whether its digest stands above it.
+    fn load<H: BlockDev>(
+        &mut self,
+        device: &mut H,
+        level: u32,
+        index: u64,
+    ) -> Result<bool, DeviceFault>
+        requires level { level < levels self.old.shape }
+        requires index { index < self.old.shape.blocks }
+        requires fits { tree_sectors self.old.shape ≤ (H.state device.old).size }
+        ensures read { IsOnlyRead (H.state device.old) (H.state device.new) }
+        ensures ok { IfOk result (IsLoaded (steps self.old self.new (H.state device.old) (H.state device.new) index level)) }
+        ensures fault { OnErr result (HasFailed (H.state device.old) (H.state device.new)) }
+    {
+        let place = self
+            .shape
+            .position(level, self.shape.block_on_path(level, index));
+        read_block(device, place, &mut self.blocks[level as usize])?;
+        let found = self.salt.digest(&self.blocks[level as usize]);
+        Ok(is_same(&found, &self.digest_at(level + 1, index)))
+    }
+}
+
+fn is_same(a: &Digest, b: &Digest) -> bool
+    ensures { result ≡ bytes_eq a.now b.now }
+{
+    a == b
+}

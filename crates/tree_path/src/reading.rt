@@ -1,0 +1,49 @@
+//! Blocks read from a device, and memory for them.
+ghost use Rattle.std.specs.Prelude.{◌≡◌, OnOk, OnErr, IfOk, All, length, replicate};
+ghost use Rattle.block_device.specs.Device.{HasFailed};
+ghost use Rattle.verity_format.specs.Blocks.{IsBlockRead, IsOnlyRead};
+ghost use Rattle.verity_format.specs.Premises.{IsBlockOn};
+
+use block_device::{BlockDev, DeviceFault};
+use std::alloc::{AllocError, Global};
+
+/// So many zero bytes.
+pub(crate) fn zeros(alloc: Global, size: usize) -> Result<Vec<u8>, AllocError>
+    ensures { IfOk result (λ v. v.items ≡ replicate size 0) }
+{
+    vec![in alloc; 0u8; size]
+}
+
+/// So many blocks of that size.
+pub(crate) fn zero_blocks(
+    alloc: Global,
+    count: u32,
+    size: usize,
+) -> Result<Vec<Vec<u8>>, AllocError>
+    ensures count { IfOk result (λ v. length v.items ≡ count) }
+    ensures sized { IfOk result (λ v. All (λ b. length b.items ≡ size) v.items) }
+{
+    let mut blocks = Vec::new(alloc);
+    for _ in 0..count {
+        let block = zeros(alloc, size)?;
+        blocks.push(block).map_err(AllocError::from)?;
+    }
+    Ok(blocks)
+}
+
+/// Reads a block of the size of `block`.
+#[tactic(auto, unfolding(verity_format::specs::Blocks::block_at))]
+pub(crate) fn read_block<D: BlockDev>(
+    device: &mut D,
+    index: u64,
+    block: &mut [u8],
+) -> Result<(), DeviceFault>
+    requires { IsBlockOn (D.state device.old) (length block.old) index }
+    ensures read { IsOnlyRead (D.state device.old) (D.state device.new) }
+    ensures ok { OnOk result (IsBlockRead (D.state device.old) (length block.old) index block.new (D.state device.new)) }
+    ensures fault { OnErr result (HasFailed (D.state device.old) (D.state device.new)) }
+{
+    let sectors = (block.len() / 512) as u64;
+    device.read(index * sectors, block)?;
+    Ok(())
+}

@@ -1,0 +1,3 @@
+-- What callers may cite.
+pub mod ListingLemmas
+pub mod RunLemmas

@@ -1,0 +1,4 @@
+pub mod Limits
+pub mod Runs
+pub mod Tallies
+pub mod Texts

@@ -1,0 +1,82 @@
+//! The run that may still grow, while blocks are gone over.
+ghost use Rattle.std.specs.Prelude.{◌≡◌, ◌+◌, ◌<◌, ◌^◌, None, Some, OnOk};
+ghost use Rattle.counted_io.specs.Counted.{Writes};
+ghost use Rattle.tree_runs.specs.Limits.{begun, limit_after, lines_of};
+ghost use Rattle.tree_runs.specs.Tallies.{EndsAt, closed_by, joined, listed, opened_by};
+
+use crate::limit::Limit;
+use crate::run::Run;
+use counted_io::{Counted, WriteFault};
+use std::io::Write;
+
+/// The run that may still grow, and how many lines may still be printed.
+#[derive(Clone, Copy, Debug, PartialEq, Eq)]
+pub struct Tally {
+    pub last: Option<Run>,
+    pub limit: Limit,
+}
+
+/// Both runs as one, where they are of one kind.
+fn joined(last: Option<Run>, run: Run) -> Option<Run>
+    requires ends { EndsAt last run.first }
+    requires room { run.first + run.count < 2 ^ 64 }
+    ensures { result ≡ joined last run }
+{
+    let last = last?;
+    if !last.kind.is_same(run.kind) {
+        return None;
+    }
+    Some(Run {
+        first: last.first,
+        count: last.count + run.count,
+        kind: last.kind,
+    })
+}
+
+impl Tally {
+    /// No block was gone over. At most so many lines are printed, without a number all.
+    pub fn new(most: Option<u64>) -> Tally
+        ensures { result ≡ record { last = None; limit = begun most } }
+    {
+        Tally {
+            last: None,
+            limit: Limit::new(most),
+        }
+    }
+
+    /// Prints the run that may still grow, since it doesn't.
+    #[tactic(auto, using(crate::proofs::WritingLemmas::writes_nothing))]
+    pub fn close<W: Write>(&mut self, writer: &mut Counted<W>) -> Result<(), WriteFault>
+        ensures text { Writes W.contents writer.old writer.new (lines_of self.old.limit (listed self.old.last)) result }
+        ensures last { OnOk result (self.new.last ≡ None) }
+        ensures limit { OnOk result (self.new.limit ≡ limit_after self.old.limit (listed self.old.last)) }
+    {
+        match self.last {
+            None => Ok(()),
+            Some(run) => {
+                self.limit.say(writer, run)?;
+                self.last = None;
+                Ok(())
+            }
+        }
+    }
+
+    /// Adds a run that begins where the blocks so far end.
+    #[tactic(auto, using(crate::proofs::WritingLemmas::writes_nothing))]
+    pub fn add<W: Write>(&mut self, writer: &mut Counted<W>, run: Run) -> Result<(), WriteFault>
+        requires ends { EndsAt self.old.last run.first }
+        requires room { run.first + run.count < 2 ^ 64 }
+        ensures text { Writes W.contents writer.old writer.new (lines_of self.old.limit (closed_by self.old.last run)) result }
+        ensures last { OnOk result (self.new.last ≡ Some (opened_by self.old.last run)) }
+        ensures limit { OnOk result (self.new.limit ≡ limit_after self.old.limit (closed_by self.old.last run)) }
+    {
+        match joined(self.last, run) {
+            Some(both) => self.last = Some(both),
+            None => {
+                self.close(writer)?;
+                self.last = Some(run);
+            }
+        }
+        Ok(())
+    }
+}
