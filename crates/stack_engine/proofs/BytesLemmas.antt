@@ -21,6 +21,7 @@ use Rattle.stack_lines.specs.declared.source.Source.{Source}
 use Rattle.stack_lines.specs.declared.source.Source.TheVariants.{Below, Blocks}
 use Rattle.stack_lines.specs.Sources.{IsServed, source_said, source_place}
 use Rattle.stack_engine.specs.declared.path.Chains.TheVariants.{Dropped}
+use Rattle.stack_lines.specs.Touches.{TouchesOnly, leaves_of}
 use Rattle.stack_engine.specs.Bytes.{IsGoodChain, MayBeBytes, AnyBytes, EachBytes, FindsBytes}
 use Rattle.stack_engine.specs.Keeping.{ReadsBlocks}
 use Rattle.stack_engine.specs.Pieces.{stack_over}
@@ -136,8 +137,8 @@ may-bytes c lower first n (Err (io.Stack fault)) p = p.got.may
 may-bytes c lower first n (Err (io.Device i)) p = p.got.may
 may-bytes c lower first n (Err io.NoMemory) p = tt
 
-pub each-bytes : (c : Configuration) (d first n : ℕ) {old new : List Device} (answer : Result (List ℕ) IoFault) → FindsBytes (place_of c (mapped d)) c first n old new answer
+pub each-bytes : (c : Configuration) (d first n : ℕ) {old new : List Device} (answer : Result (List ℕ) IoFault) → FindsBytes (place_of c (mapped d)) c first n old new answer → TouchesOnly (leaves_of c (mapped d)) old new answer
     → EachBytes (stack_over c old) d first n answer (stack_over c new)
-each-bytes c d first n answer p =
-    let any : AnyBytes (stack_over c _) d first n answer (stack_over c _) = record { config = refl; moved = p.got.moved; may = may-bytes c (mapped d) first n answer p } in
+each-bytes c d first n answer p touches =
+    let any : AnyBytes (stack_over c _) d first n answer (stack_over c _) = record { config = refl; moved = p.got.moved; may = may-bytes c (mapped d) first n answer p; touches = touches } in
     record { any = any; steady = λ steady. record { any = any; exact = p.got.exact steady } }

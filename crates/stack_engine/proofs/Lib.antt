@@ -2,6 +2,7 @@ pub mod lemmas
 pub mod PathBlockLemmas
 pub mod CachedLemmas
 pub mod PathLemmas
+pub mod TouchedLemmas
 pub mod BlocksLemmas
 pub mod NextBlockLemmas
 pub mod KeepingLemmas

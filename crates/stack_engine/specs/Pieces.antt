@@ -10,6 +10,7 @@ use Rattle.stack_meaning.specs.Meaning.{sector}
 use Rattle.stack_meaning.specs.May.{MayBe, MayFault}
 use Rattle.stack_meaning.specs.Leaves.{images_of, AllSteady, AreRead}
 use Rattle.stack_meaning.specs.Reading.{Ends, Answers}
+use Rattle.stack_lines.specs.Touches.{TouchesOnly, leaves_of}
 use Rattle.stack_engine.specs.Stacks.{StackRecord, AnswerRecord}
 
 -- a configuration over its leaves' devices
@@ -22,6 +23,7 @@ pub record AnyPiece (w : StackRecord) (d first n : ℕ) (answer : Result AnswerR
   pub config : w'.config ≡ w.config
   pub moved : AreRead w.leaves (n * read_cost w.config (mapped d)) w'.leaves
   pub may : Ends (λ got. MayBe w.config (mapped d) first n got.bytes got.chains) (MayFault w.config (mapped d) first n) w.leaves w'.leaves answer
+  pub touches : TouchesOnly (leaves_of w.config (mapped d)) w.leaves w'.leaves answer
 
 -- over steady leaves: what the stack means
 pub record SteadyPiece (w : StackRecord) (d first n : ℕ) (answer : Result AnswerRecord IoFault) (w' : StackRecord) : Type 0 where

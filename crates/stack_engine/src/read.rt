@@ -12,6 +12,7 @@ ghost use Rattle.stack_meaning.specs.Meaning.{said_at};
 ghost use Rattle.stack_meaning.specs.Reading.{Gets, Reads, IsPlain, buffer_answer};
 ghost use Rattle.stack_lines.specs.Sources.{ReadsSource, source_said};
 ghost use Rattle.stack_lines.specs.Extents.{LiesInside};
+ghost use Rattle.stack_lines.specs.Touches.{TouchesOnly, leaves_of, source_leaves};
 ghost use Rattle.stack_lines.specs.Walks.{HasDataBlock, block_in, checked_expected, data_expected, GetsChain, IsWalked};
 ghost use Rattle.stack_lines.specs.Caches.{IsCached, KeepsCache, IsPlaceOf};
 ghost use Rattle.verified_cache.specs.Cache.{CachedBlock};
@@ -51,6 +52,7 @@ fn read_leaf<D: BlockDev>(
     ensures got { (chains : List FoundRecord) → Gets (run_expected (place_of config.now (Lower.Leaf leaf)) chains first (length out.old / 512))
         (map D.state devices.old) (map D.state devices.new) (buffer_answer result out.new) }
     ensures plain { IsPlain (said_at config.now (Lower.Leaf leaf)) first (length out.old / 512) (map D.state devices.old) (map D.state devices.new) result }
+    ensures touches { TouchesOnly (leaves_of config.now (Lower.Leaf leaf)) (map D.state devices.old) (map D.state devices.new) result }
 {
     match devices[leaf as usize].read(first, out) {
         Ok(()) => Ok(()),
@@ -74,6 +76,7 @@ fn read_lower<D: BlockDev>(
         (buffer_answer result out.new) }
     ensures cached { KeepsCache config.now (map D.state reader.new.devices.items) reader.old.cache reader.new.cache }
     ensures plain { IsPlain (said_at config.now lower) first (length out.old / 512) (map D.state reader.old.devices.items) (map D.state reader.new.devices.items) result }
+    ensures touches { TouchesOnly (leaves_of config.now lower) (map D.state reader.old.devices.items) (map D.state reader.new.devices.items) result }
 {
     match lower {
         Lower::Leaf(leaf) => read_leaf(config, reader.devices.as_mut_slice(), leaf, first, out),
@@ -96,6 +99,7 @@ pub(crate) fn read_run<D: BlockDev>(
         (buffer_answer result out.new) }
     ensures cached { KeepsCache config.now (map D.state reader.new.devices.items) reader.old.cache reader.new.cache }
     ensures plain { IsPlain (source_said config.now source) 0 (length out.old / 512) (map D.state reader.old.devices.items) (map D.state reader.new.devices.items) result }
+    ensures touches { TouchesOnly (source_leaves config.now source) (map D.state reader.old.devices.items) (map D.state reader.new.devices.items) result }
 {
     match source {
         Source::Below { lower, first } => read_lower(config, reader, lower, first, out, found),
@@ -126,6 +130,7 @@ pub(crate) fn read_units<D: BlockDev>(
         (buffer_answer result out.new) }
     ensures cached { KeepsCache config.now (map D.state reader.new.devices.items) reader.old.cache reader.new.cache }
     ensures plain { IsPlain (source_said config.now (Source.Units part)) 0 (length out.old / 512) (map D.state reader.old.devices.items) (map D.state reader.new.devices.items) result }
+    ensures touches { TouchesOnly (leaves_of config.now (mapped part.device.0)) (map D.state reader.old.devices.items) (map D.state reader.new.devices.items) result }
 {
     let crypt = crypt_at(config, part.device, part.line);
     let unit = unit_at(config, part, crypt);
@@ -153,6 +158,7 @@ fn read_unit_part<D: BlockDev>(
         (buffer_answer result out.new) }
     ensures cached { KeepsCache config.now (map D.state reader.new.devices.items) reader.old.cache reader.new.cache }
     ensures plain { IsPlain (source_said config.now (Source.UnitPart part)) 0 (length out.old / 512) (map D.state reader.old.devices.items) (map D.state reader.new.devices.items) result }
+    ensures touches { TouchesOnly (leaves_of config.now (mapped part.device.0)) (map D.state reader.old.devices.items) (map D.state reader.new.devices.items) result }
 {
     let whole = whole_unit(config, part);
     let mut room = [0u8; MOST];
@@ -182,6 +188,7 @@ fn read_block<D: BlockDev>(
         (buffer_answer result out.new) }
     ensures cached { KeepsCache config.now (map D.state reader.new.devices.items) reader.old.cache reader.new.cache }
     ensures plain { IsPlain (source_said config.now (Source.Block part)) 0 (length out.old / 512) (map D.state reader.old.devices.items) (map D.state reader.new.devices.items) result }
+    ensures touches { TouchesOnly (leaves_of config.now (mapped part.device.0)) (map D.state reader.old.devices.items) (map D.state reader.new.devices.items) result }
 {
     let verity = verity_at(config, part.device, part.line);
     let sectors = u64::from(verity.data_block / 512);
@@ -233,6 +240,7 @@ pub(crate) fn read_blocks<D: BlockDev>(
         (buffer_answer result out.new) }
     ensures cached { KeepsCache config.now (map D.state reader.new.devices.items) reader.old.cache reader.new.cache }
     ensures plain { IsPlain (source_said config.now (Source.Blocks part)) 0 (length out.old / 512) (map D.state reader.old.devices.items) (map D.state reader.new.devices.items) result }
+    ensures touches { TouchesOnly (leaves_of config.now (mapped part.device.0)) (map D.state reader.old.devices.items) (map D.state reader.new.devices.items) result }
 {
     let verity = verity_at(config, part.device, part.line);
     let tree = tree_at(config, part.device, part.line, verity);
@@ -298,6 +306,7 @@ fn read_beneath<D: BlockDev>(
     ensures reads { GetsBytes config.now lower first (length out.old / 512)
         (map D.state reader.old.devices.items) (map D.state reader.new.devices.items) (buffer_answer result out.new) }
     ensures cached { KeepsCache config.now (map D.state reader.new.devices.items) reader.old.cache reader.new.cache }
+    ensures touches { TouchesOnly (leaves_of config.now lower) (map D.state reader.old.devices.items) (map D.state reader.new.devices.items) result }
 {
     if out.is_empty() {
         return Ok(());
@@ -320,6 +329,7 @@ fn walk<D: BlockDev>(
     ensures reads { GetsChain (block_in config.now verity.now index)
         (map D.state reader.old.devices.items) (map D.state reader.new.devices.items) result }
     ensures cached { KeepsCache config.now (map D.state reader.new.devices.items) reader.old.cache reader.new.cache }
+    ensures touches { TouchesOnly (leaves_of config.now (mapped tree.now.device.0)) (map D.state reader.old.devices.items) (map D.state reader.new.devices.items) result }
 {
     let mut expected = verity.root;
     let mut path: Vec<Vec<u8>> = Vec::new(reader.alloc);
@@ -364,6 +374,7 @@ fn read_data<D: BlockDev>(
     ensures reads { Gets (data_expected (λ block. block.items) (block_in config.now verity.now index) expected.now)
         (map D.state reader.old.devices.items) (map D.state reader.new.devices.items) result }
     ensures cached { KeepsCache config.now (map D.state reader.new.devices.items) reader.old.cache reader.new.cache }
+    ensures touches { TouchesOnly (leaves_of config.now (mapped tree.now.device.0)) (map D.state reader.old.devices.items) (map D.state reader.new.devices.items) result }
 {
     if is_ignored(config, verity, tree, expected) {
         return match zero_block(reader.alloc, verity.data_block) {
@@ -390,6 +401,7 @@ fn hash_block<D: BlockDev>(
     ensures reads { Gets (checked_expected (λ block. block.items) (place_of config.now extent.lower) extent.first extent.sectors salt.now expected.now)
         (map D.state reader.old.devices.items) (map D.state reader.new.devices.items) result }
     ensures cached { KeepsCache config.now (map D.state reader.new.devices.items) reader.old.cache reader.new.cache }
+    ensures touches { TouchesOnly (leaves_of config.now extent.lower) (map D.state reader.old.devices.items) (map D.state reader.new.devices.items) result }
 {
     match reader.cache.copy_of(reader.alloc, key, expected) {
         Err(_) => Err(IoFault::NoMemory),
@@ -429,6 +441,7 @@ fn path_block<D: BlockDev>(
     ensures above { take wanted.now.at path.new.items ≡ take wanted.now.at path.old.items }
     ensures held { All (IsCached config.now (map D.state reader.new.devices.items)) path.new.items }
     ensures cached { KeepsCache config.now (map D.state reader.new.devices.items) reader.old.cache reader.new.cache }
+    ensures touches { TouchesOnly (leaves_of config.now tree.now.hash) (map D.state reader.old.devices.items) (map D.state reader.new.devices.items) result }
 {
     let at = wanted.at;
     let digest = wanted.digest;
@@ -464,6 +477,7 @@ fn walk_path<D: BlockDev>(
     ensures moved { AreRead (map D.state reader.old.devices.items) (levels (tree_of verity.now) * (hash_sectors verity.now * (block_in config.now verity.now index).on_hash.cost)) (map D.state reader.new.devices.items) }
     ensures held { All (IsCached config.now (map D.state reader.new.devices.items)) path.new.items }
     ensures cached { KeepsCache config.now (map D.state reader.new.devices.items) reader.old.cache reader.new.cache }
+    ensures touches { TouchesOnly (leaves_of config.now tree.now.hash) (map D.state reader.old.devices.items) (map D.state reader.new.devices.items) result }
 {
     let mut digest = verity.root;
     let mut at = 0usize;
@@ -502,6 +516,7 @@ fn read_checked<D: BlockDev>(
     ensures reads { Gets (checked_expected (λ block. block.items) (place_of config.now extent.lower) extent.first extent.sectors salt.now expected.now)
         (map D.state reader.old.devices.items) (map D.state reader.new.devices.items) result }
     ensures cached { KeepsCache config.now (map D.state reader.new.devices.items) reader.old.cache reader.new.cache }
+    ensures touches { TouchesOnly (leaves_of config.now extent.lower) (map D.state reader.old.devices.items) (map D.state reader.new.devices.items) result }
 {
     let mut block = match zero_sectors(reader.alloc, extent.sectors) {
         Ok(block) => block,
@@ -542,6 +557,7 @@ pub(crate) fn read_device<D: BlockDev>(
         (buffer_answer result out.new) }
     ensures cached { KeepsCache config.now (map D.state reader.new.devices.items) reader.old.cache reader.new.cache }
     ensures plain { IsPlain (said_at config.now (mapped d.0)) first (length out.old / 512) (map D.state reader.old.devices.items) (map D.state reader.new.devices.items) result }
+    ensures touches { TouchesOnly (leaves_of config.now (mapped d.0)) (map D.state reader.old.devices.items) (map D.state reader.new.devices.items) result }
 {
     let mut at = 0;
     while at < out.len() {

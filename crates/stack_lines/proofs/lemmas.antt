@@ -7,6 +7,7 @@ pub mod SizeLemmas
 pub mod SourceLemmas
 pub mod StandingLemmas
 pub mod StopLemmas
+pub mod TouchLemmas
 pub mod UnitLineLemmas
 pub mod UnitPutLemmas
 pub mod UnitReadLemmas

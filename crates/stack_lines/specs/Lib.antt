@@ -7,3 +7,4 @@ pub mod Caches
 pub mod Writing
 pub mod Cuts
 pub mod AtOnce
+pub mod Touches

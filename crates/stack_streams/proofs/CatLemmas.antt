@@ -14,6 +14,8 @@ use Rattle.stack_meaning.specs.Meaning.{said_at, sector}
 use Rattle.stack_meaning.specs.Reading.{MeetVerity}
 use Rattle.stack_meaning.specs.Sectors.{IsRun}
 use Rattle.stack_meaning.specs.Outcomes.{Images, Outcome, joint_outcome, span}
+use Rattle.stack_lines.specs.Touches.{TouchesOnly, leaves_of}
+use Rattle.stack_lines.proofs.lemmas.TouchLemmas.{touches-none, touches-then, touches-as}
 use Rattle.stack_engine.specs.Bytes.{EachBytes, IsGoodChain, MayBeBytes}
 use Rattle.stack_engine.specs.Stacks.{StackRecord}
 use Rattle.stack_meaning.proofs.lemmas.FoundLemmas.{HasMore, said_at-mono, used-append}
@@ -63,6 +65,7 @@ cat-none d first old = record {
   most = 0;
   config = refl;
   moved = AreRead-none 0 old.stack.leaves;
+  touches = touches-none (leaves_of old.stack.config (mapped d)) old.stack.leaves (Ok []) tt;
   may = no-bytes old.stack.config (mapped d) first;
   exact = λ steady. refl;
   written = Appends-nil old.written;
@@ -82,6 +85,7 @@ module _ (d first k : ℕ) (old now : CatSide) (p : IsCat d first k old now) (n 
     most = p.most + _;
     config = q.any.config ∙ p.config;
     moved = AreRead-then p.moved q.any.moved;
+    touches = touches-as (Ok (p.bytes ++ bytes)) tt (touches-then p.touches (subst (λ (c : Configuration). TouchesOnly {A = List ℕ} (leaves_of c (mapped d)) now.stack.leaves stack.leaves (Ok bytes)) p.config q.any.touches));
     may = bytes-then old.stack.config (mapped d) first k n p.bytes bytes p.may (subst (λ (c : Configuration). MayBeBytes c (mapped d) (first + k) n bytes) p.config q.any.may);
     exact = λ steady.
         let f : ℕ → Outcome = sector old.stack.config (images_of old.stack.leaves) (mapped d) in
@@ -97,6 +101,7 @@ module _ (d first k : ℕ) (old now : CatSide) (p : IsCat d first k old now) (n 
     most = p.most + _;
     config = q.any.config ∙ p.config;
     moved = AreRead-then p.moved q.any.moved;
+    touches = touches-as (Ok p.bytes) tt (touches-then p.touches (subst (λ (c : Configuration). TouchesOnly {A = List ℕ} (leaves_of c (mapped d)) now.stack.leaves stack.leaves (Err fault)) p.config q.any.touches));
     may = p.may;
     exact = p.exact;
     written = p.written;

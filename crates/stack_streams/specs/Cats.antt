@@ -8,6 +8,7 @@ use Rattle.stack_meaning.specs.Leaves.{AllSteady, AreRead, images_of}
 use Rattle.stack_meaning.specs.Meaning.{said_at, sector}
 use Rattle.stack_meaning.specs.Outcomes.{Outcome, span}
 use Rattle.stack_meaning.specs.Reading.{MeetVerity}
+use Rattle.stack_lines.specs.Touches.{TouchesOnly, leaves_of}
 use Rattle.stack_engine.specs.Bytes.{EachBytes, MayBeBytes}
 use Rattle.stack_engine.specs.Stacks.{StackRecord}
 use Rattle.stack_recovery.specs.Alike.{AreAlike}
@@ -24,12 +25,14 @@ abbrev pub cat_side : StackRecord → Option (List ℕ) → CatSide
 cat_side stack written = record { stack = stack; written = written }
 
 -- The bytes of k sectors of device d from the first on were written out, and nothing else: over any leaves bytes for which
--- there are good chains, over steady ones what the stack means. Leaves were read alone.
+-- there are good chains, over steady ones what the stack means. Leaves were read alone, and only those on which the device
+-- stands.
 pub record IsCat (d first k : ℕ) (old new : CatSide) : Type 0 where
   pub bytes : List ℕ
   pub most : ℕ
   pub config : new.stack.config ≡ old.stack.config
   pub moved : AreRead old.stack.leaves most new.stack.leaves
+  pub touches : TouchesOnly (leaves_of old.stack.config (mapped d)) old.stack.leaves new.stack.leaves (Ok bytes)
   pub may : MayBeBytes old.stack.config (mapped d) first k bytes
   pub exact : AllSteady old.stack.leaves → span (sector old.stack.config (images_of old.stack.leaves) (mapped d)) first k ≡ Ok bytes
   pub written : Appends old.written new.written bytes

@@ -2,6 +2,8 @@
 use Rattle.std.proofs.Common.{◌≡◌, ◌<◌, ◌≤◌, ℕ, ◌+◌, ◌*◌, ◌/◌, ◌%◌, List, [], ◌++◌, length, take, drop, refl, ap, sym, ◌∙◌, subst, arith, Some, Result, Ok, Err}
 use Rattle.std.proofs.lemmas.List.{length-take-le, take-append-drop}
 use Rattle.std.proofs.Math.Seq.{take-length, take-add}
+use Rattle.block_device.specs.Device.{Device}
+use Rattle.stack_rules.specs.Records.{Configuration}
 use Rattle.stack_rules.specs.Names.{mapped}
 use Rattle.stack_rules.specs.Rules.{IsLoaded}
 use Rattle.stack_meaning.specs.declared.fault.IoFault.{IoFault}
@@ -9,6 +11,8 @@ use Rattle.stack_meaning.specs.declared.fault.IoFault.TheVariants as io
 use Rattle.stack_engine.specs.Pieces.{EachPiece, stack_over}
 use Rattle.stack_engine.specs.WritePieces.{EachWrite, WritesInPieces}
 use Rattle.stack_meaning.specs.Reading.{Gets}
+use Rattle.stack_lines.specs.Touches.{TouchesOnly, leaves_of}
+use Rattle.stack_lines.proofs.lemmas.TouchLemmas.{touches-none, touches-then, touches-as}
 use Rattle.stack_engine.specs.Stacks.{StackRecord, AnswerRecord}
 use Rattle.stack_engine.proofs.lemmas.PieceLemmas.{piece_expected, pieces_expected, no-pieces, more-pieces, fault-pieces, piece-got}
 use Rattle.stack_engine.proofs.lemmas.WritePieceLemmas.{write-none, write-then, write-ends}
@@ -40,21 +44,26 @@ pub record ReadSoFar (base : StackRecord) (range : SectorRange) (t : ℕ) (w : W
   pub got : AnswerRecord
   pub work : f.work ≡ reads got
   pub gets : Gets (pieces_expected base.config (mapped range.device.0) range.first done) base.leaves w.stack.leaves (Ok got)
+  pub touches : TouchesOnly (leaves_of base.config (mapped range.device.0)) base.leaves w.stack.leaves (Ok got)
+
+-- what a piece did to the leaves
+abbrev IsPiece : Configuration → ℕ → ℕ → ℕ → List Device → List Device → Result AnswerRecord IoFault → Type 0
+IsPiece c d first n old new answer = Gets (piece_expected c (mapped d) first n) old new answer × TouchesOnly (leaves_of c (mapped d)) old new answer
 
 -- the piece that a step of it reads
 piece-of : (base : StackRecord) (range : SectorRange) (t : ℕ) (w w' : World) (u : ReadSoFar base range t w) (f : FlightRecord) (answer : Result AnswerRecord IoFault) (stack : StackRecord) → f ≡ u.f → stack ≡ w'.stack
-    → Asks EachPart w.stack f answer stack → Gets (piece_expected base.config (mapped range.device.0) (range.first + u.done) (next_count w f)) w.stack.leaves w'.stack.leaves answer
+    → Asks EachPart w.stack f answer stack → IsPiece base.config range.device.0 (range.first + u.done) (next_count w f) w.stack.leaves w'.stack.leaves answer
 piece-of base range t w w' u f answer stack same now p =
     let n = next_count w f in
     let work : f.work ≡ reads u.got = ap (λ (x : FlightRecord). x.work) same ∙ u.work in
     let piece : EachPiece w.stack f.rest.device.0 f.rest.first n answer stack = subst (λ x. EachPart w.stack f.rest.device.0 f.rest.first (part_of_work x (done_of f) n) answer stack) work p in
     let device : f.rest.device.0 ≡ range.device.0 = ap (λ (x : FlightRecord). x.rest.device.0) same ∙ ap (λ d. d.0) u.device in
     let first : f.rest.first ≡ range.first + u.done = ap (λ (x : FlightRecord). x.rest.first) same ∙ u.at in
-    subst (λ (x : StackRecord). Gets (piece_expected base.config (mapped range.device.0) (range.first + u.done) n) w.stack.leaves x.leaves answer) now
-    (subst (λ c. Gets (piece_expected c (mapped range.device.0) (range.first + u.done) n) w.stack.leaves stack.leaves answer) u.config
-    (subst (λ s. Gets (piece_expected w.stack.config (mapped range.device.0) s n) w.stack.leaves stack.leaves answer) first
-    (subst (λ d. Gets (piece_expected w.stack.config (mapped d) f.rest.first n) w.stack.leaves stack.leaves answer) device
-    (piece-got f.rest.device.0 f.rest.first n answer piece))))
+    subst (λ (x : StackRecord). IsPiece base.config range.device.0 (range.first + u.done) n w.stack.leaves x.leaves answer) now
+    (subst (λ c. IsPiece c range.device.0 (range.first + u.done) n w.stack.leaves stack.leaves answer) u.config
+    (subst (λ s. IsPiece w.stack.config range.device.0 s n w.stack.leaves stack.leaves answer) first
+    (subst (λ d. IsPiece w.stack.config d f.rest.first n w.stack.leaves stack.leaves answer) device
+    (piece-got f.rest.device.0 f.rest.first n answer piece, piece.any.touches))))
 
 further : (base : StackRecord) (range : SectorRange) (t : ℕ) (w w' : World) → ReadSoFar base range t w → Serves EachPart w t More w' → ReadSoFar base range t w'
 further base range t w w' u s =
@@ -62,6 +71,7 @@ further base range t w w' u s =
     let same = same-flight EachPart t w w' u.f u.order u.there More s in
     let n = next_count w s.f in
     let most : n ≤ s.f.rest.count = piece_len-within w.stack.config s.f.rest in
+    let piece = piece-of base range t w w' u s.f (Ok s.answers.got) s.answers.stack same (sym (ap (λ (y : World). y.stack) s.answers.leaves)) s.answers.asks in
     let first : s.f.rest.first ≡ range.first + u.done = ap (λ (x : FlightRecord). x.rest.first) same ∙ u.at in
     let count : s.f.rest.count ≡ u.f.rest.count = ap (λ (x : FlightRecord). x.rest.count) same in
     record {
@@ -75,13 +85,13 @@ further base range t w w' u s =
       left = omega (arith, count, u.left, most);
       got = joint_answer u.got s.answers.got;
       work = ap (λ work. next_work work s.answers.got) (ap (λ (x : FlightRecord). x.work) same ∙ u.work);
-      gets = more-pieces base.config (mapped range.device.0) range.first u.done n {before = u.got} u.gets {answer = s.answers.got}
-          (piece-of base range t w w' u s.f (Ok s.answers.got) s.answers.stack same (sym (ap (λ (y : World). y.stack) s.answers.leaves)) s.answers.asks);
+      gets = more-pieces base.config (mapped range.device.0) range.first u.done n {before = u.got} u.gets {answer = s.answers.got} piece.0;
+      touches = touches-as (Ok _) tt (touches-then u.touches piece.1);
     }
 
 whole-of : {v v' : StackRecord} (range : SectorRange) (answer : Result AnswerRecord IoFault) → v'.config ≡ v.config → Gets (pieces_expected v.config (mapped range.device.0) range.first range.count) v.leaves v'.leaves answer
-    → ReadsWhole v range answer v'
-whole-of range answer config p = record { config = config; moved = p.moved; may = p.may; exact = p.exact }
+    → TouchesOnly (leaves_of v.config (mapped range.device.0)) v.leaves v'.leaves answer → ReadsWhole v range answer v'
+whole-of range answer config p touches = record { config = config; moved = p.moved; may = p.may; touches = touches; exact = p.exact }
 
 -- its last step
 read-over : (base : StackRecord) (range : SectorRange) (t : ℕ) (name : List ℕ) (first count : ℕ) (answer : Result Reply IoFault) (w w' : World) → ReadSoFar base range t w → Serves EachPart w t (Done answer) w'
@@ -94,10 +104,10 @@ read-over base range t name first count (Ok reply) w w' u s =
     let last : u.done + n ≡ range.count = omega (arith, s.answers.last, ap (λ (x : FlightRecord). x.rest.count) same, u.left) in
     let work : next_work s.f.work s.answers.got ≡ reads all = ap (λ work. next_work work s.answers.got) (ap (λ (x : FlightRecord). x.work) same ∙ u.work) in
     let is : reply ≡ Sectors all = s.answers.replies ∙ ap reply_to work in
-    let gets = more-pieces base.config (mapped range.device.0) range.first u.done n {before = u.got} u.gets {answer = s.answers.got}
-    (piece-of base range t w w' u s.f (Ok s.answers.got) s.answers.stack same (sym (ap (λ (y : World). y.stack) s.answers.leaves)) s.answers.asks) in
+    let piece = piece-of base range t w w' u s.f (Ok s.answers.got) s.answers.stack same (sym (ap (λ (y : World). y.stack) s.answers.leaves)) s.answers.asks in
+    let gets = more-pieces base.config (mapped range.device.0) range.first u.done n {before = u.got} u.gets {answer = s.answers.got} piece.0 in
     let whole : ReadsWhole base range (Ok all) w'.stack =
-    whole-of {v = base} {v' = w'.stack} range (Ok all) (own.config ∙ u.config) (subst (λ k. Gets (pieces_expected base.config (mapped range.device.0) range.first k) base.leaves w'.stack.leaves (Ok all)) last gets) in
+    whole-of {v = base} {v' = w'.stack} range (Ok all) (own.config ∙ u.config) (subst (λ k. Gets (pieces_expected base.config (mapped range.device.0) range.first k) base.leaves w'.stack.leaves (Ok all)) last gets) (touches-as (Ok all) tt (touches-then u.touches piece.1)) in
     subst (λ x. Whole (a_read name first count) base range (Ok x) w'.stack) (sym is) whole
 read-over base range t name first count (Err fault) w w' u s =
     let own = has-served w t (Done (Err fault)) w' u.order (serves-any w t (Done (Err fault)) w' s) in
@@ -105,9 +115,10 @@ read-over base range t name first count (Err fault) w w' u s =
     let n = next_count w s.f in
     let most : n ≤ s.f.rest.count = piece_len-within w.stack.config s.f.rest in
     let inside : u.done + n ≤ range.count = omega (arith, most, ap (λ (x : FlightRecord). x.rest.count) same, u.left) in
+    let piece = piece-of base range t w w' u s.f (Err fault) s.answers.stack same (sym (ap (λ (y : World). y.stack) s.answers.leaves)) s.answers.asks in
     whole-of {v = base} {v' = w'.stack} range (Err fault) (own.config ∙ u.config)
-    (fault-pieces base.config (mapped range.device.0) range.first u.done n {before = u.got} u.gets range.count fault inside
-    (piece-of base range t w w' u s.f (Err fault) s.answers.stack same (sym (ap (λ (y : World). y.stack) s.answers.leaves)) s.answers.asks))
+    (fault-pieces base.config (mapped range.device.0) range.first u.done n {before = u.got} u.gets range.count fault inside piece.0)
+    (touches-then u.touches piece.1)
 
 read-ends : (base : StackRecord) (range : SectorRange) (t : ℕ) (name : List ℕ) (first count : ℕ) (answer : Result Reply IoFault) (w w' : World) → ReadSoFar base range t w → Ends EachPart t answer w w'
     → Whole (a_read name first count) base range answer w'.stack
@@ -132,6 +143,8 @@ read-begun w name first count t v order b =
       work = refl;
       gets = subst (λ (x : StackRecord). Gets (pieces_expected w.stack.config (mapped b.range.device.0) b.range.first 0) w.stack.leaves x.leaves (Ok nothing)) (sym new.stack)
           (no-pieces w.stack.config (mapped b.range.device.0) b.range.first w.stack.leaves);
+      touches = subst (λ (x : StackRecord). TouchesOnly (leaves_of w.stack.config (mapped b.range.device.0)) w.stack.leaves x.leaves (Ok nothing)) (sym new.stack)
+          (touches-none (leaves_of w.stack.config (mapped b.range.device.0)) w.stack.leaves (Ok nothing) tt);
     }
 
 -- ---- writes

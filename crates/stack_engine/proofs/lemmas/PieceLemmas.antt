@@ -13,6 +13,7 @@ use Rattle.stack_meaning.specs.Leaves.{AreRead}
 use Rattle.stack_meaning.specs.Places.{place_of, Expected, run_expected}
 use Rattle.stack_meaning.specs.Reading.{Gets, Reads}
 use Rattle.stack_engine.specs.Stacks.{StackRecord, AnswerRecord, IsSound}
+use Rattle.stack_lines.specs.Touches.{TouchesOnly, leaves_of}
 use Rattle.stack_engine.specs.Pieces.{AnyPiece, EachPiece, stack_over}
 use Rattle.stack_meaning.proofs.lemmas.LeafListLemmas.{AreRead-none, leaves_kept}
 use Rattle.stack_meaning.proofs.lemmas.FoundLemmas.{HasMore, used-append, said_at-mono}
@@ -98,10 +99,10 @@ no-pieces c lower first leaves = record {
 }
 
 -- a piece as the stack's own record
-pub each-piece : (c : Configuration) (d first n : ℕ) {old new : List Device} (answer : Result AnswerRecord IoFault) → Gets (piece_expected c (mapped d) first n) old new answer
+pub each-piece : (c : Configuration) (d first n : ℕ) {old new : List Device} (answer : Result AnswerRecord IoFault) → Gets (piece_expected c (mapped d) first n) old new answer → TouchesOnly (leaves_of c (mapped d)) old new answer
     → EachPiece (stack_over c old) d first n answer (stack_over c new)
-each-piece c d first n answer p =
-    let any : AnyPiece (stack_over c _) d first n answer (stack_over c _) = record { config = refl; moved = p.moved; may = p.may } in
+each-piece c d first n answer p touches =
+    let any : AnyPiece (stack_over c _) d first n answer (stack_over c _) = record { config = refl; moved = p.moved; may = p.may; touches = touches } in
     record { any = any; steady = λ steady. record { any = any; exact = p.exact steady } }
 
 -- and back

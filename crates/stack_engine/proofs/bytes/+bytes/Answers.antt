@@ -22,6 +22,7 @@ use Rattle.stack_engine.proofs.StackLemmas.{stack-later}
 use Rattle.stack_engine.proofs.BytesLemmas.{found-bytes, dropped-bytes, below-bytes, bytes_ok, bytes_err, same_bytes}
 use Rattle.stack_meaning.proofs.lemmas.LoadedLemmas.{size-small}
 use Rattle.stack_lines.proofs.lemmas.SourceLemmas.{served-depth, served-holds, device_plain, below_plain}
+use Rattle.stack_lines.proofs.lemmas.TouchLemmas.{device-touched}
 use Rattle.stack_engine.proofs.bytes.+bytes.Goals as goal
 
 pub device_bytes-overflow_add-first : goal.device_bytes-overflow_add-first
@@ -81,6 +82,7 @@ device_bytes-loop-at-preserved g t c =
       plain = subst (λ (n : ℕ). IsPlain (said_at config (mapped c.args.d.0)) c.args.first n (map state c.args.reader.now.devices.items) new (Ok tt)) (omega (arith, c.loop-at.invariant.whole))
           (device_plain config c.args.d.0 c.args.first (at / 512) count (at / 512 + count) source c.requires.stack.sound.loaded (omega arith) c.run_to_read-run.ensures.served c.loop-at.invariant.plain
           (subst (λ (n : ℕ). IsPlain (source_said config source) 0 n mid new (Ok tt)) number c.in-Ok.ensures.plain));
+      touches = device-touched config c.args.d.0 (c.args.first + at / 512) count source c.requires.stack.sound.loaded c.run_to_read-run.ensures.some c.run_to_read-run.ensures.served c.loop-at.invariant.touches c.in-Ok.ensures.touches;
     }
 
 pub device_bytes-returns-in-Err-clause-reads : goal.device_bytes-returns-in-Err-clause-reads
@@ -148,3 +150,16 @@ run_bytes-returns-clause-reads g t c =
     let answer : Result (List ℕ) IoFault = buffer_answer c.read_run.result c.read_run.new.out in
     let got = subst (λ (u : List FoundRecord). ReadsSource c.args.config.now c.args.source n (record { old = map state c.args.reader.now.devices.items; new = map state c.read_run.new.reader.devices.items; before = u; after = c.read_run.new.found.items }) answer) c.new-dropped.ensures.items c.read_run.ensures.reads in
     found-bytes (source_place c.args.config.now c.args.source) c.args.config.now 0 n answer got
+
+-- ---- which leaves are touched
+
+pub device_bytes-returns-in-Err-clause-touches : goal.device_bytes-returns-in-Err-clause-touches
+device_bytes-returns-in-Err-clause-touches g t c =
+    device-touched c.args.config.now c.args.d.0 (c.args.first + c.loop-at.at / 512) c.run_to_read-run.result.count c.run_to_read-run.result.source c.requires.stack.sound.loaded c.run_to_read-run.ensures.some c.run_to_read-run.ensures.served c.loop-at.invariant.touches c.in-Err.ensures.touches
+
+pub run_bytes-returns-in-Below-Device-default-clause-touches : goal.run_bytes-returns-in-Below-Device-default-clause-touches
+run_bytes-returns-in-Below-Device-default-clause-touches g t c =
+    let arm = c.in-Below-Device-default in
+    let lower : arm.lower ≡ mapped arm.d.0 = rw arm.is at arm.lower-is in
+    let is : c.args.source ≡ Below (mapped arm.d.0) arm.first = arm.is ∙ ap (λ (x : Lower). Below x arm.first) lower in
+    rw is c.device_bytes.ensures.touches

@@ -6,7 +6,7 @@ use Rattle.std.proofs.lemmas.Slice.Eq.{bytes_eq-Decides}
 use Rattle.std.proofs.lemmas.Bool.{cases_lt, eqb-true}
 use Rattle.std.proofs.lemmas.Slice.{take-put_mid, take-put_mid_below, between-put_mid}
 use Rattle.std.proofs.lemmas.List.{with_items_is}
-use Rattle.std.specs.Prelude.{option_map, max}
+use Rattle.std.specs.Prelude.{option_map, max, IfErr}
 use Rattle.std.specs.Vec.{with_items}
 use borrow.Rule.Slice.PartMut.{put_mid, same_len_mid}
 use Rattle.tree_shape.specs.Digests.{digest, digest_in}
@@ -18,8 +18,8 @@ use Rattle.stack_rules.specs.Trees.{tree_of, block_sectors, zero_block}
 use Rattle.stack_rules.specs.declared.lower.DevId.{DevId}
 use Rattle.stack_rules.specs.declared.lower.Lower.TheVariants.{Leaf}
 use Rattle.stack_rules.specs.declared.lower.Lower.{Lower}
-use Rattle.stack_meaning.specs.declared.fault.Fault.TheVariants.{ErrorTarget}
-use Rattle.stack_meaning.specs.declared.fault.IoFault.TheVariants.{Stack}
+use Rattle.stack_meaning.specs.declared.fault.Fault.TheVariants.{ErrorTarget, Mismatch}
+use Rattle.stack_meaning.specs.declared.fault.IoFault.TheVariants.{Stack, NoMemory}
 use Rattle.stack_lines.specs.declared.source.Source.{Source}
 use Rattle.stack_lines.specs.declared.source.Source.TheVariants.{Units, UnitPart, Block}
 use Rattle.stack_meaning.specs.Found.{FoundRecord, entry_of}
@@ -62,6 +62,9 @@ use Rattle.stack_engine.proofs.BlocksLemmas.{IsRead, blocks-at, blocks_plain, bl
 use Rattle.stack_engine.proofs.NextBlockLemmas.{sub-same, AreReadAhead, way-whole, few-blocks, block-size, digest-count, block-begin, blocks-end, small-index, row-inside, none-had, had-fails, far, row-next, row-fails, row-ahead, ahead-rest, settled, next-had, next-differs, next-full, had-all}
 use Rattle.stack_engine.specs.Keeping.{AreHandedOut}
 use Rattle.stack_engine.proofs.KeepingLemmas.{kept-reads, none-out, one-out, gets-none}
+use Rattle.stack_lines.specs.Touches.{NamesOneOf, TouchesOnly, leaves_of}
+use Rattle.stack_lines.proofs.lemmas.TouchLemmas.{touches-none, touches-then, touches-as, touches-up, crypt-within, data-within, device-touched}
+use Rattle.stack_engine.proofs.TouchedLemmas.{extent-touched, same-within, hash-touched, hash-within-device, data-touched}
 use Rattle.stack_engine.proofs.read.+read.Goals as goal
 
 pub read_device-overflow_add-first : goal.read_device-overflow_add-first
@@ -118,6 +121,7 @@ read_device-loop-at-preserved g t c =
       plain = subst (λ (n : ℕ). IsPlain (said_at config (mapped c.args.d.0)) c.args.first n (map state c.args.reader.now.devices.items) (map state c.read_run.new.reader.devices.items) (Ok tt)) (omega (arith, c.loop-at.invariant.whole))
           (device_plain config c.args.d.0 c.args.first (at / 512) count (at / 512 + count) source c.requires.stack.sound.loaded (omega arith) c.run_to_read-run.ensures.served c.loop-at.invariant.plain
           (subst (λ (n : ℕ). IsPlain (source_said config source) 0 n (map state c.loop-at.reader.devices.items) (map state c.read_run.new.reader.devices.items) (Ok tt)) number c.in-Ok.ensures.plain));
+      touches = device-touched config c.args.d.0 (c.args.first + at / 512) count source c.requires.stack.sound.loaded c.run_to_read-run.ensures.some c.run_to_read-run.ensures.served c.loop-at.invariant.touches c.in-Ok.ensures.touches;
     }
 
 pub read_device-returns-in-Err-clause-reads : goal.read_device-returns-in-Err-clause-reads
@@ -617,6 +621,7 @@ walk-loop-level-preserved g t c =
       walked = subst (λ (p : List (List ℕ)). IsWalked b level c.digest_in-expected.result p old new) (sym longer)
           (subst (λ (e : List ℕ). IsWalked b level e (path ++ (block.items ∷ [])) old new) (sym expected) down);
       cached = record { capacity = c.in-Ok.ensures.cached.capacity ∙ c.loop-level.invariant.cached.capacity; sound = c.in-Ok.ensures.cached.sound };
+      touches = touches-then c.loop-level.invariant.touches (touches-as (Ok tt) tt (hash-touched c.args.config.now v tree c.requires.stack.sound.loaded c.requires.block.lies c.hash_extent-extent.result c.hash_extent-extent.ensures c.in-Ok.ensures.touches));
     }
 
 pub walk-read_data-requires : goal.walk-read_data-requires
@@ -838,6 +843,7 @@ walk_path-loop-left-preserved g t c =
           (subst (λ (e : List ℕ). IsWalked b level e (map bytes_of (take at before) ++ (block ∷ [])) old new) (sym expected) down);
       held = c.in-Ok.ensures.held;
       cached = record { capacity = c.in-Ok.ensures.cached.capacity ∙ c.loop-left.invariant.cached.capacity; sound = c.in-Ok.ensures.cached.sound };
+      touches = touches-then c.loop-left.invariant.touches c.in-Ok.ensures.touches;
     }
 
 -- ---- whole data blocks
@@ -882,6 +888,7 @@ read_blocks-checks-init g t c =
       had = none-had config v p n tree.data found loaded line is at c.args.out.now c.requires.kept;
       ahead = λ k low below. absurd (omega (arith, below));
       cached = record { capacity = refl; sound = c.requires.stack.cached };
+      touches = touches-none (leaves_of config (mapped p.device.0)) old (Ok tt) tt;
     }
 
 pub read_blocks-walk_path-requires : goal.read_blocks-walk_path-requires
@@ -1822,6 +1829,7 @@ read_blocks-checks-preserved g t c =
       had = next-had config v p n tree.data found loaded line is at to j c.checks.out expected way did1 inside far_to next out2 content (p.first / c.from.result + j) (map block_bytes (take c.levels-levels.result slice)) front holds (ap (λ (l : List ℕ). length l) content_is ∙ block_len ∙ ws_is) index goes got_content;
       ahead = ahead-rest config v p n tree.data found loaded line is at j to out1 block made1 old ws (sub-same a v.data_block) block_len out1_len inside ahead1;
       cached = cached_now;
+      touches = data-touched config v tree loaded c.tree_at-tree.ensures.tree p.device c.tree_at-tree.ensures.at inv.touches c.in-Ok.ensures.touches c.in-Ok-read_beneath.ensures.touches;
     }
 
 pub read_blocks-returns-clause-reads : goal.read_blocks-returns-clause-reads
@@ -1865,3 +1873,145 @@ read_blocks-returns-in-Err-keep-clause-plain g t c = blocks_plain c.args.config.
 
 pub read_blocks-returns-clause-plain : goal.read_blocks-returns-clause-plain
 read_blocks-returns-clause-plain g t c = blocks_plain c.args.config.now c.args.part (length c.args.out.now / 512) (omega (arith, c.requires.fits.sectors.some, c.requires.fits.sectors.whole)) c.requires.fits.holds
+
+-- ---- which leaves are touched
+
+pub read_device-returns-clause-touches : goal.read_device-returns-clause-touches
+read_device-returns-clause-touches g t c = c.loop-at.invariant.touches
+
+pub read_device-returns-in-Err-clause-touches : goal.read_device-returns-in-Err-clause-touches
+read_device-returns-in-Err-clause-touches g t c =
+    device-touched c.args.config.now c.args.d.0 (c.args.first + c.loop-at.at / 512) c.run_to_read-run.result.count c.run_to_read-run.result.source c.requires.stack.sound.loaded c.run_to_read-run.ensures.some c.run_to_read-run.ensures.served c.loop-at.invariant.touches c.in-Err.ensures.touches
+
+pub read_lower-returns-in-Leaf-clause-touches : goal.read_lower-returns-in-Leaf-clause-touches
+read_lower-returns-in-Leaf-clause-touches g t c =
+    let config = c.args.config.now in
+    let state = g.D.BlockDev.state in
+    let devices = c.args.reader.now.devices in
+    let stands : (with_items devices c.read_leaf.new.devices).items ≡ c.read_leaf.new.devices =
+    with_items_is devices c.read_leaf.new.devices (c.read_leaf.auto.devices ∙ ap (λ l. length l) c.as_mut_slice.ensures.value ∙ sym devices.ok.0) in
+    let one = subst (λ ds. TouchesOnly (leaves_of config (Leaf c.in-Leaf.leaf)) (map state ds) (map state c.read_leaf.new.devices) c.read_leaf.result) c.as_mut_slice.ensures.value c.read_leaf.ensures.touches in
+    subst (λ ds. TouchesOnly (leaves_of config c.args.lower) (map state devices.items) (map state ds) c.read_leaf.result) (sym stands)
+    (subst (λ (x : Lower). TouchesOnly (leaves_of config x) (map state devices.items) (map state c.read_leaf.new.devices) c.read_leaf.result) (sym c.in-Leaf.is) one)
+
+pub read_lower-returns-in-Device-clause-touches : goal.read_lower-returns-in-Device-clause-touches
+read_lower-returns-in-Device-clause-touches g t c = rw c.in-Device.is c.read_device.ensures.touches
+
+pub read_run-returns-in-Below-clause-touches : goal.read_run-returns-in-Below-clause-touches
+read_run-returns-in-Below-clause-touches g t c = rw c.in-Below.is c.read_lower.ensures.touches
+
+pub read_run-returns-in-Units-clause-touches : goal.read_run-returns-in-Units-clause-touches
+read_run-returns-in-Units-clause-touches g t c = rw c.in-Units.is c.read_units.ensures.touches
+
+pub read_run-returns-in-UnitPart-clause-touches : goal.read_run-returns-in-UnitPart-clause-touches
+read_run-returns-in-UnitPart-clause-touches g t c = rw c.in-UnitPart.is c.read_unit_part.ensures.touches
+
+pub read_run-returns-in-Block-clause-touches : goal.read_run-returns-in-Block-clause-touches
+read_run-returns-in-Block-clause-touches g t c = rw c.in-Block.is c.read_block.ensures.touches
+
+pub read_run-returns-in-Blocks-clause-touches : goal.read_run-returns-in-Blocks-clause-touches
+read_run-returns-in-Blocks-clause-touches g t c = rw c.in-Blocks.is c.read_blocks.ensures.touches
+
+pub read_units-returns-in-Ok-clause-touches : goal.read_units-returns-in-Ok-clause-touches
+read_units-returns-in-Ok-clause-touches g t c =
+    let unit = c.unit_at-unit in
+    touches-up (crypt-within c.args.config.now c.args.part.device.0 c.args.part.line 0 c.crypt_at-crypt.result.now unit.result.lower c.requires.stack.sound.loaded c.crypt_at-crypt.ensures unit.ensures.lower) c.in-Ok.ensures.touches
+
+pub read_units-returns-in-Err-clause-touches : goal.read_units-returns-in-Err-clause-touches
+read_units-returns-in-Err-clause-touches g t c =
+    let unit = c.unit_at-unit in
+    touches-up (crypt-within c.args.config.now c.args.part.device.0 c.args.part.line 0 c.crypt_at-crypt.result.now unit.result.lower c.requires.stack.sound.loaded c.crypt_at-crypt.ensures unit.ensures.lower) c.in-Err.ensures.touches
+
+pub read_unit_part-returns-in-Ok-clause-touches : goal.read_unit_part-returns-in-Ok-clause-touches
+read_unit_part-returns-in-Ok-clause-touches g t c =
+    let state = g.D.BlockDev.state in
+    subst (λ (b : BlockPart). TouchesOnly {A = Unit {0}} (leaves_of c.args.config.now (mapped b.device.0)) (map state c.args.reader.now.devices.items) (map state c.read_units.new.reader.devices.items) (Ok tt)) c.whole_unit-whole.ensures.whole.from c.in-Ok.ensures.touches
+
+pub read_unit_part-returns-in-Err-clause-touches : goal.read_unit_part-returns-in-Err-clause-touches
+read_unit_part-returns-in-Err-clause-touches g t c =
+    let state = g.D.BlockDev.state in
+    subst (λ (b : BlockPart). TouchesOnly {A = Unit {0}} (leaves_of c.args.config.now (mapped b.device.0)) (map state c.args.reader.now.devices.items) (map state c.read_units.new.reader.devices.items) (Err c.in-Err.fault)) c.whole_unit-whole.ensures.whole.from c.in-Err.ensures.touches
+
+pub read_block-returns-in-Err-clause-touches : goal.read_block-returns-in-Err-clause-touches
+read_block-returns-in-Err-clause-touches g t c =
+    let walked = touches-up (same-within c.args.config.now c.tree_at-tree.ensures.at) c.in-Err.ensures.touches in
+    touches-as (Err c.in-Err.fault) walked.fault walked
+
+pub read_block-returns-after-push-clause-touches : goal.read_block-returns-after-push-clause-touches
+read_block-returns-after-push-clause-touches g t c =
+    let these = leaves_of c.args.config.now (mapped c.args.part.device.0) in
+    let Names : Result Unit IoFault → Type 0 = λ r. IfErr r (NamesOneOf these) in
+    let fault : Names c.match-push.result = elim c.match-push.branch [
+      | read_block-in-Err-push w ↦ subst Names (sym w.result-is) tt
+      | read_block-in-Ok-push w ↦ subst Names (sym w.result-is) tt
+    ] in
+    touches-as c.match-push.result fault (touches-up (same-within c.args.config.now c.tree_at-tree.ensures.at) c.in-Ok.ensures.touches)
+
+pub read_checked-returns-then-eq-clause-touches : goal.read_checked-returns-then-eq-clause-touches
+read_checked-returns-then-eq-clause-touches g t c = touches-as (Ok (with_items c.in-Ok.block c.read_lower.new.out)) tt c.in-Ok-read_lower.ensures.touches
+
+pub walk-returns-in-Err-clause-touches : goal.walk-returns-in-Err-clause-touches
+walk-returns-in-Err-clause-touches g t c =
+    let read = hash-touched c.args.config.now c.args.verity.now c.args.tree.now c.requires.stack.sound.loaded c.requires.block.lies c.hash_extent-extent.result c.hash_extent-extent.ensures c.in-Err.ensures.touches in
+    touches-then c.loop-level.invariant.touches (touches-as (Err c.in-Err.first) read.fault read)
+
+pub walk-returns-in-Err-push-clause-touches : goal.walk-returns-in-Err-push-clause-touches
+walk-returns-in-Err-push-clause-touches g t c =
+    let read = hash-touched c.args.config.now c.args.verity.now c.args.tree.now c.requires.stack.sound.loaded c.requires.block.lies c.hash_extent-extent.result c.hash_extent-extent.ensures c.in-Ok.ensures.touches in
+    touches-then c.loop-level.invariant.touches (touches-as (Err NoMemory) tt read)
+
+pub walk-returns-in-Err-read_data-clause-touches : goal.walk-returns-in-Err-read_data-clause-touches
+walk-returns-in-Err-read_data-clause-touches g t c =
+    touches-then c.loop-level.invariant.touches (touches-as (Err c.in-Err-read_data.fault) c.in-Err-read_data.ensures.touches.fault c.in-Err-read_data.ensures.touches)
+
+pub walk-returns-in-Ok-read_data-clause-touches : goal.walk-returns-in-Ok-read_data-clause-touches
+walk-returns-in-Ok-read_data-clause-touches g t c =
+    touches-then c.loop-level.invariant.touches (touches-as (Ok _) tt c.in-Ok-read_data.ensures.touches)
+
+pub read_data-returns-clause-touches : goal.read_data-returns-clause-touches
+read_data-returns-clause-touches g t c =
+    touches-up (data-within c.args.config.now c.args.verity.now c.args.tree.now c.requires.stack.sound.loaded c.requires.block.lies) (extent-touched c.args.config.now c.data_extent-extent.result c.data_extent-extent.ensures c.read_checked.ensures.touches)
+
+pub path_block-returns-in-Err-clause-touches : goal.path_block-returns-in-Err-clause-touches
+path_block-returns-in-Err-clause-touches g t c =
+    let read = extent-touched c.args.config.now c.hash_extent-extent.result c.hash_extent-extent.ensures c.in-Err.ensures.touches in
+    touches-as (Err c.in-Err.fault) read.fault read
+
+pub path_block-returns-in-Err-put-clause-touches : goal.path_block-returns-in-Err-put-clause-touches
+path_block-returns-in-Err-put-clause-touches g t c =
+    touches-as (Err NoMemory) tt (extent-touched c.args.config.now c.hash_extent-extent.result c.hash_extent-extent.ensures c.in-Ok.ensures.touches)
+
+pub path_block-returns-in-Ok-put-clause-touches : goal.path_block-returns-in-Ok-put-clause-touches
+path_block-returns-in-Ok-put-clause-touches g t c =
+    touches-as (Ok tt) tt (extent-touched c.args.config.now c.hash_extent-extent.result c.hash_extent-extent.ensures c.in-Ok.ensures.touches)
+
+pub walk_path-returns-in-Err-clause-touches : goal.walk_path-returns-in-Err-clause-touches
+walk_path-returns-in-Err-clause-touches g t c =
+    touches-then c.loop-left.invariant.touches (touches-as (Err c.in-Err.first) c.in-Err.ensures.touches.fault c.in-Err.ensures.touches)
+
+pub walk_path-returns-clause-touches : goal.walk_path-returns-clause-touches
+walk_path-returns-clause-touches g t c = touches-as (Ok c.loop-left.digest) tt c.loop-left.invariant.touches
+
+pub read_blocks-returns-in-Err-clause-touches : goal.read_blocks-returns-in-Err-clause-touches
+read_blocks-returns-in-Err-clause-touches g t c =
+    let tree = c.tree_at-tree in
+    let walked = touches-up (hash-within-device c.args.config.now c.verity_at-verity.result.now tree.result c.requires.stack.sound.loaded tree.ensures.tree c.args.part.device tree.ensures.at) c.in-Err.ensures.touches in
+    touches-then c.checks.invariant.touches (touches-as (Err c.in-Err.first) walked.fault walked)
+
+pub read_blocks-returns-in-Err-read_beneath-clause-touches : goal.read_blocks-returns-in-Err-read_beneath-clause-touches
+read_blocks-returns-in-Err-read_beneath-clause-touches g t c =
+    let tree = c.tree_at-tree in
+    data-touched c.args.config.now c.verity_at-verity.result.now tree.result c.requires.stack.sound.loaded tree.ensures.tree c.args.part.device tree.ensures.at c.checks.invariant.touches c.in-Ok.ensures.touches c.in-Err-read_beneath.ensures.touches
+
+pub read_blocks-returns-then-not-settle-clause-touches : goal.read_blocks-returns-then-not-settle-clause-touches
+read_blocks-returns-then-not-settle-clause-touches g t c =
+    let tree = c.tree_at-tree in
+    touches-as (Err (Stack Mismatch)) tt (data-touched c.args.config.now c.verity_at-verity.result.now tree.result c.requires.stack.sound.loaded tree.ensures.tree c.args.part.device tree.ensures.at c.checks.invariant.touches c.in-Ok.ensures.touches c.in-Ok-read_beneath.ensures.touches)
+
+pub read_blocks-returns-in-Err-keep-clause-touches : goal.read_blocks-returns-in-Err-keep-clause-touches
+read_blocks-returns-in-Err-keep-clause-touches g t c =
+    let tree = c.tree_at-tree in
+    touches-as (Err NoMemory) tt (data-touched c.args.config.now c.verity_at-verity.result.now tree.result c.requires.stack.sound.loaded tree.ensures.tree c.args.part.device tree.ensures.at c.checks.invariant.touches c.in-Ok.ensures.touches c.in-Ok-read_beneath.ensures.touches)
+
+pub read_blocks-returns-clause-touches : goal.read_blocks-returns-clause-touches
+read_blocks-returns-clause-touches g t c = c.checks.invariant.touches

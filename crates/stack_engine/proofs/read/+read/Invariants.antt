@@ -6,6 +6,7 @@ use Rattle.stack_meaning.specs.Reading.{Reads, IsPlain}
 use Rattle.stack_lines.specs.Sources.{source_depth}
 use Rattle.stack_lines.specs.Walks.{block_in, IsWalked}
 use Rattle.stack_lines.specs.Caches.{IsCached, KeepsCache}
+use Rattle.stack_lines.specs.Touches.{TouchesOnly, leaves_of}
 use Rattle.stack_meaning.specs.Found.{FoundRecord}
 use Rattle.stack_engine.specs.Keeping.{AreHandedOut}
 use Rattle.stack_engine.proofs.NextBlockLemmas.{WereHad, AreReadAhead}
@@ -33,6 +34,7 @@ invariant-read_device-loop-at g l = record {
       (record { old = map g.D.BlockDev.state l.fn.reader.devices.items; new = map g.D.BlockDev.state l.reader.devices.items; before = l.fn.found.items; after = l.found.items }) (Ok (take l.at l.out));
   cached : KeepsCache l.config (map g.D.BlockDev.state l.reader.devices.items) l.fn.reader.cache l.reader.cache;
   plain : IsPlain (said_at l.config (mapped l.d.0)) l.first (l.at / 512) (map g.D.BlockDev.state l.fn.reader.devices.items) (map g.D.BlockDev.state l.reader.devices.items) (Ok tt);
+  touches : TouchesOnly {A = Unit {0}} (leaves_of l.config (mapped l.d.0)) (map g.D.BlockDev.state l.fn.reader.devices.items) (map g.D.BlockDev.state l.reader.devices.items) (Ok tt);
 }
 
 abbrev pub decreases-read_device-loop-at : goal.decreases-read_device-loop-at
@@ -65,6 +67,7 @@ invariant-walk-loop-level g l = record {
   walked : IsWalked (block_in l.config l.verity l.index) l.level l.expected (map (λ b. b.items) l.path.items)
       (map g.D.BlockDev.state l.fn.reader.devices.items) (map g.D.BlockDev.state l.reader.devices.items);
   cached : KeepsCache l.config (map g.D.BlockDev.state l.reader.devices.items) l.fn.reader.cache l.reader.cache;
+  touches : TouchesOnly {A = Unit {0}} (leaves_of l.config (mapped l.tree.device.0)) (map g.D.BlockDev.state l.fn.reader.devices.items) (map g.D.BlockDev.state l.reader.devices.items) (Ok tt);
 }
 
 abbrev pub decreases-walk-loop-level : goal.decreases-walk-loop-level
@@ -87,6 +90,7 @@ invariant-walk_path-loop-left g l = record {
       (map g.D.BlockDev.state l.fn.reader.devices.items) (map g.D.BlockDev.state l.reader.devices.items);
   held : All (IsCached l.config (map g.D.BlockDev.state l.reader.devices.items)) l.path.items;
   cached : KeepsCache l.config (map g.D.BlockDev.state l.reader.devices.items) l.fn.reader.cache l.reader.cache;
+  touches : TouchesOnly {A = Unit {0}} (leaves_of l.config l.tree.hash) (map g.D.BlockDev.state l.fn.reader.devices.items) (map g.D.BlockDev.state l.reader.devices.items) (Ok tt);
 }
 
 abbrev pub decreases-walk_path-loop-left : goal.decreases-walk_path-loop-left
@@ -109,6 +113,7 @@ invariant-read_blocks-checks g l = record {
       (record { old = map g.D.BlockDev.state l.fn.reader.devices.items; new = map g.D.BlockDev.state l.reader.devices.items; before = l.fn.found.items; after = after });
   ahead : AreReadAhead l.config l.verity l.fn.part l.tree.data l.at l.read l.out l.made (map g.D.BlockDev.state l.fn.reader.devices.items);
   cached : KeepsCache l.config (map g.D.BlockDev.state l.reader.devices.items) l.fn.reader.cache l.reader.cache;
+  touches : TouchesOnly {A = Unit {0}} (leaves_of l.config (mapped l.fn.part.device.0)) (map g.D.BlockDev.state l.fn.reader.devices.items) (map g.D.BlockDev.state l.reader.devices.items) (Ok tt);
 }
 
 abbrev pub decreases-read_blocks-checks : goal.decreases-read_blocks-checks

@@ -7,6 +7,7 @@ use Rattle.stack_meaning.specs.Outcomes.{zero_sector}
 use Rattle.stack_meaning.specs.Meaning.{Said, said_at}
 use Rattle.stack_meaning.specs.Leaves.{images_of, LeafFailed}
 use Rattle.stack_lines.proofs.lemmas.WriteLeafLemmas.{leaf-plain}
+use Rattle.stack_lines.proofs.lemmas.TouchLemmas.{leaf-touched, leaf-named}
 use Rattle.stack_meaning.proofs.lemmas.LeafLemmas.{leaf-size, leaves-few, AreRead-device, image_at, steady_at, LeafFailed-device}
 use Rattle.stack_engine.proofs.StackLemmas.{leaf-there}
 use Rattle.stack_meaning.proofs.lemmas.LeafListLemmas.{AreRead-more}
@@ -84,3 +85,10 @@ pub returns-in-Err-clause-plain : goal.returns-in-Err-clause-plain
 returns-in-Err-clause-plain g c =
     let n : ℕ = length c.args.out.now / 512 in
     leaf-plain g.D.BlockDev.state c.args.devices.now c.args.leaf c.args.config.now c.args.first n (omega (arith, c.requires.fits.sectors.some, c.requires.fits.sectors.whole)) c.read.new.self _ (λ e. cc)
+
+-- nor was another one touched
+pub returns-in-Ok-clause-touches : goal.returns-in-Ok-clause-touches
+returns-in-Ok-clause-touches g c = leaf-touched g.D.BlockDev.state c.args.devices.now c.args.leaf c.args.config.now c.read.new.self _ tt
+
+pub returns-in-Err-clause-touches : goal.returns-in-Err-clause-touches
+returns-in-Err-clause-touches g c = leaf-touched g.D.BlockDev.state c.args.devices.now c.args.leaf c.args.config.now c.read.new.self _ (leaf-named c.args.config.now c.args.leaf)

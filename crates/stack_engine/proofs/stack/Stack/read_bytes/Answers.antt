@@ -7,6 +7,7 @@ use Rattle.stack_engine.specs.Pieces.{stack_over}
 use Rattle.stack_engine.specs.Bytes.{AnyBytes, SteadyBytes}
 use Rattle.stack_engine.proofs.BytesLemmas.{each-bytes}
 use Rattle.stack_engine.proofs.lemmas.PieceLemmas.{piece-sound}
+use Rattle.stack_engine.proofs.TouchedLemmas.{buffer-touched}
 use Rattle.stack_engine.proofs.stack.Stack.read_bytes.Goals as goal
 
 pub invariant_of-self : goal.invariant_of-self
@@ -17,7 +18,7 @@ returns-clause-any g c =
     let n : ℕ = length c.args.out.now / 512 in
     let answer : Result (List ℕ) IoFault = buffer_answer c.device_bytes.result c.device_bytes.new.out in
     let after : StackRecord = stack_over c.self.inside.config (map g.D.BlockDev.state c.device_bytes.new.reader.devices.items) in
-    subst (λ (w : StackRecord). AnyBytes w c.args.d.0 c.args.first n answer after) c.self.view_is (each-bytes c.self.inside.config c.args.d.0 c.args.first n answer c.device_bytes.ensures.reads).any
+    subst (λ (w : StackRecord). AnyBytes w c.args.d.0 c.args.first n answer after) c.self.view_is (each-bytes c.self.inside.config c.args.d.0 c.args.first n answer c.device_bytes.ensures.reads (buffer-touched c.device_bytes.result c.device_bytes.new.out c.device_bytes.ensures.touches)).any
 
 pub returns-clause-steady : goal.returns-clause-steady
 returns-clause-steady g c =
@@ -25,4 +26,4 @@ returns-clause-steady g c =
     let answer : Result (List ℕ) IoFault = buffer_answer c.device_bytes.result c.device_bytes.new.out in
     let after : StackRecord = stack_over c.self.inside.config (map g.D.BlockDev.state c.device_bytes.new.reader.devices.items) in
     subst (λ (w : StackRecord). AllSteady w.leaves → SteadyBytes w c.args.d.0 c.args.first n answer after) c.self.view_is
-    (each-bytes c.self.inside.config c.args.d.0 c.args.first n answer c.device_bytes.ensures.reads).steady
+    (each-bytes c.self.inside.config c.args.d.0 c.args.first n answer c.device_bytes.ensures.reads (buffer-touched c.device_bytes.result c.device_bytes.new.out c.device_bytes.ensures.touches)).steady

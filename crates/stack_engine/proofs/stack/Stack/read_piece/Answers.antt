@@ -1,10 +1,13 @@
 use Rattle.std.proofs.Common.{◌≡◌, ◌/◌, ℕ, List, [], length, map, Result, Ok, sym, ap, ◌∙◌, subst, arith}
+use Rattle.std.specs.Prelude.{IfErr}
 use Rattle.std.proofs.lemmas.List.{with_items_is}
 use Rattle.stack_rules.specs.Names.{mapped}
 use Rattle.stack_meaning.specs.declared.fault.IoFault.{IoFault}
 use Rattle.stack_meaning.specs.Found.{FoundRecord}
 use Rattle.stack_meaning.specs.Reading.{Gets, Reads, buffer_answer}
-use Rattle.stack_engine.specs.Stacks.{StackRecord}
+use Rattle.stack_lines.specs.Touches.{NamesOneOf, leaves_of}
+use Rattle.stack_lines.proofs.lemmas.TouchLemmas.{touches-as}
+use Rattle.stack_engine.specs.Stacks.{StackRecord, AnswerRecord}
 use Rattle.stack_engine.specs.Pieces.{EachPiece, stack_over}
 use Rattle.stack_engine.proofs.lemmas.PieceLemmas.{piece_expected, each-piece, piece-sound, piece_ok, piece_err}
 use Rattle.stack_engine.proofs.stack.Stack.read_piece.Goals.{in-Err-read_device, in-Ok-read_device}
@@ -45,8 +48,14 @@ piece g c =
           (subst (λ (b : List ℕ). Gets wanted old new (Ok (record { bytes = b; chains = c.read_device.new.found.items }))) (sym (with_items_is c.in-Ok.bytes c.read_device.new.out held))
           (piece_ok config (mapped c.args.d.0) c.args.first c.args.n (subst Is w.in-Ok-read_device.is (reads g c))))
     ] in
+    let these = leaves_of config (mapped c.args.d.0) in
+    let Names : Result AnswerRecord IoFault → Type 0 = λ r. IfErr r (NamesOneOf these) in
+    let fault : Names c.match-read_device.result = elim c.match-read_device.branch [
+      | in-Err-read_device w ↦ subst Names (sym w.result-is) (subst (λ (r : Result Unit IoFault). IfErr r (NamesOneOf these)) w.in-Err-read_device.is c.read_device.ensures.touches.fault)
+      | in-Ok-read_device w ↦ subst Names (sym w.result-is) tt
+    ] in
     subst (λ (w : StackRecord). EachPiece w c.args.d.0 c.args.first c.args.n c.match-read_device.result (stack_over config new)) c.self.view_is
-    (each-piece config c.args.d.0 c.args.first c.args.n c.match-read_device.result got)
+    (each-piece config c.args.d.0 c.args.first c.args.n c.match-read_device.result got (touches-as c.match-read_device.result fault c.read_device.ensures.touches))
 
 pub invariant_of-self : goal.invariant_of-self
 invariant_of-self g c = record { sound = piece-sound c.self.inside.config c.self.invariant.sound (reads g c).got.moved; cached = c.read_device.ensures.cached.sound }

@@ -1,0 +1,142 @@
+-- Which leaves a read touches, from the lines down.
+use Rattle.std.proofs.Common.{◌≡◌, ◌≢◌, ℕ, ◌+◌, ◌-◌, ◌<◌, Bool, true, false, ◌||◌, ◌==◌, List, [], ◌∷◌, get_or, map, set, Some, Result, Ok, Err, refl, sym, ap, ◌∙◌, subst, arith}
+use Rattle.std.specs.Prelude.{slice_get, IfErr}
+use Rattle.std.specs.List.{AllByRecursion, list_any}
+use Rattle.std.proofs.lemmas.Bool.Decides.{nat_tests}
+use Rattle.std.proofs.lemmas.List.{get_or-set_other, map-set}
+use Rattle.block_device.specs.Device.{Device}
+use Rattle.dm_table.specs.declared.crypt.Crypt.{Crypt}
+use Rattle.dm_table.specs.declared.verity.Verity.{Verity}
+use Rattle.dm_table.specs.declared.table.Line.{Line}
+use Rattle.dm_table.specs.declared.table.Target.{Target}
+use Rattle.dm_table.specs.declared.table.Target.TheVariants.{Crypt as crypt_target}
+use Rattle.stack_rules.specs.declared.lower.Lower.{Lower}
+use Rattle.stack_rules.specs.declared.lower.Lower.TheVariants.{Leaf}
+use Rattle.stack_rules.specs.Records.{Configuration}
+use Rattle.stack_rules.specs.Names.{mapped, named, names, lines_of}
+use Rattle.stack_rules.specs.Lines.{IsLine}
+use Rattle.stack_rules.specs.Rules.{IsLoaded}
+use Rattle.stack_meaning.specs.declared.fault.IoFault.{IoFault}
+use Rattle.stack_meaning.specs.declared.fault.IoFault.TheVariants as io
+use Rattle.stack_meaning.specs.Beneath.{beneath}
+use Rattle.stack_meaning.proofs.lemmas.LoadedLemmas.{at_place, of_beneath}
+use Rattle.stack_lines.specs.declared.source.Source.{Source}
+use Rattle.stack_lines.specs.declared.source.Source.TheVariants.{Below, Units, UnitPart, Zeros, Fails, Block, Blocks}
+use Rattle.stack_lines.specs.declared.tree.Tree.{Tree}
+use Rattle.stack_lines.specs.Sources.{HasTarget, IsServed}
+use Rattle.stack_lines.specs.Standing.{stands_on, name_stands_on}
+use Rattle.stack_lines.specs.Touches.{NamesOneOf, TouchesOnly, leaves_of, source_leaves}
+use Rattle.stack_lines.specs.Walks.{IsTreeOf}
+use Rattle.stack_lines.proofs.lemmas.StandingLemmas.{stands-leaf, stands-device, name-stands}
+
+-- ---- one set of leaves, and several calls
+
+-- no leaf was asked
+pub touches-none : {A : Type 0} (these : ℕ → Bool) (leaves : List Device) (result : Result A IoFault) → IfErr result (NamesOneOf these) → TouchesOnly these leaves leaves result
+touches-none these leaves result fault = record { leaf = λ i d out. refl; fault = fault }
+
+-- a call that ended well, and the next one
+pub touches-then : {A B : Type 0} {these : ℕ → Bool} {old mid new : List Device} {x : A} {result : Result B IoFault} → TouchesOnly these old mid (Ok x) → TouchesOnly these mid new result → TouchesOnly these old new result
+touches-then p q = record { leaf = λ i d out. q.leaf i d out ∙ p.leaf i d out; fault = q.fault }
+
+-- another answer of the same call
+pub touches-as : {A B : Type 0} {these : ℕ → Bool} {old new : List Device} {result : Result A IoFault} (other : Result B IoFault) → IfErr other (NamesOneOf these) → TouchesOnly these old new result → TouchesOnly these old new other
+touches-as other fault p = record { leaf = p.leaf; fault = fault }
+
+-- ---- one set of leaves within another
+
+-- what isn't one of more isn't one of these
+abbrev pub AreWithin : (ℕ → Bool) → (ℕ → Bool) → Type 0
+AreWithin these more = (i : ℕ) → more i ≡ false → these i ≡ false
+
+named-up : (these more : ℕ → Bool) → AreWithin these more → (fault : IoFault) → NamesOneOf these fault → NamesOneOf more fault
+named-up these more up (io.Stack fault) h = tt
+named-up these more up (io.Device i) h = go (more (i - 1)) refl
+  where
+    go : (b : Bool) → more (i - 1) ≡ b → NamesOneOf more (io.Device i)
+    go true e = e
+    go false e = let clash : true ≡ false = sym h ∙ up (i - 1) e in absurd cc
+named-up these more up io.NoMemory h = tt
+
+fault-up : {A : Type 0} (these more : ℕ → Bool) → AreWithin these more → (result : Result A IoFault) → IfErr result (NamesOneOf these) → IfErr result (NamesOneOf more)
+fault-up these more up (Ok x) h = tt
+fault-up these more up (Err fault) h = named-up these more up fault h
+
+pub touches-up : {A : Type 0} {these more : ℕ → Bool} {old new : List Device} {result : Result A IoFault} → AreWithin these more → TouchesOnly these old new result → TouchesOnly more old new result
+touches-up {these = these} {more = more} {result = result} up p = record { leaf = λ i d out. p.leaf i d (up i out); fault = fault-up these more up result p.fault }
+
+-- ---- leaves
+
+other-leaf : (k i : ℕ) → (k == i) ≡ false → k ≢ i
+other-leaf k i h same = let yes : (k == i) ≡ true = grind (arith, nat_tests) in let clash : false ≡ true = sym h ∙ yes in cc
+
+-- a leaf was asked
+pub leaf-touched : {X A : Type 0} (state : X → Device) (devices : List X) (i : ℕ) (c : Configuration) (new : X) (result : Result A IoFault) → IfErr result (NamesOneOf (leaves_of c (Leaf i)))
+    → TouchesOnly (leaves_of c (Leaf i)) (map state devices) (map state (set devices i new)) result
+leaf-touched state devices i c new result fault = record {
+  leaf = λ k d out.
+      ap (λ (l : List Device). get_or l k d) (map-set state devices i new)
+      ∙ get_or-set_other (map state devices) i k (state new) d (other-leaf k i (sym (stands-leaf c k i) ∙ out));
+  fault = fault;
+}
+
+-- the leaf of that number stands on itself
+pub leaf-named : (c : Configuration) (i : ℕ) → NamesOneOf (leaves_of c (Leaf i)) (io.Device (i + 1))
+leaf-named c i =
+    let number : i ≡ i + 1 - 1 = omega arith in
+    let same : (i == i) ≡ true = grind (arith, nat_tests) in
+    subst (λ (k : ℕ). stands_on c k (Leaf i) ≡ true) number (stands-leaf c i i ∙ same)
+
+-- ---- what a line names
+
+none-of : {X : Type 0} (p : X → Bool) (xs : List X) → list_any p xs ≡ false → AllByRecursion (λ x. p x ≡ false) xs
+none-of p [] h = tt
+none-of p (x ∷ xs) h = go (p x) refl h (none-of p xs)
+  where
+    go : (b : Bool) → p x ≡ b → (b || list_any p xs) ≡ false → (list_any p xs ≡ false → AllByRecursion (λ x. p x ≡ false) xs) → (p x ≡ false) × AllByRecursion (λ x. p x ≡ false) xs
+    go true e h rest = absurd cc
+    go false e h rest = (e, rest h)
+
+module _ (c : Configuration) (loaded : IsLoaded c) (d l : ℕ) (line : Line) (at : IsLine c d l line) (i : ℕ) (out : stands_on c i (mapped d) ≡ false) where
+  names-out : AllByRecursion (λ name. name_stands_on c i name ≡ false) (names line.target)
+  names-out =
+      let any : List (List ℕ) → Bool = list_any (name_stands_on c i) in
+      none-of (name_stands_on c i) (names line.target)
+      (at_place (λ (x : Line). any (names x.target) ≡ false) (lines_of c d) l line (none-of (λ (x : Line). any (names x.target)) (lines_of c d) (sym (stands-device c loaded i d) ∙ out)) at)
+
+  -- nor does what its names mean stand there
+  name-out : (k : ℕ) (name : List ℕ) (lower : Lower) → slice_get (names line.target) k ≡ Some name → named c name ≡ Some lower → stands_on c i lower ≡ false
+  name-out k name lower there is = sym (name-stands c i name lower is) ∙ at_place (λ (n : List ℕ). name_stands_on c i n ≡ false) (names line.target) k name names-out there
+
+  under-out : (s : ℕ) (p : List ℕ × ℕ) (lower : Lower) → beneath line.target s ≡ Some p → named c p.0 ≡ Some lower → stands_on c i lower ≡ false
+  under-out s p lower under is = sym (name-stands c i p.0 lower is) ∙ of_beneath (λ (n : List ℕ). name_stands_on c i n ≡ false) line.target s p names-out under
+
+-- the device beneath a crypt line
+pub crypt-within : (c : Configuration) (d l n : ℕ) (crypt : Crypt) (lower : Lower) → IsLoaded c → HasTarget c d l (crypt_target crypt) n → named c crypt.base.device ≡ Some lower
+    → AreWithin (leaves_of c lower) (leaves_of c (mapped d))
+crypt-within c d l n crypt lower loaded has is i out =
+    name-out c loaded d l has.line has.is i out 0 crypt.base.device lower (ap (λ (t : Target). slice_get (names t) 0) has.has) is
+
+-- those beneath a verity line
+module _ (c : Configuration) (v : Verity) (tree : Tree) (loaded : IsLoaded c) (is : IsTreeOf c v tree) where
+  pub data-within : AreWithin (leaves_of c tree.data) (leaves_of c (mapped tree.device.0))
+  data-within i out = name-out c loaded tree.device.0 tree.line is.is.line is.is.is i out 0 v.data tree.data (ap (λ (t : Target). slice_get (names t) 0) is.is.has) is.on_data
+
+  pub hash-within : AreWithin (leaves_of c tree.hash) (leaves_of c (mapped tree.device.0))
+  hash-within i out = name-out c loaded tree.device.0 tree.line is.is.line is.is.is i out 1 v.hash tree.hash (ap (λ (t : Target). slice_get (names t) 1) is.is.has) is.on_hash
+
+-- where the sectors of a device come from
+pub served-within : (c : Configuration) (d s n : ℕ) (source : Source) → IsLoaded c → 0 < n → IsServed c d s n source → AreWithin (source_leaves c source) (leaves_of c (mapped d))
+served-within c d s n (Below lower first) loaded some r i out =
+    let on = r.come.1 in under-out c loaded d r.number r.line r.is i out (s - r.line.start + 0) (on.name, first + 0) lower (on.under 0 some) on.is
+served-within c d s n (Units b) loaded some r i out = ap (λ (k : ℕ). stands_on c i (mapped k)) r.come.0.0 ∙ out
+served-within c d s n (UnitPart b) loaded some r i out = ap (λ (k : ℕ). stands_on c i (mapped k)) r.come.0.0 ∙ out
+served-within c d s n Zeros loaded some r i out = refl
+served-within c d s n Fails loaded some r i out = refl
+served-within c d s n (Block b) loaded some r i out = ap (λ (k : ℕ). stands_on c i (mapped k)) r.come.0.0 ∙ out
+served-within c d s n (Blocks b) loaded some r i out = ap (λ (k : ℕ). stands_on c i (mapped k)) r.come.0.0 ∙ out
+
+-- the runs of a device before one, and that one
+pub device-touched : {A B : Type 0} (c : Configuration) (d s n : ℕ) (source : Source) {old mid new : List Device} {x : A} {result : Result B IoFault} → IsLoaded c → 0 < n → IsServed c d s n source
+    → TouchesOnly (leaves_of c (mapped d)) old mid (Ok x) → TouchesOnly (source_leaves c source) mid new result → TouchesOnly (leaves_of c (mapped d)) old new result
+device-touched c d s n source {x = x} loaded some r p q = touches-then {x = x} p (touches-up (served-within c d s n source loaded some r) q)
