@@ -11,6 +11,8 @@ mod devices;
 #[cfg(test)]
 mod digests;
 #[cfg(test)]
+mod runs;
+#[cfg(test)]
 mod stacks;
 #[cfg(test)]
 mod syncs;
