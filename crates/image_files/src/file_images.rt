@@ -1,6 +1,6 @@
 //! Images in files.
 use crate::images::{FileText, Images, OpenImage};
-use block_device::{FileDev, FileId, OpenFault};
+use block_device::{AnyDev, FileDev, FileId, MemoryDev, OpenFault};
 use std::fs;
 use std::fs::File;
 use std::io::{ErrorKind, Read};
@@ -21,14 +21,17 @@ impl<'a, R> FileImages<'a, R> {
 impl<R: Files<File = File> + AllocGlobal> Images for FileImages<'_, R> {
     ghost use Rattle.image_files.specs.FileRelations.{file_relations};
 
-    type Dev = FileDev;
+    type Dev = AnyDev;
 
     ghost relations = { file_relations };
 
-    fn open(&mut self, path: &str, writable: bool) -> Result<OpenImage<FileDev>, OpenFault> {
-        let device = FileDev::open(self.rt, path, writable)?;
-        let id = device.id();
-        Ok(OpenImage { device, id })
+    fn open(&mut self, path: &str, writable: bool) -> Result<OpenImage<AnyDev>, OpenFault> {
+        let file = FileDev::open(self.rt, path, writable)?;
+        let id = file.id();
+        Ok(OpenImage {
+            device: AnyDev::File(file),
+            id,
+        })
     }
 
     // A file of any kind that can be read.
@@ -50,7 +53,11 @@ impl<R: Files<File = File> + AllocGlobal> Images for FileImages<'_, R> {
     }
 
     // Its file holds all that there is.
-    fn close(&mut self, _path: &str, device: FileDev) {
+    fn close(&mut self, _path: &str, device: AnyDev) {
         drop(device);
+    }
+
+    fn of_memory(memory: MemoryDev) -> AnyDev {
+        AnyDev::Memory(memory)
     }
 }

@@ -1,8 +1,8 @@
 //! What commands open: images and texts under paths.
-ghost use Rattle.std.specs.Prelude.{◌≤◌, length, IfOk};
+ghost use Rattle.std.specs.Prelude.{◌≡◌, ◌≤◌, length, IfOk};
 ghost use Rattle.image_files.specs.Opener.{IsFresh, Opener};
 
-use block_device::{FileId, OpenFault, SyncDev};
+use block_device::{BlockDev, FileId, MemoryDev, OpenFault, SyncDev};
 
 /// An image that was opened, and which file it is, where that is known.
 #[derive(Drop)]
@@ -41,4 +41,8 @@ pub trait Images {
     /// Takes an image back: what the device holds is what stands under this path from then on.
     fn close(&mut self, path: &str, device: Self::Dev)
         ensures { relations.takes self.old path.now device self.new };
+
+    /// A device in memory as one of these, which is under no path.
+    fn of_memory(memory: MemoryDev) -> Self::Dev
+        ensures { Self.Dev.state result ≡ ⟦<MemoryDev as BlockDev>⟧.state memory };
 }

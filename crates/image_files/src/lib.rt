@@ -8,7 +8,7 @@ mod one_file;
 mod opening;
 
 pub use file_images::FileImages;
-pub use file_use::{FileUse, has_clash, is_clash, output_use};
+pub use file_use::{FileUse, has_clash, is_clash};
 pub use images::{FileText, Images, OpenImage};
 pub use one_file::is_one_file;
-pub use opening::{UnopenedFile, open_file, open_image};
+pub use opening::{UnopenedFile, open_apart, open_image, read_text};

@@ -1,12 +1,12 @@
-//! Opens the images that a command line names.
-ghost use Rattle.std.specs.Prelude.{◌≡◌, IfOk, IfErr};
-ghost use Rattle.image_files.specs.Opened.{IsOpened, Opens, Refuses};
+//! Opens the images and texts that a command line names.
+ghost use Rattle.std.specs.Prelude.{◌≤◌, length, IfOk, IfErr};
+ghost use Rattle.image_files.specs.Apart.{OpensApart, RefusesApart};
+ghost use Rattle.image_files.specs.Opened.{Opens, Refuses, RefusesText, Tells};
 ghost use Rattle.image_files.specs.Opener.{IsFresh, calls};
 
-use crate::images::{Images, OpenImage};
-use block_device::{BlockDev, FileDev, OpenFault};
-use std::fs::File;
-use std::rt::Files;
+use crate::file_use::{FileUse, has_clash};
+use crate::images::{FileText, Images, OpenImage};
+use block_device::{BlockDev, OpenFault};
 
 /// A file that isn't opened, or can't be read: why, and its path.
 #[derive(Clone, Copy, Debug, PartialEq, Eq)]
@@ -31,17 +31,39 @@ pub fn open_image<'a, I: Images>(
     }
 }
 
-/// The file as a device.
-pub fn open_file<'a, R: Files<File = File>>(
-    rt: &R,
+/// The image under a path, beside files that are open already. It is `SameFile` where it is one of these, and one of the
+/// two may be written.
+pub fn open_apart<'a, I: Images>(
+    images: &mut I,
+    files: &[FileUse],
     path: &'a str,
     writable: bool,
-) -> Result<FileDev, UnopenedFile<'a>>
-    ensures ok { IfOk result (λ f. IsOpened (⟦<FileDev as BlockDev>⟧.state f) writable) }
-    ensures err { IfErr result (λ file. file.path.now ≡ path.now) }
+) -> Result<OpenImage<I::Dev>, UnopenedFile<'a>>
+    ensures ok { IfOk result (OpensApart (calls I.relations I.Dev.state images.old images.new) files.now path.now writable) }
+    ensures fresh { IfOk result (λ image. IsFresh (I.Dev.state image.device) writable) }
+    ensures err { IfErr result (RefusesApart (calls I.relations I.Dev.state images.old images.new) files.now path.now writable) }
 {
-    match FileDev::open(rt, path, writable) {
-        Ok(file) => Ok(file),
+    let image = open_image(images, path, writable)?;
+    let id = image.id;
+    if has_clash(files, FileUse { id, writable }) {
+        let fault = OpenFault::SameFile;
+        return Err(UnopenedFile { fault, path });
+    }
+    Ok(image)
+}
+
+/// At most so many first bytes of the file under a path.
+pub fn read_text<'a, I: Images>(
+    images: &mut I,
+    path: &'a str,
+    most: usize,
+) -> Result<FileText, UnopenedFile<'a>>
+    ensures ok { IfOk result (Tells (calls I.relations I.Dev.state images.old images.new) path.now most) }
+    ensures most { IfOk result (λ text. length text.bytes.items ≤ most) }
+    ensures err { IfErr result (RefusesText (calls I.relations I.Dev.state images.old images.new) path.now most) }
+{
+    match images.read_text(path, most) {
+        Ok(text) => Ok(text),
         Err(fault) => Err(UnopenedFile { fault, path }),
     }
 }

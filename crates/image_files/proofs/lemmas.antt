@@ -1,2 +1,0 @@
--- What callers may cite.
-pub mod FileUseLemmas

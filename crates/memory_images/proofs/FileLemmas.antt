@@ -1,0 +1,97 @@
+-- Images in memory as files.
+use Rattle.std.proofs.Common.{◌≡◌, ◌<◌, ◌/◌, ◌==◌, ◌&&◌, ℕ, Bool, true, false, List, length, take, Option, Some, None, Result, Ok, Err, Vec, refl, sym, ap, subst, ◌∙◌}
+use Rattle.std.specs.Prelude.{IsSome, slice_get}
+use Rattle.std.specs.Option.{option_map}
+use Rattle.std.proofs.lemmas.Bool.{eq-eqb, false≢true}
+use Rattle.std.proofs.lemmas.Option.{none-some, same_Some, slice_get_within}
+use Rattle.block_device.specs.declared.memory.MemoryDev.{MemoryDev}
+use Rattle.block_device.specs.declared.open_fault.OpenFault.{OpenFault}
+use Rattle.block_device.specs.contracts.memory.MemoryDevBlockDev.TheImpl.{ghosts}
+use Rattle.block_device.specs.Device.{Device, sectors_of}
+use Rattle.block_device.specs.Memory.{memory_bytes}
+use Rattle.image_files.specs.declared.images.FileText.{FileText}
+use Rattle.image_files.specs.declared.images.OpenImage.{OpenImage}
+use Rattle.image_files.specs.Promises.{AreApart, FileRecord, HoldsSectors}
+use Rattle.memory_images.specs.declared.named_images.MemoryImages.{MemoryImages}
+use Rattle.memory_images.specs.Files.{file_at, file_at_place, file_under}
+use Rattle.memory_images.specs.MemoryRelations.{IsCopy, IsText, PutsAt, id_at}
+use Rattle.memory_images.specs.Named.{IsPut, Stands, bytes_at, place_of}
+
+-- what stands at a place as a file
+abbrev pub file-of : ℕ → List ℕ → FileRecord
+file-of place bytes = record { id = id_at place; bytes = bytes }
+
+under : (m : MemoryImages) (path : List ℕ) (place : ℕ) (bytes : List ℕ) → Stands m.names.items m.images.items path place bytes
+    → file_under m path ≡ Some (file-of place bytes)
+under m path place bytes s =
+    ap (file_at_place m.images.items) s.placed ∙ ap (option_map (λ (b : List ℕ). file-of place b)) s.found
+
+pub copy-opened : (m : MemoryImages) (path : List ℕ) (writable : Bool) (image : OpenImage MemoryDev) → IsCopy m path writable image
+    → (file : FileRecord) × (file_under m path ≡ Some file) × (image.id ≡ file.id) × HoldsSectors (ghosts.state image.device) file
+copy-opened m path writable image c = (file-of c.place c.bytes, under m path c.place c.bytes c.stands, c.id, ap (λ (d : Device). d.image) c.is)
+
+pub text-told : (m : MemoryImages) (path : List ℕ) (most : ℕ) (text : FileText) → IsText m path most text
+    → (file : FileRecord) × (file_under m path ≡ Some file) × (text.id ≡ file.id) × (text.bytes.items ≡ take most file.bytes)
+text-told m path most text t = (file-of t.place t.bytes, under m path t.place t.bytes t.stands, t.id, t.is)
+
+-- it stands at a place
+pub record IsAt (m : MemoryImages) (path : List ℕ) (file : FileRecord) : Type 0 where
+  pub place : ℕ
+  pub bytes : List ℕ
+  pub placed : place_of m.names.items path ≡ Some place
+  pub found : bytes_at m.images.items place ≡ Some bytes
+  pub is : file ≡ file-of place bytes
+
+some-bytes : (place : ℕ) (o : Option (List ℕ)) (file : FileRecord) → option_map (λ (b : List ℕ). file-of place b) o ≡ Some file
+    → (bytes : List ℕ) × (o ≡ Some bytes) × (file ≡ file-of place bytes)
+some-bytes place (Some bytes) file is = (bytes, refl, sym (same_Some (file-of place bytes) file is))
+some-bytes place None file is = absurd (none-some file is)
+
+is-at : (m : MemoryImages) (path : List ℕ) (file : FileRecord) → file_under m path ≡ Some file → IsAt m path file
+is-at m path file = go (place_of m.names.items path) refl
+  where
+    go : (o : Option ℕ) → place_of m.names.items path ≡ o → file_at_place m.images.items o ≡ Some file → IsAt m path file
+    go None placed is = absurd (none-some file is)
+    go (Some place) placed is =
+        let found = some-bytes place (bytes_at m.images.items place) file is in
+        record { place = place; bytes = found.0; placed = placed; found = found.1; is = found.2 }
+
+within : {Z : Type 0} (images : List (Vec ℕ Z)) (place : ℕ) (bytes : List ℕ) → bytes_at images place ≡ Some bytes → place < length images
+within {Z} images place bytes = go (slice_get images place) refl
+  where
+    go : (o : Option (Vec ℕ Z)) → slice_get images place ≡ o → option_map (λ (v : Vec ℕ Z). v.items) o ≡ Some bytes → place < length images
+    go None at is = absurd (none-some bytes is)
+    go (Some image) at is = slice_get_within images place image at
+
+put-at : (old new : MemoryImages) (path : List ℕ) (device : MemoryDev) (place : ℕ) → place_of old.names.items path ≡ Some place → PutsAt (place_of old.names.items path) (memory_bytes device) old new
+    → PutsAt (Some place) (memory_bytes device) old new
+put-at old new path device place placed = subst (λ (o : Option ℕ). PutsAt o (memory_bytes device) old new) placed
+
+-- names stay, and so do the places that they have
+placed-still : (old new : MemoryImages) (path : List ℕ) (place : ℕ) → new.names ≡ old.names → place_of old.names.items path ≡ Some place → place_of new.names.items path ≡ Some place
+placed-still old new path place same placed = subst (λ names. place_of names.items path ≡ Some place) (sym same) placed
+
+pub image-taken : (old new : MemoryImages) (path : List ℕ) (device : MemoryDev) (file : FileRecord) → PutsAt (place_of old.names.items path) (memory_bytes device) old new
+    → file_under old path ≡ Some file → (file' : FileRecord) × (file_under new path ≡ Some file') × (file'.id ≡ file.id) × HoldsSectors (ghosts.state device) file'
+image-taken old new path device file taken is =
+    let at = is-at old path file is in
+    let put = put-at old new path device at.place at.placed taken in (
+      file-of at.place (memory_bytes device),
+      under new path at.place (memory_bytes device) (record { placed = placed-still old new path at.place put.0 at.placed; found = put.1.here (within old.images.items at.place at.bytes at.found) }),
+      sym (ap (λ (f : FileRecord). f.id) at.is),
+      refl,
+    )
+
+apart-places : (place place' : ℕ) (bytes bytes' : List ℕ) → AreApart (file-of place bytes) (file-of place' bytes') → place' ≡ place → ⊥
+apart-places place place' bytes bytes' apart same = false≢true (sym apart.2 ∙ eq-eqb place place' (sym same))
+
+pub others-kept : (old new : MemoryImages) (path other : List ℕ) (device : MemoryDev) (file another : FileRecord) → PutsAt (place_of old.names.items path) (memory_bytes device) old new
+    → file_under old path ≡ Some file → file_under old other ≡ Some another → AreApart file another → file_under new other ≡ Some another
+others-kept old new path other device file another taken is is' apart =
+    let at = is-at old path file is in
+    let at' = is-at old other another is' in
+    let put = put-at old new path device at.place at.placed taken in
+    let apart' : AreApart (file-of at.place at.bytes) (file-of at'.place at'.bytes) =
+    subst (λ (f : FileRecord). AreApart f (file-of at'.place at'.bytes)) at.is (subst (λ (f : FileRecord). AreApart file f) at'.is apart) in
+    let kept = put.1.others at'.place (apart-places at.place at'.place at.bytes at'.bytes apart') in
+    under new other at'.place at'.bytes (record { placed = placed-still old new other at'.place put.0 at'.placed; found = kept ∙ at'.found }) ∙ ap (λ (f : FileRecord). Some f) (sym at'.is)

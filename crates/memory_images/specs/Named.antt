@@ -1,0 +1,34 @@
+-- Images in memory, under names.
+use Rattle.std.specs.Prelude.{◌≡◌, ◌<◌, ℕ, List, length, Option, Some, Vec, String, string_bytes, nat_eq, position, slice_get}
+use Rattle.std.specs.Cmp.Lexicographic.{pointwise}
+use Rattle.std.specs.Option.{option_map}
+use Rattle.block_device.specs.declared.open_fault.OpenFault.{OpenFault}
+use Rattle.block_device.specs.declared.open_fault.OpenFault.TheVariants.{NotFound, NoMemory}
+
+-- the first place with that name
+abbrev pub place_of : {Z : Type 0} → List (String Z) → List ℕ → Option ℕ
+place_of names path = position (λ name. pointwise nat_eq (string_bytes name) path) names
+
+-- the bytes at a place
+abbrev pub bytes_at : {Z : Type 0} → List (Vec ℕ Z) → ℕ → Option (List ℕ)
+bytes_at images place = option_map (λ bytes. bytes.items) (slice_get images place)
+
+-- these bytes stand at this place, which is the first with that name
+pub record Stands {Z : Type 0} (names : List (String Z)) (images : List (Vec ℕ Z)) (path : List ℕ) (place : ℕ) (bytes : List ℕ) : Type 0 where
+  pub placed : place_of names path ≡ Some place
+  pub found : bytes_at images place ≡ Some bytes
+
+-- nothing stands under a path
+abbrev pub IsMissing : {Z : Type 0} → List (String Z) → List (Vec ℕ Z) → List ℕ → Type 0
+IsMissing names images path = (place : ℕ) (bytes : List ℕ) → Stands names images path place bytes → ⊥
+
+-- why there is no copy of what stands under a path
+abbrev pub IsUncopied : {Z : Type 0} → List (String Z) → List (Vec ℕ Z) → List ℕ → OpenFault → Type 0
+IsUncopied names images path NotFound = IsMissing names images path
+IsUncopied names images path NoMemory = Unit {0}
+IsUncopied names images path fault = ⊥
+
+-- bytes were put in at a place
+pub record IsPut {Z : Type 0} (old : List (Vec ℕ Z)) (place : ℕ) (bytes : List ℕ) (new : List (Vec ℕ Z)) : Type 0 where
+  pub here : place < length old → bytes_at new place ≡ Some bytes
+  pub others : (k : ℕ) → (k ≡ place → ⊥) → bytes_at new k ≡ bytes_at old k

@@ -1,0 +1,62 @@
+-- The leaves and devices to which names are bound.
+use Rattle.std.specs.Prelude.{◌≡◌, ℕ, Bool, true, List, [], ◌∷◌, ◌++◌, map}
+use Rattle.block_device.specs.Device.{Device, in_memory, zeros_image, ramp_image}
+use Rattle.command_line.specs.Bindings.{BackingRecord, BindingRecord, file, ramp, zeros}
+use Rattle.image_files.specs.Apart.{OpensApart}
+use Rattle.image_files.specs.declared.file_use.FileUse.{FileUse}
+use Rattle.image_files.specs.declared.images.OpenImage.{OpenImage}
+use Rattle.image_files.specs.FileUses.{image_use}
+use Rattle.image_files.specs.Opener.{Calls}
+use Rattle.stack_rules.specs.Records.{LeafRecord}
+use Rattle.stack_meaning.specs.Leaves.{ServeLeaves}
+
+-- an image was opened under its path, clashes with none of the files that are open, and is one of them from then on
+pub record OpensFile {S D : Type 0} (w : Calls S D) (files : List FileUse) (path : List ℕ) (writable : Bool) (device : D) (files' : List FileUse) : Type 0 where
+  pub image : OpenImage D
+  pub opened : OpensApart w files path writable image
+  pub is : device ≡ image.device
+  pub more : files' ≡ files ++ image_use writable image ∷ []
+
+-- a device in memory was made, of that image
+pub record MakesMemory {S D : Type 0} (w : Calls S D) (image : List (List ℕ)) (device : D) : Type 0 where
+  pub is : w.state device ≡ in_memory image true
+  pub same : w.new ≡ w.old
+
+-- the device is the one that stands behind the name
+abbrev pub OpensBacking : {S D : Type 0} → Calls S D → List FileUse → BackingRecord → D → List FileUse → Type 0
+OpensBacking w files (file path writable) device files' = OpensFile w files path writable device files'
+OpensBacking w files (zeros n) device files' = MakesMemory w (zeros_image n) device × (files' ≡ files)
+OpensBacking w files (ramp n) device files' = MakesMemory w (ramp_image n) device × (files' ≡ files)
+
+-- the devices are those that stand behind the names, opened in their order
+abbrev pub OpensEach : {S D : Type 0} → Calls S D → List FileUse → List BackingRecord → List D → List FileUse → Type 0
+OpensEach w files [] [] files' = (w.new ≡ w.old) × (files' ≡ files)
+OpensEach w files [] (device ∷ devices) files' = ⊥
+OpensEach w files (backing ∷ backings) [] files' = ⊥
+OpensEach {S} w files (backing ∷ backings) (device ∷ devices) files' =
+    (between : S) × (more : List FileUse) × OpensBacking (record w { new = between }) files backing device more
+    × OpensEach (record w { old = between }) more backings devices files'
+
+abbrev pub backings_of : List BindingRecord → List BackingRecord
+backings_of bindings = map (λ binding. binding.backing) bindings
+
+-- Beside these files the images of the bindings were opened. The leaves have the names of the bindings, and are the devices
+-- behind these.
+pub record AreBound {S D : Type 0} (w : Calls S D) (files : List FileUse) (bindings : List BindingRecord) (leaves : List LeafRecord) (devices : List D) : Type 0 where
+  pub names : map (λ leaf. leaf.name) leaves ≡ map (λ binding. binding.name) bindings
+  pub files' : List FileUse
+  pub opened : OpensEach w files (backings_of bindings) devices files'
+  pub served : ServeLeaves leaves (map w.state devices)
+
+-- the image behind a name is given back under its path
+abbrev pub ClosesBacking : {S D : Type 0} → Calls S D → BackingRecord → D → Type 0
+ClosesBacking w (file path writable) device = w.relations.takes w.old path device w.new
+ClosesBacking w (zeros n) device = w.new ≡ w.old
+ClosesBacking w (ramp n) device = w.new ≡ w.old
+
+-- each of them, from the last name to the first
+abbrev pub ClosesEach : {S D : Type 0} → Calls S D → List BackingRecord → List D → Type 0
+ClosesEach w [] devices = w.new ≡ w.old
+ClosesEach w (backing ∷ backings) [] = w.new ≡ w.old
+ClosesEach {S} w (backing ∷ backings) (device ∷ devices) =
+    (between : S) × ClosesEach (record w { new = between }) backings devices × ClosesBacking (record w { old = between }) backing device

@@ -1,0 +1,101 @@
+-- What a command on a stack file opens, in this order: the stack text, what stands beside it, and the bindings.
+use Rattle.std.specs.Prelude.{◌⊎◌, ℕ, true, List, [], ◌∷◌, map}
+use Rattle.command_line.specs.Bindings.{BindingRecord, binding_record}
+use Rattle.image_files.specs.Apart.{OpensApart, RefusesApart}
+use Rattle.image_files.specs.declared.images.FileText.{FileText}
+use Rattle.image_files.specs.declared.images.OpenImage.{OpenImage}
+use Rattle.image_files.specs.FileUses.{image_use, text_use}
+use Rattle.image_files.specs.Opened.{RefusesText, Tells}
+use Rattle.image_files.specs.Opener.{Calls}
+use Rattle.stack_opening.specs.declared.fault.OpeningFault.{OpeningFault}
+use Rattle.stack_opening.specs.declared.stack_file.OpenStack.{OpenStack}
+use Rattle.stack_opening.specs.declared.stack_file.StackFile.{StackFile}
+use Rattle.stack_opening.specs.Bindings.{AreBound}
+use Rattle.stack_opening.specs.Openings.{IsBindingEnd, IsTextEnd, IsUnopened, TellsStack, most_source}
+
+-- the path of a stack file, and bindings
+pub record StackWords : Type 0 where
+  pub stack : List ℕ
+  pub bindings : List BindingRecord
+
+abbrev pub stack_words : StackFile → StackWords
+stack_words file = record { stack = file.path.now; bindings = map binding_record file.bindings.now }
+
+-- STACK's text was told, and then the images of the bindings opened beside it
+pub record OpensStack {S D : Type 0} (w : Calls S D) (words : StackWords) (over : OpenStack D) : Type 0 where
+  pub between : S
+  pub told : TellsStack (record w { new = between }) words.stack over.text
+  pub bound : AreBound (record w { old = between }) (text_use over.text ∷ []) words.bindings over.leaves.items over.devices.items
+
+-- its text was told, and then the bindings weren't all opened
+pub record FailsToBind {S D : Type 0} (w : Calls S D) (words : StackWords) (fault : OpeningFault) : Type 0 where
+  pub text : FileText
+  pub between : S
+  pub told : TellsStack (record w { new = between }) words.stack text
+  pub fails : IsBindingEnd (record w { old = between }) (text_use text ∷ []) words.bindings fault
+
+-- one of them isn't opened, the first that the opener refuses
+abbrev pub FailsToOpen : {S D : Type 0} → Calls S D → StackWords → OpeningFault → Type 0
+FailsToOpen w words fault = IsTextEnd w words.stack fault ⊎ FailsToBind w words fault
+
+-- STACK's text and then SOURCE's were told
+pub record TellsBoth {S D : Type 0} (w : Calls S D) (stack source : List ℕ) (text source_text : FileText) : Type 0 where
+  pub between : S
+  pub told : TellsStack (record w { new = between }) stack text
+  pub source_told : Tells (record w { old = between }) source most_source source_text
+
+-- and then the images of the bindings opened beside both
+pub record OpensSource {S D : Type 0} (w : Calls S D) (words : StackWords) (source : List ℕ) (over : OpenStack D) (source_text : FileText) : Type 0 where
+  pub between : S
+  pub told : TellsBoth (record w { new = between }) words.stack source over.text source_text
+  pub bound : AreBound (record w { old = between }) (text_use over.text ∷ text_use source_text ∷ []) words.bindings over.leaves.items over.devices.items
+
+-- STACK's text was told, and SOURCE's wasn't
+pub record FailsAtSource {S D : Type 0} (w : Calls S D) (stack source : List ℕ) (fault : OpeningFault) : Type 0 where
+  pub text : FileText
+  pub between : S
+  pub told : TellsStack (record w { new = between }) stack text
+  pub fails : IsUnopened (RefusesText (record w { old = between }) source most_source) fault
+
+-- both were told, and then the bindings weren't all opened
+pub record FailsBehindSource {S D : Type 0} (w : Calls S D) (words : StackWords) (source : List ℕ) (fault : OpeningFault) : Type 0 where
+  pub text : FileText
+  pub source_text : FileText
+  pub between : S
+  pub told : TellsBoth (record w { new = between }) words.stack source text source_text
+  pub fails : IsBindingEnd (record w { old = between }) (text_use text ∷ text_use source_text ∷ []) words.bindings fault
+
+abbrev pub FailsToOpenSource : {S D : Type 0} → Calls S D → StackWords → List ℕ → OpeningFault → Type 0
+FailsToOpenSource w words source fault =
+    IsTextEnd w words.stack fault ⊎ (FailsAtSource w words.stack source fault ⊎ FailsBehindSource w words source fault)
+
+-- STACK's text was told, and then OUT opened for writing, which is another file
+pub record TellsAndOpens {S D : Type 0} (w : Calls S D) (stack out : List ℕ) (text : FileText) (image : OpenImage D) : Type 0 where
+  pub between : S
+  pub told : TellsStack (record w { new = between }) stack text
+  pub opened : OpensApart (record w { old = between }) (text_use text ∷ []) out true image
+
+-- and then the images of the bindings opened beside both
+pub record OpensOutput {S D : Type 0} (w : Calls S D) (words : StackWords) (out : List ℕ) (over : OpenStack D) (image : OpenImage D) : Type 0 where
+  pub between : S
+  pub told : TellsAndOpens (record w { new = between }) words.stack out over.text image
+  pub bound : AreBound (record w { old = between }) (text_use over.text ∷ image_use true image ∷ []) words.bindings over.leaves.items over.devices.items
+
+-- STACK's text was told, and OUT isn't opened
+pub record FailsAtOutput {S D : Type 0} (w : Calls S D) (stack out : List ℕ) (fault : OpeningFault) : Type 0 where
+  pub text : FileText
+  pub between : S
+  pub told : TellsStack (record w { new = between }) stack text
+  pub fails : IsUnopened (RefusesApart (record w { old = between }) (text_use text ∷ []) out true) fault
+
+-- OUT is open, and then the bindings weren't all opened
+pub record FailsBehindOutput {S D : Type 0} (w : Calls S D) (words : StackWords) (out : List ℕ) (fault : OpeningFault) : Type 0 where
+  pub text : FileText
+  pub image : OpenImage D
+  pub between : S
+  pub told : TellsAndOpens (record w { new = between }) words.stack out text image
+  pub fails : IsBindingEnd (record w { old = between }) (text_use text ∷ image_use true image ∷ []) words.bindings fault
+
+abbrev pub FailsToOpenOutput : {S D : Type 0} → Calls S D → StackWords → List ℕ → OpeningFault → Type 0
+FailsToOpenOutput w words out fault =
+    IsTextEnd w words.stack fault ⊎ (FailsAtOutput w words.stack out fault ⊎ FailsBehindOutput w words out fault)

@@ -1,0 +1,75 @@
+-- How a command ends where what it names isn't opened or read.
+use Rattle.std.specs.Prelude.{◌≡◌, ◌⊎◌, ℕ, ◌+◌, ◌*◌, ◌^◌, ◌<◌, ◌≤◌, Bool, List, [], ◌∷◌, ◌++◌, length}
+use Rattle.command_line.specs.Bindings.{BackingRecord, BindingRecord, file, ramp, zeros}
+use Rattle.image_files.specs.Apart.{RefusesApart}
+use Rattle.image_files.specs.declared.file_use.FileUse.{FileUse}
+use Rattle.image_files.specs.declared.images.FileText.{FileText}
+use Rattle.image_files.specs.declared.opening.UnopenedFile.{UnopenedFile}
+use Rattle.image_files.specs.Opened.{RefusesText, Tells}
+use Rattle.image_files.specs.Opener.{Calls}
+use Rattle.stack_opening.specs.declared.fault.OpeningFault.{OpeningFault}
+use Rattle.stack_opening.specs.declared.fault.OpeningFault.TheVariants.{NoMemory, Open, TooLong}
+use Rattle.stack_opening.specs.Bindings.{OpensBacking, OpensEach, backings_of}
+
+-- a file isn't opened or told, as is said of it
+abbrev pub IsUnopened : (UnopenedFile → Type 0) → OpeningFault → Type 0
+IsUnopened Refused (Open unopened) = Refused unopened
+IsUnopened Refused fault = ⊥
+
+-- the text under STACK's path was told, of at most 1 MiB
+pub record TellsStack {S D : Type 0} (w : Calls S D) (path : List ℕ) (text : FileText) : Type 0 where
+  pub told : Tells w path (2 ^ 20 + 1) text
+  pub short : length text.bytes.items ≤ 2 ^ 20
+
+-- it has more
+pub record TellsLongText {S D : Type 0} (w : Calls S D) (path : List ℕ) : Type 0 where
+  pub text : FileText
+  pub told : Tells w path (2 ^ 20 + 1) text
+  pub long : 2 ^ 20 < length text.bytes.items
+
+-- or it wasn't told
+abbrev pub IsTextEnd : {S D : Type 0} → Calls S D → List ℕ → OpeningFault → Type 0
+IsTextEnd w path TooLong = TellsLongText w path
+IsTextEnd w path fault = IsUnopened (RefusesText w path (2 ^ 20 + 1)) fault
+
+-- one sector more than a write may have, in bytes
+abbrev pub most_source : ℕ
+most_source = 2049 * 512
+
+-- nothing was opened or made
+abbrev pub IsIdle : {S D : Type 0} → Calls S D → Type 0
+IsIdle w = w.new ≡ w.old
+
+-- what stands behind a name isn't opened, or memory ran out before or behind it
+abbrev pub IsBackingEnd : {S D : Type 0} → Calls S D → List FileUse → BackingRecord → OpeningFault → Type 0
+IsBackingEnd {S} {D} w files backing NoMemory = IsIdle w ⊎ ((device : D) × (files' : List FileUse) × OpensBacking w files backing device files')
+IsBackingEnd w files (file path writable) (Open unopened) = RefusesApart w files path writable unopened
+IsBackingEnd w files backing fault = ⊥
+
+-- the first of them were opened, and the image behind them wasn't
+pub record RefusesBinding {S D : Type 0} (w : Calls S D) (files : List FileUse) (backings : List BackingRecord) (unopened : UnopenedFile) : Type 0 where
+  pub first : List BackingRecord
+  pub path : List ℕ
+  pub writable : Bool
+  pub more : List BackingRecord
+  pub devices : List D
+  pub files' : List FileUse
+  pub between : S
+  pub are : backings ≡ first ++ file path writable ∷ more
+  pub opened : OpensEach (record w { new = between }) files first devices files'
+  pub refused : RefusesApart (record w { old = between }) files' path writable unopened
+
+-- the first of them were opened, and then memory ran out
+pub record RunsOut {S D : Type 0} (w : Calls S D) (files : List FileUse) (backings : List BackingRecord) : Type 0 where
+  pub first : List BackingRecord
+  pub more : List BackingRecord
+  pub devices : List D
+  pub files' : List FileUse
+  pub are : backings ≡ first ++ more
+  pub opened : OpensEach w files first devices files'
+
+-- the images of some bindings aren't all opened
+abbrev pub IsBindingEnd : {S D : Type 0} → Calls S D → List FileUse → List BindingRecord → OpeningFault → Type 0
+IsBindingEnd w files bindings (Open unopened) = RefusesBinding w files (backings_of bindings) unopened
+IsBindingEnd w files bindings NoMemory = RunsOut w files (backings_of bindings)
+IsBindingEnd w files bindings fault = ⊥

@@ -1,0 +1,41 @@
+//! Why what a command names isn't opened.
+ghost use Rattle.std.specs.Prelude.{◌≡◌};
+ghost use Rattle.stack_opening.specs.declared.fault.OpeningFault.TheVariants as opening_fault;
+
+use image_files::UnopenedFile;
+use std::alloc::{AllocError, AllocFailed};
+
+/// Why what a command names isn't opened.
+#[derive(Clone, Copy, Debug, PartialEq, Eq)]
+pub enum OpeningFault<'a> {
+    /// Memory ran out.
+    NoMemory,
+    /// A stack file has more than 1 MiB.
+    TooLong,
+    /// A file isn't opened, or can't be read.
+    Open(UnopenedFile<'a>),
+}
+
+impl From<AllocError> for OpeningFault<'_> {
+    ghost from_gives = { λ _ fault. fault ≡ opening_fault.NoMemory };
+
+    fn from(_error: AllocError) -> Self {
+        OpeningFault::NoMemory
+    }
+}
+
+impl<T: Drop> From<AllocFailed<T>> for OpeningFault<'_> {
+    ghost from_gives = { λ _ fault. fault ≡ opening_fault.NoMemory };
+
+    fn from(_refused: AllocFailed<T>) -> Self {
+        OpeningFault::NoMemory
+    }
+}
+
+impl<'a> From<UnopenedFile<'a>> for OpeningFault<'a> {
+    ghost from_gives = { λ file given. given ≡ opening_fault.Open file };
+
+    fn from(file: UnopenedFile<'a>) -> Self {
+        OpeningFault::Open(file)
+    }
+}

@@ -1,0 +1,92 @@
+//! The leaves of the bindings that a command line names, opened in their order.
+ghost use Rattle.std.specs.Prelude.{◌≡◌, ◌++◌, [], ◌∷◌, map, IfOk, IfErr, OnOk};
+ghost use Rattle.stack_meaning.specs.Leaves.{ServeLeaves};
+ghost use Rattle.command_line.specs.Bindings.{backing_record, binding_record};
+ghost use Rattle.image_files.specs.Opener.{calls};
+ghost use Rattle.stack_opening.specs.Bindings.{AreBound, OpensBacking};
+ghost use Rattle.stack_opening.specs.Openings.{IsBackingEnd, IsBindingEnd};
+
+use crate::fault::OpeningFault;
+use block_device::{BlockDev, MemoryDev};
+use command_line::{Backing, Binding};
+use image_files::{FileUse, Images, open_apart};
+use stack_config::Leaf;
+use std::alloc::{AllocError, Global};
+
+/// Leaves, and their devices in the same order.
+#[derive(Drop)]
+pub struct OpenLeaves<D> {
+    pub leaves: Vec<Leaf>,
+    pub devices: Vec<D>,
+}
+
+impl<D: BlockDev + Drop> OpenLeaves<D> {
+    fn new(alloc: Global) -> OpenLeaves<D>
+        ensures served { ServeLeaves result.leaves.items (map D.state result.devices.items) }
+        ensures none { (result.leaves.items ≡ []) × (result.devices.items ≡ []) }
+    {
+        OpenLeaves {
+            leaves: Vec::new(alloc),
+            devices: Vec::new(alloc),
+        }
+    }
+
+    // Adds a device under a name.
+    fn bind(&mut self, alloc: Global, name: &str, device: D) -> Result<(), AllocError>
+        requires { ServeLeaves self.old.leaves.items (map D.state self.old.devices.items) }
+        ensures served { OnOk result (ServeLeaves self.new.leaves.items (map D.state self.new.devices.items)) }
+        ensures names { OnOk result (map (λ leaf. leaf.name) self.new.leaves.items ≡ map (λ leaf. leaf.name) self.old.leaves.items ++ name.now ∷ []) }
+        ensures devices { OnOk result (self.new.devices.items ≡ self.old.devices.items ++ device ∷ []) }
+    {
+        let leaf = Leaf {
+            name: Vec::from_slice(alloc, name.as_bytes())?,
+            sectors: device.sectors(),
+            writable: device.writable(),
+        };
+        self.leaves.push(leaf)?;
+        self.devices.push(device)?;
+        Ok(())
+    }
+}
+
+// Opens the image of a binding, or makes its sectors. A file that is open already is refused where one of the two may be
+// written: the engine takes leaves for devices of their own.
+fn open_backing<'a, I: Images>(
+    alloc: Global,
+    images: &mut I,
+    files: &mut Vec<FileUse>,
+    backing: Backing<'a>,
+) -> Result<I::Dev, OpeningFault<'a>>
+    ensures ok { IfOk result (λ device. OpensBacking (calls I.relations I.Dev.state images.old images.new) files.old.items (backing_record backing.entry) device files.new.items) }
+    ensures err { IfErr result (IsBackingEnd (calls I.relations I.Dev.state images.old images.new) files.old.items (backing_record backing.entry)) }
+{
+    match backing {
+        Backing::File { path, writable } => {
+            let image = open_apart(images, files.as_slice(), path, writable)?;
+            let id = image.id;
+            files.push(FileUse { id, writable })?;
+            Ok(image.device)
+        }
+        Backing::Zeros(sectors) => Ok(I::of_memory(MemoryDev::zeros(alloc, sectors, true)?)),
+        Backing::Ramp(sectors) => Ok(I::of_memory(MemoryDev::ramp(alloc, sectors, true)?)),
+    }
+}
+
+/// The leaves and devices of the bindings, opened in their order beside these files.
+pub fn open_all<'a, I: Images>(
+    alloc: Global,
+    images: &mut I,
+    files: &[FileUse],
+    bindings: &[Binding<'a>],
+) -> Result<OpenLeaves<I::Dev>, OpeningFault<'a>>
+    ensures ok { IfOk result (λ over. AreBound (calls I.relations I.Dev.state images.old images.new) files.now (map binding_record bindings.now) over.leaves.items over.devices.items) }
+    ensures err { IfErr result (IsBindingEnd (calls I.relations I.Dev.state images.old images.new) files.now (map binding_record bindings.now)) }
+{
+    let mut open_leaves = OpenLeaves::new(alloc);
+    let mut open_files = Vec::from_slice(alloc, files)?;
+    'bindings: for binding in bindings {
+        let device = open_backing(alloc, images, &mut open_files, binding.backing)?;
+        open_leaves.bind(alloc, binding.name, device)?;
+    }
+    Ok(open_leaves)
+}

@@ -1,0 +1,111 @@
+//! What a command on a stack file opens, in this order: the stack text, what stands beside it, and the bindings.
+ghost use Rattle.std.specs.Prelude.{◌≡◌, true, map, IfOk, IfErr};
+ghost use Rattle.image_files.specs.FileUses.{text_use};
+ghost use Rattle.image_files.specs.Opener.{calls};
+ghost use Rattle.stack_opening.specs.OpenStacks.{FailsToOpen, FailsToOpenOutput, FailsToOpenSource, OpensOutput, OpensSource, OpensStack, stack_words};
+
+use crate::fault::OpeningFault;
+use crate::leaves::{OpenLeaves, open_all};
+use crate::source::{read_source, read_stack};
+use block_device::BlockDev;
+use command_line::Binding;
+use image_files::{FileText, FileUse, Images, OpenImage, open_apart};
+use stack_config::Leaf;
+use std::alloc::Global;
+
+/// A stack file, and what its leaves are bound to.
+#[derive(Clone, Copy)]
+pub struct StackFile<'a, 'b> {
+    pub path: &'a str,
+    pub bindings: &'b [Binding<'a>],
+}
+
+/// A stack text, and the leaves under it with their devices in the same order.
+#[derive(Drop)]
+pub struct OpenStack<D> {
+    pub text: FileText,
+    pub leaves: Vec<Leaf>,
+    pub devices: Vec<D>,
+}
+
+// How a text's file is used.
+fn text_use(text: &FileText) -> FileUse
+    ensures { result ≡ text_use text.now }
+{
+    FileUse {
+        id: text.id,
+        writable: false,
+    }
+}
+
+/// The text of a stack file, and then the leaves of the bindings.
+pub fn open_stack<'a, I: Images>(
+    alloc: Global,
+    images: &mut I,
+    file: StackFile<'a, '_>,
+) -> Result<OpenStack<I::Dev>, OpeningFault<'a>>
+    ensures ok { IfOk result (OpensStack (calls I.relations I.Dev.state images.old images.new) (stack_words file.entry)) }
+    ensures err { IfErr result (FailsToOpen (calls I.relations I.Dev.state images.old images.new) (stack_words file.entry)) }
+{
+    let text = read_stack(images, file.path)?;
+    let OpenLeaves { leaves, devices } = open_all(
+        alloc,
+        images,
+        &[text_use(&text)],
+        file.bindings,
+    )?;
+    Ok(OpenStack {
+        text,
+        leaves,
+        devices,
+    })
+}
+
+/// The same, and between them a file that is written to a device.
+pub fn open_with_source<'a, I: Images>(
+    alloc: Global,
+    images: &mut I,
+    file: StackFile<'a, '_>,
+    source: &'a str,
+) -> Result<(OpenStack<I::Dev>, FileText), OpeningFault<'a>>
+    ensures ok { IfOk result (λ both. OpensSource (calls I.relations I.Dev.state images.old images.new) (stack_words file.entry) source.now both.0 both.1) }
+    ensures err { IfErr result (FailsToOpenSource (calls I.relations I.Dev.state images.old images.new) (stack_words file.entry) source.now) }
+{
+    let text = read_stack(images, file.path)?;
+    let source = read_source(images, source)?;
+    let files = [text_use(&text), text_use(&source)];
+    let OpenLeaves { leaves, devices } = open_all(alloc, images, &files, file.bindings)?;
+    let over = OpenStack {
+        text,
+        leaves,
+        devices,
+    };
+    Ok((over, source))
+}
+
+/// The same, and between them an image that is copied to, which may not be the stack file.
+pub fn open_with_output<'a, I: Images>(
+    alloc: Global,
+    images: &mut I,
+    file: StackFile<'a, '_>,
+    out: &'a str,
+) -> Result<(OpenStack<I::Dev>, OpenImage<I::Dev>), OpeningFault<'a>>
+    ensures ok { IfOk result (λ both. OpensOutput (calls I.relations I.Dev.state images.old images.new) (stack_words file.entry) out.now both.0 both.1) }
+    ensures writable { IfOk result (λ both. (I.Dev.state both.1.device).may_write ≡ true) }
+    ensures err { IfErr result (FailsToOpenOutput (calls I.relations I.Dev.state images.old images.new) (stack_words file.entry) out.now) }
+{
+    let text = read_stack(images, file.path)?;
+    let image = open_apart(images, &[text_use(&text)], out, true)?;
+    let output = FileUse {
+        id: image.id,
+        writable: true,
+    };
+    let files = [text_use(&text), output];
+    let OpenLeaves { leaves, devices } = open_all(alloc, images, &files, file.bindings)?;
+    let over = OpenStack {
+        text,
+        leaves,
+        devices,
+    };
+    Ok((over, image))
+}
