@@ -1,15 +1,15 @@
 -- What words invoke.
-use Rattle.std.proofs.Common.{◌≡◌, ◌<◌, ℕ, zero, suc, true, false, List, [], ◌∷◌, length, map, drop, get_or, refl, ap, sym, ◌∙◌, arith, Bor, Option, Some, None, Result, Ok, Err}
+use Rattle.std.proofs.Common.{◌≡◌, ◌<◌, ℕ, zero, suc, List, [], ◌∷◌, length, map, drop, get_or, refl, ap, sym, ◌∙◌, arith, Bor, Option, Some, None, Result, Ok, Err}
 use Rattle.std.specs.Prelude.{◌||◌}
 use Rattle.std.specs.List.{list_any}
 use Rattle.std.specs.Result.{result_ok, MatchResult}
 use Rattle.hex.specs.Hex.{decode_sized}
 use Rattle.hex.specs.declared.error.FromHexError.{FromHexError}
-use Rattle.command_line.specs.declared.fault.WordsFault.{WordsFault}
-use Rattle.command_line.specs.declared.fault.WordsFault.TheVariants.{NoMemory, Usage}
 use Rattle.command_line.specs.declared.bindings.Binding.{Binding}
 use Rattle.command_line.specs.Bindings.{BindingRecord, binding_of, binding_record}
-use Rattle.command_line.specs.CommandWords.{IsUsage, bindings_of, cache_of, cons, invocation_at, invocation_of, is_option, root_of}
+use Rattle.command_line.specs.BindingWords.{bindings_of, cons}
+use Rattle.command_line.specs.CommandWords.{has_late_option, is_option}
+use Rattle.command_line.specs.Values.{root_of}
 
 abbrev pub texts : List (Bor (List ℕ)) → List (List ℕ)
 texts words = map (λ word. word.now) words
@@ -53,28 +53,9 @@ any-texts : (words : List (Bor (List ℕ))) → list_any is_option (texts words)
 any-texts [] = refl
 any-texts (w ∷ ws) = ap (λ more. is_option w.now || more) (any-texts ws)
 
-pub late-texts : (words : List (Bor (List ℕ))) → list_any is_option (drop 1 (texts words)) ≡ list_any (λ word. is_option word.now) (drop 1 words)
-late-texts [] = refl
-late-texts (w ∷ ws) = any-texts ws
-
-pub invocation_of-late : (command : List ℕ) (cache : Option (List ℕ)) (words : List (List ℕ)) → list_any is_option (drop 1 words) ≡ true → invocation_of command cache words ≡ None
-unfolding invocation_of
-invocation_of-late command cache words late = rw late refl
-
-pub invocation_of-cache : (command : List ℕ) (cache : Option (List ℕ)) (words : List (List ℕ)) → list_any is_option (drop 1 words) ≡ false → cache_of cache ≡ None
-    → invocation_of command cache words ≡ None
-unfolding invocation_of
-invocation_of-cache command cache words early none = rw (early, none) refl
-
-pub invocation_of-at : (command : List ℕ) (cache : Option (List ℕ)) (words : List (List ℕ)) (blocks : ℕ) → list_any is_option (drop 1 words) ≡ false → cache_of cache ≡ Some blocks
-    → invocation_of command cache words ≡ invocation_at command blocks words
-unfolding invocation_of
-invocation_of-at command cache words blocks early some = rw (early, some) refl
-
--- usage for one cause is usage for what follows from it
-pub usage-map : {P Q : Type 0} (fault : WordsFault) → (P → Q) → IsUsage fault P → IsUsage fault Q
-usage-map Usage f h = f h
-usage-map NoMemory f h = tt
+pub late_texts : (words : List (Bor (List ℕ))) → list_any (λ word. is_option word.now) (drop 1 words) ≡ has_late_option (texts words)
+late_texts [] = refl
+late_texts (w ∷ ws) = sym (any-texts ws)
 
 -- what a decoder into 32 bytes answers
 abbrev pub Decodes : List ℕ → List ℕ → Result Unit FromHexError → Type 0

@@ -1,4 +1,3 @@
 pub mod BindingLemmas
-pub mod CommandLemmas
 pub mod CommandWordLemmas
-pub mod GrammarLemmas
+pub mod lemmas

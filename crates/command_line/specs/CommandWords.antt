@@ -1,19 +1,22 @@
 -- What the words of a command line invoke.
-use Rattle.std.specs.Prelude.{ℕ, ◌==◌, ◌&&◌, nat_le, nat_lt, Bool, List, [], ◌∷◌, map, length, drop, slice_index, codes, Option, Some, None, option_map, if◌then◌else◌}
+use Rattle.std.specs.Prelude.{ℕ, ◌==◌, ◌&&◌, not, nat_lt, Bool, List, [], ◌∷◌, map, length, drop, slice_index, codes, Option, Some, None, option_map, if◌then◌else◌}
 use Rattle.std.specs.List.{list_any}
 use Rattle.std.specs.Option.{option_and_then}
 use Rattle.std.specs.Str.{bytes_eq}
-use Rattle.std.specs.Result.{result_ok}
-use Rattle.hex.specs.Hex.{decode_sized}
 use Rattle.dm_table.specs.Names.{is_device}
-use Rattle.dm_table.specs.Numbers.{number, number_if}
+use Rattle.dm_table.specs.Numbers.{number}
 use Rattle.command_line.specs.declared.fault.WordsFault.{WordsFault}
 use Rattle.command_line.specs.declared.fault.WordsFault.TheVariants.{Usage, NoMemory}
 use Rattle.command_line.specs.declared.invocation.Invocation.{Invocation}
-use Rattle.command_line.specs.declared.invocation.Invocation.TheVariants.{Load, Read, Write, Session, Nbd, Scan, Copy, Image}
+use Rattle.command_line.specs.declared.invocation.Invocation.TheVariants.{Load, Read, Write, Session, Nbd, Scan, Copy, Image, Further}
 use Rattle.command_line.specs.declared.invocation.ImageInvocation.{ImageInvocation}
 use Rattle.command_line.specs.declared.invocation.ImageInvocation.TheVariants.{Format, Verify, Dump, Table}
-use Rattle.command_line.specs.Bindings.{BindingRecord, binding_of, binding_record}
+use Rattle.command_line.specs.Bindings.{BindingRecord, binding_record}
+use Rattle.command_line.specs.BindingWords.{bindings_of}
+use Rattle.command_line.specs.FormatOptions.{OptionTexts}
+use Rattle.command_line.specs.FurtherRecords.{FurtherRecord, further_record, further_said}
+use Rattle.command_line.specs.FurtherWords.{is_further}
+use Rattle.command_line.specs.Values.{cache_of, root_of}
 
 pub data InvocationRecord : Type 0 where
   -- a stack file, and bindings
@@ -38,25 +41,12 @@ pub data InvocationRecord : Type 0 where
   dump : List ℕ → InvocationRecord
   -- a hash image, a root digest, and the device arguments of data and hashes
   table : List ℕ → List ℕ → List ℕ → List ℕ → InvocationRecord
-
--- 64 blocks are cached unless the words say so, and at most 65,536
-abbrev pub cache_of : Option (List ℕ) → Option ℕ
-cache_of None = Some 64
-cache_of (Some word) = number_if (λ n. nat_le n 65536) (number word)
+  -- a command that the first version hasn't, or one with options that it hasn't
+  further : FurtherRecord → InvocationRecord
 
 -- the word begins with `-` (45) and isn't `-` alone
 abbrev pub is_option : List ℕ → Bool
 is_option word = nat_lt 1 (length word) && (slice_index word 0 == 45)
-
-abbrev pub cons : Option BindingRecord → Option (List BindingRecord) → Option (List BindingRecord)
-cons None more = None
-cons (Some binding) None = None
-cons (Some binding) (Some more) = Some (binding ∷ more)
-
--- the bindings, if all words are bindings
-unfoldable pub bindings_of : List (List ℕ) → Option (List BindingRecord)
-bindings_of [] = Some []
-bindings_of (word ∷ words) = cons (binding_of word) (bindings_of words)
 
 -- `STACK BINDING...`
 abbrev pub load_of : List (List ℕ) → Option InvocationRecord
@@ -101,10 +91,6 @@ abbrev pub copy_of : List (List ℕ) → Option InvocationRecord
 copy_of (stack ∷ name ∷ out ∷ words) = option_map (copy stack name out) (bindings_of words)
 copy_of words = None
 
--- 64 hexadecimal digits as 32 bytes
-unfoldable pub root_of : List ℕ → Option (List ℕ)
-root_of word = result_ok (decode_sized word 32)
-
 -- `DATA HASH`
 abbrev pub format_of : List (List ℕ) → Option InvocationRecord
 format_of (image ∷ hash ∷ []) = Some (format image hash)
@@ -146,11 +132,21 @@ invocation_at name cache words =
     else if bytes_eq name (codes "table") then table_of words
     else None
 
--- by a command's name, the value of its option `--cache`, and its positional words, of which none behind the first is an option
-unfoldable pub invocation_of : List ℕ → Option (List ℕ) → List (List ℕ) → Option InvocationRecord
-invocation_of name cache words =
-    if list_any is_option (drop 1 words) then None
-    else option_and_then (λ blocks. invocation_at name blocks words) (cache_of cache)
+-- a word behind the first one has the form of an option
+abbrev pub has_late_option : List (List ℕ) → Bool
+has_late_option words = list_any is_option (drop 1 words)
+
+-- as in the first version
+abbrev pub first_invocation : List ℕ → OptionTexts → List (List ℕ) → Option InvocationRecord
+first_invocation name texts words = option_and_then (λ blocks. invocation_at name blocks words) (cache_of texts.cache)
+
+-- by a command's name, the values of its options, and its positional words, of which none behind the first has the form of
+-- an option unless `--` stands in front of them
+unfoldable pub invocation_of : List ℕ → OptionTexts → List (List ℕ) → Bool → Option InvocationRecord
+invocation_of name texts words behind_dashes =
+    if not behind_dashes && has_late_option words then None
+    else if is_further name texts then option_map further (further_said name texts words)
+    else first_invocation name texts words
 
 -- what the program's own value says of a command on images
 abbrev pub image_record : ImageInvocation → InvocationRecord
@@ -169,6 +165,7 @@ invocation_record (Nbd device bindings) = nbd device.cache device.stack.now devi
 invocation_record (Scan stack name bindings) = scan stack.now name.now (map binding_record bindings.items)
 invocation_record (Copy stack name out bindings) = copy stack.now name.now out.now (map binding_record bindings.items)
 invocation_record (Image invocation) = image_record invocation
+invocation_record (Further words) = further (further_record words)
 
 -- the fault is `Usage` with that cause, or memory ran out
 abbrev pub IsUsage : WordsFault → Type 0 → Type 0

@@ -1,12 +1,12 @@
--- What the words of `format`'s options say.
-use Rattle.std.specs.Prelude.{ℕ, ◌≡◌, ◌==◌, nat_lt, List, [], length, codes, Option, Some, None, option_map, if◌then◌else◌}
+-- The options of a command line as texts, and what those that say what an image is say.
+use Rattle.std.specs.Prelude.{ℕ, ◌≡◌, ◌==◌, nat_lt, Bool, List, [], length, map, codes, Option, Some, None, option_map, if◌then◌else◌}
 use Rattle.std.specs.Borrow.{Bor}
 use Rattle.std.specs.Str.{bytes_eq}
 use Rattle.std.specs.Result.{result_ok}
 use Rattle.hex.specs.Hex.{decode_of}
 use Rattle.uuid.specs.Text.{parsed}
 use Rattle.dm_table.specs.Numbers.{number, number_if}
-use Rattle.command_line.specs.declared.image_options.OptionWords.{OptionWords}
+use Rattle.command_line.specs.declared.option_words.OptionWords.{OptionWords}
 use Rattle.command_line.specs.declared.image_options.ImageOptions.{ImageOptions}
 
 -- 4,096 bytes unless a word says another number below 2^32
@@ -21,17 +21,30 @@ salt_of word =
     else if length word == 0 then None
     else result_ok (decode_of word)
 
--- the values of the options, as texts
+-- the values of the options, and which of those without a value stand in the words
 pub record OptionTexts : Type 0 where
   pub data_block : Option (List ℕ)
   pub hash_block : Option (List ℕ)
   pub blocks : Option (List ℕ)
   pub salt : Option (List ℕ)
   pub uuid : Option (List ℕ)
+  pub cache : Option (List ℕ)
+  pub first : Option (List ℕ)
+  pub count : Option (List ℕ)
+  pub hash_offset : Option (List ℕ)
+  pub root_hash_file : Option (List ℕ)
+  pub name : Option (List ℕ)
+  pub sector_size : Option (List ℕ)
+  pub root : Option (List ℕ)
+  pub all : Bool
+  pub stack : Bool
 
 -- what the program's own value says
 abbrev pub text_of : Option (Bor (List ℕ)) → Option (List ℕ)
 text_of word = option_map (λ w. w.now) word
+
+abbrev pub texts_of : List (Bor (List ℕ)) → List (List ℕ)
+texts_of words = map (λ w. w.now) words
 
 abbrev pub option_texts : OptionWords → OptionTexts
 option_texts words = record {
@@ -40,6 +53,16 @@ option_texts words = record {
   blocks = text_of words.blocks;
   salt = text_of words.salt;
   uuid = text_of words.uuid;
+  cache = text_of words.cache;
+  first = text_of words.first;
+  count = text_of words.count;
+  hash_offset = text_of words.hash_offset;
+  root_hash_file = text_of words.root_hash_file;
+  name = text_of words.name;
+  sector_size = text_of words.sector_size;
+  root = text_of words.root;
+  all = words.all;
+  stack = words.stack;
 }
 
 -- each value is the one that its text says; where there is no text, it is 4,096 for a block size, and none for the others

@@ -1,5 +1,9 @@
 pub mod Bindings
-pub mod CommandLines
-pub mod CommandWords
+pub mod BindingWords
 pub mod FormatOptions
-pub mod Grammar
+pub mod FurtherWords
+pub mod Values
+pub mod words
+pub mod FurtherRecords
+pub mod CommandWords
+pub mod Reading

@@ -7,7 +7,7 @@ use table_reader::number;
 const MOST_SECTORS: u64 = 65536;
 
 /// What stands behind a name: a file, or new sectors in memory.
-#[derive(Clone, Copy, Debug, PartialEq, Eq)]
+#[derive(Clone, Copy)]
 pub enum Backing<'a> {
     File { path: &'a str, writable: bool },
     Zeros(u32),
@@ -15,7 +15,7 @@ pub enum Backing<'a> {
 }
 
 /// A name and the device that it stands for.
-#[derive(Clone, Copy, Debug, PartialEq, Eq)]
+#[derive(Clone, Copy)]
 pub struct Binding<'a> {
     pub name: &'a str,
     pub backing: Backing<'a>,

@@ -1,35 +1,42 @@
 //! What the words of a command line invoke.
-ghost use Rattle.std.specs.Prelude.{◌≡◌, map, drop, Some, None, IfOk, IfErr, option_map};
+ghost use Rattle.std.specs.Prelude.{◌≡◌, ◌&&◌, not, map, drop, Some, None, IfOk, IfErr};
 ghost use Rattle.std.specs.List.{list_any};
-ghost use Rattle.command_line.specs.Bindings.{binding_record};
-ghost use Rattle.command_line.specs.CommandWords.{IsUsage, bindings_of, cache_of, copy_of, invocation_at, invocation_of, invocation_record, is_option, load_of, nbd_of, read_of, scan_of, session_of, write_of};
+ghost use Rattle.command_line.specs.FormatOptions.{option_texts, texts_of};
+ghost use Rattle.command_line.specs.CommandWords.{IsUsage, copy_of, has_late_option, invocation_at, invocation_of, invocation_record, is_option, load_of, nbd_of, read_of, scan_of, session_of, write_of};
 
-use crate::bindings::{Binding, binding_of};
+use crate::binding_words::bindings_of;
 use crate::fault::WordsFault;
+use crate::further::further_of;
 use crate::image_words::{dump_of, format_of, table_of, verify_of};
 use crate::invocation::{Invocation, Sectors, ServedDevice, Transfer};
+use crate::option_words::{OptionWords, is_further};
+use crate::values::cache_of;
 use std::alloc::Global;
 use table_reader::number;
 
-const CACHED_BLOCKS: u32 = 64;
-
-const MOST_CACHED_BLOCKS: u64 = 65536;
-
-/// What a command invokes, by the value of its option `--cache` and its positional words, of which none
-/// behind the first may have the form of an option.
+/// What a command invokes, by the values of its options and its positional words. Unless `--` stands in front of
+/// them, none behind the first may have the form of an option.
+#[tactic(auto, unfolding(crate::specs::CommandWords::invocation_of))]
 pub fn invocation_of<'a>(
     alloc: Global,
     name: &[u8],
-    cache: Option<&str>,
+    options: &OptionWords<'a>,
     words: &[&'a str],
+    behind_dashes: bool,
 ) -> Result<Invocation<'a>, WordsFault>
-    ensures ok { IfOk result (λ got. invocation_of name.now (option_map (λ word. word.now) cache.entry) (map (λ word. word.now) words.now) ≡ Some (invocation_record got)) }
-    ensures err { IfErr result (λ fault. IsUsage fault (invocation_of name.now (option_map (λ word. word.now) cache.entry) (map (λ word. word.now) words.now) ≡ None)) }
+    ensures ok { IfOk result (λ got. invocation_of name.now (option_texts options.now) (texts_of words.now) behind_dashes ≡ Some (invocation_record got)) }
+    ensures err { IfErr result (λ fault. IsUsage fault (invocation_of name.now (option_texts options.now) (texts_of words.now) behind_dashes ≡ None)) }
 {
-    if has_late_option(words) {
+    if is_late(words, behind_dashes) {
         return Err(WordsFault::Usage);
     }
-    match cache_of(cache) {
+    if is_further(name, options) {
+        return match further_of(alloc, name, options, words) {
+            Ok(further) => Ok(Invocation::Further(further)),
+            Err(fault) => Err(fault),
+        };
+    }
+    match cache_of(options.cache) {
         Some(blocks) => invocation_at(alloc, name, blocks, words),
         None => Err(WordsFault::Usage),
     }
@@ -210,38 +217,17 @@ fn is_option(word: &str) -> bool
     bytes.len() > 1 && bytes[0] == b'-'
 }
 
+// Whether a word behind the first one has the form of an option, and no `--` stands in front of them.
+#[tactic(auto, using(crate::proofs::CommandWordLemmas::late_texts))]
+fn is_late(words: &[&str], behind_dashes: bool) -> bool
+    ensures { result ≡ (not behind_dashes && has_late_option (texts_of words.now)) }
+{
+    !behind_dashes && has_late_option(words)
+}
+
 // Whether a word behind the first one has the form of an option.
 fn has_late_option(words: &[&str]) -> bool
     ensures { result ≡ list_any (λ word. is_option word.now) (drop 1 words.now) }
 {
     words.iter().skip(1).any(|word| is_option(word))
-}
-
-// How many blocks are cached, if the option's value says how many.
-fn cache_of(word: Option<&str>) -> Option<u32>
-    ensures { result ≡ cache_of (option_map (λ word. word.now) word.entry) }
-{
-    let Some(word) = word else {
-        return Some(CACHED_BLOCKS);
-    };
-    let blocks = number(word.as_bytes())?;
-    if blocks > MOST_CACHED_BLOCKS {
-        return None;
-    }
-    Some(blocks as u32)
-}
-
-// The bindings, if all words are bindings.
-fn bindings_of<'a>(alloc: Global, words: &[&'a str]) -> Result<Vec<Binding<'a>>, WordsFault>
-    ensures ok { IfOk result (λ bindings. bindings_of (map (λ word. word.now) words.now) ≡ Some (map binding_record bindings.items)) }
-    ensures err { IfErr result (λ fault. IsUsage fault (bindings_of (map (λ word. word.now) words.now) ≡ None)) }
-{
-    let mut bindings = Vec::new(alloc);
-    'words: for word in words {
-        match binding_of(word) {
-            Some(binding) => bindings.push(binding)?,
-            None => return Err(WordsFault::Usage),
-        }
-    }
-    Ok(bindings)
 }

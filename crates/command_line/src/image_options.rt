@@ -1,15 +1,12 @@
-//! The options of `format`, as words and as what they say.
+//! What the options that say what an image is say.
 ghost use Rattle.std.specs.Prelude.{◌≡◌, IfErr, IfOk, Some, option_map};
-ghost use Rattle.clap.specs.Matches.{found_of};
-ghost use Rattle.clap.specs.Walk.{rows_of};
 ghost use Rattle.uuid.specs.Text.{parsed};
 ghost use Rattle.dm_table.specs.Numbers.{number};
-ghost use Rattle.command_line.specs.CommandLines.{texts_in};
 ghost use Rattle.command_line.specs.CommandWords.{IsUsage};
 ghost use Rattle.command_line.specs.FormatOptions.{AreSaid, block_size_of, option_texts, salt_of, text_of};
 
 use crate::fault::WordsFault;
-use clap::ArgMatches;
+use crate::option_words::OptionWords;
 use std::alloc::Global;
 use table_reader::number;
 use tree_shape::{Algorithm, Salt};
@@ -26,29 +23,6 @@ pub struct ImageOptions {
     pub blocks: Option<u64>,
     pub salt: Option<Salt>,
     pub uuid: Option<[u8; 16]>,
-}
-
-/// The values of the options, as they stand in the words.
-#[derive(Clone, Copy, Debug, PartialEq, Eq)]
-pub struct OptionWords<'a> {
-    pub data_block: Option<&'a str>,
-    pub hash_block: Option<&'a str>,
-    pub blocks: Option<&'a str>,
-    pub salt: Option<&'a str>,
-    pub uuid: Option<&'a str>,
-}
-
-/// The values of the options that clap found.
-pub fn option_words<'a>(found: &ArgMatches<'a>) -> OptionWords<'a>
-    ensures { option_texts result ≡ texts_in (rows_of (found_of found.now)) }
-{
-    OptionWords {
-        data_block: found.get_str("data-block"),
-        hash_block: found.get_str("hash-block"),
-        blocks: found.get_str("blocks"),
-        salt: found.get_str("salt"),
-        uuid: found.get_str("uuid"),
-    }
 }
 
 /// `[--data-block N] [--hash-block N] [--blocks N] [--salt HEX] [--uuid U]`

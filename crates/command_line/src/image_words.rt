@@ -1,11 +1,11 @@
 //! What the words of the commands on images invoke.
 ghost use Rattle.std.specs.Prelude.{◌≡◌, map, Some, None, IfOk, IfErr};
-ghost use Rattle.command_line.specs.CommandWords.{IsUsage, dump_of, format_of, invocation_record, root_of, table_of, verify_of};
+ghost use Rattle.command_line.specs.CommandWords.{IsUsage, dump_of, format_of, invocation_record, table_of, verify_of};
 
 use crate::fault::WordsFault;
 use crate::invocation::{ImageInvocation, Invocation};
+use crate::values::root_of;
 use dm_table::is_device;
-use tree_shape::Digest;
 
 /// `DATA HASH`
 pub fn format_of<'a>(words: &[&'a str]) -> Result<Invocation<'a>, WordsFault>
@@ -62,16 +62,5 @@ pub fn table_of<'a>(words: &[&'a str]) -> Result<Invocation<'a>, WordsFault>
             hash_name,
         })),
         None => Err(WordsFault::Usage),
-    }
-}
-
-// A root digest of 64 hexadecimal digits.
-fn root_of(word: &str) -> Option<Digest>
-    ensures { result ≡ root_of word.now }
-{
-    let mut root = [0u8; Digest::SIZE];
-    match hex::decode_to_slice(word, &mut root) {
-        Ok(()) => Some(Digest::new(root)),
-        Err(_) => None,
     }
 }

@@ -1,9 +1,10 @@
 //! Commands with their words.
 use crate::bindings::Binding;
+use crate::further::Further;
 use tree_shape::Digest;
 
 /// Sectors of a mapped device.
-#[derive(Clone, Copy, Debug, PartialEq, Eq)]
+#[derive(Clone, Copy)]
 pub struct Sectors<'a> {
     pub name: &'a str,
     pub first: u64,
@@ -11,7 +12,7 @@ pub struct Sectors<'a> {
 }
 
 /// A file whose bytes are written, and the mapped device to which they go from its sector `first` on.
-#[derive(Clone, Copy, Debug, PartialEq, Eq)]
+#[derive(Clone, Copy)]
 pub struct Transfer<'a> {
     pub name: &'a str,
     pub first: u64,
@@ -19,7 +20,7 @@ pub struct Transfer<'a> {
 }
 
 /// A mapped device of a stack file, and how many blocks are cached.
-#[derive(Clone, Copy, Debug, PartialEq, Eq)]
+#[derive(Clone, Copy)]
 pub struct ServedDevice<'a> {
     pub cache: u32,
     pub stack: &'a str,
@@ -27,7 +28,7 @@ pub struct ServedDevice<'a> {
 }
 
 /// A command with its positional words, and how many blocks are cached.
-#[derive(Debug, Drop)]
+#[derive(Drop)]
 pub enum Invocation<'a> {
     /// `load STACK BINDING...`
     Load {
@@ -73,10 +74,12 @@ pub enum Invocation<'a> {
     },
     /// A command on images.
     Image(ImageInvocation<'a>),
+    /// A command that the first version hasn't, or one with options that it hasn't.
+    Further(Further<'a>),
 }
 
 /// A command on images with its positional words.
-#[derive(Debug, Drop)]
+#[derive(Drop)]
 pub enum ImageInvocation<'a> {
     /// `format [OPTIONS] DATA HASH`
     Format {

@@ -1,17 +1,31 @@
-//! The words of a command line: which command they invoke, with its options.
+//! The words of a command line: which command its name, its options and its positional words invoke.
 #![tactic(auto)]
 
+mod binding_words;
 mod bindings;
 mod command_words;
 mod fault;
-mod grammar;
+mod further;
 mod image_options;
 mod image_words;
 mod invocation;
-mod parser;
+mod option_words;
+mod values;
+mod words;
 
 pub use bindings::{Backing, Binding};
+pub use command_words::invocation_of;
 pub use fault::WordsFault;
-pub use image_options::{ImageOptions, OptionWords, options_of};
+pub use further::Further;
+pub use image_options::{ImageOptions, options_of};
 pub use invocation::{ImageInvocation, Invocation, Sectors, ServedDevice, Transfer};
-pub use parser::{CommandLine, parse};
+pub use option_words::OptionWords;
+pub use values::{PartitionForm, RootWord};
+pub use words::cat::CatWords;
+pub use words::diff::DiffWords;
+pub use words::dump::DumpWords;
+pub use words::format::FormatWords;
+pub use words::partitions::PartitionsWords;
+pub use words::store::StoreWords;
+pub use words::table::TableWords;
+pub use words::verify::VerifyWords;

@@ -1,0 +1,11 @@
+-- That a result is the command that the words say.
+use Rattle.std.specs.Prelude.{◌≡◌, Option, Some, None, Result, Ok, Err}
+use Rattle.command_line.specs.declared.fault.WordsFault.{WordsFault}
+use Rattle.command_line.specs.declared.further.Further.{Further}
+use Rattle.command_line.specs.CommandWords.{IsUsage}
+use Rattle.command_line.specs.FurtherRecords.{FurtherRecord, further_record}
+
+-- it is that command; a fault is `Usage` where the words say none, or want of memory
+abbrev pub Reads : Option FurtherRecord → Result Further WordsFault → Type 0
+Reads said (Ok got) = said ≡ Some (further_record got)
+Reads said (Err fault) = IsUsage fault (said ≡ None)

@@ -1,0 +1,108 @@
+-- What the values of options say.
+use Rattle.std.specs.Prelude.{ℕ, Bool, true, false, ◌==◌, ◌&&◌, ◌||◌, ◌%◌, nat_le, List, [], ◌∷◌, Option, Some, None, option_map, if◌then◌else◌}
+use Rattle.std.specs.Option.{option_and_then}
+use Rattle.std.specs.Result.{result_ok}
+use Rattle.hex.specs.Hex.{decode_sized}
+use Rattle.dm_table.specs.Names.{is_device, is_mapped_name}
+use Rattle.dm_table.specs.Numbers.{number, number_if}
+use Rattle.command_line.specs.declared.values.PartitionForm.{PartitionForm}
+use Rattle.command_line.specs.declared.values.PartitionForm.TheVariants.{Lines, Stack, Root}
+use Rattle.command_line.specs.declared.values.RootWord.{RootWord}
+use Rattle.command_line.specs.declared.values.RootWord.TheVariants.{Digest, File}
+
+-- what follows of a value, where there is one
+abbrev pub when : {A B : Type 0} → Option A → (A → Option B) → Option B
+when value follows = option_and_then follows value
+
+-- 64 blocks are cached unless the words say so, and at most 65,536
+unfoldable pub cache_of : Option (List ℕ) → Option ℕ
+cache_of None = Some 64
+cache_of (Some word) = number_if (λ n. nat_le n 65536) (number word)
+
+-- the first sector is 0 unless the word says another
+unfoldable pub first_of : Option (List ℕ) → Option ℕ
+first_of None = Some 0
+first_of (Some word) = number word
+
+-- how many sectors, or no word
+unfoldable pub count_of : Option (List ℕ) → Option (Option ℕ)
+count_of None = Some None
+count_of (Some word) = option_map (λ n. Some n) (number word)
+
+-- how many runs at most, which is at least one, or no word
+unfoldable pub runs_of : Option (List ℕ) → Option (Option ℕ)
+runs_of None = Some None
+runs_of (Some word) = option_map (λ n. Some n) (number_if (λ n. nat_le 1 n) (number word))
+
+-- the hash area begins at byte 0, or at a multiple of 512
+unfoldable pub offset_of : Option (List ℕ) → Option ℕ
+offset_of None = Some 0
+offset_of (Some word) = number_if (λ n. n % 512 == 0) (number word)
+
+-- sectors of 512 bytes, or of 4,096
+unfoldable pub sector_size_of : Option (List ℕ) → Option ℕ
+sector_size_of None = Some 512
+sector_size_of (Some word) = number_if (λ n. n == 512 || n == 4096) (number word)
+
+-- the name of a mapped device, or no word
+unfoldable pub name_of : Option (List ℕ) → Option (Option (List ℕ))
+name_of None = Some None
+name_of (Some word) = if is_mapped_name word then Some (Some word) else None
+
+-- 64 hexadecimal digits as 32 bytes
+unfoldable pub root_of : List ℕ → Option (List ℕ)
+root_of word = result_ok (decode_sized word 32)
+
+-- two root digests
+unfoldable pub two_roots : List ℕ → List ℕ → Option (List ℕ × List ℕ)
+two_roots first second = when (root_of first) (λ a. when (root_of second) (λ b. Some (a, b)))
+
+-- a root digest, or the path of a file that holds one
+pub data RootRecord : Type 0 where
+  digest : List ℕ → RootRecord
+  root_file : List ℕ → RootRecord
+
+abbrev pub digest_first : List (List ℕ) → List ℕ → RootRecord × List (List ℕ)
+digest_first words bytes = (digest bytes, words)
+
+-- the root, which is the first word unless a file holds it, and the words behind it
+unfoldable pub root_first : Option (List ℕ) → List (List ℕ) → Option (RootRecord × List (List ℕ))
+root_first (Some path) words = Some (root_file path, words)
+root_first None [] = None
+root_first None (root ∷ words) = option_map (digest_first words) (root_of root)
+
+abbrev pub alone : RootRecord × List (List ℕ) → Option RootRecord
+alone (root, []) = Some root
+alone (root, word ∷ words) = None
+
+-- the root, and no word behind it
+unfoldable pub root_alone : Option (List ℕ) → List (List ℕ) → Option RootRecord
+root_alone file words = when (root_first file words) alone
+
+-- the device arguments of data and hashes
+unfoldable pub device_names : List (List ℕ) → Option (List ℕ × List ℕ)
+device_names (image_name ∷ hash_name ∷ []) = if is_device image_name && is_device hash_name then Some (image_name, hash_name) else None
+device_names words = None
+
+-- how partitions are printed: a line each, as a stack text, or as the stack text of the partitions of a root
+pub data FormRecord : Type 0 where
+  lines : FormRecord
+  stack : FormRecord
+  root : List ℕ → FormRecord
+
+-- at most one of `--root ROOT` and `--stack` stands there
+unfoldable pub form_of : Option (List ℕ) → Bool → Option FormRecord
+form_of None false = Some lines
+form_of None true = Some stack
+form_of (Some word) false = option_map root (root_of word)
+form_of (Some word) true = None
+
+-- what the program's own values say
+abbrev pub root_record : RootWord → RootRecord
+root_record (Digest bytes) = digest bytes
+root_record (File path) = root_file path.now
+
+abbrev pub form_record : PartitionForm → FormRecord
+form_record Lines = lines
+form_record Stack = stack
+form_record (Root bytes) = root bytes

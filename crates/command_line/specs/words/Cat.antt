@@ -1,0 +1,41 @@
+-- What `cat [--cache N] [--first N] [--count N] STACK NAME BINDING...` says.
+use Rattle.std.specs.Prelude.{List, None, Option, Some, map, ℕ, ◌∷◌}
+use Rattle.command_line.specs.Bindings.{BindingRecord, binding_record}
+use Rattle.command_line.specs.BindingWords.{bindings_of}
+use Rattle.command_line.specs.FormatOptions.{OptionTexts}
+use Rattle.command_line.specs.Values.{cache_of, count_of, first_of, when}
+use Rattle.command_line.specs.declared.words.cat.CatWords.{CatWords}
+
+pub record CatRecord : Type 0 where
+  pub cache : ℕ
+  pub first : ℕ
+  pub count : Option ℕ
+  pub stack : List ℕ
+  pub name : List ℕ
+  pub bindings : List BindingRecord
+
+unfoldable pub cat_said : OptionTexts → List (List ℕ) → Option CatRecord
+cat_said texts (stack ∷ name ∷ words) =
+    when (cache_of texts.cache) (λ cache.
+    when (first_of texts.first) (λ first.
+    when (count_of texts.count) (λ count.
+    when (bindings_of words) (λ bindings. Some (record {
+      cache = cache;
+      first = first;
+      count = count;
+      stack = stack;
+      name = name;
+      bindings = bindings;
+    })))))
+cat_said texts words = None
+
+-- what the program's own value says
+abbrev pub cat_record : CatWords → CatRecord
+cat_record w = record {
+  cache = w.cache;
+  first = w.first;
+  count = w.count;
+  stack = w.stack.now;
+  name = w.name.now;
+  bindings = map binding_record w.bindings.items;
+}

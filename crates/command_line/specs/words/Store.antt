@@ -1,0 +1,40 @@
+-- What `store [--cache N] [--first N] STACK NAME SOURCE BINDING...` says.
+use Rattle.std.specs.Prelude.{List, None, Option, Some, map, ℕ, ◌∷◌}
+use Rattle.command_line.specs.Bindings.{BindingRecord, binding_record}
+use Rattle.command_line.specs.BindingWords.{bindings_of}
+use Rattle.command_line.specs.FormatOptions.{OptionTexts}
+use Rattle.command_line.specs.Values.{cache_of, first_of, when}
+use Rattle.command_line.specs.declared.words.store.StoreWords.{StoreWords}
+
+pub record StoreRecord : Type 0 where
+  pub cache : ℕ
+  pub first : ℕ
+  pub stack : List ℕ
+  pub name : List ℕ
+  pub source : List ℕ
+  pub bindings : List BindingRecord
+
+unfoldable pub store_said : OptionTexts → List (List ℕ) → Option StoreRecord
+store_said texts (stack ∷ name ∷ source ∷ words) =
+    when (cache_of texts.cache) (λ cache.
+    when (first_of texts.first) (λ first.
+    when (bindings_of words) (λ bindings. Some (record {
+      cache = cache;
+      first = first;
+      stack = stack;
+      name = name;
+      source = source;
+      bindings = bindings;
+    }))))
+store_said texts words = None
+
+-- what the program's own value says
+abbrev pub store_record : StoreWords → StoreRecord
+store_record w = record {
+  cache = w.cache;
+  first = w.first;
+  stack = w.stack.now;
+  name = w.name.now;
+  source = w.source.now;
+  bindings = map binding_record w.bindings.items;
+}

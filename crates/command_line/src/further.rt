@@ -1,0 +1,59 @@
+//! The commands that take more than the first version's.
+ghost use Rattle.command_line.specs.FormatOptions.{option_texts, texts_of};
+ghost use Rattle.command_line.specs.FurtherRecords.{further_said};
+ghost use Rattle.command_line.specs.Reading.{Reads};
+
+use crate::fault::WordsFault;
+use crate::option_words::OptionWords;
+use crate::words::cat::{CatWords, cat_of};
+use crate::words::diff::{DiffWords, diff_of};
+use crate::words::dump::{DumpWords, dump_of};
+use crate::words::format::{FormatWords, format_of};
+use crate::words::partitions::{PartitionsWords, partitions_of};
+use crate::words::store::{StoreWords, store_of};
+use crate::words::table::{TableWords, table_of};
+use crate::words::verify::{VerifyWords, verify_of};
+use std::alloc::Global;
+
+/// A command with the values of its options and its positional words.
+#[derive(Drop)]
+pub enum Further<'a> {
+    Cat(CatWords<'a>),
+    Store(StoreWords<'a>),
+    Format(FormatWords<'a>),
+    Verify(VerifyWords<'a>),
+    Dump(DumpWords<'a>),
+    Table(TableWords<'a>),
+    Partitions(PartitionsWords<'a>),
+    Diff(DiffWords<'a>),
+}
+
+/// The command of that name.
+pub fn further_of<'a>(
+    alloc: Global,
+    name: &[u8],
+    options: &OptionWords<'a>,
+    words: &[&'a str],
+) -> Result<Further<'a>, WordsFault>
+    ensures { Reads (further_said name.now (option_texts options.now) (texts_of words.now)) result }
+{
+    if name == b"cat".as_slice() {
+        cat_of(alloc, options, words)
+    } else if name == b"store".as_slice() {
+        store_of(alloc, options, words)
+    } else if name == b"format".as_slice() {
+        format_of(options, words)
+    } else if name == b"verify".as_slice() {
+        verify_of(options, words)
+    } else if name == b"dump".as_slice() {
+        dump_of(options, words)
+    } else if name == b"table".as_slice() {
+        table_of(options, words)
+    } else if name == b"partitions".as_slice() {
+        partitions_of(options, words)
+    } else if name == b"diff".as_slice() {
+        diff_of(options, words)
+    } else {
+        Err(WordsFault::Usage)
+    }
+}

@@ -1,0 +1,72 @@
+//! The options of a command line, as words.
+ghost use Rattle.std.specs.Prelude.{◌≡◌};
+ghost use Rattle.command_line.specs.FormatOptions.{option_texts};
+ghost use Rattle.command_line.specs.FurtherWords.{has_further_flag, has_image_value, has_place_value, is_further, is_new};
+
+/// The values of the options, as they stand in the words, and which of those without a value stand there.
+#[derive(Clone, Copy)]
+pub struct OptionWords<'a> {
+    pub data_block: Option<&'a str>,
+    pub hash_block: Option<&'a str>,
+    pub blocks: Option<&'a str>,
+    pub salt: Option<&'a str>,
+    pub uuid: Option<&'a str>,
+    pub cache: Option<&'a str>,
+    pub first: Option<&'a str>,
+    pub count: Option<&'a str>,
+    pub hash_offset: Option<&'a str>,
+    pub root_hash_file: Option<&'a str>,
+    pub name: Option<&'a str>,
+    pub sector_size: Option<&'a str>,
+    pub root: Option<&'a str>,
+    pub all: bool,
+    pub stack: bool,
+}
+
+/// Whether a command isn't one of the first version, or has an option that it didn't have there.
+#[tactic(auto, unfolding(crate::specs::FurtherWords::is_further))]
+pub fn is_further(name: &[u8], options: &OptionWords<'_>) -> bool
+    ensures { result ≡ is_further name.now (option_texts options.now) }
+{
+    has_place_value(options)
+        || has_image_value(options)
+        || has_further_flag(options)
+        || is_new(name)
+}
+
+// Whether the first version has no command of that name.
+#[tactic(auto, unfolding(crate::specs::FurtherWords::is_new))]
+fn is_new(name: &[u8]) -> bool
+    ensures { result ≡ is_new name.now }
+{
+    name == b"cat".as_slice()
+        || name == b"store".as_slice()
+        || name == b"partitions".as_slice()
+        || name == b"diff".as_slice()
+}
+
+// Whether an option with a value stands there that the first version hasn't.
+#[tactic(auto, unfolding(crate::specs::FurtherWords::has_place_value))]
+fn has_place_value(options: &OptionWords<'_>) -> bool
+    ensures { result ≡ has_place_value (option_texts options.now) }
+{
+    options.first.is_some()
+        || options.count.is_some()
+        || options.hash_offset.is_some()
+        || options.sector_size.is_some()
+}
+
+#[tactic(auto, unfolding(crate::specs::FurtherWords::has_image_value))]
+fn has_image_value(options: &OptionWords<'_>) -> bool
+    ensures { result ≡ has_image_value (option_texts options.now) }
+{
+    options.root_hash_file.is_some() || options.name.is_some() || options.root.is_some()
+}
+
+// Whether an option without a value stands there.
+#[tactic(auto, unfolding(crate::specs::FurtherWords::has_further_flag))]
+fn has_further_flag(options: &OptionWords<'_>) -> bool
+    ensures { result ≡ has_further_flag (option_texts options.now) }
+{
+    options.all || options.stack
+}

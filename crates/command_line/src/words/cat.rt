@@ -1,0 +1,59 @@
+//! `cat [--cache N] [--first N] [--count N] STACK NAME BINDING...`
+ghost use Rattle.std.specs.Prelude.{option_map};
+ghost use Rattle.command_line.specs.FurtherRecords.{cat};
+ghost use Rattle.command_line.specs.Reading.{Reads};
+ghost use Rattle.command_line.specs.FormatOptions.{option_texts, texts_of};
+ghost use Rattle.command_line.specs.words.Cat.{cat_said};
+
+use crate::binding_words::bindings_of;
+use crate::bindings::Binding;
+use crate::fault::WordsFault;
+use crate::further::Further;
+use crate::option_words::OptionWords;
+use crate::values::{cache_of, count_of, first_of};
+use std::alloc::Global;
+
+/// The bytes of a device are written to standard output.
+#[derive(Drop)]
+pub struct CatWords<'a> {
+    pub cache: u32,
+    pub first: u64,
+    pub count: Option<u64>,
+    pub stack: &'a str,
+    pub name: &'a str,
+    pub bindings: Vec<Binding<'a>>,
+}
+
+/// `[--cache N] [--first N] [--count N] STACK NAME BINDING...`
+#[tactic(auto, unfolding(crate::specs::words::Cat::cat_said))]
+pub fn cat_of<'a>(
+    alloc: Global,
+    options: &OptionWords<'a>,
+    words: &[&'a str],
+) -> Result<Further<'a>, WordsFault>
+    ensures { Reads (option_map cat (cat_said (option_texts options.now) (texts_of words.now))) result }
+{
+    let [stack, name, rest @ ..] = words else {
+        return Err(WordsFault::Usage);
+    };
+    let Some(cache) = cache_of(options.cache) else {
+        return Err(WordsFault::Usage);
+    };
+    let Some(first) = first_of(options.first) else {
+        return Err(WordsFault::Usage);
+    };
+    let Some(count) = count_of(options.count) else {
+        return Err(WordsFault::Usage);
+    };
+    match bindings_of(alloc, rest) {
+        Ok(bindings) => Ok(Further::Cat(CatWords {
+            cache,
+            first,
+            count,
+            stack,
+            name,
+            bindings,
+        })),
+        Err(fault) => Err(fault),
+    }
+}

@@ -1,0 +1,35 @@
+//! `dump [--hash-offset BYTES] HASH`
+ghost use Rattle.std.specs.Prelude.{option_map};
+ghost use Rattle.command_line.specs.FurtherRecords.{dump};
+ghost use Rattle.command_line.specs.Reading.{Reads};
+ghost use Rattle.command_line.specs.FormatOptions.{option_texts, texts_of};
+ghost use Rattle.command_line.specs.words.Dump.{dump_said};
+
+use crate::fault::WordsFault;
+use crate::further::Further;
+use crate::option_words::OptionWords;
+use crate::values::offset_of;
+
+/// A superblock is printed.
+#[derive(Drop)]
+pub struct DumpWords<'a> {
+    pub hash_path: &'a str,
+    pub hash_offset: u64,
+}
+
+/// `[--hash-offset BYTES] HASH`
+#[tactic(auto, unfolding(crate::specs::words::Dump::dump_said))]
+pub fn dump_of<'a>(options: &OptionWords<'a>, words: &[&'a str]) -> Result<Further<'a>, WordsFault>
+    ensures { Reads (option_map dump (dump_said (option_texts options.now) (texts_of words.now))) result }
+{
+    let [hash_path] = words else {
+        return Err(WordsFault::Usage);
+    };
+    let Some(hash_offset) = offset_of(options.hash_offset) else {
+        return Err(WordsFault::Usage);
+    };
+    Ok(Further::Dump(DumpWords {
+        hash_path,
+        hash_offset,
+    }))
+}

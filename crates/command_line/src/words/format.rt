@@ -1,0 +1,40 @@
+//! `format [OPTIONS] DATA HASH`
+ghost use Rattle.std.specs.Prelude.{option_map};
+ghost use Rattle.command_line.specs.FurtherRecords.{format};
+ghost use Rattle.command_line.specs.Reading.{Reads};
+ghost use Rattle.command_line.specs.FormatOptions.{option_texts, texts_of};
+ghost use Rattle.command_line.specs.words.Format.{format_said};
+
+use crate::fault::WordsFault;
+use crate::further::Further;
+use crate::option_words::OptionWords;
+use crate::values::offset_of;
+
+/// A verity image is made, of what `options_of` reads.
+#[derive(Drop)]
+pub struct FormatWords<'a> {
+    pub data_path: &'a str,
+    pub hash_path: &'a str,
+    pub hash_offset: u64,
+}
+
+/// `[OPTIONS] DATA HASH`
+#[tactic(auto, unfolding(crate::specs::words::Format::format_said))]
+pub fn format_of<'a>(
+    options: &OptionWords<'a>,
+    words: &[&'a str],
+) -> Result<Further<'a>, WordsFault>
+    ensures { Reads (option_map format (format_said (option_texts options.now) (texts_of words.now))) result }
+{
+    let [data_path, hash_path] = words else {
+        return Err(WordsFault::Usage);
+    };
+    let Some(hash_offset) = offset_of(options.hash_offset) else {
+        return Err(WordsFault::Usage);
+    };
+    Ok(Further::Format(FormatWords {
+        data_path,
+        hash_path,
+        hash_offset,
+    }))
+}

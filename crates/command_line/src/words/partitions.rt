@@ -1,0 +1,43 @@
+//! `partitions [--sector-size 512|4096] [--stack | --root ROOT] IMAGE`
+ghost use Rattle.std.specs.Prelude.{option_map};
+ghost use Rattle.command_line.specs.FurtherRecords.{partitions};
+ghost use Rattle.command_line.specs.Reading.{Reads};
+ghost use Rattle.command_line.specs.FormatOptions.{option_texts, texts_of};
+ghost use Rattle.command_line.specs.words.Partitions.{partitions_said};
+
+use crate::fault::WordsFault;
+use crate::further::Further;
+use crate::option_words::OptionWords;
+use crate::values::{PartitionForm, form_of, sector_size_of};
+
+/// The partitions of an image are printed.
+#[derive(Drop)]
+pub struct PartitionsWords<'a> {
+    pub image: &'a str,
+    pub sector_size: u32,
+    pub form: PartitionForm,
+}
+
+/// `[--sector-size 512|4096] [--stack | --root ROOT] IMAGE`
+#[tactic(auto, unfolding(crate::specs::words::Partitions::partitions_said))]
+pub fn partitions_of<'a>(
+    options: &OptionWords<'a>,
+    words: &[&'a str],
+) -> Result<Further<'a>, WordsFault>
+    ensures { Reads (option_map partitions (partitions_said (option_texts options.now) (texts_of words.now))) result }
+{
+    let [image] = words else {
+        return Err(WordsFault::Usage);
+    };
+    let Some(sector_size) = sector_size_of(options.sector_size) else {
+        return Err(WordsFault::Usage);
+    };
+    let Some(form) = form_of(options.root, options.stack) else {
+        return Err(WordsFault::Usage);
+    };
+    Ok(Further::Partitions(PartitionsWords {
+        image,
+        sector_size,
+        form,
+    }))
+}

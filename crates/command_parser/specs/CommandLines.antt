@@ -1,0 +1,58 @@
+-- What clap makes of the words of a command line: a command's name, its options and its positional words.
+use Rattle.std.specs.Prelude.{◌≡◌, ◌⊎◌, ◌-◌, ◌&&◌, ℕ, Bool, true, false, nat_lt, List, [], length, get_or, codes, Option, None, option_map, unwrap_or}
+use Rattle.std.specs.Option.{option_and_then, option_map_or}
+use Rattle.std.specs.Str.{bytes_eq}
+use Rattle.clap.specs.Simple.{subcommand_of}
+use Rattle.clap.specs.Takes.{takes}
+use Rattle.clap.specs.Walk.{Row, Text, all_of, first_of}
+use Rattle.command_line.specs.CommandWords.{InvocationRecord, invocation_of}
+use Rattle.command_line.specs.FormatOptions.{OptionTexts}
+use Rattle.command_parser.specs.Grammar.{grammar}
+
+-- an option without a value stands there: clap's value of it is `true` then, and else `false`
+abbrev pub is_there : Text → List Row → Bool
+is_there name rows = option_map_or (λ word. bytes_eq word (codes "true")) (first_of name rows) false
+
+-- what stands under the names of the options
+unfoldable pub texts_in : List Row → OptionTexts
+texts_in rows = record {
+  data_block = first_of (codes "data-block") rows;
+  hash_block = first_of (codes "hash-block") rows;
+  blocks = first_of (codes "blocks") rows;
+  salt = first_of (codes "salt") rows;
+  uuid = first_of (codes "uuid") rows;
+  cache = first_of (codes "cache") rows;
+  first = first_of (codes "first") rows;
+  count = first_of (codes "count") rows;
+  hash_offset = first_of (codes "hash-offset") rows;
+  root_hash_file = first_of (codes "root-hash-file") rows;
+  name = first_of (codes "name") rows;
+  sector_size = first_of (codes "sector-size") rows;
+  root = first_of (codes "root") rows;
+  all = is_there (codes "all") rows;
+  stack = is_there (codes "stack") rows;
+}
+
+-- the positional words
+abbrev pub positional_in : List Row → List Text
+positional_in rows = unwrap_or (all_of (codes "words") rows) []
+
+-- `--` stands right in front of the last words, of which there are so many
+unfoldable pub is_behind_dashes : List Text → ℕ → Bool
+is_behind_dashes words behind = nat_lt behind (length words) && bytes_eq (get_or words (length words - behind - 1) []) (codes "--")
+
+-- what a command invokes, by its name and what clap found in the words
+abbrev pub invoked_by : List Text → Text → List Row → Option InvocationRecord
+invoked_by words name rows = invocation_of name (texts_in rows) (positional_in rows) (is_behind_dashes words (length (positional_in rows)))
+
+-- what the words of a command line invoke, as clap cuts them into a command's name, its options and its positional words
+abbrev pub invoked : List Text → Option InvocationRecord
+invoked words = option_and_then (λ cut. invoked_by words cut.0 cut.1) (subcommand_of grammar words)
+
+-- clap doesn't take the words, or they invoke nothing
+abbrev pub IsNoCommand : List Text → Type 0
+IsNoCommand words = (takes grammar words ≡ true → ⊥) ⊎ (invoked words ≡ None)
+
+-- the values of the options, as they stand in the words of a command line, and which of those without a value stand there
+abbrev pub options_said : List Text → Option OptionTexts
+options_said words = option_map (λ cut. texts_in cut.1) (subcommand_of grammar words)

@@ -1,0 +1,9 @@
+//! Reads the words of a command line by clap, against one table of commands and options.
+#![tactic(auto)]
+
+mod grammar;
+mod option_words;
+mod parser;
+mod rows;
+
+pub use parser::{CommandLine, parse};

@@ -1,0 +1,49 @@
+//! What clap found of the options.
+ghost use Rattle.std.specs.Prelude.{◌≡◌};
+ghost use Rattle.clap.specs.Matches.{found_of};
+ghost use Rattle.clap.specs.Walk.{first_of, rows_of};
+ghost use Rattle.command_line.specs.FormatOptions.{option_texts, text_of};
+ghost use Rattle.command_parser.specs.CommandLines.{is_there, texts_in};
+
+use clap::ArgMatches;
+use command_line::OptionWords;
+
+/// The values of the options, and which of those without a value stand there.
+pub fn option_words<'a>(found: &ArgMatches<'a>) -> OptionWords<'a>
+    ensures { option_texts result ≡ texts_in (rows_of (found_of found.now)) }
+{
+    OptionWords {
+        data_block: value(found, "data-block"),
+        hash_block: value(found, "hash-block"),
+        blocks: value(found, "blocks"),
+        salt: value(found, "salt"),
+        uuid: value(found, "uuid"),
+        cache: value(found, "cache"),
+        first: value(found, "first"),
+        count: value(found, "count"),
+        hash_offset: value(found, "hash-offset"),
+        root_hash_file: value(found, "root-hash-file"),
+        name: value(found, "name"),
+        sector_size: value(found, "sector-size"),
+        root: value(found, "root"),
+        all: is_there(found, "all"),
+        stack: is_there(found, "stack"),
+    }
+}
+
+// The value of an option.
+fn value<'a>(found: &ArgMatches<'a>, name: &str) -> Option<&'a str>
+    ensures { text_of result ≡ first_of name.now (rows_of (found_of found.now)) }
+{
+    found.get_str(name)
+}
+
+// Whether an option without a value stands there: clap's value of it is `true` then, and else `false`.
+fn is_there(found: &ArgMatches<'_>, name: &str) -> bool
+    ensures { result ≡ is_there name.now (rows_of (found_of found.now)) }
+{
+    match value(found, name) {
+        Some(word) => word.as_bytes() == b"true".as_slice(),
+        None => false,
+    }
+}

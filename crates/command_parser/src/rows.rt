@@ -1,0 +1,171 @@
+//! The commands with their options, a row each.
+
+/// An option: its name, other names of it, and whether a value stands behind it.
+#[derive(Clone, Copy)]
+pub struct OptionRow {
+    pub name: &'static str,
+    pub others: &'static [&'static str],
+    pub has_value: bool,
+}
+
+/// A command: its name, and the options that may stand in front of its positional words.
+#[derive(Clone, Copy)]
+pub struct CommandRow {
+    pub name: &'static str,
+    pub options: &'static [OptionRow],
+}
+
+const CACHE: OptionRow = OptionRow {
+    name: "cache",
+    others: &[],
+    has_value: true,
+};
+
+const FIRST: OptionRow = OptionRow {
+    name: "first",
+    others: &[],
+    has_value: true,
+};
+
+const COUNT: OptionRow = OptionRow {
+    name: "count",
+    others: &[],
+    has_value: true,
+};
+
+const DATA_BLOCK: OptionRow = OptionRow {
+    name: "data-block",
+    others: &["data-block-size"],
+    has_value: true,
+};
+
+const HASH_BLOCK: OptionRow = OptionRow {
+    name: "hash-block",
+    others: &["hash-block-size"],
+    has_value: true,
+};
+
+const BLOCKS: OptionRow = OptionRow {
+    name: "blocks",
+    others: &["data-blocks"],
+    has_value: true,
+};
+
+const SALT: OptionRow = OptionRow {
+    name: "salt",
+    others: &[],
+    has_value: true,
+};
+
+const UUID: OptionRow = OptionRow {
+    name: "uuid",
+    others: &[],
+    has_value: true,
+};
+
+const HASH_OFFSET: OptionRow = OptionRow {
+    name: "hash-offset",
+    others: &[],
+    has_value: true,
+};
+
+const ROOT_HASH_FILE: OptionRow = OptionRow {
+    name: "root-hash-file",
+    others: &[],
+    has_value: true,
+};
+
+const NAME: OptionRow = OptionRow {
+    name: "name",
+    others: &[],
+    has_value: true,
+};
+
+const SECTOR_SIZE: OptionRow = OptionRow {
+    name: "sector-size",
+    others: &[],
+    has_value: true,
+};
+
+const ROOT: OptionRow = OptionRow {
+    name: "root",
+    others: &[],
+    has_value: true,
+};
+
+// of `diff`, where it says how many runs are printed
+const RUNS: OptionRow = OptionRow {
+    name: "blocks",
+    others: &[],
+    has_value: true,
+};
+
+const STACK: OptionRow = OptionRow {
+    name: "stack",
+    others: &[],
+    has_value: false,
+};
+
+/// All commands.
+pub static COMMANDS: [CommandRow; 15] = [
+    CommandRow {
+        name: "format",
+        options: &[DATA_BLOCK, HASH_BLOCK, BLOCKS, SALT, UUID, HASH_OFFSET],
+    },
+    CommandRow {
+        name: "verify",
+        options: &[HASH_OFFSET, ROOT_HASH_FILE],
+    },
+    CommandRow {
+        name: "dump",
+        options: &[HASH_OFFSET],
+    },
+    CommandRow {
+        name: "table",
+        options: &[HASH_OFFSET, ROOT_HASH_FILE, NAME],
+    },
+    CommandRow {
+        name: "load",
+        options: &[],
+    },
+    CommandRow {
+        name: "read",
+        options: &[CACHE],
+    },
+    CommandRow {
+        name: "write",
+        options: &[CACHE],
+    },
+    CommandRow {
+        name: "session",
+        options: &[CACHE],
+    },
+    CommandRow {
+        name: "nbd",
+        options: &[CACHE],
+    },
+    CommandRow {
+        name: "scan",
+        options: &[],
+    },
+    CommandRow {
+        name: "copy",
+        options: &[],
+    },
+    CommandRow {
+        name: "cat",
+        options: &[CACHE, FIRST, COUNT],
+    },
+    CommandRow {
+        name: "store",
+        options: &[CACHE, FIRST],
+    },
+    CommandRow {
+        name: "partitions",
+        options: &[SECTOR_SIZE, STACK, ROOT],
+    },
+    CommandRow {
+        name: "diff",
+        options: &[RUNS],
+    },
+];
