@@ -11,8 +11,7 @@ use std::process::ExitCode;
 use std::{env, io};
 
 fn main(rt: HostRuntime) -> ExitCode {
-    // In place of a standard stream that is closed stands a folder, which can be neither read nor written: else the first
-    // image that is opened would stand there, and replies be written into it.
+    // In place of a closed standard stream stands a folder: else the first image would stand there, and get the replies.
     let _input = File::open(&rt, "/");
     let _output = File::open(&rt, "/");
     let _errors = File::open(&rt, "/");
@@ -22,24 +21,24 @@ fn main(rt: HostRuntime) -> ExitCode {
     };
     let mut reader = Counted::new(rt.reader());
     let mut writer = Counted::new(buffered);
+    let mut errors = Counted::new(rt.stderr());
+    let (mut images, mut generators) = (FileImages::new(&rt), SystemGenerators::new(&rt));
     let status = match words_of(&rt) {
         Ok(words) => command(
-            &rt,
-            &mut FileImages::new(&rt),
-            &mut SystemGenerators::new(&rt),
-            words.as_slice(),
+            rt.alloc(),
+            &mut images,
+            &mut generators,
+            &words,
             &mut reader,
             &mut writer,
+            &mut errors,
         ),
         Err(error) if error.kind() == ErrorKind::OutOfMemory => {
             end(&mut writer, CommandFault::NoMemory)
         }
         Err(_) => end(&mut writer, CommandFault::Usage),
     };
-    match writer.flush() {
-        Ok(()) => ExitCode::from(status),
-        Err(_) => ExitCode::from(1),
-    }
+    ExitCode::from(if writer.flush().is_ok() { status } else { 1 })
 }
 
 // The words behind the program's name. One that is not UTF-8 is an error of another kind than memory.

@@ -1,7 +1,10 @@
-pub mod BindingLemmas
+pub mod ClosingLemmas
 pub mod ConfigurationLemmas
 pub mod EndingLemmas
 pub mod OpeningLemmas
 pub mod RecoveryLemmas
 pub mod ServeLemmas
+pub mod StackLemmas
+pub mod StreamingLemmas
 pub mod UsageLemmas
+pub mod WriteLemmas

@@ -1,109 +1,65 @@
--- Sessions that end early.
-use Rattle.std.proofs.Common.{◌≡◌, ◌≤◌, ◌^◌, ℕ, Bool, List, [], ◌∷◌, length, refl, subst, inl, inr, Result, Ok}
-use Rattle.block_device.specs.Device.{Device}
+-- Sessions and services of clients.
+use Rattle.std.proofs.Common.{◌≡◌, Bool, refl, subst, inl, List, [], map, Result}
+use Rattle.counted_io.specs.Streams.{Streams}
+use Rattle.command_line.specs.Bindings.{BindingRecord}
+use Rattle.image_files.specs.Opener.{Calls}
 use Rattle.nbd_server.specs.declared.fault.ServiceFault.{ServiceFault}
 use Rattle.nbd_server.specs.Exports.{ExportRecord, IsExport}
 use Rattle.nbd_server.specs.Service.{IsService}
-use Rattle.stack_rules.specs.Records.{Configuration, LeafRecord}
-use Rattle.stack_meaning.specs.declared.fault.IoFault.{IoFault}
-use Rattle.stack_engine.specs.Pieces.{stack_over}
-use Rattle.stack_engine.specs.Syncs.{FailsToSync}
 use Rattle.request_queue.specs.World.{World}
+use Rattle.stack_engine.specs.Pieces.{stack_over}
+use Rattle.stack_engine.specs.Stacks.{StackRecord}
+use Rattle.stack_meaning.specs.declared.fault.IoFault.{IoFault}
+use Rattle.stack_opening.specs.declared.fault.OpeningFault.{OpeningFault}
+use Rattle.stack_opening.specs.declared.fault.OpeningFault.TheVariants as opening
+use Rattle.stack_opening.specs.declared.leaves.OpenLeaves.{OpenLeaves}
+use Rattle.stack_opening.specs.declared.stack_file.OpenStack.{OpenStack}
+use Rattle.stack_opening.specs.Bindings.{AreBound}
+use Rattle.stack_opening.specs.Openings.{IsBindingEnd}
+use Rattle.stack_opening.specs.OpenStacks.{OpensStack}
 use Rattle.stack_session.specs.declared.fault.SessionFault.{SessionFault}
 use Rattle.stack_session.specs.QueueSessions.{IsQueueSession}
-use Rattle.counted_io.specs.Streams.{Streams}
-use Rattle.stack_commands.specs.declared.fault.CommandFault.{CommandFault}
-use Rattle.stack_commands.specs.declared.fault.CommandFault.TheVariants.{Usage, NoMemory, TooLong, Open, Leaves, Text, Load, Submit, Io, Image, Lost, OutputTooSmall, OutputFailed, Session, Service}
-use Rattle.stack_commands.specs.Bindings.{AreBound}
-use Rattle.command_line.specs.Bindings.{BindingRecord}
-use Rattle.stack_commands.specs.Configuration.{configuration_of, leaves_alone}
-use Rattle.stack_commands.specs.Openings.{IsBindingEnd}
+use Rattle.stack_commands.specs.Closings.{GivesBack}
+use Rattle.stack_commands.specs.Configuration.{leaves_alone}
+use Rattle.stack_commands.specs.Endings.{opening_ending}
 use Rattle.stack_commands.specs.Requests.{new_world}
-use Rattle.stack_commands.specs.StackCommands.{IsServeEnd, IsSyncEnd, Serves, ServesClient}
-
-no-io : (bindings : List BindingRecord) (fault : IoFault) → IsBindingEnd bindings (Io fault) → ⊥
-no-io [] fault ends = ends
-no-io (b ∷ bs) fault (inl ends) = ends
-no-io (b ∷ bs) fault (inr ends) = no-io bs fault ends
-
-no-session : (bindings : List BindingRecord) (fault : SessionFault) → IsBindingEnd bindings (Session fault) → ⊥
-no-session [] fault ends = ends
-no-session (b ∷ bs) fault (inl ends) = ends
-no-session (b ∷ bs) fault (inr ends) = no-session bs fault ends
+use Rattle.stack_commands.specs.StackCommands.{DeviceWords, IsServeEnd, Serves, ServesClient}
+use Rattle.stack_commands.specs.StacksOfTexts.{IsStackOf}
 
 -- a binding that isn't opened, before anything is read or written
-pub IsServeEnd-unopened : (bindings : List BindingRecord) (s : Streams) (failed : Bool) (fault : CommandFault) → IsBindingEnd bindings fault → IsServeEnd bindings s s failed fault
-IsServeEnd-unopened bindings s failed Usage ends = (refl, inl ends)
-IsServeEnd-unopened bindings s failed NoMemory ends = (refl, inl ends)
-IsServeEnd-unopened bindings s failed TooLong ends = (refl, inl ends)
-IsServeEnd-unopened bindings s failed (Open file) ends = (refl, inl ends)
-IsServeEnd-unopened bindings s failed (Leaves fault) ends = (refl, inl ends)
-IsServeEnd-unopened bindings s failed (Text fault) ends = (refl, inl ends)
-IsServeEnd-unopened bindings s failed (Load refusal) ends = (refl, inl ends)
-IsServeEnd-unopened bindings s failed (Submit fault) ends = (refl, inl ends)
-IsServeEnd-unopened bindings s failed (Io fault) ends = absurd (no-io bindings fault ends)
-IsServeEnd-unopened bindings s failed (Image fault) ends = (refl, inl ends)
-IsServeEnd-unopened bindings s failed (Lost read lost) ends = (refl, inl ends)
-IsServeEnd-unopened bindings s failed (OutputTooSmall needed) ends = (refl, inl ends)
-IsServeEnd-unopened bindings s failed OutputFailed ends = (refl, inl ends)
-IsServeEnd-unopened bindings s failed (Session fault) ends = absurd (no-session bindings fault ends)
-IsServeEnd-unopened bindings s failed (Service fault) ends = (refl, inl ends)
+pub IsServeEnd-unopened : {S D : Type 0} (w : Calls S D) (bindings : List BindingRecord) (s : Streams) (failed : Bool) (fault : OpeningFault)
+    → IsBindingEnd w [] bindings fault → IsServeEnd w bindings s s failed (opening_ending fault)
+IsServeEnd-unopened w bindings s failed opening.NoMemory ends = (refl, inl (opening.NoMemory, refl, ends))
+IsServeEnd-unopened w bindings s failed opening.TooLong ends = (refl, inl (opening.TooLong, refl, ends))
+IsServeEnd-unopened w bindings s failed (opening.Open file) ends = (refl, inl (opening.Open file, refl, ends))
 
--- a session over a new queue
-pub Serves-new : (bindings : List BindingRecord) (leaves : List LeafRecord) (devices : List Device) (first end : World) (old new : Streams) (outcome : Result Unit SessionFault)
-    → AreBound bindings leaves devices → first ≡ new_world (stack_over (leaves_alone leaves) devices) → IsQueueSession first end old new outcome → Serves bindings old new outcome
-Serves-new bindings leaves devices first end old new outcome bound is served = record {
-  leaves = leaves;
-  devices = devices;
-  last = end;
+-- a session by a new queue over no mapped device
+pub session-served : {S D : Type 0} (w : Calls S D) (between : S) (bindings : List BindingRecord) (over : OpenLeaves D) (queue last : World) (old new : Streams)
+    (outcome : Result Unit SessionFault) (synced : Result Unit IoFault) → AreBound (record w { new = between }) [] bindings over.leaves.items over.devices.items
+    → queue ≡ new_world (stack_over (leaves_alone over.leaves.items) (map w.state over.devices.items)) → IsQueueSession queue last old new outcome
+    → GivesBack (record w { old = between }) bindings last.stack.leaves synced → Serves w bindings old new outcome synced
+session-served w between bindings over queue last old new outcome synced bound is served back = record {
+  over = over;
+  last = last;
+  between = between;
   bound = bound;
-  served = subst (λ w. IsQueueSession w end old new outcome) is served;
+  served = subst (λ (q : World). IsQueueSession q last old new outcome) is served;
+  back = back;
 }
 
--- one that was served to its end, and one of whose leaves isn't synced then
-pub Serves-unsynced : (bindings : List BindingRecord) (leaves : List LeafRecord) (devices : List Device) (first end : World) (old new : Streams)
-    → AreBound bindings leaves devices → first ≡ new_world (stack_over (leaves_alone leaves) devices) → IsQueueSession first end old new (Ok tt)
-    → (fault : IoFault) (after : List Device) → FailsToSync end.stack.leaves after fault → (served : Serves bindings old new (Ok tt)) × IsSyncEnd served.last.stack.leaves (Io fault)
-Serves-unsynced bindings leaves devices first end old new bound is served fault after fails = (
-  record {
-    leaves = leaves;
-    devices = devices;
-    last = end;
-    bound = bound;
-    served = subst (λ w. IsQueueSession w end old new (Ok tt)) is served;
-  },
-  (after, fails),
-)
-
--- a client's service over a new queue
-pub ServesClient-new : (bindings : List BindingRecord) (leaves : List LeafRecord) (text : List ℕ) (devices : List Device) (config : Configuration) (e : ExportRecord) (first last : World) (old new : Streams) (outcome : Result Unit ServiceFault)
-    → AreBound bindings leaves devices → length text ≤ 2 ^ 20 → configuration_of leaves text ≡ Ok config → first ≡ new_world (stack_over config devices) → IsExport config e → IsService e first last old new outcome
-    → ServesClient bindings e.name old new outcome
-ServesClient-new bindings leaves text devices config e first last old new outcome bound short makes is export served = record {
-  config = config;
-  devices = devices;
+-- a client that was served by a new queue over the stack
+pub client-served : {S D : Type 0} (w : Calls S D) (between : S) (words : DeviceWords) (over : OpenStack D) (stack : StackRecord) (queue last : World) (e : ExportRecord) (old new : Streams)
+    (outcome : Result Unit ServiceFault) (synced : Result Unit IoFault) → OpensStack (record w { new = between }) words.words over → IsStackOf w.state over stack → queue ≡ new_world stack
+    → IsExport queue.stack.config e → e.name ≡ words.name → IsService e queue last old new outcome → GivesBack (record w { old = between }) words.words.bindings last.stack.leaves synced
+    → ServesClient w words old new outcome synced
+client-served w between words over stack queue last e old new outcome synced opened made is export named service back = record {
+  stack = stack;
   export = e;
   last = last;
-  loaded = record { leaves = leaves; text = text; bound = bound; short = short; makes = makes };
-  is_export = export;
-  named = refl;
-  served = subst (λ w. IsService e w last old new outcome) is served;
+  between = between;
+  loaded = record { over = over; opened = opened; made = made };
+  is_export = subst (λ (q : World). IsExport q.stack.config e) is export;
+  named = named;
+  served = subst (λ (q : World). IsService e q last old new outcome) is service;
+  back = back;
 }
-
--- one that was served to its end, and one of whose leaves isn't synced then
-pub ServesClient-unsynced : (bindings : List BindingRecord) (leaves : List LeafRecord) (text : List ℕ) (devices : List Device) (config : Configuration) (e : ExportRecord) (first last : World) (old new : Streams)
-    → AreBound bindings leaves devices → length text ≤ 2 ^ 20 → configuration_of leaves text ≡ Ok config → first ≡ new_world (stack_over config devices) → IsExport config e → IsService e first last old new (Ok tt)
-    → (fault : IoFault) (after : List Device) → FailsToSync last.stack.leaves after fault → (served : ServesClient bindings e.name old new (Ok tt)) × IsSyncEnd served.last.stack.leaves (Io fault)
-ServesClient-unsynced bindings leaves text devices config e first last old new bound short makes is export served fault after fails = (
-  record {
-    config = config;
-    devices = devices;
-    export = e;
-    last = last;
-    loaded = record { leaves = leaves; text = text; bound = bound; short = short; makes = makes };
-    is_export = export;
-    named = refl;
-    served = subst (λ w. IsService e w last old new (Ok tt)) is served;
-  },
-  (after, fails),
-)

@@ -5,20 +5,23 @@ use Rattle.command_line.specs.declared.fault.WordsFault.{WordsFault}
 use Rattle.command_line.specs.declared.fault.WordsFault.TheVariants as words
 use Rattle.dm_table.specs.declared.fault.ParseFault.{ParseFault}
 use Rattle.dm_table.specs.declared.fault.ParseFault.TheVariants as parse
+use Rattle.stack_opening.specs.declared.fault.OpeningFault.{OpeningFault}
+use Rattle.stack_opening.specs.declared.fault.OpeningFault.TheVariants as opening
 use Rattle.stack_rules.specs.declared.refusal.ConfigFault.{ConfigFault}
 use Rattle.stack_rules.specs.declared.refusal.ConfigFault.TheVariants as config
 use Rattle.stack_rules.specs.declared.refusal.LoadFault.{LoadFault}
 use Rattle.stack_rules.specs.declared.refusal.LoadFault.TheVariants as load
 use Rattle.stack_meaning.specs.declared.fault.IoFault.TheVariants as io
 use Rattle.stack_commands.specs.declared.fault.CommandFault.{CommandFault}
-use Rattle.stack_commands.specs.declared.fault.CommandFault.TheVariants.{Usage, NoMemory, TooLong, Open, Leaves, Text, Load, Submit, Io, Image, Lost, OutputTooSmall, OutputFailed, Session, Service}
+use Rattle.stack_commands.specs.declared.fault.CommandFault.TheVariants.{Usage, NoMemory, TooLong, Open, Leaves, Text, Load, Submit, Io, Image, Partitions, Trees, Cat, Store, Lost, OutputTooSmall, OutputFailed, Session, Service}
 use Rattle.nbd_server.specs.declared.fault.ServiceFault.TheVariants as service
 use Rattle.stack_session.specs.declared.fault.SessionFault.TheVariants.{WriteFault}
 use Rattle.image_commands.specs.declared.fault.ImageFault.TheVariants as image
 use Rattle.image_commands.specs.Endings as images
+use Rattle.stack_commands.specs.FurtherTexts.{cat_status, cat_text, partitions_text, store_status, store_text, tree_status, tree_text}
 use Rattle.stack_commands.specs.ImageTexts.{image_text, open_text}
 use Rattle.stack_rules.specs.FaultKinds.{config_number, config_name}
-use Rattle.io_fault_text.specs.Texts.{io_text, kind_then, no_memory}
+use Rattle.io_fault_text.specs.Texts.{io_text, no_memory}
 use Rattle.stack_session.specs.Texts.{usage_text, fault_text, refusal_text, refused_text, submit_text}
 
 -- how a command ends where the words are none, where a text has a fault, and where a load is refused
@@ -33,6 +36,16 @@ text_ending parse.NoMemory = NoMemory
 abbrev pub load_ending : LoadFault → CommandFault
 load_ending (load.Refused refusal) = Load refusal
 load_ending load.NoMemory = NoMemory
+
+-- how it ends where what it names isn't opened
+abbrev pub opening_ending : OpeningFault → CommandFault
+opening_ending opening.NoMemory = NoMemory
+opening_ending opening.TooLong = TooLong
+opening_ending (opening.Open file) = Open file
+
+-- it ends so, and that is said of the opening's fault
+abbrev pub IsOpeningEnd : (OpeningFault → Type 0) → CommandFault → Type 0
+IsOpeningEnd Fails fault = (cause : OpeningFault) × (fault ≡ opening_ending cause) × Fails cause
 
 -- leaves that aren't taken
 abbrev pub config_text : ConfigFault → List ℕ
@@ -59,6 +72,10 @@ ending_text (Load refusal) = refusal_text refusal
 ending_text (Submit fault) = submit_text fault
 ending_text (Io fault) = io_text fault
 ending_text (Image fault) = image_text fault
+ending_text (Partitions fault) = partitions_text fault
+ending_text (Trees fault) = tree_text fault
+ending_text (Cat fault) = cat_text fault
+ending_text (Store fault) = store_text fault
 ending_text (Lost read lost) = counts_text read lost
 ending_text (OutputTooSmall needed) = too_small_text needed
 ending_text OutputFailed = codes "refused 2 Device\n"
@@ -72,6 +89,9 @@ ending_status Usage = 2
 ending_status (Io io.NoMemory) = 1
 ending_status (Io fault) = 3
 ending_status (Image (image.Differs verdict)) = 3
+ending_status (Trees fault) = tree_status fault
+ending_status (Cat fault) = cat_status fault
+ending_status (Store fault) = store_status fault
 ending_status (Lost read lost) = 3
 ending_status (Service service.Lost) = 4
 ending_status (Service service.Magic) = 4

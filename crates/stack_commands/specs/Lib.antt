@@ -1,10 +1,15 @@
-pub mod Bindings
+pub mod Closings
 pub mod Commands
 pub mod Configuration
 pub mod Endings
+pub mod Further
+pub mod FurtherTexts
 pub mod ImageTexts
-pub mod Openings
+pub mod Places
 pub mod Recoveries
 pub mod Recovering
 pub mod Requests
 pub mod StackCommands
+pub mod StacksOfTexts
+pub mod Streaming
+pub mod Uses

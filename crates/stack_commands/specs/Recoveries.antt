@@ -1,118 +1,171 @@
 -- What the commands that go over a device print, and how they end early.
-use Rattle.std.specs.Prelude.{◌≡◌, ◌⊎◌, ℕ, ◌-◌, ◌<◌, Bool, true, List, ◌++◌, length, Option, Some, None, Ok}
-use Rattle.std.specs.Io.KnownBytes.{Appends}
-use Rattle.block_device.specs.Device.{Device, HasFailed}
+use Rattle.std.specs.Prelude.{◌≡◌, ◌⊎◌, ℕ, ◌<◌, Bool, IsTrue, List, Option, Some, None}
+use Rattle.block_device.specs.Device.{Device, synced}
+use Rattle.image_files.specs.declared.images.OpenImage.{OpenImage}
+use Rattle.image_files.specs.Opener.{Calls}
 use Rattle.stack_rules.specs.Names.{device_named, mapped, size}
-use Rattle.stack_rules.specs.Records.{Configuration, LeafRecord}
-use Rattle.stack_engine.specs.Pieces.{stack_over}
 use Rattle.stack_engine.specs.Stacks.{StackRecord}
+use Rattle.stack_recovery.specs.declared.recovery.Counts.{Counts}
+use Rattle.stack_recovery.specs.Recoveries.{Recovers, Sides, sides}
 use Rattle.request_queue.specs.declared.fault.SubmitFault.TheVariants.{NoSuchDevice}
-use Rattle.stack_session.specs.declared.fault.SessionFault.TheVariants.{WriteFault}
 use Rattle.stack_commands.specs.declared.fault.CommandFault.{CommandFault}
-use Rattle.stack_commands.specs.declared.fault.CommandFault.TheVariants.{Lost, NoMemory, OutputFailed, OutputTooSmall, Session, Submit}
-use Rattle.stack_commands.specs.Endings.{counts_text}
-use Rattle.image_files.specs.Opened.{IsOpened}
-use Rattle.stack_commands.specs.Openings.{IsUnopened}
-use Rattle.stack_recovery.specs.declared.lost_run.LostRun.{LostRun}
-use Rattle.stack_recovery.specs.LostRuns.{lost_in, lost_runs}
-use Rattle.stack_recovery.specs.Surveys.{IsSurvey, PieceRead, State, all_states}
-use Rattle.stack_recovery.specs.Texts.{runs_text}
-use Rattle.command_line.specs.Bindings.{BindingRecord}
-use Rattle.stack_commands.specs.Configuration.{configuration_of}
-use Rattle.stack_commands.specs.StackCommands.{FailsToLoad, Failing, IsLoadedFrom, IsStackEnd}
+use Rattle.stack_commands.specs.declared.fault.CommandFault.TheVariants.{OutputTooSmall, Submit}
+use Rattle.stack_opening.specs.declared.stack_file.OpenStack.{OpenStack}
+use Rattle.stack_opening.specs.OpenStacks.{FailsToOpenOutput, OpensOutput}
+use Rattle.stack_commands.specs.Endings.{IsOpeningEnd}
+use Rattle.stack_commands.specs.StacksOfTexts.{FailsToLoad, IsStackOf}
+use Rattle.stack_commands.specs.Recovering.{IsCountsEnd, IsRecoverEnd, TellsCounts}
+use Rattle.stack_commands.specs.StackCommands.{DeviceWords, IsStackEnd, Loads}
 
--- a stack file, the name of one of its devices, and bindings
-pub record DeviceWords : Type 0 where
-  pub stack : List ℕ
-  pub name : List ℕ
-  pub bindings : List BindingRecord
-
-abbrev pub device_words : List ℕ → List ℕ → List BindingRecord → DeviceWords
-device_words stack name bindings = record { stack = stack; name = name; bindings = bindings }
-
--- the device of that name, of the stack that a text makes of leaves
-pub record HasDevice (leaves : List LeafRecord) (text name : List ℕ) (devices : List Device) (stack : StackRecord) (d : ℕ) : Type 0 where
-  pub makes : configuration_of leaves text ≡ Ok stack.config
-  pub over : stack.leaves ≡ devices
-  pub named : device_named stack.config name ≡ Some d
-
--- the stack isn't loaded, or has no device of that name
-abbrev pub FailsToFind : List ℕ → Failing
-FailsToFind name leaves text devices fault =
-    FailsToLoad leaves text fault
-    ⊎ ((c : Configuration) × (configuration_of leaves text ≡ Ok c) × (device_named c name ≡ None) × (fault ≡ Submit NoSuchDevice))
-
--- the first sectors of the device were gone over, and are in these states
-pub record AreFound (bindings : List BindingRecord) (name : List ℕ) (d : ℕ) (config : Configuration) (states : List State) : Type 0 where
-  pub devices : List Device
-  pub reads : List PieceRead
-  pub left : StackRecord
-  pub loaded : IsLoadedFrom bindings config devices
-  pub named : device_named config name ≡ Some d
-  pub survey : IsSurvey d 0 (stack_over config devices) reads left
-  pub is : states ≡ all_states reads
-
--- all its sectors were
-pub record AllFound (bindings : List BindingRecord) (name : List ℕ) (states : List State) : Type 0 where
-  pub config : Configuration
+-- a mapped device of a stack
+pub record Place : Type 0 where
+  pub stack : StackRecord
   pub d : ℕ
-  pub found : AreFound bindings name d config states
-  pub whole : length states ≡ size config (mapped d)
 
--- a line was printed for each longest lost run
-pub record PrintsRuns (bindings : List BindingRecord) (name : List ℕ) (old new : Option (List ℕ)) (states : List State) : Type 0 where
-  pub all : AllFound bindings name states
-  pub printed : Appends old new (runs_text (lost_runs 0 states))
+abbrev pub place_of : StackRecord → ℕ → Place
+place_of stack d = record { stack = stack; d = d }
 
--- `scan` and `copy`: no sector is lost, and the counts were printed
-pub record PrintsStates (bindings : List BindingRecord) (name : List ℕ) (old new : Option (List ℕ)) : Type 0 where
-  pub states : List State
-  pub all : AllFound bindings name states
-  pub none : lost_in states ≡ 0
-  pub printed : Appends old new (runs_text (lost_runs 0 states) ++ counts_text (length states) 0)
+-- the device of that name, of the stack that the text makes of the open leaves
+pub record HasDevice {D : Type 0} (state : D → Device) (name : List ℕ) (over : OpenStack D) (at : Place) : Type 0 where
+  pub made : IsStackOf state over at.stack
+  pub named : device_named at.stack.config name ≡ Some at.d
 
--- some are lost, and of each longest run a line was printed
-pub record PrintsLost (bindings : List BindingRecord) (name : List ℕ) (old new : Option (List ℕ)) (read lost : ℕ) : Type 0 where
-  pub states : List State
-  pub runs : PrintsRuns bindings name old new states
-  pub some : 0 < lost_in states
-  pub is : (read ≡ length states - lost_in states) × (lost ≡ lost_in states)
+-- there is none of that name
+pub record IsUnnamed {D : Type 0} (state : D → Device) (name : List ℕ) (over : OpenStack D) (fault : CommandFault) : Type 0 where
+  pub stack : StackRecord
+  pub made : IsStackOf state over stack
+  pub none : device_named stack.config name ≡ None
+  pub is : fault ≡ Submit NoSuchDevice
 
--- some first sectors were gone over, and lines printed for the first of their longest lost runs
-pub record PrintsSome (bindings : List BindingRecord) (name : List ℕ) (old new : Option (List ℕ)) : Type 0 where
-  pub config : Configuration
-  pub d : ℕ
-  pub states : List State
-  pub runs : List LostRun
-  pub more : List LostRun
-  pub found : AreFound bindings name d config states
-  pub first : lost_runs 0 states ≡ runs ++ more
-  pub printed : Appends old new (runs_text runs)
+-- that, or the text makes no stack
+abbrev pub FailsToFind : {D : Type 0} → (D → Device) → List ℕ → OpenStack D → CommandFault → Type 0
+FailsToFind state name over fault = FailsToLoad over fault ⊎ IsUnnamed state name over fault
 
--- how it ends once it has begun: with lost sectors, by want of memory, or by a line that can't be written
-abbrev pub IsFoundEnd : List BindingRecord → List ℕ → Option (List ℕ) → Option (List ℕ) → Bool → CommandFault → Type 0
-IsFoundEnd bindings name old new failed (Lost read lost) = PrintsLost bindings name old new read lost
-IsFoundEnd bindings name old new failed NoMemory = PrintsSome bindings name old new
-IsFoundEnd bindings name old new failed (Session fault) = (fault ≡ WriteFault) × (failed ≡ true)
-IsFoundEnd bindings name old new failed fault = ⊥
+-- ---- `scan`
+
+-- the device of that name, of the stack that STACK's text makes of the bindings' leaves
+pub record Finds {S D : Type 0} (w : Calls S D) (words : DeviceWords) (at : Place) : Type 0 where
+  pub loaded : Loads w words.words at.stack
+  pub named : device_named at.stack.config words.name ≡ Some at.d
+
+-- It was gone over: a line was printed for each longest lost run.
+pub record Scans {S D : Type 0} (w : Calls S D) (words : DeviceWords) (old : Option (List ℕ)) (counts : Counts) (printed : Option (List ℕ)) : Type 0 where
+  pub at : Place
+  pub out : Device
+  pub left : Sides
+  pub found : Finds w words at
+  pub recovered : Recovers at.d (sides at.stack out old) counts left
+  pub same : left.printed ≡ printed
+
+-- `scan`: no sector is lost, and the counts were printed
+pub record PrintsScan {S D : Type 0} (w : Calls S D) (words : DeviceWords) (old new : Option (List ℕ)) : Type 0 where
+  pub counts : Counts
+  pub printed : Option (List ℕ)
+  pub scanned : Scans w words old counts printed
+  pub told : TellsCounts counts printed new
+
+-- it was begun, and ended early
+pub record FailsToScan {S D : Type 0} (w : Calls S D) (words : DeviceWords) (old new : Option (List ℕ)) (failed : Bool) (fault : CommandFault) : Type 0 where
+  pub at : Place
+  pub out : Device
+  pub left : Sides
+  pub found : Finds w words at
+  pub sure : IsTrue out.never_fails
+  pub fails : IsRecoverEnd at.d (sides at.stack out old) left failed fault
+  pub same : left.printed ≡ new
+
+-- sectors are lost, or the counts can't be written
+pub record LosesInScan {S D : Type 0} (w : Calls S D) (words : DeviceWords) (old new : Option (List ℕ)) (failed : Bool) (fault : CommandFault) : Type 0 where
+  pub counts : Counts
+  pub printed : Option (List ℕ)
+  pub scanned : Scans w words old counts printed
+  pub ends : IsCountsEnd counts printed new failed fault
 
 -- nothing is printed where the stack isn't loaded or has no such device
-abbrev pub IsUnbegun : DeviceWords → Option (List ℕ) → Option (List ℕ) → CommandFault → Type 0
-IsUnbegun words old new fault = (new ≡ old) × IsStackEnd words.stack words.bindings (FailsToFind words.name) fault
+abbrev pub IsScanEnd : {S D : Type 0} → Calls S D → DeviceWords → Option (List ℕ) → Option (List ℕ) → Bool → CommandFault → Type 0
+IsScanEnd w words old new failed fault =
+    ((new ≡ old) × IsStackEnd w words.words (FailsToFind w.state words.name) fault)
+    ⊎ (FailsToScan w words old new failed fault ⊎ LosesInScan w words old new failed fault)
 
-abbrev pub IsScanEnd : DeviceWords → Option (List ℕ) → Option (List ℕ) → Bool → CommandFault → Type 0
-IsScanEnd words old new failed fault = IsUnbegun words old new fault ⊎ IsFoundEnd words.bindings words.name old new failed fault
+-- ---- `copy`
 
--- the device that has more sectors than the image
-abbrev pub IsOutputEnd : DeviceWords → Option (List ℕ) → Option (List ℕ) → CommandFault → Type 0
-IsOutputEnd words old new (OutputTooSmall needed) =
-    (new ≡ old) × ((config : Configuration) × (devices : List Device) × (d : ℕ) × IsLoadedFrom words.bindings config devices
-    × (device_named config words.name ≡ Some d) × (needed ≡ size config (mapped d)))
--- the image failed: a write, or its sync once all lines were printed
-IsOutputEnd words old new OutputFailed =
-    PrintsSome words.bindings words.name old new × ((image image' : Device) × IsOpened image true × HasFailed image image')
-IsOutputEnd words old new fault = ⊥
+-- a stack file, the name of one of its devices, bindings, and the image to which it is copied
+pub record CopyWords : Type 0 where
+  pub words : DeviceWords
+  pub out : List ℕ
 
--- the image isn't opened, is too small or fails, or another end of going over a device
-abbrev pub IsCopyEnd : DeviceWords → List ℕ → Option (List ℕ) → Option (List ℕ) → Bool → CommandFault → Type 0
-IsCopyEnd words out old new failed fault = ((new ≡ old) × IsUnopened out fault) ⊎ (IsOutputEnd words old new fault ⊎ IsScanEnd words old new failed fault)
+abbrev pub copy_words : DeviceWords → List ℕ → CopyWords
+copy_words words out = record { words = words; out = out }
+
+-- all was opened, and there is such a device
+pub record FindsOutput {S D : Type 0} (w : Calls S D) (words : CopyWords) (at : Place) (image : OpenImage D) : Type 0 where
+  pub over : OpenStack D
+  pub opened : OpensOutput w words.words.words words.out over image
+  pub has : HasDevice w.state words.words.name over at
+
+-- The device was gone over: a line was printed for each longest lost run, what was had went to OUT's image, and that was
+-- synced and given back.
+pub record Copies {S D : Type 0} (w : Calls S D) (words : CopyWords) (old : Option (List ℕ)) (counts : Counts) (printed : Option (List ℕ)) : Type 0 where
+  pub at : Place
+  pub image : OpenImage D
+  pub image' : D
+  pub left : Sides
+  pub between : S
+  pub found : FindsOutput (record w { new = between }) words at image
+  pub recovered : Recovers at.d (sides at.stack (w.state image.device) old) counts left
+  pub on_medium : w.state image' ≡ synced left.out
+  pub same : left.printed ≡ printed
+  pub back : w.relations.takes between words.out image' w.new
+
+-- `copy`: no sector is lost, and the counts were printed
+pub record PrintsCopy {S D : Type 0} (w : Calls S D) (words : CopyWords) (old new : Option (List ℕ)) : Type 0 where
+  pub counts : Counts
+  pub printed : Option (List ℕ)
+  pub copied : Copies w words old counts printed
+  pub told : TellsCounts counts printed new
+
+-- all is open, but the text makes no stack or there is no such device
+pub record FindsNone {S D : Type 0} (w : Calls S D) (words : CopyWords) (fault : CommandFault) : Type 0 where
+  pub over : OpenStack D
+  pub image : OpenImage D
+  pub opened : OpensOutput w words.words.words words.out over image
+  pub fails : FailsToFind w.state words.words.name over fault
+
+-- it has so many sectors, which are more than the image has
+abbrev pub IsTooSmall : Device → ℕ → CommandFault → Type 0
+IsTooSmall image sectors (OutputTooSmall needed) = (needed ≡ sectors) × (image.size < sectors)
+IsTooSmall image sectors fault = ⊥
+
+-- the device has no room in the image
+pub record FindsNoRoom {S D : Type 0} (w : Calls S D) (words : CopyWords) (fault : CommandFault) : Type 0 where
+  pub at : Place
+  pub image : OpenImage D
+  pub found : FindsOutput w words at image
+  pub small : IsTooSmall (w.state image.device) (size at.stack.config (mapped at.d)) fault
+
+-- the copy was begun, ended early, and what then stood in the image was given back
+pub record FailsToCopy {S D : Type 0} (w : Calls S D) (words : CopyWords) (old new : Option (List ℕ)) (failed : Bool) (fault : CommandFault) : Type 0 where
+  pub at : Place
+  pub image : OpenImage D
+  pub image' : D
+  pub left : StackRecord
+  pub between : S
+  pub found : FindsOutput (record w { new = between }) words at image
+  pub fails : IsRecoverEnd at.d (sides at.stack (w.state image.device) old) (sides left (w.state image') new) failed fault
+  pub back : w.relations.takes between words.out image' w.new
+
+-- sectors are lost, or the counts can't be written
+pub record LosesInCopy {S D : Type 0} (w : Calls S D) (words : CopyWords) (old new : Option (List ℕ)) (failed : Bool) (fault : CommandFault) : Type 0 where
+  pub counts : Counts
+  pub printed : Option (List ℕ)
+  pub copied : Copies w words old counts printed
+  pub ends : IsCountsEnd counts printed new failed fault
+
+-- nothing is printed where it isn't begun
+abbrev pub IsUncopied : {S D : Type 0} → Calls S D → CopyWords → CommandFault → Type 0
+IsUncopied w words fault =
+    IsOpeningEnd (FailsToOpenOutput w words.words.words words.out) fault ⊎ (FindsNone w words fault ⊎ FindsNoRoom w words fault)
+
+abbrev pub IsCopyEnd : {S D : Type 0} → Calls S D → CopyWords → Option (List ℕ) → Option (List ℕ) → Bool → CommandFault → Type 0
+IsCopyEnd w words old new failed fault =
+    ((new ≡ old) × IsUncopied w words fault) ⊎ (FailsToCopy w words old new failed fault ⊎ LosesInCopy w words old new failed fault)

@@ -1,11 +1,14 @@
 -- What the commands on stacks print where they succeed, and how they end early.
-use Rattle.std.specs.Prelude.{◌≡◌, ◌⊎◌, ◌≤◌, ◌^◌, ℕ, Bool, true, List, length, Option, Some, Result, Ok, Err}
+use Rattle.std.specs.Prelude.{◌≡◌, ◌⊎◌, ℕ, Bool, true, List, [], map, Option, Some, Result, Ok, Err}
 use Rattle.std.specs.Io.KnownBytes.{Appends}
 use Rattle.block_device.specs.Device.{Device}
+use Rattle.image_files.specs.declared.images.FileText.{FileText}
+use Rattle.image_files.specs.Opener.{Calls}
 use Rattle.stack_rules.specs.Leaves.{first_fault}
-use Rattle.stack_rules.specs.Records.{Configuration, LeafRecord}
+use Rattle.stack_rules.specs.Records.{LeafRecord}
 use Rattle.stack_engine.specs.Pieces.{stack_over}
-use Rattle.stack_engine.specs.Syncs.{FailsToSync}
+use Rattle.stack_engine.specs.Stacks.{StackRecord}
+use Rattle.stack_meaning.specs.declared.fault.IoFault.{IoFault}
 use Rattle.nbd_server.specs.declared.fault.ServiceFault.{ServiceFault}
 use Rattle.nbd_server.specs.declared.fault.ServiceFault.TheVariants as service_fault
 use Rattle.nbd_server.specs.Exports.{ExportRecord, HasNoExport, IsExport}
@@ -22,140 +25,207 @@ use Rattle.counted_io.specs.Streams.{Streams}
 use Rattle.stack_session.specs.Texts.{reply_text, written_text}
 use Rattle.stack_commands.specs.declared.fault.CommandFault.{CommandFault}
 use Rattle.stack_commands.specs.declared.fault.CommandFault.TheVariants.{Io, Leaves, NoMemory, Service, Session, Submit}
-use Rattle.stack_commands.specs.Bindings.{AreBound}
+use Rattle.stack_opening.specs.declared.leaves.OpenLeaves.{OpenLeaves}
+use Rattle.stack_opening.specs.declared.stack_file.OpenStack.{OpenStack}
 use Rattle.command_line.specs.Bindings.{BindingRecord}
-use Rattle.stack_commands.specs.Configuration.{configuration_of, devices_text, leaves_alone}
-use Rattle.stack_commands.specs.Endings.{IsUnwritten}
-use Rattle.stack_commands.specs.Openings.{IsBindingEnd, IsReadEnd, IsTextEnd}
+use Rattle.stack_opening.specs.Bindings.{AreBound}
+use Rattle.stack_commands.specs.Closings.{GivesBack, IsGivenBack}
+use Rattle.stack_commands.specs.Configuration.{devices_text, leaves_alone}
+use Rattle.stack_commands.specs.Endings.{IsOpeningEnd, IsUnwritten}
+use Rattle.stack_opening.specs.Openings.{IsBindingEnd}
+use Rattle.stack_opening.specs.OpenStacks.{FailsToOpen, FailsToOpenSource, OpensSource, OpensStack, StackWords}
+use Rattle.stack_commands.specs.StacksOfTexts.{FailsToLoad, IsStackOf}
 use Rattle.stack_commands.specs.Requests.{FailsToServe, IsServed, new_world}
 
--- the configuration that a stack text of at most 1 MiB makes of the bindings' leaves
-pub record IsLoadedFrom (bindings : List BindingRecord) (config : Configuration) (devices : List Device) : Type 0 where
-  pub leaves : List LeafRecord
-  pub text : List ℕ
-  pub bound : AreBound bindings leaves devices
-  pub short : length text ≤ 2 ^ 20
-  pub makes : configuration_of leaves text ≡ Ok config
+abbrev pub on : List ℕ → List BindingRecord → StackWords
+on stack bindings = record { stack = stack; bindings = bindings }
+
+-- ---- `load` and `read`
+
+-- the stack that STACK's text makes of the bindings' leaves
+pub record Loads {S D : Type 0} (w : Calls S D) (words : StackWords) (stack : StackRecord) : Type 0 where
+  pub over : OpenStack D
+  pub opened : OpensStack w words over
+  pub made : IsStackOf w.state over stack
 
 -- `load`: a line for each mapped device
-pub record PrintsDevices (bindings : List BindingRecord) (old new : Option (List ℕ)) : Type 0 where
-  pub config : Configuration
-  pub devices : List Device
-  pub loaded : IsLoadedFrom bindings config devices
-  pub printed : Appends old new (devices_text config)
+pub record PrintsDevices {S D : Type 0} (w : Calls S D) (words : StackWords) (old new : Option (List ℕ)) : Type 0 where
+  pub stack : StackRecord
+  pub loaded : Loads w words stack
+  pub printed : Appends old new (devices_text stack.config)
 
 -- `read`: what a request for sectors gave, the first of a new queue over the stack
-pub record PrintsReply (bindings : List BindingRecord) (request : RequestRecord) (old new : Option (List ℕ)) : Type 0 where
-  pub config : Configuration
-  pub devices : List Device
+pub record PrintsReply {S D : Type 0} (w : Calls S D) (words : StackWords) (request : RequestRecord) (old new : Option (List ℕ)) : Type 0 where
+  pub stack : StackRecord
   pub reply : Reply
   pub after : World
-  pub loaded : IsLoadedFrom bindings config devices
-  pub served : IsServed (new_world (stack_over config devices)) request reply after
+  pub loaded : Loads w words stack
+  pub served : IsServed (new_world stack) request reply after
   pub printed : Appends old new (reply_text (first_of request) reply)
 
--- `write`: that such a request was served with some bytes, which are those of a file
-pub record PrintsWritten (bindings : List BindingRecord) (request : List ℕ → RequestRecord) (old new : Option (List ℕ)) : Type 0 where
-  pub config : Configuration
-  pub devices : List Device
-  pub bytes : List ℕ
-  pub reply : Reply
+-- the text makes no stack, or the devices of the one that it makes aren't printed
+abbrev pub FailsToList : {D : Type 0} → Bool → OpenStack D → CommandFault → Type 0
+FailsToList failed over fault = FailsToLoad over fault ⊎ IsUnwritten failed fault
+
+-- a request of the stack isn't served
+pub record FailsToAsk {D : Type 0} (state : D → Device) (request : RequestRecord) (over : OpenStack D) (fault : CommandFault) : Type 0 where
+  pub stack : StackRecord
   pub after : World
-  pub loaded : IsLoadedFrom bindings config devices
-  pub served : IsServed (new_world (stack_over config devices)) (request bytes) reply after
-  pub printed : Appends old new written_text
+  pub made : IsStackOf state over stack
+  pub fails : FailsToServe (new_world stack) request fault after
 
--- `session`: the replies to the lines of the input, over no mapped device at first
-pub record Serves (bindings : List BindingRecord) (old new : Streams) (outcome : Result Unit SessionFault) : Type 0 where
-  pub leaves : List LeafRecord
-  pub devices : List Device
+-- it isn't, or the text makes none, or what it gave isn't printed
+abbrev pub FailsToShow : {D : Type 0} → (D → Device) → RequestRecord → Bool → OpenStack D → CommandFault → Type 0
+FailsToShow state request failed over fault =
+    FailsToLoad over fault ⊎ (FailsToAsk state request over fault ⊎ IsUnwritten failed fault)
+
+-- a command on a stack file ends by what is opened, or by what is done then
+abbrev pub IsStackEnd : {S D : Type 0} → Calls S D → StackWords → (OpenStack D → CommandFault → Type 0) → CommandFault → Type 0
+IsStackEnd {S} {D} w words Fails fault =
+    IsOpeningEnd (FailsToOpen w words) fault ⊎ ((over : OpenStack D) × OpensStack w words over × Fails over fault)
+
+-- ---- `write`
+
+-- a stack file, a source, bindings, and the request to put some bytes
+pub record PutWords : Type 0 where
+  pub words : StackWords
+  pub source : List ℕ
+  pub put : List ℕ → RequestRecord
+
+abbrev pub put_words : StackWords → List ℕ → (List ℕ → RequestRecord) → PutWords
+put_words words source put = record { words = words; source = source; put = put }
+
+-- the source's bytes were put, by the first request of a new queue over the stack
+pub record Puts {S D : Type 0} (w : Calls S D) (words : PutWords) (after : World) : Type 0 where
+  pub over : OpenStack D
+  pub source : FileText
+  pub stack : StackRecord
+  pub reply : Reply
+  pub opened : OpensSource w words.words words.source over source
+  pub made : IsStackOf w.state over stack
+  pub served : IsServed (new_world stack) (words.put source.bytes.items) reply after
+
+-- and what then stands in the images was given back, synced or not
+pub record PutsBack {S D : Type 0} (w : Calls S D) (words : PutWords) (synced : Result Unit IoFault) : Type 0 where
+  pub after : World
+  pub between : S
+  pub put : Puts (record w { new = between }) words after
+  pub back : GivesBack (record w { old = between }) words.words.bindings after.stack.leaves synced
+
+-- `write`: that this was done, and synced
+abbrev pub PrintsWritten : {S D : Type 0} → Calls S D → PutWords → Option (List ℕ) → Option (List ℕ) → Type 0
+PrintsWritten w words old new = PutsBack w words (Ok tt) × Appends old new written_text
+
+-- the text makes no stack
+pub record MakesNoStack {S D : Type 0} (w : Calls S D) (words : PutWords) (fault : CommandFault) : Type 0 where
+  pub over : OpenStack D
+  pub source : FileText
+  pub opened : OpensSource w words.words words.source over source
+  pub fails : FailsToLoad over fault
+
+-- the request isn't served to its end, and what then stands in the images is given back
+pub record FailsToPut {S D : Type 0} (w : Calls S D) (words : PutWords) (fault : CommandFault) : Type 0 where
+  pub over : OpenStack D
+  pub source : FileText
+  pub stack : StackRecord
+  pub after : World
+  pub between : S
+  pub opened : OpensSource (record w { new = between }) words.words words.source over source
+  pub made : IsStackOf w.state over stack
+  pub fails : FailsToServe (new_world stack) (words.put source.bytes.items) fault after
+  pub back : IsGivenBack (record w { old = between }) words.words.bindings after.stack.leaves
+
+-- an image wasn't synced behind it
+abbrev pub IsSyncEnd : (Result Unit IoFault → Type 0) → CommandFault → Type 0
+IsSyncEnd Done (Io fault) = Done (Err fault)
+IsSyncEnd Done fault = ⊥
+
+-- nothing was put, or not all, or it isn't synced, or that can't be printed
+abbrev pub IsWriteEnd : {S D : Type 0} → Calls S D → PutWords → Bool → CommandFault → Type 0
+IsWriteEnd w words failed fault =
+    IsOpeningEnd (FailsToOpenSource w words.words words.source) fault ⊎ (MakesNoStack w words fault ⊎ (FailsToPut w words fault
+    ⊎ (IsSyncEnd (PutsBack w words) fault ⊎ (PutsBack w words (Ok tt) × IsUnwritten failed fault))))
+
+-- ---- `session`
+
+-- The replies to the lines of the input, over no mapped device at first. What then stood in the images was given back,
+-- synced or not.
+pub record Serves {S D : Type 0} (w : Calls S D) (bindings : List BindingRecord) (old new : Streams) (outcome : Result Unit SessionFault) (synced : Result Unit IoFault) : Type 0 where
+  pub over : OpenLeaves D
   pub last : World
-  pub bound : AreBound bindings leaves devices
-  pub served : IsQueueSession (new_world (stack_over (leaves_alone leaves) devices)) last old new outcome
+  pub between : S
+  pub bound : AreBound (record w { new = between }) [] bindings over.leaves.items over.devices.items
+  pub served : IsQueueSession (new_world (stack_over (leaves_alone over.leaves.items) (map w.state over.devices.items))) last old new outcome
+  pub back : GivesBack (record w { old = between }) bindings last.stack.leaves synced
 
--- `nbd`: the service of a client, over the device of that name in the stack
-pub record ServesClient (bindings : List BindingRecord) (name : List ℕ) (old new : Streams) (outcome : Result Unit ServiceFault) : Type 0 where
-  pub config : Configuration
-  pub devices : List Device
+-- leaves are refused, or memory ran out
+abbrev pub RefusesLeaves : List LeafRecord → CommandFault → Type 0
+RefusesLeaves leaves (Leaves fault) = first_fault leaves ≡ Some fault
+RefusesLeaves leaves NoMemory = Unit {0}
+RefusesLeaves leaves fault = ⊥
+
+-- those of the bindings were opened, and aren't taken
+pub record FailsToTake {S D : Type 0} (w : Calls S D) (bindings : List BindingRecord) (fault : CommandFault) : Type 0 where
+  pub over : OpenLeaves D
+  pub bound : AreBound w [] bindings over.leaves.items over.devices.items
+  pub refused : RefusesLeaves over.leaves.items fault
+
+-- A session ends early: nothing was served, as an image isn't opened or the leaves aren't taken; or by the session's
+-- own fault, as a failure of the writer; or all was served, and then an image isn't synced.
+abbrev pub IsServeEnd : {S D : Type 0} → Calls S D → List BindingRecord → Streams → Streams → Bool → CommandFault → Type 0
+IsServeEnd w bindings old new failed (Session fault) =
+    ((synced : Result Unit IoFault) × Serves w bindings old new (Err fault) synced) × (fault ≡ WriteFault → failed ≡ true)
+IsServeEnd w bindings old new failed (Io fault) = Serves w bindings old new (Ok tt) (Err fault)
+IsServeEnd w bindings old new failed fault = (new ≡ old) × (IsOpeningEnd (IsBindingEnd w [] bindings) fault ⊎ FailsToTake w bindings fault)
+
+-- ---- `nbd`
+
+-- a stack file, the name of one of its devices, and bindings
+pub record DeviceWords : Type 0 where
+  pub words : StackWords
+  pub name : List ℕ
+
+abbrev pub device_words : StackWords → List ℕ → DeviceWords
+device_words words name = record { words = words; name = name }
+
+abbrev pub device_on : List ℕ → List ℕ → List BindingRecord → DeviceWords
+device_on stack name bindings = device_words (on stack bindings) name
+
+-- The service of a client, over the device of that name in the stack. What then stood in the images was given back, synced
+-- or not.
+pub record ServesClient {S D : Type 0} (w : Calls S D) (words : DeviceWords) (old new : Streams) (outcome : Result Unit ServiceFault) (synced : Result Unit IoFault) : Type 0 where
+  pub stack : StackRecord
   pub export : ExportRecord
   pub last : World
-  pub loaded : IsLoadedFrom bindings config devices
-  pub is_export : IsExport config export
-  pub named : export.name ≡ name
-  pub served : IsService export (new_world (stack_over config devices)) last old new outcome
+  pub between : S
+  pub loaded : Loads (record w { new = between }) words.words stack
+  pub is_export : IsExport stack.config export
+  pub named : export.name ≡ words.name
+  pub served : IsService export (new_world stack) last old new outcome
+  pub back : GivesBack (record w { old = between }) words.words.bindings last.stack.leaves synced
 
--- the image of one of these leaves isn't synced
-abbrev pub IsSyncEnd : List Device → CommandFault → Type 0
-IsSyncEnd leaves (Io fault) = (after : List Device) × FailsToSync leaves after fault
-IsSyncEnd leaves fault = ⊥
+-- the stack has no device of that name that a client can be told of
+pub record HasNoDevice {D : Type 0} (state : D → Device) (name : List ℕ) (over : OpenStack D) (fault : CommandFault) : Type 0 where
+  pub stack : StackRecord
+  pub made : IsStackOf state over stack
+  pub none : HasNoExport stack.config name
+  pub is : fault ≡ Submit NoSuchDevice
 
--- the leaves of the bindings aren't taken
-abbrev pub IsLeavesEnd : List BindingRecord → CommandFault → Type 0
-IsLeavesEnd bindings (Leaves fault) = (leaves : List LeafRecord) × (devices : List Device) × AreBound bindings leaves devices × (first_fault leaves ≡ Some fault)
-IsLeavesEnd bindings NoMemory = Unit {0}
-IsLeavesEnd bindings fault = ⊥
+-- that, or the text makes no stack
+abbrev pub FailsToExport : {D : Type 0} → (D → Device) → List ℕ → OpenStack D → CommandFault → Type 0
+FailsToExport state name over fault = FailsToLoad over fault ⊎ HasNoDevice state name over fault
 
--- what may fail once a text is read and the leaves are open
-abbrev pub Failing : Type 1
-Failing = List LeafRecord → List ℕ → List Device → CommandFault → Type 0
+-- the service itself ended early, as by a failure of the writer
+pub record FailsToServeClient {S D : Type 0} (w : Calls S D) (words : DeviceWords) (old new : Streams) (failed : Bool) (fault : CommandFault) : Type 0 where
+  pub service : ServiceFault
+  pub synced : Result Unit IoFault
+  pub served : ServesClient w words old new (Err service) synced
+  pub is : fault ≡ Service service
+  pub written : service ≡ service_fault.WriteFault → failed ≡ true
 
--- the stack isn't loaded, or memory runs out
-abbrev pub FailsToLoad : List LeafRecord → List ℕ → CommandFault → Type 0
-FailsToLoad leaves text fault = (configuration_of leaves text ≡ Err fault) ⊎ (fault ≡ NoMemory)
-
--- its devices aren't printed
-abbrev pub FailsToList : Bool → Failing
-FailsToList failed leaves text devices fault = FailsToLoad leaves text fault ⊎ IsUnwritten failed fault
-
--- a request of it isn't served
-abbrev pub FailsToAsk : RequestRecord → Failing
-FailsToAsk request leaves text devices fault =
-    FailsToLoad leaves text fault
-    ⊎ ((c : Configuration) × (after : World) × (configuration_of leaves text ≡ Ok c) × FailsToServe (new_world (stack_over c devices)) request fault after)
-
--- what such a request gave isn't printed
-abbrev pub FailsToShow : RequestRecord → Bool → Failing
-FailsToShow request failed leaves text devices fault = FailsToAsk request leaves text devices fault ⊎ IsUnwritten failed fault
-
--- it is served, but then a leaf's image isn't synced, or that can't be printed
-abbrev pub FailsBehind : RequestRecord → Bool → Failing
-FailsBehind request failed leaves text devices fault =
-    (c : Configuration) × (reply : Reply) × (after : World) × (configuration_of leaves text ≡ Ok c)
-    × IsServed (new_world (stack_over c devices)) request reply after × (IsSyncEnd after.stack.leaves fault ⊎ IsUnwritten failed fault)
-
--- a write isn't done, or not to its end
-abbrev pub FailsToPut : RequestRecord → Bool → Failing
-FailsToPut request failed leaves text devices fault = FailsToAsk request leaves text devices fault ⊎ FailsBehind request failed leaves text devices fault
-
--- a command on a stack file ends by the file, by a binding, or by what is done then
-abbrev pub IsStackEnd : List ℕ → List BindingRecord → Failing → CommandFault → Type 0
-IsStackEnd path bindings Fails fault =
-    IsTextEnd path fault ⊎ (IsBindingEnd bindings fault
-    ⊎ ((leaves : List LeafRecord) × (text : List ℕ) × (devices : List Device) × AreBound bindings leaves devices × Fails leaves text devices fault))
-
--- the source isn't opened or read, or another end of a command on a stack file, with some bytes
-abbrev pub IsWriteFilesEnd : List ℕ → List ℕ → List BindingRecord → (List ℕ → RequestRecord) → Bool → CommandFault → Type 0
-IsWriteFilesEnd path source bindings request failed fault =
-    IsReadEnd source fault ⊎ ((bytes : List ℕ) × IsStackEnd path bindings (FailsToPut (request bytes) failed) fault)
-
--- A session ends early: nothing was served, as a file isn't opened or the leaves aren't taken; or by the session's
--- own fault, as a failure of the writer; or all was served, and then an image isn't synced.
-abbrev pub IsServeEnd : List BindingRecord → Streams → Streams → Bool → CommandFault → Type 0
-IsServeEnd bindings old new failed (Session fault) = Serves bindings old new (Err fault) × (fault ≡ WriteFault → failed ≡ true)
-IsServeEnd bindings old new failed (Io fault) = (served : Serves bindings old new (Ok tt)) × IsSyncEnd served.last.stack.leaves (Io fault)
-IsServeEnd bindings old new failed fault =
-    (new ≡ old) × (IsBindingEnd bindings fault ⊎ IsLeavesEnd bindings fault)
-
--- the stack isn't loaded, or has no device of that name that a client can be told of
-abbrev pub FailsToExport : List ℕ → Failing
-FailsToExport name leaves text devices fault =
-    FailsToLoad leaves text fault
-    ⊎ ((c : Configuration) × (configuration_of leaves text ≡ Ok c) × HasNoExport c name × (fault ≡ Submit NoSuchDevice))
-
--- The service of a client ends early: nothing was served; or by the service's own fault, as a failure of the writer; or
--- all was served, and then an image isn't synced.
-abbrev pub IsClientEnd : List ℕ → List BindingRecord → List ℕ → Streams → Streams → Bool → CommandFault → Type 0
-IsClientEnd path bindings name old new failed fault =
-    ((new ≡ old) × IsStackEnd path bindings (FailsToExport name) fault)
-    ⊎ (((x : ServiceFault) × (fault ≡ Service x) × ServesClient bindings name old new (Err x) × (x ≡ service_fault.WriteFault → failed ≡ true))
-    ⊎ ((served : ServesClient bindings name old new (Ok tt)) × IsSyncEnd served.last.stack.leaves fault))
+-- The service of a client ends early: nothing was served; or by the service's own fault; or all was served, and then an
+-- image isn't synced.
+abbrev pub IsClientEnd : {S D : Type 0} → Calls S D → DeviceWords → Streams → Streams → Bool → CommandFault → Type 0
+IsClientEnd w words old new failed fault =
+    ((new ≡ old) × IsStackEnd w words.words (FailsToExport w.state words.name) fault)
+    ⊎ (FailsToServeClient w words old new failed fault ⊎ IsSyncEnd (ServesClient w words old new (Ok tt)) fault)

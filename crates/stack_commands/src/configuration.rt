@@ -1,17 +1,16 @@
 //! Configurations and stacks from stack texts over leaves.
 ghost use Rattle.std.specs.Prelude.{◌≡◌, ◌⊎◌, ◌≤◌, ◌^◌, length, map, Ok, Err, IfOk, IfErr};
-ghost use Rattle.stack_rules.specs.Records.{Configuration};
 ghost use Rattle.stack_meaning.specs.Leaves.{ServeLeaves};
 ghost use Rattle.stack_engine.specs.Pieces.{stack_over};
 ghost use Rattle.stack_commands.specs.Configuration.{configuration_of};
-ghost use Rattle.stack_commands.specs.StackCommands.{FailsToLoad};
+ghost use Rattle.stack_commands.specs.StacksOfTexts.{FailsToLoad, IsStackOf};
 
 use crate::fault::CommandFault;
-use crate::opening::OpenLeaves;
-use block_device::{AnyDev, BlockDev};
+use block_device::BlockDev;
 use stack_config::{Config, Leaf};
 use stack_engine::Stack;
 use stack_loader::{config_over, load};
+use stack_opening::OpenStack;
 use std::alloc::Global;
 use table_reader::parse_stack;
 
@@ -32,21 +31,23 @@ pub fn configuration_of<'a>(
     Ok(config)
 }
 
-/// The stack that a text makes of open leaves, with a cache of so many hash blocks.
-pub fn load_stack<'a>(
+/// The stack that a text makes of the open leaves, with a cache of so many hash blocks.
+pub fn load_stack<'a, D: BlockDev + Drop>(
     alloc: Global,
-    over: OpenLeaves,
+    over: OpenStack<D>,
     cache: u32,
-    text: &[u8],
-) -> Result<Stack<AnyDev>, CommandFault<'a>>
-    requires text { length text.now ≤ 2 ^ 20 }
-    requires served { ServeLeaves over.leaves.items (map ⟦<AnyDev as BlockDev>⟧.state over.devices.items) }
-    ensures ok { IfOk result (λ stack. (c : Configuration) × (configuration_of over.leaves.items text.now ≡ Ok c)
-        × (stack ≡ stack_over c (map ⟦<AnyDev as BlockDev>⟧.state over.devices.items))) }
-    ensures err { IfErr result (FailsToLoad over.leaves.items text.now) }
+) -> Result<Stack<D>, CommandFault<'a>>
+    requires text { length over.text.bytes.items ≤ 2 ^ 20 }
+    requires served { ServeLeaves over.leaves.items (map D.state over.devices.items) }
+    ensures ok { IfOk result (IsStackOf D.state over) }
+    ensures err { IfErr result (FailsToLoad over) }
 {
-    let OpenLeaves { leaves, devices } = over;
-    let config = match configuration_of(alloc, leaves, text) {
+    let OpenStack {
+        text,
+        leaves,
+        devices,
+    } = over;
+    let config = match configuration_of(alloc, leaves, text.bytes.as_slice()) {
         Ok(config) => config,
         Err(fault) => return Err(fault),
     };
@@ -54,14 +55,14 @@ pub fn load_stack<'a>(
 }
 
 /// The stack of a configuration over the devices of its leaves, with a cache of so many hash blocks.
-pub fn stack_on<'a>(
+pub fn stack_on<'a, D: BlockDev + Drop>(
     alloc: Global,
     config: Config,
-    devices: Vec<AnyDev>,
+    devices: Vec<D>,
     cache: u32,
-) -> Result<Stack<AnyDev>, CommandFault<'a>>
-    requires { ServeLeaves config.leaves (map ⟦<AnyDev as BlockDev>⟧.state devices.items) }
-    ensures ok { IfOk result (λ stack. stack ≡ stack_over config (map ⟦<AnyDev as BlockDev>⟧.state devices.items)) }
+) -> Result<Stack<D>, CommandFault<'a>>
+    requires { ServeLeaves config.leaves (map D.state devices.items) }
+    ensures ok { IfOk result (λ stack. stack ≡ stack_over config (map D.state devices.items)) }
     ensures err { IfErr result (λ fault. fault ≡ CommandFault.NoMemory) }
 {
     match Stack::new(alloc, config, devices, cache) {

@@ -3,54 +3,58 @@ ghost use Rattle.std.specs.Prelude.{◌≡◌, ◌≤◌, ◌<◌, ◌^◌, leng
 ghost use Rattle.stack_rules.specs.Names.{mapped, size};
 ghost use Rattle.stack_meaning.specs.Leaves.{ServeLeaves};
 ghost use Rattle.stack_recovery.specs.Recoveries.{Recovers, sides};
-ghost use Rattle.stack_commands.specs.Recoveries.{FailsToFind, HasDevice};
+ghost use Rattle.stack_commands.specs.Recoveries.{FailsToFind, HasDevice, place_of};
 ghost use Rattle.stack_commands.specs.Recovering.{IsCountsEnd, IsRecoverEnd, TellsCounts};
 
 use crate::configuration::{configuration_of, stack_on};
 use crate::ending::say_counts;
 use crate::fault::CommandFault;
-use crate::opening::OpenLeaves;
-use block_device::{AnyDev, BlockDev};
+use block_device::BlockDev;
 use counted_io::Counted;
 use request_queue::SubmitFault;
 use stack_config::DevId;
 use stack_engine::Stack;
+use stack_opening::OpenStack;
 use stack_recovery::{Counts, RecoveryFault, recover};
 use stack_session::SessionFault;
 use std::alloc::Global;
 use std::io::Write;
 
-// A device that is gone over meets each hash block again and again.
-const CACHED_BLOCKS: u32 = 64;
+/// How many blocks are cached where a device is gone over, which meets each hash block again and again.
+pub const CACHED_BLOCKS: u32 = 64;
 
-/// The stack that a text makes of the leaves, and its device of that name.
-pub fn load_device<'a>(
+/// The stack that a text makes of the leaves, with a cache of so many hash blocks, and its device of that name.
+pub fn load_device<'a, D: BlockDev + Drop>(
     alloc: Global,
-    over: OpenLeaves,
-    text: &[u8],
+    over: OpenStack<D>,
     name: &str,
-) -> Result<(Stack<AnyDev>, DevId), CommandFault<'a>>
-    requires text { length text.now ≤ 2 ^ 20 }
-    requires served { ServeLeaves over.leaves.items (map ⟦<AnyDev as BlockDev>⟧.state over.devices.items) }
-    ensures ok { IfOk result (λ found. HasDevice over.leaves.items text.now name.now (map ⟦<AnyDev as BlockDev>⟧.state over.devices.items) found.0 found.1.0) }
+    cache: u32,
+) -> Result<(Stack<D>, DevId), CommandFault<'a>>
+    requires text { length over.text.bytes.items ≤ 2 ^ 20 }
+    requires served { ServeLeaves over.leaves.items (map D.state over.devices.items) }
+    ensures ok { IfOk result (λ found. HasDevice D.state name.now over (place_of found.0 found.1.0)) }
     ensures there { IfOk result (λ found. found.1.0 < length found.0.config.devices) }
-    ensures err { IfErr result (FailsToFind name.now over.leaves.items text.now (map ⟦<AnyDev as BlockDev>⟧.state over.devices.items)) }
+    ensures err { IfErr result (FailsToFind D.state name.now over) }
 {
-    let OpenLeaves { leaves, devices } = over;
-    let config = match configuration_of(alloc, leaves, text) {
+    let OpenStack {
+        text,
+        leaves,
+        devices,
+    } = over;
+    let config = match configuration_of(alloc, leaves, text.bytes.as_slice()) {
         Ok(config) => config,
         Err(fault) => return Err(fault),
     };
     // A name that isn't there is told before any room is asked for the stack's cache.
     match config.device(name.as_bytes()) {
-        Some(device) => Ok((stack_on(alloc, config, devices, CACHED_BLOCKS)?, device)),
+        Some(device) => Ok((stack_on(alloc, config, devices, cache)?, device)),
         None => Err(CommandFault::Submit(SubmitFault::NoSuchDevice)),
     }
 }
 
 /// Goes over the device, and copies what is had to another one.
-pub fn recover_device<'a, O: BlockDev, W: Write>(
-    stack: &mut Stack<AnyDev>,
+pub fn recover_device<'a, D: BlockDev + Drop, O: BlockDev, W: Write>(
+    stack: &mut Stack<D>,
     device: DevId,
     out: &mut O,
     writer: &mut Counted<W>,

@@ -5,6 +5,8 @@ ghost use Rattle.stack_commands.specs.Endings.{IsEnd, config_text, counts_text, 
 ghost use Rattle.stack_commands.specs.ImageTexts.{format_text, image_text, open_text, verdict_text, verify_text};
 
 use crate::fault::CommandFault;
+use crate::further_status::{cat_status, store_status, tree_status};
+use crate::further_texts::{say_cat_fault, say_partitions_fault, say_store_fault, say_tree_fault};
 use block_device::OpenFault;
 use counted_io::{Counted, WriteFault};
 use image_commands::ImageFault;
@@ -46,6 +48,9 @@ fn status_of(fault: CommandFault<'_>) -> u8
         CommandFault::Io(IoFault::NoMemory) => REFUSED,
         CommandFault::Io(_) => FAULT,
         CommandFault::Image(ImageFault::Differs(_)) => FAULT,
+        CommandFault::Trees(fault) => tree_status(fault),
+        CommandFault::Cat(fault) => cat_status(fault),
+        CommandFault::Store(fault) => store_status(fault),
         CommandFault::Lost { .. } => FAULT,
         CommandFault::Service(
             ServiceFault::Lost
@@ -72,6 +77,10 @@ fn say_fault<W: Write>(writer: &mut Counted<W>, fault: CommandFault<'_>) -> Resu
         CommandFault::Submit(fault) => say_submit_fault(writer, fault),
         CommandFault::Io(fault) => say_io_fault(writer, fault),
         CommandFault::Image(fault) => say_image_fault(writer, fault),
+        CommandFault::Partitions(fault) => say_partitions_fault(writer, fault),
+        CommandFault::Trees(fault) => say_tree_fault(writer, fault),
+        CommandFault::Cat(fault) => say_cat_fault(writer, fault),
+        CommandFault::Store(fault) => say_store_fault(writer, fault),
         CommandFault::Lost { read, lost } => say_counts(writer, read, lost),
         CommandFault::OutputTooSmall { needed } => say_too_small(writer, needed),
         CommandFault::OutputFailed => writer.put(b"refused 2 Device\n"),
@@ -80,8 +89,11 @@ fn say_fault<W: Write>(writer: &mut Counted<W>, fault: CommandFault<'_>) -> Resu
     }
 }
 
-// `refused K NAME PATH`
-fn say_unopened<W: Write>(writer: &mut Counted<W>, file: UnopenedFile<'_>) -> Result<(), WriteFault>
+/// `refused K NAME PATH`
+pub fn say_unopened<W: Write>(
+    writer: &mut Counted<W>,
+    file: UnopenedFile<'_>,
+) -> Result<(), WriteFault>
     ensures { Writes W.contents writer.old writer.new (open_text file.entry) result }
 {
     let UnopenedFile { fault, path } = file;

@@ -2,7 +2,7 @@
 ghost use Rattle.std.specs.Prelude.{◌≡◌};
 ghost use Rattle.stack_commands.specs.declared.fault.CommandFault.TheVariants as command_fault;
 ghost use Rattle.stack_session.specs.declared.fault.SessionFault.TheVariants as session_fault;
-ghost use Rattle.stack_commands.specs.Endings.{load_ending, text_ending, words_ending};
+ghost use Rattle.stack_commands.specs.Endings.{load_ending, opening_ending, text_ending, words_ending};
 
 use command_line::WordsFault;
 use counted_io::WriteFault;
@@ -10,11 +10,15 @@ use dm_table::{ParseFault, TextFault};
 use image_commands::ImageFault;
 use image_files::UnopenedFile;
 use nbd_server::ServiceFault;
+use partition_commands::PartitionsFault;
 use request_queue::SubmitFault;
 use stack_engine::IoFault;
 use stack_loader::{ConfigFault, LoadFault, Refusal};
+use stack_opening::OpeningFault;
 use stack_session::SessionFault;
+use stack_streams::{CatFault, StoreFault};
 use std::alloc::{AllocError, AllocFailed};
+use tree_commands::TreeFault;
 
 /// Why a command ends early.
 #[derive(Clone, Copy, Debug, PartialEq, Eq)]
@@ -39,6 +43,14 @@ pub enum CommandFault<'a> {
     Io(IoFault),
     /// A command on verity images ended early.
     Image(ImageFault<'a>),
+    /// A command on the partitions of an image ended early.
+    Partitions(PartitionsFault<'a>),
+    /// A command on hash trees ended early.
+    Trees(TreeFault<'a>),
+    /// Not all sectors of a device were written out.
+    Cat(CatFault),
+    /// Not all bytes were stored.
+    Store(StoreFault),
     /// So many sectors of a device were had, and so many are lost.
     Lost { read: u64, lost: u64 },
     /// The image to which a device is copied has fewer sectors than the device.
@@ -116,11 +128,15 @@ impl From<IoFault> for CommandFault<'_> {
     }
 }
 
-impl<'a> From<UnopenedFile<'a>> for CommandFault<'a> {
-    ghost from_gives = { λ file given. given ≡ command_fault.Open file };
+impl<'a> From<OpeningFault<'a>> for CommandFault<'a> {
+    ghost from_gives = { λ fault given. given ≡ opening_ending fault };
 
-    fn from(file: UnopenedFile<'a>) -> Self {
-        CommandFault::Open(file)
+    fn from(fault: OpeningFault<'a>) -> Self {
+        match fault {
+            OpeningFault::NoMemory => CommandFault::NoMemory,
+            OpeningFault::TooLong => CommandFault::TooLong,
+            OpeningFault::Open(file) => CommandFault::Open(file),
+        }
     }
 }
 
@@ -129,6 +145,22 @@ impl<'a> From<ImageFault<'a>> for CommandFault<'a> {
 
     fn from(fault: ImageFault<'a>) -> Self {
         CommandFault::Image(fault)
+    }
+}
+
+impl<'a> From<PartitionsFault<'a>> for CommandFault<'a> {
+    ghost from_gives = { λ fault given. given ≡ command_fault.Partitions fault };
+
+    fn from(fault: PartitionsFault<'a>) -> Self {
+        CommandFault::Partitions(fault)
+    }
+}
+
+impl<'a> From<TreeFault<'a>> for CommandFault<'a> {
+    ghost from_gives = { λ fault given. given ≡ command_fault.Trees fault };
+
+    fn from(fault: TreeFault<'a>) -> Self {
+        CommandFault::Trees(fault)
     }
 }
 

@@ -1,40 +1,42 @@
 //! The command `load`: checks a stack, and says what its devices are.
-ghost use Rattle.std.specs.Prelude.{◌≡◌, ◌⊎◌, ◌≤◌, ◌<◌, ◌^◌, codes, if◌then◌else◌, length, map, Ok, IfErr, OnOk};
+ghost use Rattle.std.specs.Prelude.{◌≡◌, ◌⊎◌, ◌≤◌, ◌<◌, ◌^◌, codes, if◌then◌else◌, length, Ok, Err, IfErr, OnOk};
 ghost use Rattle.std.specs.Io.KnownBytes.{Appends};
-ghost use Rattle.stack_rules.specs.Records.{Configuration};
 ghost use Rattle.counted_io.specs.Counted.{Writes};
-ghost use Rattle.stack_commands.specs.Endings.{IsQuiet, IsUnwritten};
-ghost use Rattle.command_line.specs.Bindings.{binding_record};
+ghost use Rattle.image_files.specs.Opener.{calls};
+ghost use Rattle.stack_rules.specs.Records.{Configuration};
 ghost use Rattle.stack_commands.specs.Configuration.{configuration_of, device_facts, device_line, devices_text};
-ghost use Rattle.stack_commands.specs.StackCommands.{FailsToList, FailsToLoad, IsStackEnd, PrintsDevices};
+ghost use Rattle.stack_commands.specs.Endings.{IsQuiet, IsUnwritten};
+ghost use Rattle.stack_opening.specs.OpenStacks.{stack_words};
+ghost use Rattle.stack_commands.specs.StackCommands.{FailsToList, IsStackEnd, PrintsDevices};
 
 use crate::configuration::configuration_of;
 use crate::fault::CommandFault;
-use crate::opening::{OpenLeaves, open_all};
-use crate::source::read_stack;
-use command_line::Binding;
+use block_device::BlockDev;
 use counted_io::{Counted, WriteFault};
+use image_files::Images;
 use stack_config::{Config, DevId, Leaf};
+use stack_opening::{OpenStack, StackFile, open_stack};
 use std::alloc::Global;
-use std::fs::File;
 use std::io::Write;
-use std::rt::Files;
 
 /// `load STACK BINDING...`: the devices of a stack file over the bindings.
 #[tactic(auto, using(crate::proofs::EndingLemmas::quiet))]
-pub fn load_files<'a, R: Files<File = File> + AllocGlobal, W: Write>(
-    rt: &R,
-    stack: &'a str,
-    bindings: &[Binding<'a>],
+pub fn load_stack_file<'a, I: Images, W: Write>(
+    alloc: Global,
+    images: &mut I,
+    file: StackFile<'a, '_>,
     writer: &mut Counted<W>,
 ) -> Result<(), CommandFault<'a>>
-    ensures ok { OnOk result (PrintsDevices (map binding_record bindings.now) (W.contents writer.old.inner) (W.contents writer.new.inner)) }
-    ensures err { IfErr result (IsStackEnd stack.now (map binding_record bindings.now) (FailsToList writer.new.failed)) }
+    ensures ok { OnOk result (PrintsDevices (calls I.relations I.Dev.state images.old images.new) (stack_words file.entry) (W.contents writer.old.inner) (W.contents writer.new.inner)) }
+    ensures err { IfErr result (IsStackEnd (calls I.relations I.Dev.state images.old images.new) (stack_words file.entry) (FailsToList writer.new.failed)) }
     ensures quiet { IfErr result (λ fault. IsQuiet fault (W.contents writer.old.inner) (W.contents writer.new.inner)) }
 {
-    let text = read_stack(rt, stack)?;
-    let OpenLeaves { leaves, devices: _ } = open_all(rt, &[text.file], bindings)?;
-    load(rt.alloc(), leaves, text.bytes.as_slice(), writer)
+    let OpenStack {
+        text,
+        leaves,
+        devices: _devices,
+    } = open_stack(alloc, images, file)?;
+    load(alloc, leaves, text.bytes.as_slice(), writer)
 }
 
 // Loads a text over the leaves, and writes a line for each mapped device.
@@ -48,7 +50,7 @@ fn load<'a, W: Write>(
     requires { length text.now ≤ 2 ^ 20 }
     ensures ok { OnOk result ((c : Configuration) × (configuration_of leaves.items text.now ≡ Ok c)
         × Appends (W.contents writer.old.inner) (W.contents writer.new.inner) (devices_text c)) }
-    ensures err { IfErr result (λ fault. FailsToLoad leaves.items text.now fault ⊎ IsUnwritten writer.new.failed fault) }
+    ensures err { IfErr result (λ fault. ((configuration_of leaves.items text.now ≡ Err fault) ⊎ (fault ≡ CommandFault.NoMemory)) ⊎ IsUnwritten writer.new.failed fault) }
     ensures quiet { IfErr result (λ fault. IsQuiet fault (W.contents writer.old.inner) (W.contents writer.new.inner)) }
 {
     match configuration_of(alloc, leaves, text) {

@@ -5,18 +5,22 @@ ghost use Rattle.command_line.specs.CommandWords.{image_record, invocation_recor
 ghost use Rattle.command_line.specs.FormatOptions.{option_texts};
 ghost use Rattle.image_commands.specs.Drawing.{drawing};
 ghost use Rattle.image_files.specs.Opener.{calls};
-ghost use Rattle.stack_commands.specs.Commands.{EndsEarly, Fails, IsDone, IsRunEnd, Succeeds, uses};
+ghost use Rattle.stack_commands.specs.Commands.{EndsEarly, Fails, IsDone, IsRunEnd, Succeeds, is_cat};
+ghost use Rattle.stack_commands.specs.Uses.{uses};
 
-use crate::copy::copy_files;
+use crate::copy::copy_device;
 use crate::ending::end;
 use crate::fault::CommandFault;
-use crate::load::load_files;
+use crate::further::{FurtherLine, invoke_further};
+use crate::load::load_stack_file;
 use crate::nbd::serve_client;
-use crate::read::read_files;
-use crate::scan::scan_files;
-use crate::serve::serve_files;
-use crate::write::write_files;
-use command_line::{CommandLine, ImageInvocation, Invocation, OptionWords, options_of, parse};
+use crate::read::read_stack_file;
+use crate::scan::scan_device;
+use crate::serve::serve_lines;
+use crate::words::stack_file;
+use crate::write::write_stack_file;
+use command_line::{ImageInvocation, Invocation, OptionWords, options_of};
+use command_parser::{CommandLine, parse};
 use counted_io::Counted;
 use image_commands::{
     Generators, ImagePaths, LineWords, dump_image, format_images, print_table_of_image,
@@ -24,38 +28,48 @@ use image_commands::{
 };
 use image_files::Images;
 use std::alloc::Global;
-use std::fs::File;
 use std::io::{Read, Write};
-use std::rt::Files;
 
 const DONE: u8 = 0;
 
 /// Runs the words behind the program's name, and answers the status: 0 done, 1 refused, 2 usage, 3 a fault of
 /// the stack or images that differ, 4 a client that breaks the NBD protocol.
 ///
-/// The commands on verity images open `images`; those on stacks open files of the runtime.
-pub fn command<R: Files<File = File> + AllocGlobal, I: Images, G: Generators, S: Read, W: Write>(
-    rt: &R,
+/// All that is opened is opened by `images`. Why `cat` ends early goes to `errors`, since its bytes go to the writer.
+pub fn command<I: Images, G: Generators, S: Read, W: Write, E: Write>(
+    alloc: Global,
     images: &mut I,
     generators: &mut G,
     words: &[String],
     reader: &mut Counted<S>,
     writer: &mut Counted<W>,
+    errors: &mut Counted<E>,
 ) -> u8
     requires reader { reader.old.failed ≡ false }
     requires writer { writer.old.failed ≡ false }
     ensures { ((result ≡ 0) × IsDone (map string_bytes words.now) (uses (calls I.relations I.Dev.state images.old images.new) (drawing G.gives G.Generator.stream generators.old generators.new) (streams (S.remaining reader.old.inner) (W.contents writer.old.inner)) (streams (S.remaining reader.new.inner) (W.contents writer.new.inner))))
         ⊎ EndsEarly (map string_bytes words.now) (uses (calls I.relations I.Dev.state images.old images.new) (drawing G.gives G.Generator.stream generators.old generators.new) (streams (S.remaining reader.old.inner) (W.contents writer.old.inner)) (streams (S.remaining reader.new.inner) (W.contents writer.new.inner))) writer.new.failed result }
 {
-    match run(rt, images, generators, words, reader, writer) {
+    match run(alloc, images, generators, words, reader, writer) {
         Ok(()) => DONE,
+        Err(fault) if is_cat(words) => end(errors, fault),
         Err(fault) => end(writer, fault),
     }
 }
 
+// Whether the command's name is `cat`.
+fn is_cat(words: &[String]) -> bool
+    ensures { result ≡ is_cat (map string_bytes words.now) }
+{
+    match words {
+        [name, ..] => name.as_bytes() == b"cat".as_slice(),
+        [] => false,
+    }
+}
+
 // Files are opened in the order of the words, once all words are read.
-fn run<'a, R: Files<File = File> + AllocGlobal, I: Images, G: Generators, S: Read, W: Write>(
-    rt: &R,
+fn run<'a, I: Images, G: Generators, S: Read, W: Write>(
+    alloc: Global,
     images: &mut I,
     generators: &mut G,
     words: &'a [String],
@@ -67,13 +81,13 @@ fn run<'a, R: Files<File = File> + AllocGlobal, I: Images, G: Generators, S: Rea
     ensures ok { OnOk result (IsDone (map string_bytes words.now) (uses (calls I.relations I.Dev.state images.old images.new) (drawing G.gives G.Generator.stream generators.old generators.new) (streams (S.remaining reader.old.inner) (W.contents writer.old.inner)) (streams (S.remaining reader.new.inner) (W.contents writer.new.inner)))) }
     ensures err { IfErr result (IsRunEnd (map string_bytes words.now) (uses (calls I.relations I.Dev.state images.old images.new) (drawing G.gives G.Generator.stream generators.old generators.new) (streams (S.remaining reader.old.inner) (W.contents writer.old.inner)) (streams (S.remaining reader.new.inner) (W.contents writer.new.inner))) writer.new.failed) }
 {
-    let line = parse(rt.alloc(), words)?;
-    invoke(rt, images, generators, line, reader, writer)
+    let line = parse(alloc, words)?;
+    invoke(alloc, images, generators, line, reader, writer)
 }
 
 // Runs a command; the options are those of `format`.
-fn invoke<'a, R: Files<File = File> + AllocGlobal, I: Images, G: Generators, S: Read, W: Write>(
-    rt: &R,
+fn invoke<'a, I: Images, G: Generators, S: Read, W: Write>(
+    alloc: Global,
     images: &mut I,
     generators: &mut G,
     line: CommandLine<'a>,
@@ -90,44 +104,58 @@ fn invoke<'a, R: Files<File = File> + AllocGlobal, I: Images, G: Generators, S: 
         options,
     } = line;
     match invocation {
-        Invocation::Load { stack, bindings } => load_files(rt, stack, bindings.as_slice(), writer),
+        Invocation::Load { stack, bindings } => {
+            let file = stack_file(stack, &bindings);
+            load_stack_file(alloc, images, file, writer)
+        }
         Invocation::Read {
             cache,
             stack,
             sectors,
             bindings,
-        } => read_files(rt, cache, stack, sectors, bindings.as_slice(), writer),
+        } => {
+            let file = stack_file(stack, &bindings);
+            read_stack_file(alloc, images, file, cache, sectors, writer)
+        }
         Invocation::Write {
             cache,
             stack,
             transfer,
             bindings,
-        } => write_files(rt, cache, stack, transfer, bindings.as_slice(), writer),
+        } => {
+            let file = stack_file(stack, &bindings);
+            write_stack_file(alloc, images, file, cache, transfer, writer)
+        }
         Invocation::Session { cache, bindings } => {
-            serve_files(rt, cache, bindings.as_slice(), reader, writer)
+            serve_lines(alloc, images, cache, bindings.as_slice(), reader, writer)
         }
         Invocation::Scan {
             stack,
             name,
             bindings,
-        } => scan_files(rt, stack, name, bindings.as_slice(), writer),
+        } => {
+            let file = stack_file(stack, &bindings);
+            scan_device(alloc, images, file, name, writer)
+        }
         Invocation::Copy {
             stack,
             name,
             out,
             bindings,
-        } => copy_files(rt, stack, name, out, bindings.as_slice(), writer),
-        Invocation::Nbd { device, bindings } => {
-            serve_client(rt, device, bindings.as_slice(), reader, writer)
+        } => {
+            let file = stack_file(stack, &bindings);
+            copy_device(alloc, images, file, name, out, writer)
         }
-        Invocation::Image(invocation) => invoke_on_images(
-            rt.alloc(),
-            images,
-            generators,
-            invocation,
-            &options,
-            writer,
-        ),
+        Invocation::Nbd { device, bindings } => {
+            serve_client(alloc, images, device, bindings.as_slice(), reader, writer)
+        }
+        Invocation::Image(invocation) => {
+            invoke_on_images(alloc, images, generators, invocation, &options, writer)
+        }
+        Invocation::Further(further) => {
+            let line = FurtherLine { further, options };
+            invoke_further(alloc, images, generators, line, reader, writer)
+        }
     }
 }
 

@@ -4,12 +4,12 @@ ghost use Rattle.request_queue.specs.Requests.{request_record};
 ghost use Rattle.stack_commands.specs.Requests.{FailsToServe, IsServed};
 
 use crate::fault::CommandFault;
-use block_device::AnyDev;
+use block_device::BlockDev;
 use request_queue::{Queue, Reply, Request, RunFault};
 
 /// Serves a request to its end.
-pub fn serve_request<'a>(
-    queue: &mut Queue<AnyDev>,
+pub fn serve_request<'a, D: BlockDev + Drop>(
+    queue: &mut Queue<D>,
     request: Request,
 ) -> Result<Reply, CommandFault<'a>>
     ensures ok { IfOk result (λ reply. IsServed queue.old (request_record request) reply queue.new) }

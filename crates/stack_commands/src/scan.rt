@@ -1,33 +1,33 @@
 //! The command `scan`: says which sectors of a device are lost.
-ghost use Rattle.std.specs.Prelude.{map, OnOk, IfErr};
-ghost use Rattle.command_line.specs.Bindings.{binding_record};
-ghost use Rattle.stack_commands.specs.Recoveries.{IsScanEnd, PrintsStates, device_words};
+ghost use Rattle.std.specs.Prelude.{OnOk, IfErr};
+ghost use Rattle.image_files.specs.Opener.{calls};
+ghost use Rattle.stack_opening.specs.OpenStacks.{stack_words};
+ghost use Rattle.stack_commands.specs.Recoveries.{IsScanEnd, PrintsScan};
+ghost use Rattle.stack_commands.specs.StackCommands.{device_words};
 
-use crate::device::{load_device, recover_device, tell_counts};
+use crate::device::{CACHED_BLOCKS, load_device, recover_device, tell_counts};
 use crate::fault::CommandFault;
-use crate::opening::open_all;
-use crate::source::read_stack;
-use command_line::Binding;
+use block_device::BlockDev;
 use counted_io::Counted;
+use image_files::Images;
+use stack_opening::{StackFile, open_stack};
 use stack_recovery::Discard;
-use std::fs::File;
+use std::alloc::Global;
 use std::io::Write;
-use std::rt::Files;
 
 /// `scan STACK NAME BINDING...`: reads a device of a stack file over the bindings, and says which sectors are lost.
-pub fn scan_files<'a, R: Files<File = File> + AllocGlobal, W: Write>(
-    rt: &R,
-    stack: &'a str,
+pub fn scan_device<'a, I: Images, W: Write>(
+    alloc: Global,
+    images: &mut I,
+    file: StackFile<'a, '_>,
     name: &'a str,
-    bindings: &[Binding<'a>],
     writer: &mut Counted<W>,
 ) -> Result<(), CommandFault<'a>>
-    ensures ok { OnOk result (PrintsStates (map binding_record bindings.now) name.now (W.contents writer.old.inner) (W.contents writer.new.inner)) }
-    ensures err { IfErr result (IsScanEnd (device_words stack.now name.now (map binding_record bindings.now)) (W.contents writer.old.inner) (W.contents writer.new.inner) writer.new.failed) }
+    ensures ok { OnOk result (PrintsScan (calls I.relations I.Dev.state images.old images.new) (device_words (stack_words file.entry) name.now) (W.contents writer.old.inner) (W.contents writer.new.inner)) }
+    ensures err { IfErr result (IsScanEnd (calls I.relations I.Dev.state images.old images.new) (device_words (stack_words file.entry) name.now) (W.contents writer.old.inner) (W.contents writer.new.inner) writer.new.failed) }
 {
-    let text = read_stack(rt, stack)?;
-    let over = open_all(rt, &[text.file], bindings)?;
-    let (mut stack, device) = load_device(rt.alloc(), over, text.bytes.as_slice(), name)?;
+    let over = open_stack(alloc, images, file)?;
+    let (mut stack, device) = load_device(alloc, over, name, CACHED_BLOCKS)?;
     let mut out = Discard::new(stack.config().sectors(device));
     let counts = recover_device(&mut stack, device, &mut out, writer)?;
     tell_counts(counts, writer)

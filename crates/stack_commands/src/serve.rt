@@ -2,41 +2,45 @@
 ghost use Rattle.std.specs.Prelude.{false, ◌≡◌, map, Ok, OnOk, IfErr};
 ghost use Rattle.counted_io.specs.Streams.{streams};
 ghost use Rattle.command_line.specs.Bindings.{binding_record};
+ghost use Rattle.image_files.specs.Opener.{calls};
 ghost use Rattle.stack_commands.specs.StackCommands.{IsServeEnd, Serves};
 
+use crate::closing::sync_and_close;
 use crate::fault::CommandFault;
-use crate::opening::{OpenLeaves, open_all};
+use block_device::BlockDev;
 use command_line::Binding;
 use counted_io::Counted;
+use image_files::Images;
 use request_queue::Queue;
 use stack_engine::Stack;
 use stack_loader::config_over;
+use stack_opening::{OpenLeaves, open_all};
 use stack_session::session;
-use std::fs::File;
+use std::alloc::Global;
 use std::io::{Read, Write};
-use std::rt::Files;
 
-/// `session [--cache N] BINDING...`: a session over the bindings, whose images are synced at its end.
-pub fn serve_files<'a, R: Files<File = File> + AllocGlobal, S: Read, W: Write>(
-    rt: &R,
+/// `session [--cache N] BINDING...`: a session over the bindings, whose images are synced and given back at its end.
+pub fn serve_lines<'a, I: Images, R: Read, W: Write>(
+    alloc: Global,
+    images: &mut I,
     cache: u32,
     bindings: &[Binding<'a>],
-    reader: &mut Counted<S>,
+    reader: &mut Counted<R>,
     writer: &mut Counted<W>,
 ) -> Result<(), CommandFault<'a>>
     requires reader { reader.old.failed ≡ false }
     requires writer { writer.old.failed ≡ false }
-    ensures ok { OnOk result (Serves (map binding_record bindings.now) (streams (S.remaining reader.old.inner) (W.contents writer.old.inner)) (streams (S.remaining reader.new.inner) (W.contents writer.new.inner)) (Ok tt)) }
-    ensures err { IfErr result (IsServeEnd (map binding_record bindings.now) (streams (S.remaining reader.old.inner) (W.contents writer.old.inner)) (streams (S.remaining reader.new.inner) (W.contents writer.new.inner)) writer.new.failed) }
+    ensures ok { OnOk result (Serves (calls I.relations I.Dev.state images.old images.new) (map binding_record bindings.now) (streams (R.remaining reader.old.inner) (W.contents writer.old.inner)) (streams (R.remaining reader.new.inner) (W.contents writer.new.inner)) (Ok tt) (Ok tt)) }
+    ensures err { IfErr result (IsServeEnd (calls I.relations I.Dev.state images.old images.new) (map binding_record bindings.now) (streams (R.remaining reader.old.inner) (W.contents writer.old.inner)) (streams (R.remaining reader.new.inner) (W.contents writer.new.inner)) writer.new.failed) }
 {
-    let OpenLeaves { leaves, devices } = open_all(rt, &[], bindings)?;
-    let config = config_over(rt.alloc(), leaves)?;
-    let Ok(stack) = Stack::new(rt.alloc(), config, devices, cache) else {
+    let OpenLeaves { leaves, devices } = open_all(alloc, images, &[], bindings)?;
+    let config = config_over(alloc, leaves)?;
+    let Ok(stack) = Stack::new(alloc, config, devices, cache) else {
         return Err(CommandFault::NoMemory);
     };
-    let mut queue = Queue::new(rt.alloc(), stack);
-    let outcome = session(rt.alloc(), &mut queue, reader, writer);
-    let synced = queue.sync();
+    let mut queue = Queue::new(alloc, stack);
+    let outcome = session(alloc, &mut queue, reader, writer);
+    let synced = sync_and_close(images, bindings, queue.into_stack());
     outcome?;
     Ok(synced?)
 }
