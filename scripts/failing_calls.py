@@ -29,7 +29,7 @@ sys.dont_write_bytecode = True
 TOP = os.path.dirname(os.path.dirname(os.path.realpath(__file__)))
 sys.path.insert(0, f"{TOP}/scripts/model")
 
-from command_line import Files, binding, bound, cut_words, features_without, OPTIONS  # noqa: E402
+from command_line import Files, binding, bound, cut_words, features_without  # noqa: E402
 from configuration import Refused  # noqa: E402
 from failing_recovery import Recovery, Unlike as Wrong  # noqa: E402
 from session import Session  # noqa: E402
@@ -115,7 +115,7 @@ class Case:
 
     def leaves(self):
         """The files that are bound to leaves, and the leaves' names."""
-        words = cut_words(self.words[1:], OPTIONS[self.words[0].decode()])[1]
+        words = cut_words(self.words[1:], self.words[0].decode())[1]
         bound_words = [it.partition(b"=") for it in words if b"=" in it]
         return [file.partition(b":")[2] for _, _, file in bound_words], [name for name, _, _ in bound_words]
 
@@ -141,7 +141,7 @@ class Modelled:
         self.nodes = {it.encode(): bytearray(read_file(f"{case.start}/{it}")) for it in os.listdir(case.start)}
         files = Files(self.nodes)
         files.opened = []
-        words = cut_words(case.words[1:], OPTIONS["session"])[1]
+        words = cut_words(case.words[1:], "session")[1]
         state = (Session(bound([binding(it) for it in words], files), FEATURES), self.nodes)
         self.states, self.replies, self.rests = [], [], {}
         for line in self.lines:

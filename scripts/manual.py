@@ -15,32 +15,12 @@ from pathlib import Path
 TOP = Path(__file__).resolve().parent.parent
 
 
-def body_of(source, name):
-    """The body of a function of the source, up to the next one."""
-    found = re.search(rf"^fn {name}\b.*?^\{{\n(.*?)^\}}", source, re.M | re.S)
-    if not found:
-        sys.exit(f"manual: no function {name} in the grammar")
-    return found.group(1)
-
-
-def options_in(source, name, seen=()):
-    """The options that a function of the grammar adds, itself and by the functions that it calls."""
-    body = body_of(source, name)
-    options = set(re.findall(r'option\(alloc, "([^"]+)"\)', body))
-    for other in re.findall(r"\b(positional|cached|formatting)\(alloc", body):
-        if other != name and other not in seen:
-            options |= options_in(source, other, (*seen, name))
-    return options
-
-
 def grammar_of(source):
-    """The commands of the grammar, each with its options."""
+    """The commands of the table, each with its options; other names of an option aren't counted."""
+    names = {row: name for row, name in re.findall(r'^const (\w+): OptionRow = OptionRow \{\n\s*name: "([^"]+)"', source, re.M)}
     commands = {}
-    for kind, name in re.findall(r'\bwith_(positional|cached|formatting)\(alloc, \w+(?:, "([^"]+)")?\)', source):
-        options = options_in(source, kind)
-        if not name:
-            name = re.search(r'positional\(alloc, "([^"]+)"\)', body_of(source, kind)).group(1)
-        commands[name] = options
+    for name, options in re.findall(r'CommandRow \{\s*name: "([^"]+)",\s*options: &\[([^\]]*)\]', source):
+        commands[name] = {names[it] for it in re.findall(r"\w+", options)}
     return commands
 
 
@@ -59,7 +39,7 @@ def commands_of(page):
         name = heading.split()[0]
         if name in commands:
             sys.exit(f"manual: {name} stands there twice")
-        commands[name] = set(re.findall(r"\[--([a-z-]+) [A-Z]+\]", heading))
+        commands[name] = set(re.findall(r"[\[|] ?--([a-z-]+)(?: [A-Z0-9|]+)? ?[\]|]", heading))
     return commands
 
 
@@ -77,14 +57,14 @@ def warnings_of(page):
 
 def main():
     page = Path(sys.argv[1]) if len(sys.argv) > 1 else TOP / "man/dmstack.1"
-    grammar = Path(sys.argv[2]) if len(sys.argv) > 2 else TOP / "crates/command_line/src/grammar.rt"
+    grammar = Path(sys.argv[2]) if len(sys.argv) > 2 else TOP / "crates/command_parser/src/rows.rt"
     text = page.read_text()
     wanted, told = grammar_of(grammar.read_text()), commands_of(text)
     wrong = []
     for name in sorted(wanted.keys() | told.keys()):
         if wanted.get(name) != told.get(name):
             wrong.append(f"{name}: the grammar has {wanted.get(name)}, the page {told.get(name)}")
-    explained = set(re.findall(r"^\.BI (?:\\-){2}(\S+) ", section_of(text, "OPTIONS"), re.M))
+    explained = set(re.findall(r"^\.TP\n\.BI? (?:\\-){2}(\S+)", section_of(text, "OPTIONS"), re.M))
     explained = {name.replace("\\-", "-") for name in explained}
     if explained != set().union(*wanted.values()):
         wrong.append(f"OPTIONS explains {sorted(explained)}")

@@ -7,7 +7,8 @@ from nbd import Service
 from recovery import check_size, looked_up, recovered
 from session import MOST_SECTORS, Session, Usage, check_request, costs
 from stack import SECTOR, Fault, FileImage, MemoryImage, Stack
-from tables import TextFault, digits_of, is_device_argument, number, read_stack, salt_of
+from tables import (TextFault, digits_of, is_device_argument, is_mapped_name, number, read_stack,
+                    salt_of)
 from verity import ImageFault, dump_lines, format_images, spelled_uuid, table_line, verify_images
 
 DONE, REFUSED, USAGE, FAULT = range(4)
@@ -17,11 +18,24 @@ MOST_OF_MEMORY = 65536
 LONGEST_NAME = 255
 TARGETS = ("linear", "striped", "zero", "error", "crypt", "verity", "zero_blocks", "sector_size",
            "unstriped")
+# The options of each command, and those of them without a value.
+TREE = (b"data-block", b"hash-block", b"blocks", b"salt", b"uuid")
 OPTIONS = {
-    "format": (b"data-block", b"hash-block", b"blocks", b"salt", b"uuid"),
-    "verify": (), "dump": (), "table": (), "load": (),
-    "read": (b"cache",), "write": (b"cache",), "session": (b"cache",), "scan": (), "copy": (),
+    "format": (*TREE, b"hash-offset"), "verify": (b"all", b"hash-offset", b"root-hash-file"),
+    "dump": (b"hash-offset",), "table": (b"hash-offset", b"root-hash-file", b"name"),
+    "load": (), "read": (b"cache",), "write": (b"cache",), "session": (b"cache",), "scan": (), "copy": (),
     "nbd": (b"cache",),
+    "cat": (b"cache", b"first", b"count"), "store": (b"cache", b"first"),
+    "partitions": (b"sector-size", b"stack", b"root"), "diff": (b"blocks",),
+}
+FLAGS = (b"all", b"stack")
+# veritysetup's names of options that have another here; `diff` counts runs by its --blocks, and has none.
+OTHER_NAMES = {b"data-block-size": b"data-block", b"hash-block-size": b"hash-block",
+               b"data-blocks": b"blocks"}
+# What each command took at first; what is more is read, and isn't run yet.
+AT_FIRST = {
+    "format": TREE, "verify": (), "dump": (), "table": (), "load": (), "scan": (),
+    "copy": (), "read": (b"cache",), "write": (b"cache",), "session": (b"cache",), "nbd": (b"cache",),
 }
 UUID = re.compile(rb"[0-9a-f]{8}(-[0-9a-f]{4}){3}-[0-9a-f]{12}", re.IGNORECASE)
 
@@ -49,6 +63,10 @@ class Stop(Exception):
     def __init__(self, line, status=REFUSED):
         super().__init__(line)
         self.line, self.status = line, status
+
+
+class NotRun(Usage):
+    """Words that are read, of a command that isn't run yet: the program answers `usage`."""
 
 
 class Drawn(Exception):
@@ -120,29 +138,34 @@ def is_utf8(word):
     return True
 
 
-def cut_words(words, known):
+def cut_words(words, command):
     """The options by name, and the other words.
 
-    Behind `--` the first of these may begin with `-`; no later one ever does."""
-    options, words = {}, list(words)
+    The first of these may begin with `-` behind `--`, and all of them may."""
+    options, words, behind_dashes = {}, list(words), False
     while words:
         word = words[0]
         if word == b"-" or not word.startswith(b"-"):
             break
         words.pop(0)
         if word == b"--":
+            behind_dashes = True
             break
         name, equals, value = word[2:].partition(b"=")
-        if not word.startswith(b"--") or name not in known or name in options:
+        if command != "diff":
+            name = OTHER_NAMES.get(name, name)
+        if not word.startswith(b"--") or name not in OPTIONS[command] or name in options:
             raise Usage
-        if not equals:
-            if not words:
+        if name in FLAGS:
+            if equals:
+                raise Usage
+            value = b""
+        elif not equals:
+            if not words or words[0].startswith(b"-") and words[0] != b"-":
                 raise Usage
             value = words.pop(0)
-        if not value:
-            raise Usage
         options[name] = value
-    if any(word.startswith(b"-") and word != b"-" for word in words[1:]):
+    if not behind_dashes and any(word.startswith(b"-") and word != b"-" for word in words[1:]):
         raise Usage
     return options, words
 
@@ -337,6 +360,94 @@ def run_session(options, words, files, given, features):
     return Session(stack, features).serve(given, files.cut_after)
 
 
+def first_root(options, words):
+    """The root, or the path of the file that has it, and the words behind it."""
+    if b"root-hash-file" in options:
+        return options[b"root-hash-file"], words
+    if not words:
+        raise Usage
+    return needed(digits_of(words[0], 64, 64)), words[1:]
+
+
+def read_offset(options):
+    offset = the_number(options.get(b"hash-offset", b"0"))
+    if offset % SECTOR:
+        raise Usage
+    return offset
+
+
+def read_format(options, words):
+    return *exactly(words, 2), read_offset(options)
+
+
+def read_verify(options, words):
+    (data_path, hash_path), rest = at_least(words, 2)
+    root, rest = first_root(options, rest)
+    exactly(rest, 0)
+    return data_path, hash_path, root, read_offset(options)
+
+
+def read_dump(options, words):
+    return *exactly(words, 1), read_offset(options)
+
+
+def read_table(options, words):
+    (hash_path,), rest = at_least(words, 1)
+    root, rest = first_root(options, rest)
+    names = exactly(rest, 2)
+    if not all(map(is_device_argument, names)):
+        raise Usage
+    if b"name" in options and not is_mapped_name(options[b"name"]):
+        raise Usage
+    return hash_path, root, names, read_offset(options)
+
+
+def read_stack_words(positional):
+    """The reading of a command on stacks with so many words in front of its bindings."""
+    def reading(options, words):
+        read_cache(options)
+        first = the_number(options.get(b"first", b"0"))
+        count = the_number(options[b"count"]) if b"count" in options else None
+        named, rest = at_least(words, positional)
+        return named, [binding(word) for word in rest], first, count
+    return reading
+
+
+def read_partitions(options, words):
+    if sum(name in options for name in (b"root", b"stack")) > 1:
+        raise Usage
+    size = the_number(options.get(b"sector-size", b"512"))
+    if size not in (512, 4096):
+        raise Usage
+    root = needed(digits_of(options[b"root"], 64, 64)) if b"root" in options else None
+    return *exactly(words, 1), size, root
+
+
+def read_diff(options, words):
+    old_path, old_root, new_path, new_root = exactly(words, 4)
+    roots = [needed(digits_of(word, 64, 64)) for word in (old_root, new_root)]
+    if the_number(options.get(b"blocks", b"1")) < 1:
+        raise Usage
+    return (old_path, new_path), roots
+
+
+# What the words say that a command didn't take at first.
+READINGS = {
+    "format": read_format, "verify": read_verify, "dump": read_dump, "table": read_table,
+    "cat": read_stack_words(2), "store": read_stack_words(3), "partitions": read_partitions, "diff": read_diff,
+}
+
+
+def is_further(command, options):
+    return command not in AT_FIRST or any(name not in AT_FIRST[command] for name in options)
+
+
+def run_further(command, options, words):
+    """Reads what a command didn't take at first, and says that it isn't run yet."""
+    READINGS[command](options, words)
+    raise NotRun
+
+
 COMMANDS = {
     b"format": run_format, b"verify": run_verify, b"dump": run_dump, b"table": run_table,
     b"load": run_load, b"read": run_read, b"write": run_write, b"session": run_session,
@@ -351,7 +462,9 @@ def run(words, given, files, features, cuts=()):
         name = words[0].decode("latin-1") if words else ""
         if name not in features["commands"] or not all(map(is_utf8, words)):
             raise Usage
-        options, rest = cut_words(words[1:], OPTIONS[name])
+        options, rest = cut_words(words[1:], name)
+        if is_further(name, options):
+            run_further(name, options, rest)
         return COMMANDS[words[0]](options, rest, files, given, features)
     except Usage:
         return [b"usage"], USAGE

@@ -82,7 +82,8 @@ MISTAKES = [
     ("the salt behind the block", "verity.py", "sha256(salt + block)", "sha256(block + salt)"),
     ("one file read twice", "command_line.py", "and (writable or changing)", "and (writable or changing or True)"),
     ("a cache of 65,537 blocks", "command_line.py", 'b"64"), 65537)', 'b"64"), 65538)'),
-    ("options twice", "command_line.py", " or name not in known or name in options", " or name not in known"),
+    ("options twice", "command_line.py", " or name in options:", ":"),
+    ("an option of another command", "command_line.py", "or name not in OPTIONS[command] or", "or"),
     ("a stack file of a MiB", "command_line.py", "if len(text) > MOST", "if len(text) >= MOST"),
 ]
 
