@@ -1,0 +1,10 @@
+-- What a test sees of what it opens.
+use Rattle.image_files.specs.Opener.{Opener}
+
+-- nothing
+abbrev pub any_relations : {S D : Type 0} → Opener S D
+any_relations = record {
+  opens = λ old path writable outcome new. Unit {0};
+  tells = λ old path most outcome new. Unit {0};
+  takes = λ old path device new. Unit {0};
+}

@@ -1,0 +1,43 @@
+//! Images in memory, of which each device that is opened fails at one of its calls.
+ghost use Rattle.command_tests.specs.Relations.{any_relations};
+
+use block_device::{BlockDev, FailAt, MemoryDev, OpenFault};
+use image_files::{FileText, Images, OpenImage};
+use memory_images::MemoryImages;
+
+/// The number of the call that fails is counted from the opening of a device; it is 0 where none fails.
+#[derive(Drop)]
+pub struct FailingImages {
+    pub images: MemoryImages,
+    pub call: u64,
+}
+
+impl Images for FailingImages {
+    type Dev = FailAt<MemoryDev>;
+
+    ghost relations = { any_relations };
+
+    fn open(
+        &mut self,
+        path: &str,
+        writable: bool,
+    ) -> Result<OpenImage<FailAt<MemoryDev>>, OpenFault> {
+        let OpenImage { device, id } = self.images.open(path, writable)?;
+        let device = FailAt::new(device, self.call);
+        Ok(OpenImage { device, id })
+    }
+
+    fn read_text(&mut self, path: &str, most: usize) -> Result<FileText, OpenFault> {
+        self.images.read_text(path, most)
+    }
+
+    fn close(&mut self, path: &str, device: FailAt<MemoryDev>) {
+        self.images.close(path, device.inner)
+    }
+
+    // Its counts are numbers of 64 bits, which its own calls say.
+    fn of_memory(memory: MemoryDev) -> FailAt<MemoryDev> {
+        let _counts = (memory.reads(), memory.writes());
+        FailAt::new(memory, 0)
+    }
+}
