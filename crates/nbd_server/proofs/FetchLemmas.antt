@@ -65,15 +65,15 @@ tests-pass false false true x fault one two three h = let clash : Ok x ≡ Err f
 whole-ok : (w w' : World) (d first count len : ℕ) (bytes : List ℕ) → EachBytes w.stack d first count (Ok bytes) w'.stack → Step EachPart w (read_bytes d first len (Ok (Ok bytes))) w' → IsFetched w d first count bytes w'
 whole-ok w w' d first count len bytes p s = record {
   chains = p.any.may.chains;
-  read = record { config = p.any.config; moved = p.any.moved; may = p.any.may.read; touches = touches-as (Ok _) tt p.any.touches; exact = λ steady. (p.steady steady).exact };
+  read = record { config = p.any.config; capacity = p.any.capacity; moved = p.any.moved; may = p.any.may.read; touches = touches-as (Ok _) tt p.any.touches; exact = λ steady. (p.steady steady).exact };
   good = p.any.may.good;
   led = led-one EachPart w (read_bytes d first len (Ok (Ok bytes))) w' s;
 }
 
 whole-err : (w w' : World) (d first count : ℕ) (fault : IoFault) → EachBytes w.stack d first count (Err fault) w'.stack → ReadsWhole w.stack (range_at d first count) (Err fault) w'.stack
-whole-err w w' d first count (io.Stack fault) p = record { config = p.any.config; moved = p.any.moved; may = p.any.may; touches = touches-as (Err _) p.any.touches.fault p.any.touches; exact = λ steady. (p.steady steady).exact }
-whole-err w w' d first count (io.Device i) p = record { config = p.any.config; moved = p.any.moved; may = p.any.may; touches = touches-as (Err _) p.any.touches.fault p.any.touches; exact = λ steady. tt }
-whole-err w w' d first count io.NoMemory p = record { config = p.any.config; moved = p.any.moved; may = tt; touches = touches-as (Err io.NoMemory) tt p.any.touches; exact = λ steady. tt }
+whole-err w w' d first count (io.Stack fault) p = record { config = p.any.config; capacity = p.any.capacity; moved = p.any.moved; may = p.any.may; touches = touches-as (Err _) p.any.touches.fault p.any.touches; exact = λ steady. (p.steady steady).exact }
+whole-err w w' d first count (io.Device i) p = record { config = p.any.config; capacity = p.any.capacity; moved = p.any.moved; may = p.any.may; touches = touches-as (Err _) p.any.touches.fault p.any.touches; exact = λ steady. tt }
+whole-err w w' d first count io.NoMemory p = record { config = p.any.config; capacity = p.any.capacity; moved = p.any.moved; may = tt; touches = touches-as (Err io.NoMemory) tt p.any.touches; exact = λ steady. tt }
 
 module _ (w w' : World) (d first count len : ℕ) (all : len ≡ count * 512) where
   sectors-are : len / 512 ≡ count

@@ -4,6 +4,7 @@ use Rattle.std.specs.Prelude.{IfErr, OnOk, position, remove}
 use Rattle.block_device.specs.Device.{Device, synced}
 use Rattle.stack_rules.specs.Records.{Configuration}
 use Rattle.stack_meaning.specs.declared.fault.IoFault.{IoFault}
+use Rattle.stack_engine.specs.Pieces.{stack_over}
 use Rattle.stack_engine.specs.Stacks.{StackRecord, AnswerRecord}
 use Rattle.stack_engine.specs.Syncs.{FailsToSync}
 use Rattle.request_queue.specs.declared.reply.Progress.TheVariants.{More, Done}
@@ -83,13 +84,15 @@ sound-done v v' given fs fs' i f f' p r s =
 
 -- ---- a sync
 
-pub is-synced : (w : World) (v : StackRecord) (result : Result Unit IoFault) → OnOk result (v.leaves ≡ map synced w.stack.leaves) → v.config ≡ w.stack.config → IfErr result (FailsToSync w.stack.leaves v.leaves)
+pub is-synced : (w : World) (v : StackRecord) (result : Result Unit IoFault) → OnOk result (v.leaves ≡ map synced w.stack.leaves) → v.config ≡ w.stack.config → v.capacity ≡ w.stack.capacity → IfErr result (FailsToSync w.stack.leaves v.leaves)
     → Syncs w result (world v w.given w.in_flight)
-is-synced w v (Ok done) same config fails =
-    ap (λ (l : List Device). world (record { config = v.config; leaves = l }) w.given w.in_flight) same
-    ∙ ap (λ (c : Configuration). world (record { config = c; leaves = map synced w.stack.leaves }) w.given w.in_flight) config
-is-synced w v (Err fault) same config fails = record {
+is-synced w v (Ok done) same config capacity fails =
+    ap (λ (l : List Device). world (stack_over v.config l v.capacity) w.given w.in_flight) same
+    ∙ ap (λ (c : Configuration). world (stack_over c (map synced w.stack.leaves) v.capacity) w.given w.in_flight) config
+    ∙ ap (λ (n : ℕ). world (stack_over w.stack.config (map synced w.stack.leaves) n) w.given w.in_flight) capacity
+is-synced w v (Err fault) same config capacity fails = record {
   after = v.leaves;
   fails = fails;
-  leaves = ap (λ (c : Configuration). world (record { config = c; leaves = v.leaves }) w.given w.in_flight) config;
+  leaves = ap (λ (c : Configuration). world (stack_over c v.leaves v.capacity) w.given w.in_flight) config
+      ∙ ap (λ (n : ℕ). world (stack_over w.stack.config v.leaves n) w.given w.in_flight) capacity;
 }

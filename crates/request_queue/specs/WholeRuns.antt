@@ -23,6 +23,7 @@ use Rattle.request_queue.specs.World.{World, admission}
 -- steady leaves all its bytes as the stack means them, or the error of the least sector that has one.
 pub record ReadsWhole (v : StackRecord) (range : SectorRange) (answer : Result AnswerRecord IoFault) (v' : StackRecord) : Type 0 where
   pub config : v'.config ≡ v.config
+  pub capacity : v'.capacity ≡ v.capacity
   pub moved : AreRead v.leaves (range.count * read_cost v.config (mapped range.device.0)) v'.leaves
   pub may : Ends (λ got. MayRead v.config (mapped range.device.0) range.first range.count got.bytes got.chains) (MayFault v.config (mapped range.device.0) range.first range.count) v.leaves v'.leaves answer
   pub touches : TouchesOnly (leaves_of v.config (mapped range.device.0)) v.leaves v'.leaves answer

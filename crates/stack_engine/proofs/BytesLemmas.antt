@@ -138,7 +138,7 @@ may-bytes c lower first n (Err (io.Device i)) p = p.got.may
 may-bytes c lower first n (Err io.NoMemory) p = tt
 
 pub each-bytes : (c : Configuration) (d first n : ℕ) {old new : List Device} (answer : Result (List ℕ) IoFault) → FindsBytes (place_of c (mapped d)) c first n old new answer → TouchesOnly (leaves_of c (mapped d)) old new answer
-    → EachBytes (stack_over c old) d first n answer (stack_over c new)
-each-bytes c d first n answer p touches =
-    let any : AnyBytes (stack_over c _) d first n answer (stack_over c _) = record { config = refl; moved = p.got.moved; may = may-bytes c (mapped d) first n answer p; touches = touches } in
+    → {before after : ℕ} → after ≡ before → EachBytes (stack_over c old before) d first n answer (stack_over c new after)
+each-bytes c d first n answer p touches capacity =
+    let any : AnyBytes (stack_over c _ _) d first n answer (stack_over c _ _) = record { config = refl; capacity = capacity; moved = p.got.moved; may = may-bytes c (mapped d) first n answer p; touches = touches } in
     record { any = any; steady = λ steady. record { any = any; exact = p.got.exact steady } }

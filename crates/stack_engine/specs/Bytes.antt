@@ -36,6 +36,7 @@ pub record MayBeBytes (c : Configuration) (lower : Lower) (first n : ℕ) (bytes
 -- whatever the leaves answer
 pub record AnyBytes (w : StackRecord) (d first n : ℕ) (answer : Result (List ℕ) IoFault) (w' : StackRecord) : Type 0 where
   pub config : w'.config ≡ w.config
+  pub capacity : w'.capacity ≡ w.capacity
   pub moved : AreRead w.leaves (n * read_cost w.config (mapped d)) w'.leaves
   pub may : Ends (MayBeBytes w.config (mapped d) first n) (MayFault w.config (mapped d) first n) w.leaves w'.leaves answer
   pub touches : TouchesOnly (leaves_of w.config (mapped d)) w.leaves w'.leaves answer

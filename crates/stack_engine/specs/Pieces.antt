@@ -13,14 +13,15 @@ use Rattle.stack_meaning.specs.Reading.{Ends, Answers}
 use Rattle.stack_lines.specs.Touches.{TouchesOnly, leaves_of}
 use Rattle.stack_engine.specs.Stacks.{StackRecord, AnswerRecord}
 
--- a configuration over its leaves' devices
-abbrev pub stack_over : Configuration → List Device → StackRecord
-stack_over config leaves = record { config = config; leaves = leaves }
+-- a configuration over its leaves' devices, with room for so many hash blocks
+abbrev pub stack_over : Configuration → List Device → ℕ → StackRecord
+stack_over config leaves capacity = record { config = config; leaves = leaves; capacity = capacity }
 
 -- How a piece is answered, n sectors of mapped device d from the first on, with the stack that the answer leaves:
 -- whatever the leaves answer
 pub record AnyPiece (w : StackRecord) (d first n : ℕ) (answer : Result AnswerRecord IoFault) (w' : StackRecord) : Type 0 where
   pub config : w'.config ≡ w.config
+  pub capacity : w'.capacity ≡ w.capacity
   pub moved : AreRead w.leaves (n * read_cost w.config (mapped d)) w'.leaves
   pub may : Ends (λ got. MayBe w.config (mapped d) first n got.bytes got.chains) (MayFault w.config (mapped d) first n) w.leaves w'.leaves answer
   pub touches : TouchesOnly (leaves_of w.config (mapped d)) w.leaves w'.leaves answer

@@ -7,10 +7,11 @@ use Rattle.stack_meaning.specs.Found.{FoundRecord}
 use Rattle.stack_meaning.specs.Leaves.{ServeLeaves}
 use Rattle.stack_lines.specs.Caches.{StackCache, IsCacheOf}
 
--- a configuration, and the devices of its leaves in order
+-- a configuration, the devices of its leaves in order, and how many hash blocks may be kept
 pub record StackRecord : Type 0 where
   pub config : Configuration
   pub leaves : List Device
+  pub capacity : ℕ
 
 -- what holds of every stack, whatever its devices answer
 pub record IsSound (c : Configuration) (leaves : List Device) : Type 0 where

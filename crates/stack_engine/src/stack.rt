@@ -7,7 +7,7 @@ ghost use Rattle.stack_rules.specs.Removal.{removal_fault, after_removal};
 ghost use Rattle.stack_rules.specs.declared.refusal.Refusal.{Refusal};
 ghost use Rattle.stack_meaning.specs.Leaves.{ServeLeaves, AllSteady, reads_of, writes_of};
 ghost use Rattle.stack_engine.specs.Bytes.{AnyBytes, SteadyBytes};
-ghost use Rattle.stack_engine.specs.Pieces.{AnyPiece, SteadyPiece};
+ghost use Rattle.stack_engine.specs.Pieces.{AnyPiece, SteadyPiece, stack_over};
 ghost use Rattle.stack_engine.specs.Stacks.{StackRecord, IsSound};
 ghost use Rattle.stack_meaning.specs.Meaning.{said_at};
 ghost use Rattle.stack_meaning.specs.Reading.{MeetVerity, buffer_answer};
@@ -45,7 +45,7 @@ impl<D: BlockDev> Model for Stack<D> {
 
     ghost Value = { StackRecord };
 
-    ghost view = { λ s. record { config = s.config; leaves = map D.state s.reader.devices.items } };
+    ghost view = { λ s. record { config = s.config; leaves = map D.state s.reader.devices.items; capacity = s.reader.cache.blocks.capacity } };
 
     ghost invariant = { λ s. IsStack s.config (map D.state s.reader.devices.items) s.reader.cache };
 }
@@ -60,7 +60,7 @@ impl<D: BlockDev> Stack<D> {
         capacity: u32,
     ) -> Result<Stack<D>, (Config, Vec<D>)>
         requires { ServeLeaves config.leaves (map D.state devices.items) }
-        ensures ok { IfOk result (λ s. s ≡ record { config = config; leaves = map D.state devices.items }) }
+        ensures ok { IfOk result (λ s. s ≡ stack_over config (map D.state devices.items) capacity) }
         ensures err { IfErr result (λ p. (p.0 ≡ config) × (p.1 ≡ devices)) }
     {
         // What holds of every loaded configuration is learned from a call.
@@ -157,7 +157,7 @@ impl<D: BlockDev> Stack<D> {
     /// Puts the devices of a text in, all or none.
     pub fn load(&mut self, text: &StackText) -> Result<(), LoadFault>
         ensures ok { OnOk result (first_refusal self.old.config text.now ≡ None) }
-        ensures after { OnOk result (self.new ≡ record { config = after_load self.old.config text.now; leaves = self.old.leaves }) }
+        ensures after { OnOk result (self.new ≡ record self.old { config = after_load self.old.config text.now }) }
         ensures refused { (r : Refusal) → result ≡ Err (LoadFault.Refused r) → IsRefusal self.old.config text.now r }
         ensures same { OnErr result (self.new ≡ self.old) }
     {
@@ -173,7 +173,7 @@ impl<D: BlockDev> Stack<D> {
     /// Removes the mapped device of that name; later ones move up by one place.
     pub fn remove(&mut self, name: &[u8]) -> Result<(), RemoveFault>
         ensures ok { OnOk result (removal_fault self.old.config name.now ≡ None) }
-        ensures after { OnOk result (self.new ≡ record { config = after_removal self.old.config name.now; leaves = self.old.leaves }) }
+        ensures after { OnOk result (self.new ≡ record self.old { config = after_removal self.old.config name.now }) }
         ensures err { IfErr result (λ fault. removal_fault self.old.config name.now ≡ Some fault) }
         ensures same { OnErr result (self.new ≡ self.old) }
     {
@@ -194,6 +194,13 @@ impl<D: BlockDev> Stack<D> {
         &self.config
     }
 
+    /// How many hash blocks are kept, which is never more than may be.
+    pub fn cached(&self) -> usize
+        ensures { result ≤ self.now.capacity }
+    {
+        self.reader.cache.count()
+    }
+
     /// How many sectors the leaves have read and written, each sum at most the greatest `u64`.
     pub fn moved(&self) -> (u64, u64)
         ensures { result ≡ (capped (reads_of self.now.leaves), capped (writes_of self.now.leaves)) }
@@ -208,6 +215,7 @@ impl<D: SyncDev> Stack<D> {
     pub fn sync(&mut self) -> Result<(), IoFault>
         ensures ok { OnOk result (self.new.leaves ≡ map synced self.old.leaves) }
         ensures config { self.new.config ≡ self.old.config }
+        ensures capacity { self.new.capacity ≡ self.old.capacity }
         ensures err { IfErr result (FailsToSync self.old.leaves self.new.leaves) }
         ensures sure { NeverFail self.old.leaves → IsOk result }
     {

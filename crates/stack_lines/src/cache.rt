@@ -1,5 +1,5 @@
 //! The hash blocks that a stack keeps.
-ghost use Rattle.std.specs.Prelude.{◌≡◌, ◌<◌, ◌||◌, ℕ, option_map, IfOk, OnOk, OnErr};
+ghost use Rattle.std.specs.Prelude.{◌≡◌, ◌<◌, ◌≤◌, ◌||◌, ℕ, length, option_map, IfOk, OnOk, OnErr};
 ghost use Rattle.stack_rules.specs.Records.{Configuration};
 ghost use Rattle.stack_rules.specs.Rules.{IsLoaded, most_leaves};
 ghost use Rattle.verified_cache.specs.Cache.{block_under, cache_after_find, cache_after_keep};
@@ -103,6 +103,14 @@ impl Cache {
         }
         let copy = Vec::from_slice(alloc, block)?;
         self.blocks.keep(key, digest, copy)
+    }
+
+    /// How many blocks are kept.
+    pub fn count(&self) -> usize
+        ensures value { result ≡ length self.now.blocks.blocks }
+        ensures within { result ≤ self.now.blocks.capacity }
+    {
+        self.blocks.len()
     }
 
     /// Drops the blocks of the lines whose hash device is the leaf, or stands on it, and looks at each block once.

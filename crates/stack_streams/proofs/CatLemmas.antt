@@ -64,6 +64,7 @@ cat-none d first old = record {
   bytes = [];
   most = 0;
   config = refl;
+  capacity = refl;
   moved = AreRead-none 0 old.stack.leaves;
   touches = touches-none (leaves_of old.stack.config (mapped d)) old.stack.leaves (Ok []) tt;
   may = no-bytes old.stack.config (mapped d) first;
@@ -84,6 +85,7 @@ module _ (d first k : ℕ) (old now : CatSide) (p : IsCat d first k old now) (n 
     bytes = p.bytes ++ bytes;
     most = p.most + _;
     config = q.any.config ∙ p.config;
+    capacity = q.any.capacity ∙ p.capacity;
     moved = AreRead-then p.moved q.any.moved;
     touches = touches-as (Ok (p.bytes ++ bytes)) tt (touches-then p.touches (subst (λ (c : Configuration). TouchesOnly {A = List ℕ} (leaves_of c (mapped d)) now.stack.leaves stack.leaves (Ok bytes)) p.config q.any.touches));
     may = bytes-then old.stack.config (mapped d) first k n p.bytes bytes p.may (subst (λ (c : Configuration). MayBeBytes c (mapped d) (first + k) n bytes) p.config q.any.may);
@@ -100,6 +102,7 @@ module _ (d first k : ℕ) (old now : CatSide) (p : IsCat d first k old now) (n 
     bytes = p.bytes;
     most = p.most + _;
     config = q.any.config ∙ p.config;
+    capacity = q.any.capacity ∙ p.capacity;
     moved = AreRead-then p.moved q.any.moved;
     touches = touches-as (Ok p.bytes) tt (touches-then p.touches (subst (λ (c : Configuration). TouchesOnly {A = List ℕ} (leaves_of c (mapped d)) now.stack.leaves stack.leaves (Err fault)) p.config q.any.touches));
     may = p.may;

@@ -31,6 +31,7 @@ pub record IsCat (d first k : ℕ) (old new : CatSide) : Type 0 where
   pub bytes : List ℕ
   pub most : ℕ
   pub config : new.stack.config ≡ old.stack.config
+  pub capacity : new.stack.capacity ≡ old.stack.capacity
   pub moved : AreRead old.stack.leaves most new.stack.leaves
   pub touches : TouchesOnly (leaves_of old.stack.config (mapped d)) old.stack.leaves new.stack.leaves (Ok bytes)
   pub may : MayBeBytes old.stack.config (mapped d) first k bytes

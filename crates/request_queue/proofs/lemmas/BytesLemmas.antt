@@ -51,9 +51,9 @@ shown d first n bytes p = record {
   good = p.any.may.good;
 }
 
-each-shown : {w w' : StackRecord} (d first n : ℕ) (bytes : List ℕ) → w'.config ≡ w.config → Shown w.config d first n w.leaves w'.leaves bytes → EachBytes w d first n (Ok bytes) w'
-each-shown {w = w} {w' = w'} d first n bytes config p =
-    let any : AnyBytes w d first n (Ok bytes) w' = record { config = config; moved = p.gets.moved; may = record { chains = p.chains; read = record { run = p.gets.may; used = p.used }; good = p.good }; touches = p.touches } in
+each-shown : {w w' : StackRecord} (d first n : ℕ) (bytes : List ℕ) → w'.config ≡ w.config → w'.capacity ≡ w.capacity → Shown w.config d first n w.leaves w'.leaves bytes → EachBytes w d first n (Ok bytes) w'
+each-shown {w = w} {w' = w'} d first n bytes config capacity p =
+    let any : AnyBytes w d first n (Ok bytes) w' = record { config = config; capacity = capacity; moved = p.gets.moved; may = record { chains = p.chains; read = record { run = p.gets.may; used = p.used }; good = p.good }; touches = p.touches } in
     record { any = any; steady = λ steady. record { any = any; exact = p.gets.exact steady } }
 
 module _ (c : Configuration) (d first a m : ℕ) {old mid new : List Device} {xs ys : List ℕ} where
@@ -72,7 +72,7 @@ module _ (c : Configuration) (d first a m : ℕ) {old mid new : List Device} {xs
 
 -- nothing was read yet
 pub bytes-none : (w : StackRecord) (d first : ℕ) → EachBytes w d first 0 (Ok []) w
-bytes-none w d first = each-shown {w = w} {w' = w} d first 0 [] refl (record {
+bytes-none w d first = each-shown {w = w} {w' = w} d first 0 [] refl refl (record {
   chains = [];
   gets = record { moved = AreRead-none _ w.leaves; may = record { len = refl; sectors = λ j h. absurd (omega (arith, h)) }; exact = λ steady. refl };
   touches = touches-none (leaves_of w.config (mapped d)) w.leaves (Ok []) tt;
@@ -83,7 +83,7 @@ bytes-none w d first = each-shown {w = w} {w' = w} d first 0 [] refl (record {
 pub bytes-then : (w v w' : StackRecord) (d first a m : ℕ) (xs ys : List ℕ) → EachBytes w d first a (Ok xs) v → EachBytes v d (first + a) m (Ok ys) w' → EachBytes w d first (a + m) (Ok (xs ++ ys)) w'
 bytes-then w v w' d first a m xs ys p q =
     let next : Shown w.config d (first + a) m v.leaves w'.leaves ys = subst (λ (c : Configuration). Shown c d (first + a) m v.leaves w'.leaves ys) p.any.config (shown {w = v} {w' = w'} d (first + a) m ys q) in
-    each-shown {w = w} {w' = w'} d first (a + m) (xs ++ ys) (q.any.config ∙ p.any.config)
+    each-shown {w = w} {w' = w'} d first (a + m) (xs ++ ys) (q.any.config ∙ p.any.config) (q.any.capacity ∙ p.any.capacity)
     (shown-then w.config d first a m (shown {w = w} {w' = v} d first a xs p) next)
 
 -- ---- a fault
@@ -93,16 +93,16 @@ fails-of d first n chains (io.Stack fault) p = record { moved = p.any.moved; may
 fails-of d first n chains (io.Device i) p = record { moved = p.any.moved; may = p.any.may; exact = λ steady. tt }
 fails-of d first n chains io.NoMemory p = record { moved = p.any.moved; may = tt; exact = λ steady. tt }
 
-each-fails : {w w' : StackRecord} (d first n : ℕ) (chains : List FoundRecord) (fault : IoFault) → w'.config ≡ w.config → Gets (run_expected (place_of w.config (mapped d)) chains first n) w.leaves w'.leaves (Err fault)
+each-fails : {w w' : StackRecord} (d first n : ℕ) (chains : List FoundRecord) (fault : IoFault) → w'.config ≡ w.config → w'.capacity ≡ w.capacity → Gets (run_expected (place_of w.config (mapped d)) chains first n) w.leaves w'.leaves (Err fault)
     → TouchesOnly {A = List ℕ} (leaves_of w.config (mapped d)) w.leaves w'.leaves (Err fault) → EachBytes w d first n (Err fault) w'
-each-fails {w = w} {w' = w'} d first n chains (io.Stack fault) config p touches =
-    let any : AnyBytes w d first n (Err (io.Stack fault)) w' = record { config = config; moved = p.moved; may = p.may; touches = touches } in
+each-fails {w = w} {w' = w'} d first n chains (io.Stack fault) config capacity p touches =
+    let any : AnyBytes w d first n (Err (io.Stack fault)) w' = record { config = config; capacity = capacity; moved = p.moved; may = p.may; touches = touches } in
     record { any = any; steady = λ steady. record { any = any; exact = p.exact steady } }
-each-fails {w = w} {w' = w'} d first n chains (io.Device i) config p touches =
-    let any : AnyBytes w d first n (Err (io.Device i)) w' = record { config = config; moved = p.moved; may = p.may; touches = touches } in
+each-fails {w = w} {w' = w'} d first n chains (io.Device i) config capacity p touches =
+    let any : AnyBytes w d first n (Err (io.Device i)) w' = record { config = config; capacity = capacity; moved = p.moved; may = p.may; touches = touches } in
     record { any = any; steady = λ steady. record { any = any; exact = tt } }
-each-fails {w = w} {w' = w'} d first n chains io.NoMemory config p touches =
-    let any : AnyBytes w d first n (Err io.NoMemory) w' = record { config = config; moved = p.moved; may = tt; touches = touches } in
+each-fails {w = w} {w' = w'} d first n chains io.NoMemory config capacity p touches =
+    let any : AnyBytes w d first n (Err io.NoMemory) w' = record { config = config; capacity = capacity; moved = p.moved; may = tt; touches = touches } in
     record { any = any; steady = λ steady. record { any = any; exact = tt } }
 
 -- a piece that ends all n sectors by its fault
@@ -111,7 +111,7 @@ bytes-end w v w' d first a m n xs fault inside p q =
     let one = shown {w = w} {w' = v} d first a xs p in
     let next : Gets (run_expected (place_of w.config (mapped d)) one.chains (first + a) m) v.leaves w'.leaves (Err fault) =
     subst (λ (c : Configuration). Gets (run_expected (place_of c (mapped d)) one.chains (first + a) m) v.leaves w'.leaves (Err fault)) p.any.config (fails-of {w = v} {w' = w'} d (first + a) m one.chains fault q) in
-    each-fails {w = w} {w' = w'} d first n one.chains fault (q.any.config ∙ p.any.config)
+    each-fails {w = w} {w' = w'} d first n one.chains fault (q.any.config ∙ p.any.config) (q.any.capacity ∙ p.any.capacity)
     (fill_err (place_of w.config (mapped d)) one.chains first a m one.gets n fault inside next)
     (touches-then one.touches (subst (λ (c : Configuration). TouchesOnly {A = List ℕ} (leaves_of c (mapped d)) v.leaves w'.leaves (Err fault)) p.any.config q.any.touches))
 

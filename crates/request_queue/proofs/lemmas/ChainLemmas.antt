@@ -176,10 +176,10 @@ module _ (good : AnsweredChainsAreGood) (forged : ForgedAnswersCollide) where
       turn-of w (run r (Ok answer)) w' (after-another w s.begun w' (answer_chains answer) first.config (ended (w.given + 1) answer s.begun w' first.honest s.ends))
   honest-turn w (run r (Err fault)) w' honest s = turn-of w (run r (Err fault)) w' (same-world w w' honest s.same)
   honest-turn w (sync (Ok done)) w' honest s =
-      let stack : StackRecord = record { config = w.stack.config; leaves = map synced w.stack.leaves } in
+      let stack : StackRecord = record w.stack { leaves = map synced w.stack.leaves } in
       turn-of w (sync (Ok done)) w' (hands-out w [] stack w.in_flight w' s refl honest.loaded honest.flights (All-nil _))
   honest-turn w (sync (Err fault)) w' honest s =
-      let stack : StackRecord = record { config = w.stack.config; leaves = s.after } in
+      let stack : StackRecord = record w.stack { leaves = s.after } in
       turn-of w (sync (Err fault)) w' (hands-out w [] stack w.in_flight w' s.leaves refl honest.loaded honest.flights (All-nil _))
 
   pub honest-run : (w : World) (turns : List Turn) → IsHonest w → Run AnyPart w turns → IsHonest (last w turns)

@@ -23,6 +23,7 @@ use Rattle.request_queue.specs.declared.reply.Reply.TheVariants.{Sectors, Writte
 use Rattle.request_queue.specs.Requests.{RequestRecord, a_read, a_write}
 use Rattle.request_queue.specs.Flights.{FlightRecord, reads, writes, first_flight, next_flight, next_work, joint_answer, nothing, reply_to}
 use Rattle.request_queue.specs.Parts.{EachPart, Asks, ending, part_of_work, done_of}
+use Rattle.request_queue.specs.Ranges.{piece_len}
 use Rattle.request_queue.specs.World.{World, Serves, Begins, Ends, at_once, later, next_count}
 use Rattle.request_queue.specs.Runs.{flight_of}
 use Rattle.request_queue.specs.WholeRuns.{ReadsWhole, WritesWhole, Whole, RunAnswers}
@@ -37,6 +38,7 @@ pub record ReadSoFar (base : StackRecord) (range : SectorRange) (t : ℕ) (w : W
   pub there : flight_of w t ≡ Some f
   pub order : InOrder w
   pub config : w.stack.config ≡ base.config
+  pub capacity : w.stack.capacity ≡ base.capacity
   pub device : f.rest.device ≡ range.device
   pub done : ℕ
   pub at : f.rest.first ≡ range.first + done
@@ -65,6 +67,12 @@ piece-of base range t w w' u f answer stack same now p =
     (subst (λ d. IsPiece w.stack.config d f.rest.first n w.stack.leaves stack.leaves answer) device
     (piece-got f.rest.device.0 f.rest.first n answer piece, piece.any.touches))))
 
+piece-capacity : (v v' : StackRecord) (f : FlightRecord) (answer : Result AnswerRecord IoFault) {got : AnswerRecord} (stack : StackRecord) → f.work ≡ reads got → stack ≡ v' → Asks EachPart v f answer stack → v'.capacity ≡ v.capacity
+piece-capacity v v' f answer {got = got} stack work now p =
+    let n = piece_len v.config f.rest in
+    let piece : EachPiece v f.rest.device.0 f.rest.first n answer stack = subst (λ x. EachPart v f.rest.device.0 f.rest.first (part_of_work x (done_of f) n) answer stack) work p in
+    subst (λ (x : StackRecord). x.capacity ≡ v.capacity) now piece.any.capacity
+
 further : (base : StackRecord) (range : SectorRange) (t : ℕ) (w w' : World) → ReadSoFar base range t w → Serves EachPart w t More w' → ReadSoFar base range t w'
 further base range t w w' u s =
     let own = has-served w t More w' u.order (serves-any w t More w' s) in
@@ -79,6 +87,7 @@ further base range t w w' u s =
       there = after-more EachPart t w w' u.f u.order u.there s;
       order = own.order;
       config = own.config ∙ u.config;
+      capacity = piece-capacity w.stack w'.stack s.f (Ok s.answers.got) s.answers.stack (ap (λ (x : FlightRecord). x.work) same ∙ u.work) (sym (ap (λ (y : World). y.stack) s.answers.leaves)) s.answers.asks ∙ u.capacity;
       device = ap (λ (x : FlightRecord). x.rest.device) same ∙ u.device;
       done = u.done + n;
       at = omega (arith, first);
@@ -89,9 +98,9 @@ further base range t w w' u s =
       touches = touches-as (Ok _) tt (touches-then u.touches piece.1);
     }
 
-whole-of : {v v' : StackRecord} (range : SectorRange) (answer : Result AnswerRecord IoFault) → v'.config ≡ v.config → Gets (pieces_expected v.config (mapped range.device.0) range.first range.count) v.leaves v'.leaves answer
+whole-of : {v v' : StackRecord} (range : SectorRange) (answer : Result AnswerRecord IoFault) → v'.config ≡ v.config → v'.capacity ≡ v.capacity → Gets (pieces_expected v.config (mapped range.device.0) range.first range.count) v.leaves v'.leaves answer
     → TouchesOnly (leaves_of v.config (mapped range.device.0)) v.leaves v'.leaves answer → ReadsWhole v range answer v'
-whole-of range answer config p touches = record { config = config; moved = p.moved; may = p.may; touches = touches; exact = p.exact }
+whole-of range answer config capacity p touches = record { config = config; capacity = capacity; moved = p.moved; may = p.may; touches = touches; exact = p.exact }
 
 -- its last step
 read-over : (base : StackRecord) (range : SectorRange) (t : ℕ) (name : List ℕ) (first count : ℕ) (answer : Result Reply IoFault) (w w' : World) → ReadSoFar base range t w → Serves EachPart w t (Done answer) w'
@@ -106,8 +115,9 @@ read-over base range t name first count (Ok reply) w w' u s =
     let is : reply ≡ Sectors all = s.answers.replies ∙ ap reply_to work in
     let piece = piece-of base range t w w' u s.f (Ok s.answers.got) s.answers.stack same (sym (ap (λ (y : World). y.stack) s.answers.leaves)) s.answers.asks in
     let gets = more-pieces base.config (mapped range.device.0) range.first u.done n {before = u.got} u.gets {answer = s.answers.got} piece.0 in
+    let capacity : w'.stack.capacity ≡ w.stack.capacity = piece-capacity w.stack w'.stack s.f (Ok s.answers.got) s.answers.stack (ap (λ (x : FlightRecord). x.work) same ∙ u.work) (sym (ap (λ (y : World). y.stack) s.answers.leaves)) s.answers.asks in
     let whole : ReadsWhole base range (Ok all) w'.stack =
-    whole-of {v = base} {v' = w'.stack} range (Ok all) (own.config ∙ u.config) (subst (λ k. Gets (pieces_expected base.config (mapped range.device.0) range.first k) base.leaves w'.stack.leaves (Ok all)) last gets) (touches-as (Ok all) tt (touches-then u.touches piece.1)) in
+    whole-of {v = base} {v' = w'.stack} range (Ok all) (own.config ∙ u.config) (capacity ∙ u.capacity) (subst (λ k. Gets (pieces_expected base.config (mapped range.device.0) range.first k) base.leaves w'.stack.leaves (Ok all)) last gets) (touches-as (Ok all) tt (touches-then u.touches piece.1)) in
     subst (λ x. Whole (a_read name first count) base range (Ok x) w'.stack) (sym is) whole
 read-over base range t name first count (Err fault) w w' u s =
     let own = has-served w t (Done (Err fault)) w' u.order (serves-any w t (Done (Err fault)) w' s) in
@@ -116,7 +126,8 @@ read-over base range t name first count (Err fault) w w' u s =
     let most : n ≤ s.f.rest.count = piece_len-within w.stack.config s.f.rest in
     let inside : u.done + n ≤ range.count = omega (arith, most, ap (λ (x : FlightRecord). x.rest.count) same, u.left) in
     let piece = piece-of base range t w w' u s.f (Err fault) s.answers.stack same (sym (ap (λ (y : World). y.stack) s.answers.leaves)) s.answers.asks in
-    whole-of {v = base} {v' = w'.stack} range (Err fault) (own.config ∙ u.config)
+    let capacity : w'.stack.capacity ≡ w.stack.capacity = piece-capacity w.stack w'.stack s.f (Err fault) s.answers.stack (ap (λ (x : FlightRecord). x.work) same ∙ u.work) (sym (ap (λ (y : World). y.stack) s.answers.leaves)) s.answers.asks in
+    whole-of {v = base} {v' = w'.stack} range (Err fault) (own.config ∙ u.config) (capacity ∙ u.capacity)
     (fault-pieces base.config (mapped range.device.0) range.first u.done n {before = u.got} u.gets range.count fault inside piece.0)
     (touches-then u.touches piece.1)
 
@@ -135,6 +146,7 @@ read-begun w name first count t v order b =
       there = new.flight;
       order = new.order;
       config = ap (λ (x : StackRecord). x.config) new.stack;
+      capacity = ap (λ (x : StackRecord). x.capacity) new.stack;
       device = refl;
       done = 0;
       at = omega arith;
@@ -220,7 +232,7 @@ module _ (base : StackRecord) (loaded : IsLoaded base.config) (range : SectorRan
     -- where memory ran out nothing more was written
     put-nothing : EachWrite w.stack range.device.0 (range.first + u.done) (next_bytes bytes u.done n) (Err io.NoMemory) w'.stack → WritesInPieces base range.device.0 range.first (take (512 * u.done) bytes) (Ok tt) w'.stack
     put-nothing p =
-        let same : w.stack ≡ w'.stack = ap (λ c. stack_over c w.stack.leaves) (sym p.any.config) ∙ ap (λ l. stack_over w'.stack.config l) (sym p.any.ends) in
+        let same : w.stack ≡ w'.stack = ap (λ c. stack_over c w.stack.leaves w.stack.capacity) (sym p.any.config) ∙ ap (λ l. stack_over w'.stack.config l w.stack.capacity) (sym p.any.ends) ∙ ap (λ n. stack_over w'.stack.config w'.stack.leaves n) (sym p.any.capacity) in
         subst (λ x. WritesInPieces base range.device.0 range.first (take (512 * u.done) bytes) (Ok tt) x) same u.put
 
     put-fails : (fault : IoFault) → u.done < range.count → EachWrite w.stack range.device.0 (range.first + u.done) (next_bytes bytes u.done n) (Err fault) w'.stack → WritesWhole base range bytes (Err fault) w'.stack

@@ -1,5 +1,5 @@
 -- One piece as callers see it, and pieces one after another.
-use Rattle.std.proofs.Common.{ℕ, ◌+◌, ◌≤◌, List, [], ◌++◌, Result, Ok, Err, refl, arith}
+use Rattle.std.proofs.Common.{◌≡◌, ℕ, ◌+◌, ◌≤◌, List, [], ◌++◌, Result, Ok, Err, refl, arith}
 use Rattle.std.proofs.lemmas.List.Elements.{Contains-append_left, Contains-append_right, All-nil}
 use Rattle.block_device.specs.Device.{Device}
 use Rattle.stack_rules.specs.declared.lower.Lower.{Lower}
@@ -100,9 +100,9 @@ no-pieces c lower first leaves = record {
 
 -- a piece as the stack's own record
 pub each-piece : (c : Configuration) (d first n : ℕ) {old new : List Device} (answer : Result AnswerRecord IoFault) → Gets (piece_expected c (mapped d) first n) old new answer → TouchesOnly (leaves_of c (mapped d)) old new answer
-    → EachPiece (stack_over c old) d first n answer (stack_over c new)
-each-piece c d first n answer p touches =
-    let any : AnyPiece (stack_over c _) d first n answer (stack_over c _) = record { config = refl; moved = p.moved; may = p.may; touches = touches } in
+    → {before after : ℕ} → after ≡ before → EachPiece (stack_over c old before) d first n answer (stack_over c new after)
+each-piece c d first n answer p touches capacity =
+    let any : AnyPiece (stack_over c _ _) d first n answer (stack_over c _ _) = record { config = refl; capacity = capacity; moved = p.moved; may = p.may; touches = touches } in
     record { any = any; steady = λ steady. record { any = any; exact = p.exact steady } }
 
 -- and back

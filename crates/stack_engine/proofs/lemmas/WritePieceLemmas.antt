@@ -28,12 +28,13 @@ abbrev pub WritesTo : Configuration → ℕ → ℕ → List ℕ → StackRecord
 WritesTo c d first bytes w w' result = Writes (destination_of c (mapped d)) first (sectors_in bytes) w.leaves w'.leaves result
 
 -- as the stack's own record
-pub each-write : {w w' : StackRecord} (d first : ℕ) (bytes : List ℕ) (result : Result Unit IoFault) → w'.config ≡ w.config → (AllWhole w.leaves → AllWhole w'.leaves)
+pub each-write : {w w' : StackRecord} (d first : ℕ) (bytes : List ℕ) (result : Result Unit IoFault) → w'.config ≡ w.config → w'.capacity ≡ w.capacity → (AllWhole w.leaves → AllWhole w'.leaves)
     → WritesTo w.config d first bytes w w' result → EachWrite w d first bytes result w'
-each-write {w = w} {w' = w'} d first bytes result config whole p =
+each-write {w = w} {w' = w'} d first bytes result config capacity whole p =
     let count = length-sectors_in bytes in
     let any : AnyWrite w d first bytes result w' = record {
       config = config;
+      capacity = capacity;
       whole = whole;
       moved = subst (λ (n : ℕ). AreWritten (piece_reached w.config d first n) w.leaves (n * write_cost w.config (mapped d)) w'.leaves) count p.moved;
       ends = subst (λ (n : ℕ). MayEnd (MayFault w.config (mapped d) first n) w.leaves w'.leaves result) count p.ends;
@@ -63,7 +64,7 @@ none-written w d first bytes some = record {
 }
   where
     any : AnyWrite w d first bytes (Err io.NoMemory) w
-    any = record { config = refl; whole = λ h. h; moved = AreWritten-none _ _ w.leaves; ends = refl; stops = λ counted. none-stop w d first (length bytes / 512) some }
+    any = record { config = refl; capacity = refl; whole = λ h. h; moved = AreWritten-none _ _ w.leaves; ends = refl; stops = λ counted. none-stop w d first (length bytes / 512) some }
 
 pub write-sound : (c : Configuration) {w w' : StackRecord} {d first : ℕ} {bytes : List ℕ} {result : Result Unit IoFault} → IsSound c w.leaves → EachWrite w d first bytes result w' → IsSound c w'.leaves
 write-sound c {w = w} {w' = w'} s p = record { loaded = s.loaded; serve = leaves_kept c.leaves w.leaves w'.leaves p.any.moved.moved.fixed s.serve }
@@ -79,7 +80,7 @@ fault_of fault e = cc
 -- nothing was written yet
 pub write-none : (w : StackRecord) (d first : ℕ) → WritesInPieces w d first [] (Ok tt) w
 write-none w d first = record {
-  any = record { config = refl; whole = λ h. h; moved = AreWritten-none _ _ w.leaves; ends = tt; stops = tt };
+  any = record { config = refl; capacity = refl; whole = λ h. h; moved = AreWritten-none _ _ w.leaves; ends = tt; stops = tt };
   pieces = nothing;
 }
 
@@ -110,6 +111,7 @@ module _ {w w' w'' : StackRecord} (d first : ℕ) (x y z : List ℕ) (even : len
   pub any-then : {result : Result Unit IoFault} → (result ≡ Err io.NoMemory → ⊥) → AnyWrite w' d (first + length x / 512) y result w'' → AnyWrite w d first (x ++ (y ++ z)) result w''
   any-then {result = result} grown q = record {
     config = q.config ∙ p.config;
+    capacity = q.capacity ∙ p.capacity;
     whole = λ h. q.whole (p.whole h);
     moved = both-moved q;
     ends = later result grown (subst (λ (c : Configuration). MayEnd (MayFault c (mapped d) (first + length x / 512) (length y / 512)) w'.leaves w''.leaves result) p.config q.ends);

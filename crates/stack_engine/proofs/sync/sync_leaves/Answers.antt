@@ -1,7 +1,5 @@
-use Rattle.std.proofs.Common.{map, ap, arith, ◌∙◌, length}
-use Rattle.std.proofs.lemmas.List.{length-map}
-use Rattle.stack_engine.specs.Syncs.{synced_first}
-use Rattle.stack_engine.proofs.lemmas.SyncLemmas.{fails-at, synced-all, synced-next}
+use Rattle.std.proofs.Common.{map, arith}
+use Rattle.stack_engine.proofs.lemmas.SyncLemmas.{fails-at, synced-next}
 use Rattle.stack_engine.proofs.sync.sync_leaves.Goals as goal
 
 pub leaves-preserved : goal.leaves-preserved

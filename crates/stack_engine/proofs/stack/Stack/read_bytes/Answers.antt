@@ -17,13 +17,13 @@ pub returns-clause-any : goal.returns-clause-any
 returns-clause-any g c =
     let n : ℕ = length c.args.out.now / 512 in
     let answer : Result (List ℕ) IoFault = buffer_answer c.device_bytes.result c.device_bytes.new.out in
-    let after : StackRecord = stack_over c.self.inside.config (map g.D.BlockDev.state c.device_bytes.new.reader.devices.items) in
-    subst (λ (w : StackRecord). AnyBytes w c.args.d.0 c.args.first n answer after) c.self.view_is (each-bytes c.self.inside.config c.args.d.0 c.args.first n answer c.device_bytes.ensures.reads (buffer-touched c.device_bytes.result c.device_bytes.new.out c.device_bytes.ensures.touches)).any
+    let after : StackRecord = stack_over c.self.inside.config (map g.D.BlockDev.state c.device_bytes.new.reader.devices.items) c.device_bytes.new.reader.cache.blocks.capacity in
+    subst (λ (w : StackRecord). AnyBytes w c.args.d.0 c.args.first n answer after) c.self.view_is (each-bytes c.self.inside.config c.args.d.0 c.args.first n answer c.device_bytes.ensures.reads (buffer-touched c.device_bytes.result c.device_bytes.new.out c.device_bytes.ensures.touches) c.device_bytes.ensures.cached.capacity).any
 
 pub returns-clause-steady : goal.returns-clause-steady
 returns-clause-steady g c =
     let n : ℕ = length c.args.out.now / 512 in
     let answer : Result (List ℕ) IoFault = buffer_answer c.device_bytes.result c.device_bytes.new.out in
-    let after : StackRecord = stack_over c.self.inside.config (map g.D.BlockDev.state c.device_bytes.new.reader.devices.items) in
+    let after : StackRecord = stack_over c.self.inside.config (map g.D.BlockDev.state c.device_bytes.new.reader.devices.items) c.device_bytes.new.reader.cache.blocks.capacity in
     subst (λ (w : StackRecord). AllSteady w.leaves → SteadyBytes w c.args.d.0 c.args.first n answer after) c.self.view_is
-    (each-bytes c.self.inside.config c.args.d.0 c.args.first n answer c.device_bytes.ensures.reads (buffer-touched c.device_bytes.result c.device_bytes.new.out c.device_bytes.ensures.touches)).steady
+    (each-bytes c.self.inside.config c.args.d.0 c.args.first n answer c.device_bytes.ensures.reads (buffer-touched c.device_bytes.result c.device_bytes.new.out c.device_bytes.ensures.touches) c.device_bytes.ensures.cached.capacity).steady

@@ -31,7 +31,7 @@ reads g c =
     subst (λ k. R k []) count (subst (R (length c.as_mut_slice.result.now / 512)) c.new-chains.ensures.items c.read_device.ensures.reads)
 
 piece : (g : given.Over) (c : goal.Joined-read_device g)
-    → EachPiece c.args.self.now c.args.d.0 c.args.first c.args.n c.match-read_device.result (stack_over c.self.inside.config (map g.D.BlockDev.state c.read_device.new.reader.devices.items))
+    → EachPiece c.args.self.now c.args.d.0 c.args.first c.args.n c.match-read_device.result (stack_over c.self.inside.config (map g.D.BlockDev.state c.read_device.new.reader.devices.items) c.read_device.new.reader.cache.blocks.capacity)
 piece g c =
     let state = g.D.BlockDev.state in
     let config = c.self.inside.config in
@@ -54,8 +54,8 @@ piece g c =
       | in-Err-read_device w ↦ subst Names (sym w.result-is) (subst (λ (r : Result Unit IoFault). IfErr r (NamesOneOf these)) w.in-Err-read_device.is c.read_device.ensures.touches.fault)
       | in-Ok-read_device w ↦ subst Names (sym w.result-is) tt
     ] in
-    subst (λ (w : StackRecord). EachPiece w c.args.d.0 c.args.first c.args.n c.match-read_device.result (stack_over config new)) c.self.view_is
-    (each-piece config c.args.d.0 c.args.first c.args.n c.match-read_device.result got (touches-as c.match-read_device.result fault c.read_device.ensures.touches))
+    subst (λ (w : StackRecord). EachPiece w c.args.d.0 c.args.first c.args.n c.match-read_device.result (stack_over config new c.read_device.new.reader.cache.blocks.capacity)) c.self.view_is
+    (each-piece config c.args.d.0 c.args.first c.args.n c.match-read_device.result got (touches-as c.match-read_device.result fault c.read_device.ensures.touches) c.read_device.ensures.cached.capacity)
 
 pub invariant_of-self : goal.invariant_of-self
 invariant_of-self g c = record { sound = piece-sound c.self.inside.config c.self.invariant.sound (reads g c).got.moved; cached = c.read_device.ensures.cached.sound }

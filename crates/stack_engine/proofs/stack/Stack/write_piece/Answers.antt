@@ -22,19 +22,19 @@ bytes_of g c =
 
 -- what the write did, of the stack's own devices
 piece : (g : given.Over) (c : goal.After-drop-buffer g)
-    → EachWrite (stack_over c.self.inside.config (map g.D.BlockDev.state c.self.inside.reader.devices.items)) c.args.d.0 c.args.first c.args.bytes.now c.write_device.result
-    (stack_over c.self.inside.config (map g.D.BlockDev.state c.write_device.new.reader.devices.items))
+    → EachWrite (stack_over c.self.inside.config (map g.D.BlockDev.state c.self.inside.reader.devices.items) c.self.inside.reader.cache.blocks.capacity) c.args.d.0 c.args.first c.args.bytes.now c.write_device.result
+    (stack_over c.self.inside.config (map g.D.BlockDev.state c.write_device.new.reader.devices.items) c.write_device.new.reader.cache.blocks.capacity)
 piece g c =
     let state = g.D.BlockDev.state in
     let Is : List ℕ → Type 0 = λ b.
     Writes (destination_of c.self.inside.config (mapped c.args.d.0)) c.args.first (sectors_in b) (map state c.self.inside.reader.devices.items) (map state c.write_device.new.reader.devices.items) c.write_device.result in
-    each-write c.args.d.0 c.args.first c.args.bytes.now c.write_device.result refl (λ was. all-whole state g.met.D.BlockDev.whole c.write_device.new.reader.devices.items) (subst Is (bytes_of g c) c.write_device.ensures.writes)
+    each-write c.args.d.0 c.args.first c.args.bytes.now c.write_device.result refl c.write_device.ensures.cached.capacity (λ was. all-whole state g.met.D.BlockDev.whole c.write_device.new.reader.devices.items) (subst Is (bytes_of g c) c.write_device.ensures.writes)
 
 -- of the stack as it was
 whole : (g : given.Over) (c : goal.After-drop-buffer g)
-    → EachWrite c.args.self.now c.args.d.0 c.args.first c.args.bytes.now c.write_device.result (stack_over c.self.inside.config (map g.D.BlockDev.state c.write_device.new.reader.devices.items))
+    → EachWrite c.args.self.now c.args.d.0 c.args.first c.args.bytes.now c.write_device.result (stack_over c.self.inside.config (map g.D.BlockDev.state c.write_device.new.reader.devices.items) c.write_device.new.reader.cache.blocks.capacity)
 whole g c =
-    subst (λ (w : StackRecord). EachWrite w c.args.d.0 c.args.first c.args.bytes.now c.write_device.result (stack_over c.self.inside.config (map g.D.BlockDev.state c.write_device.new.reader.devices.items))) c.self.view_is (piece g c)
+    subst (λ (w : StackRecord). EachWrite w c.args.d.0 c.args.first c.args.bytes.now c.write_device.result (stack_over c.self.inside.config (map g.D.BlockDev.state c.write_device.new.reader.devices.items) c.write_device.new.reader.cache.blocks.capacity)) c.self.view_is (piece g c)
 
 pub invariant_of-self : goal.invariant_of-self
 invariant_of-self g c = record { sound = write-sound c.self.inside.config c.self.invariant.sound (piece g c); cached = c.write_device.ensures.cached.sound }
