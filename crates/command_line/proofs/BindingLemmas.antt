@@ -2,7 +2,7 @@
 use Rattle.std.proofs.Common.{◌≡◌, ◌<◌, ℕ, true, false, Bool, List, length, refl, arith, nat_lt, Some, None, ◌==◌}
 use Rattle.std.specs.List.{position_or_len, before_first, after_first}
 use Rattle.std.proofs.lemmas.Bool.{lt-ltb, ltb-true}
-use Rattle.command_line.specs.Bindings.{cut}
+use Rattle.command_line.specs.Cuts.{cut}
 
 pub cut-some : (b : ℕ) (text before behind : List ℕ) → position_or_len (λ x. x == b) text < length text
     → before ≡ before_first (λ x. x == b) text → behind ≡ after_first (λ x. x == b) text → cut b text ≡ Some (before, behind)

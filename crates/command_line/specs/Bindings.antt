@@ -1,17 +1,20 @@
 -- The names that a command line binds to devices.
-use Rattle.std.specs.Prelude.{ℕ, ◌==◌, ◌&&◌, nat_le, nat_lt, Bool, true, false, List, length, codes, Option, Some, None, option_map, if◌then◌else◌}
-use Rattle.std.specs.List.{position_or_len, before_first, after_first}
+use Rattle.std.specs.Prelude.{ℕ, ◌&&◌, nat_le, Bool, true, false, List, codes, Option, Some, None, option_map, if◌then◌else◌}
 use Rattle.std.specs.Option.{option_and_then}
 use Rattle.std.specs.Str.{bytes_eq}
 use Rattle.dm_table.specs.Numbers.{number, number_if}
 use Rattle.command_line.specs.declared.bindings.Backing.{Backing}
-use Rattle.command_line.specs.declared.bindings.Backing.TheVariants.{File, Zeros, Ramp}
+use Rattle.command_line.specs.declared.bindings.Backing.TheVariants.{File, Part, Zeros, Ramp}
 use Rattle.command_line.specs.declared.bindings.Binding.{Binding}
+use Rattle.command_line.specs.Cuts.{cut}
+use Rattle.command_line.specs.PartBindings.{PartRecord, kind_part, part_record}
 
 -- what stands behind a name
 pub data BackingRecord : Type 0 where
   -- a file, which may be written or not
   file : List ℕ → Bool → BackingRecord
+  -- a part of one
+  part : List ℕ → Bool → PartRecord → BackingRecord
   -- so many zero sectors
   zeros : ℕ → BackingRecord
   -- so many sectors, of which sector k is filled with the byte k
@@ -21,24 +24,22 @@ pub record BindingRecord : Type 0 where
   pub name : List ℕ
   pub backing : BackingRecord
 
--- the text before and behind its first byte b, if it has one
-unfoldable pub cut : ℕ → List ℕ → Option (List ℕ × List ℕ)
-cut b text =
-    if nat_lt (position_or_len (λ x. x == b) text) (length text)
-    then Some (before_first (λ x. x == b) text, after_first (λ x. x == b) text) else None
-
 -- from 1 to 65,536 sectors
 abbrev pub sectors_at : List ℕ → Option ℕ
 sectors_at word = number_if (λ n. nat_le 1 n && nat_le n 65536) (number word)
 
--- `rw:FILE`, `ro:FILE`, `zero:N` or `ramp:N`, of which the kind stands before the colon
+-- `rw@FIRST+COUNT:FILE` or `ro@FIRST+COUNT:FILE`
+abbrev pub part_backing : List ℕ → List ℕ → Option BackingRecord
+part_backing kind rest = option_map (λ found. part rest found.0 found.1) (kind_part kind)
+
+-- `rw:FILE`, `ro:FILE`, `zero:N` or `ramp:N`, of which the kind stands before the colon, or a part of a file
 abbrev pub backing_by : List ℕ → List ℕ → Option BackingRecord
 backing_by kind rest =
     if bytes_eq kind (codes "rw") then Some (file rest true)
     else if bytes_eq kind (codes "ro") then Some (file rest false)
     else if bytes_eq kind (codes "zero") then option_map zeros (sectors_at rest)
     else if bytes_eq kind (codes "ramp") then option_map ramp (sectors_at rest)
-    else None
+    else part_backing kind rest
 
 -- `KIND:REST`, cut at the first colon (58)
 abbrev pub backing_of : List ℕ → Option BackingRecord
@@ -54,6 +55,7 @@ binding_of word = option_and_then (λ parts. option_map (bind parts.0) (backing_
 -- what a backing and a binding of the program say
 abbrev pub backing_record : Backing → BackingRecord
 backing_record (File path writable) = file path.now writable
+backing_record (Part path writable at) = part path.now writable (part_record at)
 backing_record (Zeros sectors) = zeros sectors
 backing_record (Ramp sectors) = ramp sectors
 

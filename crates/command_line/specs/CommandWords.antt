@@ -76,9 +76,9 @@ write_of cache words = None
 abbrev pub session_of : ℕ → List (List ℕ) → Option InvocationRecord
 session_of cache words = option_map (session cache) (bindings_of words)
 
--- `STACK NAME BINDING...`
+-- `STACK NAME BINDING...`; STACK isn't `-`, the standard input, which is the client's
 abbrev pub nbd_of : ℕ → List (List ℕ) → Option InvocationRecord
-nbd_of cache (stack ∷ name ∷ words) = option_map (nbd cache stack name) (bindings_of words)
+nbd_of cache (stack ∷ name ∷ words) = if bytes_eq stack (codes "-") then None else option_map (nbd cache stack name) (bindings_of words)
 nbd_of cache words = None
 
 -- `STACK NAME BINDING...`

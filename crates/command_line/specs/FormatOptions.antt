@@ -38,6 +38,10 @@ pub record OptionTexts : Type 0 where
   pub root : Option (List ℕ)
   pub all : Bool
   pub stack : Bool
+  pub no_superblock : Bool
+  pub grow : Bool
+  pub differing : Bool
+  pub progress : Bool
 
 -- what the program's own value says
 abbrev pub text_of : Option (Bor (List ℕ)) → Option (List ℕ)
@@ -63,6 +67,10 @@ option_texts words = record {
   root = text_of words.root;
   all = words.all;
   stack = words.stack;
+  no_superblock = words.no_superblock;
+  grow = words.grow;
+  differing = words.differing;
+  progress = words.progress;
 }
 
 -- each value is the one that its text says; where there is no text, it is 4,096 for a block size, and none for the others

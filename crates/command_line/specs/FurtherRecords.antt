@@ -1,8 +1,11 @@
 -- The commands that take more than the first version's.
-use Rattle.std.specs.Prelude.{ℕ, List, codes, Option, None, option_map, if◌then◌else◌}
+use Rattle.std.specs.Prelude.{ℕ, List, [], ◌∷◌, codes, Option, None, Some, option_map, if◌then◌else◌}
 use Rattle.std.specs.Str.{bytes_eq}
-use Rattle.command_line.specs.FormatOptions.{OptionTexts}
+use Rattle.command_line.specs.FormatOptions.{OptionTexts, text_of}
 use Rattle.command_line.specs.words.Cat.{CatRecord, cat_record, cat_said}
+use Rattle.command_line.specs.words.Copy.{CopyRecord, copy_record, copy_said}
+use Rattle.command_line.specs.words.Manual.{manual_said}
+use Rattle.command_line.specs.words.Scan.{ScanRecord, scan_record, scan_said}
 use Rattle.command_line.specs.words.Store.{StoreRecord, store_record, store_said}
 use Rattle.command_line.specs.words.Format.{FormatRecord, format_record, format_said}
 use Rattle.command_line.specs.words.Verify.{VerifyRecord, verify_record, verify_said}
@@ -10,8 +13,11 @@ use Rattle.command_line.specs.words.Dump.{DumpRecord, dump_record, dump_said}
 use Rattle.command_line.specs.words.Table.{TableRecord, table_record, table_said}
 use Rattle.command_line.specs.words.Partitions.{PartitionsRecord, partitions_record, partitions_said}
 use Rattle.command_line.specs.words.Diff.{DiffRecord, diff_record, diff_said}
+use Rattle.command_line.specs.words.TreeFormat.{TreeFormatRecord, tree_format_record, tree_format_said}
+use Rattle.command_line.specs.words.TreeVerify.{TreeVerifyRecord, tree_verify_record, tree_verify_said}
+use Rattle.command_line.specs.words.TreeTable.{TreeTableRecord, tree_table_record, tree_table_said}
 use Rattle.command_line.specs.declared.further.Further.{Further}
-use Rattle.command_line.specs.declared.further.Further.TheVariants.{Cat, Store, Format, Verify, Dump, Table, Partitions, Diff}
+use Rattle.command_line.specs.declared.further.Further.TheVariants.{Cat, Store, Format, Verify, Dump, Table, Partitions, Diff, Scan, Copy, Manual, Version, FormatTree, VerifyTree, TableTree}
 
 pub data FurtherRecord : Type 0 where
   cat : CatRecord → FurtherRecord
@@ -22,19 +28,53 @@ pub data FurtherRecord : Type 0 where
   table : TableRecord → FurtherRecord
   partitions : PartitionsRecord → FurtherRecord
   diff : DiffRecord → FurtherRecord
+  scan : ScanRecord → FurtherRecord
+  copy : CopyRecord → FurtherRecord
+  -- a command's name, where one is said
+  manual : Option (List ℕ) → FurtherRecord
+  version : FurtherRecord
+  format_tree : TreeFormatRecord → FurtherRecord
+  verify_tree : TreeVerifyRecord → FurtherRecord
+  table_tree : TreeTableRecord → FurtherRecord
 
--- by a command's name, the values of its options, and its positional words
-abbrev pub further_said : List ℕ → OptionTexts → List (List ℕ) → Option FurtherRecord
-further_said name texts words =
-    if bytes_eq name (codes "cat") then option_map cat (cat_said texts words)
-    else if bytes_eq name (codes "store") then option_map store (store_said texts words)
-    else if bytes_eq name (codes "format") then option_map format (format_said texts words)
+-- the commands on trees without a superblock
+abbrev pub tree_said : List ℕ → OptionTexts → List (List ℕ) → Option FurtherRecord
+tree_said name texts words =
+    if bytes_eq name (codes "format") then option_map format_tree (tree_format_said texts words)
+    else if bytes_eq name (codes "verify") then option_map verify_tree (tree_verify_said texts words)
+    else if bytes_eq name (codes "table") then option_map table_tree (tree_table_said texts words)
+    else None
+
+-- no word stands behind `version`
+abbrev pub version_said : List (List ℕ) → Option FurtherRecord
+version_said [] = Some version
+version_said (word ∷ words) = None
+
+-- the commands on images, or on nothing
+abbrev pub image_said : List ℕ → OptionTexts → List (List ℕ) → Option FurtherRecord
+image_said name texts words =
+    if bytes_eq name (codes "format") then option_map format (format_said texts words)
     else if bytes_eq name (codes "verify") then option_map verify (verify_said texts words)
     else if bytes_eq name (codes "dump") then option_map dump (dump_said texts words)
     else if bytes_eq name (codes "table") then option_map table (table_said texts words)
     else if bytes_eq name (codes "partitions") then option_map partitions (partitions_said texts words)
     else if bytes_eq name (codes "diff") then option_map diff (diff_said texts words)
+    else if bytes_eq name (codes "manual") then option_map manual (manual_said words)
+    else if bytes_eq name (codes "version") then version_said words
     else None
+
+-- by a command's name, the values of its options, and its positional words
+abbrev pub command_said : List ℕ → OptionTexts → List (List ℕ) → Option FurtherRecord
+command_said name texts words =
+    if bytes_eq name (codes "cat") then option_map cat (cat_said texts words)
+    else if bytes_eq name (codes "store") then option_map store (store_said texts words)
+    else if bytes_eq name (codes "scan") then option_map scan (scan_said texts words)
+    else if bytes_eq name (codes "copy") then option_map copy (copy_said texts words)
+    else image_said name texts words
+
+-- the same, where `--no-superblock` may stand
+abbrev pub further_said : List ℕ → OptionTexts → List (List ℕ) → Option FurtherRecord
+further_said name texts words = if texts.no_superblock then tree_said name texts words else command_said name texts words
 
 -- what the program's own value says
 abbrev pub further_record : Further → FurtherRecord
@@ -46,3 +86,10 @@ further_record (Dump w) = dump (dump_record w)
 further_record (Table w) = table (table_record w)
 further_record (Partitions w) = partitions (partitions_record w)
 further_record (Diff w) = diff (diff_record w)
+further_record (Scan w) = scan (scan_record w)
+further_record (Copy w) = copy (copy_record w)
+further_record (Manual command) = manual (text_of command)
+further_record Version = version
+further_record (FormatTree w) = format_tree (tree_format_record w)
+further_record (VerifyTree w) = verify_tree (tree_verify_record w)
+further_record (TableTree w) = table_tree (tree_table_record w)

@@ -1,8 +1,10 @@
+pub mod Cuts
 pub mod Bindings
 pub mod BindingWords
 pub mod FormatOptions
 pub mod FurtherWords
 pub mod Values
+pub mod PartBindings
 pub mod words
 pub mod FurtherRecords
 pub mod CommandWords

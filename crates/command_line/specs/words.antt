@@ -1,8 +1,14 @@
 pub mod Cat
+pub mod Copy
 pub mod Diff
 pub mod Dump
 pub mod Format
+pub mod Manual
 pub mod Partitions
+pub mod Scan
 pub mod Store
 pub mod Table
+pub mod TreeFormat
+pub mod TreeTable
+pub mod TreeVerify
 pub mod Verify

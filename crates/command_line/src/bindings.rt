@@ -1,15 +1,24 @@
 //! The names that a command line binds to devices.
 ghost use Rattle.std.specs.Prelude.{◌≡◌, option_map};
-ghost use Rattle.command_line.specs.Bindings.{backing_by, backing_record, backing_of, binding_record, binding_of, sectors_at};
+ghost use Rattle.command_line.specs.Bindings.{backing_by, backing_record, backing_of, binding_record, binding_of, part_backing, sectors_at};
 
+use crate::part_bindings::{FilePart, kind_part};
 use table_reader::number;
 
 const MOST_SECTORS: u64 = 65536;
 
-/// What stands behind a name: a file, or new sectors in memory.
+/// What stands behind a name: a file or a part of one, or new sectors in memory.
 #[derive(Clone, Copy)]
 pub enum Backing<'a> {
-    File { path: &'a str, writable: bool },
+    File {
+        path: &'a str,
+        writable: bool,
+    },
+    Part {
+        path: &'a str,
+        writable: bool,
+        part: FilePart,
+    },
     Zeros(u32),
     Ramp(u32),
 }
@@ -21,7 +30,8 @@ pub struct Binding<'a> {
     pub backing: Backing<'a>,
 }
 
-/// `NAME=rw:FILE`, `NAME=ro:FILE`, `NAME=zero:N` or `NAME=ramp:N`, cut at the first `=`.
+/// `NAME=rw:FILE`, `NAME=ro:FILE`, `NAME=rw@FIRST+COUNT:FILE`, `NAME=ro@FIRST+COUNT:FILE`, `NAME=zero:N` or
+/// `NAME=ramp:N`, cut at the first `=`.
 pub fn binding_of(word: &str) -> Option<Binding<'_>>
     ensures { option_map binding_record result ≡ binding_of word.now }
 {
@@ -30,35 +40,48 @@ pub fn binding_of(word: &str) -> Option<Binding<'_>>
     Some(Binding { name, backing })
 }
 
-// `rw:FILE`, `ro:FILE`, `zero:N` or `ramp:N`
+// What stands behind the `=`, cut at the first `:`.
 fn backing_of(text: &str) -> Option<Backing<'_>>
     ensures { option_map backing_record result ≡ backing_of text.now }
 {
     let (kind, rest) = text.split_once(':')?;
-    backing_by(kind.as_bytes(), rest)
+    backing_by(kind, rest)
 }
 
 // What stands behind the colon, by the kind that stands before it.
-fn backing_by<'a>(kind: &[u8], rest: &'a str) -> Option<Backing<'a>>
+fn backing_by<'a>(kind: &str, rest: &'a str) -> Option<Backing<'a>>
     ensures { option_map backing_record result ≡ backing_by kind.now rest.now }
 {
-    if kind == b"rw".as_slice() {
+    let word = kind.as_bytes();
+    if word == b"rw".as_slice() {
         Some(Backing::File {
             path: rest,
             writable: true,
         })
-    } else if kind == b"ro".as_slice() {
+    } else if word == b"ro".as_slice() {
         Some(Backing::File {
             path: rest,
             writable: false,
         })
-    } else if kind == b"zero".as_slice() {
+    } else if word == b"zero".as_slice() {
         Some(Backing::Zeros(sectors_at(rest)?))
-    } else if kind == b"ramp".as_slice() {
+    } else if word == b"ramp".as_slice() {
         Some(Backing::Ramp(sectors_at(rest)?))
     } else {
-        None
+        part_backing(kind, rest)
     }
+}
+
+// `rw@FIRST+COUNT` or `ro@FIRST+COUNT` before the colon.
+fn part_backing<'a>(kind: &str, rest: &'a str) -> Option<Backing<'a>>
+    ensures { option_map backing_record result ≡ part_backing kind.now rest.now }
+{
+    let (writable, part) = kind_part(kind)?;
+    Some(Backing::Part {
+        path: rest,
+        writable,
+        part,
+    })
 }
 
 // From 1 to 65,536 sectors.

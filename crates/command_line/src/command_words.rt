@@ -155,7 +155,7 @@ fn session_of<'a>(
     }
 }
 
-// `STACK NAME BINDING...`
+// `STACK NAME BINDING...`, where STACK isn't the standard input, which is the client's
 fn nbd_of<'a>(alloc: Global, cache: u32, words: &[&'a str]) -> Result<Invocation<'a>, WordsFault>
     ensures ok { IfOk result (λ got. nbd_of cache (map (λ word. word.now) words.now) ≡ Some (invocation_record got)) }
     ensures err { IfErr result (λ fault. IsUsage fault (nbd_of cache (map (λ word. word.now) words.now) ≡ None)) }
@@ -163,6 +163,9 @@ fn nbd_of<'a>(alloc: Global, cache: u32, words: &[&'a str]) -> Result<Invocation
     let [stack, name, rest @ ..] = words else {
         return Err(WordsFault::Usage);
     };
+    if stack.as_bytes() == b"-".as_slice() {
+        return Err(WordsFault::Usage);
+    }
     match bindings_of(alloc, rest) {
         Ok(bindings) => Ok(Invocation::Nbd {
             device: ServedDevice { cache, stack, name },

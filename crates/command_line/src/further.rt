@@ -1,17 +1,23 @@
 //! The commands that take more than the first version's.
 ghost use Rattle.command_line.specs.FormatOptions.{option_texts, texts_of};
-ghost use Rattle.command_line.specs.FurtherRecords.{further_said};
+ghost use Rattle.command_line.specs.FurtherRecords.{command_said, further_said, image_said, tree_said};
 ghost use Rattle.command_line.specs.Reading.{Reads};
 
 use crate::fault::WordsFault;
 use crate::option_words::OptionWords;
 use crate::words::cat::{CatWords, cat_of};
+use crate::words::copy::{CopyWords, copy_of};
 use crate::words::diff::{DiffWords, diff_of};
 use crate::words::dump::{DumpWords, dump_of};
 use crate::words::format::{FormatWords, format_of};
+use crate::words::manual::{manual_of, version_of};
 use crate::words::partitions::{PartitionsWords, partitions_of};
+use crate::words::scan::{ScanWords, scan_of};
 use crate::words::store::{StoreWords, store_of};
 use crate::words::table::{TableWords, table_of};
+use crate::words::tree_format::{TreeFormatWords, tree_format_of};
+use crate::words::tree_table::{TreeTableWords, tree_table_of};
+use crate::words::tree_verify::{TreeVerifyWords, tree_verify_of};
 use crate::words::verify::{VerifyWords, verify_of};
 use std::alloc::Global;
 
@@ -26,9 +32,17 @@ pub enum Further<'a> {
     Table(TableWords<'a>),
     Partitions(PartitionsWords<'a>),
     Diff(DiffWords<'a>),
+    Scan(ScanWords<'a>),
+    Copy(CopyWords<'a>),
+    /// A command's name, where one is said.
+    Manual(Option<&'a str>),
+    Version,
+    FormatTree(TreeFormatWords<'a>),
+    VerifyTree(TreeVerifyWords<'a>),
+    TableTree(TreeTableWords<'a>),
 }
 
-/// The command of that name.
+/// The command of that name; with `--no-superblock` one on a tree that has none.
 pub fn further_of<'a>(
     alloc: Global,
     name: &[u8],
@@ -37,11 +51,63 @@ pub fn further_of<'a>(
 ) -> Result<Further<'a>, WordsFault>
     ensures { Reads (further_said name.now (option_texts options.now) (texts_of words.now)) result }
 {
+    if options.no_superblock {
+        tree_of(name, options, words)
+    } else {
+        command_of(alloc, name, options, words)
+    }
+}
+
+// The command of that name on a tree without a superblock.
+fn tree_of<'a>(
+    name: &[u8],
+    options: &OptionWords<'a>,
+    words: &[&'a str],
+) -> Result<Further<'a>, WordsFault>
+    ensures { Reads (tree_said name.now (option_texts options.now) (texts_of words.now)) result }
+{
+    if name == b"format".as_slice() {
+        tree_format_of(options, words)
+    } else if name == b"verify".as_slice() {
+        tree_verify_of(options, words)
+    } else if name == b"table".as_slice() {
+        tree_table_of(options, words)
+    } else {
+        Err(WordsFault::Usage)
+    }
+}
+
+// The command of that name, which stands on a stack or on none.
+fn command_of<'a>(
+    alloc: Global,
+    name: &[u8],
+    options: &OptionWords<'a>,
+    words: &[&'a str],
+) -> Result<Further<'a>, WordsFault>
+    ensures { Reads (command_said name.now (option_texts options.now) (texts_of words.now)) result }
+{
     if name == b"cat".as_slice() {
         cat_of(alloc, options, words)
     } else if name == b"store".as_slice() {
         store_of(alloc, options, words)
-    } else if name == b"format".as_slice() {
+    } else if name == b"scan".as_slice() {
+        scan_of(alloc, options, words)
+    } else if name == b"copy".as_slice() {
+        copy_of(alloc, options, words)
+    } else {
+        image_of(name, options, words)
+    }
+}
+
+// The command of that name on images, or on nothing.
+fn image_of<'a>(
+    name: &[u8],
+    options: &OptionWords<'a>,
+    words: &[&'a str],
+) -> Result<Further<'a>, WordsFault>
+    ensures { Reads (image_said name.now (option_texts options.now) (texts_of words.now)) result }
+{
+    if name == b"format".as_slice() {
         format_of(options, words)
     } else if name == b"verify".as_slice() {
         verify_of(options, words)
@@ -53,6 +119,10 @@ pub fn further_of<'a>(
         partitions_of(options, words)
     } else if name == b"diff".as_slice() {
         diff_of(options, words)
+    } else if name == b"manual".as_slice() {
+        manual_of(words)
+    } else if name == b"version".as_slice() {
+        version_of(words)
     } else {
         Err(WordsFault::Usage)
     }

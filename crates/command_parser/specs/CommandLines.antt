@@ -31,6 +31,10 @@ texts_in rows = record {
   root = first_of (codes "root") rows;
   all = is_there (codes "all") rows;
   stack = is_there (codes "stack") rows;
+  no_superblock = is_there (codes "no-superblock") rows;
+  grow = is_there (codes "grow") rows;
+  differing = is_there (codes "differing") rows;
+  progress = is_there (codes "progress") rows;
 }
 
 -- the positional words

@@ -25,17 +25,23 @@ value_or name other = record { name = name; others = other ∷ []; has_value = t
 abbrev pub cache : OptionText
 cache = value (codes "cache")
 
+abbrev pub progress : OptionText
+progress = flag (codes "progress")
+
 abbrev pub offset : OptionText
 offset = value (codes "hash-offset")
 
 abbrev pub root_file : OptionText
 root_file = value (codes "root-hash-file")
 
--- what a verity image is
-abbrev pub image_options : List OptionText
-image_options =
+abbrev pub bare : OptionText
+bare = flag (codes "no-superblock")
+
+-- what the tree of a verity image is
+abbrev pub tree_options : List OptionText → List OptionText
+tree_options more =
     value_or (codes "data-block") (codes "data-block-size") ∷ value_or (codes "hash-block") (codes "hash-block-size")
-    ∷ value_or (codes "blocks") (codes "data-blocks") ∷ value (codes "salt") ∷ value (codes "uuid") ∷ offset ∷ []
+    ∷ value_or (codes "blocks") (codes "data-blocks") ∷ value (codes "salt") ∷ more
 
 abbrev pub command : List ℕ → List OptionText → CommandText
 command name options = record { name = name; options = options }
@@ -43,10 +49,10 @@ command name options = record { name = name; options = options }
 -- the commands on images
 abbrev pub image_commands : List CommandText → List CommandText
 image_commands more =
-    command (codes "format") image_options
-    ∷ command (codes "verify") (offset ∷ root_file ∷ [])
+    command (codes "format") (tree_options (value (codes "uuid") ∷ offset ∷ bare ∷ flag (codes "grow") ∷ []))
+    ∷ command (codes "verify") (tree_options (offset ∷ root_file ∷ bare ∷ flag (codes "all") ∷ []))
     ∷ command (codes "dump") (offset ∷ [])
-    ∷ command (codes "table") (offset ∷ root_file ∷ value (codes "name") ∷ [])
+    ∷ command (codes "table") (tree_options (offset ∷ root_file ∷ value (codes "name") ∷ bare ∷ []))
     ∷ more
 
 -- the commands on stacks
@@ -57,10 +63,10 @@ stack_commands more =
     ∷ command (codes "write") (cache ∷ [])
     ∷ command (codes "session") (cache ∷ [])
     ∷ command (codes "nbd") (cache ∷ [])
-    ∷ command (codes "scan") []
-    ∷ command (codes "copy") []
-    ∷ command (codes "cat") (cache ∷ value (codes "first") ∷ value (codes "count") ∷ [])
-    ∷ command (codes "store") (cache ∷ value (codes "first") ∷ [])
+    ∷ command (codes "scan") (cache ∷ [])
+    ∷ command (codes "copy") (cache ∷ flag (codes "differing") ∷ [])
+    ∷ command (codes "cat") (cache ∷ value (codes "first") ∷ value (codes "count") ∷ progress ∷ [])
+    ∷ command (codes "store") (cache ∷ value (codes "first") ∷ progress ∷ [])
     ∷ more
 
 -- all commands
@@ -68,4 +74,5 @@ unfoldable pub commands : List CommandText
 commands =
     image_commands (stack_commands
     (command (codes "partitions") (value (codes "sector-size") ∷ flag (codes "stack") ∷ value (codes "root") ∷ [])
-    ∷ command (codes "diff") (value (codes "blocks") ∷ []) ∷ []))
+    ∷ command (codes "diff") (value (codes "blocks") ∷ [])
+    ∷ command (codes "manual") [] ∷ command (codes "version") [] ∷ []))

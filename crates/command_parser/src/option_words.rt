@@ -28,6 +28,10 @@ pub fn option_words<'a>(found: &ArgMatches<'a>) -> OptionWords<'a>
         root: value(found, "root"),
         all: is_there(found, "all"),
         stack: is_there(found, "stack"),
+        no_superblock: is_there(found, "no-superblock"),
+        grow: is_there(found, "grow"),
+        differing: is_there(found, "differing"),
+        progress: is_there(found, "progress"),
     }
 }
 

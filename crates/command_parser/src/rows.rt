@@ -106,15 +106,63 @@ const STACK: OptionRow = OptionRow {
     has_value: false,
 };
 
+const NO_SUPERBLOCK: OptionRow = OptionRow {
+    name: "no-superblock",
+    others: &[],
+    has_value: false,
+};
+
+const ALL: OptionRow = OptionRow {
+    name: "all",
+    others: &[],
+    has_value: false,
+};
+
+const GROW: OptionRow = OptionRow {
+    name: "grow",
+    others: &[],
+    has_value: false,
+};
+
+const DIFFERING: OptionRow = OptionRow {
+    name: "differing",
+    others: &[],
+    has_value: false,
+};
+
+const PROGRESS: OptionRow = OptionRow {
+    name: "progress",
+    others: &[],
+    has_value: false,
+};
+
 /// All commands.
-pub static COMMANDS: [CommandRow; 15] = [
+pub static COMMANDS: [CommandRow; 17] = [
     CommandRow {
         name: "format",
-        options: &[DATA_BLOCK, HASH_BLOCK, BLOCKS, SALT, UUID, HASH_OFFSET],
+        options: &[
+            DATA_BLOCK,
+            HASH_BLOCK,
+            BLOCKS,
+            SALT,
+            UUID,
+            HASH_OFFSET,
+            NO_SUPERBLOCK,
+            GROW,
+        ],
     },
     CommandRow {
         name: "verify",
-        options: &[HASH_OFFSET, ROOT_HASH_FILE],
+        options: &[
+            DATA_BLOCK,
+            HASH_BLOCK,
+            BLOCKS,
+            SALT,
+            HASH_OFFSET,
+            ROOT_HASH_FILE,
+            NO_SUPERBLOCK,
+            ALL,
+        ],
     },
     CommandRow {
         name: "dump",
@@ -122,7 +170,16 @@ pub static COMMANDS: [CommandRow; 15] = [
     },
     CommandRow {
         name: "table",
-        options: &[HASH_OFFSET, ROOT_HASH_FILE, NAME],
+        options: &[
+            DATA_BLOCK,
+            HASH_BLOCK,
+            BLOCKS,
+            SALT,
+            HASH_OFFSET,
+            ROOT_HASH_FILE,
+            NAME,
+            NO_SUPERBLOCK,
+        ],
     },
     CommandRow {
         name: "load",
@@ -146,19 +203,19 @@ pub static COMMANDS: [CommandRow; 15] = [
     },
     CommandRow {
         name: "scan",
-        options: &[],
+        options: &[CACHE],
     },
     CommandRow {
         name: "copy",
-        options: &[],
+        options: &[CACHE, DIFFERING],
     },
     CommandRow {
         name: "cat",
-        options: &[CACHE, FIRST, COUNT],
+        options: &[CACHE, FIRST, COUNT, PROGRESS],
     },
     CommandRow {
         name: "store",
-        options: &[CACHE, FIRST],
+        options: &[CACHE, FIRST, PROGRESS],
     },
     CommandRow {
         name: "partitions",
@@ -167,5 +224,13 @@ pub static COMMANDS: [CommandRow; 15] = [
     CommandRow {
         name: "diff",
         options: &[RUNS],
+    },
+    CommandRow {
+        name: "manual",
+        options: &[],
+    },
+    CommandRow {
+        name: "version",
+        options: &[],
     },
 ];

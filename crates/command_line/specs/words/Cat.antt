@@ -1,5 +1,5 @@
--- What `cat [--cache N] [--first N] [--count N] STACK NAME BINDING...` says.
-use Rattle.std.specs.Prelude.{List, None, Option, Some, map, ℕ, ◌∷◌}
+-- What `cat [--cache N] [--progress] [--first N] [--count N] STACK NAME BINDING...` says.
+use Rattle.std.specs.Prelude.{Bool, List, None, Option, Some, map, ℕ, ◌∷◌}
 use Rattle.command_line.specs.Bindings.{BindingRecord, binding_record}
 use Rattle.command_line.specs.BindingWords.{bindings_of}
 use Rattle.command_line.specs.FormatOptions.{OptionTexts}
@@ -13,6 +13,7 @@ pub record CatRecord : Type 0 where
   pub stack : List ℕ
   pub name : List ℕ
   pub bindings : List BindingRecord
+  pub progress : Bool
 
 unfoldable pub cat_said : OptionTexts → List (List ℕ) → Option CatRecord
 cat_said texts (stack ∷ name ∷ words) =
@@ -26,6 +27,7 @@ cat_said texts (stack ∷ name ∷ words) =
       stack = stack;
       name = name;
       bindings = bindings;
+      progress = texts.progress;
     })))))
 cat_said texts words = None
 
@@ -38,4 +40,5 @@ cat_record w = record {
   stack = w.stack.now;
   name = w.name.now;
   bindings = map binding_record w.bindings.items;
+  progress = w.progress;
 }

@@ -1,5 +1,5 @@
 -- What `diff [--blocks N] HASH1 ROOT1 HASH2 ROOT2` says.
-use Rattle.std.specs.Prelude.{List, None, Option, Some, [], ℕ, ◌∷◌}
+use Rattle.std.specs.Prelude.{Bool, List, None, Option, Some, [], ℕ, ◌∷◌}
 use Rattle.command_line.specs.FormatOptions.{OptionTexts}
 use Rattle.command_line.specs.Values.{runs_of, two_roots, when}
 use Rattle.command_line.specs.declared.words.diff.DiffWords.{DiffWords}

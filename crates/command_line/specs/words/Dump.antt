@@ -1,5 +1,5 @@
 -- What `dump [--hash-offset BYTES] HASH` says.
-use Rattle.std.specs.Prelude.{List, None, Option, Some, [], ℕ, ◌∷◌}
+use Rattle.std.specs.Prelude.{Bool, List, None, Option, Some, [], ℕ, ◌∷◌}
 use Rattle.command_line.specs.FormatOptions.{OptionTexts}
 use Rattle.command_line.specs.Values.{offset_of, when}
 use Rattle.command_line.specs.declared.words.dump.DumpWords.{DumpWords}

@@ -1,5 +1,5 @@
 -- What `format [OPTIONS] DATA HASH` says.
-use Rattle.std.specs.Prelude.{List, None, Option, Some, [], ℕ, ◌∷◌}
+use Rattle.std.specs.Prelude.{Bool, List, None, Option, Some, [], ℕ, ◌∷◌}
 use Rattle.command_line.specs.FormatOptions.{OptionTexts}
 use Rattle.command_line.specs.Values.{offset_of, when}
 use Rattle.command_line.specs.declared.words.format.FormatWords.{FormatWords}
@@ -8,6 +8,7 @@ pub record FormatRecord : Type 0 where
   pub data_path : List ℕ
   pub hash_path : List ℕ
   pub hash_offset : ℕ
+  pub grow : Bool
 
 unfoldable pub format_said : OptionTexts → List (List ℕ) → Option FormatRecord
 format_said texts (data_path ∷ hash_path ∷ []) =
@@ -16,6 +17,7 @@ format_said texts (data_path ∷ hash_path ∷ []) =
       data_path = data_path;
       hash_path = hash_path;
       hash_offset = hash_offset;
+      grow = texts.grow;
     }))
 format_said texts words = None
 
@@ -25,4 +27,5 @@ format_record w = record {
   data_path = w.data_path.now;
   hash_path = w.hash_path.now;
   hash_offset = w.hash_offset;
+  grow = w.grow;
 }

@@ -1,5 +1,6 @@
--- What `store [--cache N] [--first N] STACK NAME SOURCE BINDING...` says.
-use Rattle.std.specs.Prelude.{List, None, Option, Some, map, ℕ, ◌∷◌}
+-- What `store [--cache N] [--progress] [--first N] STACK NAME SOURCE BINDING...` says.
+use Rattle.std.specs.Prelude.{◌&&◌, codes, if◌then◌else◌, Bool, List, None, Option, Some, map, ℕ, ◌∷◌}
+use Rattle.std.specs.Str.{bytes_eq}
 use Rattle.command_line.specs.Bindings.{BindingRecord, binding_record}
 use Rattle.command_line.specs.BindingWords.{bindings_of}
 use Rattle.command_line.specs.FormatOptions.{OptionTexts}
@@ -13,9 +14,11 @@ pub record StoreRecord : Type 0 where
   pub name : List ℕ
   pub source : List ℕ
   pub bindings : List BindingRecord
+  pub progress : Bool
 
 unfoldable pub store_said : OptionTexts → List (List ℕ) → Option StoreRecord
 store_said texts (stack ∷ name ∷ source ∷ words) =
+    if bytes_eq stack (codes "-") && bytes_eq source (codes "-") then None else
     when (cache_of texts.cache) (λ cache.
     when (first_of texts.first) (λ first.
     when (bindings_of words) (λ bindings. Some (record {
@@ -25,6 +28,7 @@ store_said texts (stack ∷ name ∷ source ∷ words) =
       name = name;
       source = source;
       bindings = bindings;
+      progress = texts.progress;
     }))))
 store_said texts words = None
 
@@ -37,4 +41,5 @@ store_record w = record {
   name = w.name.now;
   source = w.source.now;
   bindings = map binding_record w.bindings.items;
+  progress = w.progress;
 }

@@ -1,6 +1,7 @@
 -- What `verify [--all] [--hash-offset BYTES] [--root-hash-file FILE] DATA HASH [ROOT]` says.
-use Rattle.std.specs.Prelude.{Bool, List, None, Option, Some, ℕ, ◌∷◌}
+use Rattle.std.specs.Prelude.{Bool, List, None, Option, Some, ℕ, ◌∷◌, if◌then◌else◌}
 use Rattle.command_line.specs.FormatOptions.{OptionTexts}
+use Rattle.command_line.specs.FurtherWords.{has_tree_value}
 use Rattle.command_line.specs.Values.{RootRecord, offset_of, root_alone, root_record, when}
 use Rattle.command_line.specs.declared.words.verify.VerifyWords.{VerifyWords}
 
@@ -13,6 +14,7 @@ pub record VerifyRecord : Type 0 where
 
 unfoldable pub verify_said : OptionTexts → List (List ℕ) → Option VerifyRecord
 verify_said texts (data_path ∷ hash_path ∷ words) =
+    if has_tree_value texts then None else
     when (offset_of texts.hash_offset) (λ hash_offset.
     when (root_alone texts.root_hash_file words) (λ root.
     Some (record {

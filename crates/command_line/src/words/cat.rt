@@ -1,4 +1,4 @@
-//! `cat [--cache N] [--first N] [--count N] STACK NAME BINDING...`
+//! `cat [--cache N] [--progress] [--first N] [--count N] STACK NAME BINDING...`
 ghost use Rattle.std.specs.Prelude.{option_map};
 ghost use Rattle.command_line.specs.FurtherRecords.{cat};
 ghost use Rattle.command_line.specs.Reading.{Reads};
@@ -22,9 +22,10 @@ pub struct CatWords<'a> {
     pub stack: &'a str,
     pub name: &'a str,
     pub bindings: Vec<Binding<'a>>,
+    pub progress: bool,
 }
 
-/// `[--cache N] [--first N] [--count N] STACK NAME BINDING...`
+/// `[--cache N] [--progress] [--first N] [--count N] STACK NAME BINDING...`
 #[tactic(auto, unfolding(crate::specs::words::Cat::cat_said))]
 pub fn cat_of<'a>(
     alloc: Global,
@@ -53,6 +54,7 @@ pub fn cat_of<'a>(
             stack,
             name,
             bindings,
+            progress: options.progress,
         })),
         Err(fault) => Err(fault),
     }

@@ -16,6 +16,7 @@ pub struct FormatWords<'a> {
     pub data_path: &'a str,
     pub hash_path: &'a str,
     pub hash_offset: u64,
+    pub grow: bool,
 }
 
 /// `[OPTIONS] DATA HASH`
@@ -36,5 +37,6 @@ pub fn format_of<'a>(
         data_path,
         hash_path,
         hash_offset,
+        grow: options.grow,
     }))
 }

@@ -1,5 +1,6 @@
-//! `store [--cache N] [--first N] STACK NAME SOURCE BINDING...`
-ghost use Rattle.std.specs.Prelude.{option_map};
+//! `store [--cache N] [--progress] [--first N] STACK NAME SOURCE BINDING...`
+ghost use Rattle.std.specs.Prelude.{◌≡◌, codes, option_map};
+ghost use Rattle.std.specs.Str.{bytes_eq};
 ghost use Rattle.command_line.specs.FurtherRecords.{store};
 ghost use Rattle.command_line.specs.Reading.{Reads};
 ghost use Rattle.command_line.specs.FormatOptions.{option_texts, texts_of};
@@ -22,9 +23,17 @@ pub struct StoreWords<'a> {
     pub name: &'a str,
     pub source: &'a str,
     pub bindings: Vec<Binding<'a>>,
+    pub progress: bool,
 }
 
-/// `[--cache N] [--first N] STACK NAME SOURCE BINDING...`
+// Whether it is the standard input.
+fn is_input(word: &str) -> bool
+    ensures { result ≡ bytes_eq word.now (codes "-") }
+{
+    word.as_bytes() == b"-".as_slice()
+}
+
+/// `[--cache N] [--progress] [--first N] STACK NAME SOURCE BINDING...`
 #[tactic(auto, unfolding(crate::specs::words::Store::store_said))]
 pub fn store_of<'a>(
     alloc: Global,
@@ -36,6 +45,9 @@ pub fn store_of<'a>(
     let [stack, name, source, rest @ ..] = words else {
         return Err(WordsFault::Usage);
     };
+    if is_input(stack) && is_input(source) {
+        return Err(WordsFault::Usage);
+    }
     let Some(cache) = cache_of(options.cache) else {
         return Err(WordsFault::Usage);
     };
@@ -50,6 +62,7 @@ pub fn store_of<'a>(
             name,
             source,
             bindings,
+            progress: options.progress,
         })),
         Err(fault) => Err(fault),
     }

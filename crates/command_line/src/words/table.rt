@@ -7,7 +7,7 @@ ghost use Rattle.command_line.specs.words.Table.{table_said};
 
 use crate::fault::WordsFault;
 use crate::further::Further;
-use crate::option_words::OptionWords;
+use crate::option_words::{OptionWords, has_tree_value};
 use crate::values::{RootWord, device_names, name_of, offset_of, root_first};
 
 /// The table line of a verity image is printed, or a whole entry with a name.
@@ -29,6 +29,9 @@ pub fn table_of<'a>(options: &OptionWords<'a>, words: &[&'a str]) -> Result<Furt
     let [hash_path, rest @ ..] = words else {
         return Err(WordsFault::Usage);
     };
+    if has_tree_value(options) {
+        return Err(WordsFault::Usage);
+    }
     let Some(hash_offset) = offset_of(options.hash_offset) else {
         return Err(WordsFault::Usage);
     };

@@ -7,7 +7,7 @@ ghost use Rattle.command_line.specs.words.Verify.{verify_said};
 
 use crate::fault::WordsFault;
 use crate::further::Further;
-use crate::option_words::OptionWords;
+use crate::option_words::{OptionWords, has_tree_value};
 use crate::values::{RootWord, offset_of, root_alone};
 
 /// A verity image is checked.
@@ -31,6 +31,9 @@ pub fn verify_of<'a>(
     let [data_path, hash_path, rest @ ..] = words else {
         return Err(WordsFault::Usage);
     };
+    if has_tree_value(options) {
+        return Err(WordsFault::Usage);
+    }
     let Some(hash_offset) = offset_of(options.hash_offset) else {
         return Err(WordsFault::Usage);
     };

@@ -1,6 +1,6 @@
 use Rattle.std.proofs.Common.{◌≡◌, Some, None, arith, refl, ◌∙◌}
 use Rattle.std.proofs.lemmas.Str.Pattern.{split_once_first}
-use Rattle.command_line.specs.Bindings.{cut}
+use Rattle.command_line.specs.Cuts.{cut}
 use Rattle.command_line.proofs.BindingLemmas.{cut-some, cut-none}
 use Rattle.command_line.proofs.bindings.backing_of.Goals as goal
 
@@ -14,4 +14,4 @@ pub returns : goal.returns
 returns c =
     let parts = split_once_first 58 c.args.text.now (Some (c.in_ok-kind.kind, c.in_ok-kind.rest)) c.in_ok-kind.ensures.cases (omega arith) in
     let is : cut 58 c.args.text.now ≡ Some (c.in_ok-kind.kind.now, c.in_ok-kind.rest.now) = cut-some 58 c.args.text.now c.in_ok-kind.kind.now c.in_ok-kind.rest.now parts.0 parts.1 parts.2 in
-    c.backing_by.ensures ∙ rw (c.as_bytes.ensures.value, is) refl
+    c.backing_by.ensures ∙ rw is refl

@@ -1,7 +1,8 @@
 use Rattle.std.proofs.Common.{◌≡◌, Some, None, arith, refl, ap}
 use Rattle.std.specs.Prelude.{option_map}
 use Rattle.std.proofs.lemmas.Str.Pattern.{split_once_first}
-use Rattle.command_line.specs.Bindings.{bind, cut}
+use Rattle.command_line.specs.Bindings.{bind}
+use Rattle.command_line.specs.Cuts.{cut}
 use Rattle.command_line.proofs.BindingLemmas.{cut-some, cut-none}
 use Rattle.command_line.proofs.bindings.binding_of.Goals as goal
 

@@ -1,0 +1,39 @@
+-- What `copy [--cache N] [--differing] STACK NAME OUT BINDING...` says.
+use Rattle.std.specs.Prelude.{Bool, List, None, Option, Some, map, ℕ, ◌∷◌}
+use Rattle.command_line.specs.Bindings.{BindingRecord, binding_record}
+use Rattle.command_line.specs.BindingWords.{bindings_of}
+use Rattle.command_line.specs.FormatOptions.{OptionTexts}
+use Rattle.command_line.specs.Values.{cache_of, when}
+use Rattle.command_line.specs.declared.words.copy.CopyWords.{CopyWords}
+
+pub record CopyRecord : Type 0 where
+  pub cache : ℕ
+  pub differing : Bool
+  pub stack : List ℕ
+  pub name : List ℕ
+  pub out : List ℕ
+  pub bindings : List BindingRecord
+
+unfoldable pub copy_said : OptionTexts → List (List ℕ) → Option CopyRecord
+copy_said texts (stack ∷ name ∷ out ∷ words) =
+    when (cache_of texts.cache) (λ cache.
+    when (bindings_of words) (λ bindings. Some (record {
+      cache = cache;
+      differing = texts.differing;
+      stack = stack;
+      name = name;
+      out = out;
+      bindings = bindings;
+    })))
+copy_said texts words = None
+
+-- what the program's own value says
+abbrev pub copy_record : CopyWords → CopyRecord
+copy_record w = record {
+  cache = w.cache;
+  differing = w.differing;
+  stack = w.stack.now;
+  name = w.name.now;
+  out = w.out.now;
+  bindings = map binding_record w.bindings.items;
+}

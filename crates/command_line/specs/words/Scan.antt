@@ -1,0 +1,33 @@
+-- What `scan [--cache N] STACK NAME BINDING...` says.
+use Rattle.std.specs.Prelude.{List, None, Option, Some, map, ℕ, ◌∷◌}
+use Rattle.command_line.specs.Bindings.{BindingRecord, binding_record}
+use Rattle.command_line.specs.BindingWords.{bindings_of}
+use Rattle.command_line.specs.FormatOptions.{OptionTexts}
+use Rattle.command_line.specs.Values.{cache_of, when}
+use Rattle.command_line.specs.declared.words.scan.ScanWords.{ScanWords}
+
+pub record ScanRecord : Type 0 where
+  pub cache : ℕ
+  pub stack : List ℕ
+  pub name : List ℕ
+  pub bindings : List BindingRecord
+
+unfoldable pub scan_said : OptionTexts → List (List ℕ) → Option ScanRecord
+scan_said texts (stack ∷ name ∷ words) =
+    when (cache_of texts.cache) (λ cache.
+    when (bindings_of words) (λ bindings. Some (record {
+      cache = cache;
+      stack = stack;
+      name = name;
+      bindings = bindings;
+    })))
+scan_said texts words = None
+
+-- what the program's own value says
+abbrev pub scan_record : ScanWords → ScanRecord
+scan_record w = record {
+  cache = w.cache;
+  stack = w.stack.now;
+  name = w.name.now;
+  bindings = map binding_record w.bindings.items;
+}

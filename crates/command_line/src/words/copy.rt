@@ -1,0 +1,53 @@
+//! `copy [--cache N] [--differing] STACK NAME OUT BINDING...`
+ghost use Rattle.std.specs.Prelude.{option_map};
+ghost use Rattle.command_line.specs.FurtherRecords.{copy};
+ghost use Rattle.command_line.specs.Reading.{Reads};
+ghost use Rattle.command_line.specs.FormatOptions.{option_texts, texts_of};
+ghost use Rattle.command_line.specs.words.Copy.{copy_said};
+
+use crate::binding_words::bindings_of;
+use crate::bindings::Binding;
+use crate::fault::WordsFault;
+use crate::further::Further;
+use crate::option_words::OptionWords;
+use crate::values::cache_of;
+use std::alloc::Global;
+
+/// What can be had of a device is copied: with `differing` only what isn't there yet.
+#[derive(Drop)]
+pub struct CopyWords<'a> {
+    pub cache: u32,
+    pub differing: bool,
+    pub stack: &'a str,
+    pub name: &'a str,
+    pub out: &'a str,
+    pub bindings: Vec<Binding<'a>>,
+}
+
+/// `[--cache N] [--differing] STACK NAME OUT BINDING...`
+#[tactic(auto, unfolding(crate::specs::words::Copy::copy_said))]
+pub fn copy_of<'a>(
+    alloc: Global,
+    options: &OptionWords<'a>,
+    words: &[&'a str],
+) -> Result<Further<'a>, WordsFault>
+    ensures { Reads (option_map copy (copy_said (option_texts options.now) (texts_of words.now))) result }
+{
+    let [stack, name, out, rest @ ..] = words else {
+        return Err(WordsFault::Usage);
+    };
+    let Some(cache) = cache_of(options.cache) else {
+        return Err(WordsFault::Usage);
+    };
+    match bindings_of(alloc, rest) {
+        Ok(bindings) => Ok(Further::Copy(CopyWords {
+            cache,
+            differing: options.differing,
+            stack,
+            name,
+            out,
+            bindings,
+        })),
+        Err(fault) => Err(fault),
+    }
+}

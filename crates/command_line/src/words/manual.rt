@@ -1,0 +1,35 @@
+//! `manual [COMMAND]` and `version`
+ghost use Rattle.std.specs.Prelude.{option_map};
+ghost use Rattle.command_line.specs.FurtherRecords.{manual, version_said};
+ghost use Rattle.command_line.specs.Reading.{Reads};
+ghost use Rattle.command_line.specs.FormatOptions.{text_of, texts_of};
+ghost use Rattle.command_line.specs.words.Manual.{manual_said};
+
+use crate::fault::WordsFault;
+use crate::further::Further;
+
+/// The page of the program, or of one of its commands.
+#[tactic(auto, unfolding(crate::specs::words::Manual::manual_said))]
+pub fn manual_of<'a>(words: &[&'a str]) -> Result<Further<'a>, WordsFault>
+    ensures { Reads (option_map manual (manual_said (texts_of words.now))) result }
+{
+    let [command, rest @ ..] = words else {
+        return Ok(Further::Manual(None));
+    };
+    if rest.is_empty() {
+        Ok(Further::Manual(Some(command)))
+    } else {
+        Err(WordsFault::Usage)
+    }
+}
+
+/// No word stands behind `version`.
+pub fn version_of<'a>(words: &[&'a str]) -> Result<Further<'a>, WordsFault>
+    ensures { Reads (version_said (texts_of words.now)) result }
+{
+    if words.is_empty() {
+        Ok(Further::Version)
+    } else {
+        Err(WordsFault::Usage)
+    }
+}

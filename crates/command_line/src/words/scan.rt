@@ -1,0 +1,49 @@
+//! `scan [--cache N] STACK NAME BINDING...`
+ghost use Rattle.std.specs.Prelude.{option_map};
+ghost use Rattle.command_line.specs.FurtherRecords.{scan};
+ghost use Rattle.command_line.specs.Reading.{Reads};
+ghost use Rattle.command_line.specs.FormatOptions.{option_texts, texts_of};
+ghost use Rattle.command_line.specs.words.Scan.{scan_said};
+
+use crate::binding_words::bindings_of;
+use crate::bindings::Binding;
+use crate::fault::WordsFault;
+use crate::further::Further;
+use crate::option_words::OptionWords;
+use crate::values::cache_of;
+use std::alloc::Global;
+
+/// A device is gone over.
+#[derive(Drop)]
+pub struct ScanWords<'a> {
+    pub cache: u32,
+    pub stack: &'a str,
+    pub name: &'a str,
+    pub bindings: Vec<Binding<'a>>,
+}
+
+/// `[--cache N] STACK NAME BINDING...`
+#[tactic(auto, unfolding(crate::specs::words::Scan::scan_said))]
+pub fn scan_of<'a>(
+    alloc: Global,
+    options: &OptionWords<'a>,
+    words: &[&'a str],
+) -> Result<Further<'a>, WordsFault>
+    ensures { Reads (option_map scan (scan_said (option_texts options.now) (texts_of words.now))) result }
+{
+    let [stack, name, rest @ ..] = words else {
+        return Err(WordsFault::Usage);
+    };
+    let Some(cache) = cache_of(options.cache) else {
+        return Err(WordsFault::Usage);
+    };
+    match bindings_of(alloc, rest) {
+        Ok(bindings) => Ok(Further::Scan(ScanWords {
+            cache,
+            stack,
+            name,
+            bindings,
+        })),
+        Err(fault) => Err(fault),
+    }
+}

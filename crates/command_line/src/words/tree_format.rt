@@ -1,0 +1,45 @@
+//! `format --no-superblock [OPTIONS] DATA HASH`
+ghost use Rattle.std.specs.Prelude.{option_map};
+ghost use Rattle.command_line.specs.FurtherRecords.{format_tree};
+ghost use Rattle.command_line.specs.Reading.{Reads};
+ghost use Rattle.command_line.specs.FormatOptions.{option_texts, texts_of};
+ghost use Rattle.command_line.specs.words.TreeFormat.{tree_format_said};
+
+use crate::fault::WordsFault;
+use crate::further::Further;
+use crate::option_words::OptionWords;
+use crate::values::offset_of;
+
+/// A tree is made alone, of what `options_of` reads.
+#[derive(Drop)]
+pub struct TreeFormatWords<'a> {
+    pub data_path: &'a str,
+    pub hash_path: &'a str,
+    pub hash_offset: u64,
+    pub grow: bool,
+}
+
+/// `[OPTIONS] DATA HASH`; an identifier stands in a superblock alone.
+#[tactic(auto, unfolding(crate::specs::words::TreeFormat::tree_format_said))]
+pub fn tree_format_of<'a>(
+    options: &OptionWords<'a>,
+    words: &[&'a str],
+) -> Result<Further<'a>, WordsFault>
+    ensures { Reads (option_map format_tree (tree_format_said (option_texts options.now) (texts_of words.now))) result }
+{
+    let [data_path, hash_path] = words else {
+        return Err(WordsFault::Usage);
+    };
+    if options.uuid.is_some() {
+        return Err(WordsFault::Usage);
+    }
+    let Some(hash_offset) = offset_of(options.hash_offset) else {
+        return Err(WordsFault::Usage);
+    };
+    Ok(Further::FormatTree(TreeFormatWords {
+        data_path,
+        hash_path,
+        hash_offset,
+        grow: options.grow,
+    }))
+}

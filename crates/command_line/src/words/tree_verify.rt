@@ -1,0 +1,48 @@
+//! `verify --no-superblock --salt HEX [OPTIONS] DATA HASH [ROOT]`
+ghost use Rattle.std.specs.Prelude.{option_map};
+ghost use Rattle.command_line.specs.FurtherRecords.{verify_tree};
+ghost use Rattle.command_line.specs.Reading.{Reads};
+ghost use Rattle.command_line.specs.FormatOptions.{option_texts, texts_of};
+ghost use Rattle.command_line.specs.words.TreeVerify.{tree_verify_said};
+
+use crate::fault::WordsFault;
+use crate::further::Further;
+use crate::option_words::OptionWords;
+use crate::values::{RootWord, offset_of, root_alone};
+
+/// A tree without a superblock is checked, which is what `options_of` reads.
+#[derive(Drop)]
+pub struct TreeVerifyWords<'a> {
+    pub data_path: &'a str,
+    pub hash_path: &'a str,
+    pub root: RootWord<'a>,
+    pub hash_offset: u64,
+}
+
+/// `--salt HEX [OPTIONS] DATA HASH [ROOT]`
+#[tactic(auto, unfolding(crate::specs::words::TreeVerify::tree_verify_said))]
+pub fn tree_verify_of<'a>(
+    options: &OptionWords<'a>,
+    words: &[&'a str],
+) -> Result<Further<'a>, WordsFault>
+    ensures { Reads (option_map verify_tree (tree_verify_said (option_texts options.now) (texts_of words.now))) result }
+{
+    let [data_path, hash_path, rest @ ..] = words else {
+        return Err(WordsFault::Usage);
+    };
+    if options.all || options.salt.is_none() {
+        return Err(WordsFault::Usage);
+    }
+    let Some(hash_offset) = offset_of(options.hash_offset) else {
+        return Err(WordsFault::Usage);
+    };
+    let Some(root) = root_alone(options.root_hash_file, rest) else {
+        return Err(WordsFault::Usage);
+    };
+    Ok(Further::VerifyTree(TreeVerifyWords {
+        data_path,
+        hash_path,
+        root,
+        hash_offset,
+    }))
+}

@@ -1,0 +1,32 @@
+//! A page of the manual.
+ghost use Rattle.counted_io.specs.Counted.{Writes};
+
+use crate::pages::PAGES;
+use counted_io::{Counted, WriteFault};
+use std::io::Write;
+
+/// A command's name, or no letter for the page of the program; its words; and what is printed.
+#[derive(Clone, Copy)]
+pub struct Page {
+    pub name: &'static str,
+    pub usage: &'static str,
+    pub text: &'static str,
+}
+
+/// The page of that command, or of the program where none is named.
+pub fn page_of(command: Option<&str>) -> Option<Page> {
+    let wanted = command.unwrap_or("").as_bytes();
+    for page in PAGES.iter() {
+        if page.name.as_bytes() == wanted {
+            return Some(*page);
+        }
+    }
+    None
+}
+
+/// Prints a page.
+pub fn print_page<W: Write>(writer: &mut Counted<W>, page: Page) -> Result<(), WriteFault>
+    ensures { Writes W.contents writer.old writer.new page.text.now result }
+{
+    writer.put(page.text.as_bytes())
+}

@@ -1,0 +1,13 @@
+//! Which program this is.
+ghost use Rattle.std.specs.Prelude.{codes};
+ghost use Rattle.counted_io.specs.Counted.{Writes};
+
+use counted_io::{Counted, WriteFault};
+use std::io::Write;
+
+/// Prints the program's name and the kit that its sources are proved with.
+pub fn print_version<W: Write>(writer: &mut Counted<W>) -> Result<(), WriteFault>
+    ensures { Writes W.contents writer.old writer.new (codes "dmstack 1, of sources that are proved with rattle-kit-13f\n") result }
+{
+    writer.put(b"dmstack 1, of sources that are proved with rattle-kit-13f\n")
+}
