@@ -85,6 +85,16 @@ impl<D: BlockDev, K: Beside> Window<D, K> {
     }
 }
 
+impl<D: BlockDev> Window<D> {
+    /// All of the device: what a proof sees of the window is what it sees of the device.
+    pub fn whole(inner: D) -> Window<D>
+        ensures inner { result.inner ≡ inner }
+        ensures state { ⟦<Window<D, Brand> as BlockDev>⟧.state result ≡ D.state inner }
+    {
+        Window::<D, Brand>::behind(inner, 0)
+    }
+}
+
 impl<D: BlockDev, K: Beside> BlockDev for Window<D, K> {
     ghost state = { λ w. windowed (D.state w.inner) w.part };
 

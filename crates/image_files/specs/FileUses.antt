@@ -1,14 +1,22 @@
--- Which files are open, and how: one file may not be open twice where one of the two may write.
-use Rattle.std.specs.Prelude.{◌&&◌, ◌||◌, Bool, false, List}
+-- Which files are open, and how: no sector of a file may be open twice where one of the two may write.
+use Rattle.std.specs.Prelude.{◌&&◌, ◌||◌, Bool, false, true, List, Option, None, Some}
 use Rattle.std.specs.List.{list_any}
+use Rattle.device_window.specs.declared.part.Part.{Part}
+use Rattle.device_window.specs.Parts.{overlaps}
 use Rattle.image_files.specs.declared.file_use.FileUse.{FileUse}
 use Rattle.image_files.specs.declared.images.FileText.{FileText}
 use Rattle.image_files.specs.declared.images.OpenImage.{OpenImage}
 use Rattle.image_files.specs.OneFile.{is_one_file}
 
--- both are one file, and one of them may write
+-- both have a sector in common; all of a file meets each part of it
+abbrev pub do_meet : Option Part → Option Part → Bool
+do_meet (Some a) (Some b) = overlaps a b
+do_meet (Some a) None = true
+do_meet None b = true
+
+-- both are one file, one of them may write, and they meet
 abbrev pub is_clash : FileUse → FileUse → Bool
-is_clash a b = is_one_file a.id b.id && (a.writable || b.writable)
+is_clash a b = is_one_file a.id b.id && (a.writable || b.writable) && do_meet a.part b.part
 
 -- a file clashes with one of these files
 abbrev pub has_clash : List FileUse → FileUse → Bool
@@ -16,8 +24,12 @@ has_clash files file = list_any (λ other. is_clash other file) files
 
 -- how an image uses its file that was opened with this right
 abbrev pub image_use : {D : Type 0} → Bool → OpenImage D → FileUse
-image_use writable image = record { id = image.id; writable = writable }
+image_use writable image = record { id = image.id; writable = writable; part = None }
+
+-- the same of a part of one
+abbrev pub part_use : {D : Type 0} → Bool → Part → OpenImage D → FileUse
+part_use writable part image = record { id = image.id; writable = writable; part = Some part }
 
 -- a text is only read
 abbrev pub text_use : FileText → FileUse
-text_use text = record { id = text.id; writable = false }
+text_use text = record { id = text.id; writable = false; part = None }

@@ -4,4 +4,5 @@ pub mod FileUses
 pub mod OneFile
 pub mod Opened
 pub mod Opener
+pub mod OpenParts
 pub mod Promises

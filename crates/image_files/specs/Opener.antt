@@ -1,19 +1,27 @@
 -- What a proof sees of what commands open. S is the opener, D a device that it opens.
 use Rattle.std.specs.Prelude.{◌≡◌, ℕ, Bool, false, List, Result}
+use Rattle.device_window.specs.declared.part.Part.{Part}
 use Rattle.block_device.specs.declared.open_fault.OpenFault.{OpenFault}
 use Rattle.block_device.specs.Device.{Device}
 use Rattle.image_files.specs.declared.images.FileText.{FileText}
 use Rattle.image_files.specs.declared.images.OpenImage.{OpenImage}
+use Rattle.image_files.specs.declared.parts.PartFault.{PartFault}
 
 -- Relations of the opener before a call, the call's arguments, its outcome, and the opener after it. What is generic over the
 -- opener knows none of them but by a call, so that a clause that cites one says which call was made.
 pub record Opener (S D : Type 0) : Type 1 where
   -- a path, and whether its image is opened for writing too
   pub opens : S → List ℕ → Bool → Result (OpenImage D) OpenFault → S → Type 0
+  -- a path, whether its image is opened for writing too, and a part of it
+  pub opens_part : S → List ℕ → Bool → Part → Result (OpenImage D) PartFault → S → Type 0
   -- a path, and how many bytes of its file are taken at most
   pub tells : S → List ℕ → ℕ → Result FileText OpenFault → S → Type 0
   -- a path, and the device that is given back
   pub takes : S → List ℕ → D → S → Type 0
+  -- a path, a part of its image, and the device that is given back
+  pub takes_part : S → List ℕ → Part → D → S → Type 0
+  -- a path, and how many sectors its file has then at least
+  pub grows : S → List ℕ → ℕ → Result (Unit {0}) OpenFault → S → Type 0
 
 -- a device that was just opened
 pub record IsFresh (device : Device) (writable : Bool) : Type 0 where

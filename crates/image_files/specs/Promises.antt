@@ -1,11 +1,13 @@
 -- What is taken of an operating system's files: a premise of who reads the commands' clauses of files. The library's contracts
 -- say none of it, so no proof gives it of `FileImages`; images in memory keep it (`memory_images`).
-use Rattle.std.specs.Prelude.{◌≡◌, ◌/◌, ℕ, Bool, true, false, IsSome, List, length, take, Option, Some, Result, Ok}
+use Rattle.std.specs.Prelude.{◌≡◌, ◌+◌, ◌-◌, ◌*◌, ◌/◌, ◌≤◌, ◌++◌, ℕ, Bool, true, false, IsSome, List, length, take, drop, replicate, Option, Some, Result, Ok}
 use Rattle.block_device.specs.declared.file_id.FileId.{FileId}
 use Rattle.block_device.specs.declared.open_fault.OpenFault.{OpenFault}
 use Rattle.block_device.specs.Device.{Device, sectors_of}
+use Rattle.device_window.specs.declared.part.Part.{Part}
 use Rattle.image_files.specs.declared.images.FileText.{FileText}
 use Rattle.image_files.specs.declared.images.OpenImage.{OpenImage}
+use Rattle.image_files.specs.declared.parts.PartFault.{PartFault}
 use Rattle.image_files.specs.OneFile.{is_one_file}
 use Rattle.image_files.specs.Opener.{Opener}
 
@@ -17,6 +19,23 @@ pub record FileRecord : Type 0 where
 -- the device's sectors are the whole ones of the file
 abbrev pub HoldsSectors : Device → FileRecord → Type 0
 HoldsSectors device file = device.image ≡ sectors_of (length file.bytes / 512) file.bytes
+
+-- the device's sectors are those of that part of the file, which is inside of it
+pub record HoldsPart (device : Device) (part : Part) (file : FileRecord) : Type 0 where
+  pub inside : part.first + part.count ≤ length file.bytes / 512
+  pub image : device.image ≡ sectors_of part.count (drop (part.first * 512) file.bytes)
+
+-- the file holds what it held, and zeros behind it
+pub record IsGrown (file file' : FileRecord) (sectors : ℕ) : Type 0 where
+  pub same : file'.id ≡ file.id
+  pub bytes : file'.bytes ≡ file.bytes ++ replicate (sectors * 512 - length file.bytes) 0
+
+-- a part is given back: the file holds what the device holds there, and all else is as it was
+pub record TakesPart (device : Device) (part : Part) (file file' : FileRecord) : Type 0 where
+  pub same : file'.id ≡ file.id
+  pub holds : HoldsPart device part file'
+  pub before : take (part.first * 512) file'.bytes ≡ take (part.first * 512) file.bytes
+  pub behind : drop ((part.first + part.count) * 512) file'.bytes ≡ drop ((part.first + part.count) * 512) file.bytes
 
 -- both tell which file they are, and not the same one
 abbrev pub AreApart : FileRecord → FileRecord → Type 0
@@ -32,6 +51,11 @@ pub record KeepsFiles {S D : Type 0} (o : Opener S D) (state : D → Device) (at
   pub opened : (old new : S) (path : List ℕ) (writable : Bool) (image : OpenImage D) → o.opens old path writable (Ok image) new
       → (file : FileRecord) × (at old path ≡ Some file) × (image.id ≡ file.id) × HoldsSectors (state image.device) file
   pub steady : (old new : S) (path : List ℕ) (writable : Bool) (image : OpenImage D) → o.opens old path writable (Ok image) new → (state image.device).steady ≡ true
+  -- a part of it is opened as a device of its own, which is steady while nobody else writes that part
+  pub kept_opening_part : (old new : S) (path : List ℕ) (writable : Bool) (part : Part) (outcome : Result (OpenImage D) PartFault) → o.opens_part old path writable part outcome new → at new ≡ at old
+  pub opened_part : (old new : S) (path : List ℕ) (writable : Bool) (part : Part) (image : OpenImage D) → o.opens_part old path writable part (Ok image) new
+      → (file : FileRecord) × (at old path ≡ Some file) × (image.id ≡ file.id) × HoldsPart (state image.device) part file
+  pub steady_part : (old new : S) (path : List ℕ) (writable : Bool) (part : Part) (image : OpenImage D) → o.opens_part old path writable part (Ok image) new → (state image.device).steady ≡ true
   -- what is told are its first bytes
   pub told : (old new : S) (path : List ℕ) (most : ℕ) (text : FileText) → o.tells old path most (Ok text) new
       → (file : FileRecord) × (at old path ≡ Some file) × (text.id ≡ file.id) × (text.bytes.items ≡ take most file.bytes)
@@ -39,4 +63,15 @@ pub record KeepsFiles {S D : Type 0} (o : Opener S D) (state : D → Device) (at
   pub taken : (old new : S) (path : List ℕ) (device : D) (file : FileRecord) → o.takes old path device new → at old path ≡ Some file
       → (file' : FileRecord) × (at new path ≡ Some file') × (file'.id ≡ file.id) × HoldsSectors (state device) file'
   pub kept_taking : (old new : S) (path other : List ℕ) (device : D) (file another : FileRecord) → o.takes old path device new → at old path ≡ Some file
+      → at old other ≡ Some another → AreApart file another → at new other ≡ Some another
+  -- the same of a part that is given back, of as many sectors as the device has
+  pub taken_part : (old new : S) (path : List ℕ) (part : Part) (device : D) (file : FileRecord) → o.takes_part old path part device new → at old path ≡ Some file
+      → (state device).size ≡ part.count → part.first + part.count ≤ length file.bytes / 512
+      → (file' : FileRecord) × (at new path ≡ Some file') × TakesPart (state device) part file file'
+  pub kept_taking_part : (old new : S) (path other : List ℕ) (part : Part) (device : D) (file another : FileRecord) → o.takes_part old path part device new → at old path ≡ Some file
+      → at old other ≡ Some another → AreApart file another → at new other ≡ Some another
+  -- a file that is grown keeps what it held, and no other one changes
+  pub grown : (old new : S) (path : List ℕ) (sectors : ℕ) (file : FileRecord) → o.grows old path sectors (Ok tt) new → at old path ≡ Some file
+      → (file' : FileRecord) × (at new path ≡ Some file') × IsGrown file file' sectors
+  pub kept_growing : (old new : S) (path other : List ℕ) (sectors : ℕ) (file another : FileRecord) → o.grows old path sectors (Ok tt) new → at old path ≡ Some file
       → at old other ≡ Some another → AreApart file another → at new other ≡ Some another

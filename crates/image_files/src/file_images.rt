@@ -1,12 +1,51 @@
 //! Images in files.
+ghost use Rattle.std.specs.Prelude.{◌≤◌, length, OnOk, IfOk};
+ghost use Rattle.block_device.specs.Any.{any_id};
+
 use crate::images::{FileText, Images, OpenImage};
-use block_device::{AnyDev, FileDev, FileId, MemoryDev, OpenFault};
-use std::fs;
-use std::fs::File;
+use crate::parts::PartFault;
+use block_device::{AnyDev, BlockDev, FileDev, FileId, MemoryDev, OpenFault};
+use device_window::{OutsideDevice, Part, Window};
+use std::alloc::Global;
+use std::fs::{File, OpenFile, OpenOptions};
 use std::io::{ErrorKind, Read};
 use std::rt::Files;
+use std::{fs, io};
 
-/// Images in files, under their paths.
+// The text under this path is the standard input's.
+const INPUT: &str = "-";
+
+const SECTOR: u64 = 512;
+
+const MAX_SECTORS: u64 = 1 << 54;
+
+// At most so many first bytes of what can be read.
+fn first_bytes<S: Read + Drop>(alloc: Global, source: S, most: usize) -> Result<Vec<u8>, OpenFault>
+    ensures { IfOk result (λ bytes. length bytes.items ≤ most) }
+{
+    let mut bytes = Vec::new(alloc);
+    match source.take(most as u64).read_to_end(&mut bytes) {
+        Ok(_) if bytes.len() <= most => Ok(bytes),
+        Err(error) if error.kind() == ErrorKind::OutOfMemory => Err(OpenFault::NoMemory),
+        _ => Err(OpenFault::OtherFault),
+    }
+}
+
+// Makes the file where there is none, and so many bytes long where it is shorter.
+fn lengthen<R: Files<File = File>>(rt: &R, path: &str, bytes: u64) -> io::Result<()> {
+    let file = OpenOptions::new()
+        .read(true)
+        .write(true)
+        .create(true)
+        .open(rt, path)?;
+    let metadata = file.metadata()?;
+    if metadata.is_file() && metadata.len() < bytes {
+        file.set_len(bytes)?;
+    }
+    Ok(())
+}
+
+/// Images in files, under their paths; the text under `-` is the standard input's.
 #[derive(Drop)]
 pub struct FileImages<'a, R> {
     rt: &'a R,
@@ -18,24 +57,42 @@ impl<'a, R> FileImages<'a, R> {
     }
 }
 
-impl<R: Files<File = File> + AllocGlobal> Images for FileImages<'_, R> {
+impl<R: Files<File = File> + AllocGlobal + Input> Images for FileImages<'_, R> {
     ghost use Rattle.image_files.specs.FileRelations.{file_relations};
 
-    type Dev = AnyDev;
+    type Dev = Window<AnyDev>;
 
-    ghost relations = { file_relations };
+    ghost relations = { file_relations (record { state = ⟦<Window<AnyDev> as BlockDev>⟧.state; id = λ window. any_id window.inner }) };
 
-    fn open(&mut self, path: &str, writable: bool) -> Result<OpenImage<AnyDev>, OpenFault> {
+    fn open(&mut self, path: &str, writable: bool) -> Result<OpenImage<Window<AnyDev>>, OpenFault> {
         let file = FileDev::open(self.rt, path, writable)?;
         let id = file.id();
         Ok(OpenImage {
-            device: AnyDev::File(file),
+            device: Window::whole(AnyDev::File(file)),
             id,
         })
     }
 
-    // A file of any kind that can be read.
+    fn open_part(
+        &mut self,
+        path: &str,
+        writable: bool,
+        part: Part,
+    ) -> Result<OpenImage<Window<AnyDev>>, PartFault> {
+        let file = FileDev::open(self.rt, path, writable)?;
+        let id = file.id();
+        match Window::new(AnyDev::File(file), part) {
+            Ok(device) => Ok(OpenImage { device, id }),
+            Err(OutsideDevice) => Err(PartFault::Outside),
+        }
+    }
+
+    // A file of any kind that can be read, or what stands in the standard input.
     fn read_text(&mut self, path: &str, most: usize) -> Result<FileText, OpenFault> {
+        if path == INPUT {
+            let bytes = first_bytes(self.rt.alloc(), self.rt.reader(), most)?;
+            return Ok(FileText { bytes, id: None });
+        }
         let file = match fs::open(self.rt, path) {
             Ok(file) => file,
             Err(error) => return Err(OpenFault::from(error.kind())),
@@ -44,20 +101,37 @@ impl<R: Files<File = File> + AllocGlobal> Images for FileImages<'_, R> {
             Ok(metadata) => FileId::of(&metadata),
             Err(error) => return Err(OpenFault::from(error.kind())),
         };
-        let mut bytes = Vec::new(self.rt.alloc());
-        match file.take(most as u64).read_to_end(&mut bytes) {
-            Ok(_) if bytes.len() <= most => Ok(FileText { bytes, id }),
-            Err(error) if error.kind() == ErrorKind::OutOfMemory => Err(OpenFault::NoMemory),
-            _ => Err(OpenFault::OtherFault),
-        }
+        let bytes = first_bytes(self.rt.alloc(), file, most)?;
+        Ok(FileText { bytes, id })
     }
 
     // Its file holds all that there is.
-    fn close(&mut self, _path: &str, device: AnyDev) {
+    fn close(&mut self, _path: &str, device: Window<AnyDev>) {
         drop(device);
     }
 
-    fn of_memory(memory: MemoryDev) -> AnyDev {
-        AnyDev::Memory(memory)
+    fn close_part(&mut self, _path: &str, _part: Part, device: Window<AnyDev>) {
+        drop(device);
+    }
+
+    // A regular file alone.
+    fn grow(&mut self, path: &str, sectors: u64) -> Result<(), OpenFault> {
+        match fs::metadata(self.rt, path) {
+            Ok(metadata) if !metadata.is_file() => return Ok(()),
+            Ok(_) => {}
+            Err(error) if error.kind() == ErrorKind::NotFound => {}
+            Err(error) => return Err(OpenFault::from(error.kind())),
+        }
+        if sectors > MAX_SECTORS {
+            return Err(OpenFault::TooLarge);
+        }
+        match lengthen(self.rt, path, sectors * SECTOR) {
+            Ok(()) => Ok(()),
+            Err(error) => Err(OpenFault::from(error.kind())),
+        }
+    }
+
+    fn of_memory(memory: MemoryDev) -> Window<AnyDev> {
+        Window::whole(AnyDev::Memory(memory))
     }
 }

@@ -1,15 +1,17 @@
 //! Which files are open, and how.
 ghost use Rattle.std.specs.Prelude.{◌≡◌};
-ghost use Rattle.image_files.specs.FileUses.{has_clash, is_clash};
+ghost use Rattle.image_files.specs.FileUses.{do_meet, has_clash, is_clash};
 
 use crate::one_file::is_one_file;
 use block_device::FileId;
+use device_window::Part;
 
-/// Which file is open, where the opener tells it, and whether it may be written.
+/// Which file is open, where the opener tells it, whether it may be written, and which part of it, where it isn't all.
 #[derive(Clone, Copy, Debug, PartialEq, Eq)]
 pub struct FileUse {
     pub id: Option<FileId>,
     pub writable: bool,
+    pub part: Option<Part>,
 }
 
 /// Whether one of the files clashes with another one.
@@ -19,9 +21,19 @@ pub fn has_clash(files: &[FileUse], file: FileUse) -> bool
     files.iter().any(|other| is_clash(*other, file))
 }
 
-/// Whether both are one file, of which one may be written.
+/// Whether both are one file, of which one may be written, and have a sector in common.
 pub fn is_clash(a: FileUse, b: FileUse) -> bool
     ensures { result ≡ is_clash a b }
 {
-    is_one_file(a.id, b.id) && (a.writable || b.writable)
+    is_one_file(a.id, b.id) && (a.writable || b.writable) && do_meet(a.part, b.part)
+}
+
+// All of a file meets each part of it.
+fn do_meet(a: Option<Part>, b: Option<Part>) -> bool
+    ensures { result ≡ do_meet a b }
+{
+    match (a, b) {
+        (Some(a), Some(b)) => a.overlaps(b),
+        _ => true,
+    }
 }

@@ -2,7 +2,9 @@
 ghost use Rattle.std.specs.Prelude.{◌≡◌, ◌≤◌, length, IfOk};
 ghost use Rattle.image_files.specs.Opener.{IsFresh, Opener};
 
+use crate::parts::PartFault;
 use block_device::{BlockDev, FileId, MemoryDev, OpenFault, SyncDev};
+use device_window::Part;
 
 /// An image that was opened, and which file it is, where that is known.
 #[derive(Drop)]
@@ -33,6 +35,16 @@ pub trait Images {
         ensures opened { relations.opens self.old path.now writable result self.new }
         ensures fresh { IfOk result (λ image. IsFresh (Self.Dev.state image.device) writable) };
 
+    /// Opens a part of the image under this path as a device of its own. A part that ends behind the image is `Outside`.
+    fn open_part(
+        &mut self,
+        path: &str,
+        writable: bool,
+        part: Part,
+    ) -> Result<OpenImage<Self::Dev>, PartFault>
+        ensures opened { relations.opens_part self.old path.now writable part result self.new }
+        ensures fresh { IfOk result (λ image. IsFresh (Self.Dev.state image.device) writable) };
+
     /// At most so many first bytes of the file under this path.
     fn read_text(&mut self, path: &str, most: usize) -> Result<FileText, OpenFault>
         ensures told { relations.tells self.old path.now most result self.new }
@@ -41,6 +53,15 @@ pub trait Images {
     /// Takes an image back: what the device holds is what stands under this path from then on.
     fn close(&mut self, path: &str, device: Self::Dev)
         ensures { relations.takes self.old path.now device self.new };
+
+    /// Takes a part of an image back: what the device holds is what stands in that part from then on.
+    fn close_part(&mut self, path: &str, part: Part, device: Self::Dev)
+        ensures { relations.takes_part self.old path.now part device self.new };
+
+    /// Makes the file under this path at least so many sectors long, and makes it where there is none. What it held is
+    /// kept, and zeros stand behind. What has a size of its own, as a block device, stays as it is.
+    fn grow(&mut self, path: &str, sectors: u64) -> Result<(), OpenFault>
+        ensures { relations.grows self.old path.now sectors result self.new };
 
     /// A device in memory as one of these, which is under no path.
     fn of_memory(memory: MemoryDev) -> Self::Dev

@@ -45,7 +45,8 @@ pub fn open_apart<'a, I: Images>(
 {
     let image = open_image(images, path, writable)?;
     let id = image.id;
-    if has_clash(files, FileUse { id, writable }) {
+    let part = None;
+    if has_clash(files, FileUse { id, writable, part }) {
         let fault = OpenFault::SameFile;
         return Err(UnopenedFile { fault, path });
     }

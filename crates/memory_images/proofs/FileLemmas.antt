@@ -14,14 +14,14 @@ use Rattle.image_files.specs.declared.images.OpenImage.{OpenImage}
 use Rattle.image_files.specs.Promises.{AreApart, FileRecord, HoldsSectors}
 use Rattle.memory_images.specs.declared.named_images.MemoryImages.{MemoryImages}
 use Rattle.memory_images.specs.Files.{file_at, file_at_place, file_under}
-use Rattle.memory_images.specs.MemoryRelations.{IsCopy, IsText, PutsAt, id_at}
+use Rattle.memory_images.specs.MemoryRelations.{ChangesAt, IsCopy, IsText, PutsAt, id_at}
 use Rattle.memory_images.specs.Named.{IsPut, Stands, bytes_at, place_of}
 
 -- what stands at a place as a file
 abbrev pub file-of : ℕ → List ℕ → FileRecord
 file-of place bytes = record { id = id_at place; bytes = bytes }
 
-under : (m : MemoryImages) (path : List ℕ) (place : ℕ) (bytes : List ℕ) → Stands m.names.items m.images.items path place bytes
+pub under : (m : MemoryImages) (path : List ℕ) (place : ℕ) (bytes : List ℕ) → Stands m.names.items m.images.items path place bytes
     → file_under m path ≡ Some (file-of place bytes)
 under m path place bytes s =
     ap (file_at_place m.images.items) s.placed ∙ ap (option_map (λ (b : List ℕ). file-of place b)) s.found
@@ -95,3 +95,32 @@ others-kept old new path other device file another taken is is' apart =
     subst (λ (f : FileRecord). AreApart f (file-of at'.place at'.bytes)) at.is (subst (λ (f : FileRecord). AreApart file f) at'.is apart) in
     let kept = put.1.others at'.place (apart-places at.place at'.place at.bytes at'.bytes apart') in
     under new other at'.place at'.bytes (record { placed = placed-still old new other at'.place put.0 at'.placed; found = kept ∙ at'.found }) ∙ ap (λ (f : FileRecord). Some f) (sym at'.is)
+
+-- what stands at a place is changed
+changed-at : (old new : MemoryImages) (path : List ℕ) (change : List ℕ → List ℕ) (place : ℕ) → place_of old.names.items path ≡ Some place → ChangesAt (place_of old.names.items path) change old new
+    → ChangesAt (Some place) change old new
+changed-at old new path change place placed = subst (λ (o : Option ℕ). ChangesAt o change old new) placed
+
+-- so it stands there then
+pub changed : (old new : MemoryImages) (path : List ℕ) (change : List ℕ → List ℕ) (file : FileRecord) → ChangesAt (place_of old.names.items path) change old new
+    → file_under old path ≡ Some file → (file' : FileRecord) × (file_under new path ≡ Some file') × (file'.id ≡ file.id) × (file'.bytes ≡ change file.bytes)
+changed old new path change file is_changed is =
+    let at = is-at old path file is in
+    let at_place = changed-at old new path change at.place at.placed is_changed in (
+      file-of at.place (change at.bytes),
+      under new path at.place (change at.bytes) (record { placed = placed-still old new path at.place at_place.0 at.placed; found = at_place.1.here ∙ ap (option_map change) at.found }),
+      sym (ap (λ (f : FileRecord). f.id) at.is),
+      sym (ap (λ (f : FileRecord). change f.bytes) at.is),
+    )
+
+-- and no other one changes
+pub others-unchanged : (old new : MemoryImages) (path other : List ℕ) (change : List ℕ → List ℕ) (file another : FileRecord) → ChangesAt (place_of old.names.items path) change old new
+    → file_under old path ≡ Some file → file_under old other ≡ Some another → AreApart file another → file_under new other ≡ Some another
+others-unchanged old new path other change file another is_changed is is' apart =
+    let at = is-at old path file is in
+    let at' = is-at old other another is' in
+    let at_place = changed-at old new path change at.place at.placed is_changed in
+    let apart' : AreApart (file-of at.place at.bytes) (file-of at'.place at'.bytes) =
+    subst (λ (f : FileRecord). AreApart f (file-of at'.place at'.bytes)) at.is (subst (λ (f : FileRecord). AreApart file f) at'.is apart) in
+    let kept = at_place.1.others at'.place (apart-places at.place at'.place at.bytes at'.bytes apart') in
+    under new other at'.place at'.bytes (record { placed = placed-still old new other at'.place at_place.0 at'.placed; found = kept ∙ at'.found }) ∙ ap (λ (f : FileRecord). Some f) (sym at'.is)

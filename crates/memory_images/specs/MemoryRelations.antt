@@ -9,8 +9,12 @@ use Rattle.block_device.specs.Device.{in_memory, sectors_of}
 use Rattle.block_device.specs.Memory.{memory_bytes}
 use Rattle.image_files.specs.declared.images.FileText.{FileText}
 use Rattle.image_files.specs.declared.images.OpenImage.{OpenImage}
+use Rattle.image_files.specs.declared.parts.PartFault.{PartFault}
+use Rattle.image_files.specs.declared.parts.PartFault.TheVariants.{Open, Outside}
+use Rattle.device_window.specs.declared.part.Part.{Part}
 use Rattle.memory_images.specs.declared.named_images.MemoryImages.{MemoryImages}
-use Rattle.memory_images.specs.Named.{IsPut, IsUncopied, Stands, place_of}
+use Rattle.memory_images.specs.Named.{IsChanged, IsPut, IsUncopied, Stands, place_of}
+use Rattle.memory_images.specs.Parts.{LiesWithin, grown, part_bytes, with_part}
 use Rattle.image_files.specs.Opener.{Opener}
 
 -- these bytes stand under a path, at this place
@@ -51,9 +55,44 @@ abbrev pub PutsAt : Option ℕ → List ℕ → MemoryImages → MemoryImages �
 PutsAt None bytes old new = new ≡ old
 PutsAt (Some place) bytes old new = (new.names ≡ old.names) × IsPut old.images.items place bytes new.images.items
 
+-- a device over a copy of the bytes of a part of those that stand under a path
+pub record IsPartCopy (m : MemoryImages) (path : List ℕ) (writable : Bool) (part : Part) (image : OpenImage MemoryDev) : Type 0 where
+  pub place : ℕ
+  pub bytes : List ℕ
+  pub stands : StandsAt m path place bytes
+  pub inside : LiesWithin bytes part
+  pub is : ghosts.state image.device ≡ in_memory (sectors_of (length (part_bytes bytes part) / 512) (part_bytes bytes part)) writable
+  pub holds : memory_bytes image.device ≡ part_bytes bytes part
+  pub id : image.id ≡ id_at place
+
+-- the part isn't inside of what stands under a path
+pub record IsOutside (m : MemoryImages) (path : List ℕ) (part : Part) : Type 0 where
+  pub place : ℕ
+  pub bytes : List ℕ
+  pub stands : StandsAt m path place bytes
+  pub outside : LiesWithin bytes part → ⊥
+
+abbrev pub OpensPartCopy : MemoryImages → List ℕ → Bool → Part → Result (OpenImage MemoryDev) PartFault → Type 0
+OpensPartCopy m path writable part (Ok image) = IsPartCopy m path writable part image
+OpensPartCopy m path writable part (Err (Open fault)) = IsUncopied m.names.items m.images.items path fault
+OpensPartCopy m path writable part (Err Outside) = IsOutside m path part
+
+-- what stands at a place is changed so
+abbrev pub ChangesAt : Option ℕ → (List ℕ → List ℕ) → MemoryImages → MemoryImages → Type 0
+ChangesAt None change old new = new ≡ old
+ChangesAt (Some place) change old new = (new.names ≡ old.names) × IsChanged old.images.items place change new.images.items
+
+-- it is grown, or it stays as it is
+abbrev pub GrowsAt : MemoryImages → List ℕ → ℕ → Result (Unit {0}) OpenFault → MemoryImages → Type 0
+GrowsAt old path sectors (Ok done) new = ChangesAt (place_of old.names.items path) (λ image. grown image sectors) old new
+GrowsAt old path sectors (Err fault) new = ChangesAt (place_of old.names.items path) (λ image. image) old new
+
 abbrev pub memory_relations : Opener MemoryImages MemoryDev
 memory_relations = record {
   opens = λ old path writable outcome new. (new ≡ old) × OpensCopy old path writable outcome;
+  opens_part = λ old path writable part outcome new. (new ≡ old) × OpensPartCopy old path writable part outcome;
   tells = λ old path most outcome new. (new ≡ old) × TellsText old path most outcome;
   takes = λ old path device new. PutsAt (place_of old.names.items path) (memory_bytes device) old new;
+  takes_part = λ old path part device new. ChangesAt (place_of old.names.items path) (λ image. with_part image part (memory_bytes device)) old new;
+  grows = GrowsAt;
 }

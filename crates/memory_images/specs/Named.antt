@@ -28,6 +28,11 @@ IsUncopied names images path NotFound = IsMissing names images path
 IsUncopied names images path NoMemory = Unit {0}
 IsUncopied names images path fault = ⊥
 
+-- the bytes at a place were changed so
+pub record IsChanged {Z : Type 0} (old : List (Vec ℕ Z)) (place : ℕ) (change : List ℕ → List ℕ) (new : List (Vec ℕ Z)) : Type 0 where
+  pub here : bytes_at new place ≡ option_map change (bytes_at old place)
+  pub others : (k : ℕ) → (k ≡ place → ⊥) → bytes_at new k ≡ bytes_at old k
+
 -- bytes were put in at a place
 pub record IsPut {Z : Type 0} (old : List (Vec ℕ Z)) (place : ℕ) (bytes : List ℕ) (new : List (Vec ℕ Z)) : Type 0 where
   pub here : place < length old → bytes_at new place ≡ Some bytes

@@ -3,6 +3,7 @@
 
 mod laws;
 mod named_images;
+mod part;
 
 pub use laws::images_keep_files;
 pub use named_images::MemoryImages;

@@ -1,9 +1,12 @@
 //! Images in memory.
-ghost use Rattle.std.specs.Prelude.{◌≡◌, IfErr, IfOk};
-ghost use Rattle.memory_images.specs.Named.{IsPut, IsUncopied, Stands, place_of};
+ghost use Rattle.std.specs.Prelude.{◌≡◌, IfErr, IfOk, OnErr, OnOk};
+ghost use Rattle.memory_images.specs.Named.{IsChanged, IsPut, IsUncopied, Stands, place_of};
+ghost use Rattle.memory_images.specs.Parts.{grown, with_part};
 
+use crate::part::{lengthen, overwrite, part_of};
 use block_device::{FileId, MemoryDev, OpenFault};
-use image_files::{FileText, Images, OpenImage};
+use device_window::Part;
+use image_files::{FileText, Images, OpenImage, PartFault};
 use std::alloc::AllocError;
 
 /// Images in memory under names, of which the first with a name counts. An open image is a copy; what was written to it
@@ -66,6 +69,25 @@ fn put_image(images: &mut Vec<Vec<u8>>, place: usize, bytes: Vec<u8>)
     }
 }
 
+fn grow_image(images: &mut Vec<Vec<u8>>, place: usize, sectors: u64) -> Result<(), OpenFault>
+    ensures ok { OnOk result (IsChanged images.old.items place (λ image. grown image sectors) images.new.items) }
+    ensures err { OnErr result (IsChanged images.old.items place (λ image. image) images.new.items) }
+{
+    match images.get_mut(place) {
+        Some(image) => lengthen(image, sectors),
+        None => Err(OpenFault::NotFound),
+    }
+}
+
+// Puts the bytes of a part in their place.
+fn put_part(images: &mut Vec<Vec<u8>>, place: usize, part: Part, bytes: Vec<u8>)
+    ensures { IsChanged images.old.items place (λ image. with_part image part bytes.items) images.new.items }
+{
+    if let Some(image) = images.get_mut(place) {
+        overwrite(image, part, bytes);
+    }
+}
+
 impl Images for MemoryImages {
     ghost use Rattle.memory_images.specs.MemoryRelations.{memory_relations};
 
@@ -77,6 +99,25 @@ impl Images for MemoryImages {
         let (place, bytes) = copy_under(&self.names, &self.images, path)?;
         Ok(OpenImage {
             device: MemoryDev::new(bytes, writable),
+            id: Some(FileId::Inode {
+                device: 0,
+                inode: place as u64,
+            }),
+        })
+    }
+
+    fn open_part(
+        &mut self,
+        path: &str,
+        writable: bool,
+        part: Part,
+    ) -> Result<OpenImage<MemoryDev>, PartFault> {
+        let (place, bytes) = copy_under(&self.names, &self.images, path)?;
+        let Some(held) = part_of(bytes, part) else {
+            return Err(PartFault::Outside);
+        };
+        Ok(OpenImage {
+            device: MemoryDev::new(held, writable),
             id: Some(FileId::Inode {
                 device: 0,
                 inode: place as u64,
@@ -101,6 +142,20 @@ impl Images for MemoryImages {
         if let Some(place) = place_of(&self.names, path) {
             put_image(&mut self.images, place, device.into_bytes());
         }
+    }
+
+    fn close_part(&mut self, path: &str, part: Part, device: MemoryDev) {
+        if let Some(place) = place_of(&self.names, path) {
+            put_part(&mut self.images, place, part, device.into_bytes());
+        }
+    }
+
+    // What stands under no name isn't made.
+    fn grow(&mut self, path: &str, sectors: u64) -> Result<(), OpenFault> {
+        let Some(place) = place_of(&self.names, path) else {
+            return Err(OpenFault::NotFound);
+        };
+        grow_image(&mut self.images, place, sectors)
     }
 
     fn of_memory(memory: MemoryDev) -> MemoryDev {

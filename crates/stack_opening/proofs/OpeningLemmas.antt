@@ -1,24 +1,34 @@
 -- Bindings that are opened one after another, and those that aren't.
-use Rattle.std.proofs.Common.{◌≡◌, ◌<◌, ◌+◌, ℕ, zero, suc, List, [], ◌∷◌, ◌++◌, length, map, take, get_or, arith, refl, sym, ap, subst, ◌∙◌, append_assoc, inl, inr, Result, Ok, Err}
+use Rattle.std.proofs.Common.{◌≡◌, ◌<◌, ◌+◌, ℕ, Bool, zero, suc, List, [], ◌∷◌, ◌++◌, length, map, take, get_or, arith, refl, sym, ap, subst, ◌∙◌, append_assoc, inl, inr, Result, Ok, Err}
 use Rattle.std.proofs.lemmas.List.{map-append, take_more}
 use Rattle.std.specs.Prelude.{IfErr, IsErrAnd}
 use Rattle.block_device.specs.Device.{Device}
 use Rattle.command_line.specs.declared.bindings.Binding.{Binding}
-use Rattle.command_line.specs.Bindings.{BackingRecord, BindingRecord, file, ramp, zeros, backing_record, binding_record}
+use Rattle.command_line.specs.Bindings.{BackingRecord, BindingRecord, backing_record, binding_record, part}
+use Rattle.command_line.specs.PartBindings.{PartRecord}
 use Rattle.image_files.specs.declared.file_use.FileUse.{FileUse}
+use Rattle.image_files.specs.declared.parts.UnopenedPart.{UnopenedPart}
+use Rattle.image_files.specs.declared.parts.UnopenedPart.TheVariants.{File, Outside as OutsideFile}
+use Rattle.image_files.specs.OpenParts.{RefusesPart}
 use Rattle.image_files.specs.Opener.{Calls, Opener, calls}
 use Rattle.stack_rules.specs.Records.{LeafRecord}
 use Rattle.stack_meaning.specs.Leaves.{ServeLeaves}
 use Rattle.stack_opening.specs.declared.fault.OpeningFault.{OpeningFault}
-use Rattle.stack_opening.specs.declared.fault.OpeningFault.TheVariants.{NoMemory, Open}
+use Rattle.stack_opening.specs.declared.fault.OpeningFault.TheVariants.{NoMemory, Open, Outside, TooLong}
 use Rattle.stack_opening.specs.declared.leaves.OpenLeaves.{OpenLeaves}
-use Rattle.stack_opening.specs.Bindings.{OpensBacking, OpensEach, backings_of}
-use Rattle.stack_opening.specs.Openings.{IsBackingEnd, IsBindingEnd, RunsOut}
+use Rattle.stack_opening.specs.Bindings.{OpensBacking, OpensEach, backings_of, device_part}
+use Rattle.stack_opening.specs.Openings.{IsBackingEnd, IsBindingEnd, RefusesBacking, RefusesBinding, RunsOut, part_ending}
 
 -- what holds of a fault holds of the result that hands it on
 pub err-from : {T E : Type 0} (r : Result T E) (P : E → Type 0) (fault : E) → IsErrAnd r (λ e. e ≡ fault) → P fault → IfErr r P
 err-from (Ok done) P fault is holds = tt
 err-from (Err e) P fault is holds = subst P (sym is) holds
+
+-- a part that is refused ends the opening of what stands behind its name
+pub part-refused : {S D : Type 0} (w : Calls S D) (files : List FileUse) (path : List ℕ) (writable : Bool) (at : PartRecord) (unopened : UnopenedPart)
+    → RefusesPart w files path writable (device_part at) unopened → IsBackingEnd w files (part path writable at) (part_ending unopened)
+part-refused w files path writable at (File file) refused = refused
+part-refused w files path writable at (OutsideFile of) refused = refused
 
 -- the first of some bindings were opened, and are those leaves and files
 pub record AreOpen {S D : Type 0} (w : Calls S D) (files : List FileUse) (bindings : List BindingRecord) (over : OpenLeaves D) (files' : List FileUse) : Type 0 where
@@ -85,6 +95,21 @@ module _ {S D : Type 0} (o : Opener S D) (state : D → Device) where
   }
 
   module _ (old between new : S) (files more : List FileUse) (bindings : List BindingRecord) (first rest : List BackingRecord) (devices : List D) where
+    -- one of them is refused
+    refuses-at : (backing : BackingRecord) (fault : OpeningFault) → backings_of bindings ≡ first ++ backing ∷ rest → OpensEach (calls o state old between) files first devices more
+        → RefusesBacking (calls o state between new) more backing fault → RefusesBinding (calls o state old new) files (backings_of bindings) fault
+    refuses-at backing fault all each refused = record {
+      first = first;
+      backing = backing;
+      more = rest;
+      devices = devices;
+      files' = more;
+      between = between;
+      are = all;
+      opened = each;
+      refused = refused;
+    }
+
     -- an end at one of them
     ends-at : (backing : BackingRecord) (fault : OpeningFault) → backings_of bindings ≡ first ++ backing ∷ rest → OpensEach (calls o state old between) files first devices more
         → IsBackingEnd (calls o state between new) more backing fault → IsBindingEnd (calls o state old new) files bindings fault
@@ -97,19 +122,9 @@ module _ {S D : Type 0} (o : Opener S D) (state : D → Device) where
       opened = subst (λ (s : S). OpensEach (calls o state old s) files first devices more) (sym idle) each;
     }
     ends-at backing NoMemory all each (inr one) = runs_out-behind old between new files more one.1 (backings_of bindings) first rest devices backing one.0 all each one.2
-    ends-at (file path writable) (Open unopened) all each refused = record {
-      first = first;
-      path = path;
-      writable = writable;
-      more = rest;
-      devices = devices;
-      files' = more;
-      between = between;
-      are = all;
-      opened = each;
-      refused = refused;
-    }
-    ends-at backing fault all each ends = absurd ends
+    ends-at backing TooLong all each refused = refuses-at backing TooLong all each refused
+    ends-at backing (Open unopened) all each refused = refuses-at backing (Open unopened) all each refused
+    ends-at backing (Outside path) all each refused = refuses-at backing (Outside path) all each refused
 
   pub IsBindingEnd-at : (old between new : S) (files more : List FileUse) (bindings : List Binding) (i : ℕ) (d : Binding) (over : OpenLeaves D) (fault : OpeningFault)
       → i < length bindings → AreOpen (calls o state old between) files (map binding_record (take i bindings)) over more

@@ -1,12 +1,15 @@
 -- The leaves and devices to which names are bound.
 use Rattle.std.specs.Prelude.{◌≡◌, ℕ, Bool, true, List, [], ◌∷◌, ◌++◌, map}
 use Rattle.block_device.specs.Device.{Device, in_memory, zeros_image, ramp_image}
-use Rattle.command_line.specs.Bindings.{BackingRecord, BindingRecord, file, ramp, zeros}
+use Rattle.command_line.specs.Bindings.{BackingRecord, BindingRecord, file, part, ramp, zeros}
+use Rattle.command_line.specs.PartBindings.{PartRecord}
+use Rattle.device_window.specs.declared.part.Part.{Part}
 use Rattle.image_files.specs.Apart.{OpensApart}
 use Rattle.image_files.specs.declared.file_use.FileUse.{FileUse}
 use Rattle.image_files.specs.declared.images.OpenImage.{OpenImage}
-use Rattle.image_files.specs.FileUses.{image_use}
+use Rattle.image_files.specs.FileUses.{image_use, part_use}
 use Rattle.image_files.specs.Opener.{Calls}
+use Rattle.image_files.specs.OpenParts.{OpensPart}
 use Rattle.stack_rules.specs.Records.{LeafRecord}
 use Rattle.stack_meaning.specs.Leaves.{ServeLeaves}
 
@@ -17,6 +20,17 @@ pub record OpensFile {S D : Type 0} (w : Calls S D) (files : List FileUse) (path
   pub is : device ≡ image.device
   pub more : files' ≡ files ++ image_use writable image ∷ []
 
+-- the part that a binding names, as one of a device
+abbrev pub device_part : PartRecord → Part
+device_part at = record { first = at.first; count = at.count }
+
+-- that part of the image was opened, clashes with none of the files that are open, and is one of them from then on
+pub record OpensPartOf {S D : Type 0} (w : Calls S D) (files : List FileUse) (path : List ℕ) (writable : Bool) (at : Part) (device : D) (files' : List FileUse) : Type 0 where
+  pub image : OpenImage D
+  pub opened : OpensPart w files path writable at image
+  pub is : device ≡ image.device
+  pub more : files' ≡ files ++ part_use writable at image ∷ []
+
 -- a device in memory was made, of that image
 pub record MakesMemory {S D : Type 0} (w : Calls S D) (image : List (List ℕ)) (device : D) : Type 0 where
   pub is : w.state device ≡ in_memory image true
@@ -25,6 +39,7 @@ pub record MakesMemory {S D : Type 0} (w : Calls S D) (image : List (List ℕ)) 
 -- the device is the one that stands behind the name
 abbrev pub OpensBacking : {S D : Type 0} → Calls S D → List FileUse → BackingRecord → D → List FileUse → Type 0
 OpensBacking w files (file path writable) device files' = OpensFile w files path writable device files'
+OpensBacking w files (part path writable at) device files' = OpensPartOf w files path writable (device_part at) device files'
 OpensBacking w files (zeros n) device files' = MakesMemory w (zeros_image n) device × (files' ≡ files)
 OpensBacking w files (ramp n) device files' = MakesMemory w (ramp_image n) device × (files' ≡ files)
 
@@ -48,9 +63,10 @@ pub record AreBound {S D : Type 0} (w : Calls S D) (files : List FileUse) (bindi
   pub opened : OpensEach w files (backings_of bindings) devices files'
   pub served : ServeLeaves leaves (map w.state devices)
 
--- the image behind a name is given back under its path
+-- the image behind a name, or the part of one, is given back under its path
 abbrev pub ClosesBacking : {S D : Type 0} → Calls S D → BackingRecord → D → Type 0
 ClosesBacking w (file path writable) device = w.relations.takes w.old path device w.new
+ClosesBacking w (part path writable at) device = w.relations.takes_part w.old path (device_part at) device w.new
 ClosesBacking w (zeros n) device = w.new ≡ w.old
 ClosesBacking w (ramp n) device = w.new ≡ w.old
 

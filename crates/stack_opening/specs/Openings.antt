@@ -1,15 +1,23 @@
 -- How a command ends where what it names isn't opened or read.
 use Rattle.std.specs.Prelude.{◌≡◌, ◌⊎◌, ℕ, ◌+◌, ◌*◌, ◌^◌, ◌<◌, ◌≤◌, Bool, List, [], ◌∷◌, ◌++◌, length}
-use Rattle.command_line.specs.Bindings.{BackingRecord, BindingRecord, file, ramp, zeros}
+use Rattle.command_line.specs.Bindings.{BackingRecord, BindingRecord, file, part, ramp, zeros}
 use Rattle.image_files.specs.Apart.{RefusesApart}
 use Rattle.image_files.specs.declared.file_use.FileUse.{FileUse}
 use Rattle.image_files.specs.declared.images.FileText.{FileText}
 use Rattle.image_files.specs.declared.opening.UnopenedFile.{UnopenedFile}
 use Rattle.image_files.specs.Opened.{RefusesText, Tells}
+use Rattle.image_files.specs.declared.parts.UnopenedPart.{UnopenedPart}
+use Rattle.image_files.specs.declared.parts.UnopenedPart.TheVariants as unopened_part
 use Rattle.image_files.specs.Opener.{Calls}
+use Rattle.image_files.specs.OpenParts.{RefusesPart}
 use Rattle.stack_opening.specs.declared.fault.OpeningFault.{OpeningFault}
-use Rattle.stack_opening.specs.declared.fault.OpeningFault.TheVariants.{NoMemory, Open, TooLong}
-use Rattle.stack_opening.specs.Bindings.{OpensBacking, OpensEach, backings_of}
+use Rattle.stack_opening.specs.declared.fault.OpeningFault.TheVariants.{NoMemory, Open, Outside, TooLong}
+use Rattle.stack_opening.specs.Bindings.{OpensBacking, OpensEach, backings_of, device_part}
+
+-- a part of a file that isn't opened
+abbrev pub part_ending : UnopenedPart → OpeningFault
+part_ending (unopened_part.File unopened) = Open unopened
+part_ending (unopened_part.Outside path) = Outside path
 
 -- a file isn't opened or told, as is said of it
 abbrev pub IsUnopened : (UnopenedFile → Type 0) → OpeningFault → Type 0
@@ -40,24 +48,29 @@ most_source = 2049 * 512
 abbrev pub IsIdle : {S D : Type 0} → Calls S D → Type 0
 IsIdle w = w.new ≡ w.old
 
--- what stands behind a name isn't opened, or memory ran out before or behind it
+-- the image behind a name, or the part of one, isn't opened
+abbrev pub RefusesBacking : {S D : Type 0} → Calls S D → List FileUse → BackingRecord → OpeningFault → Type 0
+RefusesBacking w files (file path writable) (Open unopened) = RefusesApart w files path writable unopened
+RefusesBacking w files (part path writable at) (Open unopened) = RefusesPart w files path writable (device_part at) (unopened_part.File unopened)
+RefusesBacking w files (part path writable at) (Outside of) = RefusesPart w files path writable (device_part at) (unopened_part.Outside of)
+RefusesBacking w files backing fault = ⊥
+
+-- that, or memory ran out before or behind it
 abbrev pub IsBackingEnd : {S D : Type 0} → Calls S D → List FileUse → BackingRecord → OpeningFault → Type 0
 IsBackingEnd {S} {D} w files backing NoMemory = IsIdle w ⊎ ((device : D) × (files' : List FileUse) × OpensBacking w files backing device files')
-IsBackingEnd w files (file path writable) (Open unopened) = RefusesApart w files path writable unopened
-IsBackingEnd w files backing fault = ⊥
+IsBackingEnd w files backing fault = RefusesBacking w files backing fault
 
 -- the first of them were opened, and the image behind them wasn't
-pub record RefusesBinding {S D : Type 0} (w : Calls S D) (files : List FileUse) (backings : List BackingRecord) (unopened : UnopenedFile) : Type 0 where
+pub record RefusesBinding {S D : Type 0} (w : Calls S D) (files : List FileUse) (backings : List BackingRecord) (fault : OpeningFault) : Type 0 where
   pub first : List BackingRecord
-  pub path : List ℕ
-  pub writable : Bool
+  pub backing : BackingRecord
   pub more : List BackingRecord
   pub devices : List D
   pub files' : List FileUse
   pub between : S
-  pub are : backings ≡ first ++ file path writable ∷ more
+  pub are : backings ≡ first ++ backing ∷ more
   pub opened : OpensEach (record w { new = between }) files first devices files'
-  pub refused : RefusesApart (record w { old = between }) files' path writable unopened
+  pub refused : RefusesBacking (record w { old = between }) files' backing fault
 
 -- the first of them were opened, and then memory ran out
 pub record RunsOut {S D : Type 0} (w : Calls S D) (files : List FileUse) (backings : List BackingRecord) : Type 0 where
@@ -70,6 +83,5 @@ pub record RunsOut {S D : Type 0} (w : Calls S D) (files : List FileUse) (backin
 
 -- the images of some bindings aren't all opened
 abbrev pub IsBindingEnd : {S D : Type 0} → Calls S D → List FileUse → List BindingRecord → OpeningFault → Type 0
-IsBindingEnd w files bindings (Open unopened) = RefusesBinding w files (backings_of bindings) unopened
 IsBindingEnd w files bindings NoMemory = RunsOut w files (backings_of bindings)
-IsBindingEnd w files bindings fault = ⊥
+IsBindingEnd w files bindings fault = RefusesBinding w files (backings_of bindings) fault

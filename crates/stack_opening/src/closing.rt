@@ -4,6 +4,7 @@ ghost use Rattle.command_line.specs.Bindings.{backing_record, binding_record};
 ghost use Rattle.image_files.specs.Opener.{calls};
 ghost use Rattle.stack_opening.specs.Bindings.{ClosesBacking, ClosesEach, backings_of};
 
+use crate::part::device_part;
 use block_device::BlockDev;
 use command_line::{Backing, Binding};
 use image_files::Images;
@@ -14,6 +15,11 @@ fn close_backing<I: Images>(images: &mut I, backing: Backing<'_>, device: I::Dev
 {
     match backing {
         Backing::File { path, writable: _ } => images.close(path, device),
+        Backing::Part {
+            path,
+            writable: _,
+            part,
+        } => images.close_part(path, device_part(part), device),
         Backing::Zeros(_) | Backing::Ramp(_) => drop(device),
     }
 }

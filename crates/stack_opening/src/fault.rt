@@ -1,8 +1,9 @@
 //! Why what a command names isn't opened.
 ghost use Rattle.std.specs.Prelude.{◌≡◌};
 ghost use Rattle.stack_opening.specs.declared.fault.OpeningFault.TheVariants as opening_fault;
+ghost use Rattle.stack_opening.specs.Openings.{part_ending};
 
-use image_files::UnopenedFile;
+use image_files::{UnopenedFile, UnopenedPart};
 use std::alloc::{AllocError, AllocFailed};
 
 /// Why what a command names isn't opened.
@@ -14,6 +15,8 @@ pub enum OpeningFault<'a> {
     TooLong,
     /// A file isn't opened, or can't be read.
     Open(UnopenedFile<'a>),
+    /// A binding's part isn't inside the file under this path.
+    Outside(&'a str),
 }
 
 impl From<AllocError> for OpeningFault<'_> {
@@ -37,5 +40,16 @@ impl<'a> From<UnopenedFile<'a>> for OpeningFault<'a> {
 
     fn from(file: UnopenedFile<'a>) -> Self {
         OpeningFault::Open(file)
+    }
+}
+
+impl<'a> From<UnopenedPart<'a>> for OpeningFault<'a> {
+    ghost from_gives = { λ unopened given. given ≡ part_ending unopened };
+
+    fn from(unopened: UnopenedPart<'a>) -> Self {
+        match unopened {
+            UnopenedPart::File(file) => OpeningFault::Open(file),
+            UnopenedPart::Outside(path) => OpeningFault::Outside(path),
+        }
     }
 }

@@ -7,9 +7,10 @@ ghost use Rattle.stack_opening.specs.Bindings.{AreBound, OpensBacking};
 ghost use Rattle.stack_opening.specs.Openings.{IsBackingEnd, IsBindingEnd};
 
 use crate::fault::OpeningFault;
+use crate::part::device_part;
 use block_device::{BlockDev, MemoryDev};
 use command_line::{Backing, Binding};
-use image_files::{FileUse, Images, open_apart};
+use image_files::{FileUse, Images, open_apart, open_part};
 use stack_config::Leaf;
 use std::alloc::{AllocError, Global};
 
@@ -49,8 +50,8 @@ impl<D: BlockDev + Drop> OpenLeaves<D> {
     }
 }
 
-// Opens the image of a binding, or makes its sectors. A file that is open already is refused where one of the two may be
-// written: the engine takes leaves for devices of their own.
+// Opens the image of a binding, or a part of one, or makes its sectors. A sector that is open already is refused where one
+// of the two may be written: the engine takes leaves for devices of their own.
 fn open_backing<'a, I: Images>(
     alloc: Global,
     images: &mut I,
@@ -64,7 +65,23 @@ fn open_backing<'a, I: Images>(
         Backing::File { path, writable } => {
             let image = open_apart(images, files.as_slice(), path, writable)?;
             let id = image.id;
-            files.push(FileUse { id, writable })?;
+            files.push(FileUse {
+                id,
+                writable,
+                part: None,
+            })?;
+            Ok(image.device)
+        }
+        Backing::Part {
+            path,
+            writable,
+            part,
+        } => {
+            let part = device_part(part);
+            let image = open_part(images, files.as_slice(), path, writable, part)?;
+            let id = image.id;
+            let part = Some(part);
+            files.push(FileUse { id, writable, part })?;
             Ok(image.device)
         }
         Backing::Zeros(sectors) => Ok(I::of_memory(MemoryDev::zeros(alloc, sectors, true)?)),

@@ -4,6 +4,7 @@
 mod closing;
 mod fault;
 mod leaves;
+mod part;
 mod source;
 mod stack_file;
 

@@ -35,6 +35,7 @@ fn text_use(text: &FileText) -> FileUse
     FileUse {
         id: text.id,
         writable: false,
+        part: None,
     }
 }
 
@@ -99,6 +100,7 @@ pub fn open_with_output<'a, I: Images>(
     let output = FileUse {
         id: image.id,
         writable: true,
+        part: None,
     };
     let files = [text_use(&text), output];
     let OpenLeaves { leaves, devices } = open_all(alloc, images, &files, file.bindings)?;

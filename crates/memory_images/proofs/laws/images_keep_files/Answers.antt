@@ -1,6 +1,9 @@
 use Rattle.std.proofs.Common.{ap}
 use Rattle.memory_images.specs.Files.{file_under}
-use Rattle.memory_images.proofs.FileLemmas.{copy-opened, image-taken, others-kept, text-told}
+use Rattle.memory_images.specs.Parts.{grown, with_part}
+use Rattle.block_device.specs.Memory.{memory_bytes}
+use Rattle.memory_images.proofs.FileLemmas.{copy-opened, image-taken, others-kept, others-unchanged, text-told}
+use Rattle.memory_images.proofs.PartLemmas.{image-grown, part-opened, part-taken}
 use Rattle.memory_images.proofs.laws.images_keep_files.Goals as goal
 
 pub returns : goal.returns
@@ -12,4 +15,11 @@ returns c = record {
   told = λ old new path most text is. text-told old path most text is.1;
   taken = image-taken;
   kept_taking = others-kept;
+  kept_opening_part = λ old new path writable part outcome is. ap file_under is.0;
+  opened_part = λ old new path writable part image is. part-opened old path writable part image is.1;
+  steady_part = λ old new path writable part image is. ap (λ d. d.steady) is.1.is;
+  taken_part = part-taken;
+  kept_taking_part = λ old new path other part device file another is. others-unchanged old new path other (λ image. with_part image part (memory_bytes device)) file another is;
+  grown = image-grown;
+  kept_growing = λ old new path other sectors file another is. others-unchanged old new path other (λ image. grown image sectors) file another is;
 }

@@ -1,0 +1,102 @@
+//! A device of which only what differs is written.
+ghost use Rattle.std.specs.Prelude.{◌≡◌, ◌/◌, false, length, is_ok, IsOk, IsTrue, OnErr, OnOk};
+ghost use Rattle.block_device.specs.Device.{HasFailed, IsInside, IsUnsynced, IsWritten, sectors_of, spliced, synced};
+ghost use Rattle.block_device.specs.Failing.{IsInnerSync};
+ghost use Rattle.differing_device.specs.Differing.{IsPut, differing, stands};
+
+use crate::put::put_blocks;
+use block_device::{BlockDev, DeviceFault, SyncDev};
+
+/// Before a block of 4,096 bytes is written it is read, and what stands there already isn't written again. So what is
+/// sparse stays so, and the same bytes written twice are written once. It counts what it is asked for, and its device
+/// what it does.
+#[derive(Drop)]
+pub struct Differing<D> {
+    /// The device that is compared with.
+    pub inner: D,
+    /// What was asked for, in sectors.
+    pub reads: u64,
+    pub writes: u64,
+    /// A write was asked for since the last sync that ended well.
+    pub dirty: bool,
+}
+
+impl<D> Differing<D> {
+    /// Nothing was asked for so far.
+    pub fn new(inner: D) -> Differing<D>
+        ensures { result ≡ record { inner = inner; reads = 0; writes = 0; dirty = false } }
+    {
+        Differing {
+            inner,
+            reads: 0,
+            writes: 0,
+            dirty: false,
+        }
+    }
+}
+
+impl<D: BlockDev> BlockDev for Differing<D> {
+    ghost state = { λ d. differing (D.state d.inner) d.reads d.writes d.dirty };
+
+    ghost whole = { λ d. record { length = (D.whole d.inner).length; sectors = (D.whole d.inner).sectors } };
+
+    fn sectors(&self) -> u64 {
+        self.inner.sectors()
+    }
+
+    fn writable(&self) -> bool {
+        self.inner.writable()
+    }
+
+    fn read(&mut self, first: u64, out: &mut [u8]) -> Result<(), DeviceFault> {
+        self.reads = self.reads.saturating_add(out.len() as u64 / 512);
+        self.inner.read(first, out)
+    }
+
+    fn write(&mut self, first: u64, bytes: &[u8]) -> Result<(), DeviceFault>
+        requires range { IsInside (⟦<Differing<D> as BlockDev>⟧.state self.old) first (length bytes.now) }
+        requires allowed { IsTrue (⟦<Differing<D> as BlockDev>⟧.state self.old).may_write }
+        ensures moved { IsWritten (⟦<Differing<D> as BlockDev>⟧.state self.old) first (length bytes.now / 512) (is_ok result) (⟦<Differing<D> as BlockDev>⟧.state self.new) }
+        ensures image { OnOk result (IsTrue (⟦<Differing<D> as BlockDev>⟧.state self.old).steady → (⟦<Differing<D> as BlockDev>⟧.state self.new).image ≡ spliced (⟦<Differing<D> as BlockDev>⟧.state self.old).image first (sectors_of (length bytes.now / 512) bytes.now)) }
+        ensures sure { IsTrue (⟦<Differing<D> as BlockDev>⟧.state self.old).never_fails → IsOk result }
+        ensures fault { OnErr result (HasFailed (⟦<Differing<D> as BlockDev>⟧.state self.old) (⟦<Differing<D> as BlockDev>⟧.state self.new)) }
+
+        // What stands there already isn't written again.
+        ensures same { OnOk result (IsTrue (D.state self.old.inner).steady → stands (D.state self.old.inner).image first (sectors_of (length bytes.now / 512) bytes.now) → (D.state self.new.inner).writes ≡ (D.state self.old.inner).writes) }
+    {
+        self.writes = self.writes.saturating_add(bytes.len() as u64 / 512);
+        self.dirty = true;
+        put_blocks(&mut self.inner, first, bytes)
+    }
+
+    fn reads(&self) -> u64 {
+        self.reads
+    }
+
+    fn writes(&self) -> u64 {
+        self.writes
+    }
+
+    fn failures(&self) -> u64 {
+        self.inner.failures()
+    }
+}
+
+impl<D: SyncDev> SyncDev for Differing<D> {
+    fn is_dirty(&self) -> bool {
+        self.dirty
+    }
+
+    fn sync(&mut self) -> Result<(), DeviceFault>
+        ensures ok { OnOk result (⟦<Differing<D> as BlockDev>⟧.state self.new ≡ synced (⟦<Differing<D> as BlockDev>⟧.state self.old)) }
+        ensures err { OnErr result (IsUnsynced (⟦<Differing<D> as BlockDev>⟧.state self.old) (⟦<Differing<D> as BlockDev>⟧.state self.new)) }
+        ensures sure { IsTrue (⟦<Differing<D> as BlockDev>⟧.state self.old).never_fails → IsOk result }
+
+        // It is one of the device that is compared with.
+        ensures inner { IsInnerSync (D.state self.old.inner) (is_ok result) (D.state self.new.inner) }
+    {
+        self.inner.sync()?;
+        self.dirty = false;
+        Ok(())
+    }
+}
