@@ -1,5 +1,5 @@
 -- Windows of devices that are the same.
-use Rattle.std.proofs.Common.{◌≡◌, ℕ, List, ap, subst, ◌∙◌}
+use Rattle.std.proofs.Common.{◌≡◌, ap, subst, ◌∙◌}
 use Rattle.block_device.specs.Device.{Device}
 use Rattle.device_window.specs.declared.part.Part.{Part}
 use Rattle.device_window.specs.Windows.{windowed}

@@ -1,5 +1,5 @@
 -- Values that are given or drawn from a generator.
-use Rattle.std.specs.Prelude.{◌≡◌, ◌⊎◌, ℕ, List, Option, Some, None, Result, Ok, Err, unwrap_or}
+use Rattle.std.specs.Prelude.{◌≡◌, ◌⊎◌, ℕ, List, Some, None, Result, Ok, Err, unwrap_or}
 use Rattle.rand_core.specs.Stream.{Stream, fill_bytes}
 use Rattle.uuid.specs.Parts.{v4_of_fill}
 use Rattle.verity_format.specs.declared.formatting.FormatOptions.{FormatOptions}

@@ -9,3 +9,6 @@ pub mod PlacedLines
 pub mod Places
 pub mod RootFiles
 pub mod SuperblockTexts
+pub mod TreePlaces
+pub mod TreeFormats
+pub mod TreeImages

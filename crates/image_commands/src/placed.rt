@@ -111,8 +111,11 @@ fn say_named_line<W: Write>(
     say_placed_line(writer, superblock, words, first)
 }
 
-// What makes the line a whole entry, where there is a name.
-fn say_head<W: Write>(writer: &mut Counted<W>, name: Option<&str>) -> Result<(), WriteFault>
+/// What makes the line a whole entry, where there is a name.
+pub(crate) fn say_head<W: Write>(
+    writer: &mut Counted<W>,
+    name: Option<&str>,
+) -> Result<(), WriteFault>
     ensures { Writes W.contents writer.old writer.new (entry_head name.entry) result }
 {
     match name {

@@ -1,18 +1,18 @@
 //! The printed table line of a hash image that begins behind a sector of its file.
 ghost use Rattle.std.specs.Prelude.{◌≡◌, ◌≤◌, length};
 ghost use Rattle.counted_io.specs.Counted.{Writes};
-ghost use Rattle.image_commands.specs.PlacedLines.{block_words, digest_words, name_words, placed_line, range_words};
+ghost use Rattle.image_commands.specs.PlacedLines.{block_words, digest_words, line_from, name_words, placed_line, range_words, tree_line};
 ghost use Rattle.verity_format.specs.Line.{salt_word};
 
 use crate::places::start_behind;
 use crate::superblock_text::say_hex;
 use crate::table::LineWords;
+use crate::tree_place::start_at;
 use counted_io::{Counted, WriteFault};
 use std::io::Write;
 use verity_format::{Superblock, data_sectors};
 
-/// The line and a newline.
-#[tactic(auto, unfolding(crate::specs::PlacedLines::placed_line))]
+/// The line of a tree behind a superblock at that sector, and a newline.
 pub(crate) fn say_placed_line<W: Write>(
     writer: &mut Counted<W>,
     superblock: &Superblock,
@@ -20,6 +20,33 @@ pub(crate) fn say_placed_line<W: Write>(
     first: u64,
 ) -> Result<(), WriteFault>
     ensures { Writes W.contents writer.old writer.new (placed_line superblock.now words.entry first) result }
+{
+    let start = start_behind(first, superblock.hash_block());
+    say_line(writer, superblock, words, start)
+}
+
+/// The line of a tree at that sector, and a newline.
+pub(crate) fn say_tree_line<W: Write>(
+    writer: &mut Counted<W>,
+    superblock: &Superblock,
+    words: LineWords<'_>,
+    first: u64,
+) -> Result<(), WriteFault>
+    ensures { Writes W.contents writer.old writer.new (tree_line superblock.now words.entry first) result }
+{
+    let start = start_at(first, superblock.hash_block());
+    say_line(writer, superblock, words, start)
+}
+
+// The line of a tree that begins at that hash block.
+#[tactic(auto, unfolding(crate::specs::PlacedLines::line_from))]
+fn say_line<W: Write>(
+    writer: &mut Counted<W>,
+    superblock: &Superblock,
+    words: LineWords<'_>,
+    start: u128,
+) -> Result<(), WriteFault>
+    ensures { Writes W.contents writer.old writer.new (line_from superblock.now words.entry start) result }
 {
     let LineWords {
         root,
@@ -29,7 +56,7 @@ pub(crate) fn say_placed_line<W: Write>(
     let salt = superblock.salt();
     say_range(writer, superblock)?;
     say_names(writer, data_name, hash_name)?;
-    say_blocks(writer, superblock, first)?;
+    say_blocks(writer, superblock, start)?;
     say_digests(writer, root.as_bytes(), salt.bytes())
 }
 
@@ -62,14 +89,13 @@ fn say_names<W: Write>(
 fn say_blocks<W: Write>(
     writer: &mut Counted<W>,
     superblock: &Superblock,
-    first: u64,
+    start: u128,
 ) -> Result<(), WriteFault>
-    ensures { Writes W.contents writer.old writer.new (block_words superblock.now first) result }
+    ensures { Writes W.contents writer.old writer.new (block_words superblock.now start) result }
 {
     let data_block = superblock.data_block();
     let hash_block = superblock.hash_block();
     let blocks = superblock.blocks();
-    let start = start_behind(first, hash_block);
     writer.print(format_args!("{data_block} "))?;
     writer.print(format_args!("{hash_block} "))?;
     writer.print(format_args!("{blocks} "))?;

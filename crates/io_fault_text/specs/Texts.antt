@@ -1,4 +1,4 @@
--- The texts of the faults of a read or a write.
+-- The texts of the faults of a read or a write, and of refusals.
 use Rattle.std.specs.Prelude.{ℕ, List, ◌++◌, codes, decimal}
 use Rattle.stack_meaning.specs.declared.fault.IoFault.{IoFault}
 use Rattle.stack_meaning.specs.declared.fault.IoFault.TheVariants as io
@@ -7,9 +7,17 @@ use Rattle.stack_meaning.specs.IoFaults.{io_number, io_name}
 abbrev pub no_memory : List ℕ
 no_memory = codes "no memory\n"
 
+-- words or a line that are no command
+abbrev pub usage_text : List ℕ
+usage_text = codes "usage\n"
+
 -- number and name, and then a rest
 abbrev pub kind_then : ℕ → List ℕ → List ℕ → List ℕ
 kind_then number name rest = decimal number ++ (codes " " ++ (name ++ rest))
+
+-- what is refused, with a number and a name
+abbrev pub refused_text : ℕ → List ℕ → List ℕ
+refused_text number name = codes "refused " ++ kind_then number name (codes "\n")
 
 -- a fault's number and name, and of a device the leaf's number
 abbrev pub io_words : IoFault → List ℕ

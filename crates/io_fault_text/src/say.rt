@@ -1,6 +1,6 @@
 //! Writes faults.
 ghost use Rattle.counted_io.specs.Counted.{Writes};
-ghost use Rattle.io_fault_text.specs.Texts.{io_text, io_words, no_memory};
+ghost use Rattle.io_fault_text.specs.Texts.{io_text, io_words, no_memory, refused_text, usage_text};
 
 use counted_io::{Counted, WriteFault};
 use stack_meaning::IoFault;
@@ -11,6 +11,24 @@ pub fn say_no_memory<W: Write>(writer: &mut Counted<W>) -> Result<(), WriteFault
     ensures { Writes W.contents writer.old writer.new no_memory result }
 {
     writer.put(b"no memory\n")
+}
+
+/// `usage`
+pub fn say_usage<W: Write>(writer: &mut Counted<W>) -> Result<(), WriteFault>
+    ensures { Writes W.contents writer.old writer.new usage_text result }
+{
+    writer.put(b"usage\n")
+}
+
+/// `refused K NAME`
+pub fn say_refused<W: Write>(
+    writer: &mut Counted<W>,
+    number: u8,
+    name: &str,
+) -> Result<(), WriteFault>
+    ensures { Writes W.contents writer.old writer.new (refused_text number name.now) result }
+{
+    writer.print(format_args!("refused {number} {name}\n"))
 }
 
 /// `fault K NAME`, and for a device its number; or `no memory`.

@@ -9,6 +9,7 @@ use Rattle.stack_rules.specs.declared.refusal.Refusal.{Refusal}
 use Rattle.stack_rules.specs.declared.refusal.RemoveFault.{RemoveFault}
 use Rattle.stack_meaning.specs.declared.fault.IoFault.{IoFault}
 use Rattle.io_fault_text.specs.Texts.{io_text, kind_then, no_memory}
+pub use Rattle.io_fault_text.specs.Texts.{refused_text, usage_text}
 use Rattle.dm_table.specs.TextKinds.{text_number, text_name}
 use Rattle.stack_rules.specs.FaultKinds.{load_number, load_name, removal_number, removal_name}
 use Rattle.request_queue.specs.declared.fault.Held.{Held}
@@ -22,9 +23,6 @@ use Rattle.request_queue.specs.declared.reply.Reply.{Reply}
 use Rattle.request_queue.specs.declared.reply.Reply.TheVariants.{Sectors, Written}
 use Rattle.request_queue.specs.SubmitFaults.{submit_number, submit_name}
 
-abbrev pub usage_text : List ℕ
-usage_text = codes "usage\n"
-
 -- sector n: one byte where all its bytes are equal, else all digits
 unfoldable pub sector_line : ℕ → List ℕ → List ℕ
 sector_line n bytes =
@@ -35,10 +33,6 @@ sector_line n bytes =
 abbrev pub sector_lines : ℕ → ℕ → List ℕ → List ℕ
 sector_lines zero n bytes = []
 sector_lines (suc count) n bytes = sector_line n (take 512 bytes) ++ sector_lines count (n + 1) (drop 512 bytes)
-
--- what is refused, with a number and a name
-abbrev pub refused_text : ℕ → List ℕ → List ℕ
-refused_text number name = codes "refused " ++ kind_then number name (codes "\n")
 
 -- ---- loads and removals
 

@@ -2,25 +2,18 @@
 ghost use Rattle.std.specs.Prelude.{◌≡◌, ◌+◌, ◌*◌, ◌/◌, ◌%◌, ◌<◌, decimal, ◌^◌, ◌==◌, ◌++◌, codes, length, slice_index};
 ghost use Rattle.std.specs.List.{list_all};
 ghost use Rattle.counted_io.specs.Counted.{Writes};
-ghost use Rattle.stack_session.specs.Texts.{usage_text, busy_text, loaded_text, fault_text, refusal_text, refused_text, removed_text, removal_text, ticket_text, more_text, no_ticket_text, written_text, submit_text, reply_text, sector_line, sector_lines, moved_text};
+ghost use Rattle.stack_session.specs.Texts.{busy_text, loaded_text, fault_text, refusal_text, removed_text, removal_text, ticket_text, more_text, no_ticket_text, written_text, submit_text, reply_text, sector_line, sector_lines, moved_text};
 ghost use Rattle.stack_session.specs.Replies.{cost_of};
 
 use counted_io::{Counted, WriteFault};
 use dm_table::TextFault;
-use io_fault_text::say_no_memory;
+use io_fault_text::{say_no_memory, say_refused};
 use request_queue::{Reply, SubmitFault, Ticket};
 use stack_config::{Config, DevId};
 use stack_loader::{Refusal, RemoveFault};
 use std::io::Write;
 
 const SECTOR: usize = 512;
-
-/// `usage`
-pub fn say_usage<W: Write>(writer: &mut Counted<W>) -> Result<(), WriteFault>
-    ensures { Writes W.contents writer.old writer.new usage_text result }
-{
-    writer.put(b"usage\n")
-}
 
 /// `loaded K`
 pub fn say_loaded<W: Write>(writer: &mut Counted<W>, count: usize) -> Result<(), WriteFault>
@@ -74,17 +67,6 @@ pub fn say_no_ticket<W: Write>(writer: &mut Counted<W>) -> Result<(), WriteFault
     ensures { Writes W.contents writer.old writer.new no_ticket_text result }
 {
     writer.put(b"refused 1 NoSuchTicket\n")
-}
-
-/// `refused K NAME`
-pub fn say_refused<W: Write>(
-    writer: &mut Counted<W>,
-    number: u8,
-    name: &str,
-) -> Result<(), WriteFault>
-    ensures { Writes W.contents writer.old writer.new (refused_text number name.now) result }
-{
-    writer.print(format_args!("refused {number} {name}\n"))
 }
 
 /// `refused K NAME`, or `no memory`.

@@ -14,12 +14,11 @@ use crate::lines::{LIMIT, LineServer, serve_lines};
 use crate::reply::{
     say_busy, say_cost, say_loaded, say_more, say_moved, say_no_ticket, say_refusal,
     say_removal_fault, say_removed, say_reply, say_submit_fault, say_text_fault, say_ticket,
-    say_usage,
 };
 use block_device::BlockDev;
 use counted_io::{Counted, WriteFault};
 use dm_table::ParseFault;
-use io_fault_text::{say_io_fault, say_no_memory};
+use io_fault_text::{say_io_fault, say_no_memory, say_usage};
 use request_queue::{Held, NoSuchTicket, Progress, Queue, RunFault, SubmitFault, Ticket};
 use stack_loader::LoadFault;
 use std::alloc::Global;

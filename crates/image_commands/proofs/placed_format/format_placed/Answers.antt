@@ -1,4 +1,4 @@
-use Rattle.std.proofs.Common.{◌≡◌, ℕ, Result, inl, inr, refl, subst}
+use Rattle.std.proofs.Common.{ℕ, Result, inl, inr, refl, subst}
 use Rattle.std.specs.Prelude.{IfErr, IfOk}
 use Rattle.verity_format.specs.declared.formatting.FormatFault.{FormatFault}
 use Rattle.image_commands.specs.declared.format.MadeImage.{MadeImage}

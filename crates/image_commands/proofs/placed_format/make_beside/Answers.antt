@@ -1,4 +1,4 @@
-use Rattle.std.proofs.Common.{◌≡◌, ap, subst, sym}
+use Rattle.std.proofs.Common.{ap, subst, sym}
 use Rattle.std.proofs.lemmas.Result.{IfErr-weaker, IfOk-weaker}
 use Rattle.device_window.specs.declared.part.Part.{Part}
 use Rattle.device_window.specs.Parts.{StandOutside, outside_of, part_before, part_behind}

@@ -1,0 +1,126 @@
+-- What `format --no-superblock` makes and prints, and how it ends early.
+use Rattle.std.specs.Prelude.{◌≡◌, ◌⊎◌, ℕ, Bool, false, true, min, IsTrue, List, ◌++◌, drop, Option, None, Result, Ok, Err}
+use Rattle.std.specs.Io.KnownBytes.{Appends}
+use Rattle.block_device.specs.Device.{Device, IsUnsynced, spliced, synced}
+use Rattle.bare_tree.specs.BareTrees.{IsBareCause, IsBareMade, area_sectors, bare_refusal, tree_over}
+use Rattle.device_window.specs.Parts.{StandOutside, outside_of}
+use Rattle.device_window.specs.Windows.{windowed}
+use Rattle.verity_format.specs.declared.formatting.FormatFault.{FormatFault}
+use Rattle.verity_format.specs.declared.formatting.FormatFault.TheVariants.{Device as DeviceFailed}
+use Rattle.verity_format.specs.declared.formatting.FormatOptions.{FormatOptions}
+use Rattle.verity_format.specs.Blocks.{IsFullRead}
+use Rattle.verity_format.specs.Image.{data_sectors, root_over}
+use Rattle.verity_format.specs.Options.{superblock_with}
+use Rattle.verity_format.specs.Superblock.{SuperRecord, shape_of}
+use Rattle.command_line.specs.declared.image_options.ImageOptions.{ImageOptions}
+use Rattle.image_files.specs.Opener.{Calls}
+use Rattle.image_commands.specs.declared.fault.ImageFault.{ImageFault}
+use Rattle.image_commands.specs.declared.fault.ImageFault.TheVariants.{Format}
+use Rattle.image_commands.specs.declared.format.MadeImage.{MadeImage}
+use Rattle.image_commands.specs.declared.paths.TwoImages.{TwoImages}
+use Rattle.image_commands.specs.Drawing.{AreGiven, Drawing}
+use Rattle.image_commands.specs.Endings.{IsUnwritten}
+use Rattle.image_commands.specs.PlacedFormats.{EndsUnaligned, EndsUndrawnPlaced, EndsUnopenedPlaced}
+use Rattle.image_commands.specs.Places.{OpensPlaced, TwoPlaces, before, data_end, is_aligned}
+use Rattle.image_commands.specs.SuperblockTexts.{blocks_text, root_text, salt_text}
+use Rattle.image_commands.specs.TreePlaces.{HasNoShape, tree_part, tree_place, unnamed}
+
+-- a tree's root digest, salt and number of data blocks
+unfoldable pub tree_text : MadeImage → List ℕ
+tree_text made = root_text made.root ++ (salt_text made.salt ++ blocks_text made.blocks)
+
+-- No refusal applied and no call failed. Over steady devices the tree over the data stands in the hash image from that
+-- sector on, every other sector is as it was, and that is its root. What was written was put on the medium.
+pub record IsTreeMade (s : SuperRecord) (data_dev hash_dev : Device) (first : ℕ) (hash_dev' : Device) (made : MadeImage) : Type 0 where
+  pub data_dev' : Device
+  pub fit : bare_refusal s data_dev (tree_place hash_dev first) ≡ None
+  pub read : IsFullRead data_dev (data_sectors (shape_of s)) data_dev'
+  pub image : IsTrue data_dev.steady → IsTrue hash_dev.steady → hash_dev'.image ≡ spliced hash_dev.image (min first hash_dev.size) (tree_over s data_dev.image)
+  pub clean : hash_dev'.dirty ≡ false
+  pub root : IsTrue data_dev.steady → made.root ≡ root_over (shape_of s) s.salt data_dev.image
+  pub salt : made.salt ≡ s.salt
+  pub blocks : made.blocks ≡ s.blocks
+
+-- whatever came of it, over a steady device only the sectors of the tree changed
+pub record IsTreeKept (s : SuperRecord) (hash_dev : Device) (first : ℕ) (hash_dev' : Device) : Type 0 where
+  pub outside : StandOutside hash_dev' (tree_part hash_dev first) (outside_of hash_dev.image (tree_part hash_dev first))
+  pub behind : IsTrue hash_dev.steady → drop (area_sectors s) (windowed hash_dev' (tree_part hash_dev first)).image ≡ drop (area_sectors s) (tree_place hash_dev first).image
+
+-- a tree that was made was put on the medium, and that is what is printed of it
+pub record IsFinished (s : SuperRecord) (root : Result (List ℕ) FormatFault) (old new : Device) (made : MadeImage) : Type 0 where
+  pub root_is : root ≡ Ok made.root
+  pub is_synced : new ≡ synced old
+  pub salt : made.salt ≡ s.salt
+  pub blocks : made.blocks ≡ s.blocks
+
+-- a tree that was made couldn't be put on the medium
+pub record IsLeftDirty (root : Result (List ℕ) FormatFault) (old new : Device) (fault : FormatFault) : Type 0 where
+  pub made : List ℕ
+  pub root_is : root ≡ Ok made
+  pub unsynced : IsUnsynced old new
+  pub is : fault ≡ DeviceFailed
+
+-- none was made, or it couldn't be put on the medium
+abbrev pub IsUnfinished : Result (List ℕ) FormatFault → Device → Device → FormatFault → Type 0
+IsUnfinished root old new fault = ((root ≡ Err fault) × (new ≡ old)) ⊎ IsLeftDirty root old new fault
+
+-- the tree was made, but couldn't be put on the medium
+pub record IsTreeUnsynced (s : SuperRecord) (data_dev hash_dev data_dev' hash_dev' : Device) (fault : FormatFault) : Type 0 where
+  pub root : List ℕ
+  pub written : Device
+  pub made : IsBareMade s data_dev hash_dev data_dev' written root
+  pub unsynced : IsUnsynced written hash_dev'
+  pub is : fault ≡ DeviceFailed
+
+-- a refusal applied, it wasn't finished, or it wasn't synced
+abbrev pub IsTreeCause : SuperRecord → Device → Device → ℕ → Device → FormatFault → Type 0
+IsTreeCause s data_dev hash_dev first hash_dev' fault =
+    (data_dev' : Device) × (IsBareCause s data_dev (tree_place hash_dev first) data_dev' (windowed hash_dev' (tree_part hash_dev first)) fault
+    ⊎ IsTreeUnsynced s data_dev (tree_place hash_dev first) data_dev' (windowed hash_dev' (tree_part hash_dev first)) fault)
+
+-- there is no tree of that shape, and the hash device wasn't asked; or one of these
+abbrev pub IsTreeEnd : SuperRecord → Device → Device → ℕ → Device → FormatFault → Type 0
+IsTreeEnd s data_dev hash_dev first hash_dev' fault =
+    (HasNoShape s fault × (hash_dev' ≡ hash_dev)) ⊎ (IsTreeCause s data_dev hash_dev first hash_dev' fault × IsTreeKept s hash_dev first hash_dev')
+
+-- the data of two images
+abbrev pub data_of : {S D : Type 0} → Calls S D → TwoImages D → ℕ → Device
+data_of w two first = before (w.state two.data.device) (data_end two first)
+
+-- what the options say of a tree over some data
+abbrev pub tree_with : FormatOptions → Device → SuperRecord
+tree_with options data_dev = superblock_with options data_dev.size
+
+-- What was made of the two images, with the options as they are given or drawn. The hash image was synced and given back
+-- under its path.
+pub record MakesTree {S D T G : Type 0} (w : Calls S D) (d : Drawing T G) (options : ImageOptions) (places : TwoPlaces) (made : MadeImage) : Type 0 where
+  pub given : FormatOptions
+  pub two : TwoImages D
+  pub hash_dev' : D
+  pub between : S
+  pub aligned : is_aligned places.first options.hash_block ≡ true
+  pub opened : OpensPlaced (record w { new = between }) places two
+  pub are_given : AreGiven d (unnamed options) given
+  pub tree : IsTreeMade (tree_with given (data_of w two places.first)) (data_of w two places.first) (w.state two.hash.device) places.first (w.state hash_dev') made
+  pub closed : w.relations.takes between places.paths.hash_path hash_dev' w.new
+
+-- `format --no-superblock`: its root, salt and number of blocks
+abbrev pub PrintsTree : {S D T G : Type 0} → Calls S D → Drawing T G → ImageOptions → TwoPlaces → Option (List ℕ) → Option (List ℕ) → Type 0
+PrintsTree w d options places old new = (made : MadeImage) × MakesTree w d options places made × Appends old new (tree_text made)
+
+-- a tree of the two images isn't made
+pub record EndsTree {S D T G : Type 0} (w : Calls S D) (d : Drawing T G) (options : ImageOptions) (places : TwoPlaces) (fault : ImageFault) : Type 0 where
+  pub given : FormatOptions
+  pub two : TwoImages D
+  pub hash_dev' : D
+  pub cause : FormatFault
+  pub opened : OpensPlaced w places two
+  pub are_given : AreGiven d (unnamed options) given
+  pub ends : IsTreeEnd (tree_with given (data_of w two places.first)) (data_of w two places.first) (w.state two.hash.device) places.first (w.state hash_dev') cause
+  pub is : fault ≡ Format cause
+
+-- one of these, or the text of what was made can't be written
+abbrev pub IsFormatTreeEnd : {S D T G : Type 0} → Calls S D → Drawing T G → ImageOptions → TwoPlaces → Bool → ImageFault → Type 0
+IsFormatTreeEnd w d options places failed fault =
+    EndsUnaligned w d options places fault ⊎ (EndsUnopenedPlaced w d places fault ⊎ (EndsUndrawnPlaced w d (unnamed options) places fault ⊎ (EndsTree w d options places fault
+    ⊎ ((made : MadeImage) × MakesTree w d options places made × IsUnwritten failed fault))))

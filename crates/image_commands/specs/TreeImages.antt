@@ -1,0 +1,70 @@
+-- What `verify` and `table` say of a tree without a superblock, and how they end early.
+use Rattle.std.specs.Prelude.{◌≡◌, ◌≢◌, ◌⊎◌, ◌++◌, ℕ, Bool, false, true, List, codes, Option, None}
+use Rattle.std.specs.Borrow.{Bor}
+use Rattle.std.specs.Io.KnownBytes.{Appends}
+use Rattle.block_device.specs.Device.{Device}
+use Rattle.bare_tree.specs.BareTrees.{IsBareFound, IsBareVerifyCause}
+use Rattle.tree_shape.specs.Shape.{first_fault}
+use Rattle.verity_format.specs.declared.formatting.FormatOptions.{FormatOptions}
+use Rattle.verity_format.specs.declared.verifying.Verdict.TheVariants.{Matches}
+use Rattle.verity_format.specs.Options.{superblock_with}
+use Rattle.verity_format.specs.Superblock.{SuperRecord, shape_of}
+use Rattle.image_files.specs.Opener.{Calls}
+use Rattle.image_commands.specs.declared.fault.ImageFault.{ImageFault}
+use Rattle.image_commands.specs.declared.fault.ImageFault.TheVariants.{Differs, Format, Unaligned, Verify}
+use Rattle.image_commands.specs.declared.paths.TwoImages.{TwoImages}
+use Rattle.image_commands.specs.declared.table.LineWords.{LineWords}
+use Rattle.image_commands.specs.Endings.{IsUnopened, IsUnwritten}
+use Rattle.image_commands.specs.Openings.{FailsToOpenTwo, OpensTwo}
+use Rattle.image_commands.specs.PlacedLines.{entry_head, tree_line}
+use Rattle.image_commands.specs.Places.{TwoPlaces, is_aligned}
+use Rattle.image_commands.specs.TreeFormats.{data_of}
+use Rattle.image_commands.specs.TreePlaces.{HasNoShape, tree_place}
+
+-- the tree over the data stands at that sector of the hash device, and that is its root
+pub record MatchesTree (s : SuperRecord) (data_dev hash_dev : Device) (first : ℕ) (root : List ℕ) (old new : Option (List ℕ)) : Type 0 where
+  pub data_dev' : Device
+  pub found : IsBareFound s data_dev (tree_place hash_dev first) data_dev' root Matches
+  pub printed : Appends old new (codes "matches\n")
+
+-- no tree has that shape, the two weren't compared, they differ, or the line can't be written
+abbrev pub IsTreeComparisonEnd : SuperRecord → Device → Device → ℕ → List ℕ → Bool → ImageFault → Type 0
+IsTreeComparisonEnd s data_dev hash_dev first root failed (Format fault) = HasNoShape s fault
+IsTreeComparisonEnd s data_dev hash_dev first root failed (Verify fault) = (data_dev' : Device) × IsBareVerifyCause s data_dev (tree_place hash_dev first) data_dev' fault
+IsTreeComparisonEnd s data_dev hash_dev first root failed (Differs verdict) =
+    (verdict ≢ Matches) × ((data_dev' : Device) × IsBareFound s data_dev (tree_place hash_dev first) data_dev' root verdict)
+IsTreeComparisonEnd s data_dev hash_dev first root failed fault = IsUnwritten failed fault
+
+-- `verify --no-superblock`
+pub record PrintsTreeMatches {S D : Type 0} (w : Calls S D) (places : TwoPlaces) (options : FormatOptions) (root : List ℕ) (old new : Option (List ℕ)) : Type 0 where
+  pub two : TwoImages D
+  pub aligned : is_aligned places.first options.hash_block ≡ true
+  pub opened : OpensTwo w places.paths false two
+  pub matches : MatchesTree (superblock_with options (data_of w two places.first).size) (data_of w two places.first) (w.state two.hash.device) places.first root old new
+
+-- no hash block begins there, and nothing was opened
+pub record EndsUnplaced {S D : Type 0} (w : Calls S D) (places : TwoPlaces) (options : FormatOptions) (fault : ImageFault) : Type 0 where
+  pub unaligned : is_aligned places.first options.hash_block ≡ false
+  pub is : fault ≡ Unaligned
+  pub same : w.new ≡ w.old
+
+pub record EndsTreeMatches {S D : Type 0} (w : Calls S D) (places : TwoPlaces) (options : FormatOptions) (root : List ℕ) (failed : Bool) (fault : ImageFault) : Type 0 where
+  pub two : TwoImages D
+  pub opened : OpensTwo w places.paths false two
+  pub ends : IsTreeComparisonEnd (superblock_with options (data_of w two places.first).size) (data_of w two places.first) (w.state two.hash.device) places.first root failed fault
+
+abbrev pub IsTreeMatchesEnd : {S D : Type 0} → Calls S D → TwoPlaces → FormatOptions → List ℕ → Bool → ImageFault → Type 0
+IsTreeMatchesEnd w places options root failed fault =
+    EndsUnplaced w places options fault ⊎ (IsUnopened (FailsToOpenTwo w places.paths false) fault ⊎ EndsTreeMatches w places options root failed fault)
+
+-- `table --no-superblock`: the line that the words give, of a tree that has a shape and begins at a hash block
+pub record PrintsTreeLine (first : ℕ) (name : Option (Bor (List ℕ))) (words : LineWords) (options : FormatOptions) (old new : Option (List ℕ)) : Type 0 where
+  pub aligned : is_aligned first options.hash_block ≡ true
+  pub shape : first_fault (shape_of (superblock_with options 0)) ≡ None
+  pub printed : Appends old new (entry_head name ++ tree_line (superblock_with options 0) words first)
+
+-- no hash block begins there, no tree has that shape, or the line can't be written
+abbrev pub IsTreeLineEnd : ℕ → FormatOptions → Bool → ImageFault → Type 0
+IsTreeLineEnd first options failed Unaligned = is_aligned first options.hash_block ≡ false
+IsTreeLineEnd first options failed (Format fault) = HasNoShape (superblock_with options 0) fault
+IsTreeLineEnd first options failed fault = IsUnwritten failed fault

@@ -1,0 +1,158 @@
+//! The command `format --no-superblock`: makes a tree alone.
+ghost use Rattle.std.specs.Prelude.{◌≡◌, Some, IfErr, IfOk, OnOk};
+ghost use Rattle.counted_io.specs.Counted.{Writes};
+ghost use Rattle.device_window.specs.Parts.{outside_of};
+ghost use Rattle.image_files.specs.Opener.{calls};
+ghost use Rattle.image_commands.specs.Drawing.{drawing};
+ghost use Rattle.image_commands.specs.Endings.{IsQuiet};
+ghost use Rattle.image_commands.specs.Places.{before, two_places};
+ghost use Rattle.image_commands.specs.TreeFormats.{IsFinished, IsFormatTreeEnd, IsTreeCause, IsTreeEnd, IsTreeKept, IsTreeMade, IsUnfinished, PrintsTree, tree_text, tree_with};
+ghost use Rattle.image_commands.specs.TreePlaces.{tree_part};
+
+use crate::fault::ImageFault;
+use crate::format::{MadeImage, given_or_drawn};
+use crate::paths::TwoImages;
+use crate::places::{Bounds, ImagePlaces, data_end, is_aligned, open_placed};
+use crate::random::Generators;
+use crate::superblock_text::{say_blocks, say_root, say_salt};
+use crate::tree_place::{tree_of, tree_part, unnamed};
+use bare_tree::format_bare;
+use block_device::{BlockDev, SyncDev};
+use command_line::ImageOptions;
+use counted_io::{Counted, WriteFault};
+use device_window::{Beside, Window};
+use image_files::{Images, OpenImage};
+use std::alloc::Global;
+use std::io::Write;
+use std::marker::{Brand, PhantomData};
+use tree_shape::Digest;
+use verity_format::{FormatFault, FormatOptions, Superblock};
+
+/// `format --no-superblock [--hash-offset BYTES] [OPTIONS] DATA HASH`: writes the tree alone at that sector of HASH, and
+/// its root, salt and number of blocks to the writer. Both may be one file; the data are then what lies before.
+#[tactic(auto, using(crate::proofs::lemmas::EndingLemmas::quiet))]
+pub fn format_tree<'a, I: Images, G: Generators, W: Write>(
+    alloc: Global,
+    images: &mut I,
+    generators: &mut G,
+    options: ImageOptions,
+    places: ImagePlaces<'a>,
+    writer: &mut Counted<W>,
+) -> Result<(), ImageFault<'a>>
+    ensures ok { OnOk result (PrintsTree (calls I.relations I.Dev.state images.old images.new) (drawing G.gives G.Generator.stream generators.old generators.new) options (two_places places.entry) (W.contents writer.old.inner) (W.contents writer.new.inner)) }
+    ensures err { IfErr result (IsFormatTreeEnd (calls I.relations I.Dev.state images.old images.new) (drawing G.gives G.Generator.stream generators.old generators.new) options (two_places places.entry) writer.new.failed) }
+    ensures quiet { IfErr result (λ fault. IsQuiet fault (W.contents writer.old.inner) (W.contents writer.new.inner)) }
+{
+    let first = places.hash_first;
+    let hash = places.hash;
+    if !is_aligned(first, options.hash_block) {
+        return Err(ImageFault::Unaligned);
+    }
+    let two = open_placed(images, places)?;
+    let end = data_end(&two, first);
+    let TwoImages {
+        data: OpenImage {
+            device: data_dev,
+            id: _,
+        },
+        hash: OpenImage {
+            device: hash_dev,
+            id: _,
+        },
+    } = two;
+    let options = given_or_drawn(generators, unnamed(options))?;
+    let (hash_dev, made) = make_at(alloc, data_dev, hash_dev, Bounds { end, first }, options);
+    let made = made?;
+    images.close(hash, hash_dev);
+    Ok(say_tree(writer, &made)?)
+}
+
+// Makes the tree at that sector of the hash device over what lies before one of the data device, and gives the hash device
+// back.
+fn make_at<D: BlockDev + Drop, H: SyncDev + Drop>(
+    alloc: Global,
+    data_dev: D,
+    hash_dev: H,
+    bounds: Bounds,
+    options: FormatOptions,
+) -> (H, Result<MadeImage, FormatFault>)
+    ensures ok { let data_dev = before (D.state data_dev) bounds.end in IfOk result.1 (IsTreeMade (tree_with options data_dev) data_dev (H.state hash_dev) bounds.first (H.state result.0)) }
+    ensures err { let data_dev = before (D.state data_dev) bounds.end in IfErr result.1 (IsTreeEnd (tree_with options data_dev) data_dev (H.state hash_dev) bounds.first (H.state result.0)) }
+{
+    let mut before = Window::<D, Brand>::before(data_dev, bounds.end);
+    match tree_of(options, before.sectors()) {
+        Ok(params) => make_behind(alloc, &mut before, hash_dev, bounds.first, params),
+        Err(fault) => (hash_dev, Err(fault)),
+    }
+}
+
+// The same of a tree that has a shape, over a whole device.
+fn make_behind<D: BlockDev, H: SyncDev + Drop>(
+    alloc: Global,
+    data_dev: &mut D,
+    hash_dev: H,
+    first: u64,
+    params: Superblock,
+) -> (H, Result<MadeImage, FormatFault>)
+    ensures ok { IfOk result.1 (IsTreeMade params (D.state data_dev.old) (H.state hash_dev) first (H.state result.0)) }
+    ensures err { IfErr result.1 (λ fault. IsTreeCause params (D.state data_dev.old) (H.state hash_dev) first (H.state result.0) fault × IsTreeKept params (H.state hash_dev) first (H.state result.0)) }
+{
+    make_beside::<D, H, Brand>(alloc, data_dev, hash_dev, first, params)
+}
+
+// The same. What stands outside of the tree's part is known by the type parameter.
+fn make_beside<D: BlockDev, H: SyncDev + Drop, K: Beside>(
+    alloc: Global,
+    data_dev: &mut D,
+    hash_dev: H,
+    first: u64,
+    params: Superblock,
+) -> (H, Result<MadeImage, FormatFault>)
+    requires { K.outside ≡ Some (outside_of (H.state hash_dev).image (tree_part (H.state hash_dev) first)) }
+    ensures ok { IfOk result.1 (IsTreeMade params (D.state data_dev.old) (H.state hash_dev) first (H.state result.0)) }
+    ensures err { IfErr result.1 (λ fault. IsTreeCause params (D.state data_dev.old) (H.state hash_dev) first (H.state result.0) fault × IsTreeKept params (H.state hash_dev) first (H.state result.0)) }
+{
+    let part = tree_part(&hash_dev, first);
+    let window = Window::<H, K> {
+        inner: hash_dev,
+        part,
+        beside: PhantomData,
+    };
+    let (mut image, root) = format_bare(alloc, data_dev, window, params);
+    let made = finish(&mut image, root, params);
+    (image.into_inner(), made)
+}
+
+// Has a tree that was made put on the medium.
+fn finish<H: SyncDev>(
+    hash_dev: &mut H,
+    root: Result<Digest, FormatFault>,
+    params: Superblock,
+) -> Result<MadeImage, FormatFault>
+    ensures ok { IfOk result (IsFinished params root (H.state hash_dev.old) (H.state hash_dev.new)) }
+    ensures err { IfErr result (IsUnfinished root (H.state hash_dev.old) (H.state hash_dev.new)) }
+{
+    let root = match root {
+        Ok(root) => root,
+        Err(fault) => return Err(fault),
+    };
+    match hash_dev.sync() {
+        Ok(()) => Ok(MadeImage {
+            root,
+            salt: params.salt(),
+            uuid: params.uuid(),
+            blocks: params.blocks(),
+        }),
+        Err(_) => Err(FormatFault::Device),
+    }
+}
+
+// What is printed of a tree that was made.
+#[tactic(auto, unfolding(crate::specs::TreeFormats::tree_text))]
+fn say_tree<W: Write>(writer: &mut Counted<W>, made: &MadeImage) -> Result<(), WriteFault>
+    ensures { Writes W.contents writer.old writer.new (tree_text made.now) result }
+{
+    say_root(writer, &made.root)?;
+    say_salt(writer, made.salt.bytes())?;
+    say_blocks(writer, made.blocks)
+}

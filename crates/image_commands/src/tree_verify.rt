@@ -1,0 +1,125 @@
+//! The command `verify --no-superblock`: compares a tree alone with a data image.
+ghost use Rattle.std.specs.Prelude.{◌≡◌, IfErr, OnOk};
+ghost use Rattle.image_files.specs.Opener.{calls};
+ghost use Rattle.image_commands.specs.Endings.{IsQuiet};
+ghost use Rattle.image_commands.specs.Places.{before, two_places};
+ghost use Rattle.image_commands.specs.TreeFormats.{tree_with};
+ghost use Rattle.image_commands.specs.TreeImages.{IsTreeComparisonEnd, IsTreeMatchesEnd, MatchesTree, PrintsTreeMatches};
+
+use crate::fault::ImageFault;
+use crate::paths::{ImagePaths, TwoImages, open_two};
+use crate::places::{Bounds, ImagePlaces, data_end, is_aligned};
+use crate::tree_place::{tree_of, tree_part};
+use bare_tree::verify_bare;
+use block_device::BlockDev;
+use counted_io::Counted;
+use device_window::Window;
+use image_files::{Images, OpenImage};
+use std::alloc::Global;
+use std::io::Write;
+use std::marker::{Brand, PhantomData};
+use tree_shape::Digest;
+use verity_format::{FormatOptions, Superblock, Verdict};
+
+/// `verify --no-superblock [--hash-offset BYTES] [OPTIONS] DATA HASH ROOT`: `matches` where the tree of those options over
+/// the data stands at that sector of HASH, under that root; a difference is the fault `Differs`, whose block is counted
+/// from the tree's first one. Where both are one file, the data are what lies before.
+#[tactic(auto, using(crate::proofs::lemmas::EndingLemmas::quiet))]
+pub fn verify_tree<'a, I: Images, W: Write>(
+    alloc: Global,
+    images: &mut I,
+    places: ImagePlaces<'a>,
+    options: FormatOptions,
+    root: &Digest,
+    writer: &mut Counted<W>,
+) -> Result<(), ImageFault<'a>>
+    ensures ok { OnOk result (PrintsTreeMatches (calls I.relations I.Dev.state images.old images.new) (two_places places.entry) options root.now (W.contents writer.old.inner) (W.contents writer.new.inner)) }
+    ensures err { IfErr result (IsTreeMatchesEnd (calls I.relations I.Dev.state images.old images.new) (two_places places.entry) options root.now writer.new.failed) }
+    ensures quiet { IfErr result (λ fault. IsQuiet fault (W.contents writer.old.inner) (W.contents writer.new.inner)) }
+{
+    let ImagePlaces {
+        data,
+        hash,
+        hash_first: first,
+    } = places;
+    if !is_aligned(first, options.hash_block) {
+        return Err(ImageFault::Unaligned);
+    }
+    let two = open_two(images, ImagePaths { data, hash }, false)?;
+    let end = data_end(&two, first);
+    let TwoImages {
+        data: OpenImage {
+            device: data_dev,
+            id: _,
+        },
+        hash: OpenImage {
+            device: hash_dev,
+            id: _,
+        },
+    } = two;
+    compare_at(
+        alloc,
+        (data_dev, hash_dev),
+        Bounds { end, first },
+        options,
+        root,
+        writer,
+    )
+}
+
+// Compares what lies before one sector of the data device with what lies behind one of the hash device.
+#[tactic(auto, using(crate::proofs::lemmas::EndingLemmas::quiet))]
+fn compare_at<'a, D: BlockDev + Drop, W: Write>(
+    alloc: Global,
+    devices: (D, D),
+    bounds: Bounds,
+    options: FormatOptions,
+    root: &Digest,
+    writer: &mut Counted<W>,
+) -> Result<(), ImageFault<'a>>
+    ensures ok { let data_dev = before (D.state devices.0) bounds.end in OnOk result (MatchesTree (tree_with options data_dev) data_dev (D.state devices.1) bounds.first root.now (W.contents writer.old.inner) (W.contents writer.new.inner)) }
+    ensures err { let data_dev = before (D.state devices.0) bounds.end in IfErr result (IsTreeComparisonEnd (tree_with options data_dev) data_dev (D.state devices.1) bounds.first root.now writer.new.failed) }
+    ensures quiet { IfErr result (λ fault. IsQuiet fault (W.contents writer.old.inner) (W.contents writer.new.inner)) }
+{
+    let (data_dev, hash_dev) = devices;
+    let mut data_part = Window::<D, Brand>::before(data_dev, bounds.end);
+    let params = tree_of(options, data_part.sectors())?;
+    compare_tree(
+        alloc,
+        &mut data_part,
+        (hash_dev, bounds.first),
+        params,
+        root,
+        writer,
+    )
+}
+
+// Compares the tree of that shape.
+#[tactic(auto, using(crate::proofs::lemmas::EndingLemmas::quiet))]
+fn compare_tree<'a, D: BlockDev, H: BlockDev + Drop, W: Write>(
+    alloc: Global,
+    data_dev: &mut D,
+    placed: (H, u64),
+    params: Superblock,
+    root: &Digest,
+    writer: &mut Counted<W>,
+) -> Result<(), ImageFault<'a>>
+    ensures ok { OnOk result (MatchesTree params (D.state data_dev.old) (H.state placed.0) placed.1 root.now (W.contents writer.old.inner) (W.contents writer.new.inner)) }
+    ensures err { IfErr result (IsTreeComparisonEnd params (D.state data_dev.old) (H.state placed.0) placed.1 root.now writer.new.failed) }
+    ensures quiet { IfErr result (λ fault. IsQuiet fault (W.contents writer.old.inner) (W.contents writer.new.inner)) }
+{
+    let (hash_dev, first) = placed;
+    let part = tree_part(&hash_dev, first);
+    let window = Window::<H, Brand> {
+        inner: hash_dev,
+        part,
+        beside: PhantomData,
+    };
+    match verify_bare(alloc, data_dev, window, params, root)? {
+        Verdict::Matches => {
+            writer.put(b"matches\n")?;
+            Ok(())
+        }
+        verdict => Err(ImageFault::Differs(verdict)),
+    }
+}

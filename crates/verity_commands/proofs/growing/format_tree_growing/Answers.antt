@@ -1,0 +1,24 @@
+use Rattle.std.proofs.Common.{◌≡◌, inr}
+use Rattle.std.proofs.lemmas.Result.{on_ok_weaker}
+use Rattle.image_commands.specs.declared.fault.ImageFault.TheVariants.{Format}
+use Rattle.verity_format.specs.declared.formatting.FormatFault.TheVariants.{HashTooSmall}
+use Rattle.verity_commands.proofs.EndingLemmas.{at-fault}
+use Rattle.verity_commands.proofs.growing.format_tree_growing.Goals as goal
+
+pub returns-clause-ok : goal.returns-clause-ok
+returns-clause-ok g c =
+    let room = c.in-Some.ensures in
+    let vain = at-fault c.try_tree-tried.result _ (Format (HashTooSmall room.needed)) room.ended c.try_tree-tried.ensures.err in
+    let same : g.W.Write.contents c.try_tree-tried.new.writer.inner ≡ g.W.Write.contents c.args.writer.now.inner =
+    at-fault c.try_tree-tried.result _ (Format (HashTooSmall room.needed)) room.ended c.try_tree-tried.ensures.quiet in
+    let printed = rw same at c.try_tree.ensures.ok in
+    on_ok_weaker c.try_tree.result
+    (λ done. inr (record {
+      tried = c.try_tree-tried.new.images;
+      drawn = c.try_tree-tried.new.generators;
+      room = c.make_room-2.new.images;
+      needed = room.needed;
+      vain = record { between = c.make_room.new.images; made = c.in_ok-make_room.ensures.ok; too_small = (c.try_tree-tried.new.writer.failed, vain) };
+      grown = rw room.is at c.in_ok-make_room-2.ensures.ok;
+      formats = done;
+    })) printed

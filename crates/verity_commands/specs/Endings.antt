@@ -1,0 +1,36 @@
+-- How the commands on verity images end early.
+use Rattle.std.specs.Prelude.{◌≡◌, ℕ, List, Option}
+use Rattle.command_line.specs.declared.fault.WordsFault.{WordsFault}
+use Rattle.command_line.specs.declared.fault.WordsFault.TheVariants as words
+use Rattle.image_commands.specs.declared.fault.ImageFault.{ImageFault}
+use Rattle.image_commands.specs.declared.fault.ImageFault.TheVariants as image
+use Rattle.image_commands.specs.Endings as images
+use Rattle.verity_commands.specs.declared.fault.VerityFault.{VerityFault}
+use Rattle.verity_commands.specs.declared.fault.VerityFault.TheVariants.{Image, Usage}
+
+-- where the words are none
+abbrev pub words_ending : WordsFault → VerityFault
+words_ending words.Usage = Usage
+words_ending words.NoMemory = Image image.NoMemory
+
+-- a word of the options says no value, or memory ran out
+abbrev pub IsUnsaid : VerityFault → Type 0
+IsUnsaid Usage = Unit {0}
+IsUnsaid (Image image.NoMemory) = Unit {0}
+IsUnsaid (Image fault) = ⊥
+
+-- what was done with images ended so
+abbrev pub IsImageEnd : (ImageFault → Type 0) → VerityFault → Type 0
+IsImageEnd Ends (Image fault) = Ends fault
+IsImageEnd Ends Usage = ⊥
+
+-- nothing is written ahead of what ends a command, unless it is the writing that fails
+abbrev pub IsQuiet : VerityFault → Option (List ℕ) → Option (List ℕ) → Type 0
+IsQuiet Usage old new = new ≡ old
+IsQuiet (Image fault) old new = images.IsQuiet fault old new
+
+-- 2 for words that are no command, 3 for images that differ, else 1
+abbrev pub verity_status : VerityFault → ℕ
+verity_status Usage = 2
+verity_status (Image (image.Differs verdict)) = 3
+verity_status (Image fault) = 1

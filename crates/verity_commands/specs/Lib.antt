@@ -1,0 +1,7 @@
+pub mod Endings
+pub mod Growing
+pub mod Images
+pub mod Placed
+pub mod Places
+pub mod Texts
+pub mod Trees

@@ -1,0 +1,106 @@
+-- What `format`, `verify`, `dump` and `table` print where superblock and tree have a place in their file, and how they end early.
+use Rattle.std.specs.Borrow.{Bor}
+use Rattle.std.specs.Prelude.{◌≡◌, ◌⊎◌, ℕ, ◌/◌, ◌++◌, Bool, true, false, List, Option}
+use Rattle.command_line.specs.declared.image_options.ImageOptions.{ImageOptions}
+use Rattle.command_line.specs.FormatOptions.{AreSaid, OptionTexts, text_of}
+use Rattle.command_line.specs.words.Dump.{DumpRecord}
+use Rattle.command_line.specs.words.Format.{FormatRecord}
+use Rattle.command_line.specs.words.Table.{TableRecord}
+use Rattle.command_line.specs.words.Verify.{VerifyRecord}
+use Rattle.image_commands.specs.declared.fault.ImageFault.{ImageFault}
+use Rattle.image_commands.specs.declared.fault.ImageFault.TheVariants.{Format}
+use Rattle.image_commands.specs.declared.table.LineWords.{LineWords}
+use Rattle.image_commands.specs.Drawing.{Drawing}
+use Rattle.image_commands.specs.PlacedFormats.{IsFormatPlacedEnd, PrintsPlaced}
+use Rattle.image_commands.specs.PlacedImages.{IsPlacedImageEnd, IsPlacedMatchesEnd, PrintsPlacedMatches, PrintsPlacedSuper}
+use Rattle.image_commands.specs.PlacedLines.{entry_head, placed_line}
+use Rattle.image_commands.specs.Places.{TwoPlaces, is_aligned}
+use Rattle.image_commands.specs.SuperblockTexts.{superblock_text}
+use Rattle.image_files.specs.Opener.{Calls}
+use Rattle.verity_commands.specs.declared.fault.VerityFault.{VerityFault}
+use Rattle.verity_commands.specs.declared.fault.VerityFault.TheVariants.{Usage}
+use Rattle.verity_commands.specs.Endings.{IsImageEnd, IsQuiet, IsUnsaid}
+use Rattle.verity_commands.specs.Growing.{FormatsGrowing, IsGrowingEnd}
+use Rattle.verity_commands.specs.Places.{IsRootEnd, TellsRoot, places_of, start_of}
+use Rattle.verity_format.specs.declared.formatting.FormatFault.TheVariants.{HashTooSmall}
+
+-- the words are none of the command's, and nothing is opened
+abbrev pub IsRefusedUnread : {S D : Type 0} → Calls S D → VerityFault → Type 0
+IsRefusedUnread w fault = (fault ≡ Usage) × (w.new ≡ w.old)
+
+-- `verify`: the root was told, and then the images compared
+pub record PrintsVerified {S D : Type 0} (w : Calls S D) (v : VerifyRecord) (old new : Option (List ℕ)) : Type 0 where
+  pub between : S
+  pub found : List ℕ
+  pub told : TellsRoot (record w { new = between }) v.root found
+  pub matches : PrintsPlacedMatches (record w { old = between }) (places_of v.data_path v.hash_path v.hash_offset) found old new
+
+pub record EndsVerified {S D : Type 0} (w : Calls S D) (v : VerifyRecord) (failed : Bool) (fault : ImageFault) : Type 0 where
+  pub between : S
+  pub found : List ℕ
+  pub told : TellsRoot (record w { new = between }) v.root found
+  pub ends : IsPlacedMatchesEnd (record w { old = between }) (places_of v.data_path v.hash_path v.hash_offset) found failed fault
+
+abbrev pub IsVerifiedEnd : {S D : Type 0} → Calls S D → VerifyRecord → Bool → ImageFault → Type 0
+IsVerifiedEnd w v failed fault = IsRootEnd w v.root fault ⊎ EndsVerified w v failed fault
+
+-- `table`: the root was told, and then a line of the superblock printed, or a whole entry
+pub record PrintsEntry {S D : Type 0} (w : Calls S D) (t : TableRecord) (old new : Option (List ℕ)) : Type 0 where
+  pub between : S
+  pub words : LineWords
+  pub name : Option (Bor (List ℕ))
+  pub told : TellsRoot (record w { new = between }) t.root words.root.now
+  pub names : (words.data_name.now ≡ t.data_name) × (words.hash_name.now ≡ t.hash_name)
+  pub entry : text_of name ≡ t.name
+  pub prints : PrintsPlacedSuper (record w { old = between }) t.hash_path (t.hash_offset / 512) (λ s. is_aligned (t.hash_offset / 512) s.hash_block) (λ s. entry_head name ++ placed_line s words (t.hash_offset / 512)) old new
+
+pub record EndsEntry {S D : Type 0} (w : Calls S D) (t : TableRecord) (failed : Bool) (fault : ImageFault) : Type 0 where
+  pub between : S
+  pub found : List ℕ
+  pub told : TellsRoot (record w { new = between }) t.root found
+  pub ends : IsPlacedImageEnd (record w { old = between }) t.hash_path (t.hash_offset / 512) failed fault
+
+abbrev pub IsEntryEnd : {S D : Type 0} → Calls S D → TableRecord → Bool → ImageFault → Type 0
+IsEntryEnd w t failed fault = IsRootEnd w t.root fault ⊎ EndsEntry w t failed fault
+
+-- ---- each by its words
+
+-- HASH has too few sectors for what is formatted
+abbrev pub IsTooSmall : {S D T G : Type 0} → ImageOptions → TwoPlaces → Calls S D → Drawing T G → ℕ → Type 0
+IsTooSmall options places w drawing needed = (failed : Bool) × IsFormatPlacedEnd w drawing options places failed (Format (HashTooSmall needed))
+
+-- with `--grow`, and without
+abbrev pub FormatsPlaced : {S D T G : Type 0} → Bool → Calls S D → Drawing T G → ImageOptions → TwoPlaces → Option (List ℕ) → Option (List ℕ) → Type 0
+FormatsPlaced true w drawing options places old new = FormatsGrowing w drawing (start_of places) (IsTooSmall options places) (λ w' d'. PrintsPlaced w' d' options places old new)
+FormatsPlaced false w drawing options places old new = PrintsPlaced w drawing options places old new
+
+abbrev pub IsFormattingEnd : {S D T G : Type 0} → Bool → Calls S D → Drawing T G → ImageOptions → TwoPlaces → Bool → ImageFault → Type 0
+IsFormattingEnd true w drawing options places failed fault = IsGrowingEnd w drawing (start_of places) (IsTooSmall options places) (λ w' d' f. IsFormatPlacedEnd w' d' options places failed f) fault
+IsFormattingEnd false w drawing options places failed fault = IsFormatPlacedEnd w drawing options places failed fault
+
+abbrev pub FormatsAt : {S D T G : Type 0} → OptionTexts → Calls S D → Drawing T G → FormatRecord → Option (List ℕ) → Option (List ℕ) → Type 0
+FormatsAt texts w drawing f old new =
+    (options : ImageOptions) × AreSaid texts options × FormatsPlaced f.grow w drawing options (places_of f.data_path f.hash_path f.hash_offset) old new
+
+-- a word of `format`'s options says no value, or memory ran out while they were read, and nothing was opened; or it ended so
+abbrev pub IsFormatEnd : {S D T G : Type 0} → OptionTexts → Calls S D → Drawing T G → FormatRecord → Option (List ℕ) → Option (List ℕ) → Bool → VerityFault → Type 0
+IsFormatEnd texts w drawing f old new failed fault =
+    ((IsUnsaid fault × (w.new ≡ w.old))
+    ⊎ ((options : ImageOptions) × AreSaid texts options × IsImageEnd (IsFormattingEnd f.grow w drawing options (places_of f.data_path f.hash_path f.hash_offset) failed) fault))
+    × IsQuiet fault old new
+
+abbrev pub VerifiesAt : {S D : Type 0} → Calls S D → VerifyRecord → Option (List ℕ) → Option (List ℕ) → Type 0
+VerifiesAt w v old new = (v.all ≡ false) × PrintsVerified w v old new
+
+abbrev pub IsVerifyEnd : {S D : Type 0} → Calls S D → VerifyRecord → Option (List ℕ) → Option (List ℕ) → Bool → VerityFault → Type 0
+IsVerifyEnd w v old new failed fault =
+    ((v.all ≡ true) × IsRefusedUnread w fault × (new ≡ old)) ⊎ (IsImageEnd (IsVerifiedEnd w v failed) fault × IsQuiet fault old new)
+
+abbrev pub DumpsAt : {S D : Type 0} → Calls S D → DumpRecord → Option (List ℕ) → Option (List ℕ) → Type 0
+DumpsAt w d old new = PrintsPlacedSuper w d.hash_path (d.hash_offset / 512) (λ s. true) superblock_text old new
+
+abbrev pub IsDumpEnd : {S D : Type 0} → Calls S D → DumpRecord → Option (List ℕ) → Option (List ℕ) → Bool → VerityFault → Type 0
+IsDumpEnd w d old new failed fault = IsImageEnd (IsPlacedImageEnd w d.hash_path (d.hash_offset / 512) failed) fault × IsQuiet fault old new
+
+abbrev pub IsTableEnd : {S D : Type 0} → Calls S D → TableRecord → Option (List ℕ) → Option (List ℕ) → Bool → VerityFault → Type 0
+IsTableEnd w t old new failed fault = IsImageEnd (IsEntryEnd w t failed) fault × IsQuiet fault old new

@@ -1,0 +1,26 @@
+-- The root digest of a command on verity images.
+use Rattle.std.specs.Prelude.{◌≡◌, ◌/◌, ℕ, List}
+use Rattle.command_line.specs.Values.{RootRecord, digest, root_file}
+use Rattle.image_commands.specs.declared.fault.ImageFault.{ImageFault}
+use Rattle.image_commands.specs.Places.{TwoPlaces}
+use Rattle.image_commands.specs.RootFiles.{IsRootFileEnd, ReadsRoot}
+use Rattle.image_files.specs.Opener.{Calls}
+use Rattle.verity_commands.specs.Growing.{HashStart}
+
+-- it is the word's, and nothing is opened; or that of the file
+abbrev pub TellsRoot : {S D : Type 0} → Calls S D → RootRecord → List ℕ → Type 0
+TellsRoot w (digest root) found = (found ≡ root) × (w.new ≡ w.old)
+TellsRoot w (root_file path) found = ReadsRoot w path found
+
+-- the file has none
+abbrev pub IsRootEnd : {S D : Type 0} → Calls S D → RootRecord → ImageFault → Type 0
+IsRootEnd w (digest root) fault = ⊥
+IsRootEnd w (root_file path) fault = IsRootFileEnd w path fault
+
+-- the paths of data and hash images, and the sector at which the hash image begins
+abbrev pub places_of : List ℕ → List ℕ → ℕ → TwoPlaces
+places_of image hash offset = record { paths = record { data_path = image; hash_path = hash }; first = offset / 512 }
+
+-- the hash image's path and first sector
+abbrev pub start_of : TwoPlaces → HashStart
+start_of places = record { path = places.paths.hash_path; first = places.first }

@@ -1,0 +1,59 @@
+-- The texts of files that aren't opened, and of refusals and differences of verity images.
+use Rattle.std.specs.Prelude.{ℕ, List, [], ◌++◌, codes, decimal}
+use Rattle.block_device.specs.declared.open_fault.OpenFault.{OpenFault}
+use Rattle.block_device.specs.declared.open_fault.OpenFault.TheVariants as opening
+use Rattle.block_device.specs.OpenFault.{open_number, open_name}
+use Rattle.image_commands.specs.declared.fault.ImageFault.{ImageFault}
+use Rattle.image_commands.specs.declared.fault.ImageFault.TheVariants as image
+use Rattle.image_files.specs.declared.opening.UnopenedFile.{UnopenedFile}
+use Rattle.verity_format.specs.declared.formatting.FormatFault.{FormatFault}
+use Rattle.verity_format.specs.declared.formatting.FormatFault.TheVariants as format
+use Rattle.verity_format.specs.declared.verifying.VerifyFault.{VerifyFault}
+use Rattle.verity_format.specs.declared.verifying.VerifyFault.TheVariants as verify
+use Rattle.verity_format.specs.declared.verifying.Verdict.{Verdict}
+use Rattle.verity_format.specs.declared.verifying.Verdict.TheVariants as verdict
+use Rattle.verity_format.specs.FaultNames.{format_number, format_name, verify_number, verify_name}
+use Rattle.io_fault_text.specs.Texts.{kind_then, no_memory, refused_text, usage_text}
+use Rattle.verity_commands.specs.declared.fault.VerityFault.{VerityFault}
+use Rattle.verity_commands.specs.declared.fault.VerityFault.TheVariants as verity
+
+-- a file that isn't opened, with its path
+abbrev pub refused_file_text : OpenFault → List ℕ → List ℕ
+refused_file_text opening.NoMemory path = no_memory
+refused_file_text fault path = codes "refused " ++ kind_then (open_number fault) (open_name fault) (codes " " ++ (path ++ codes "\n"))
+
+abbrev pub open_text : UnopenedFile → List ℕ
+open_text file = refused_file_text file.fault file.path.now
+
+-- an image that isn't made, and what it needs
+abbrev pub format_text : FormatFault → List ℕ
+format_text format.NoMemory = no_memory
+format_text (format.HashTooSmall needed) =
+    codes "refused " ++ kind_then (format_number (format.HashTooSmall needed)) (format_name (format.HashTooSmall needed)) (codes " needed " ++ (decimal needed ++ codes "\n"))
+format_text fault = refused_text (format_number fault) (format_name fault)
+
+-- images that aren't compared, also where the superblock isn't taken
+abbrev pub verify_text : VerifyFault → List ℕ
+verify_text verify.NoMemory = no_memory
+verify_text fault = refused_text (verify_number fault) (verify_name fault)
+
+abbrev pub verdict_text : Verdict → List ℕ
+verdict_text verdict.Matches = codes "matches\n"
+verdict_text verdict.RootDiffers = codes "root differs\n"
+verdict_text (verdict.AreaDiffers block) = codes "area differs at block " ++ (decimal block ++ codes "\n")
+
+-- a command on images that ends early; where a line can't be written, none is
+abbrev pub image_text : ImageFault → List ℕ
+image_text image.NoMemory = no_memory
+image_text (image.Open file) = open_text file
+image_text (image.Format fault) = format_text fault
+image_text (image.Verify fault) = verify_text fault
+image_text (image.Differs found) = verdict_text found
+image_text image.Unaligned = codes "refused 18 Unaligned\n"
+image_text image.RootText = codes "refused 19 RootText\n"
+image_text image.Random = codes "refused random\n"
+image_text image.Write = []
+
+abbrev pub verity_text : VerityFault → List ℕ
+verity_text verity.Usage = usage_text
+verity_text (verity.Image fault) = image_text fault

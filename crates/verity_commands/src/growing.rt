@@ -1,0 +1,130 @@
+//! `format --grow`: makes HASH, or makes it longer, where it has too few sectors.
+ghost use Rattle.std.specs.Prelude.{◌≡◌, ◌+◌, true, Err, IfErr, IfSome, OnOk};
+ghost use Rattle.image_commands.specs.declared.fault.ImageFault.TheVariants as image_fault;
+ghost use Rattle.image_commands.specs.Drawing.{drawing};
+ghost use Rattle.image_commands.specs.Endings.{IsQuiet};
+ghost use Rattle.image_commands.specs.PlacedFormats.{IsFormatPlacedEnd, PrintsPlaced};
+ghost use Rattle.image_commands.specs.Places.{two_places};
+ghost use Rattle.image_commands.specs.TreeFormats.{IsFormatTreeEnd, PrintsTree};
+ghost use Rattle.image_files.specs.Opener.{calls};
+ghost use Rattle.verity_format.specs.declared.formatting.FormatFault.TheVariants as format_fault;
+ghost use Rattle.verity_commands.specs.Growing.{Grows, IsRoomFor, IsUngrown};
+ghost use Rattle.verity_commands.specs.Placed.{FormatsPlaced, IsFormattingEnd};
+ghost use Rattle.verity_commands.specs.Trees.{IsMakingEnd, MakesTreeAt};
+
+use block_device::BlockDev;
+use command_line::ImageOptions;
+use counted_io::Counted;
+use image_commands::{Generators, ImageFault, ImagePlaces, format_placed, format_tree};
+use image_files::{Images, UnopenedFile};
+use std::alloc::Global;
+use std::io::Write;
+use verity_format::FormatFault;
+
+// The file under a path has at least so many sectors from then on.
+fn make_room<'a, I: Images>(
+    images: &mut I,
+    path: &'a str,
+    sectors: u64,
+) -> Result<(), ImageFault<'a>>
+    ensures ok { OnOk result (Grows (calls I.relations I.Dev.state images.old images.new) path.now sectors) }
+    ensures err { IfErr result (IsUngrown (calls I.relations I.Dev.state images.old images.new) path.now sectors) }
+{
+    match images.grow(path, sectors) {
+        Ok(()) => Ok(()),
+        Err(fault) => Err(ImageFault::Open(UnopenedFile { fault, path })),
+    }
+}
+
+// How many sectors are needed, where a formatting ended since there were too few.
+fn needed_by(tried: &Result<(), ImageFault<'_>>) -> Option<u64>
+    ensures { IfSome result (λ needed. tried.now ≡ Err (image_fault.Format (format_fault.HashTooSmall needed))) }
+{
+    match tried {
+        Err(ImageFault::Format(FormatFault::HashTooSmall { needed })) => Some(*needed),
+        _ => None,
+    }
+}
+
+// How many sectors the file has to have then, whose hash image begins at that one.
+fn room_for(tried: &Result<(), ImageFault<'_>>, first: u64) -> Option<u64>
+    ensures { IfSome result (IsRoomFor tried.now first) }
+{
+    first.checked_add(needed_by(tried)?)
+}
+
+// Formats the hash image as it is.
+fn try_format<'a, I: Images, G: Generators, W: Write>(
+    alloc: Global,
+    images: &mut I,
+    generators: &mut G,
+    options: &ImageOptions,
+    places: &ImagePlaces<'a>,
+    writer: &mut Counted<W>,
+) -> Result<(), ImageFault<'a>>
+    ensures ok { OnOk result (PrintsPlaced (calls I.relations I.Dev.state images.old images.new) (drawing G.gives G.Generator.stream generators.old generators.new) options.now (two_places places.now) (W.contents writer.old.inner) (W.contents writer.new.inner)) }
+    ensures err { IfErr result (IsFormatPlacedEnd (calls I.relations I.Dev.state images.old images.new) (drawing G.gives G.Generator.stream generators.old generators.new) options.now (two_places places.now) writer.new.failed) }
+    ensures quiet { IfErr result (λ fault. IsQuiet fault (W.contents writer.old.inner) (W.contents writer.new.inner)) }
+{
+    format_placed(alloc, images, generators, *options, *places, writer)
+}
+
+/// Formats the hash image once its file has the sectors that are needed.
+pub fn format_growing<'a, I: Images, G: Generators, W: Write>(
+    alloc: Global,
+    images: &mut I,
+    generators: &mut G,
+    options: &ImageOptions,
+    places: &ImagePlaces<'a>,
+    writer: &mut Counted<W>,
+) -> Result<(), ImageFault<'a>>
+    ensures ok { OnOk result (FormatsPlaced true (calls I.relations I.Dev.state images.old images.new) (drawing G.gives G.Generator.stream generators.old generators.new) options.now (two_places places.now) (W.contents writer.old.inner) (W.contents writer.new.inner)) }
+    ensures err { IfErr result (IsFormattingEnd true (calls I.relations I.Dev.state images.old images.new) (drawing G.gives G.Generator.stream generators.old generators.new) options.now (two_places places.now) writer.new.failed) }
+    ensures quiet { IfErr result (λ fault. IsQuiet fault (W.contents writer.old.inner) (W.contents writer.new.inner)) }
+{
+    make_room(images, places.hash, 0)?;
+    let tried = try_format(alloc, images, generators, options, places, writer);
+    let Some(sectors) = room_for(&tried, places.hash_first) else {
+        return tried;
+    };
+    make_room(images, places.hash, sectors)?;
+    try_format(alloc, images, generators, options, places, writer)
+}
+
+// Makes the tree in a file as it is.
+fn try_tree<'a, I: Images, G: Generators, W: Write>(
+    alloc: Global,
+    images: &mut I,
+    generators: &mut G,
+    options: &ImageOptions,
+    places: &ImagePlaces<'a>,
+    writer: &mut Counted<W>,
+) -> Result<(), ImageFault<'a>>
+    ensures ok { OnOk result (PrintsTree (calls I.relations I.Dev.state images.old images.new) (drawing G.gives G.Generator.stream generators.old generators.new) options.now (two_places places.now) (W.contents writer.old.inner) (W.contents writer.new.inner)) }
+    ensures err { IfErr result (IsFormatTreeEnd (calls I.relations I.Dev.state images.old images.new) (drawing G.gives G.Generator.stream generators.old generators.new) options.now (two_places places.now) writer.new.failed) }
+    ensures quiet { IfErr result (λ fault. IsQuiet fault (W.contents writer.old.inner) (W.contents writer.new.inner)) }
+{
+    format_tree(alloc, images, generators, *options, *places, writer)
+}
+
+/// Makes the tree without a superblock once its file has the sectors that are needed.
+pub fn format_tree_growing<'a, I: Images, G: Generators, W: Write>(
+    alloc: Global,
+    images: &mut I,
+    generators: &mut G,
+    options: &ImageOptions,
+    places: &ImagePlaces<'a>,
+    writer: &mut Counted<W>,
+) -> Result<(), ImageFault<'a>>
+    ensures ok { OnOk result (MakesTreeAt true (calls I.relations I.Dev.state images.old images.new) (drawing G.gives G.Generator.stream generators.old generators.new) options.now (two_places places.now) (W.contents writer.old.inner) (W.contents writer.new.inner)) }
+    ensures err { IfErr result (IsMakingEnd true (calls I.relations I.Dev.state images.old images.new) (drawing G.gives G.Generator.stream generators.old generators.new) options.now (two_places places.now) writer.new.failed) }
+    ensures quiet { IfErr result (λ fault. IsQuiet fault (W.contents writer.old.inner) (W.contents writer.new.inner)) }
+{
+    make_room(images, places.hash, 0)?;
+    let tried = try_tree(alloc, images, generators, options, places, writer);
+    let Some(sectors) = room_for(&tried, places.hash_first) else {
+        return tried;
+    };
+    make_room(images, places.hash, sectors)?;
+    try_tree(alloc, images, generators, options, places, writer)
+}

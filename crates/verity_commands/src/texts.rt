@@ -1,0 +1,102 @@
+//! What is printed of commands on verity images that end early, and of files that aren't opened.
+ghost use Rattle.std.specs.Prelude.{◌≡◌};
+ghost use Rattle.counted_io.specs.Counted.{Writes};
+ghost use Rattle.verity_commands.specs.Texts.{format_text, image_text, open_text, verdict_text, verify_text, verity_text};
+
+use crate::fault::VerityFault;
+use block_device::OpenFault;
+use counted_io::{Counted, WriteFault};
+use image_commands::ImageFault;
+use image_files::UnopenedFile;
+use io_fault_text::{say_no_memory, say_refused, say_usage};
+use std::io::Write;
+use verity_format::{FormatFault, Verdict, VerifyFault};
+
+/// One line, or none where a line can't be written.
+pub fn say_verity_fault<W: Write>(
+    writer: &mut Counted<W>,
+    fault: VerityFault<'_>,
+) -> Result<(), WriteFault>
+    ensures { Writes W.contents writer.old writer.new (verity_text fault.entry) result }
+{
+    match fault {
+        VerityFault::Usage => say_usage(writer),
+        VerityFault::Image(fault) => say_image_fault(writer, fault),
+    }
+}
+
+/// `refused K NAME PATH`
+pub fn say_unopened<W: Write>(
+    writer: &mut Counted<W>,
+    file: UnopenedFile<'_>,
+) -> Result<(), WriteFault>
+    ensures { Writes W.contents writer.old writer.new (open_text file.entry) result }
+{
+    let UnopenedFile { fault, path } = file;
+    if fault == OpenFault::NoMemory {
+        return say_no_memory(writer);
+    }
+    let number = fault.number();
+    let name = fault.name();
+    writer.print(format_args!("refused {number} {name} {path}\n"))
+}
+
+/// One line, or none where that can't be written.
+pub fn say_image_fault<W: Write>(
+    writer: &mut Counted<W>,
+    fault: ImageFault<'_>,
+) -> Result<(), WriteFault>
+    ensures { Writes W.contents writer.old writer.new (image_text fault.entry) result }
+{
+    match fault {
+        ImageFault::NoMemory => say_no_memory(writer),
+        ImageFault::Open(file) => say_unopened(writer, file),
+        ImageFault::Format(fault) => say_format_fault(writer, fault),
+        ImageFault::Verify(fault) => say_verify_fault(writer, fault),
+        ImageFault::Differs(verdict) => say_verdict(writer, verdict),
+        ImageFault::Unaligned => writer.put(b"refused 18 Unaligned\n"),
+        ImageFault::RootText => writer.put(b"refused 19 RootText\n"),
+        ImageFault::Random => writer.put(b"refused random\n"),
+        ImageFault::Write => Ok(()),
+    }
+}
+
+// `refused K NAME`, and what a hash image needs.
+fn say_format_fault<W: Write>(writer: &mut Counted<W>, fault: FormatFault) -> Result<(), WriteFault>
+    ensures { Writes W.contents writer.old writer.new (format_text fault) result }
+{
+    let (number, name) = (fault.number(), fault.name());
+    match fault {
+        FormatFault::HashTooSmall { needed } => {
+            writer.print(format_args!("refused {number} {name} needed {needed}\n"))
+        }
+        FormatFault::NoMemory => say_no_memory(writer),
+        FormatFault::Shape
+        | FormatFault::DataTooSmall
+        | FormatFault::HashReadOnly
+        | FormatFault::Device => say_refused(writer, number, name),
+    }
+}
+
+// `refused K NAME`
+fn say_verify_fault<W: Write>(writer: &mut Counted<W>, fault: VerifyFault) -> Result<(), WriteFault>
+    ensures { Writes W.contents writer.old writer.new (verify_text fault) result }
+{
+    if fault == VerifyFault::NoMemory {
+        return say_no_memory(writer);
+    }
+    say_refused(writer, fault.number(), fault.name())
+}
+
+// `matches`, `root differs`, or `area differs at block N`
+fn say_verdict<W: Write>(writer: &mut Counted<W>, verdict: Verdict) -> Result<(), WriteFault>
+    ensures { Writes W.contents writer.old writer.new (verdict_text verdict) result }
+{
+    match verdict {
+        Verdict::Matches => writer.put(b"matches\n"),
+        Verdict::RootDiffers => writer.put(b"root differs\n"),
+        Verdict::AreaDiffers(block) => {
+            writer.print(format_args!("area differs at block {block}\n"))
+        }
+    }
+}

@@ -1,0 +1,107 @@
+//! The commands on trees without a superblock.
+ghost use Rattle.std.specs.Prelude.{OnOk, IfErr, IfOk};
+ghost use Rattle.command_line.specs.FormatOptions.{option_texts};
+ghost use Rattle.command_line.specs.words.TreeFormat.{tree_format_record};
+ghost use Rattle.command_line.specs.words.TreeTable.{tree_table_record};
+ghost use Rattle.command_line.specs.words.TreeVerify.{tree_verify_record};
+ghost use Rattle.image_commands.specs.Drawing.{drawing};
+ghost use Rattle.image_files.specs.Opener.{calls};
+ghost use Rattle.verity_commands.specs.Endings.{IsUnsaid};
+ghost use Rattle.verity_commands.specs.Trees.{FormatsTree, IsFormatTreeEnd, IsTableTreeEnd, IsVerifyTreeEnd, PrintsTreeEntry, SaysTree, VerifiesTree};
+
+use crate::fault::VerityFault;
+use crate::growing::format_tree_growing;
+use crate::places::{root_in, sector_at};
+use command_line::{OptionWords, TreeFormatWords, TreeTableWords, TreeVerifyWords, options_of};
+use counted_io::Counted;
+use image_commands::{
+    Generators, ImagePlaces, LineWords, format_tree, given_options, print_tree_line, verify_tree,
+};
+use image_files::Images;
+use std::alloc::Global;
+use std::io::Write;
+use verity_format::FormatOptions;
+
+/// `format --no-superblock [--grow] [OPTION..] DATA HASH`
+pub fn invoke_format_tree<'a, I: Images, G: Generators, W: Write>(
+    alloc: Global,
+    images: &mut I,
+    generators: &mut G,
+    words: &TreeFormatWords<'a>,
+    options: &OptionWords<'a>,
+    writer: &mut Counted<W>,
+) -> Result<(), VerityFault<'a>>
+    ensures ok { OnOk result (FormatsTree (option_texts options.now) (calls I.relations I.Dev.state images.old images.new) (drawing G.gives G.Generator.stream generators.old generators.new) (tree_format_record words.now) (W.contents writer.old.inner) (W.contents writer.new.inner)) }
+    ensures err { IfErr result (IsFormatTreeEnd (option_texts options.now) (calls I.relations I.Dev.state images.old images.new) (drawing G.gives G.Generator.stream generators.old generators.new) (tree_format_record words.now) (W.contents writer.old.inner) (W.contents writer.new.inner) writer.new.failed) }
+{
+    let options = options_of(alloc, options)?;
+    let hash_first = sector_at(words.hash_offset);
+    let places = ImagePlaces {
+        data: words.data_path,
+        hash: words.hash_path,
+        hash_first,
+    };
+    if words.grow {
+        return Ok(format_tree_growing(alloc, images, generators, &options, &places, writer)?);
+    }
+    Ok(format_tree(alloc, images, generators, options, places, writer)?)
+}
+
+/// `verify --no-superblock [OPTION..] DATA HASH [ROOT]`
+pub fn invoke_verify_tree<'a, I: Images, W: Write>(
+    alloc: Global,
+    images: &mut I,
+    words: &TreeVerifyWords<'a>,
+    options: &OptionWords<'a>,
+    writer: &mut Counted<W>,
+) -> Result<(), VerityFault<'a>>
+    ensures ok { OnOk result (VerifiesTree (option_texts options.now) (calls I.relations I.Dev.state images.old images.new) (tree_verify_record words.now) (W.contents writer.old.inner) (W.contents writer.new.inner)) }
+    ensures err { IfErr result (IsVerifyTreeEnd (option_texts options.now) (calls I.relations I.Dev.state images.old images.new) (tree_verify_record words.now) (W.contents writer.old.inner) (W.contents writer.new.inner) writer.new.failed) }
+{
+    let given = tree_options(alloc, options)?;
+    let root = root_in(images, &words.root)?;
+    let hash_first = sector_at(words.hash_offset);
+    let places = ImagePlaces {
+        data: words.data_path,
+        hash: words.hash_path,
+        hash_first,
+    };
+    Ok(verify_tree(alloc, images, places, given, &root, writer)?)
+}
+
+/// `table --no-superblock [OPTION..] HASH [ROOT] DATANAME HASHNAME`
+pub fn invoke_table_tree<'a, I: Images, W: Write>(
+    alloc: Global,
+    images: &mut I,
+    words: &TreeTableWords<'a>,
+    options: &OptionWords<'a>,
+    writer: &mut Counted<W>,
+) -> Result<(), VerityFault<'a>>
+    ensures ok { OnOk result (PrintsTreeEntry (option_texts options.now) (calls I.relations I.Dev.state images.old images.new) (tree_table_record words.now) (W.contents writer.old.inner) (W.contents writer.new.inner)) }
+    ensures err { IfErr result (IsTableTreeEnd (option_texts options.now) (calls I.relations I.Dev.state images.old images.new) (tree_table_record words.now) (W.contents writer.old.inner) (W.contents writer.new.inner) writer.new.failed) }
+{
+    let given = tree_options(alloc, options)?;
+    let root = root_in(images, &words.root)?;
+    let first = sector_at(words.hash_offset);
+    let line = LineWords {
+        root: &root,
+        data_name: words.data_name,
+        hash_name: words.hash_name,
+    };
+    Ok(print_tree_line(first, words.name, line, given, writer)?)
+}
+
+// What the options say of a tree, whose salt has to be given.
+fn tree_options<'a>(
+    alloc: Global,
+    options: &OptionWords<'_>,
+) -> Result<FormatOptions, VerityFault<'a>>
+    ensures ok { IfOk result (SaysTree (option_texts options.now)) }
+    ensures err { IfErr result IsUnsaid }
+{
+    let options = options_of(alloc, options)?;
+    match given_options(options) {
+        Some(given) => Ok(given),
+        None => Err(VerityFault::Usage),
+    }
+}
