@@ -1,4 +1,6 @@
 pub mod Commands
+pub mod FaultTexts
+pub mod Invocations
 pub mod Kinds
 pub mod Labels
 pub mod Lines

@@ -1,5 +1,5 @@
 -- The stack texts that are printed of a table: an entry for each partition, over the leaf DISK.
-use Rattle.std.specs.Prelude.{◌≡◌, ℕ, List, ◌++◌, codes, decimal, Option}
+use Rattle.std.specs.Prelude.{ℕ, List, ◌++◌, codes, decimal}
 use Rattle.std.specs.List.{flat_map}
 use Rattle.device_window.specs.declared.part.Part.{Part}
 use Rattle.partition_table.specs.declared.partition.Partition.{Partition}

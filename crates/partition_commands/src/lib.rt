@@ -3,7 +3,9 @@
 
 mod entries;
 mod fault;
+mod fault_text;
 mod image;
+mod invoke;
 mod kinds;
 mod label;
 mod line;
@@ -15,7 +17,9 @@ mod root;
 mod root_stack;
 
 pub use fault::{PartitionsFault, PrintFault};
+pub use fault_text::{partitions_status, say_partitions_fault};
 pub use image::{partitions_of_image, stack_of_image};
+pub use invoke::invoke_partitions;
 pub use kinds::kind_name;
 pub use label::label_text;
 pub use names::partition_name;

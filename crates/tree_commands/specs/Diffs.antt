@@ -4,7 +4,6 @@ use Rattle.std.specs.Io.KnownBytes.{Appends}
 use Rattle.image_files.specs.Opener.{Calls}
 use Rattle.tree_difference.specs.declared.difference.Roots.{Roots}
 use Rattle.tree_difference.specs.declared.difference.Totals.{Totals}
-use Rattle.tree_difference.specs.declared.fault.DifferenceFault.{DifferenceFault}
 use Rattle.tree_difference.specs.Comparisons.{World, world}
 use Rattle.tree_difference.specs.Differences.{IsDifference, IsDifferenceCause}
 use Rattle.tree_commands.specs.declared.fault.TreeFault.{TreeFault}
@@ -36,7 +35,7 @@ abbrev pub IsDiffEnd : World → Roots → Option ℕ → Bool → TreeFault →
 IsDiffEnd w roots most failed Differs = Says w roots most false
 IsDiffEnd w roots most failed (Trees fault) = IsDifferenceCause w roots failed fault
 IsDiffEnd w roots most failed Write = failed ≡ true
-IsDiffEnd w roots most failed (Open file) = ⊥
+IsDiffEnd w roots most failed fault = ⊥
 
 -- of two images that were opened
 pub record OfBoth {S D : Type 0} (w : Calls S D) (paths : BothPaths) (old new : Option (List ℕ)) (P : World → Type 0) : Type 0 where

@@ -1,2 +1,5 @@
 pub mod Openings
 pub mod Diffs
+pub mod FaultTexts
+pub mod Invocations
+pub mod Surveys

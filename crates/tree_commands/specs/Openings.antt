@@ -1,5 +1,5 @@
 -- The two hash images of a command: which paths are opened, in which order and with which rights.
-use Rattle.std.specs.Prelude.{◌≡◌, ◌⊎◌, ℕ, List, Bool, false, Ok}
+use Rattle.std.specs.Prelude.{◌⊎◌, ℕ, List, false, Ok}
 use Rattle.image_files.specs.declared.images.OpenImage.{OpenImage}
 use Rattle.image_files.specs.declared.opening.UnopenedFile.{UnopenedFile}
 use Rattle.image_files.specs.Opened.{Refuses}

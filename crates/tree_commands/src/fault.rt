@@ -1,10 +1,13 @@
 //! Why a command on hash trees ends early.
 ghost use Rattle.std.specs.Prelude.{◌≡◌};
 ghost use Rattle.tree_commands.specs.declared.fault.TreeFault.TheVariants as tree_fault;
+ghost use Rattle.tree_survey.specs.declared.fault.SurveyFault.TheVariants as survey_fault;
 
 use counted_io::WriteFault;
 use image_files::UnopenedFile;
 use tree_difference::DifferenceFault;
+use tree_survey::SurveyFault;
+use verity_format::VerifyFault;
 
 /// Why a command on hash trees ends early.
 #[derive(Clone, Copy, Debug, PartialEq, Eq)]
@@ -15,6 +18,12 @@ pub enum TreeFault<'a> {
     Trees(DifferenceFault),
     /// They were compared and differ.
     Differs,
+    /// The image isn't gone over to its end.
+    Survey(SurveyFault),
+    /// No hash block begins at the place of the superblock.
+    Unaligned,
+    /// It was gone over, and not all of it is good.
+    Damaged,
     /// A line can't be written.
     Write,
 }
@@ -32,6 +41,22 @@ impl From<DifferenceFault> for TreeFault<'_> {
 
     fn from(fault: DifferenceFault) -> Self {
         TreeFault::Trees(fault)
+    }
+}
+
+impl From<SurveyFault> for TreeFault<'_> {
+    ghost from_gives = { λ fault given. given ≡ tree_fault.Survey fault };
+
+    fn from(fault: SurveyFault) -> Self {
+        TreeFault::Survey(fault)
+    }
+}
+
+impl From<VerifyFault> for TreeFault<'_> {
+    ghost from_gives = { λ fault given. given ≡ tree_fault.Survey (survey_fault.Image fault) };
+
+    fn from(fault: VerifyFault) -> Self {
+        TreeFault::Survey(SurveyFault::Image(fault))
     }
 }
 

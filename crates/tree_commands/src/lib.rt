@@ -3,8 +3,14 @@
 
 mod diff;
 mod fault;
+mod fault_text;
+mod invoke;
 mod paths;
+mod survey;
 
 pub use diff::diff_images;
 pub use fault::TreeFault;
+pub use fault_text::{say_tree_fault, tree_status};
+pub use invoke::{invoke_diff, invoke_survey};
 pub use paths::HashPaths;
+pub use survey::{SurveyPlaces, survey_images};

@@ -1,5 +1,5 @@
-use Rattle.std.proofs.Common.{◌≡◌, ◌∙◌, [], ◌∷◌, ◌++◌, ap, arith, sym}
-use Rattle.partition_commands.specs.Labels.{number16, units_to}
+use Rattle.std.proofs.Common.{◌≡◌, ◌∙◌, ap, arith, sym}
+use Rattle.partition_commands.specs.Labels.{units_to}
 use Rattle.partition_commands.proofs.LabelLemmas.{units_to-none, units_to-more}
 use Rattle.partition_commands.proofs.label.label_units.Goals as goal
 

@@ -1,0 +1,49 @@
+//! What is printed of partitions that aren't printed, and the status.
+ghost use Rattle.std.specs.Prelude.{◌≡◌};
+ghost use Rattle.counted_io.specs.Counted.{Writes};
+ghost use Rattle.partition_commands.specs.FaultTexts.{open_text, partitions_status, partitions_text};
+
+use crate::fault::PartitionsFault;
+use crate::refusal::say_refusal;
+use block_device::OpenFault;
+use counted_io::{Counted, WriteFault};
+use image_files::UnopenedFile;
+use io_fault_text::say_no_memory;
+use std::io::Write;
+
+const REFUSED: u8 = 1;
+
+/// One line, or none where that can't be written.
+pub fn say_partitions_fault<W: Write>(
+    writer: &mut Counted<W>,
+    fault: PartitionsFault<'_>,
+) -> Result<(), WriteFault>
+    ensures { Writes W.contents writer.old writer.new (partitions_text fault.entry) result }
+{
+    match fault {
+        PartitionsFault::NoMemory => say_no_memory(writer),
+        PartitionsFault::Open(file) => say_unopened(writer, file),
+        PartitionsFault::Refused(refusal) => say_refusal(writer, refusal),
+        PartitionsFault::Write => Ok(()),
+    }
+}
+
+/// The status of a command that ends so: 1, refused.
+pub fn partitions_status(_fault: PartitionsFault<'_>) -> u8
+    ensures { result ≡ partitions_status }
+{
+    REFUSED
+}
+
+// `refused K NAME PATH`
+fn say_unopened<W: Write>(writer: &mut Counted<W>, file: UnopenedFile<'_>) -> Result<(), WriteFault>
+    ensures { Writes W.contents writer.old writer.new (open_text file.entry) result }
+{
+    let UnopenedFile { fault, path } = file;
+    if fault == OpenFault::NoMemory {
+        return say_no_memory(writer);
+    }
+    let number = fault.number();
+    let name = fault.name();
+    writer.print(format_args!("refused {number} {name} {path}\n"))
+}

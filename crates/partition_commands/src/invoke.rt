@@ -1,0 +1,53 @@
+//! The command `partitions` by its words.
+ghost use Rattle.std.specs.Prelude.{◌≡◌, OnOk, IfErr};
+ghost use Rattle.command_line.specs.words.Partitions.{partitions_record};
+ghost use Rattle.image_files.specs.Opener.{calls};
+ghost use Rattle.partition_commands.specs.Invocations.{IsListingEnd, ListsPartitions, size_of};
+
+use crate::fault::PartitionsFault;
+use crate::image::{partitions_of_image, stack_of_image};
+use crate::root_stack::root_stack_of_image;
+use command_line::{PartitionForm, PartitionsWords};
+use counted_io::Counted;
+use image_files::Images;
+use partition_table::SectorSize;
+use std::alloc::Global;
+use std::io::Write;
+
+const LARGE_SECTOR: u32 = 4096;
+
+// Sectors of 4,096 bytes, or of 512.
+fn size_of(bytes: u32) -> SectorSize
+    ensures { result ≡ size_of bytes }
+{
+    if bytes == LARGE_SECTOR {
+        SectorSize::Bytes4096
+    } else {
+        SectorSize::Bytes512
+    }
+}
+
+/// `partitions [--sector-size 512|4096] [--stack | --root ROOT] IMAGE`
+pub fn invoke_partitions<'a, I: Images, W: Write>(
+    alloc: Global,
+    images: &mut I,
+    words: PartitionsWords<'a>,
+    writer: &mut Counted<W>,
+) -> Result<(), PartitionsFault<'a>>
+    ensures ok { OnOk result (ListsPartitions (calls I.relations I.Dev.state images.old images.new) (partitions_record words.entry) (W.contents writer.old.inner) (W.contents writer.new.inner)) }
+    ensures err { IfErr result (IsListingEnd (calls I.relations I.Dev.state images.old images.new) (partitions_record words.entry) writer.new.failed) }
+{
+    let PartitionsWords {
+        image,
+        sector_size,
+        form,
+    } = words;
+    let size = size_of(sector_size);
+    match form {
+        PartitionForm::Lines => partitions_of_image(alloc, images, image, size, writer),
+        PartitionForm::Stack => stack_of_image(alloc, images, image, size, writer),
+        PartitionForm::Root(root) => {
+            root_stack_of_image(alloc, images, image, size, &root, writer)
+        }
+    }
+}

@@ -1,0 +1,84 @@
+-- What is printed of commands on hash trees that end early, and their status.
+use Rattle.std.specs.Prelude.{ℕ, List, [], ◌++◌, codes, decimal}
+use Rattle.block_device.specs.declared.open_fault.OpenFault.{OpenFault}
+use Rattle.block_device.specs.declared.open_fault.OpenFault.TheVariants as opening
+use Rattle.block_device.specs.OpenFault.{open_number, open_name}
+use Rattle.image_files.specs.declared.opening.UnopenedFile.{UnopenedFile}
+use Rattle.io_fault_text.specs.Texts.{kind_then, no_memory}
+use Rattle.tree_commands.specs.declared.fault.TreeFault.{TreeFault}
+use Rattle.tree_commands.specs.declared.fault.TreeFault.TheVariants as trees
+use Rattle.tree_difference.specs.declared.fault.DifferenceFault.{DifferenceFault}
+use Rattle.tree_difference.specs.declared.fault.DifferenceFault.TheVariants as difference
+use Rattle.tree_difference.specs.declared.fault.Unlike.{Unlike}
+use Rattle.tree_difference.specs.declared.fault.Unlike.TheVariants as unlike
+use Rattle.tree_difference.specs.declared.fault.Which.{Which}
+use Rattle.tree_difference.specs.declared.fault.Which.TheVariants as which
+use Rattle.tree_survey.specs.declared.fault.SurveyFault.{SurveyFault}
+use Rattle.tree_survey.specs.declared.fault.SurveyFault.TheVariants as survey
+use Rattle.verity_format.specs.declared.verifying.VerifyFault.{VerifyFault}
+use Rattle.verity_format.specs.declared.verifying.VerifyFault.TheVariants as verify
+use Rattle.verity_format.specs.FaultNames.{verify_number, verify_name}
+
+-- a file that isn't opened, with its path
+abbrev pub unopened_text : OpenFault → List ℕ → List ℕ
+unopened_text opening.NoMemory path = no_memory
+unopened_text fault path = codes "refused " ++ kind_then (open_number fault) (open_name fault) (codes " " ++ (path ++ codes "\n"))
+
+abbrev pub open_text : UnopenedFile → List ℕ
+open_text file = unopened_text file.fault file.path.now
+
+-- ---- trees that aren't compared
+
+abbrev pub which_name : Which → List ℕ
+which_name which.First = codes "first"
+which_name which.Second = codes "second"
+
+-- one of the hash images has no superblock, or is too small, or failed
+abbrev pub hash_image_text : Which → VerifyFault → List ℕ
+hash_image_text of verify.NoMemory = no_memory
+hash_image_text of fault = codes "refused " ++ kind_then (verify_number fault) (verify_name fault) (codes " " ++ (which_name of ++ codes "\n"))
+
+abbrev pub unlike_text : Unlike → List ℕ
+unlike_text unlike.DataBlockSize = codes "refused 20 OtherDataBlockSize\n"
+unlike_text unlike.HashBlockSize = codes "refused 21 OtherHashBlockSize\n"
+unlike_text unlike.Salt = codes "refused 22 OtherSalt\n"
+
+-- a hash block that isn't the one whose digest stands above it: of which tree, its level and its number there
+abbrev pub hash_text : Which → ℕ → ℕ → List ℕ
+hash_text of level index = codes "fault hash " ++ (which_name of ++ (codes " " ++ (decimal level ++ (codes " " ++ (decimal index ++ codes "\n")))))
+
+abbrev pub difference_text : DifferenceFault → List ℕ
+difference_text (difference.Image of fault) = hash_image_text of fault
+difference_text (difference.Unlike found) = unlike_text found
+difference_text (difference.Hash of level index) = hash_text of level index
+difference_text difference.NoMemory = no_memory
+difference_text difference.Write = []
+
+-- ---- an image that isn't gone over
+
+-- no superblock, or too small, or a device failed
+abbrev pub image_text : VerifyFault → List ℕ
+image_text verify.NoMemory = no_memory
+image_text fault = codes "refused " ++ kind_then (verify_number fault) (verify_name fault) (codes "\n")
+
+abbrev pub survey_text : SurveyFault → List ℕ
+survey_text (survey.Image fault) = image_text fault
+survey_text survey.Write = []
+
+-- ---- all of them
+
+abbrev pub tree_text : TreeFault → List ℕ
+tree_text (trees.Open file) = open_text file
+tree_text (trees.Trees fault) = difference_text fault
+tree_text trees.Differs = []
+tree_text (trees.Survey fault) = survey_text fault
+tree_text trees.Unaligned = codes "refused 18 Unaligned\n"
+tree_text trees.Damaged = []
+tree_text trees.Write = []
+
+-- 3 where they differ, or a block isn't the one that was formatted
+abbrev pub tree_status : TreeFault → ℕ
+tree_status trees.Differs = 3
+tree_status trees.Damaged = 3
+tree_status (trees.Trees (difference.Hash of level index)) = 3
+tree_status fault = 1

@@ -1,0 +1,35 @@
+-- What the commands on hash trees print by their words, and how they end early.
+use Rattle.std.specs.Prelude.{ℕ, ◌/◌, Bool, List, Option}
+use Rattle.command_line.specs.words.Diff.{DiffRecord}
+use Rattle.command_line.specs.words.Verify.{VerifyRecord}
+use Rattle.image_files.specs.Opener.{Calls}
+use Rattle.tree_difference.specs.declared.difference.Roots.{Roots}
+use Rattle.tree_commands.specs.declared.fault.TreeFault.{TreeFault}
+use Rattle.tree_commands.specs.Diffs.{IsDiffFilesEnd, PrintsSame}
+use Rattle.tree_commands.specs.Openings.{BothPaths}
+use Rattle.tree_commands.specs.Surveys.{IsSurveyFilesEnd, Places, PrintsGood}
+
+-- ---- `diff`
+
+abbrev pub diff_paths : DiffRecord → BothPaths
+diff_paths d = record { first_path = d.old_path; second_path = d.new_path }
+
+abbrev pub diff_roots : DiffRecord → Roots
+diff_roots d = record { first = d.old_root; second = d.new_root }
+
+abbrev pub DiffsTrees : {S D : Type 0} → Calls S D → DiffRecord → Option (List ℕ) → Option (List ℕ) → Type 0
+DiffsTrees w d old new = PrintsSame w (diff_paths d) (diff_roots d) d.blocks old new
+
+abbrev pub IsDiffWordsEnd : {S D : Type 0} → Calls S D → DiffRecord → Option (List ℕ) → Option (List ℕ) → Bool → TreeFault → Type 0
+IsDiffWordsEnd w d old new failed fault = IsDiffFilesEnd w (diff_paths d) (diff_roots d) d.blocks old new failed fault
+
+-- ---- `verify --all`
+
+abbrev pub survey_at : VerifyRecord → Places
+survey_at v = record { paths = record { first_path = v.data_path; second_path = v.hash_path }; first = v.hash_offset / 512 }
+
+abbrev pub SurveysAt : {S D : Type 0} → Calls S D → VerifyRecord → List ℕ → Option (List ℕ) → Option (List ℕ) → Type 0
+SurveysAt w v root old new = PrintsGood w (survey_at v) root old new
+
+abbrev pub IsSurveyWordsEnd : {S D : Type 0} → Calls S D → VerifyRecord → List ℕ → Option (List ℕ) → Option (List ℕ) → Bool → TreeFault → Type 0
+IsSurveyWordsEnd w v root old new failed fault = IsSurveyFilesEnd w (survey_at v) root old new failed fault

@@ -1,0 +1,67 @@
+//! The commands on hash trees by their words.
+ghost use Rattle.std.specs.Prelude.{OnOk, IfErr};
+ghost use Rattle.command_line.specs.words.Diff.{diff_record};
+ghost use Rattle.command_line.specs.words.Verify.{verify_record};
+ghost use Rattle.image_files.specs.Opener.{calls};
+ghost use Rattle.tree_commands.specs.Invocations.{DiffsTrees, IsDiffWordsEnd, IsSurveyWordsEnd, SurveysAt};
+
+use crate::diff::diff_images;
+use crate::fault::TreeFault;
+use crate::paths::HashPaths;
+use crate::survey::{SurveyPlaces, survey_images};
+use command_line::{DiffWords, VerifyWords};
+use counted_io::Counted;
+use image_files::Images;
+use std::alloc::Global;
+use std::io::Write;
+use tree_difference::Roots;
+use tree_shape::Digest;
+
+const SECTOR: u64 = 512;
+
+/// `verify --all [--hash-offset BYTES] DATA HASH ROOT`, with the root digest that the words name.
+pub fn invoke_survey<'a, I: Images, W: Write>(
+    alloc: Global,
+    images: &mut I,
+    words: &VerifyWords<'a>,
+    root: &Digest,
+    writer: &mut Counted<W>,
+) -> Result<(), TreeFault<'a>>
+    ensures ok { OnOk result (SurveysAt (calls I.relations I.Dev.state images.old images.new) (verify_record words.now) root.now (W.contents writer.old.inner) (W.contents writer.new.inner)) }
+    ensures err { IfErr result (IsSurveyWordsEnd (calls I.relations I.Dev.state images.old images.new) (verify_record words.now) root.now (W.contents writer.old.inner) (W.contents writer.new.inner) writer.new.failed) }
+{
+    let places = SurveyPlaces {
+        data: words.data_path,
+        hash: words.hash_path,
+        hash_first: words.hash_offset / SECTOR,
+    };
+    survey_images(alloc, images, places, root, writer)
+}
+
+/// `diff [--blocks N] HASH1 ROOT1 HASH2 ROOT2`
+pub fn invoke_diff<'a, I: Images, W: Write>(
+    alloc: Global,
+    images: &mut I,
+    words: DiffWords<'a>,
+    writer: &mut Counted<W>,
+) -> Result<(), TreeFault<'a>>
+    ensures ok { OnOk result (DiffsTrees (calls I.relations I.Dev.state images.old images.new) (diff_record words.entry) (W.contents writer.old.inner) (W.contents writer.new.inner)) }
+    ensures err { IfErr result (IsDiffWordsEnd (calls I.relations I.Dev.state images.old images.new) (diff_record words.entry) (W.contents writer.old.inner) (W.contents writer.new.inner) writer.new.failed) }
+{
+    let DiffWords {
+        old_path,
+        old_root,
+        new_path,
+        new_root,
+        blocks,
+    } = words;
+    let paths = HashPaths {
+        first: old_path,
+        second: new_path,
+    };
+    let roots = Roots {
+        first: old_root,
+        second: new_root,
+    };
+    diff_images(alloc, images, paths, roots, blocks, writer)
+}

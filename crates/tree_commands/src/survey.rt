@@ -1,0 +1,158 @@
+//! The command `verify --all`: which data blocks of an image are good, and which hash blocks aren't.
+ghost use Rattle.std.specs.Prelude.{◌≡◌, ◌&&◌, nat_lt, true, OnOk, IfErr};
+ghost use Rattle.counted_io.specs.Counted.{Writes};
+ghost use Rattle.image_files.specs.Opener.{calls};
+ghost use Rattle.tree_survey.specs.Passes.{pass};
+ghost use Rattle.tree_commands.specs.Surveys.{IsPlacedEnd, IsSurveyEnd, IsSurveyFilesEnd, PrintsGood, SaysSurvey, SurveysPlaced, data_end, is_aligned, is_all_good, survey_places, totals_text};
+
+use crate::fault::TreeFault;
+use crate::paths::{HashPaths, TwoHashes, open_both};
+use block_device::BlockDev;
+use counted_io::{Counted, WriteFault};
+use device_window::Window;
+use image_files::{Images, OpenImage, is_one_file};
+use std::alloc::Global;
+use std::io::Write;
+use std::marker::Brand;
+use tree_shape::Digest;
+use tree_survey::{Survey, Totals, survey_image};
+use verity_format::read_superblock;
+
+/// The paths of a data image and of its hash image, and the sector of 512 bytes of the hash image's file where the hash
+/// image begins.
+#[derive(Clone, Copy, Debug, PartialEq, Eq)]
+pub struct SurveyPlaces<'a> {
+    pub data: &'a str,
+    pub hash: &'a str,
+    pub hash_first: u64,
+}
+
+// The sector where the data end, and the one where the hash image begins.
+#[derive(Clone, Copy)]
+struct Bounds {
+    end: u64,
+    first: u64,
+}
+
+/// `verify --all [--hash-offset BYTES] DATA HASH ROOT`: a line for each longest run of data blocks that aren't good, one for
+/// each hash block that isn't, and the totals. Where one isn't good, that is the fault `Damaged`. Where both are one file,
+/// the data are what lies before the hash image.
+pub fn survey_images<'a, I: Images, W: Write>(
+    alloc: Global,
+    images: &mut I,
+    places: SurveyPlaces<'a>,
+    root: &Digest,
+    writer: &mut Counted<W>,
+) -> Result<(), TreeFault<'a>>
+    ensures ok { OnOk result (PrintsGood (calls I.relations I.Dev.state images.old images.new) (survey_places places.entry) root.now (W.contents writer.old.inner) (W.contents writer.new.inner)) }
+    ensures err { IfErr result (IsSurveyFilesEnd (calls I.relations I.Dev.state images.old images.new) (survey_places places.entry) root.now (W.contents writer.old.inner) (W.contents writer.new.inner) writer.new.failed) }
+{
+    let SurveyPlaces {
+        data,
+        hash,
+        hash_first: first,
+    } = places;
+    let paths = HashPaths {
+        first: data,
+        second: hash,
+    };
+    let two = open_both(images, paths)?;
+    let end = data_end(&two, first);
+    let TwoHashes {
+        first: OpenImage {
+            device: data_dev,
+            id: _,
+        },
+        second: OpenImage {
+            device: hash_dev,
+            id: _,
+        },
+    } = two;
+    survey_behind(
+        alloc,
+        data_dev,
+        hash_dev,
+        Bounds { end, first },
+        root,
+        writer,
+    )
+}
+
+// The sector where the data end: in one file before the hash image, else at the end of theirs.
+fn data_end<D>(two: &TwoHashes<D>, first: u64) -> u64
+    ensures { result ≡ data_end two.now first }
+{
+    if first > 0 && is_one_file(two.first.id, two.second.id) {
+        return first;
+    }
+    u64::MAX
+}
+
+// Whether a tree of hash blocks of that size may stand behind that sector: one begins there.
+fn is_aligned(first: u64, size: u32) -> bool
+    ensures { result ≡ is_aligned first size }
+{
+    if size < 512 {
+        return true;
+    }
+    first % u64::from(size / 512) == 0
+}
+
+// What lies before the data's end, and what lies behind that sector.
+fn survey_behind<'a, D: BlockDev + Drop, H: BlockDev + Drop, W: Write>(
+    alloc: Global,
+    data_dev: D,
+    hash_dev: H,
+    bounds: Bounds,
+    root: &Digest,
+    writer: &mut Counted<W>,
+) -> Result<(), TreeFault<'a>>
+    ensures ok { OnOk result (SurveysPlaced (D.state data_dev) (H.state hash_dev) bounds.end bounds.first root.now (W.contents writer.old.inner) (W.contents writer.new.inner)) }
+    ensures err { IfErr result (IsPlacedEnd (D.state data_dev) (H.state hash_dev) bounds.end bounds.first root.now (W.contents writer.old.inner) (W.contents writer.new.inner) writer.new.failed) }
+{
+    let mut before = Window::<D, Brand>::before(data_dev, bounds.end);
+    let mut behind = Window::<H, Brand>::behind(hash_dev, bounds.first);
+    let superblock = read_superblock(&mut behind)?;
+    if !is_aligned(bounds.first, superblock.hash_block()) {
+        return Err(TreeFault::Unaligned);
+    }
+    say_survey(alloc, &mut before, &mut behind, root, writer)
+}
+
+// Goes over the two devices, and prints the totals.
+fn say_survey<'a, D: BlockDev, H: BlockDev, W: Write>(
+    alloc: Global,
+    data_dev: &mut D,
+    hash_dev: &mut H,
+    root: &Digest,
+    writer: &mut Counted<W>,
+) -> Result<(), TreeFault<'a>>
+    ensures ok { OnOk result (SaysSurvey (pass (D.state data_dev.old) (H.state hash_dev.old) (D.state data_dev.new) (H.state hash_dev.new) (W.contents writer.old.inner) (W.contents writer.new.inner)) root.now true) }
+    ensures err { IfErr result (IsSurveyEnd (pass (D.state data_dev.old) (H.state hash_dev.old) (D.state data_dev.new) (H.state hash_dev.new) (W.contents writer.old.inner) (W.contents writer.new.inner)) root.now writer.new.failed) }
+{
+    let found = survey_image(alloc, data_dev, hash_dev, root, writer)?;
+    say_totals(writer, found.totals)?;
+    if !is_all_good(found) {
+        return Err(TreeFault::Damaged);
+    }
+    Ok(())
+}
+
+fn is_all_good(found: Survey) -> bool
+    ensures { result ≡ is_all_good found }
+{
+    found.totals.changed == 0 && found.totals.unknown == 0 && found.whole_tree
+}
+
+// `good N changed N unknown N`
+#[tactic(auto, unfolding(crate::specs::Surveys::totals_text))]
+fn say_totals<W: Write>(writer: &mut Counted<W>, totals: Totals) -> Result<(), WriteFault>
+    ensures { Writes W.contents writer.old writer.new (totals_text totals) result }
+{
+    let Totals {
+        good,
+        changed,
+        unknown,
+    } = totals;
+    writer.print(format_args!("good {good} changed {changed} unknown {unknown}\n"))
+}

@@ -1,0 +1,8 @@
+mod HashLemmas
+mod LawLemmas
+mod RunLemmas
+mod SayingLemmas
+mod SightLemmas
+mod SizeLemmas
+mod SurveyLemmas
+mod UnderwayLemmas

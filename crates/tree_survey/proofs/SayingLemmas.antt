@@ -1,0 +1,203 @@
+-- Hash blocks that are gone over, while some are left.
+use Rattle.std.proofs.Common.{◌≡◌, ◌≤◌, ◌<◌, ◌+◌, ◌-◌, ◌*◌, ◌/◌, ◌^◌, ℕ, suc, min, Bool, true, false, IsTrue, List, [], ◌∷◌, ◌++◌, Option, refl, sym, ap, ◌∙◌, subst, arith, inl, inr}
+use Rattle.std.specs.Prelude.{◌&&◌}
+use Rattle.std.specs.Io.KnownBytes.{Appends}
+use Rattle.std.proofs.KnownBytes.{Appends-nil, Appends-trans}
+use Rattle.std.proofs.Math.Nat.{mul-le-mul_right, zero-mul}
+use Rattle.std.proofs.lemmas.Nat.{div-add-mod', div-mul-add}
+use Rattle.std.proofs.lemmas.Bool.{cases_lt}
+use Rattle.std.proofs.lemmas.List.{append-nil, append_assoc}
+use Rattle.block_device.specs.Device.{Device}
+use Rattle.tree_shape.specs.Shape.{ShapeRecord, IsShape, level_blocks, levels, per_block}
+use Rattle.tree_shape.proofs.lemmas.ShapeFactLemmas.{level_blocks-is, two}
+use Rattle.tree_shape.proofs.lemmas.ShapeLemmas.{pow_pos}
+use Rattle.verity_format.specs.Blocks.{IsOnlyRead}
+use Rattle.tree_path.specs.Path.{PathRecord, IsPathOf}
+use Rattle.tree_path.proofs.lemmas.DeviceLemmas.{only_read-none, only_read-then, steady-then}
+use Rattle.tree_survey.specs.Hashes.{HashBlock, IsCompared, SaysLevel, SaysTree, bad_of_level, bad_of_levels, first_below, hash_line, hash_lines, is_good_on, is_whole, tree_at, with_bad}
+use Rattle.tree_survey.specs.Surveys.{Tree}
+use Rattle.tree_survey.proofs.HashLemmas.{path-none, path-then}
+
+-- the hash blocks of the levels from that one up were gone over
+pub record IsSayingTree (p q : PathRecord) (d d' : Device) (level : ℕ) (old new : Option (List ℕ)) (whole : Bool) : Type 0 where
+  pub high : level ≤ levels p.shape
+  pub same : IsPathOf p.shape p.salt p.root q
+  pub read : IsOnlyRead d d'
+  pub failures : d'.failures ≡ d.failures
+  pub bad : List HashBlock
+  pub stored : IsTrue d.steady → bad ≡ bad_of_levels (tree_at p) d.image (levels p.shape - level)
+  pub whole_is : whole ≡ is_whole bad
+  pub printed_are : Appends old new (hash_lines bad)
+
+-- the first n hash blocks of a level were
+pub record IsSayingLevel (p q : PathRecord) (d d' : Device) (level n : ℕ) (old new : Option (List ℕ)) (whole : Bool) : Type 0 where
+  pub same : IsPathOf p.shape p.salt p.root q
+  pub read : IsOnlyRead d d'
+  pub failures : d'.failures ≡ d.failures
+  pub bad : List HashBlock
+  pub stored : IsTrue d.steady → bad ≡ bad_of_level (tree_at p) d.image level n
+  pub whole_is : whole ≡ is_whole bad
+  pub printed_are : Appends old new (hash_lines bad)
+
+pub saying-none : (p : PathRecord) (d : Device) (level : ℕ) (old : Option (List ℕ)) → level ≡ levels p.shape → IsSayingTree p p d d level old old true
+saying-none p d level old top = record {
+  high = omega (arith, top);
+  same = path-none p;
+  read = only_read-none d;
+  failures = refl;
+  bad = [];
+  stored = λ steady. (let none : levels p.shape - level ≡ 0 = omega (arith, top) in sym (ap (bad_of_levels (tree_at p) d.image) none));
+  whole_is = refl;
+  printed_are = Appends-nil old;
+}
+
+pub level-none : (p : PathRecord) (d : Device) (level : ℕ) (old : Option (List ℕ)) → IsSayingLevel p p d d level 0 old old true
+level-none p d level old = record {
+  same = path-none p;
+  read = only_read-none d;
+  failures = refl;
+  bad = [];
+  stored = λ steady. refl;
+  whole_is = refl;
+  printed_are = Appends-nil old;
+}
+
+lines-append : (xs ys : List HashBlock) → hash_lines (xs ++ ys) ≡ hash_lines xs ++ hash_lines ys
+lines-append [] ys = refl
+lines-append (x ∷ xs) ys = ap (λ (l : List ℕ). hash_line x ++ l) (lines-append xs ys) ∙ sym (append_assoc (hash_line x) (hash_lines xs) (hash_lines ys))
+
+whole-append : (xs ys : List HashBlock) → is_whole (xs ++ ys) ≡ (is_whole xs && is_whole ys)
+whole-append [] ys = refl
+whole-append (x ∷ xs) ys = refl
+
+-- what was said of a level stands under the path and the device before
+pub tree-same : (p q : PathRecord) → IsPathOf p.shape p.salt p.root q → tree_at q ≡ tree_at p
+tree-same p q is =
+    let f : ShapeRecord → List ℕ → List ℕ → Tree = λ s x r. record { shape = s; salt = x; root = r } in
+    ap (λ (s : ShapeRecord). f s q.salt q.root) is.shape_is ∙ ap (λ (x : List ℕ). f p.shape x q.root) is.salt_is ∙ ap (f p.shape p.salt) is.root_is
+
+-- ---- one hash block more of a level
+
+module _ (p q r : PathRecord) (d d' d'' : Device) (level n i : ℕ) (old now : Option (List ℕ)) (whole : Bool) (u : IsSayingLevel p q d d' level n old now whole) (at : i ≡ first_below p.shape level n) (read : IsOnlyRead d' d'') where
+  here : HashBlock
+  here = record { level = level; number = n }
+
+  is-good : (good : Bool) → IsCompared q r d' d'' level i good → IsTrue d.steady → good ≡ is_good_on (tree_at p) d.image level (first_below p.shape level n)
+  is-good good h steady =
+      h.stored (steady-then u.read.same steady)
+      ∙ ap (λ (t : Tree). is_good_on t d'.image level i) (tree-same p q u.same)
+      ∙ ap (λ (im : List (List ℕ)). is_good_on (tree_at p) im level i) (u.read.image steady)
+      ∙ ap (is_good_on (tree_at p) d.image level) at
+
+  pub level-good : IsCompared q r d' d'' level i true → IsSayingLevel p r d d'' level (suc n) old now whole
+  unfolding here
+  level-good h = record {
+    same = path-then p q r u.same h.same;
+    read = only_read-then u.read read;
+    failures = h.failures ∙ u.failures;
+    bad = u.bad;
+    stored = λ steady. u.stored steady ∙ ap (λ (b : Bool). with_bad b here (bad_of_level (tree_at p) d.image level n)) (is-good true h steady);
+    whole_is = u.whole_is;
+    printed_are = u.printed_are;
+  }
+
+  pub level-bad : (new : Option (List ℕ)) → IsCompared q r d' d'' level i false → Appends now new (hash_line (record { level = level; number = n })) → IsSayingLevel p r d d'' level (suc n) old new false
+  unfolding here
+  level-bad new h told = record {
+    same = path-then p q r u.same h.same;
+    read = only_read-then u.read read;
+    failures = h.failures ∙ u.failures;
+    bad = u.bad ++ here ∷ [];
+    stored = λ steady. ap (λ (xs : List HashBlock). xs ++ here ∷ []) (u.stored steady) ∙ ap (λ (b : Bool). with_bad b here (bad_of_level (tree_at p) d.image level n)) (is-good false h steady);
+    whole_is = last u.bad;
+    printed_are = subst (Appends old new) (ap (λ (l : List ℕ). hash_lines u.bad ++ l) (sym (append-nil (hash_line here))) ∙ sym (lines-append u.bad (here ∷ [])))
+        (Appends-trans old now new (hash_lines u.bad) (hash_line here) u.printed_are told);
+  }
+    where
+      last : (xs : List HashBlock) → false ≡ is_whole (xs ++ here ∷ [])
+      last [] = refl
+      last (x ∷ xs) = refl
+
+pub level-all : (p q : PathRecord) (d d' : Device) (level n : ℕ) (old new : Option (List ℕ)) (whole : Bool) → n ≡ level_blocks p.shape level → IsSayingLevel p q d d' level n old new whole → SaysLevel p q d d' level old new whole
+level-all p q d d' level n old new whole all u = record {
+  same = u.same;
+  failures = u.failures;
+  bad = u.bad;
+  stored = λ steady. u.stored steady ∙ ap (bad_of_level (tree_at p) d.image level) all;
+  whole_is = u.whole_is;
+  printed_are = u.printed_are;
+}
+
+-- ---- one level more
+
+pub tree-next : (p q r : PathRecord) (d d' d'' : Device) (above l : ℕ) (old now new : Option (List ℕ)) (whole good : Bool) → above ≡ l + 1 → IsSayingTree p q d d' above old now whole → IsOnlyRead d' d'' → SaysLevel q r d' d'' l now new good
+    → IsSayingTree p r d d'' l old new (whole && good)
+tree-next p q r d d' d'' above l old now new whole good is u read h = record {
+  high = omega (arith, u.high, is);
+  same = path-then p q r u.same h.same;
+  read = only_read-then u.read read;
+  failures = h.failures ∙ u.failures;
+  bad = u.bad ++ h.bad;
+  stored = λ steady.
+      let levels-more : levels p.shape - l ≡ suc (levels p.shape - above) = omega (arith, u.high, is) in
+      let down : levels p.shape - suc (levels p.shape - above) ≡ l = omega (arith, u.high, is) in
+      let level-is : h.bad ≡ bad_of_level (tree_at p) d.image l (level_blocks p.shape l) =
+      h.stored (steady-then u.read.same steady)
+      ∙ ap (λ (s : ShapeRecord). bad_of_level (tree_at q) d'.image l (level_blocks s l)) u.same.shape_is
+      ∙ ap (λ (t : Tree). bad_of_level t d'.image l (level_blocks p.shape l)) (tree-same p q u.same)
+      ∙ ap (λ (im : List (List ℕ)). bad_of_level (tree_at p) im l (level_blocks p.shape l)) (u.read.image steady) in
+      ap (λ (xs : List HashBlock). xs ++ h.bad) (u.stored steady)
+      ∙ ap (λ (ys : List HashBlock). bad_of_levels (tree_at p) d.image (levels p.shape - above) ++ ys) level-is
+      ∙ sym (ap (λ (m : ℕ). bad_of_levels (tree_at p) d.image (levels p.shape - above) ++ bad_of_level (tree_at p) d.image m (level_blocks p.shape m)) down)
+      ∙ sym (ap (bad_of_levels (tree_at p) d.image) levels-more);
+  whole_is = ap (λ (b : Bool). b && good) u.whole_is ∙ ap (λ (b : Bool). is_whole u.bad && b) h.whole_is ∙ sym (whole-append u.bad h.bad);
+  printed_are = subst (Appends old new) (sym (lines-append u.bad h.bad)) (Appends-trans old now new (hash_lines u.bad) (hash_lines h.bad) u.printed_are h.printed_are);
+}
+
+pub tree-all : (p q : PathRecord) (d d' : Device) (level : ℕ) (old new : Option (List ℕ)) (whole : Bool) → level ≡ 0 → IsSayingTree p q d d' level old new whole → SaysTree p d old new whole
+tree-all p q d d' level old new whole none u = record {
+  found = record {
+    bad = u.bad;
+    stored = λ steady. u.stored steady ∙ (let all : levels p.shape - level ≡ levels p.shape = omega (arith, none) in ap (bad_of_levels (tree_at p) d.image) all);
+  };
+  whole_is = u.whole_is;
+  printed_are = u.printed_are;
+}
+
+-- ---- where the hash blocks of a level begin
+
+module _ (s : ShapeRecord) (valid : IsShape s) (l n : ℕ) (low : n < level_blocks s l) where
+  abbrev wide : ℕ
+  wide = per_block s ^ (l + 1)
+
+  some : 0 < wide
+  some = pow_pos (per_block s) (l + 1) (omega (arith, two s valid))
+
+  quotient : n ≤ (s.blocks - 1) / wide
+  quotient = omega (arith, low, level_blocks-is s valid l)
+
+  pub first-inside : first_below s l n < s.blocks
+  first-inside =
+      let less : n * wide ≤ (s.blocks - 1) / wide * wide = mul-le-mul_right wide quotient in
+      omega (arith, less, div-add-mod' (s.blocks - 1) wide, valid.some)
+
+  pub width-same : n * min wide s.blocks ≡ first_below s l n
+  width-same = elim (cases_lt s.blocks wide) [
+    | inl less ↦
+        let none : (s.blocks - 1) / wide ≡ 0 = (let e : s.blocks - 1 ≡ 0 * wide + (s.blocks - 1) = omega (arith, zero-mul wide) in ap (λ (q : ℕ). q / wide) e) ∙ div-mul-add 0 wide (s.blocks - 1) (omega (arith, less)) in
+        let first : n ≡ 0 = omega (arith, quotient, none) in
+        ap (λ (k : ℕ). k * min wide s.blocks) first ∙ zero-mul (min wide s.blocks) ∙ sym (zero-mul wide) ∙ sym (ap (λ (k : ℕ). k * wide) first)
+    | inr more ↦ let is : min wide s.blocks ≡ wide = omega (arith, more) in ap (λ (k : ℕ). n * k) is
+  ]
+
+-- and in code, where the width is at most the number of data blocks
+pub first-at : (s t : ShapeRecord) → IsShape s → t ≡ s → (l n width blocks count : ℕ) → width ≡ min (per_block t ^ (l + 1)) blocks → blocks ≡ t.blocks → count ≡ level_blocks t l → n < count
+    → (n * width ≡ first_below s l n) × (first_below s l n < s.blocks)
+first-at s t valid same l n width blocks count width_is blocks_is count_is low =
+    let low' : n < level_blocks s l = omega (arith, low, count_is, ap (λ (x : ShapeRecord). level_blocks x l) same) in (
+      ap (λ (k : ℕ). n * k) width_is
+          ∙ ap (λ (k : ℕ). n * min (per_block t ^ (l + 1)) k) (blocks_is ∙ ap (λ (x : ShapeRecord). x.blocks) same)
+          ∙ ap (λ (x : ShapeRecord). n * min (per_block x ^ (l + 1)) s.blocks) same
+          ∙ width-same s valid l n low',
+      first-inside s valid l n low',
+    )

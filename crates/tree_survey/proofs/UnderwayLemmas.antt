@@ -1,0 +1,230 @@
+-- Data blocks that are gone over, while some are left.
+use Rattle.std.proofs.Common.{◌≡◌, ◌≤◌, ◌<◌, ◌+◌, ◌*◌, ◌/◌, ◌^◌, ℕ, Bool, true, false, IsTrue, List, [], ◌∷◌, ◌++◌, length, get_or, Option, Some, None, refl, sym, ap, ◌∙◌, subst, arith, inl, inr}
+use Rattle.std.specs.Io.KnownBytes.{Appends}
+use Rattle.std.proofs.lemmas.Bool.{cases_lt}
+use Rattle.std.proofs.lemmas.List.{get_or-append-add, get_or_append_left, get_or-map, length-append, length-map}
+use Rattle.std.proofs.lemmas.List.FromFn.{get_or-map-range_with_len, map-range_with_len_more}
+use Rattle.block_device.specs.Device.{Device}
+use Rattle.tree_shape.specs.Digests.{digest}
+use Rattle.tree_shape.specs.Shape.{ShapeRecord, IsShape}
+use Rattle.tree_shape.proofs.lemmas.ShapeFaultLemmas.{blocks-le}
+use Rattle.verity_format.specs.Blocks.{IsFullRead, IsOnlyRead, block_at, blocks_at}
+use Rattle.verity_format.specs.Image.{tree_sectors}
+use Rattle.tree_path.specs.Path.{IsPathOf}
+use Rattle.tree_path.proofs.lemmas.DeviceLemmas.{only_read-none, only_read-then, steady-then}
+use Rattle.tree_runs.specs.declared.run.Kind.{Kind}
+use Rattle.tree_runs.specs.declared.run.Kind.TheVariants.{Changed, Unknown, Removed, Added}
+use Rattle.tree_runs.specs.Limits.{begun, lines_of}
+use Rattle.tree_runs.specs.Runs.{State, count_of, is_state, weight}
+use Rattle.tree_runs.specs.Tallies.{EndsAt, listed}
+use Rattle.tree_runs.proofs.lemmas.ListingLemmas.{IsListed, listed-all, listed-ends, listed-had, listed-none, listed-run}
+use Rattle.tree_runs.proofs.lemmas.RunLemmas.{count_of-append}
+use Rattle.tree_survey.specs.declared.counts.Counts.{Counts}
+use Rattle.tree_survey.specs.declared.counts.Totals.{Totals}
+use Rattle.tree_survey.specs.declared.sight.Sight.{Sight}
+use Rattle.tree_survey.specs.Counts.{AreFew, IsAdded, closed_at, counted, good_of, totals_of}
+use Rattle.tree_survey.specs.Passes.{CanPass, Surveys, pass, tree_in}
+use Rattle.tree_survey.specs.Pieces.{IsPieceRead}
+use Rattle.tree_survey.specs.Sights.{CanGo, HasGone, IsReady, state_at}
+use Rattle.tree_survey.specs.Surveys.{IsSeenAs, IsSeenBy, IsStoredBy, Tree}
+use Rattle.tree_survey.proofs.HashLemmas.{path-none}
+use Rattle.tree_survey.proofs.SightLemmas.{on-was, ready-next, ready-none, ready-read, seen-at, stored-at}
+
+-- the data blocks before that one were gone over
+pub record IsUnderway (t : Tree) (data_dev hash_dev hash_dev' : Device) (old now : Option (List ℕ)) (w : Sight) (g : Counts) (at : ℕ) : Type 0 where
+  pub is_of : IsPathOf t.shape t.salt t.root w.path
+  pub shape : w.shape ≡ w.path.shape
+  pub within : at ≤ t.shape.blocks
+  pub ready : at < t.shape.blocks → IsReady w hash_dev at
+  pub contents : List (List ℕ)
+  pub states : List State
+  pub here : at ≡ length contents
+  pub also : at ≡ length states
+  pub over : IsTrue data_dev.steady → contents ≡ blocks_at data_dev.image t.shape.data_block 0 at
+  pub seen : (i : ℕ) → i < at → IsSeenAs t i (get_or contents i []) (get_or states i None)
+  pub stored : IsTrue hash_dev.steady → (i : ℕ) → i < at → IsStoredBy t hash_dev.image i (digest t.salt (get_or contents i [])) (get_or states i None)
+  pub read : IsOnlyRead hash_dev hash_dev'
+  pub failures : hash_dev'.failures ≡ hash_dev.failures
+  pub listed : IsListed None states g.tally old now
+  pub totals : g.totals ≡ totals_of states
+
+pub underway-none : (w : Sight) (salt : List ℕ) (data_dev hash_dev : Device) (old : Option (List ℕ)) (g : Counts) → CanPass w salt data_dev hash_dev
+    → g ≡ record { tally = record { last = None; limit = begun None }; totals = record { good = 0; changed = 0; unknown = 0 } } → IsUnderway (tree_in w) data_dev hash_dev hash_dev old old w g 0
+underway-none w salt data_dev hash_dev old g can is = record {
+  is_of = path-none w.path;
+  shape = can.shape;
+  within = omega arith;
+  ready = λ some. ready-none w hash_dev can.none;
+  contents = [];
+  states = [];
+  here = refl;
+  also = refl;
+  over = λ steady. refl;
+  seen = λ i low. absurd (omega (arith, low));
+  stored = λ steady i low. absurd (omega (arith, low));
+  read = only_read-none hash_dev;
+  failures = refl;
+  listed = listed-none None old g.tally (ap (λ (x : Counts). x.tally) is);
+  totals = ap (λ (x : Counts). x.totals) is;
+}
+
+-- ---- lists with one element more
+
+get_or-last : {X : Type 0} (xs : List X) (x d : X) (n : ℕ) → n ≡ length xs → get_or (xs ++ x ∷ []) n d ≡ x
+get_or-last xs x d n is = ap (λ (k : ℕ). get_or (xs ++ x ∷ []) k d) (is ∙ sym (plain (length xs))) ∙ get_or-append-add xs (x ∷ []) 0 d
+  where
+    plain : (k : ℕ) → k + 0 ≡ k
+    plain k = omega arith
+
+length-last : {X : Type 0} (xs : List X) (x : X) (n : ℕ) → n ≡ length xs → n + 1 ≡ length (xs ++ x ∷ [])
+length-last xs x n is = omega (arith, is, length-append xs (x ∷ []))
+
+good_of-append : (xs ys : List State) → good_of (xs ++ ys) ≡ good_of xs + good_of ys
+good_of-append [] ys = omega arith
+good_of-append (None ∷ xs) ys = omega (arith, good_of-append xs ys)
+good_of-append (Some kind ∷ xs) ys = good_of-append xs ys
+
+totals-same : (a b : Totals) → a.good ≡ b.good → a.changed ≡ b.changed → a.unknown ≡ b.unknown → a ≡ b
+totals-same a b x y z =
+    let f : ℕ → ℕ → ℕ → Totals = λ p q r. record { good = p; changed = q; unknown = r } in
+    ap (λ (n : ℕ). f n a.changed a.unknown) x ∙ ap (λ (n : ℕ). f b.good n a.unknown) y ∙ ap (f b.good b.changed) z
+
+totals-next : (states : List State) (state : State) → counted (totals_of states) state ≡ totals_of (states ++ state ∷ [])
+totals-next states None =
+    totals-same _ _ (omega (arith, good_of-append states (None ∷ []))) (omega (arith, count_of-append Changed states (None ∷ []))) (omega (arith, count_of-append Unknown states (None ∷ [])))
+totals-next states (Some Changed) =
+    totals-same _ _ (omega (arith, good_of-append states (Some Changed ∷ []))) (omega (arith, count_of-append Changed states (Some Changed ∷ []))) (omega (arith, count_of-append Unknown states (Some Changed ∷ [])))
+totals-next states (Some Unknown) =
+    totals-same _ _ (omega (arith, good_of-append states (Some Unknown ∷ []))) (omega (arith, count_of-append Changed states (Some Unknown ∷ []))) (omega (arith, count_of-append Unknown states (Some Unknown ∷ [])))
+totals-next states (Some Removed) =
+    totals-same _ _ (omega (arith, good_of-append states (Some Removed ∷ []))) (omega (arith, count_of-append Changed states (Some Removed ∷ []))) (omega (arith, count_of-append Unknown states (Some Removed ∷ [])))
+totals-next states (Some Added) =
+    totals-same _ _ (omega (arith, good_of-append states (Some Added ∷ []))) (omega (arith, count_of-append Changed states (Some Added ∷ []))) (omega (arith, count_of-append Unknown states (Some Added ∷ [])))
+
+good-few : (states : List State) → good_of states ≤ length states
+good-few [] = omega arith
+good-few (None ∷ more) = omega (arith, good-few more)
+good-few (Some kind ∷ more) = omega (arith, good-few more)
+
+weight-few : (b : Bool) → weight b ≤ 1
+weight-few true = omega arith
+weight-few false = omega arith
+
+count-few : (kind : Kind) (states : List State) → count_of kind states ≤ length states
+count-few kind [] = omega arith
+count-few kind (state ∷ more) = omega (arith, weight-few (is_state kind state), count-few kind more)
+
+listed-next : (states : List State) (state : State) (g g' : Counts) (old now new : Option (List ℕ)) (at : ℕ) → at ≡ length states → IsListed None states g.tally old now
+    → Appends now new (lines_of g.tally.limit (closed_at g.tally.last at state)) → IsAdded g g' at state → IsListed None (states ++ state ∷ []) g'.tally old new
+listed-next states None g g' old now new at is t told added = listed-had None states g.tally g'.tally old now new 1 (omega arith) t told added.last added.limit
+listed-next states (Some kind) g g' old now new at is t told added = listed-run None states g.tally g'.tally old now new at 1 kind is (omega arith) t told added.last added.limit
+
+module _ (t : Tree) (valid : IsShape t.shape) (data_dev hash_dev hash_dev' : Device) (old now : Option (List ℕ)) (w : Sight) (g : Counts) (at : ℕ) (u : IsUnderway t data_dev hash_dev hash_dev' old now w g at) where
+  pub ends-at : EndsAt g.tally.last at
+  ends-at = subst (EndsAt g.tally.last) (sym u.also) (listed-ends None u.states g.tally old now u.listed)
+
+  module _ (low : at < t.shape.blocks) where
+    pub few : at < 2 ^ 54
+    few = omega (arith, low, (blocks-le t.shape valid).0)
+
+    pub are-few : AreFew g.totals
+    are-few = subst AreFew (sym u.totals) (record {
+      good = omega (arith, few, good-few u.states, u.also);
+      changed = omega (arith, few, count-few Changed u.states, u.also);
+      unknown = omega (arith, few, count-few Unknown u.states, u.also);
+    })
+
+    pub can-go : tree_sectors t.shape ≤ hash_dev.size → CanGo w hash_dev' at
+    can-go fits = record {
+      index = omega (arith, low, ap (λ (s : ShapeRecord). s.blocks) u.is_of.shape_is);
+      fits = omega (arith, fits, u.read.same.size, ap tree_sectors u.is_of.shape_is);
+      shape = u.shape;
+      ready = ready-read w hash_dev hash_dev' at u.read (u.ready low);
+    }
+
+    module _ (w' : Sight) (hash_dev'' : Device) (gone : HasGone w w' hash_dev' hash_dev'' at) (read : IsOnlyRead hash_dev' hash_dev'') where
+      is_of' : IsPathOf t.shape t.salt t.root w'.path
+      is_of' = record { shape_is = gone.same.shape_is ∙ u.is_of.shape_is; salt_is = gone.same.salt_is ∙ u.is_of.salt_is; root_is = gone.same.root_is ∙ u.is_of.root_is }
+
+      -- one data block more
+      pub underway-next : (content found : List ℕ) (g' : Counts) (new : Option (List ℕ)) → found ≡ digest t.salt content → (IsTrue data_dev.steady → content ≡ block_at data_dev.image t.shape.data_block at)
+          → Appends now new (lines_of g.tally.limit (closed_at g.tally.last at (state_at w' at found))) → IsAdded g g' at (state_at w' at found)
+          → IsUnderway t data_dev hash_dev hash_dev'' old new w' g' (at + 1)
+      underway-next content found g' new is over told added =
+          let state : State = state_at w' at found in
+          let on = on-was w' hash_dev hash_dev' at u.read gone.on in
+          record {
+            is_of = is_of';
+            shape = gone.shape ∙ u.shape ∙ sym gone.same.shape_is;
+            within = omega (arith, low);
+            ready = λ more. ready-next w' (subst IsShape (sym is_of'.shape_is) valid) hash_dev at (omega (arith, more, ap (λ (s : ShapeRecord). s.blocks) is_of'.shape_is)) on;
+            contents = u.contents ++ content ∷ [];
+            states = u.states ++ state ∷ [];
+            here = length-last u.contents content at u.here;
+            also = length-last u.states state at u.also;
+            over = λ steady.
+                ap (λ (xs : List (List ℕ)). xs ++ content ∷ []) (u.over steady)
+                ∙ ap (λ (x : List ℕ). blocks_at data_dev.image t.shape.data_block 0 at ++ x ∷ []) (over steady)
+                ∙ sym (map-range_with_len_more (block_at data_dev.image t.shape.data_block) 0 at at (omega arith));
+            seen = λ i less. elim (cases_lt i at) [
+              | inl before ↦
+                  subst (λ (x : List ℕ). IsSeenAs t i x (get_or (u.states ++ state ∷ []) i None)) (sym (get_or_append_left u.contents (content ∷ []) [] i (omega (arith, before, u.here))))
+                  (subst (IsSeenAs t i (get_or u.contents i [])) (sym (get_or_append_left u.states (state ∷ []) None i (omega (arith, before, u.also)))) (u.seen i before))
+              | inr not ↦
+                  let last : i ≡ at = omega (arith, less, not) in
+                  subst (λ (k : ℕ). IsSeenAs t k (get_or (u.contents ++ content ∷ []) k []) (get_or (u.states ++ state ∷ []) k None)) (sym last)
+                  (subst (λ (x : List ℕ). IsSeenAs t at x (get_or (u.states ++ state ∷ []) at None)) (sym (get_or-last u.contents content [] at u.here))
+                  (subst (IsSeenAs t at content) (sym (get_or-last u.states state None at u.also))
+                  (subst (λ (x : List ℕ). IsSeenBy t at x state) is (seen-at t w' hash_dev at is_of' on found))))
+            ];
+            stored = λ steady i less. elim (cases_lt i at) [
+              | inl before ↦
+                  subst (λ (x : List ℕ). IsStoredBy t hash_dev.image i (digest t.salt x) (get_or (u.states ++ state ∷ []) i None)) (sym (get_or_append_left u.contents (content ∷ []) [] i (omega (arith, before, u.here))))
+                  (subst (IsStoredBy t hash_dev.image i (digest t.salt (get_or u.contents i []))) (sym (get_or_append_left u.states (state ∷ []) None i (omega (arith, before, u.also)))) (u.stored steady i before))
+              | inr not ↦
+                  let last : i ≡ at = omega (arith, less, not) in
+                  subst (λ (k : ℕ). IsStoredBy t hash_dev.image k (digest t.salt (get_or (u.contents ++ content ∷ []) k [])) (get_or (u.states ++ state ∷ []) k None)) (sym last)
+                  (subst (λ (x : List ℕ). IsStoredBy t hash_dev.image at (digest t.salt x) (get_or (u.states ++ state ∷ []) at None)) (sym (get_or-last u.contents content [] at u.here))
+                  (subst (IsStoredBy t hash_dev.image at (digest t.salt content)) (sym (get_or-last u.states state None at u.also))
+                  (subst (λ (x : List ℕ). IsStoredBy t hash_dev.image at x state) is (stored-at t w' hash_dev at is_of' on steady found))))
+            ];
+            read = only_read-then u.read read;
+            failures = gone.failures ∙ u.failures;
+            listed = listed-next u.states state g g' old now new at u.also u.listed told added;
+            totals = added.totals ∙ ap (λ (x : Totals). counted x state) u.totals ∙ totals-next u.states state;
+          }
+
+  -- all of them
+  pub underway-all : (data_dev' : Device) (new : Option (List ℕ)) → at ≡ t.shape.blocks → IsFullRead data_dev (at * (t.shape.data_block / 512)) data_dev' → Appends now new (lines_of g.tally.limit (listed g.tally.last))
+      → Surveys t (pass data_dev hash_dev data_dev' hash_dev' old new) g.totals
+  underway-all data_dev' new all full told =
+      let over' : IsTrue data_dev.steady → u.contents ≡ blocks_at data_dev.image t.shape.data_block 0 t.shape.blocks = λ steady. u.over steady ∙ ap (blocks_at data_dev.image t.shape.data_block 0) all in
+      record {
+        states = u.states;
+        seen = record {
+          count = sym u.also ∙ all;
+          contents = u.contents;
+          all = sym u.here ∙ all;
+          over = over';
+          seen = λ i low. u.seen i (omega (arith, low, all));
+          stored = λ steady steady' i low.
+              subst (λ (x : List ℕ). IsStoredBy t hash_dev.image i (digest t.salt x) (get_or u.states i None))
+              (ap (λ (xs : List (List ℕ)). get_or xs i []) (over' steady) ∙ get_or-map-range_with_len (block_at data_dev.image t.shape.data_block) 0 t.shape.blocks i i [] low (omega arith))
+              (u.stored steady' i (omega (arith, low, all)));
+        };
+        totals_are = u.totals;
+        printed_are = listed-all None u.states g.tally old now new u.listed told;
+        data_read = subst (λ (n : ℕ). IsFullRead data_dev (n * (t.shape.data_block / 512)) data_dev') all full;
+      }
+
+-- the data block of a piece that was read behind others
+pub in-piece : (t : Tree) (data_dev data_dev' data_dev'' : Device) (n at k : ℕ) (digests : List (List ℕ)) (d : List ℕ) → IsFullRead data_dev n data_dev' → (p : IsPieceRead t.shape t.salt data_dev' data_dev'' at digests) → k < length digests
+    → (get_or digests k d ≡ digest t.salt (get_or p.run.contents k [])) × (IsTrue data_dev.steady → get_or p.run.contents k [] ≡ block_at data_dev.image t.shape.data_block (at + k))
+in-piece t data_dev data_dev' data_dev'' n at k digests d full p low =
+    let low' : k < length p.run.contents = omega (arith, low, ap length p.run.are, length-map p.run.contents (digest t.salt)) in (
+      ap (λ (xs : List (List ℕ)). get_or xs k d) p.run.are ∙ get_or-map (digest t.salt) p.run.contents k [] d low',
+      λ steady.
+          ap (λ (xs : List (List ℕ)). get_or xs k []) (p.run.over (steady-then full.read.same steady))
+          ∙ get_or-map-range_with_len (block_at data_dev'.image t.shape.data_block) at (length digests) k (at + k) [] low refl
+          ∙ ap (λ (im : List (List ℕ)). block_at im t.shape.data_block (at + k)) (full.read.image steady),
+    )

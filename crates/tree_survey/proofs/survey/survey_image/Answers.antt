@@ -1,0 +1,42 @@
+use Rattle.std.proofs.Common.{◌≡◌, ℕ, List, Option, ap, ◌∙◌, subst}
+use Rattle.block_device.specs.Device.{Device}
+use Rattle.tree_shape.specs.Shape.{ShapeRecord}
+use Rattle.verity_format.specs.Superblock.{shape_of}
+use Rattle.tree_path.specs.Path.{IsPathOf}
+use Rattle.tree_path.proofs.lemmas.DeviceLemmas.{only_read-then}
+use Rattle.tree_survey.specs.Hashes.{tree_at}
+use Rattle.tree_survey.specs.Passes.{tree_in, tree_of}
+use Rattle.tree_survey.specs.Surveys.{Tree}
+use Rattle.tree_survey.proofs.SayingLemmas.{tree-same}
+use Rattle.tree_survey.proofs.SurveyLemmas.{bad-were, surveys-were, tree-of}
+use Rattle.tree_survey.proofs.survey.survey_image.Goals as goal
+
+pub returns-clause-ok : goal.returns-clause-ok
+returns-clause-ok g c =
+    let d0 : Device = g.D.BlockDev.state c.args.data_dev.now in
+    let d1 : Device = g.D.BlockDev.state c.survey_data.new.data_dev in
+    let h0 : Device = g.H.BlockDev.state c.args.hash_dev.now in
+    let h1 : Device = g.H.BlockDev.state c.superblock_of.new.hash_dev in
+    let h2 : Device = g.H.BlockDev.state c.survey_data.new.hash_dev in
+    let h3 : Device = g.H.BlockDev.state c.say_hashes.new.device in
+    let old : Option (List ℕ) = g.W.Write.contents c.args.writer.now.inner in
+    let between : Option (List ℕ) = g.W.Write.contents c.survey_data.new.writer.inner in
+    let t : Tree = tree_of c.in_ok-superblock.superblock c.args.root.now in
+    let path : IsPathOf (shape_of c.in_ok-superblock.superblock) c.in_ok-superblock.superblock.salt c.args.root.now c.in_ok-path.path =
+    subst (λ (x : ShapeRecord). IsPathOf x c.in_ok-superblock.superblock.salt c.args.root.now c.in_ok-path.path) c.shape-shape.ensures.value
+    (subst (λ (x : List ℕ). IsPathOf c.shape-shape.result x c.args.root.now c.in_ok-path.path) c.salt-salt.ensures c.in_ok-path.ensures) in
+    let begun : tree_in c.new-sight.result ≡ t = ap tree_in c.new-sight.ensures ∙ tree-of c.in_ok-superblock.superblock c.args.root.now c.in_ok-path.path path in
+    let later : tree_at c.survey_data.new.sight.path ≡ t = tree-same c.new-sight.result.path c.survey_data.new.sight.path c.in_ok-totals.ensures.passed.same ∙ begun in
+    let found = c.in_ok-whole_tree.ensures.ok in
+    record {
+      s = c.in_ok-superblock.superblock;
+      images = c.in_ok-superblock.ensures.ok;
+      between = between;
+      surveys = surveys-were t (tree_in c.new-sight.result) d0 h0 h1 d1 h2 h3 old between c.in_ok-totals.totals begun c.superblock_of.ensures.read c.in_ok-totals.ensures.ok;
+      hashes = record {
+        bad = found.found.bad;
+        stored = bad-were t (tree_at c.survey_data.new.sight.path) h0 h2 found.found.bad later (only_read-then c.superblock_of.ensures.read c.survey_data.ensures.hash) found.found.stored;
+      };
+      whole = found.whole_is;
+      printed_are = found.printed_are;
+    }

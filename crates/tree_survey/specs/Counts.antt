@@ -1,0 +1,45 @@
+-- Runs and counts of data blocks, one block after another.
+use Rattle.std.specs.Prelude.{◌≡◌, ℕ, suc, ◌+◌, ◌^◌, ◌<◌, List, [], ◌∷◌, Option, Some, None}
+use Rattle.tree_runs.specs.declared.run.Kind.TheVariants.{Changed, Unknown}
+use Rattle.tree_runs.specs.declared.run.Run.{Run}
+use Rattle.tree_runs.specs.Limits.{limit_after}
+use Rattle.tree_runs.specs.Runs.{State, count_of, run}
+use Rattle.tree_runs.specs.Tallies.{closed_by, listed, opened_by}
+use Rattle.tree_survey.specs.declared.counts.Counts.{Counts}
+use Rattle.tree_survey.specs.declared.counts.Totals.{Totals}
+
+-- how many of the blocks are good
+abbrev pub good_of : List State → ℕ
+good_of [] = 0
+good_of (None ∷ more) = suc (good_of more)
+good_of (Some kind ∷ more) = good_of more
+
+abbrev pub totals_of : List State → Totals
+totals_of states = record { good = good_of states; changed = count_of Changed states; unknown = count_of Unknown states }
+
+-- the totals with one block more
+abbrev pub counted : Totals → State → Totals
+counted totals None = record { good = totals.good + 1; changed = totals.changed; unknown = totals.unknown }
+counted totals (Some Changed) = record { good = totals.good; changed = totals.changed + 1; unknown = totals.unknown }
+counted totals (Some Unknown) = record { good = totals.good; changed = totals.changed; unknown = totals.unknown + 1 }
+counted totals (Some kind) = totals
+
+pub record AreFew (totals : Totals) : Type 0 where
+  pub good : totals.good < 2 ^ 54
+  pub changed : totals.changed < 2 ^ 54
+  pub unknown : totals.unknown < 2 ^ 54
+
+-- the runs that don't grow further once a block of that state comes behind, and the one that may
+abbrev pub closed_at : Option Run → ℕ → State → List Run
+closed_at last i None = listed last
+closed_at last i (Some kind) = closed_by last (run i 1 kind)
+
+abbrev pub opened_at : Option Run → ℕ → State → Option Run
+opened_at last i None = None
+opened_at last i (Some kind) = Some (opened_by last (run i 1 kind))
+
+-- data block i was added
+pub record IsAdded (old new : Counts) (i : ℕ) (state : State) : Type 0 where
+  pub last : new.tally.last ≡ opened_at old.tally.last i state
+  pub limit : new.tally.limit ≡ limit_after old.tally.limit (closed_at old.tally.last i state)
+  pub totals : new.totals ≡ counted old.totals state

@@ -1,0 +1,90 @@
+-- Hash blocks whose digests don't stand above them.
+use Rattle.std.specs.Prelude.{◌≡◌, ℕ, zero, suc, ◌+◌, ◌-◌, ◌*◌, ◌^◌, ◌<◌, ◌≤◌, Bool, true, false, IsTrue, List, [], ◌∷◌, ◌++◌, codes, decimal, Option}
+use Rattle.std.specs.List.{flat_map}
+use Rattle.std.specs.Str.{bytes_eq}
+use Rattle.std.specs.Io.KnownBytes.{Appends}
+use Rattle.block_device.specs.Device.{Device}
+use Rattle.tree_shape.specs.Digests.{digest}
+use Rattle.tree_shape.specs.Shape.{ShapeRecord, IsShape, level_blocks, levels, per_block}
+use Rattle.verity_format.specs.Image.{tree_sectors}
+use Rattle.tree_path.specs.Path.{PathRecord, IsPathOf, block_of, stored_block, stored_digest}
+use Rattle.tree_survey.specs.Surveys.{Tree}
+
+-- a hash block by its level, counted from the data up, and its number within that
+pub record HashBlock : Type 0 where
+  pub level : ℕ
+  pub number : ℕ
+
+-- `hash LEVEL INDEX`
+unfoldable pub hash_line : HashBlock → List ℕ
+hash_line b = codes "hash " ++ (decimal b.level ++ (codes " " ++ (decimal b.number ++ codes "\n")))
+
+abbrev pub hash_lines : List HashBlock → List ℕ
+hash_lines blocks = flat_map hash_line blocks
+
+-- there is none
+abbrev pub is_whole : List HashBlock → Bool
+is_whole [] = true
+is_whole (b ∷ more) = false
+
+-- the first data block beneath hash block n of level l
+abbrev pub first_below : ShapeRecord → ℕ → ℕ → ℕ
+first_below s l n = n * per_block s ^ (l + 1)
+
+-- the digest of the hash block of level l on the way to data block i stands above it
+abbrev pub is_good_on : Tree → List (List ℕ) → ℕ → ℕ → Bool
+is_good_on t image l i = bytes_eq (digest t.salt (stored_block t.shape image l i)) (stored_digest t.shape t.root image i (l + 1))
+
+abbrev pub with_bad : Bool → HashBlock → List HashBlock → List HashBlock
+with_bad true b blocks = blocks
+with_bad false b blocks = blocks ++ b ∷ []
+
+-- the first n hash blocks of level l that aren't good
+abbrev pub bad_of_level : Tree → List (List ℕ) → ℕ → ℕ → List HashBlock
+bad_of_level t image l zero = []
+bad_of_level t image l (suc n) = with_bad (is_good_on t image l (first_below t.shape l n)) (record { level = l; number = n }) (bad_of_level t image l n)
+
+-- those of the k highest levels, as they lie on the device: from the top down
+abbrev pub bad_of_levels : Tree → List (List ℕ) → ℕ → List HashBlock
+bad_of_levels t image zero = []
+bad_of_levels t image (suc k) = bad_of_levels t image k ++ bad_of_level t image (levels t.shape - suc k) (level_blocks t.shape (levels t.shape - suc k))
+
+-- Hash blocks of the tree. Over a steady device they are those whose digest doesn't stand above them.
+pub record HashesFound (t : Tree) (device : Device) : Type 0 where
+  pub bad : List HashBlock
+  pub stored : IsTrue device.steady → bad ≡ bad_of_levels t device.image (levels t.shape)
+
+-- ---- one after another
+
+abbrev pub tree_at : PathRecord → Tree
+tree_at p = record { shape = p.shape; salt = p.salt; root = p.root }
+
+pub record CanCompare (p : PathRecord) (shape : ShapeRecord) (device : Device) : Type 0 where
+  pub valid : IsShape p.shape
+  pub shape_is : shape ≡ p.shape
+  pub fits : tree_sectors p.shape ≤ device.size
+
+-- the hash block above that of level l on the way to data block i was read, where there is one
+pub record IsAbove (old new : PathRecord) (device device' : Device) (l i : ℕ) : Type 0 where
+  pub same : IsPathOf old.shape old.salt old.root new
+  pub failures : device'.failures ≡ device.failures
+  pub stored : IsTrue device.steady → l + 1 < levels old.shape → block_of new (l + 1) ≡ stored_block old.shape device.image (l + 1) i
+
+-- and that of level l, which is good, or not
+pub record IsCompared (old new : PathRecord) (device device' : Device) (l i : ℕ) (good : Bool) : Type 0 where
+  pub same : IsPathOf old.shape old.salt old.root new
+  pub failures : device'.failures ≡ device.failures
+  pub stored : IsTrue device.steady → good ≡ is_good_on (tree_at old) device.image l i
+
+pub record SaysLevel (old new : PathRecord) (device device' : Device) (l : ℕ) (printed printed' : Option (List ℕ)) (whole : Bool) : Type 0 where
+  pub same : IsPathOf old.shape old.salt old.root new
+  pub failures : device'.failures ≡ device.failures
+  pub bad : List HashBlock
+  pub stored : IsTrue device.steady → bad ≡ bad_of_level (tree_at old) device.image l (level_blocks old.shape l)
+  pub whole_is : whole ≡ is_whole bad
+  pub printed_are : Appends printed printed' (hash_lines bad)
+
+pub record SaysTree (old : PathRecord) (device : Device) (printed printed' : Option (List ℕ)) (whole : Bool) : Type 0 where
+  pub found : HashesFound (tree_at old) device
+  pub whole_is : whole ≡ is_whole found.bad
+  pub printed_are : Appends printed printed' (hash_lines found.bad)

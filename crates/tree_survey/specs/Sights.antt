@@ -1,0 +1,44 @@
+-- The hash blocks on the way to a data block, while data blocks are gone over.
+use Rattle.std.specs.Prelude.{◌≡◌, ◌≢◌, ℕ, ◌-◌, ◌<◌, ◌≤◌, nat_lt, IsTrue, List, Some, None, if◌then◌else◌}
+use Rattle.std.specs.Str.{bytes_eq}
+use Rattle.block_device.specs.Device.{Device}
+use Rattle.tree_shape.specs.Digests.{digest}
+use Rattle.tree_shape.specs.Shape.{levels, per_block}
+use Rattle.verity_format.specs.Image.{tree_sectors}
+use Rattle.tree_path.specs.Path.{IsPathOf, LeadsTo, AreStored, block_of, digest_on}
+use Rattle.tree_path.specs.Spans.{IsTopAt}
+use Rattle.tree_runs.specs.declared.run.Kind.TheVariants.{Changed, Unknown}
+use Rattle.tree_runs.specs.Runs.{State}
+use Rattle.tree_survey.specs.declared.sight.Sight.{Sight}
+
+-- From a level up the hash blocks on the way to data block i are good, and the one below that level, where there is one,
+-- isn't. Over a steady device they are those that stand there.
+pub record IsOn (w : Sight) (device : Device) (i : ℕ) : Type 0 where
+  pub few : w.good ≤ levels w.path.shape
+  pub leads : LeadsTo w.path i w.good
+  pub bad : 0 < w.good → digest w.path.salt (block_of w.path (w.good - 1)) ≢ digest_on w.path i w.good
+  pub stored : IsTrue device.steady → AreStored w.path device.image i (w.good - 1)
+
+-- Data block i is the next one, and the greatest subtree that begins there has `top` levels: the hash blocks of the
+-- levels from there up stay. If one of them isn't good, the way ends there as before.
+pub record IsReady (w : Sight) (device : Device) (i : ℕ) : Type 0 where
+  pub stays : (top : ℕ) → IsTopAt (per_block w.path.shape) (levels w.path.shape) i top → top < w.good → IsOn w device i
+  pub leads : (top : ℕ) → IsTopAt (per_block w.path.shape) (levels w.path.shape) i top → w.good ≤ top → LeadsTo w.path i top
+  pub stored : IsTrue device.steady → (top : ℕ) → IsTopAt (per_block w.path.shape) (levels w.path.shape) i top → w.good ≤ top → AreStored w.path device.image i top
+
+pub record CanGo (w : Sight) (device : Device) (i : ℕ) : Type 0 where
+  pub index : i < w.path.shape.blocks
+  pub fits : tree_sectors w.path.shape ≤ device.size
+  pub shape : w.shape ≡ w.path.shape
+  pub ready : IsReady w device i
+
+-- the hash blocks on the way to data block i were read, down to the first that isn't good
+pub record HasGone (old new : Sight) (device device' : Device) (i : ℕ) : Type 0 where
+  pub same : IsPathOf old.path.shape old.path.salt old.path.root new.path
+  pub shape : new.shape ≡ old.shape
+  pub on : IsOn new device i
+  pub failures : device'.failures ≡ device.failures
+
+-- what is said of a data block of that digest
+abbrev pub state_at : Sight → ℕ → List ℕ → State
+state_at w i found = if nat_lt 0 w.good then Some Unknown else if bytes_eq found (digest_on w.path i 0) then None else Some Changed

@@ -1,0 +1,72 @@
+-- What is said of a data block of a hash tree, and what of the tree shows it.
+use Rattle.std.specs.Prelude.{◌≡◌, ◌≢◌, ℕ, ◌+◌, ◌<◌, ◌≤◌, List, Some, None}
+use Rattle.tree_shape.specs.Digests.{digest}
+use Rattle.tree_shape.specs.Shape.{ShapeRecord, levels}
+use Rattle.verity_format.specs.Blocks.{block_at}
+use Rattle.tree_path.specs.Path.{PathRecord, IsPathOf, LeadsTo, block_of, digest_on, stored_block, stored_digest}
+use Rattle.tree_runs.specs.declared.run.Kind.TheVariants.{Changed, Unknown}
+use Rattle.tree_runs.specs.Runs.{State}
+
+-- a tree's shape, salt and root digest
+pub record Tree : Type 0 where
+  pub shape : ShapeRecord
+  pub salt : List ℕ
+  pub root : List ℕ
+
+-- ---- by what was read
+
+-- a way from the root down to the digest that stands k levels above data block i, by hash blocks that are good
+pub record IsWay (t : Tree) (i k : ℕ) (p : PathRecord) : Type 0 where
+  pub is : IsPathOf t.shape t.salt t.root p
+  pub few : k ≤ levels t.shape
+  pub leads : LeadsTo p i k
+
+-- a way leads to this digest of the block
+abbrev pub IsGoodBy : Tree → ℕ → List ℕ → Type 0
+IsGoodBy t i found = (p : PathRecord) × (IsWay t i 0 p × (found ≡ digest_on p i 0))
+
+-- a way leads to another digest
+abbrev pub IsChangedBy : Tree → ℕ → List ℕ → Type 0
+IsChangedBy t i found = (p : PathRecord) × (IsWay t i 0 p × (found ≢ digest_on p i 0))
+
+-- a way leads to a hash block above it that has another digest than stands above that
+abbrev pub IsUnknownAt : Tree → ℕ → Type 0
+IsUnknownAt t i = (l : ℕ) × ((p : PathRecord) × ((l < levels t.shape) × (IsWay t i (l + 1) p × (digest t.salt (block_of p l) ≢ digest_on p i (l + 1)))))
+
+-- what is said of a data block by its digest, and why
+abbrev pub IsSeenBy : Tree → ℕ → List ℕ → State → Type 0
+IsSeenBy t i found None = IsGoodBy t i found
+IsSeenBy t i found (Some Changed) = IsChangedBy t i found
+IsSeenBy t i found (Some Unknown) = IsUnknownAt t i
+IsSeenBy t i found (Some kind) = ⊥
+
+-- the same by its content
+abbrev pub IsGoodAt : Tree → ℕ → List ℕ → Type 0
+IsGoodAt t i content = IsGoodBy t i (digest t.salt content)
+
+abbrev pub IsChangedAt : Tree → ℕ → List ℕ → Type 0
+IsChangedAt t i content = IsChangedBy t i (digest t.salt content)
+
+abbrev pub IsSeenAs : Tree → ℕ → List ℕ → State → Type 0
+IsSeenAs t i content state = IsSeenBy t i (digest t.salt content) state
+
+-- ---- by what stands on steady devices
+
+-- the hash block of level l on the way to data block i has the digest that stands above it
+abbrev pub Stands : Tree → List (List ℕ) → ℕ → ℕ → Type 0
+Stands t image l i = digest t.salt (stored_block t.shape image l i) ≡ stored_digest t.shape t.root image i (l + 1)
+
+abbrev pub AllStand : Tree → List (List ℕ) → ℕ → Type 0
+AllStand t image i = (l : ℕ) → l < levels t.shape → Stands t image l i
+
+-- A data block is good where all hash blocks above it are, and this is its digest that stands there; changed where they
+-- are, and another one stands there; unknown where one of them isn't good.
+abbrev pub IsStoredBy : Tree → List (List ℕ) → ℕ → List ℕ → State → Type 0
+IsStoredBy t image i found None = AllStand t image i × (found ≡ stored_digest t.shape t.root image i 0)
+IsStoredBy t image i found (Some Changed) = AllStand t image i × (found ≢ stored_digest t.shape t.root image i 0)
+IsStoredBy t image i found (Some Unknown) = (l : ℕ) × ((l < levels t.shape) × (Stands t image l i → ⊥))
+IsStoredBy t image i found (Some kind) = ⊥
+
+-- the same of what stands on the data device
+abbrev pub IsStoredAs : Tree → List (List ℕ) → List (List ℕ) → ℕ → State → Type 0
+IsStoredAs t data_image hash_image i state = IsStoredBy t hash_image i (digest t.salt (block_at data_image t.shape.data_block i)) state

@@ -1,0 +1,113 @@
+//! Runs and counts of data blocks, one block after another.
+ghost use Rattle.std.specs.Prelude.{◌≡◌, ◌^◌, ◌<◌, None, OnOk};
+ghost use Rattle.counted_io.specs.Counted.{Writes};
+ghost use Rattle.tree_runs.specs.Limits.{begun, limit_after, lines_of};
+ghost use Rattle.tree_runs.specs.Tallies.{EndsAt};
+ghost use Rattle.tree_survey.specs.Counts.{AreFew, IsAdded, closed_at, counted, opened_at};
+
+use counted_io::{Counted, WriteFault};
+use std::io::Write;
+use tree_runs::{Kind, Run, Tally};
+
+/// How many data blocks are good, how many changed, and of how many nothing is known.
+#[derive(Clone, Copy, Debug, PartialEq, Eq)]
+pub struct Totals {
+    pub good: u64,
+    pub changed: u64,
+    pub unknown: u64,
+}
+
+/// The run that may still grow, and how many blocks were gone over.
+#[derive(Clone, Copy)]
+pub(crate) struct Counts {
+    pub(crate) tally: Tally,
+    pub(crate) totals: Totals,
+}
+
+impl Counts {
+    /// No block was gone over.
+    pub(crate) fn new() -> Counts
+        ensures { result ≡ record { tally = record { last = None; limit = begun None }; totals = record { good = 0; changed = 0; unknown = 0 } } }
+    {
+        Counts {
+            tally: Tally::new(None),
+            totals: Totals {
+                good: 0,
+                changed: 0,
+                unknown: 0,
+            },
+        }
+    }
+
+    /// Adds the next data block, and prints the run that it ends.
+    pub(crate) fn add<W: Write>(
+        &mut self,
+        writer: &mut Counted<W>,
+        index: u64,
+        state: Option<Kind>,
+    ) -> Result<(), WriteFault>
+        requires ends { EndsAt self.old.tally.last index }
+        requires inside { index < 2 ^ 54 }
+        requires few { AreFew self.old.totals }
+        ensures text { Writes W.contents writer.old writer.new (lines_of self.old.tally.limit (closed_at self.old.tally.last index state)) result }
+        ensures added { OnOk result (IsAdded self.old self.new index state) }
+    {
+        tally_next(&mut self.tally, writer, index, state)?;
+        self.totals = counted(self.totals, state);
+        Ok(())
+    }
+}
+
+fn tally_next<W: Write>(
+    tally: &mut Tally,
+    writer: &mut Counted<W>,
+    index: u64,
+    state: Option<Kind>,
+) -> Result<(), WriteFault>
+    requires ends { EndsAt tally.old.last index }
+    requires inside { index < 2 ^ 54 }
+    ensures text { Writes W.contents writer.old writer.new (lines_of tally.old.limit (closed_at tally.old.last index state)) result }
+    ensures last { OnOk result (tally.new.last ≡ opened_at tally.old.last index state) }
+    ensures limit { OnOk result (tally.new.limit ≡ limit_after tally.old.limit (closed_at tally.old.last index state)) }
+{
+    match state {
+        None => tally.close(writer),
+        Some(kind) => tally.add(
+            writer,
+            Run {
+                first: index,
+                count: 1,
+                kind,
+            },
+        ),
+    }
+}
+
+fn counted(totals: Totals, state: Option<Kind>) -> Totals
+    requires { AreFew totals }
+    ensures { result ≡ counted totals state }
+{
+    let Totals {
+        good,
+        changed,
+        unknown,
+    } = totals;
+    match state {
+        None => Totals {
+            good: good + 1,
+            changed,
+            unknown,
+        },
+        Some(Kind::Changed) => Totals {
+            good,
+            changed: changed + 1,
+            unknown,
+        },
+        Some(Kind::Unknown) => Totals {
+            good,
+            changed,
+            unknown: unknown + 1,
+        },
+        Some(_) => totals,
+    }
+}

@@ -1,0 +1,50 @@
+//! Why an image isn't gone over to its end.
+ghost use Rattle.std.specs.Prelude.{◌≡◌};
+ghost use Rattle.tree_survey.specs.declared.fault.SurveyFault.TheVariants as survey_fault;
+ghost use Rattle.verity_format.specs.declared.verifying.VerifyFault.TheVariants as verify_fault;
+
+use block_device::DeviceFault;
+use counted_io::WriteFault;
+use std::alloc::AllocError;
+use verity_format::VerifyFault;
+
+/// Why an image isn't gone over to its end.
+#[derive(Clone, Copy, Debug, PartialEq, Eq)]
+pub enum SurveyFault {
+    /// There is no superblock, a device is too small or failed, or memory ran out.
+    Image(VerifyFault),
+    /// A line can't be written.
+    Write,
+}
+
+impl From<VerifyFault> for SurveyFault {
+    ghost from_gives = { λ fault given. given ≡ survey_fault.Image fault };
+
+    fn from(fault: VerifyFault) -> SurveyFault {
+        SurveyFault::Image(fault)
+    }
+}
+
+impl From<DeviceFault> for SurveyFault {
+    ghost from_gives = { λ _ given. given ≡ survey_fault.Image verify_fault.Device };
+
+    fn from(_fault: DeviceFault) -> SurveyFault {
+        SurveyFault::Image(VerifyFault::Device)
+    }
+}
+
+impl From<AllocError> for SurveyFault {
+    ghost from_gives = { λ _ given. given ≡ survey_fault.Image verify_fault.NoMemory };
+
+    fn from(_error: AllocError) -> SurveyFault {
+        SurveyFault::Image(VerifyFault::NoMemory)
+    }
+}
+
+impl From<WriteFault> for SurveyFault {
+    ghost from_gives = { λ _ given. given ≡ survey_fault.Write };
+
+    fn from(_fault: WriteFault) -> SurveyFault {
+        SurveyFault::Write
+    }
+}

@@ -1,0 +1,14 @@
+//! An image gone over whole: which of its data blocks are good under a root digest.
+#![tactic(auto)]
+
+mod counts;
+mod fault;
+mod hashes;
+pub mod laws;
+mod pieces;
+mod sight;
+mod survey;
+
+pub use counts::Totals;
+pub use fault::SurveyFault;
+pub use survey::{Survey, survey_image};

@@ -1,0 +1,106 @@
+//! All data blocks of an image, gone over once.
+ghost use Rattle.std.specs.Prelude.{◌≡◌, OnOk, IfOk, IfErr};
+ghost use Rattle.verity_format.specs.Blocks.{IsOnlyRead};
+ghost use Rattle.tree_survey.specs.Causes.{IsImageCause, IsPassCause, IsSurveyCause, AreImages};
+ghost use Rattle.tree_survey.specs.Passes.{CanPass, HasPassed, IsSurvey, Surveys, pass, tree_in};
+
+use crate::counts::{Counts, Totals};
+use crate::fault::SurveyFault;
+use crate::hashes::say_hashes;
+use crate::pieces::{PIECE, read_piece, zeros};
+use crate::sight::Sight;
+use block_device::BlockDev;
+use counted_io::Counted;
+use std::alloc::Global;
+use std::io::Write;
+use tree_path::TreePath;
+use tree_shape::{Digest, Salt};
+use verity_format::{Superblock, VerifyFault, data_sectors, read_superblock, tree_sectors};
+
+/// What was found of an image: how many data blocks are good, and whether all hash blocks are.
+#[derive(Clone, Copy, Debug, PartialEq, Eq)]
+pub struct Survey {
+    pub totals: Totals,
+    pub whole_tree: bool,
+}
+
+/// Goes over an image: prints a line for each longest run of data blocks that aren't good, in rising order, and then one
+/// for each hash block whose digest doesn't stand above it, in the order in which they lie on the hash device.
+///
+/// Each data block is read once, in large pieces.
+pub fn survey_image<D: BlockDev, H: BlockDev, W: Write>(
+    alloc: Global,
+    data_dev: &mut D,
+    hash_dev: &mut H,
+    root: &Digest,
+    writer: &mut Counted<W>,
+) -> Result<Survey, SurveyFault>
+    ensures data { IsOnlyRead (D.state data_dev.old) (D.state data_dev.new) }
+    ensures hash { IsOnlyRead (H.state hash_dev.old) (H.state hash_dev.new) }
+    ensures ok { IfOk result (IsSurvey (pass (D.state data_dev.old) (H.state hash_dev.old) (D.state data_dev.new) (H.state hash_dev.new) (W.contents writer.old.inner) (W.contents writer.new.inner)) root.now) }
+    ensures err { IfErr result (IsSurveyCause (D.state data_dev.old) (H.state hash_dev.old) (D.state data_dev.new) (H.state hash_dev.new) writer.new.failed) }
+{
+    let superblock = superblock_of(data_dev, hash_dev)?;
+    let shape = superblock.shape();
+    let salt = superblock.salt();
+    let path = TreePath::new(alloc, shape, salt, *root)?;
+    let mut sight = Sight::new(path, shape);
+    let totals = survey_data(alloc, &mut sight, &salt, data_dev, hash_dev, writer)?;
+    let whole_tree = say_hashes(&mut sight.path, &shape, hash_dev, writer)?;
+    Ok(Survey { totals, whole_tree })
+}
+
+// The superblock of the hash device, where data and tree lie on the devices.
+fn superblock_of<D: BlockDev, H: BlockDev>(
+    data_dev: &D,
+    hash_dev: &mut H,
+) -> Result<Superblock, SurveyFault>
+    ensures read { IsOnlyRead (H.state hash_dev.old) (H.state hash_dev.new) }
+    ensures failures { OnOk result ((H.state hash_dev.new).failures ≡ (H.state hash_dev.old).failures) }
+    ensures ok { IfOk result (AreImages (D.state data_dev.now) (H.state hash_dev.old)) }
+    ensures err { IfErr result (IsImageCause (D.state data_dev.now) (H.state hash_dev.old) (H.state hash_dev.new)) }
+{
+    let superblock = read_superblock(hash_dev)?;
+    let shape = superblock.shape();
+    if data_dev.sectors() < data_sectors(&shape) {
+        return Err(SurveyFault::Image(VerifyFault::TooSmall));
+    }
+    if hash_dev.sectors() < tree_sectors(&shape) {
+        return Err(SurveyFault::Image(VerifyFault::TooSmall));
+    }
+    Ok(superblock)
+}
+
+// Goes over the data blocks, from the first on.
+fn survey_data<D: BlockDev, H: BlockDev, W: Write>(
+    alloc: Global,
+    sight: &mut Sight,
+    salt: &Salt,
+    data_dev: &mut D,
+    hash_dev: &mut H,
+    writer: &mut Counted<W>,
+) -> Result<Totals, SurveyFault>
+    requires { CanPass sight.old salt.now (D.state data_dev.old) (H.state hash_dev.old) }
+    ensures data { IsOnlyRead (D.state data_dev.old) (D.state data_dev.new) }
+    ensures hash { IsOnlyRead (H.state hash_dev.old) (H.state hash_dev.new) }
+    ensures passed { OnOk result (HasPassed sight.old sight.new (H.state hash_dev.old) (H.state hash_dev.new)) }
+    ensures ok { IfOk result (Surveys (tree_in sight.old) (pass (D.state data_dev.old) (H.state hash_dev.old) (D.state data_dev.new) (H.state hash_dev.new) (W.contents writer.old.inner) (W.contents writer.new.inner))) }
+    ensures err { IfErr result (IsPassCause (D.state data_dev.old) (H.state hash_dev.old) (D.state data_dev.new) (H.state hash_dev.new) writer.new.failed) }
+{
+    let mut memory = zeros(alloc, PIECE)?;
+    let piece = memory.as_mut_slice();
+    let shape = sight.shape;
+    let mut counts = Counts::new();
+    let mut at = 0;
+    'pieces: while at < shape.blocks() {
+        let digests = read_piece(alloc, data_dev, &shape, salt, at, piece)?;
+        'run: for k in 0..digests.len() {
+            let index = at + k as u64;
+            sight.go_to(hash_dev, index)?;
+            counts.add(writer, index, sight.state(index, &digests[k]))?;
+        }
+        at += digests.len() as u64;
+    }
+    counts.tally.close(writer)?;
+    Ok(counts.totals)
+}
