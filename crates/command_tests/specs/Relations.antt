@@ -5,6 +5,9 @@ use Rattle.image_files.specs.Opener.{Opener}
 abbrev pub any_relations : {S D : Type 0} → Opener S D
 any_relations = record {
   opens = λ old path writable outcome new. Unit {0};
+  opens_part = λ old path writable part outcome new. Unit {0};
   tells = λ old path most outcome new. Unit {0};
   takes = λ old path device new. Unit {0};
+  takes_part = λ old path part device new. Unit {0};
+  grows = λ old path sectors outcome new. Unit {0};
 }

@@ -1,5 +1,6 @@
 //! What is printed and what then stands in the images, with a failure at each call of a device.
 use crate::failing_images::FailingImages;
+use crate::quiet_system::QuietSystem;
 use counted_io::Counted;
 use image_commands::SystemGenerators;
 use image_files::Images;
@@ -11,10 +12,12 @@ use std::test::Fail;
 
 const STACK: &[u8] = b"a,,,rw,0 2 linear D 0";
 
-/// The words; the call that fails; the status, what is printed, and with what the image's sectors are then filled.
+/// The words; what is read; the call that fails; the status, what is printed, and with what the image's sectors are then
+/// filled.
 #[derive(Clone, Copy)]
 struct Row {
     words: &'static [&'static str],
+    input: &'static [u8],
     call: u64,
     status: u8,
     printed: &'static [u8],
@@ -23,6 +26,7 @@ struct Row {
 
 const WRITE: Row = Row {
     words: &["write", "stack", "a", "1", "source", "D=rw:image"],
+    input: &[],
     call: 0,
     status: 0,
     printed: b"written\n",
@@ -31,6 +35,7 @@ const WRITE: Row = Row {
 
 const STORE: Row = Row {
     words: &["store", "--first", "1", "stack", "a", "-", "D=rw:image"],
+    input: &[7; 512],
     printed: b"written 1\n",
     ..WRITE
 };
@@ -49,7 +54,59 @@ const READ: Row = Row {
     ..WRITE
 };
 
-static ROWS: [Row; 11] = [
+const LOAD: Row = Row {
+    words: &["load", "stack", "D=rw:image"],
+    printed: b"a sectors 2 depth 1 read 1 write 1 rw\n",
+    ..READ
+};
+
+const CAT: Row = Row {
+    words: &["cat", "stack", "a", "D=rw:image"],
+    printed: &[0; 1024],
+    ..READ
+};
+
+const SCAN: Row = Row {
+    words: &["scan", "stack", "a", "D=rw:image"],
+    printed: b"read 2 lost 0\n",
+    ..READ
+};
+
+const SESSION: Row = Row {
+    words: &["session", "D=rw:image"],
+    input: b"load a,,,rw,0 2 linear D 0\nwrite a 1 1 07\n",
+    printed: b"loaded 1\nwritten\n",
+    ..WRITE
+};
+
+// A client that ends the handshake by NBD_OPT_ABORT, and the answers of the protocol's document.
+const NBD: Row = Row {
+    words: &["nbd", "stack", "a", "D=rw:image"],
+    input: b"\x00\x00\x00\x03IHAVEOPT\x00\x00\x00\x02\x00\x00\x00\x00",
+    printed: b"NBDMAGICIHAVEOPT\x00\x03\x00\x03\xe8\x89\x04\x55\x65\xa9\x00\x00\x00\x02\x00\x00\x00\x01\x00\x00\x00\x00",
+    ..READ
+};
+
+// Two blocks of 512 zeros: the root is the SHA-256 digest of theirs, filled up with zeros.
+const FORMAT: Row = Row {
+    words: &[
+        "format",
+        "--data-block",
+        "512",
+        "--hash-block",
+        "512",
+        "--salt",
+        "-",
+        "--uuid",
+        "6f1c1b9e-2d3a-4c5b-8e7f-0123456789ab",
+        "image",
+        "other",
+    ],
+    printed: b"root 182a1c8ba54d084e24f1018f709256fd40fa272278e35622dfef43d6ec1b1a9b\nsalt -\nuuid 6f1c1b9e-2d3a-4c5b-8e7f-0123456789ab\nblocks 2\n",
+    ..READ
+};
+
+static ROWS: [Row; 24] = [
     WRITE,
     // The write fails, and then the sync: what was written is given back.
     Row {
@@ -84,6 +141,54 @@ static ROWS: [Row; 11] = [
         call: 1,
         status: 3,
         printed: b"fault 3 Device 1\n",
+        ..READ
+    },
+    LOAD,
+    CAT,
+    // Why it ends early isn't printed among the bytes.
+    Row {
+        call: 1,
+        status: 3,
+        printed: b"",
+        ..CAT
+    },
+    SCAN,
+    // What a failed piece has is read again.
+    Row { call: 1, ..SCAN },
+    SESSION,
+    Row {
+        call: 1,
+        printed: b"loaded 1\nfault 3 Device 1\n",
+        filled: [0, 0],
+        ..SESSION
+    },
+    // The sync at its end fails.
+    Row {
+        call: 2,
+        status: 3,
+        printed: b"loaded 1\nwritten\nfault 3 Device 1\n",
+        ..SESSION
+    },
+    NBD,
+    FORMAT,
+    // The data can't be read, or the superblock not written.
+    Row {
+        call: 1,
+        status: 1,
+        printed: b"refused 5 Device\n",
+        ..FORMAT
+    },
+    // It has no superblock.
+    Row {
+        words: &["dump", "image"],
+        status: 1,
+        printed: b"refused 1 Signature\n",
+        ..READ
+    },
+    Row {
+        words: &["help"],
+        status: 2,
+        printed: b"usage\n",
         ..READ
     },
     COPY,
@@ -137,14 +242,15 @@ fn is_so(rt: &HostRuntime, row: &Row) -> Result<bool, Fail> {
     let alloc = rt.alloc();
     let words = words_of(alloc, row)?;
     let mut images = images_of(alloc, row.call)?;
-    let mut generators = SystemGenerators::new(rt);
-    let mut reader = Counted::new([7u8; 512].as_slice());
+    let generators = SystemGenerators::new(rt);
+    let mut system = QuietSystem { generators };
+    let mut reader = Counted::new(row.input);
     let mut writer = Counted::new(Vec::new(alloc));
     let mut errors = Counted::new(Vec::new(alloc));
     let status = command(
         alloc,
         &mut images,
-        &mut generators,
+        &mut system,
         &words,
         &mut reader,
         &mut writer,

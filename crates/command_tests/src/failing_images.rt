@@ -2,7 +2,8 @@
 ghost use Rattle.command_tests.specs.Relations.{any_relations};
 
 use block_device::{BlockDev, FailAt, MemoryDev, OpenFault};
-use image_files::{FileText, Images, OpenImage};
+use device_window::Part;
+use image_files::{FileText, Images, OpenImage, PartFault};
 use memory_images::MemoryImages;
 
 /// The number of the call that fails is counted from the opening of a device; it is 0 where none fails.
@@ -27,12 +28,31 @@ impl Images for FailingImages {
         Ok(OpenImage { device, id })
     }
 
+    fn open_part(
+        &mut self,
+        path: &str,
+        writable: bool,
+        part: Part,
+    ) -> Result<OpenImage<FailAt<MemoryDev>>, PartFault> {
+        let OpenImage { device, id } = self.images.open_part(path, writable, part)?;
+        let device = FailAt::new(device, self.call);
+        Ok(OpenImage { device, id })
+    }
+
     fn read_text(&mut self, path: &str, most: usize) -> Result<FileText, OpenFault> {
         self.images.read_text(path, most)
     }
 
     fn close(&mut self, path: &str, device: FailAt<MemoryDev>) {
         self.images.close(path, device.inner)
+    }
+
+    fn close_part(&mut self, path: &str, part: Part, device: FailAt<MemoryDev>) {
+        self.images.close_part(path, part, device.inner)
+    }
+
+    fn grow(&mut self, path: &str, sectors: u64) -> Result<(), OpenFault> {
+        self.images.grow(path, sectors)
     }
 
     // Its counts are numbers of 64 bits, which its own calls say.

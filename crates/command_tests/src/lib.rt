@@ -6,3 +6,5 @@
 mod commands;
 #[cfg(test)]
 mod failing_images;
+#[cfg(test)]
+mod quiet_system;

@@ -1,14 +1,16 @@
 //! The program: hands the command line, standard input and standard output to `stack_commands`.
 #![tactic(auto)]
 
+mod system;
+
 use counted_io::Counted;
-use image_commands::SystemGenerators;
 use image_files::FileImages;
 use stack_commands::{CommandFault, command, end};
 use std::fs::File;
 use std::io::{BufWriter, ErrorKind};
 use std::process::ExitCode;
 use std::{env, io};
+use system::System;
 
 fn main(rt: HostRuntime) -> ExitCode {
     // In place of a closed standard stream stands a folder: else the first image would stand there, and get the replies.
@@ -22,12 +24,12 @@ fn main(rt: HostRuntime) -> ExitCode {
     let mut reader = Counted::new(rt.reader());
     let mut writer = Counted::new(buffered);
     let mut errors = Counted::new(rt.stderr());
-    let (mut images, mut generators) = (FileImages::new(&rt), SystemGenerators::new(&rt));
+    let (mut images, mut system) = (FileImages::new(&rt), System::new(&rt));
     let status = match words_of(&rt) {
         Ok(words) => command(
             rt.alloc(),
             &mut images,
-            &mut generators,
+            &mut system,
             &words,
             &mut reader,
             &mut writer,
@@ -38,6 +40,7 @@ fn main(rt: HostRuntime) -> ExitCode {
         }
         Err(_) => end(&mut writer, CommandFault::Usage),
     };
+    system.finish();
     ExitCode::from(if writer.flush().is_ok() { status } else { 1 })
 }
 

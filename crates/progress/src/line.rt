@@ -19,12 +19,11 @@ pub struct ProgressLine<'a, R> {
 }
 
 impl<'a, R: Clock + Eprint> ProgressLine<'a, R> {
-    /// Begins to count the time.
+    /// A line of which nothing is shown until a transfer begins.
     pub fn new(rt: &'a R) -> ProgressLine<'a, R> {
-        let begun = Instant::now(rt).ok();
         ProgressLine {
             rt,
-            begun,
+            begun: None,
             shown: None,
         }
     }
@@ -67,6 +66,11 @@ fn per_second(done: u64, millis: u128) -> u64 {
 }
 
 impl<R: Clock + Eprint> Progress for ProgressLine<'_, R> {
+    // The time is counted from here on.
+    fn begin(&mut self) {
+        self.begun = Instant::now(self.rt).ok();
+    }
+
     fn tell(&mut self, done: u64, all: Option<u64>) {
         let Some(begun) = self.begun else {
             return;

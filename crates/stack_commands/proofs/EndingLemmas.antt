@@ -1,22 +1,23 @@
 -- Commands that end early.
-use Rattle.std.proofs.Common.{◌≡◌, ◌⊎◌, ℕ, Bool, true, false, List, Option, refl, sym, subst, inl, inr}
+use Rattle.std.proofs.Common.{◌≡◌, ℕ, Bool, true, false, List, Option, refl, sym, subst}
 use Rattle.stack_commands.specs.declared.fault.CommandFault.{CommandFault}
-use Rattle.stack_commands.specs.declared.fault.CommandFault.TheVariants.{Usage, NoMemory, TooLong, Open, Leaves, Text, Load, Submit, Io, Image, Partitions, Trees, Cat, Store, Lost, OutputTooSmall, OutputFailed, Session, Service}
-use Rattle.image_commands.proofs.lemmas.EndingLemmas.{quiet as image-quiet}
-use Rattle.stack_commands.specs.Commands.{IsTold}
-use Rattle.stack_commands.specs.Endings.{IsEnd, IsQuiet, ending_status}
+use Rattle.stack_commands.specs.declared.fault.CommandFault.TheVariants.{Usage, NoMemory, TooLong, Open, Outside, Leaves, Text, Load, Submit, Io, Verity, Partitions, Trees, Cat, Store, Lost, OutputTooSmall, OutputFailed, Session, Service}
+use Rattle.verity_commands.proofs.EndingLemmas.{quiet as verity-quiet}
+use Rattle.stack_commands.specs.Commands.{IsEndOr, IsTold, Told, is_usage}
+use Rattle.stack_commands.specs.Endings.{IsQuiet}
 
 pub quiet : (fault : CommandFault) (bytes : Option (List ℕ)) → IsQuiet fault bytes bytes
 quiet Usage bytes = refl
 quiet NoMemory bytes = refl
 quiet TooLong bytes = refl
 quiet (Open file) bytes = refl
+quiet (Outside path) bytes = refl
 quiet (Leaves fault) bytes = refl
 quiet (Text fault) bytes = refl
 quiet (Load refusal) bytes = refl
 quiet (Submit fault) bytes = refl
 quiet (Io fault) bytes = refl
-quiet (Image fault) bytes = image-quiet fault bytes
+quiet (Verity fault) bytes = verity-quiet fault bytes
 quiet (Partitions fault) bytes = refl
 quiet (Trees fault) bytes = refl
 quiet (Cat fault) bytes = refl
@@ -28,15 +29,11 @@ quiet (Session fault) bytes = tt
 quiet (Service fault) bytes = refl
 
 -- how an end is told: by the writer, or elsewhere
-pub told-here : (cat : Bool) (fault : CommandFault) (old new : Option (List ℕ)) (failed : Bool) (status : ℕ) → cat ≡ false
-    → IsEnd fault old new status ⊎ ((status ≡ 1) × (failed ≡ true)) → IsTold cat fault old new failed status
-told-here cat fault old new failed status is told = subst (λ (b : Bool). IsTold b fault old new failed status) (sym is) told
+pub told-here : (cat : Bool) (fault : CommandFault) (old new : Option (List ℕ)) (told : Told) (status : ℕ) → cat ≡ false
+    → IsEndOr told.failed fault old new status → IsTold cat fault old new told status
+told-here cat fault old new told status is ends = subst (λ (b : Bool). IsTold b fault old new told status) (sym is) ends
 
-status-told : (fault : CommandFault) (old new : Option (List ℕ)) (failed : Bool) (status : ℕ) → IsEnd fault old new status ⊎ ((status ≡ 1) × (failed ≡ true)) → (status ≡ ending_status fault) ⊎ (status ≡ 1)
-status-told fault old new failed status (inl end) = inl end.0
-status-told fault old new failed status (inr unwritten) = inr unwritten.0
-
-pub told-elsewhere : (cat : Bool) (fault : CommandFault) (old new output : Option (List ℕ)) (failed failed' : Bool) (status : ℕ) → cat ≡ true
-    → IsEnd fault old new status ⊎ ((status ≡ 1) × (failed ≡ true)) → IsTold cat fault output output failed' status
-told-elsewhere cat fault old new output failed failed' status is told =
-    subst (λ (b : Bool). IsTold b fault output output failed' status) (sym is) (refl, status-told fault old new failed status told)
+pub told-elsewhere : (cat : Bool) (fault : CommandFault) (output before : Option (List ℕ)) (told : Told) (status : ℕ) → cat ≡ true
+    → (is_usage fault ≡ false → before ≡ told.old) → IsEndOr told.errors_failed fault before told.new status → IsTold cat fault output output told status
+told-elsewhere cat fault output before told status is unsaid ends =
+    subst (λ (b : Bool). IsTold b fault output output told status) (sym is) (refl, record { before = before; unsaid = unsaid; ends = ends })

@@ -7,4 +7,5 @@ pub mod ServeLemmas
 pub mod StackLemmas
 pub mod StreamingLemmas
 pub mod UsageLemmas
+pub mod VerityLemmas
 pub mod WriteLemmas

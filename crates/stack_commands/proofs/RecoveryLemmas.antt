@@ -16,11 +16,11 @@ use Rattle.stack_commands.specs.StackCommands.{DeviceWords}
 use Rattle.stack_commands.proofs.StackLemmas.{stack-made}
 
 -- the stack over the devices of the leaves has it
-pub device-had : {D : Type 0} (state : D → Device) (name : List ℕ) (over : OpenStack D) (config : Configuration) (stack : StackRecord) (d : ℕ)
-    → configuration_of over.leaves.items over.text.bytes.items ≡ Ok config → stack ≡ stack_over config (map state over.devices.items) → device_named config name ≡ Some d
+pub device-had : {D : Type 0} (state : D → Device) (name : List ℕ) (over : OpenStack D) (config : Configuration) (cache : ℕ) (stack : StackRecord) (d : ℕ)
+    → configuration_of over.leaves.items over.text.bytes.items ≡ Ok config → stack ≡ stack_over config (map state over.devices.items) cache → device_named config name ≡ Some d
     → HasDevice state name over (place_of stack d)
-device-had state name over config stack d makes is named = record {
-  made = stack-made state over config stack makes is;
+device-had state name over config cache stack d makes is named = record {
+  made = stack-made state over config cache stack makes is;
   named = ap (λ (s : StackRecord). device_named s.config name) is ∙ named;
 }
 
@@ -30,5 +30,5 @@ none-mapped f None is = refl
 none-mapped f (Some x) is = absurd (none-some (f x) is)
 
 -- what the text makes of the open leaves has it
-pub finds : {S D : Type 0} (w : Calls S D) (words : DeviceWords) (over : OpenStack D) (at : Place) → OpensStack w words.words over → HasDevice w.state words.name over at → Finds w words at
-finds w words over at opened has = record { loaded = record { over = over; opened = opened; made = has.made }; named = has.named }
+pub finds : {S D : Type 0} (w : Calls S D) (words : DeviceWords) (over : OpenStack D) (at : Place) → OpensStack w words.words over → HasDevice w.state words.name over at → at.stack.capacity ≡ words.cache → Finds w words at
+finds w words over at opened has cached = record { loaded = record { over = over; opened = opened; made = has.made }; cached = cached; named = has.named }

@@ -1,5 +1,5 @@
 -- Sessions and services of clients.
-use Rattle.std.proofs.Common.{◌≡◌, Bool, refl, subst, inl, List, [], map, Result}
+use Rattle.std.proofs.Common.{◌≡◌, ℕ, Bool, refl, subst, inl, List, [], map, Result}
 use Rattle.counted_io.specs.Streams.{Streams}
 use Rattle.command_line.specs.Bindings.{BindingRecord}
 use Rattle.image_files.specs.Opener.{Calls}
@@ -27,18 +27,19 @@ use Rattle.stack_commands.specs.StackCommands.{DeviceWords, IsServeEnd, Serves, 
 use Rattle.stack_commands.specs.StacksOfTexts.{IsStackOf}
 
 -- a binding that isn't opened, before anything is read or written
-pub IsServeEnd-unopened : {S D : Type 0} (w : Calls S D) (bindings : List BindingRecord) (s : Streams) (failed : Bool) (fault : OpeningFault)
-    → IsBindingEnd w [] bindings fault → IsServeEnd w bindings s s failed (opening_ending fault)
-IsServeEnd-unopened w bindings s failed opening.NoMemory ends = (refl, inl (opening.NoMemory, refl, ends))
-IsServeEnd-unopened w bindings s failed opening.TooLong ends = (refl, inl (opening.TooLong, refl, ends))
-IsServeEnd-unopened w bindings s failed (opening.Open file) ends = (refl, inl (opening.Open file, refl, ends))
+pub IsServeEnd-unopened : {S D : Type 0} (w : Calls S D) (cache : ℕ) (bindings : List BindingRecord) (s : Streams) (failed : Bool) (fault : OpeningFault)
+    → IsBindingEnd w [] bindings fault → IsServeEnd w cache bindings s s failed (opening_ending fault)
+IsServeEnd-unopened w cache bindings s failed opening.NoMemory ends = (refl, inl (opening.NoMemory, refl, ends))
+IsServeEnd-unopened w cache bindings s failed opening.TooLong ends = (refl, inl (opening.TooLong, refl, ends))
+IsServeEnd-unopened w cache bindings s failed (opening.Open file) ends = (refl, inl (opening.Open file, refl, ends))
+IsServeEnd-unopened w cache bindings s failed (opening.Outside path) ends = (refl, inl (opening.Outside path, refl, ends))
 
 -- a session by a new queue over no mapped device
-pub session-served : {S D : Type 0} (w : Calls S D) (between : S) (bindings : List BindingRecord) (over : OpenLeaves D) (queue last : World) (old new : Streams)
+pub session-served : {S D : Type 0} (w : Calls S D) (cache : ℕ) (between : S) (bindings : List BindingRecord) (over : OpenLeaves D) (queue last : World) (old new : Streams)
     (outcome : Result Unit SessionFault) (synced : Result Unit IoFault) → AreBound (record w { new = between }) [] bindings over.leaves.items over.devices.items
-    → queue ≡ new_world (stack_over (leaves_alone over.leaves.items) (map w.state over.devices.items)) → IsQueueSession queue last old new outcome
-    → GivesBack (record w { old = between }) bindings last.stack.leaves synced → Serves w bindings old new outcome synced
-session-served w between bindings over queue last old new outcome synced bound is served back = record {
+    → queue ≡ new_world (stack_over (leaves_alone over.leaves.items) (map w.state over.devices.items) cache) → IsQueueSession queue last old new outcome
+    → GivesBack (record w { old = between }) bindings last.stack.leaves synced → Serves w cache bindings old new outcome synced
+session-served w cache between bindings over queue last old new outcome synced bound is served back = record {
   over = over;
   last = last;
   between = between;
@@ -49,15 +50,16 @@ session-served w between bindings over queue last old new outcome synced bound i
 
 -- a client that was served by a new queue over the stack
 pub client-served : {S D : Type 0} (w : Calls S D) (between : S) (words : DeviceWords) (over : OpenStack D) (stack : StackRecord) (queue last : World) (e : ExportRecord) (old new : Streams)
-    (outcome : Result Unit ServiceFault) (synced : Result Unit IoFault) → OpensStack (record w { new = between }) words.words over → IsStackOf w.state over stack → queue ≡ new_world stack
+    (outcome : Result Unit ServiceFault) (synced : Result Unit IoFault) → OpensStack (record w { new = between }) words.words over → IsStackOf w.state over stack → stack.capacity ≡ words.cache → queue ≡ new_world stack
     → IsExport queue.stack.config e → e.name ≡ words.name → IsService e queue last old new outcome → GivesBack (record w { old = between }) words.words.bindings last.stack.leaves synced
     → ServesClient w words old new outcome synced
-client-served w between words over stack queue last e old new outcome synced opened made is export named service back = record {
+client-served w between words over stack queue last e old new outcome synced opened made cached is export named service back = record {
   stack = stack;
   export = e;
   last = last;
   between = between;
   loaded = record { over = over; opened = opened; made = made };
+  cached = cached;
   is_export = subst (λ (q : World). IsExport q.stack.config e) is export;
   named = named;
   served = subst (λ (q : World). IsService e q last old new outcome) is service;

@@ -1,5 +1,5 @@
 -- Stacks that are made of open leaves.
-use Rattle.std.proofs.Common.{◌≡◌, map, sym, ap, ◌∙◌, Ok}
+use Rattle.std.proofs.Common.{◌≡◌, ℕ, map, sym, ap, ◌∙◌, Ok}
 use Rattle.block_device.specs.Device.{Device}
 use Rattle.stack_rules.specs.Records.{Configuration}
 use Rattle.stack_engine.specs.Pieces.{stack_over}
@@ -9,9 +9,9 @@ use Rattle.stack_commands.specs.StacksOfTexts.{IsStackOf}
 use Rattle.stack_opening.specs.declared.stack_file.OpenStack.{OpenStack}
 
 -- over the devices of the leaves
-pub stack-made : {D : Type 0} (state : D → Device) (over : OpenStack D) (config : Configuration) (stack : StackRecord)
-    → configuration_of over.leaves.items over.text.bytes.items ≡ Ok config → stack ≡ stack_over config (map state over.devices.items) → IsStackOf state over stack
-stack-made state over config stack makes is = record {
+pub stack-made : {D : Type 0} (state : D → Device) (over : OpenStack D) (config : Configuration) (cache : ℕ) (stack : StackRecord)
+    → configuration_of over.leaves.items over.text.bytes.items ≡ Ok config → stack ≡ stack_over config (map state over.devices.items) cache → IsStackOf state over stack
+stack-made state over config cache stack makes is = record {
   makes = makes ∙ ap (λ (c : Configuration). Ok c) (sym (ap (λ (s : StackRecord). s.config) is));
   leaves = ap (λ (s : StackRecord). s.leaves) is;
 }

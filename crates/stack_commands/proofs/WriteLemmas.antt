@@ -12,13 +12,14 @@ use Rattle.stack_commands.specs.StackCommands.{PutWords, Puts}
 use Rattle.stack_commands.specs.StacksOfTexts.{IsStackOf}
 
 pub puts : {S D : Type 0} (w : Calls S D) (words : PutWords) (over : OpenStack D) (source : FileText) (stack : StackRecord) (queue after : World) (reply : Reply)
-    → OpensSource w words.words words.source over source → IsStackOf w.state over stack → queue ≡ new_world stack → IsServed queue (words.put source.bytes.items) reply after → Puts w words after
-puts w words over source stack queue after reply opened made is served = record {
+    → OpensSource w words.words words.source over source → IsStackOf w.state over stack → stack.capacity ≡ words.cache → queue ≡ new_world stack → IsServed queue (words.put source.bytes.items) reply after → Puts w words after
+puts w words over source stack queue after reply opened made cached is served = record {
   over = over;
   source = source;
   stack = stack;
   reply = reply;
   opened = opened;
   made = made;
+  cached = cached;
   served = subst (λ (q : World). IsServed q (words.put source.bytes.items) reply after) is served;
 }

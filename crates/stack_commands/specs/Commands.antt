@@ -2,74 +2,67 @@
 use Rattle.std.specs.Prelude.{◌≡◌, ◌⊎◌, ℕ, Bool, true, false, List, [], ◌∷◌, codes, Option, Some, Ok}
 use Rattle.std.specs.Str.{bytes_eq}
 use Rattle.stack_commands.specs.declared.fault.CommandFault.{CommandFault}
-use Rattle.stack_commands.specs.Endings.{IsEnd, IsQuiet, ending_status}
-use Rattle.command_line.specs.declared.image_options.ImageOptions.{ImageOptions}
-use Rattle.image_commands.specs.ImageCommands.{IsFormatFilesEnd, IsSuperblockEnd, IsVerifyFilesEnd, PrintsMade, PrintsMatches, PrintsSuperblock}
-use Rattle.image_commands.specs.Openings.{TwoPaths}
+use Rattle.stack_commands.specs.declared.fault.CommandFault.TheVariants.{Usage, Verity}
+use Rattle.stack_commands.specs.Endings.{IsEnd, IsQuiet}
+use Rattle.verity_commands.specs.declared.fault.VerityFault.TheVariants as verity_fault
+use Rattle.image_commands.specs.ImageCommands.{IsSuperblockEnd, IsVerifyFilesEnd, PrintsMatches, PrintsSuperblock}
 use Rattle.image_commands.specs.SuperblockTexts.{line_text, superblock_text}
 use Rattle.request_queue.specs.Requests.{RequestRecord, a_read, a_write}
 use Rattle.counted_io.specs.Streams.{Streams}
 use Rattle.command_line.specs.CommandWords.{InvocationRecord, copy, dump, format, further, load, nbd, read, scan, session, table, verify, write}
 use Rattle.command_parser.specs.CommandLines.{IsNoCommand, invoked, options_said}
-use Rattle.command_line.specs.FormatOptions.{AreSaid, OptionTexts}
+use Rattle.command_line.specs.FormatOptions.{OptionTexts}
 use Rattle.command_line.specs.Bindings.{BindingRecord}
 use Rattle.stack_commands.specs.Further.{FailsFurther, SucceedsFurther}
-use Rattle.stack_commands.specs.Uses.{IsImageEnd, IsUsageEnd, Uses}
+use Rattle.verity_commands.specs.Endings as verity
+use Rattle.verity_commands.specs.Images.{FormatsFiles, IsFormatFilesCause, paths}
+use Rattle.stack_commands.specs.Uses.{IsUsageEnd, IsVerityEnd, Uses}
 use Rattle.stack_commands.specs.Recoveries.{CopyWords, IsCopyEnd, IsScanEnd, PrintsCopy, PrintsScan, copy_words}
 use Rattle.stack_commands.specs.StackCommands.{FailsToList, FailsToShow, IsClientEnd, IsServeEnd, IsStackEnd, IsWriteEnd, PrintsDevices, PrintsReply, PrintsWritten, PutWords, Serves, ServesClient, device_on, on, put_words}
 
-abbrev pub paths : List ℕ → List ℕ → TwoPaths
-paths image hash = record { data_path = image; hash_path = hash }
-
 -- what the commands on stacks name
 abbrev pub copy_on : List ℕ → List ℕ → List ℕ → List BindingRecord → CopyWords
-copy_on stack name out bindings = copy_words (device_on stack name bindings) out
+copy_on stack name out bindings = copy_words (device_on stack name 64 bindings) out false
 
-abbrev pub put_on : List ℕ → List ℕ → (List ℕ → RequestRecord) → List BindingRecord → PutWords
-put_on stack source put bindings = put_words (on stack bindings) source put
+abbrev pub put_on : List ℕ → ℕ → List ℕ → (List ℕ → RequestRecord) → List BindingRecord → PutWords
+put_on stack cache source put bindings = put_words (on stack bindings) cache source put
 
 -- what each command prints where it succeeds; the texts are the values of `format`'s options
 abbrev pub Succeeds : {S D T G : Type 0} → OptionTexts → InvocationRecord → Uses S D T G → Type 0
 Succeeds texts (load stack bindings) u = PrintsDevices u.images (on stack bindings) u.old.output u.new.output
-Succeeds texts (read cache stack name first count bindings) u = PrintsReply u.images (on stack bindings) (a_read name first count) u.old.output u.new.output
-Succeeds texts (write cache stack name first source bindings) u = PrintsWritten u.images (put_on stack source (a_write name first) bindings) u.old.output u.new.output
-Succeeds texts (session cache bindings) u = Serves u.images bindings u.old u.new (Ok tt) (Ok tt)
-Succeeds texts (nbd cache stack name bindings) u = ServesClient u.images (device_on stack name bindings) u.old u.new (Ok tt) (Ok tt)
-Succeeds texts (scan stack name bindings) u = PrintsScan u.images (device_on stack name bindings) u.old.output u.new.output
+Succeeds texts (read cache stack name first count bindings) u = PrintsReply u.images (on stack bindings) cache (a_read name first count) u.old.output u.new.output
+Succeeds texts (write cache stack name first source bindings) u = PrintsWritten u.images (put_on stack cache source (a_write name first) bindings) u.old.output u.new.output
+Succeeds texts (session cache bindings) u = Serves u.images cache bindings u.old u.new (Ok tt) (Ok tt)
+Succeeds texts (nbd cache stack name bindings) u = ServesClient u.images (device_on stack name cache bindings) u.old u.new (Ok tt) (Ok tt)
+Succeeds texts (scan stack name bindings) u = PrintsScan u.images (device_on stack name 64 bindings) u.old.output u.new.output
 Succeeds texts (copy stack name out bindings) u = PrintsCopy u.images (copy_on stack name out bindings) u.old.output u.new.output
-Succeeds texts (format image hash) u = (options : ImageOptions) × AreSaid texts options × PrintsMade u.images u.drawing options (paths image hash) u.old.output u.new.output
+Succeeds texts (format image hash) u = FormatsFiles texts u.images u.drawing (paths image hash) u.old.output u.new.output
 Succeeds texts (verify image hash root) u = PrintsMatches u.images (paths image hash) root u.old.output u.new.output
 Succeeds texts (dump hash) u = PrintsSuperblock u.images hash superblock_text u.old.output u.new.output
 Succeeds texts (table hash root image_name hash_name) u = PrintsSuperblock u.images hash (λ s. line_text s image_name hash_name root) u.old.output u.new.output
 Succeeds texts (further w) u = SucceedsFurther texts w u
 
--- a word of `format`'s options says no value, or memory ran out while they were read, and nothing was opened; or it ended so
-abbrev pub IsFormatCause : {S D T G : Type 0} → OptionTexts → TwoPaths → Uses S D T G → Bool → CommandFault → Type 0
-IsFormatCause texts image_paths u failed fault =
-    (IsUsageEnd fault (Unit {0}) × (u.images.new ≡ u.images.old))
-    ⊎ ((options : ImageOptions) × AreSaid texts options × IsImageEnd (IsFormatFilesEnd u.images u.drawing options image_paths failed) fault)
-
 -- why each command ends early; of a line that can't be written it says that the writer failed
 abbrev pub IsCauseOf : {S D T G : Type 0} → OptionTexts → InvocationRecord → Uses S D T G → Bool → CommandFault → Type 0
 IsCauseOf texts (load stack bindings) u failed fault = IsStackEnd u.images (on stack bindings) (FailsToList failed) fault
-IsCauseOf texts (read cache stack name first count bindings) u failed fault = IsStackEnd u.images (on stack bindings) (FailsToShow u.images.state (a_read name first count) failed) fault
-IsCauseOf texts (write cache stack name first source bindings) u failed fault = IsWriteEnd u.images (put_on stack source (a_write name first) bindings) failed fault
+IsCauseOf texts (read cache stack name first count bindings) u failed fault = IsStackEnd u.images (on stack bindings) (FailsToShow u.images.state cache (a_read name first count) failed) fault
+IsCauseOf texts (write cache stack name first source bindings) u failed fault = IsWriteEnd u.images (put_on stack cache source (a_write name first) bindings) failed fault
 IsCauseOf texts (session cache bindings) u failed fault = ⊥
 IsCauseOf texts (nbd cache stack name bindings) u failed fault = ⊥
 IsCauseOf texts (scan stack name bindings) u failed fault = ⊥
 IsCauseOf texts (copy stack name out bindings) u failed fault = ⊥
-IsCauseOf texts (format image hash) u failed fault = IsFormatCause texts (paths image hash) u failed fault
-IsCauseOf texts (verify image hash root) u failed fault = IsImageEnd (IsVerifyFilesEnd u.images (paths image hash) root failed) fault
-IsCauseOf texts (dump hash) u failed fault = IsImageEnd (IsSuperblockEnd u.images hash failed) fault
-IsCauseOf texts (table hash root image_name hash_name) u failed fault = IsImageEnd (IsSuperblockEnd u.images hash failed) fault
+IsCauseOf texts (format image hash) u failed fault = IsVerityEnd (IsFormatFilesCause texts u.images u.drawing (paths image hash) failed) fault
+IsCauseOf texts (verify image hash root) u failed fault = IsVerityEnd (verity.IsImageEnd (IsVerifyFilesEnd u.images (paths image hash) root failed)) fault
+IsCauseOf texts (dump hash) u failed fault = IsVerityEnd (verity.IsImageEnd (IsSuperblockEnd u.images hash failed)) fault
+IsCauseOf texts (table hash root image_name hash_name) u failed fault = IsVerityEnd (verity.IsImageEnd (IsSuperblockEnd u.images hash failed)) fault
 IsCauseOf texts (further w) u failed fault = ⊥
 
 -- and that nothing is printed before; a session and the service of a client have printed their replies, and what goes over
 -- a device some lost runs
 abbrev pub Fails : {S D T G : Type 0} → OptionTexts → InvocationRecord → Uses S D T G → Bool → CommandFault → Type 0
-Fails texts (session cache bindings) u failed fault = IsServeEnd u.images bindings u.old u.new failed fault
-Fails texts (nbd cache stack name bindings) u failed fault = IsClientEnd u.images (device_on stack name bindings) u.old u.new failed fault
-Fails texts (scan stack name bindings) u failed fault = IsScanEnd u.images (device_on stack name bindings) u.old.output u.new.output failed fault
+Fails texts (session cache bindings) u failed fault = IsServeEnd u.images cache bindings u.old u.new failed fault
+Fails texts (nbd cache stack name bindings) u failed fault = IsClientEnd u.images (device_on stack name cache bindings) u.old u.new failed fault
+Fails texts (scan stack name bindings) u failed fault = IsScanEnd u.images (device_on stack name 64 bindings) u.old.output u.new.output failed fault
 Fails texts (copy stack name out bindings) u failed fault = IsCopyEnd u.images (copy_on stack name out bindings) u.old.output u.new.output failed fault
 Fails texts (further w) u failed fault = FailsFurther texts w u failed fault
 Fails texts invocation u failed fault = IsCauseOf texts invocation u failed fault × IsQuiet fault u.old.output u.new.output
@@ -90,20 +83,46 @@ abbrev pub is_cat : List (List ℕ) → Bool
 is_cat [] = false
 is_cat (name ∷ words) = bytes_eq name (codes "cat")
 
--- how an end is told: printed, or the writer failed; of `cat` elsewhere, and nothing is written
-abbrev pub IsTold : Bool → CommandFault → Option (List ℕ) → Option (List ℕ) → Bool → ℕ → Type 0
-IsTold false fault old new failed status = IsEnd fault old new status ⊎ ((status ≡ 1) × (failed ≡ true))
-IsTold true fault old new failed status = (new ≡ old) × ((status ≡ ending_status fault) ⊎ (status ≡ 1))
+-- the words are no command
+abbrev pub is_usage : CommandFault → Bool
+is_usage Usage = true
+is_usage (Verity verity_fault.Usage) = true
+is_usage fault = false
+
+-- whether the writer failed; what stood on the errors' writer and stands there now, and whether that failed
+pub record Told : Type 0 where
+  pub failed : Bool
+  pub old : Option (List ℕ)
+  pub new : Option (List ℕ)
+  pub errors_failed : Bool
+
+abbrev pub told_to : Bool → Option (List ℕ) → Option (List ℕ) → Bool → Told
+told_to failed old new errors_failed = record { failed = failed; old = old; new = new; errors_failed = errors_failed }
+
+-- its text was printed and its status answered, or the writer failed
+abbrev pub IsEndOr : Bool → CommandFault → Option (List ℕ) → Option (List ℕ) → ℕ → Type 0
+IsEndOr failed fault old new status = IsEnd fault old new status ⊎ ((status ≡ 1) × (failed ≡ true))
+
+-- the same among the errors, behind what is said of words that are no command
+pub record IsToldElsewhere (fault : CommandFault) (told : Told) (status : ℕ) : Type 0 where
+  pub before : Option (List ℕ)
+  pub unsaid : is_usage fault ≡ false → before ≡ told.old
+  pub ends : IsEndOr told.errors_failed fault before told.new status
+
+-- how an end is told: printed; of `cat` among the errors, and nothing is written
+abbrev pub IsTold : Bool → CommandFault → Option (List ℕ) → Option (List ℕ) → Told → ℕ → Type 0
+IsTold false fault old new told status = IsEndOr told.failed fault old new status
+IsTold true fault old new told status = (new ≡ old) × IsToldElsewhere fault told status
 
 -- A command ended early: its text is printed and its status answered, or that can't be written. Where the writer had
 -- failed before, that stays known.
-pub record EndsEarly {S D T G : Type 0} (words : List (List ℕ)) (u : Uses S D T G) (failed : Bool) (status : ℕ) : Type 0 where
+pub record EndsEarly {S D T G : Type 0} (words : List (List ℕ)) (u : Uses S D T G) (told : Told) (status : ℕ) : Type 0 where
   pub fault : CommandFault
   pub before : Streams
   pub unwritten : Bool
   pub fails : IsRunEnd words (record u { new = before }) unwritten fault
-  pub kept : unwritten ≡ true → failed ≡ true
-  pub told : IsTold (is_cat words) fault before.output u.new.output failed status
+  pub kept : unwritten ≡ true → told.failed ≡ true
+  pub told_so : IsTold (is_cat words) fault before.output u.new.output told status
 
 -- the command of some words succeeded
 abbrev pub IsDone : {S D T G : Type 0} → List (List ℕ) → Uses S D T G → Type 0

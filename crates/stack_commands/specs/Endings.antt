@@ -13,16 +13,17 @@ use Rattle.stack_rules.specs.declared.refusal.LoadFault.{LoadFault}
 use Rattle.stack_rules.specs.declared.refusal.LoadFault.TheVariants as load
 use Rattle.stack_meaning.specs.declared.fault.IoFault.TheVariants as io
 use Rattle.stack_commands.specs.declared.fault.CommandFault.{CommandFault}
-use Rattle.stack_commands.specs.declared.fault.CommandFault.TheVariants.{Usage, NoMemory, TooLong, Open, Leaves, Text, Load, Submit, Io, Image, Partitions, Trees, Cat, Store, Lost, OutputTooSmall, OutputFailed, Session, Service}
+use Rattle.stack_commands.specs.declared.fault.CommandFault.TheVariants.{Usage, NoMemory, TooLong, Open, Outside, Leaves, Text, Load, Submit, Io, Verity, Partitions, Trees, Cat, Store, Lost, OutputTooSmall, OutputFailed, Session, Service}
 use Rattle.nbd_server.specs.declared.fault.ServiceFault.TheVariants as service
 use Rattle.stack_session.specs.declared.fault.SessionFault.TheVariants.{WriteFault}
-use Rattle.image_commands.specs.declared.fault.ImageFault.TheVariants as image
-use Rattle.image_commands.specs.Endings as images
-use Rattle.stack_commands.specs.FurtherTexts.{cat_status, cat_text, partitions_text, store_status, store_text, tree_status, tree_text}
-use Rattle.stack_commands.specs.ImageTexts.{image_text, open_text}
+use Rattle.verity_commands.specs.Endings as verity
+use Rattle.verity_commands.specs.Texts.{open_text, verity_text}
+use Rattle.stack_commands.specs.StreamTexts.{cat_status, cat_text, store_status, store_text}
+use Rattle.partition_commands.specs.FaultTexts.{partitions_status, partitions_text}
+use Rattle.tree_commands.specs.FaultTexts.{tree_status, tree_text}
 use Rattle.stack_rules.specs.FaultKinds.{config_number, config_name}
-use Rattle.io_fault_text.specs.Texts.{io_text, no_memory}
-use Rattle.stack_session.specs.Texts.{usage_text, fault_text, refusal_text, refused_text, submit_text}
+use Rattle.io_fault_text.specs.Texts.{io_text, no_memory, refused_text, usage_text}
+use Rattle.stack_session.specs.Texts.{fault_text, refusal_text, submit_text}
 
 -- how a command ends where the words are none, where a text has a fault, and where a load is refused
 abbrev pub words_ending : WordsFault → CommandFault
@@ -42,10 +43,15 @@ abbrev pub opening_ending : OpeningFault → CommandFault
 opening_ending opening.NoMemory = NoMemory
 opening_ending opening.TooLong = TooLong
 opening_ending (opening.Open file) = Open file
+opening_ending (opening.Outside path) = Outside path
 
 -- it ends so, and that is said of the opening's fault
 abbrev pub IsOpeningEnd : (OpeningFault → Type 0) → CommandFault → Type 0
 IsOpeningEnd Fails fault = (cause : OpeningFault) × (fault ≡ opening_ending cause) × Fails cause
+
+-- a part that isn't inside its file
+abbrev pub outside_text : List ℕ → List ℕ
+outside_text path = codes "refused 23 OutsideFile " ++ (path ++ codes "\n")
 
 -- leaves that aren't taken
 abbrev pub config_text : ConfigFault → List ℕ
@@ -66,12 +72,13 @@ ending_text Usage = usage_text
 ending_text NoMemory = no_memory
 ending_text TooLong = codes "refused input\n"
 ending_text (Open file) = open_text file
+ending_text (Outside path) = outside_text path.now
 ending_text (Leaves fault) = config_text fault
 ending_text (Text fault) = fault_text fault
 ending_text (Load refusal) = refusal_text refusal
 ending_text (Submit fault) = submit_text fault
 ending_text (Io fault) = io_text fault
-ending_text (Image fault) = image_text fault
+ending_text (Verity fault) = verity_text fault
 ending_text (Partitions fault) = partitions_text fault
 ending_text (Trees fault) = tree_text fault
 ending_text (Cat fault) = cat_text fault
@@ -88,7 +95,8 @@ abbrev pub ending_status : CommandFault → ℕ
 ending_status Usage = 2
 ending_status (Io io.NoMemory) = 1
 ending_status (Io fault) = 3
-ending_status (Image (image.Differs verdict)) = 3
+ending_status (Verity fault) = verity.verity_status fault
+ending_status (Partitions fault) = partitions_status
 ending_status (Trees fault) = tree_status fault
 ending_status (Cat fault) = cat_status fault
 ending_status (Store fault) = store_status fault
@@ -111,5 +119,5 @@ IsUnwritten failed fault = ⊥
 -- nothing is written ahead of what ends a command, unless it is the writing that fails
 abbrev pub IsQuiet : CommandFault → Option (List ℕ) → Option (List ℕ) → Type 0
 IsQuiet (Session fault) old new = Unit {0}
-IsQuiet (Image fault) old new = images.IsQuiet fault old new
+IsQuiet (Verity fault) old new = verity.IsQuiet fault old new
 IsQuiet fault old new = new ≡ old

@@ -3,13 +3,12 @@ pub mod Commands
 pub mod Configuration
 pub mod Endings
 pub mod Further
-pub mod FurtherTexts
-pub mod ImageTexts
-pub mod Places
 pub mod Recoveries
 pub mod Recovering
 pub mod Requests
 pub mod StackCommands
 pub mod StacksOfTexts
+pub mod StreamTexts
 pub mod Streaming
 pub mod Uses
+pub mod Verifying

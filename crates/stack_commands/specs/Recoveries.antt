@@ -1,6 +1,7 @@
 -- What the commands that go over a device print, and how they end early.
-use Rattle.std.specs.Prelude.{◌≡◌, ◌⊎◌, ℕ, ◌<◌, Bool, IsTrue, List, Option, Some, None}
+use Rattle.std.specs.Prelude.{◌≡◌, ◌⊎◌, ℕ, ◌<◌, Bool, true, false, IsTrue, List, Option, Some, None}
 use Rattle.block_device.specs.Device.{Device, synced}
+use Rattle.differing_device.specs.Differing.{differing}
 use Rattle.image_files.specs.declared.images.OpenImage.{OpenImage}
 use Rattle.image_files.specs.Opener.{Calls}
 use Rattle.stack_rules.specs.Names.{device_named, mapped, size}
@@ -46,6 +47,7 @@ FailsToFind state name over fault = FailsToLoad over fault ⊎ IsUnnamed state n
 -- the device of that name, of the stack that STACK's text makes of the bindings' leaves
 pub record Finds {S D : Type 0} (w : Calls S D) (words : DeviceWords) (at : Place) : Type 0 where
   pub loaded : Loads w words.words at.stack
+  pub cached : at.stack.capacity ≡ words.cache
   pub named : device_named at.stack.config words.name ≡ Some at.d
 
 -- It was gone over: a line was printed for each longest lost run.
@@ -89,19 +91,45 @@ IsScanEnd w words old new failed fault =
 
 -- ---- `copy`
 
--- a stack file, the name of one of its devices, bindings, and the image to which it is copied
+-- a stack file, the name of one of its devices, bindings, the image to which it is copied, and whether only what differs
+-- is written
 pub record CopyWords : Type 0 where
   pub words : DeviceWords
   pub out : List ℕ
+  pub differing : Bool
 
-abbrev pub copy_words : DeviceWords → List ℕ → CopyWords
-copy_words words out = record { words = words; out = out }
+abbrev pub copy_words : DeviceWords → List ℕ → Bool → CopyWords
+copy_words words out differing = record { words = words; out = out; differing = differing }
+
+-- OUT's device as the copying sees it: with `--differing` one that reads before it writes, and counts for itself what it is
+-- asked for
+abbrev pub IsSeenAs : Bool → Device → Device → Type 0
+IsSeenAs false out seen = seen ≡ out
+IsSeenAs true out seen = seen ≡ differing out seen.reads seen.writes seen.dirty
 
 -- all was opened, and there is such a device
 pub record FindsOutput {S D : Type 0} (w : Calls S D) (words : CopyWords) (at : Place) (image : OpenImage D) : Type 0 where
   pub over : OpenStack D
   pub opened : OpensOutput w words.words.words words.out over image
   pub has : HasDevice w.state words.words.name over at
+  pub cached : at.stack.capacity ≡ words.words.cache
+
+-- A device was gone over to a device that OUT is seen as, and that is on the medium: of the sides those of OUT itself are told.
+pub record CopiesTo (is_differing : Bool) (d : ℕ) (old : Sides) (counts : Counts) (new : Sides) : Type 0 where
+  pub seen : Device
+  pub left : Device
+  pub begun : IsSeenAs is_differing old.out seen
+  pub recovered : Recovers d (record old { out = seen }) counts (record new { out = left })
+  pub ended : IsSeenAs is_differing new.out (synced left)
+  pub on_medium : new.out.dirty ≡ false
+
+-- it was begun, and ended early
+pub record EndsCopying (is_differing : Bool) (d : ℕ) (old new : Sides) (failed : Bool) (fault : CommandFault) : Type 0 where
+  pub seen : Device
+  pub seen' : Device
+  pub begun : IsSeenAs is_differing old.out seen
+  pub fails : IsRecoverEnd d (record old { out = seen }) (record new { out = seen' }) failed fault
+  pub ended : IsSeenAs is_differing new.out seen'
 
 -- The device was gone over: a line was printed for each longest lost run, what was had went to OUT's image, and that was
 -- synced and given back.
@@ -109,12 +137,10 @@ pub record Copies {S D : Type 0} (w : Calls S D) (words : CopyWords) (old : Opti
   pub at : Place
   pub image : OpenImage D
   pub image' : D
-  pub left : Sides
+  pub left : StackRecord
   pub between : S
   pub found : FindsOutput (record w { new = between }) words at image
-  pub recovered : Recovers at.d (sides at.stack (w.state image.device) old) counts left
-  pub on_medium : w.state image' ≡ synced left.out
-  pub same : left.printed ≡ printed
+  pub copied : CopiesTo words.differing at.d (sides at.stack (w.state image.device) old) counts (sides left (w.state image') printed)
   pub back : w.relations.takes between words.out image' w.new
 
 -- `copy`: no sector is lost, and the counts were printed
@@ -151,7 +177,7 @@ pub record FailsToCopy {S D : Type 0} (w : Calls S D) (words : CopyWords) (old n
   pub left : StackRecord
   pub between : S
   pub found : FindsOutput (record w { new = between }) words at image
-  pub fails : IsRecoverEnd at.d (sides at.stack (w.state image.device) old) (sides left (w.state image') new) failed fault
+  pub fails : EndsCopying words.differing at.d (sides at.stack (w.state image.device) old) (sides left (w.state image') new) failed fault
   pub back : w.relations.takes between words.out image' w.new
 
 -- sectors are lost, or the counts can't be written

@@ -54,12 +54,13 @@ pub record PrintsDevices {S D : Type 0} (w : Calls S D) (words : StackWords) (ol
   pub loaded : Loads w words stack
   pub printed : Appends old new (devices_text stack.config)
 
--- `read`: what a request for sectors gave, the first of a new queue over the stack
-pub record PrintsReply {S D : Type 0} (w : Calls S D) (words : StackWords) (request : RequestRecord) (old new : Option (List ℕ)) : Type 0 where
+-- `read`: what a request for sectors gave, the first of a new queue over the stack, which keeps so many hash blocks
+pub record PrintsReply {S D : Type 0} (w : Calls S D) (words : StackWords) (cache : ℕ) (request : RequestRecord) (old new : Option (List ℕ)) : Type 0 where
   pub stack : StackRecord
   pub reply : Reply
   pub after : World
   pub loaded : Loads w words stack
+  pub cached : stack.capacity ≡ cache
   pub served : IsServed (new_world stack) request reply after
   pub printed : Appends old new (reply_text (first_of request) reply)
 
@@ -68,16 +69,17 @@ abbrev pub FailsToList : {D : Type 0} → Bool → OpenStack D → CommandFault 
 FailsToList failed over fault = FailsToLoad over fault ⊎ IsUnwritten failed fault
 
 -- a request of the stack isn't served
-pub record FailsToAsk {D : Type 0} (state : D → Device) (request : RequestRecord) (over : OpenStack D) (fault : CommandFault) : Type 0 where
+pub record FailsToAsk {D : Type 0} (state : D → Device) (cache : ℕ) (request : RequestRecord) (over : OpenStack D) (fault : CommandFault) : Type 0 where
   pub stack : StackRecord
   pub after : World
   pub made : IsStackOf state over stack
+  pub cached : stack.capacity ≡ cache
   pub fails : FailsToServe (new_world stack) request fault after
 
 -- it isn't, or the text makes none, or what it gave isn't printed
-abbrev pub FailsToShow : {D : Type 0} → (D → Device) → RequestRecord → Bool → OpenStack D → CommandFault → Type 0
-FailsToShow state request failed over fault =
-    FailsToLoad over fault ⊎ (FailsToAsk state request over fault ⊎ IsUnwritten failed fault)
+abbrev pub FailsToShow : {D : Type 0} → (D → Device) → ℕ → RequestRecord → Bool → OpenStack D → CommandFault → Type 0
+FailsToShow state cache request failed over fault =
+    FailsToLoad over fault ⊎ (FailsToAsk state cache request over fault ⊎ IsUnwritten failed fault)
 
 -- a command on a stack file ends by what is opened, or by what is done then
 abbrev pub IsStackEnd : {S D : Type 0} → Calls S D → StackWords → (OpenStack D → CommandFault → Type 0) → CommandFault → Type 0
@@ -86,14 +88,15 @@ IsStackEnd {S} {D} w words Fails fault =
 
 -- ---- `write`
 
--- a stack file, a source, bindings, and the request to put some bytes
+-- a stack file, a source, bindings, how many hash blocks are kept, and the request to put some bytes
 pub record PutWords : Type 0 where
   pub words : StackWords
+  pub cache : ℕ
   pub source : List ℕ
   pub put : List ℕ → RequestRecord
 
-abbrev pub put_words : StackWords → List ℕ → (List ℕ → RequestRecord) → PutWords
-put_words words source put = record { words = words; source = source; put = put }
+abbrev pub put_words : StackWords → ℕ → List ℕ → (List ℕ → RequestRecord) → PutWords
+put_words words cache source put = record { words = words; cache = cache; source = source; put = put }
 
 -- the source's bytes were put, by the first request of a new queue over the stack
 pub record Puts {S D : Type 0} (w : Calls S D) (words : PutWords) (after : World) : Type 0 where
@@ -103,6 +106,7 @@ pub record Puts {S D : Type 0} (w : Calls S D) (words : PutWords) (after : World
   pub reply : Reply
   pub opened : OpensSource w words.words words.source over source
   pub made : IsStackOf w.state over stack
+  pub cached : stack.capacity ≡ words.cache
   pub served : IsServed (new_world stack) (words.put source.bytes.items) reply after
 
 -- and what then stands in the images was given back, synced or not
@@ -132,6 +136,7 @@ pub record FailsToPut {S D : Type 0} (w : Calls S D) (words : PutWords) (fault :
   pub between : S
   pub opened : OpensSource (record w { new = between }) words.words words.source over source
   pub made : IsStackOf w.state over stack
+  pub cached : stack.capacity ≡ words.cache
   pub fails : FailsToServe (new_world stack) (words.put source.bytes.items) fault after
   pub back : IsGivenBack (record w { old = between }) words.words.bindings after.stack.leaves
 
@@ -148,14 +153,14 @@ IsWriteEnd w words failed fault =
 
 -- ---- `session`
 
--- The replies to the lines of the input, over no mapped device at first. What then stood in the images was given back,
+-- The replies to the lines of the input, over no mapped device at first, with so many hash blocks kept. What then stood in the images was given back,
 -- synced or not.
-pub record Serves {S D : Type 0} (w : Calls S D) (bindings : List BindingRecord) (old new : Streams) (outcome : Result Unit SessionFault) (synced : Result Unit IoFault) : Type 0 where
+pub record Serves {S D : Type 0} (w : Calls S D) (cache : ℕ) (bindings : List BindingRecord) (old new : Streams) (outcome : Result Unit SessionFault) (synced : Result Unit IoFault) : Type 0 where
   pub over : OpenLeaves D
   pub last : World
   pub between : S
   pub bound : AreBound (record w { new = between }) [] bindings over.leaves.items over.devices.items
-  pub served : IsQueueSession (new_world (stack_over (leaves_alone over.leaves.items) (map w.state over.devices.items))) last old new outcome
+  pub served : IsQueueSession (new_world (stack_over (leaves_alone over.leaves.items) (map w.state over.devices.items) cache)) last old new outcome
   pub back : GivesBack (record w { old = between }) bindings last.stack.leaves synced
 
 -- leaves are refused, or memory ran out
@@ -172,24 +177,25 @@ pub record FailsToTake {S D : Type 0} (w : Calls S D) (bindings : List BindingRe
 
 -- A session ends early: nothing was served, as an image isn't opened or the leaves aren't taken; or by the session's
 -- own fault, as a failure of the writer; or all was served, and then an image isn't synced.
-abbrev pub IsServeEnd : {S D : Type 0} → Calls S D → List BindingRecord → Streams → Streams → Bool → CommandFault → Type 0
-IsServeEnd w bindings old new failed (Session fault) =
-    ((synced : Result Unit IoFault) × Serves w bindings old new (Err fault) synced) × (fault ≡ WriteFault → failed ≡ true)
-IsServeEnd w bindings old new failed (Io fault) = Serves w bindings old new (Ok tt) (Err fault)
-IsServeEnd w bindings old new failed fault = (new ≡ old) × (IsOpeningEnd (IsBindingEnd w [] bindings) fault ⊎ FailsToTake w bindings fault)
+abbrev pub IsServeEnd : {S D : Type 0} → Calls S D → ℕ → List BindingRecord → Streams → Streams → Bool → CommandFault → Type 0
+IsServeEnd w cache bindings old new failed (Session fault) =
+    ((synced : Result Unit IoFault) × Serves w cache bindings old new (Err fault) synced) × (fault ≡ WriteFault → failed ≡ true)
+IsServeEnd w cache bindings old new failed (Io fault) = Serves w cache bindings old new (Ok tt) (Err fault)
+IsServeEnd w cache bindings old new failed fault = (new ≡ old) × (IsOpeningEnd (IsBindingEnd w [] bindings) fault ⊎ FailsToTake w bindings fault)
 
 -- ---- `nbd`
 
--- a stack file, the name of one of its devices, and bindings
+-- a stack file, the name of one of its devices, how many hash blocks are kept, and bindings
 pub record DeviceWords : Type 0 where
   pub words : StackWords
   pub name : List ℕ
+  pub cache : ℕ
 
-abbrev pub device_words : StackWords → List ℕ → DeviceWords
-device_words words name = record { words = words; name = name }
+abbrev pub device_words : StackWords → List ℕ → ℕ → DeviceWords
+device_words words name cache = record { words = words; name = name; cache = cache }
 
-abbrev pub device_on : List ℕ → List ℕ → List BindingRecord → DeviceWords
-device_on stack name bindings = device_words (on stack bindings) name
+abbrev pub device_on : List ℕ → List ℕ → ℕ → List BindingRecord → DeviceWords
+device_on stack name cache bindings = device_words (on stack bindings) name cache
 
 -- The service of a client, over the device of that name in the stack. What then stood in the images was given back, synced
 -- or not.
@@ -199,6 +205,7 @@ pub record ServesClient {S D : Type 0} (w : Calls S D) (words : DeviceWords) (ol
   pub last : World
   pub between : S
   pub loaded : Loads (record w { new = between }) words.words stack
+  pub cached : stack.capacity ≡ words.cache
   pub is_export : IsExport stack.config export
   pub named : export.name ≡ words.name
   pub served : IsService export (new_world stack) last old new outcome

@@ -13,7 +13,7 @@ use Rattle.stack_commands.specs.declared.fault.CommandFault.{CommandFault}
 use Rattle.stack_commands.specs.declared.fault.CommandFault.TheVariants.{Cat, Store}
 use Rattle.stack_commands.specs.Closings.{IsGivenBack}
 use Rattle.stack_commands.specs.Endings.{IsUnwritten}
-use Rattle.stack_commands.specs.FurtherTexts.{stored_text}
+use Rattle.stack_commands.specs.StreamTexts.{stored_text}
 use Rattle.stack_commands.specs.Recoveries.{FailsToFind, Finds, Place}
 use Rattle.stack_commands.specs.StackCommands.{DeviceWords, IsStackEnd}
 

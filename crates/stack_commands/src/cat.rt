@@ -10,7 +10,7 @@ use crate::fault::CommandFault;
 use block_device::BlockDev;
 use counted_io::Counted;
 use image_files::Images;
-use progress::NoProgress;
+use progress::Progress;
 use stack_opening::{StackFile, open_stack};
 use stack_streams::{SectorRange, cat};
 use std::alloc::Global;
@@ -35,15 +35,16 @@ fn count_from(count: Option<u64>, first: u64, sectors: u64) -> u64
 }
 
 /// `cat [--cache N] [--first N] [--count N] STACK NAME BINDING...`: the bytes of a device of a stack file over the bindings.
-pub fn cat_device<'a, I: Images, W: Write>(
+pub fn cat_device<'a, I: Images, W: Write, P: Progress>(
     alloc: Global,
     images: &mut I,
     file: StackFile<'a, '_>,
     wanted: Wanted<'a>,
     writer: &mut Counted<W>,
+    progress: &mut P,
 ) -> Result<(), CommandFault<'a>>
-    ensures ok { OnOk result (PrintsBytes (calls I.relations I.Dev.state images.old images.new) (device_words (stack_words file.entry) wanted.entry.name.now) wanted.entry.first wanted.entry.count (W.contents writer.old.inner) (W.contents writer.new.inner)) }
-    ensures err { IfErr result (IsBytesEnd (calls I.relations I.Dev.state images.old images.new) (device_words (stack_words file.entry) wanted.entry.name.now) wanted.entry.first wanted.entry.count (W.contents writer.old.inner) (W.contents writer.new.inner) writer.new.failed) }
+    ensures ok { OnOk result (PrintsBytes (calls I.relations I.Dev.state images.old images.new) (device_words (stack_words file.entry) wanted.entry.name.now wanted.entry.cache) wanted.entry.first wanted.entry.count (W.contents writer.old.inner) (W.contents writer.new.inner)) }
+    ensures err { IfErr result (IsBytesEnd (calls I.relations I.Dev.state images.old images.new) (device_words (stack_words file.entry) wanted.entry.name.now wanted.entry.cache) wanted.entry.first wanted.entry.count (W.contents writer.old.inner) (W.contents writer.new.inner) writer.new.failed) }
 {
     let Wanted {
         name,
@@ -55,7 +56,7 @@ pub fn cat_device<'a, I: Images, W: Write>(
     let (mut stack, device) = load_device(alloc, over, name, cache)?;
     let count = count_from(count, first, stack.config().sectors(device));
     let range = SectorRange { first, count };
-    match cat(&mut stack, device, range, writer, &mut NoProgress) {
+    match cat(&mut stack, device, range, writer, progress) {
         Ok(()) => Ok(()),
         Err(fault) => Err(CommandFault::Cat(fault)),
     }

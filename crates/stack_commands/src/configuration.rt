@@ -40,6 +40,7 @@ pub fn load_stack<'a, D: BlockDev + Drop>(
     requires text { length over.text.bytes.items ≤ 2 ^ 20 }
     requires served { ServeLeaves over.leaves.items (map D.state over.devices.items) }
     ensures ok { IfOk result (IsStackOf D.state over) }
+    ensures cached { IfOk result (λ stack. stack.capacity ≡ cache) }
     ensures err { IfErr result (FailsToLoad over) }
 {
     let OpenStack {
@@ -62,7 +63,7 @@ pub fn stack_on<'a, D: BlockDev + Drop>(
     cache: u32,
 ) -> Result<Stack<D>, CommandFault<'a>>
     requires { ServeLeaves config.leaves (map D.state devices.items) }
-    ensures ok { IfOk result (λ stack. stack ≡ stack_over config (map D.state devices.items)) }
+    ensures ok { IfOk result (λ stack. stack ≡ stack_over config (map D.state devices.items) cache) }
     ensures err { IfErr result (λ fault. fault ≡ CommandFault.NoMemory) }
 {
     match Stack::new(alloc, config, devices, cache) {

@@ -1,18 +1,19 @@
 //! The command `copy`: copies what can be had of a device.
-ghost use Rattle.std.specs.Prelude.{◌≡◌, ◌≤◌, ◌<◌, length, IsTrue, OnOk, IfOk, IfErr};
+ghost use Rattle.std.specs.Prelude.{false, ◌≡◌, ◌≤◌, ◌<◌, length, IsTrue, OnOk, IfOk, IfErr};
 ghost use Rattle.block_device.specs.Device.{Device, synced};
 ghost use Rattle.image_files.specs.Opener.{calls};
 ghost use Rattle.stack_rules.specs.Names.{mapped, size};
 ghost use Rattle.stack_recovery.specs.Recoveries.{Recovers, sides};
 ghost use Rattle.stack_opening.specs.OpenStacks.{stack_words};
-ghost use Rattle.stack_commands.specs.Recoveries.{IsCopyEnd, PrintsCopy, copy_words};
+ghost use Rattle.stack_commands.specs.Recoveries.{CopiesTo, EndsCopying, IsCopyEnd, PrintsCopy, copy_words};
 ghost use Rattle.stack_commands.specs.Recovering.{IsRecoverEnd};
 ghost use Rattle.stack_commands.specs.StackCommands.{device_words};
 
-use crate::device::{CACHED_BLOCKS, load_device, recover_device, tell_counts};
+use crate::device::{NamedDevice, load_device, recover_device, tell_counts};
 use crate::fault::CommandFault;
 use block_device::{BlockDev, SyncDev};
 use counted_io::Counted;
+use differing_device::Differing;
 use image_files::{Images, OpenImage};
 use stack_config::DevId;
 use stack_engine::Stack;
@@ -21,33 +22,89 @@ use stack_recovery::Counts;
 use std::alloc::Global;
 use std::io::Write;
 
-/// `copy STACK NAME OUT BINDING...`: copies the sectors that can be had of a device of a stack file over the bindings
-/// to an image, which is synced and given back before the counts are printed.
+/// An image to which a device is copied, and whether only what differs is written.
+#[derive(Clone, Copy, Debug, PartialEq, Eq)]
+pub struct Output<'a> {
+    pub path: &'a str,
+    pub differing: bool,
+}
+
+/// `copy [--cache N] [--differing] STACK NAME OUT BINDING...`: copies the sectors that can be had of a device of a stack file
+/// over the bindings to an image, which is synced and given back before the counts are printed.
 pub fn copy_device<'a, I: Images, W: Write>(
     alloc: Global,
     images: &mut I,
     file: StackFile<'a, '_>,
-    name: &'a str,
-    out: &'a str,
+    device: NamedDevice<'a>,
+    output: Output<'a>,
     writer: &mut Counted<W>,
 ) -> Result<(), CommandFault<'a>>
-    ensures ok { OnOk result (PrintsCopy (calls I.relations I.Dev.state images.old images.new) (copy_words (device_words (stack_words file.entry) name.now) out.now) (W.contents writer.old.inner) (W.contents writer.new.inner)) }
-    ensures err { IfErr result (IsCopyEnd (calls I.relations I.Dev.state images.old images.new) (copy_words (device_words (stack_words file.entry) name.now) out.now) (W.contents writer.old.inner) (W.contents writer.new.inner) writer.new.failed) }
+    ensures ok { OnOk result (PrintsCopy (calls I.relations I.Dev.state images.old images.new) (copy_words (device_words (stack_words file.entry) device.entry.name.now device.entry.cache) output.entry.path.now output.entry.differing) (W.contents writer.old.inner) (W.contents writer.new.inner)) }
+    ensures err { IfErr result (IsCopyEnd (calls I.relations I.Dev.state images.old images.new) (copy_words (device_words (stack_words file.entry) device.entry.name.now device.entry.cache) output.entry.path.now output.entry.differing) (W.contents writer.old.inner) (W.contents writer.new.inner) writer.new.failed) }
 {
-    let (over, image) = open_with_output(alloc, images, file, out)?;
+    let Output { path, differing } = output;
+    let (over, image) = open_with_output(alloc, images, file, path)?;
     let OpenImage {
-        device: mut image,
+        device: image,
         id: _,
     } = image;
-    let (mut stack, device) = load_device(alloc, over, name, CACHED_BLOCKS)?;
+    let (mut stack, device) = load_device(alloc, over, device.name, device.cache)?;
     let needed = stack.config().sectors(device);
     if image.sectors() < needed {
         return Err(CommandFault::OutputTooSmall { needed });
     }
-    let outcome = copy_sectors(&mut stack, device, &mut image, writer);
-    images.close(out, image);
-    let counts = outcome?;
-    tell_counts(counts, writer)
+    let (image, outcome) = copy_to(&mut stack, device, image, differing, writer);
+    images.close(path, image);
+    match outcome {
+        Ok(counts) => tell_counts(counts, writer),
+        Err(fault) => Err(fault),
+    }
+}
+
+// Goes over the device, and copies what is had to an image, which is handed back.
+fn copy_to<'a, D: BlockDev + Drop, O: SyncDev + Drop, W: Write>(
+    stack: &mut Stack<D>,
+    device: DevId,
+    image: O,
+    differing: bool,
+    writer: &mut Counted<W>,
+) -> (O, Result<Counts, CommandFault<'a>>)
+    requires device { device.0 < length stack.old.config.devices }
+    requires room { size stack.old.config (mapped device.0) ≤ (O.state image).size }
+    requires allowed { IsTrue (O.state image).may_write }
+    ensures ok { IfOk result.1 (λ counts. CopiesTo differing device.0 (sides stack.old (O.state image) (W.contents writer.old.inner)) counts (sides stack.new (O.state result.0) (W.contents writer.new.inner))) }
+    ensures err { IfErr result.1 (EndsCopying differing device.0 (sides stack.old (O.state image) (W.contents writer.old.inner)) (sides stack.new (O.state result.0) (W.contents writer.new.inner)) writer.new.failed) }
+{
+    if differing {
+        let mut compared = Differing::new(image);
+        let outcome = copy_compared(stack, device, &mut compared, writer);
+        return (compared.inner, outcome);
+    }
+    let mut plain = image;
+    let outcome = copy_sectors(stack, device, &mut plain, writer);
+    (plain, outcome)
+}
+
+// The same to a device of which only what differs is written.
+fn copy_compared<'a, D: BlockDev + Drop, O: SyncDev + Drop, W: Write>(
+    stack: &mut Stack<D>,
+    device: DevId,
+    out: &mut Differing<O>,
+    writer: &mut Counted<W>,
+) -> Result<Counts, CommandFault<'a>>
+    requires device { device.0 < length stack.old.config.devices }
+    requires room { size stack.old.config (mapped device.0) ≤ (O.state out.old.inner).size }
+    requires allowed { IsTrue (O.state out.old.inner).may_write }
+    ensures ok { IfOk result (λ counts. (left : Device) × Recovers device.0 (sides stack.old (⟦<Differing<O> as BlockDev>⟧.state out.old) (W.contents writer.old.inner)) counts (sides stack.new left (W.contents writer.new.inner)) × (⟦<Differing<O> as BlockDev>⟧.state out.new ≡ synced left)) }
+    ensures medium { IfOk result (λ counts. (O.state out.new.inner).dirty ≡ false) }
+    ensures err { IfErr result (IsRecoverEnd device.0 (sides stack.old (⟦<Differing<O> as BlockDev>⟧.state out.old) (W.contents writer.old.inner)) (sides stack.new (⟦<Differing<O> as BlockDev>⟧.state out.new) (W.contents writer.new.inner)) writer.new.failed) }
+{
+    let found = recover_device(stack, device, out, writer)?;
+    let kept = out.sync();
+    match kept {
+        Ok(()) => Ok(found),
+        Err(_) => Err(CommandFault::OutputFailed),
+    }
 }
 
 // Goes over the device, copies what is had to another one, and has that put on the medium.

@@ -20,8 +20,15 @@ use stack_session::SessionFault;
 use std::alloc::Global;
 use std::io::Write;
 
-/// How many blocks are cached where a device is gone over, which meets each hash block again and again.
+/// How many hash blocks are kept where the words say no number.
 pub const CACHED_BLOCKS: u32 = 64;
+
+/// A mapped device by its name, and how many hash blocks are kept.
+#[derive(Clone, Copy, Debug, PartialEq, Eq)]
+pub struct NamedDevice<'a> {
+    pub name: &'a str,
+    pub cache: u32,
+}
 
 /// The stack that a text makes of the leaves, with a cache of so many hash blocks, and its device of that name.
 pub fn load_device<'a, D: BlockDev + Drop>(
@@ -33,6 +40,7 @@ pub fn load_device<'a, D: BlockDev + Drop>(
     requires text { length over.text.bytes.items ≤ 2 ^ 20 }
     requires served { ServeLeaves over.leaves.items (map D.state over.devices.items) }
     ensures ok { IfOk result (λ found. HasDevice D.state name.now over (place_of found.0 found.1.0)) }
+    ensures cached { IfOk result (λ found. found.0.capacity ≡ cache) }
     ensures there { IfOk result (λ found. found.1.0 < length found.0.config.devices) }
     ensures err { IfErr result (FailsToFind D.state name.now over) }
 {

@@ -1,23 +1,21 @@
 //! How a command ends early: what is printed, and the status.
 ghost use Rattle.std.specs.Prelude.{true, ◌≡◌, ◌⊎◌};
 ghost use Rattle.counted_io.specs.Counted.{Writes};
-ghost use Rattle.stack_commands.specs.Endings.{IsEnd, config_text, counts_text, ending_status, ending_text, too_small_text};
-ghost use Rattle.stack_commands.specs.ImageTexts.{format_text, image_text, open_text, verdict_text, verify_text};
+ghost use Rattle.stack_commands.specs.Endings.{IsEnd, config_text, counts_text, ending_status, ending_text, outside_text, too_small_text};
 
 use crate::fault::CommandFault;
-use crate::further_status::{cat_status, store_status, tree_status};
-use crate::further_texts::{say_cat_fault, say_partitions_fault, say_store_fault, say_tree_fault};
-use block_device::OpenFault;
+use crate::stream_status::{cat_status, store_status};
+use crate::stream_texts::{say_cat_fault, say_store_fault};
 use counted_io::{Counted, WriteFault};
-use image_commands::ImageFault;
-use image_files::UnopenedFile;
-use io_fault_text::{say_io_fault, say_no_memory};
+use io_fault_text::{say_io_fault, say_no_memory, say_refused, say_usage};
 use nbd_server::ServiceFault;
+use partition_commands::{partitions_status, say_partitions_fault};
 use stack_engine::IoFault;
 use stack_loader::ConfigFault;
-use stack_session::{say_refusal, say_refused, say_submit_fault, say_text_fault, say_usage};
+use stack_session::{say_refusal, say_submit_fault, say_text_fault};
 use std::io::Write;
-use verity_format::{FormatFault, Verdict, VerifyFault};
+use tree_commands::{say_tree_fault, tree_status};
+use verity_commands::{say_unopened, say_verity_fault, verity_status};
 
 const REFUSED: u8 = 1;
 
@@ -47,7 +45,8 @@ fn status_of(fault: CommandFault<'_>) -> u8
         CommandFault::Usage => USAGE,
         CommandFault::Io(IoFault::NoMemory) => REFUSED,
         CommandFault::Io(_) => FAULT,
-        CommandFault::Image(ImageFault::Differs(_)) => FAULT,
+        CommandFault::Verity(fault) => verity_status(fault),
+        CommandFault::Partitions(fault) => partitions_status(fault),
         CommandFault::Trees(fault) => tree_status(fault),
         CommandFault::Cat(fault) => cat_status(fault),
         CommandFault::Store(fault) => store_status(fault),
@@ -71,12 +70,13 @@ fn say_fault<W: Write>(writer: &mut Counted<W>, fault: CommandFault<'_>) -> Resu
         CommandFault::NoMemory => say_no_memory(writer),
         CommandFault::TooLong => writer.put(b"refused input\n"),
         CommandFault::Open(file) => say_unopened(writer, file),
+        CommandFault::Outside(path) => say_outside(writer, path),
         CommandFault::Leaves(fault) => say_config_fault(writer, fault),
         CommandFault::Text(fault) => say_text_fault(writer, fault),
         CommandFault::Load(refusal) => say_refusal(writer, refusal),
         CommandFault::Submit(fault) => say_submit_fault(writer, fault),
         CommandFault::Io(fault) => say_io_fault(writer, fault),
-        CommandFault::Image(fault) => say_image_fault(writer, fault),
+        CommandFault::Verity(fault) => say_verity_fault(writer, fault),
         CommandFault::Partitions(fault) => say_partitions_fault(writer, fault),
         CommandFault::Trees(fault) => say_tree_fault(writer, fault),
         CommandFault::Cat(fault) => say_cat_fault(writer, fault),
@@ -89,20 +89,11 @@ fn say_fault<W: Write>(writer: &mut Counted<W>, fault: CommandFault<'_>) -> Resu
     }
 }
 
-/// `refused K NAME PATH`
-pub fn say_unopened<W: Write>(
-    writer: &mut Counted<W>,
-    file: UnopenedFile<'_>,
-) -> Result<(), WriteFault>
-    ensures { Writes W.contents writer.old writer.new (open_text file.entry) result }
+// `refused 23 OutsideFile PATH`
+fn say_outside<W: Write>(writer: &mut Counted<W>, path: &str) -> Result<(), WriteFault>
+    ensures { Writes W.contents writer.old writer.new (outside_text path.now) result }
 {
-    let UnopenedFile { fault, path } = file;
-    if fault == OpenFault::NoMemory {
-        return say_no_memory(writer);
-    }
-    let number = fault.number();
-    let name = fault.name();
-    writer.print(format_args!("refused {number} {name} {path}\n"))
+    writer.print(format_args!("refused 23 OutsideFile {path}\n"))
 }
 
 // `refused K NAME`
@@ -110,53 +101,6 @@ fn say_config_fault<W: Write>(writer: &mut Counted<W>, fault: ConfigFault) -> Re
     ensures { Writes W.contents writer.old writer.new (config_text fault) result }
 {
     if fault == ConfigFault::NoMemory {
-        return say_no_memory(writer);
-    }
-    say_refused(writer, fault.number(), fault.name())
-}
-
-// One line, or none where that can't be written.
-fn say_image_fault<W: Write>(
-    writer: &mut Counted<W>,
-    fault: ImageFault<'_>,
-) -> Result<(), WriteFault>
-    ensures { Writes W.contents writer.old writer.new (image_text fault.entry) result }
-{
-    match fault {
-        ImageFault::NoMemory => say_no_memory(writer),
-        ImageFault::Open(file) => say_unopened(writer, file),
-        ImageFault::Format(fault) => say_format_fault(writer, fault),
-        ImageFault::Verify(fault) => say_verify_fault(writer, fault),
-        ImageFault::Differs(verdict) => say_verdict(writer, verdict),
-        ImageFault::Unaligned => writer.put(b"refused 18 Unaligned\n"),
-        ImageFault::RootText => writer.put(b"refused 19 RootText\n"),
-        ImageFault::Random => writer.put(b"refused random\n"),
-        ImageFault::Write => Ok(()),
-    }
-}
-
-// `refused K NAME`, and what a hash image needs.
-fn say_format_fault<W: Write>(writer: &mut Counted<W>, fault: FormatFault) -> Result<(), WriteFault>
-    ensures { Writes W.contents writer.old writer.new (format_text fault) result }
-{
-    let (number, name) = (fault.number(), fault.name());
-    match fault {
-        FormatFault::HashTooSmall { needed } => {
-            writer.print(format_args!("refused {number} {name} needed {needed}\n"))
-        }
-        FormatFault::NoMemory => say_no_memory(writer),
-        FormatFault::Shape
-        | FormatFault::DataTooSmall
-        | FormatFault::HashReadOnly
-        | FormatFault::Device => say_refused(writer, number, name),
-    }
-}
-
-// `refused K NAME`
-fn say_verify_fault<W: Write>(writer: &mut Counted<W>, fault: VerifyFault) -> Result<(), WriteFault>
-    ensures { Writes W.contents writer.old writer.new (verify_text fault) result }
-{
-    if fault == VerifyFault::NoMemory {
         return say_no_memory(writer);
     }
     say_refused(writer, fault.number(), fault.name())
@@ -174,17 +118,4 @@ pub fn say_counts<W: Write>(writer: &mut Counted<W>, read: u64, lost: u64) -> Re
     ensures { Writes W.contents writer.old writer.new (counts_text read lost) result }
 {
     writer.print(format_args!("read {read} lost {lost}\n"))
-}
-
-// `matches`, `root differs`, or `area differs at block N`
-fn say_verdict<W: Write>(writer: &mut Counted<W>, verdict: Verdict) -> Result<(), WriteFault>
-    ensures { Writes W.contents writer.old writer.new (verdict_text verdict) result }
-{
-    match verdict {
-        Verdict::Matches => writer.put(b"matches\n"),
-        Verdict::RootDiffers => writer.put(b"root differs\n"),
-        Verdict::AreaDiffers(block) => {
-            writer.print(format_args!("area differs at block {block}\n"))
-        }
-    }
 }

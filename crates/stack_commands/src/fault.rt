@@ -7,7 +7,6 @@ ghost use Rattle.stack_commands.specs.Endings.{load_ending, opening_ending, text
 use command_line::WordsFault;
 use counted_io::WriteFault;
 use dm_table::{ParseFault, TextFault};
-use image_commands::ImageFault;
 use image_files::UnopenedFile;
 use nbd_server::ServiceFault;
 use partition_commands::PartitionsFault;
@@ -19,6 +18,7 @@ use stack_session::SessionFault;
 use stack_streams::{CatFault, StoreFault};
 use std::alloc::{AllocError, AllocFailed};
 use tree_commands::TreeFault;
+use verity_commands::VerityFault;
 
 /// Why a command ends early.
 #[derive(Clone, Copy, Debug, PartialEq, Eq)]
@@ -31,6 +31,8 @@ pub enum CommandFault<'a> {
     TooLong,
     /// A file isn't opened, or can't be read.
     Open(UnopenedFile<'a>),
+    /// A binding's part isn't inside the file under this path.
+    Outside(&'a str),
     /// The leaves aren't taken.
     Leaves(ConfigFault),
     /// The stack text has a fault.
@@ -42,7 +44,7 @@ pub enum CommandFault<'a> {
     /// The stack answered a fault.
     Io(IoFault),
     /// A command on verity images ended early.
-    Image(ImageFault<'a>),
+    Verity(VerityFault<'a>),
     /// A command on the partitions of an image ended early.
     Partitions(PartitionsFault<'a>),
     /// A command on hash trees ended early.
@@ -136,15 +138,16 @@ impl<'a> From<OpeningFault<'a>> for CommandFault<'a> {
             OpeningFault::NoMemory => CommandFault::NoMemory,
             OpeningFault::TooLong => CommandFault::TooLong,
             OpeningFault::Open(file) => CommandFault::Open(file),
+            OpeningFault::Outside(path) => CommandFault::Outside(path),
         }
     }
 }
 
-impl<'a> From<ImageFault<'a>> for CommandFault<'a> {
-    ghost from_gives = { λ fault given. given ≡ command_fault.Image fault };
+impl<'a> From<VerityFault<'a>> for CommandFault<'a> {
+    ghost from_gives = { λ fault given. given ≡ command_fault.Verity fault };
 
-    fn from(fault: ImageFault<'a>) -> Self {
-        CommandFault::Image(fault)
+    fn from(fault: VerityFault<'a>) -> Self {
+        CommandFault::Verity(fault)
     }
 }
 

@@ -1,27 +1,40 @@
 //! Runs the further commands: which of them is told by the words.
+ghost use Rattle.std.specs.Io.KnownBytes.{Appends};
 ghost use Rattle.std.specs.Prelude.{◌≡◌, ℕ, List, Option, OnOk, IfErr};
 ghost use Rattle.counted_io.specs.Streams.{streams};
 ghost use Rattle.command_line.specs.FormatOptions.{option_texts};
 ghost use Rattle.command_line.specs.FurtherRecords.{further_record};
 ghost use Rattle.command_line.specs.words.Cat.{cat_record};
+ghost use Rattle.command_line.specs.words.Copy.{copy_record};
+ghost use Rattle.command_line.specs.words.Scan.{scan_record};
 ghost use Rattle.command_line.specs.words.Store.{store_record};
 ghost use Rattle.image_commands.specs.Drawing.{drawing};
 ghost use Rattle.image_files.specs.Opener.{calls};
-ghost use Rattle.stack_commands.specs.Further.{CatsSectors, FailsFurther, IsCatEnd, IsStoreEnd, StoresSectors, SucceedsFurther};
+ghost use Rattle.stack_commands.specs.Further.{CatsSectors, CopiesSectors, FailsFurther, IsCatEnd, IsCopyWordsEnd, IsPageEnd, IsScanWordsEnd, IsStoreEnd, ScansSectors, StoresSectors, SucceedsFurther};
 ghost use Rattle.stack_commands.specs.Uses.{uses};
 
 use crate::cat::{Wanted, cat_device};
+use crate::copy::{Output, copy_device};
+use crate::device::NamedDevice;
 use crate::fault::CommandFault;
-use crate::further_images::{invoke_dump, invoke_format, invoke_table, invoke_verify};
-use crate::further_tools::{invoke_diff, invoke_partitions};
+use crate::scan::scan_device;
 use crate::store::{Target, store_device};
+use crate::verify::check_image;
 use crate::words::stack_file;
-use command_line::{CatWords, Further, OptionWords, StoreWords};
+use command_line::{CatWords, CopyWords, Further, OptionWords, ScanWords, StoreWords};
 use counted_io::Counted;
 use image_commands::Generators;
 use image_files::Images;
+use manual_pages::{page_of, print_page, print_version};
+use partition_commands::invoke_partitions;
+use progress::Progress;
 use std::alloc::Global;
 use std::io::{Read, Write};
+use tree_commands::invoke_diff;
+use verity_commands::{
+    invoke_dump, invoke_format, invoke_format_tree, invoke_table, invoke_table_tree,
+    invoke_verify_tree,
+};
 
 /// A further command, and the values of its options.
 #[derive(Drop)]
@@ -31,7 +44,7 @@ pub struct FurtherLine<'a> {
 }
 
 /// Runs a further command.
-pub fn invoke_further<'a, I: Images, G: Generators, S: Read, W: Write>(
+pub fn invoke_further<'a, I: Images, G: Generators + Progress, S: Read, W: Write>(
     alloc: Global,
     images: &mut I,
     generators: &mut G,
@@ -44,24 +57,52 @@ pub fn invoke_further<'a, I: Images, G: Generators, S: Read, W: Write>(
 {
     let FurtherLine { further, options } = line;
     match further {
-        Further::Cat(words) => invoke_cat(alloc, images, words, writer),
-        Further::Store(words) => invoke_store(alloc, images, words, reader, writer),
+        Further::Cat(words) => invoke_cat(alloc, images, words, writer, generators),
+        Further::Store(words) => invoke_store(alloc, images, words, reader, writer, generators),
         Further::Format(words) => {
-            invoke_format(alloc, images, generators, words, &options, writer)
+            Ok(invoke_format(alloc, images, generators, &words, &options, writer)?)
         }
-        Further::Verify(words) => invoke_verify(alloc, images, &words, writer),
-        Further::Dump(words) => invoke_dump(images, words, writer),
-        Further::Table(words) => invoke_table(images, &words, writer),
-        Further::Partitions(words) => invoke_partitions(alloc, images, words, writer),
-        Further::Diff(words) => invoke_diff(alloc, images, words, writer),
+        Further::Verify(words) => check_image(alloc, images, &words, writer),
+        Further::Dump(words) => Ok(invoke_dump(images, &words, writer)?),
+        Further::Table(words) => Ok(invoke_table(images, &words, writer)?),
+        Further::Partitions(words) => Ok(invoke_partitions(alloc, images, words, writer)?),
+        Further::Diff(words) => Ok(invoke_diff(alloc, images, words, writer)?),
+        Further::FormatTree(words) => {
+            Ok(invoke_format_tree(alloc, images, generators, &words, &options, writer)?)
+        }
+        Further::VerifyTree(words) => {
+            Ok(invoke_verify_tree(alloc, images, &words, &options, writer)?)
+        }
+        Further::TableTree(words) => {
+            Ok(invoke_table_tree(alloc, images, &words, &options, writer)?)
+        }
+        Further::Scan(words) => invoke_scan(alloc, images, words, writer),
+        Further::Copy(words) => invoke_copy(alloc, images, words, writer),
+        Further::Manual(command) => show_page(command, writer),
+        Further::Version => Ok(print_version(writer)?),
     }
 }
 
-fn invoke_cat<'a, I: Images, W: Write>(
+// The page of a command, or of the program.
+fn show_page<'a, W: Write>(
+    command: Option<&'a str>,
+    writer: &mut Counted<W>,
+) -> Result<(), CommandFault<'a>>
+    ensures ok { OnOk result ((text : List ℕ) × Appends (W.contents writer.old.inner) (W.contents writer.new.inner) text) }
+    ensures err { IfErr result (IsPageEnd (W.contents writer.old.inner) (W.contents writer.new.inner) writer.new.failed) }
+{
+    match page_of(command) {
+        Some(page) => Ok(print_page(writer, page)?),
+        None => Err(CommandFault::Usage),
+    }
+}
+
+fn invoke_cat<'a, I: Images, W: Write, P: Progress>(
     alloc: Global,
     images: &mut I,
     words: CatWords<'a>,
     writer: &mut Counted<W>,
+    progress: &mut P,
 ) -> Result<(), CommandFault<'a>>
     ensures ok { OnOk result (CatsSectors (calls I.relations I.Dev.state images.old images.new) (cat_record words.entry) (W.contents writer.old.inner) (W.contents writer.new.inner)) }
     ensures err { IfErr result (IsCatEnd (calls I.relations I.Dev.state images.old images.new) (cat_record words.entry) (W.contents writer.old.inner) (W.contents writer.new.inner) writer.new.failed) }
@@ -73,7 +114,11 @@ fn invoke_cat<'a, I: Images, W: Write>(
         stack,
         name,
         bindings,
+        progress: is_shown,
     } = words;
+    if is_shown {
+        progress.begin();
+    }
     let wanted = Wanted {
         name,
         first,
@@ -81,16 +126,17 @@ fn invoke_cat<'a, I: Images, W: Write>(
         cache,
     };
     let file = stack_file(stack, &bindings);
-    cat_device(alloc, images, file, wanted, writer)
+    cat_device(alloc, images, file, wanted, writer, progress)
 }
 
 // SOURCE is `-`, the input.
-fn invoke_store<'a, I: Images, S: Read, W: Write>(
+fn invoke_store<'a, I: Images, S: Read, W: Write, P: Progress>(
     alloc: Global,
     images: &mut I,
     words: StoreWords<'a>,
     reader: &mut Counted<S>,
     writer: &mut Counted<W>,
+    progress: &mut P,
 ) -> Result<(), CommandFault<'a>>
     ensures ok { OnOk result (StoresSectors (calls I.relations I.Dev.state images.old images.new) (store_record words.entry) (streams (S.remaining reader.old.inner) (W.contents writer.old.inner)) (streams (S.remaining reader.new.inner) (W.contents writer.new.inner))) }
     ensures err { IfErr result (IsStoreEnd (calls I.relations I.Dev.state images.old images.new) (store_record words.entry) (streams (S.remaining reader.old.inner) (W.contents writer.old.inner)) (streams (S.remaining reader.new.inner) (W.contents writer.new.inner)) writer.new.failed) }
@@ -102,11 +148,66 @@ fn invoke_store<'a, I: Images, S: Read, W: Write>(
         name,
         source,
         bindings,
+        progress: is_shown,
     } = words;
     if source != "-" {
         return Err(CommandFault::Usage);
     }
+    if is_shown {
+        progress.begin();
+    }
     let target = Target { name, first, cache };
     let file = stack_file(stack, &bindings);
-    store_device(alloc, images, file, target, reader, writer)
+    store_device(alloc, images, file, target, reader, writer, progress)
+}
+
+fn invoke_scan<'a, I: Images, W: Write>(
+    alloc: Global,
+    images: &mut I,
+    words: ScanWords<'a>,
+    writer: &mut Counted<W>,
+) -> Result<(), CommandFault<'a>>
+    ensures ok { OnOk result (ScansSectors (calls I.relations I.Dev.state images.old images.new) (scan_record words.entry) (W.contents writer.old.inner) (W.contents writer.new.inner)) }
+    ensures err { IfErr result (IsScanWordsEnd (calls I.relations I.Dev.state images.old images.new) (scan_record words.entry) (W.contents writer.old.inner) (W.contents writer.new.inner) writer.new.failed) }
+{
+    let ScanWords {
+        cache,
+        stack,
+        name,
+        bindings,
+    } = words;
+    let file = stack_file(stack, &bindings);
+    scan_device(alloc, images, file, NamedDevice { name, cache }, writer)
+}
+
+fn invoke_copy<'a, I: Images, W: Write>(
+    alloc: Global,
+    images: &mut I,
+    words: CopyWords<'a>,
+    writer: &mut Counted<W>,
+) -> Result<(), CommandFault<'a>>
+    ensures ok { OnOk result (CopiesSectors (calls I.relations I.Dev.state images.old images.new) (copy_record words.entry) (W.contents writer.old.inner) (W.contents writer.new.inner)) }
+    ensures err { IfErr result (IsCopyWordsEnd (calls I.relations I.Dev.state images.old images.new) (copy_record words.entry) (W.contents writer.old.inner) (W.contents writer.new.inner) writer.new.failed) }
+{
+    let CopyWords {
+        cache,
+        differing,
+        stack,
+        name,
+        out,
+        bindings,
+    } = words;
+    let file = stack_file(stack, &bindings);
+    let output = Output {
+        path: out,
+        differing,
+    };
+    copy_device(
+        alloc,
+        images,
+        file,
+        NamedDevice { name, cache },
+        output,
+        writer,
+    )
 }

@@ -32,8 +32,8 @@ pub fn serve_client<'a, I: Images, R: Read, W: Write>(
     reader: &mut Counted<R>,
     writer: &mut Counted<W>,
 ) -> Result<(), CommandFault<'a>>
-    ensures ok { OnOk result (ServesClient (calls I.relations I.Dev.state images.old images.new) (device_on device.entry.stack.now device.entry.name.now (map binding_record bindings.now)) (streams (R.remaining reader.old.inner) (W.contents writer.old.inner)) (streams (R.remaining reader.new.inner) (W.contents writer.new.inner)) (Ok tt) (Ok tt)) }
-    ensures err { IfErr result (IsClientEnd (calls I.relations I.Dev.state images.old images.new) (device_on device.entry.stack.now device.entry.name.now (map binding_record bindings.now)) (streams (R.remaining reader.old.inner) (W.contents writer.old.inner)) (streams (R.remaining reader.new.inner) (W.contents writer.new.inner)) writer.new.failed) }
+    ensures ok { OnOk result (ServesClient (calls I.relations I.Dev.state images.old images.new) (device_on device.entry.stack.now device.entry.name.now device.entry.cache (map binding_record bindings.now)) (streams (R.remaining reader.old.inner) (W.contents writer.old.inner)) (streams (R.remaining reader.new.inner) (W.contents writer.new.inner)) (Ok tt) (Ok tt)) }
+    ensures err { IfErr result (IsClientEnd (calls I.relations I.Dev.state images.old images.new) (device_on device.entry.stack.now device.entry.name.now device.entry.cache (map binding_record bindings.now)) (streams (R.remaining reader.old.inner) (W.contents writer.old.inner)) (streams (R.remaining reader.new.inner) (W.contents writer.new.inner)) writer.new.failed) }
 {
     let file = StackFile {
         path: device.stack,
@@ -58,7 +58,7 @@ fn queue_over<'a, D: BlockDev + Drop>(
 ) -> Result<Queue<D>, CommandFault<'a>>
     requires text { length over.text.bytes.items ≤ 2 ^ 20 }
     requires served { ServeLeaves over.leaves.items (map D.state over.devices.items) }
-    ensures ok { IfOk result (λ queue. (stack : StackRecord) × IsStackOf D.state over stack × (queue ≡ new_world stack)) }
+    ensures ok { IfOk result (λ queue. (stack : StackRecord) × IsStackOf D.state over stack × (stack.capacity ≡ cache) × (queue ≡ new_world stack)) }
     ensures err { IfErr result (FailsToLoad over) }
 {
     let stack = load_stack(alloc, over, cache)?;

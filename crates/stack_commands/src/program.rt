@@ -1,14 +1,15 @@
 //! The whole program: its words, a reader and a writer in, the status out.
 ghost use Rattle.std.specs.Prelude.{false, ◌≡◌, ◌⊎◌, ℕ, List, Option, map, string_bytes, OnOk, IfErr};
 ghost use Rattle.counted_io.specs.Streams.{streams};
-ghost use Rattle.command_line.specs.CommandWords.{image_record, invocation_record};
+ghost use Rattle.command_line.specs.CommandWords.{invocation_record};
 ghost use Rattle.command_line.specs.FormatOptions.{option_texts};
 ghost use Rattle.image_commands.specs.Drawing.{drawing};
 ghost use Rattle.image_files.specs.Opener.{calls};
-ghost use Rattle.stack_commands.specs.Commands.{EndsEarly, Fails, IsDone, IsRunEnd, Succeeds, is_cat};
+ghost use Rattle.stack_commands.specs.Commands.{EndsEarly, Fails, IsDone, IsRunEnd, Succeeds, is_cat, is_usage, told_to};
 ghost use Rattle.stack_commands.specs.Uses.{uses};
 
-use crate::copy::copy_device;
+use crate::copy::{Output, copy_device};
+use crate::device::{CACHED_BLOCKS, NamedDevice};
 use crate::ending::end;
 use crate::fault::CommandFault;
 use crate::further::{FurtherLine, invoke_further};
@@ -19,24 +20,25 @@ use crate::scan::scan_device;
 use crate::serve::serve_lines;
 use crate::words::stack_file;
 use crate::write::write_stack_file;
-use command_line::{ImageInvocation, Invocation, OptionWords, options_of};
+use command_line::Invocation;
 use command_parser::{CommandLine, parse};
 use counted_io::Counted;
-use image_commands::{
-    Generators, ImagePaths, LineWords, dump_image, format_images, print_table_of_image,
-    verify_images,
-};
+use image_commands::Generators;
 use image_files::Images;
+use manual_pages::say_wrong_words;
+use progress::Progress;
 use std::alloc::Global;
 use std::io::{Read, Write};
+use verity_commands::{VerityFault, invoke_on_images};
 
 const DONE: u8 = 0;
 
 /// Runs the words behind the program's name, and answers the status: 0 done, 1 refused, 2 usage, 3 a fault of
 /// the stack or images that differ, 4 a client that breaks the NBD protocol.
 ///
-/// All that is opened is opened by `images`. Why `cat` ends early goes to `errors`, since its bytes go to the writer.
-pub fn command<I: Images, G: Generators, S: Read, W: Write, E: Write>(
+/// All that is opened is opened by `images`. Why `cat` ends early goes to `errors`, since its bytes go to the writer;
+/// so does what is said of words that are no command, beside `usage`.
+pub fn command<I: Images, G: Generators + Progress, S: Read, W: Write, E: Write>(
     alloc: Global,
     images: &mut I,
     generators: &mut G,
@@ -48,12 +50,38 @@ pub fn command<I: Images, G: Generators, S: Read, W: Write, E: Write>(
     requires reader { reader.old.failed ≡ false }
     requires writer { writer.old.failed ≡ false }
     ensures { ((result ≡ 0) × IsDone (map string_bytes words.now) (uses (calls I.relations I.Dev.state images.old images.new) (drawing G.gives G.Generator.stream generators.old generators.new) (streams (S.remaining reader.old.inner) (W.contents writer.old.inner)) (streams (S.remaining reader.new.inner) (W.contents writer.new.inner))))
-        ⊎ EndsEarly (map string_bytes words.now) (uses (calls I.relations I.Dev.state images.old images.new) (drawing G.gives G.Generator.stream generators.old generators.new) (streams (S.remaining reader.old.inner) (W.contents writer.old.inner)) (streams (S.remaining reader.new.inner) (W.contents writer.new.inner))) writer.new.failed result }
+        ⊎ EndsEarly (map string_bytes words.now) (uses (calls I.relations I.Dev.state images.old images.new) (drawing G.gives G.Generator.stream generators.old generators.new) (streams (S.remaining reader.old.inner) (W.contents writer.old.inner)) (streams (S.remaining reader.new.inner) (W.contents writer.new.inner))) (told_to writer.new.failed (E.contents errors.old.inner) (E.contents errors.new.inner) errors.new.failed) result }
 {
     match run(alloc, images, generators, words, reader, writer) {
         Ok(()) => DONE,
-        Err(fault) if is_cat(words) => end(errors, fault),
-        Err(fault) => end(writer, fault),
+        Err(fault) => {
+            explain(errors, words, fault);
+            if is_cat(words) {
+                end(errors, fault)
+            } else {
+                end(writer, fault)
+            }
+        }
+    }
+}
+
+// Says of words that are no command which of them is wrong.
+fn explain<E: Write>(errors: &mut Counted<E>, words: &[String], fault: CommandFault<'_>)
+    ensures { is_usage fault.entry ≡ false → E.contents errors.new.inner ≡ E.contents errors.old.inner }
+{
+    if is_usage(fault) {
+        let _said = say_wrong_words(errors, words);
+    }
+}
+
+// Whether the words are no command.
+fn is_usage(fault: CommandFault<'_>) -> bool
+    ensures { result ≡ is_usage fault.entry }
+{
+    match fault {
+        CommandFault::Usage => true,
+        CommandFault::Verity(fault) => fault == VerityFault::Usage,
+        _ => false,
     }
 }
 
@@ -68,7 +96,7 @@ fn is_cat(words: &[String]) -> bool
 }
 
 // Files are opened in the order of the words, once all words are read.
-fn run<'a, I: Images, G: Generators, S: Read, W: Write>(
+fn run<'a, I: Images, G: Generators + Progress, S: Read, W: Write>(
     alloc: Global,
     images: &mut I,
     generators: &mut G,
@@ -86,7 +114,7 @@ fn run<'a, I: Images, G: Generators, S: Read, W: Write>(
 }
 
 // Runs a command; the options are those of `format`.
-fn invoke<'a, I: Images, G: Generators, S: Read, W: Write>(
+fn invoke<'a, I: Images, G: Generators + Progress, S: Read, W: Write>(
     alloc: Global,
     images: &mut I,
     generators: &mut G,
@@ -135,7 +163,11 @@ fn invoke<'a, I: Images, G: Generators, S: Read, W: Write>(
             bindings,
         } => {
             let file = stack_file(stack, &bindings);
-            scan_device(alloc, images, file, name, writer)
+            let device = NamedDevice {
+                name,
+                cache: CACHED_BLOCKS,
+            };
+            scan_device(alloc, images, file, device, writer)
         }
         Invocation::Copy {
             stack,
@@ -144,56 +176,25 @@ fn invoke<'a, I: Images, G: Generators, S: Read, W: Write>(
             bindings,
         } => {
             let file = stack_file(stack, &bindings);
-            copy_device(alloc, images, file, name, out, writer)
+            let device = NamedDevice {
+                name,
+                cache: CACHED_BLOCKS,
+            };
+            let output = Output {
+                path: out,
+                differing: false,
+            };
+            copy_device(alloc, images, file, device, output, writer)
         }
         Invocation::Nbd { device, bindings } => {
             serve_client(alloc, images, device, bindings.as_slice(), reader, writer)
         }
         Invocation::Image(invocation) => {
-            invoke_on_images(alloc, images, generators, invocation, &options, writer)
+            Ok(invoke_on_images(alloc, images, generators, invocation, &options, writer)?)
         }
         Invocation::Further(further) => {
             let line = FurtherLine { further, options };
             invoke_further(alloc, images, generators, line, reader, writer)
-        }
-    }
-}
-
-// Runs a command on images, which reads no input.
-fn invoke_on_images<'a, I: Images, G: Generators, W: Write>(
-    alloc: Global,
-    images: &mut I,
-    generators: &mut G,
-    invocation: ImageInvocation<'a>,
-    options: &OptionWords<'a>,
-    writer: &mut Counted<W>,
-) -> Result<(), CommandFault<'a>>
-    ensures ok { (input input' : Option (List ℕ)) → OnOk result (Succeeds (option_texts options.now) (image_record invocation.entry) (uses (calls I.relations I.Dev.state images.old images.new) (drawing G.gives G.Generator.stream generators.old generators.new) (streams input (W.contents writer.old.inner)) (streams input' (W.contents writer.new.inner)))) }
-    ensures err { (input input' : Option (List ℕ)) → IfErr result (Fails (option_texts options.now) (image_record invocation.entry) (uses (calls I.relations I.Dev.state images.old images.new) (drawing G.gives G.Generator.stream generators.old generators.new) (streams input (W.contents writer.old.inner)) (streams input' (W.contents writer.new.inner))) writer.new.failed) }
-{
-    match invocation {
-        ImageInvocation::Format { data, hash } => {
-            let options = options_of(alloc, options)?;
-            let paths = ImagePaths { data, hash };
-            Ok(format_images(alloc, images, generators, options, paths, writer)?)
-        }
-        ImageInvocation::Verify { data, hash, root } => {
-            let paths = ImagePaths { data, hash };
-            Ok(verify_images(alloc, images, paths, &root, writer)?)
-        }
-        ImageInvocation::Dump { hash } => Ok(dump_image(images, hash, writer)?),
-        ImageInvocation::Table {
-            hash,
-            root,
-            data_name,
-            hash_name,
-        } => {
-            let words = LineWords {
-                root: &root,
-                data_name,
-                hash_name,
-            };
-            Ok(print_table_of_image(alloc, images, hash, words, writer)?)
         }
     }
 }

@@ -36,8 +36,8 @@ pub fn read_stack_file<'a, I: Images, W: Write>(
     sectors: Sectors<'_>,
     writer: &mut Counted<W>,
 ) -> Result<(), CommandFault<'a>>
-    ensures ok { OnOk result (PrintsReply (calls I.relations I.Dev.state images.old images.new) (stack_words file.entry) (read_request sectors.entry) (W.contents writer.old.inner) (W.contents writer.new.inner)) }
-    ensures err { IfErr result (IsStackEnd (calls I.relations I.Dev.state images.old images.new) (stack_words file.entry) (FailsToShow I.Dev.state (read_request sectors.entry) writer.new.failed)) }
+    ensures ok { OnOk result (PrintsReply (calls I.relations I.Dev.state images.old images.new) (stack_words file.entry) cache (read_request sectors.entry) (W.contents writer.old.inner) (W.contents writer.new.inner)) }
+    ensures err { IfErr result (IsStackEnd (calls I.relations I.Dev.state images.old images.new) (stack_words file.entry) (FailsToShow I.Dev.state cache (read_request sectors.entry) writer.new.failed)) }
     ensures quiet { IfErr result (λ fault. IsQuiet fault (W.contents writer.old.inner) (W.contents writer.new.inner)) }
 {
     let over = open_stack(alloc, images, file)?;
@@ -55,10 +55,10 @@ fn read<'a, D: BlockDev + Drop, W: Write>(
 ) -> Result<(), CommandFault<'a>>
     requires text { length over.text.bytes.items ≤ 2 ^ 20 }
     requires served { ServeLeaves over.leaves.items (map D.state over.devices.items) }
-    ensures ok { OnOk result ((stack : StackRecord) × (reply : Told) × (after : World) × IsStackOf D.state over stack
+    ensures ok { OnOk result ((stack : StackRecord) × (reply : Told) × (after : World) × IsStackOf D.state over stack × (stack.capacity ≡ cache)
         × IsServed (new_world stack) (read_request sectors.entry) reply after
         × Appends (W.contents writer.old.inner) (W.contents writer.new.inner) (reply_text sectors.entry.first reply)) }
-    ensures err { IfErr result (FailsToShow D.state (read_request sectors.entry) writer.new.failed over) }
+    ensures err { IfErr result (FailsToShow D.state cache (read_request sectors.entry) writer.new.failed over) }
     ensures quiet { IfErr result (λ fault. IsQuiet fault (W.contents writer.old.inner) (W.contents writer.new.inner)) }
 {
     let stack = load_stack(alloc, over, cache)?;

@@ -5,7 +5,7 @@ ghost use Rattle.stack_opening.specs.OpenStacks.{stack_words};
 ghost use Rattle.stack_commands.specs.Recoveries.{IsScanEnd, PrintsScan};
 ghost use Rattle.stack_commands.specs.StackCommands.{device_words};
 
-use crate::device::{CACHED_BLOCKS, load_device, recover_device, tell_counts};
+use crate::device::{NamedDevice, load_device, recover_device, tell_counts};
 use crate::fault::CommandFault;
 use block_device::BlockDev;
 use counted_io::Counted;
@@ -15,19 +15,19 @@ use stack_recovery::Discard;
 use std::alloc::Global;
 use std::io::Write;
 
-/// `scan STACK NAME BINDING...`: reads a device of a stack file over the bindings, and says which sectors are lost.
+/// `scan [--cache N] STACK NAME BINDING...`: reads a device of a stack file over the bindings, and says which sectors are lost.
 pub fn scan_device<'a, I: Images, W: Write>(
     alloc: Global,
     images: &mut I,
     file: StackFile<'a, '_>,
-    name: &'a str,
+    device: NamedDevice<'a>,
     writer: &mut Counted<W>,
 ) -> Result<(), CommandFault<'a>>
-    ensures ok { OnOk result (PrintsScan (calls I.relations I.Dev.state images.old images.new) (device_words (stack_words file.entry) name.now) (W.contents writer.old.inner) (W.contents writer.new.inner)) }
-    ensures err { IfErr result (IsScanEnd (calls I.relations I.Dev.state images.old images.new) (device_words (stack_words file.entry) name.now) (W.contents writer.old.inner) (W.contents writer.new.inner) writer.new.failed) }
+    ensures ok { OnOk result (PrintsScan (calls I.relations I.Dev.state images.old images.new) (device_words (stack_words file.entry) device.entry.name.now device.entry.cache) (W.contents writer.old.inner) (W.contents writer.new.inner)) }
+    ensures err { IfErr result (IsScanEnd (calls I.relations I.Dev.state images.old images.new) (device_words (stack_words file.entry) device.entry.name.now device.entry.cache) (W.contents writer.old.inner) (W.contents writer.new.inner) writer.new.failed) }
 {
     let over = open_stack(alloc, images, file)?;
-    let (mut stack, device) = load_device(alloc, over, name, CACHED_BLOCKS)?;
+    let (mut stack, device) = load_device(alloc, over, device.name, device.cache)?;
     let mut out = Discard::new(stack.config().sectors(device));
     let counts = recover_device(&mut stack, device, &mut out, writer)?;
     tell_counts(counts, writer)

@@ -30,8 +30,8 @@ pub fn serve_lines<'a, I: Images, R: Read, W: Write>(
 ) -> Result<(), CommandFault<'a>>
     requires reader { reader.old.failed ≡ false }
     requires writer { writer.old.failed ≡ false }
-    ensures ok { OnOk result (Serves (calls I.relations I.Dev.state images.old images.new) (map binding_record bindings.now) (streams (R.remaining reader.old.inner) (W.contents writer.old.inner)) (streams (R.remaining reader.new.inner) (W.contents writer.new.inner)) (Ok tt) (Ok tt)) }
-    ensures err { IfErr result (IsServeEnd (calls I.relations I.Dev.state images.old images.new) (map binding_record bindings.now) (streams (R.remaining reader.old.inner) (W.contents writer.old.inner)) (streams (R.remaining reader.new.inner) (W.contents writer.new.inner)) writer.new.failed) }
+    ensures ok { OnOk result (Serves (calls I.relations I.Dev.state images.old images.new) cache (map binding_record bindings.now) (streams (R.remaining reader.old.inner) (W.contents writer.old.inner)) (streams (R.remaining reader.new.inner) (W.contents writer.new.inner)) (Ok tt) (Ok tt)) }
+    ensures err { IfErr result (IsServeEnd (calls I.relations I.Dev.state images.old images.new) cache (map binding_record bindings.now) (streams (R.remaining reader.old.inner) (W.contents writer.old.inner)) (streams (R.remaining reader.new.inner) (W.contents writer.new.inner)) writer.new.failed) }
 {
     let OpenLeaves { leaves, devices } = open_all(alloc, images, &[], bindings)?;
     let config = config_over(alloc, leaves)?;

@@ -9,11 +9,11 @@ ghost use Rattle.stack_commands.specs.Streaming.{IsStoringEnd, PrintsStored};
 use crate::closing::close_stack;
 use crate::device::load_device;
 use crate::fault::CommandFault;
-use crate::further_texts::say_stored;
+use crate::stream_texts::say_stored;
 use block_device::BlockDev;
 use counted_io::Counted;
 use image_files::Images;
-use progress::NoProgress;
+use progress::Progress;
 use stack_opening::{StackFile, open_stack};
 use stack_streams::{StorePlace, store};
 use std::alloc::Global;
@@ -29,16 +29,17 @@ pub struct Target<'a> {
 
 /// `store [--cache N] [--first N] STACK NAME - BINDING...`: all bytes of the reader to a device of a stack file over the
 /// bindings, whose images are synced and given back before anything is printed.
-pub fn store_device<'a, I: Images, S: Read, W: Write>(
+pub fn store_device<'a, I: Images, S: Read, W: Write, P: Progress>(
     alloc: Global,
     images: &mut I,
     file: StackFile<'a, '_>,
     target: Target<'a>,
     reader: &mut Counted<S>,
     writer: &mut Counted<W>,
+    progress: &mut P,
 ) -> Result<(), CommandFault<'a>>
-    ensures ok { OnOk result (PrintsStored (calls I.relations I.Dev.state images.old images.new) (device_words (stack_words file.entry) target.entry.name.now) target.entry.first (streams (S.remaining reader.old.inner) (W.contents writer.old.inner)) (streams (S.remaining reader.new.inner) (W.contents writer.new.inner))) }
-    ensures err { IfErr result (IsStoringEnd (calls I.relations I.Dev.state images.old images.new) (device_words (stack_words file.entry) target.entry.name.now) target.entry.first (streams (S.remaining reader.old.inner) (W.contents writer.old.inner)) (streams (S.remaining reader.new.inner) (W.contents writer.new.inner)) writer.new.failed) }
+    ensures ok { OnOk result (PrintsStored (calls I.relations I.Dev.state images.old images.new) (device_words (stack_words file.entry) target.entry.name.now target.entry.cache) target.entry.first (streams (S.remaining reader.old.inner) (W.contents writer.old.inner)) (streams (S.remaining reader.new.inner) (W.contents writer.new.inner))) }
+    ensures err { IfErr result (IsStoringEnd (calls I.relations I.Dev.state images.old images.new) (device_words (stack_words file.entry) target.entry.name.now target.entry.cache) target.entry.first (streams (S.remaining reader.old.inner) (W.contents writer.old.inner)) (streams (S.remaining reader.new.inner) (W.contents writer.new.inner)) writer.new.failed) }
 {
     let Target { name, first, cache } = target;
     let over = open_stack(alloc, images, file)?;
@@ -47,7 +48,7 @@ pub fn store_device<'a, I: Images, S: Read, W: Write>(
         first,
         length: None,
     };
-    let outcome = store(&mut stack, device, place, reader, &mut NoProgress);
+    let outcome = store(&mut stack, device, place, reader, progress);
     close_stack(images, file.bindings, stack);
     match outcome {
         Ok(written) => Ok(say_stored(writer, written)?),

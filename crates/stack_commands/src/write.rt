@@ -31,8 +31,8 @@ pub fn write_stack_file<'a, I: Images, W: Write>(
     transfer: Transfer<'a>,
     writer: &mut Counted<W>,
 ) -> Result<(), CommandFault<'a>>
-    ensures ok { OnOk result (PrintsWritten (calls I.relations I.Dev.state images.old images.new) (put_words (stack_words file.entry) transfer.entry.source.now (write_request transfer.entry)) (W.contents writer.old.inner) (W.contents writer.new.inner)) }
-    ensures err { IfErr result (IsWriteEnd (calls I.relations I.Dev.state images.old images.new) (put_words (stack_words file.entry) transfer.entry.source.now (write_request transfer.entry)) writer.new.failed) }
+    ensures ok { OnOk result (PrintsWritten (calls I.relations I.Dev.state images.old images.new) (put_words (stack_words file.entry) cache transfer.entry.source.now (write_request transfer.entry)) (W.contents writer.old.inner) (W.contents writer.new.inner)) }
+    ensures err { IfErr result (IsWriteEnd (calls I.relations I.Dev.state images.old images.new) (put_words (stack_words file.entry) cache transfer.entry.source.now (write_request transfer.entry)) writer.new.failed) }
     ensures quiet { IfErr result (λ fault. IsQuiet fault (W.contents writer.old.inner) (W.contents writer.new.inner)) }
 {
     let (over, source) = open_with_source(alloc, images, file, transfer.source)?;

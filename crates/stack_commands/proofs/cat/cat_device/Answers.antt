@@ -20,10 +20,10 @@ returns-in_err-stack-clause-err g c =
 
 pub returns-in-Ok-clause-ok : goal.returns-in-Ok-clause-ok
 returns-in-Ok-clause-ok g c =
-    bytes-printed _ _ (place_of c.in_ok-stack.stack c.in_ok-stack.device.0) (finds _ _ c.in_ok-over.over _ c.in_ok-over.ensures.ok c.in_ok-stack.ensures.ok) _ c.count_from-count.result _
+    bytes-printed _ _ (place_of c.in_ok-stack.stack c.in_ok-stack.device.0) (finds _ _ c.in_ok-over.over _ c.in_ok-over.ensures.ok c.in_ok-stack.ensures.ok c.in_ok-stack.ensures.cached) _ c.count_from-count.result _
     (c.count_from-count.ensures ∙ ap (count_from c.args.wanted.count c.args.wanted.first) (c.sectors.ensures ∙ ap (λ (x : Configuration). size x (mapped c.in_ok-stack.device.0)) c.config.ensures.value)) _ _ _ c.in-Ok.ensures.ok
 
 pub returns-clause-err : goal.returns-clause-err
 returns-clause-err g c =
-    inr (cat-ends _ _ (place_of c.in_ok-stack.stack c.in_ok-stack.device.0) (finds _ _ c.in_ok-over.over _ c.in_ok-over.ensures.ok c.in_ok-stack.ensures.ok) _ c.count_from-count.result _
+    inr (cat-ends _ _ (place_of c.in_ok-stack.stack c.in_ok-stack.device.0) (finds _ _ c.in_ok-over.over _ c.in_ok-over.ensures.ok c.in_ok-stack.ensures.ok c.in_ok-stack.ensures.cached) _ c.count_from-count.result _
     (c.count_from-count.ensures ∙ ap (count_from c.args.wanted.count c.args.wanted.first) (c.sectors.ensures ∙ ap (λ (x : Configuration). size x (mapped c.in_ok-stack.device.0)) c.config.ensures.value)) _ _ _ _ _ c.in-Err.ensures.err)

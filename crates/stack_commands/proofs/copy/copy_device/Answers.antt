@@ -16,53 +16,47 @@ returns-in_err-stack-clause-err g c =
     err-from c.from_residual-in_err-stack.result _ c.in_err-stack.field-0.0 c.from_residual-in_err-stack.ensures.1
     (inl (refl, inr (inl (record { over = c.in_ok-over.over; image = c.in_ok-over.image; opened = c.in_ok-over.ensures.ok; fails = c.in_err-stack.ensures.err }))))
 
-pub returns-in_err-counts-clause-err : goal.returns-in_err-counts-clause-err
-returns-in_err-counts-clause-err g c =
-    err-from c.from_residual-in_err-counts.result _ c.in_err-counts.field-0.0 c.from_residual-in_err-counts.ensures.1
-    (inr (inl (record {
-      at = place_of c.in_ok-stack.stack c.in_ok-stack.device.0;
-      image = c.in_ok-over.image;
-      image' = c.copy_sectors-outcome.new.out;
-      left = c.copy_sectors-outcome.new.stack;
-      between = c.open_with_output.new.images;
-      found = record { over = c.in_ok-over.over; opened = c.in_ok-over.ensures.ok; has = c.in_ok-stack.ensures.ok };
-      fails = c.in_err-counts.ensures.err;
-      back = c.close.ensures;
-    })))
+pub returns-clause-err : goal.returns-clause-err
+returns-clause-err g c = inr (inl (record {
+  at = place_of c.in_ok-stack.stack c.in_ok-stack.device.0;
+  image = c.in_ok-over.image;
+  image' = c.copy_to-image.result.0;
+  left = c.copy_to-image.new.stack;
+  between = c.open_with_output.new.images;
+  found = record { over = c.in_ok-over.over; opened = c.in_ok-over.ensures.ok; has = c.in_ok-stack.ensures.ok; cached = c.in_ok-stack.ensures.cached };
+  fails = rw c.in-Err.is at c.copy_to-image.ensures.err;
+  back = c.close.ensures;
+}))
 
-pub returns-clause-ok : goal.returns-clause-ok
-returns-clause-ok g c = on_ok_weaker c.tell_counts.result (λ told. record {
-  counts = c.in_ok-counts.counts;
+pub returns-in-Ok-clause-ok : goal.returns-in-Ok-clause-ok
+returns-in-Ok-clause-ok g c = on_ok_weaker c.tell_counts.result (λ told. record {
+  counts = c.in-Ok.counts;
   printed = _;
   copied = record {
     at = place_of c.in_ok-stack.stack c.in_ok-stack.device.0;
     image = c.in_ok-over.image;
-    image' = c.copy_sectors-outcome.new.out;
+    image' = c.copy_to-image.result.0;
     left = _;
     between = c.open_with_output.new.images;
-    found = record { over = c.in_ok-over.over; opened = c.in_ok-over.ensures.ok; has = c.in_ok-stack.ensures.ok };
-    recovered = c.in_ok-counts.ensures.ok.1;
-    on_medium = c.in_ok-counts.ensures.ok.2;
-    same = refl;
+    found = record { over = c.in_ok-over.over; opened = c.in_ok-over.ensures.ok; has = c.in_ok-stack.ensures.ok; cached = c.in_ok-stack.ensures.cached };
+    copied = rw c.in-Ok.is at c.copy_to-image.ensures.ok;
     back = c.close.ensures;
   };
   told = told;
 }) c.tell_counts.ensures.ok
 
-pub returns-clause-err : goal.returns-clause-err
-returns-clause-err g c = IfErr-weaker c.tell_counts.result _ _ (λ fault ends. inr (inr (record {
-  counts = c.in_ok-counts.counts;
+pub returns-in-Ok-clause-err : goal.returns-in-Ok-clause-err
+returns-in-Ok-clause-err g c = IfErr-weaker c.tell_counts.result _ _ (λ fault ends. inr (inr (record {
+  counts = c.in-Ok.counts;
   printed = _;
   copied = record {
     at = place_of c.in_ok-stack.stack c.in_ok-stack.device.0;
     image = c.in_ok-over.image;
-    image' = c.copy_sectors-outcome.new.out;
+    image' = c.copy_to-image.result.0;
     left = _;
     between = c.open_with_output.new.images;
-    found = record { over = c.in_ok-over.over; opened = c.in_ok-over.ensures.ok; has = c.in_ok-stack.ensures.ok };
-    recovered = c.in_ok-counts.ensures.ok.1;
-    on_medium = c.in_ok-counts.ensures.ok.2;
-    same = refl;
+    found = record { over = c.in_ok-over.over; opened = c.in_ok-over.ensures.ok; has = c.in_ok-stack.ensures.ok; cached = c.in_ok-stack.ensures.cached };
+    copied = rw c.in-Ok.is at c.copy_to-image.ensures.ok;
     back = c.close.ensures;
   };
   ends = ends;
@@ -76,7 +70,7 @@ returns-then-sectors-needed-clause-err g c =
       inr (inr (record {
         at = place_of c.in_ok-stack.stack c.in_ok-stack.device.0;
         image = c.in_ok-over.image;
-        found = record { over = c.in_ok-over.over; opened = c.in_ok-over.ensures.ok; has = c.in_ok-stack.ensures.ok };
+        found = record { over = c.in_ok-over.over; opened = c.in_ok-over.ensures.ok; has = c.in_ok-stack.ensures.ok; cached = c.in_ok-stack.ensures.cached };
         small = (needed, omega (arith, needed, c.sectors.ensures, c.if-sectors-needed.true));
       })),
     )

@@ -9,8 +9,8 @@ pub returns-clause-err : goal.returns-clause-err
 returns-clause-err g c =
     let none : device_named c.in-Ok.config c.as_bytes.result.now ≡ None = none-mapped _ _ c.in-None.ensures in
     inr (record {
-      stack = stack_over c.in-Ok.config (map g.D.BlockDev.state c.args.over.devices.items);
-      made = stack-made g.D.BlockDev.state c.args.over c.in-Ok.config _ (rw c.as_slice.ensures.value at c.in-Ok.ensures.ok) refl;
+      stack = stack_over c.in-Ok.config (map g.D.BlockDev.state c.args.over.devices.items) c.args.cache;
+      made = stack-made g.D.BlockDev.state c.args.over c.in-Ok.config c.args.cache _ (rw c.as_slice.ensures.value at c.in-Ok.ensures.ok) refl;
       none = subst (λ (name : List ℕ). device_named c.in-Ok.config name ≡ None) c.as_bytes.ensures.value none;
       is = refl;
     })

@@ -22,7 +22,7 @@ returns-in_err-queue-clause-err g c =
 pub returns-in_default-clause-err : goal.returns-in_default-clause-err
 returns-in_default-clause-err g c =
     let made = c.in_ok-queue.ensures.ok in
-    let at = c.config.ensures.value ∙ ap (λ (v : StackRecord). v.config) c.stack.ensures ∙ ap (λ (w : World). w.stack.config) made.2 in
+    let at = c.config.ensures.value ∙ ap (λ (v : StackRecord). v.config) c.stack.ensures ∙ ap (λ (w : World). w.stack.config) made.3 in
     let none = subst (λ (n : List ℕ). HasNoExport c.config.result.now n) c.as_bytes.ensures.value c.in_default.ensures.none in
     inl (refl, inr (c.in_ok-over.over, c.in_ok-over.ensures.ok, inr (record { stack = made.0; made = made.1; none = subst (λ (x : Configuration). HasNoExport x c.args.device.name.now) at none; is = refl })))
 
@@ -37,7 +37,7 @@ returns-in_err-outcome-clause-err g c =
       service = c.in_err-outcome.field-0.0;
       synced = c.sync_and_close-synced.result;
       served = client-served _ c.open_stack.new.images _ c.in_ok-over.over made.0 c.in_ok-queue.queue c.serve-outcome.new.queue e _ _ _ _
-          c.in_ok-over.ensures.ok made.1 made.2 (subst (λ (x : Configuration). IsExport x e) at c.in-Some.ensures.some.0) named c.in_err-outcome.ensures.service (rw c.into_stack.ensures at c.sync_and_close-synced.ensures);
+          c.in_ok-over.ensures.ok made.1 made.2 made.3 (subst (λ (x : Configuration). IsExport x e) at c.in-Some.ensures.some.0) named c.in_err-outcome.ensures.service (rw c.into_stack.ensures at c.sync_and_close-synced.ensures);
       is = refl;
       written = λ is. c.in_err-outcome.ensures.writer.failed (ap Some is);
     })))
@@ -51,7 +51,7 @@ returns-in_err-synced-clause-err g c =
     err-from c.from_residual-in_err-synced.result _ (Io c.in_err-synced.field-0.0) c.from_residual-in_err-synced.ensures.1
     (inr (inr (
     client-served _ c.open_stack.new.images _ c.in_ok-over.over made.0 c.in_ok-queue.queue c.serve-outcome.new.queue e _ _ _ _
-    c.in_ok-over.ensures.ok made.1 made.2 (subst (λ (x : Configuration). IsExport x e) at c.in-Some.ensures.some.0) named c.in_ok-outcome.ensures.service (rw c.into_stack.ensures at c.in_err-synced.ensures)
+    c.in_ok-over.ensures.ok made.1 made.2 made.3 (subst (λ (x : Configuration). IsExport x e) at c.in-Some.ensures.some.0) named c.in_ok-outcome.ensures.service (rw c.into_stack.ensures at c.in_err-synced.ensures)
     )))
 
 pub returns-clause-ok : goal.returns-clause-ok
@@ -61,4 +61,4 @@ returns-clause-ok g c =
     let at = c.config.ensures.value ∙ ap (λ (v : StackRecord). v.config) c.stack.ensures in
     let named = ap (λ (b : Bor (List ℕ)). b.now) c.in-Some.ensures.some.1 ∙ c.as_bytes.ensures.value in
     client-served _ c.open_stack.new.images _ c.in_ok-over.over made.0 c.in_ok-queue.queue c.serve-outcome.new.queue e _ _ _ _
-    c.in_ok-over.ensures.ok made.1 made.2 (subst (λ (x : Configuration). IsExport x e) at c.in-Some.ensures.some.0) named c.in_ok-outcome.ensures.service (rw c.into_stack.ensures at c.in_ok-synced.ensures)
+    c.in_ok-over.ensures.ok made.1 made.2 made.3 (subst (λ (x : Configuration). IsExport x e) at c.in-Some.ensures.some.0) named c.in_ok-outcome.ensures.service (rw c.into_stack.ensures at c.in_ok-synced.ensures)

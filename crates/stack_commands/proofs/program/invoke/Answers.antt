@@ -1,4 +1,6 @@
-use Rattle.stack_commands.proofs.OpeningLemmas.{both-errs}
+use Rattle.stack_commands.specs.declared.fault.CommandFault.TheVariants.{Verity}
+use Rattle.stack_commands.proofs.OpeningLemmas.{both-errs, err-from}
+use Rattle.stack_commands.proofs.VerityLemmas.{files-failed, files-served}
 use Rattle.stack_commands.proofs.program.invoke.Goals as goal
 
 pub returns-in-Load-clause-err : goal.returns-in-Load-clause-err
@@ -22,5 +24,10 @@ returns-in-Scan-clause-err g c = rw c.in-Scan.is (rw c.stack_file-file-in-Scan.e
 pub returns-in-Nbd-clause-err : goal.returns-in-Nbd-clause-err
 returns-in-Nbd-clause-err g c = rw c.in-Nbd.is (rw c.as_slice-in-Nbd.ensures.value at c.serve_client.ensures.err)
 
-pub returns-in-Image-clause-ok : goal.returns-in-Image-clause-ok
-returns-in-Image-clause-ok g c = rw c.in-Image.is (c.invoke_on_images.ensures.ok (g.S.Read.remaining c.args.reader.now.inner) (g.S.Read.remaining c.args.reader.now.inner))
+pub returns-in_ok-invoke_on_images-in-Image-clause-ok : goal.returns-in_ok-invoke_on_images-in-Image-clause-ok
+returns-in_ok-invoke_on_images-in-Image-clause-ok g c = rw c.in-Image.is (files-served _ _ _ _ _ _ _ c.in-Image.invocation c.in_ok-invoke_on_images-in-Image.ensures.ok)
+
+pub returns-in_err-invoke_on_images-in-Image-clause-err : goal.returns-in_err-invoke_on_images-in-Image-clause-err
+returns-in_err-invoke_on_images-in-Image-clause-err g c =
+    err-from c.from_residual.result _ (Verity c.in_err-invoke_on_images-in-Image.field-0.0) c.from_residual.ensures.1
+    (rw c.in-Image.is (files-failed _ _ _ _ _ _ _ c.in-Image.invocation _ c.in_err-invoke_on_images-in-Image.field-0.0 c.in_err-invoke_on_images-in-Image.ensures.err))

@@ -8,8 +8,9 @@ returns-clause-ok g c = on_ok_weaker c.read.result (λ done. record {
   reply = done.1;
   after = done.2;
   loaded = record { over = c.in_ok-over.over; opened = c.in_ok-over.ensures.ok; made = done.3 };
-  served = done.4;
-  printed = done.5;
+  cached = done.4;
+  served = done.5;
+  printed = done.6;
 }) c.read.ensures.ok
 
 pub returns-clause-err : goal.returns-clause-err

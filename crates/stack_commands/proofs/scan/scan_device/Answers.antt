@@ -31,7 +31,7 @@ returns-in_err-counts-clause-err g c =
       at = place_of c.in_ok-stack.stack c.in_ok-stack.device.0;
       out = _;
       left = _;
-      found = finds _ _ c.in_ok-over.over _ c.in_ok-over.ensures.ok c.in_ok-stack.ensures.ok;
+      found = finds _ _ c.in_ok-over.over _ c.in_ok-over.ensures.ok c.in_ok-stack.ensures.ok c.in_ok-stack.ensures.cached;
       sure = refl;
       fails = c.in_err-counts.ensures.err;
       same = refl;
@@ -45,7 +45,7 @@ returns-clause-ok g c = on_ok_weaker c.tell_counts.result (λ told. record {
     at = place_of c.in_ok-stack.stack c.in_ok-stack.device.0;
     out = _;
     left = _;
-    found = finds _ _ c.in_ok-over.over _ c.in_ok-over.ensures.ok c.in_ok-stack.ensures.ok;
+    found = finds _ _ c.in_ok-over.over _ c.in_ok-over.ensures.ok c.in_ok-stack.ensures.ok c.in_ok-stack.ensures.cached;
     recovered = c.in_ok-counts.ensures.ok;
     same = refl;
   };
@@ -60,7 +60,7 @@ returns-clause-err g c = IfErr-weaker c.tell_counts.result _ _ (λ fault ends. i
     at = place_of c.in_ok-stack.stack c.in_ok-stack.device.0;
     out = _;
     left = _;
-    found = finds _ _ c.in_ok-over.over _ c.in_ok-over.ensures.ok c.in_ok-stack.ensures.ok;
+    found = finds _ _ c.in_ok-over.over _ c.in_ok-over.ensures.ok c.in_ok-stack.ensures.ok c.in_ok-stack.ensures.cached;
     recovered = c.in_ok-counts.ensures.ok;
     same = refl;
   };

@@ -12,7 +12,7 @@ use Rattle.stack_commands.proofs.serve.serve_lines.Goals as goal
 pub returns-in_err-leaves-clause-err : goal.returns-in_err-leaves-clause-err
 returns-in_err-leaves-clause-err g c =
     err-from c.from_residual.result _ (opening_ending c.in_err-leaves.field-0.0) c.from_residual.ensures.1
-    (IsServeEnd-unopened _ (map binding_record c.args.bindings.now) _ _ c.in_err-leaves.field-0.0 c.in_err-leaves.ensures.err)
+    (IsServeEnd-unopened _ c.args.cache (map binding_record c.args.bindings.now) _ _ c.in_err-leaves.field-0.0 c.in_err-leaves.ensures.err)
 
 pub returns-in_err-config-clause-err : goal.returns-in_err-config-clause-err
 returns-in_err-config-clause-err g c =
@@ -24,11 +24,11 @@ returns-in_default-clause-err g c = (refl, inr (record { over = c.in_ok-leaves.f
 
 pub returns-in_err-outcome-clause-err : goal.returns-in_err-outcome-clause-err
 returns-in_err-outcome-clause-err g c =
-    let new = c.new-queue.ensures.value ∙ ap new_world (c.in-Ok.ensures.ok ∙ ap (λ config. stack_over config (map g.I.Dev.BlockDev.state c.in_ok-leaves.field-0.devices.items)) c.in_ok-config.ensures.ok) in
+    let new = c.new-queue.ensures.value ∙ ap new_world (c.in-Ok.ensures.ok ∙ ap (λ config. stack_over config (map g.I.Dev.BlockDev.state c.in_ok-leaves.field-0.devices.items) c.args.cache) c.in_ok-config.ensures.ok) in
     err-from c.from_residual-in_err-outcome.result _ (Session c.in_err-outcome.field-0.0) c.from_residual-in_err-outcome.ensures.1 (
       (
         c.sync_and_close-synced.result,
-        session-served _ c.open_all.new.images (map binding_record c.args.bindings.now) c.in_ok-leaves.field-0 c.new-queue.result c.session-outcome.new.queue _ _ _ _
+        session-served _ c.args.cache c.open_all.new.images (map binding_record c.args.bindings.now) c.in_ok-leaves.field-0 c.new-queue.result c.session-outcome.new.queue _ _ _ _
             c.in_ok-leaves.ensures.ok new c.in_err-outcome.ensures.session (rw c.into_stack.ensures at c.sync_and_close-synced.ensures),
       ),
       λ is. c.in_err-outcome.ensures.ending.write_fault (ap (λ (x : SessionFault). Err x) is),
@@ -36,13 +36,13 @@ returns-in_err-outcome-clause-err g c =
 
 pub returns-in_err-synced-clause-err : goal.returns-in_err-synced-clause-err
 returns-in_err-synced-clause-err g c =
-    let new = c.new-queue.ensures.value ∙ ap new_world (c.in-Ok.ensures.ok ∙ ap (λ config. stack_over config (map g.I.Dev.BlockDev.state c.in_ok-leaves.field-0.devices.items)) c.in_ok-config.ensures.ok) in
+    let new = c.new-queue.ensures.value ∙ ap new_world (c.in-Ok.ensures.ok ∙ ap (λ config. stack_over config (map g.I.Dev.BlockDev.state c.in_ok-leaves.field-0.devices.items) c.args.cache) c.in_ok-config.ensures.ok) in
     err-from c.from_residual-in_err-synced.result _ (Io c.in_err-synced.field-0.0) c.from_residual-in_err-synced.ensures.1
-    (session-served _ c.open_all.new.images (map binding_record c.args.bindings.now) c.in_ok-leaves.field-0 c.new-queue.result c.session-outcome.new.queue _ _ _ _
+    (session-served _ c.args.cache c.open_all.new.images (map binding_record c.args.bindings.now) c.in_ok-leaves.field-0 c.new-queue.result c.session-outcome.new.queue _ _ _ _
     c.in_ok-leaves.ensures.ok new c.in_ok-outcome.ensures.session (rw c.into_stack.ensures at c.in_err-synced.ensures))
 
 pub returns-clause-ok : goal.returns-clause-ok
 returns-clause-ok g c =
-    let new = c.new-queue.ensures.value ∙ ap new_world (c.in-Ok.ensures.ok ∙ ap (λ config. stack_over config (map g.I.Dev.BlockDev.state c.in_ok-leaves.field-0.devices.items)) c.in_ok-config.ensures.ok) in
-    session-served _ c.open_all.new.images (map binding_record c.args.bindings.now) c.in_ok-leaves.field-0 c.new-queue.result c.session-outcome.new.queue _ _ _ _
+    let new = c.new-queue.ensures.value ∙ ap new_world (c.in-Ok.ensures.ok ∙ ap (λ config. stack_over config (map g.I.Dev.BlockDev.state c.in_ok-leaves.field-0.devices.items) c.args.cache) c.in_ok-config.ensures.ok) in
+    session-served _ c.args.cache c.open_all.new.images (map binding_record c.args.bindings.now) c.in_ok-leaves.field-0 c.new-queue.result c.session-outcome.new.queue _ _ _ _
     c.in_ok-leaves.ensures.ok new c.in_ok-outcome.ensures.session (rw c.into_stack.ensures at c.in_ok-synced.ensures)

@@ -27,7 +27,7 @@ returns-in_err-say_stored-in-Ok-clause-err g c =
         at = place_of c.in_ok-stack.stack c.in_ok-stack.device.0;
         left = c.store-outcome.new.stack;
         between = c.open_stack.new.images;
-        found = finds _ _ c.in_ok-over.over _ c.in_ok-over.ensures.ok c.in_ok-stack.ensures.ok;
+        found = finds _ _ c.in_ok-over.over _ c.in_ok-over.ensures.ok c.in_ok-stack.ensures.ok c.in_ok-stack.ensures.cached;
         stored = c.in-Ok.ensures.ok;
         back = c.close_stack.ensures;
       },
@@ -41,7 +41,7 @@ returns-in_ok-say_stored-in-Ok-clause-ok g c = record {
     at = place_of c.in_ok-stack.stack c.in_ok-stack.device.0;
     left = c.store-outcome.new.stack;
     between = c.open_stack.new.images;
-    found = finds _ _ c.in_ok-over.over _ c.in_ok-over.ensures.ok c.in_ok-stack.ensures.ok;
+    found = finds _ _ c.in_ok-over.over _ c.in_ok-over.ensures.ok c.in_ok-stack.ensures.ok c.in_ok-stack.ensures.cached;
     stored = c.in-Ok.ensures.ok;
     back = c.close_stack.ensures;
   };
@@ -53,7 +53,7 @@ returns-in-Err-clause-err g c = inr (inl (record {
   at = place_of c.in_ok-stack.stack c.in_ok-stack.device.0;
   left = c.store-outcome.new.stack;
   between = c.open_stack.new.images;
-  found = finds _ _ c.in_ok-over.over _ c.in_ok-over.ensures.ok c.in_ok-stack.ensures.ok;
+  found = finds _ _ c.in_ok-over.over _ c.in_ok-over.ensures.ok c.in_ok-stack.ensures.ok c.in_ok-stack.ensures.cached;
   fails = end-told c.in_ok-stack.device.0 (place_from c.args.target.first) _ _ _ c.in-Err.fault c.in-Err.ensures.err;
   quiet = refl;
   back = c.close_stack.ensures;

@@ -27,6 +27,7 @@ returns-in-Err-clause-err g c =
       between = c.open_with_source.new.images;
       opened = c.in_ok-over.ensures.ok;
       made = c.in_ok-stack.ensures.ok;
+      cached = c.in_ok-stack.ensures.cached;
       fails = subst (λ (w : World). FailsToServe w (write_request c.args.transfer c.in_ok-over.source.bytes.items) c.in-Err.fault c.store-outcome.new.queue) c.new-queue.ensures.value c.in-Err.ensures.err;
       back = rw c.into_stack-stack.ensures at c.close_stack.ensures;
     })))
@@ -38,7 +39,7 @@ returns-in_err-sync_and_close-in-Ok-clause-err g c =
       after = c.store-outcome.new.queue;
       between = c.open_with_source.new.images;
       put = puts _ _ c.in_ok-over.over c.in_ok-over.source c.in_ok-stack.stack c.new-queue.result c.store-outcome.new.queue c.in-Ok._reply
-          c.in_ok-over.ensures.ok c.in_ok-stack.ensures.ok c.new-queue.ensures.value c.in-Ok.ensures.ok;
+          c.in_ok-over.ensures.ok c.in_ok-stack.ensures.ok c.in_ok-stack.ensures.cached c.new-queue.ensures.value c.in-Ok.ensures.ok;
       back = rw c.into_stack-stack.ensures at c.in_err-sync_and_close-in-Ok.ensures;
     })))))
 
@@ -50,7 +51,7 @@ returns-in_err-say_written-in-Ok-clause-err g c =
         after = c.store-outcome.new.queue;
         between = c.open_with_source.new.images;
         put = puts _ _ c.in_ok-over.over c.in_ok-over.source c.in_ok-stack.stack c.new-queue.result c.store-outcome.new.queue c.in-Ok._reply
-            c.in_ok-over.ensures.ok c.in_ok-stack.ensures.ok c.new-queue.ensures.value c.in-Ok.ensures.ok;
+            c.in_ok-over.ensures.ok c.in_ok-stack.ensures.ok c.in_ok-stack.ensures.cached c.new-queue.ensures.value c.in-Ok.ensures.ok;
         back = rw c.into_stack-stack.ensures at c.in_ok-sync_and_close-in-Ok.ensures;
       },
       (refl, c.in_err-say_written-in-Ok.ensures.failed),
@@ -62,7 +63,7 @@ returns-in_ok-say_written-in-Ok-clause-ok g c = (
     after = c.store-outcome.new.queue;
     between = c.open_with_source.new.images;
     put = puts _ _ c.in_ok-over.over c.in_ok-over.source c.in_ok-stack.stack c.new-queue.result c.store-outcome.new.queue c.in-Ok._reply
-        c.in_ok-over.ensures.ok c.in_ok-stack.ensures.ok c.new-queue.ensures.value c.in-Ok.ensures.ok;
+        c.in_ok-over.ensures.ok c.in_ok-stack.ensures.ok c.in_ok-stack.ensures.cached c.new-queue.ensures.value c.in-Ok.ensures.ok;
     back = rw c.into_stack-stack.ensures at c.in_ok-sync_and_close-in-Ok.ensures;
   },
   c.in_ok-say_written-in-Ok.ensures.ok,

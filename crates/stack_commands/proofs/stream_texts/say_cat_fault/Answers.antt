@@ -1,6 +1,6 @@
 use Rattle.std.proofs.Common.{refl}
 use Rattle.std.proofs.KnownBytes.{Appends-nil}
-use Rattle.stack_commands.proofs.further_texts.say_difference_fault.Goals as goal
+use Rattle.stack_commands.proofs.stream_texts.say_cat_fault.Goals as goal
 
 -- nothing is written
 pub returns-in-Write : goal.returns-in-Write

@@ -1,0 +1,28 @@
+//! Generators that are seeded by the system, and nothing that is shown.
+ghost use Rattle.std.specs.Prelude.{◌≡◌};
+
+use image_commands::{Generators, NoRandomBytes, SystemGenerators};
+use progress::Progress;
+use rand::rngs::StdRng;
+use std::random::RandomSource;
+
+#[derive(Drop)]
+pub struct QuietSystem<'a, R> {
+    pub generators: SystemGenerators<'a, R>,
+}
+
+impl<R: RandomSource> Generators for QuietSystem<'_, R> {
+    type Generator = StdRng;
+
+    ghost gives = { λ old outcome new. new ≡ old };
+
+    fn generator(&mut self) -> Result<StdRng, NoRandomBytes> {
+        self.generators.generator()
+    }
+}
+
+impl<R> Progress for QuietSystem<'_, R> {
+    fn begin(&mut self) {}
+
+    fn tell(&mut self, _done: u64, _all: Option<u64>) {}
+}

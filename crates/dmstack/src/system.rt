@@ -1,0 +1,49 @@
+//! What the system gives: generators of random bytes, and a line that shows how far a transfer has come.
+ghost use Rattle.std.specs.Prelude.{◌≡◌};
+
+use image_commands::{Generators, NoRandomBytes, SystemGenerators};
+use progress::{Progress, ProgressLine};
+use rand::rngs::StdRng;
+use std::random::RandomSource;
+use std::rt::Clock;
+
+/// Generators that are seeded by the system, and a line on standard error.
+#[derive(Drop)]
+pub struct System<'a, R> {
+    generators: SystemGenerators<'a, R>,
+    line: ProgressLine<'a, R>,
+}
+
+impl<'a, R: Clock + Eprint> System<'a, R> {
+    pub fn new(rt: &'a R) -> System<'a, R> {
+        System {
+            generators: SystemGenerators::new(rt),
+            line: ProgressLine::new(rt),
+        }
+    }
+
+    /// Ends the line, where one was begun.
+    pub fn finish(&mut self) {
+        self.line.finish();
+    }
+}
+
+impl<R: RandomSource> Generators for System<'_, R> {
+    type Generator = StdRng;
+
+    ghost gives = { λ old outcome new. new ≡ old };
+
+    fn generator(&mut self) -> Result<StdRng, NoRandomBytes> {
+        self.generators.generator()
+    }
+}
+
+impl<R: Clock + Eprint> Progress for System<'_, R> {
+    fn begin(&mut self) {
+        self.line.begin();
+    }
+
+    fn tell(&mut self, done: u64, all: Option<u64>) {
+        self.line.tell(done, all);
+    }
+}

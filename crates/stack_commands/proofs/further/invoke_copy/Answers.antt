@@ -1,0 +1,4 @@
+use Rattle.stack_commands.proofs.further.invoke_copy.Goals as goal
+
+pub returns-clause-err : goal.returns-clause-err
+returns-clause-err g c = rw c.stack_file-file.ensures at c.copy_device.ensures.err
