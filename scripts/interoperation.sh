@@ -3,7 +3,8 @@
 #
 # interoperation.sh [STEP]: every pair of block sizes, every STEP-th number of data blocks from 1 to 300 (7 if none is
 # given), and salts of 0, 1, 32 and 256 bytes in turn. Each image is formatted by both: roots and hash images must be equal,
-# each must verify the other's, `dump` must tell the same fields, and `table` the line that a kernel takes.
+# each must verify the other's, `dump` must tell the same fields, and `table` the line that a kernel takes. The same is
+# compared of trees without a superblock.
 set -eu
 step=${1:-7}
 PATH=$PATH:/usr/sbin
@@ -17,6 +18,7 @@ cd "$room"
 uuid=6c0b2c0e-5a0d-4b5c-9a44-1d1f6a3b2c7e
 salts=("-" 5a "$(printf '%064d' 7)" "$(seq -f '%02g' 0 99 | tr -d '\n')$(seq -f '%02g' 0 99 | tr -d '\n')$(seq -f '%02g' 0 55 | tr -d '\n')")
 head -c $((300 * 4096)) /dev/urandom > data
+head -c $((312 * 4096)) /dev/urandom > junk
 cases=0
 
 fail() {
@@ -49,10 +51,33 @@ compare() {
     cases=$((cases + 1))
 }
 
+# The same of a tree without a superblock, at a place in a file that holds other bytes: compare_bare DATA_BLOCK HASH_BLOCK
+# BLOCKS SALT PLACE
+compare_bare() {
+    local root line options
+    options=(--no-superblock --salt="$4" --hash-offset=$(($5 * $2)))
+    cp junk theirs
+    cp junk ours
+    root=$(veritysetup format --data-block-size="$1" --hash-block-size="$2" --data-blocks="$3" "${options[@]}" data theirs |
+        sed -n 's/^Root hash: *\t*//p')
+    [ "$("$program" format --data-block "$1" --hash-block "$2" --blocks "$3" "${options[@]}" data ours | head -n 1)" = "root $root" ] ||
+        fail "$@" 'another root of a tree alone'
+    cmp -s theirs ours || fail "$@" 'another tree alone'
+    [ "$("$program" verify --data-block "$1" --hash-block "$2" --blocks "$3" "${options[@]}" data theirs "$root")" = matches ] ||
+        fail "$@" 'their tree alone is not verified'
+    veritysetup verify --data-block-size="$1" --hash-block-size="$2" --data-blocks="$3" "${options[@]}" data ours "$root" > /dev/null ||
+        fail "$@" 'our tree alone is not verified'
+    line="0 $(($3 * $1 / 512)) verity 1 DATA HASH $1 $2 $3 $5 sha256 $root $4"
+    [ "$("$program" table --data-block "$1" --hash-block "$2" --blocks "$3" "${options[@]}" theirs "$root" DATA HASH)" = "$line" ] ||
+        fail "$@" 'another table line of a tree alone'
+    cases=$((cases + 1))
+}
+
 for data_block in 512 1024 2048 4096; do
     for hash_block in 512 1024 2048 4096; do
         for blocks in $(seq 1 "$step" 300); do
             compare $data_block $hash_block "$blocks" "${salts[blocks / step % 4]}"
+            compare_bare $data_block $hash_block "$blocks" "${salts[blocks / step % 4]}" $((blocks % 5))
         done
     done
 done

@@ -30,6 +30,8 @@ expect() {
     local status=$1 output=$2 got=0
     shift 2
     "${as[@]}" ./dmstack "$@" > out 2> errors < "$input" || got=$?
+    # of wrong words standard error says more, in three lines at most
+    [ "$got" != 2 ] || [ "$(wc -l < errors)" -gt 3 ] || : > errors
     if [ "$got $(cat out errors)" = "$status $output" ]; then
         passed=$((passed + 1))
     else

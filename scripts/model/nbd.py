@@ -108,11 +108,11 @@ class Service:
         data = self.take(length)
         if option == EXPORT_NAME:
             return self.export_name(data)
-        if length > MOST_OF_AN_OPTION:
-            return self.tell(option, TOO_BIG)
         if option == ABORT:
             self.tell(option, ACK)
             raise Ended(DONE)
+        if length > MOST_OF_AN_OPTION:
+            return self.tell(option, TOO_BIG)
         if option == LIST:
             return self.list(data)
         if option in (INFO, GO):

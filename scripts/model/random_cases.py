@@ -5,18 +5,19 @@ The model is asked which devices stand while a session is made, so that its line
 
 from dataclasses import replace
 
+from random_disks import Disks
 from random_images import Images
 from random_parts import Case, Run
 from random_services import Services
 from strange_words import STRANGE_NUMBERS
 
 
-class Maker(Services, Images):
+class Maker(Services, Images, Disks):
     """Makes one case."""
 
     def case(self):
         makers = [(self.session_case, 51), (self.stack_case, 14), (self.image_case, 16),
-                  (self.words_case, 7)]
+                  (self.words_case, 7), (self.tree_case, 20), (self.disk_case, 6)]
         if self.has("commands", "nbd"):
             makers.append((self.service_case, 14))
         made, = self.random.choices([maker for maker, _ in makers], [share for _, share in makers])
@@ -50,11 +51,20 @@ class Maker(Services, Images):
                 runs.append(Run([b"read"] + self.cache() + [stack] + rest + words))
             else:
                 runs.append(self.write_run(session, stack, words))
+        if self.has("forms", "input-stack"):
+            runs = [self.from_input(run, stack) if self.chance(0.08) else run for run in runs]
         runs = [self.spoiled_words(run) if self.chance(0.06) else run for run in runs]
         if self.has("commands", "scan") and self.chance(0.8):
             more = self.recovery_runs(session, stack, words)
             runs += [self.spoiled_words(run) if self.chance(0.06) else run for run in more]
         return runs
+
+    def from_input(self, run, stack):
+        """The same run with the stack's text as standard input."""
+        text = self.files.get(stack)
+        if not isinstance(text, bytes):
+            return run
+        return replace(run, words=[b"-" if word == stack else word for word in run.words], given=text)
 
     def spoiled_stack_file(self, text, stack):
         kind = self.random.randrange(4)
@@ -88,13 +98,16 @@ class Maker(Services, Images):
         source = self.new_file((content * (size // len(content) + 1))[:size], b"source")
         if self.chance(0.05):
             bound = [word.rpartition(b":")[2] for word in words]
-            source = self.pick([b"missing", b".", b"", stack] + list(self.files) + bound)
+            files = [name for name, content in self.files.items() if content != "pipe"]
+            source = self.pick([b"missing", b".", b"", stack] + files + [path for path in bound if path in files])
         return Run([b"write"] + self.cache() + [stack, name, first, source] + words)
 
     def words_case(self):
-        kind = self.random.randrange(5)
+        kind = self.random.randrange(6)
         if kind == 0:
             runs = self.image_case()
+        elif kind == 5:
+            runs = self.tree_case()
         elif kind == 1:
             runs = self.stack_case()
         elif kind == 2 and self.has("commands", "nbd"):

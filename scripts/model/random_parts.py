@@ -118,9 +118,24 @@ class Dice:
                 path = self.new_file(content)
                 kind = b"ro" if self.chance(0.4) else b"rw"
                 words.append(b"%s=%s:%s" % (name, kind, path))
+                if self.has("forms", "parts") and self.chance(0.3):
+                    words[-1:] = self.parts(name, path, len(content) // 512)
         if self.chance(0.04):
             self.spoil_bindings(words)
         return words
+
+    def parts(self, name, path, sectors):
+        """A part of a file, or two that mostly lie beside each other."""
+        cut = self.random.randint(1, max(1, sectors - 1))
+        places = [(0, cut), (cut, sectors - cut)]
+        if self.chance(0.15):
+            first = self.below(sectors)
+            places[1] = (first, self.pick([0, 1, sectors - first, sectors - first + 1]))
+        if sectors < 2 or self.chance(0.4):
+            places = [self.pick(places)]
+        names = [name] + [b"%s2" % name[:200]]
+        kinds = [b"ro" if self.chance(0.4) else b"rw" for _ in places]
+        return [b"%s=%s@%d+%d:%s" % (one, kind, *place, path) for one, kind, place in zip(names, kinds, places)]
 
     def spoil_bindings(self, words):
         """Puts one binding in that may be refused, or is at the edge of it."""

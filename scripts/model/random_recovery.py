@@ -49,14 +49,84 @@ class Recoveries(Sessions):
                    if self.is_short(session, device)]
         device = self.pick(devices[-1:] * 2 + devices) if devices and self.chance(0.97) else None
         name = device.name if device else self.pick([b"none", b"D", b""])
+        options = self.pass_options()
+        if self.chance(0.25):
+            return self.stream_run(device, stack, name, words)
         if self.chance(0.4):
-            return Run([b"scan", stack, name] + words)
+            return Run([b"scan"] + options + self.stack_words(stack, name) + words, self.input_stack)
         sectors = (device.sectors if device else 4) + self.pick([0, 0, 0, 0, 1, 5, -1])
         content = self.content(3) * (sectors // 3 + 1)
         out = self.new_file(content[:sectors * 512 + self.pick([0, 0, 1, 511])], b"out")
         if self.chance(0.08):
-            out = self.pick([b"missing", b".", b"/dev/null", b"./" + out, stack] + list(self.files))
-        return Run([b"copy", stack, name, out] + words)
+            out = self.pick([b"missing", b".", b"/dev/null", b"./" + out, stack] + self.readable())
+        if self.has("forms", "differing") and self.chance(0.3):
+            options.insert(0, b"--differing")
+        return Run([b"copy"] + options + self.stack_words(stack, name) + [out] + words, self.input_stack)
+
+    def stack_words(self, stack, name):
+        """The stack's file and the device, the text of the first also as standard input."""
+        self.input_stack = b""
+        if self.has("forms", "input-stack") and self.chance(0.1) and isinstance(self.files.get(stack), bytes):
+            self.input_stack = self.files[stack]
+            stack = b"-"
+        return [stack, name]
+
+    def pass_options(self):
+        """Options of a command that goes over a device."""
+        words = []
+        if self.has("forms", "pass-cache") and self.chance(0.2):
+            words += [b"--cache", self.pick([b"0", b"1", b"64", b"65536", b"65537"])]
+        if self.has("forms", "map") and self.chance(0.3):
+            words += [b"--map", b"map"]
+        return words
+
+    def readable(self):
+        """The files whose reading doesn't wait for a writer."""
+        return [name for name, content in self.files.items() if content != "pipe"]
+
+    def written_stack(self):
+        """A device that may be written, of one line or several, some of them error lines."""
+        sectors = self.pick([1, 3, 16, 127, 128, 129, 140, 257, 300])
+        self.files[b"disk"] = self.content(5) * (sectors // 5 + 1)
+        lines, at = [], 0
+        while at < sectors:
+            length = min(self.pick([sectors, sectors, 1, 5, 64, 128, 130]), sectors - at)
+            kind = b"linear D %d" % at
+            if self.chance(0.2):
+                kind = b"error"
+            elif self.has("targets", "crypt") and self.chance(0.15):
+                kind = b"crypt aes-xts-plain64 %s 0 D %d" % (b"0123456789abcdef" * 4, at)
+            lines.append(b"%d %d %s" % (at, length, kind))
+            at += length
+        flag = b"rw" if self.chance(0.95) else b"ro"
+        stack = self.new_file(b"s,,,%s,%s\n" % (flag, b",".join(lines)), b"stack")
+        return stack, b"s", sectors, [b"D=%s:disk" % (b"rw" if self.chance(0.95) else b"ro")]
+
+    def stream_run(self, device, stack, name, words):
+        """The bytes of a device out, or bytes into it."""
+        if self.chance(0.5):
+            stack, name, sectors, words = self.written_stack()
+        else:
+            sectors = device.sectors if device else 4
+        first = self.pick([0, 0, 1, sectors // 2, sectors - 1, sectors, sectors + 1])
+        options = [b"--first", b"%d" % first] if first or self.chance(0.2) else []
+        if self.chance(0.1):
+            options.append(b"--cache=%d" % self.pick([0, 1, 65536]))
+        if self.has("forms", "progress") and self.chance(0.1):
+            options.append(b"--progress")
+        if self.chance(0.5):
+            if self.chance(0.4):
+                options += [b"--count", b"%d" % max(0, self.pick([0, 1, sectors - first, sectors - first + 1]))]
+            return Run([b"cat"] + options + self.stack_words(stack, name) + words, self.input_stack)
+        room = max(0, sectors - first)
+        size = self.pick([0, 1, room, room, room + 1, 3]) * 512 + self.pick([0, 0, 0, 0, 1, 511, -1])
+        content = (self.content(3) * (max(0, size) // 1536 + 1))[:max(0, size)]
+        if self.has("forms", "store-file") and self.chance(0.5):
+            source = self.new_file(content, b"source")
+            if self.chance(0.05):
+                source = self.pick([b"missing", b".", stack, *self.readable()])
+            return Run([b"store"] + options + [stack, name, source] + words)
+        return Run([b"store"] + options + [stack, name, b"-"] + words, content)
 
     def is_short(self, session, device):
         """Whether the model goes over a device in a short time."""

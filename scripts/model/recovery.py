@@ -1,6 +1,8 @@
 """Going over a whole device: which sectors can be had, which are lost, and what a copy has then."""
 
 from configuration import Refused
+from files import Stop
+from rescue_map import FAULTS, MapFault, marks_of, text_of
 from session import SUBMISSION_RULES
 from stack import SECTOR, Fault
 
@@ -14,32 +16,52 @@ def looked_up(configuration, name):
     return device
 
 
-def answers(stack, device):
-    """Of each sector in turn its bytes, or the fault that its reading ends in."""
+def answers(stack, device, marks):
+    """Of each sector in turn its bytes, or the fault that its reading ends in; of one that was had before neither."""
     for at in range(device.sectors):
+        if marks and marks[at]:
+            yield None, None
+            continue
         try:
             yield stack.read_run(device, at, 1), None
         except Fault as fault:
             yield None, fault.text
 
 
-def recovered(stack, device, out):
-    """The lines for the longest runs of one fault, the sums, and whether any sector is lost.
+def recovered(stack, device, out, marks=()):
+    """The lines for the longest runs of one fault, the sums, and of each sector whether it is had, now or before.
 
     What can be had is put into `out`, where there is one; what is lost stays as it was there."""
-    runs, had = [], 0
-    for at, (data, fault) in enumerate(answers(stack, device)):
-        if fault is None:
-            had += 1
+    runs, had = [], []
+    for at, (data, fault) in enumerate(answers(stack, device, marks)):
+        had.append(fault is None)
+        if data is not None:
             if out is not None:
                 out[at * SECTOR:(at + 1) * SECTOR] = data
+        elif fault is None:
+            continue
         elif runs and runs[-1][2] == fault and sum(runs[-1][:2]) == at:
             runs[-1][1] += 1
         else:
             runs.append([at, 1, fault])
     lines = [b"lost %d %d %s" % (first, count, fault.removeprefix("fault ").encode())
              for first, count, fault in runs]
-    return lines + [b"read %d lost %d" % (had, device.sectors - had)], bool(runs)
+    return lines + [b"read %d lost %d" % (sum(had), device.sectors - sum(had))], had
+
+
+def with_map(stack, device, out, path, files):
+    """The same where a map says what was had before: that isn't read again, and the map is as it is then."""
+    try:
+        marks = marks_of(bytes(files.content(path)), device.sectors)
+    except MapFault as fault:
+        raise Stop(b"refused %d Map%s" % (24 + FAULTS.index(str(fault)), str(fault).encode())) from None
+    except Stop as stop:
+        if not stop.line.startswith(b"refused 1 "):
+            raise
+        marks = ()
+    lines, had = recovered(stack, device, out, marks)
+    files.nodes[path.removeprefix(b"./")] = bytearray(text_of(had))
+    return lines, had
 
 
 def check_size(device, out):

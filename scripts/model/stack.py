@@ -41,19 +41,22 @@ class MemoryImage:
 
 
 class FileImage:
-    """The whole sectors of a file's bytes, as many as it had when it was opened.
+    """The whole sectors of a file's bytes, as many as it had when it was opened, or a part of them.
 
     Where it is shorter by now, what is gone can't be read; a write makes it longer again."""
 
-    def __init__(self, content, place):
-        self.content, self.sectors, self.place = content, len(content) // SECTOR, place
+    def __init__(self, content, place, part=None):
+        self.content, self.place = content, place
+        self.begin, self.sectors = part or (0, len(content) // SECTOR)
 
     def read(self, first, count):
+        first += self.begin
         if (first + count) * SECTOR > len(self.content):
             raise Fault("fault 3 Device %d" % self.place)
         return bytes(self.content[first * SECTOR:(first + count) * SECTOR])
 
     def write(self, first, data):
+        first += self.begin
         self.content.extend(bytes(max(first * SECTOR - len(self.content), 0)))
         self.content[first * SECTOR:first * SECTOR + len(data)] = data
 

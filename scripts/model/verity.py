@@ -132,39 +132,86 @@ def data_blocks(image, superblock):
     return [bytes(image[at:at + size]) for at in range(0, superblock.blocks * size, size)]
 
 
-def format_images(data, image, uuid, data_block, hash_block, blocks, salt):
-    """Writes superblock and tree to `image`, a bytearray; gives the root and the blocks."""
+def format_images(data, image, options, uuid, is_grown=False):
+    """Writes a tree to `image`, a bytearray, behind a superblock unless `uuid` is None; gives the root and the blocks."""
+    data_block, hash_block, blocks, salt = options
     if blocks is None and data_block in BLOCK_SIZES:
         blocks = len(data) // 512 // (data_block // 512)
     if not has_shape(data_block, hash_block, blocks):
         raise ImageFault("Shape", FORMAT_FAULTS)
-    superblock = Superblock(uuid, data_block, hash_block, blocks, salt)
-    tree = superblock.tree()
+    begin = 0 if uuid is None else 1
+    tree = Tree(data_block, hash_block, blocks, begin)
     if tree.data_sectors() > len(data) // 512:
         raise ImageFault("DataTooSmall", FORMAT_FAULTS)
-    needed = (1 + sum(tree.levels)) * hash_block // 512
+    needed = (begin + sum(tree.levels)) * hash_block // 512
+    if is_grown:
+        image.extend(bytes(max(0, needed * 512 - len(image))))
     if needed > len(image) // 512:
         raise ImageFault("HashTooSmall", FORMAT_FAULTS, " needed %d" % needed)
-    placed, root = grown(tree, salt, data_blocks(data, superblock))
-    image[:hash_block] = superblock.encode().ljust(hash_block, b"\0")
+    placed, root = grown(tree, salt, data_blocks(data, tree))
+    if uuid is not None:
+        superblock = Superblock(uuid, data_block, hash_block, blocks, salt)
+        image[:hash_block] = superblock.encode().ljust(hash_block, b"\0")
     for place, block in placed.items():
         image[place * hash_block:(place + 1) * hash_block] = block
     return root, blocks
 
 
-def verify_images(data, image, root):
-    """What stands: `matches`, `root differs` or the least hash block that differs."""
-    superblock = read_superblock(image)
-    tree = superblock.tree()
-    whole = max(tree.end_sectors(), 1)
+def bare_tree(options, sectors):
+    """The tree that the words say, over data of so many sectors where they don't say how many blocks."""
+    data_block, hash_block, blocks, _ = options
+    if blocks is None and data_block in BLOCK_SIZES:
+        blocks = sectors // (data_block // 512)
+    if not has_shape(data_block, hash_block, blocks):
+        raise ImageFault("Shape", FORMAT_FAULTS)
+    return Tree(data_block, hash_block, blocks)
+
+
+def check_sizes(tree, data, image):
+    """Data and tree lie on their images, and the superblock too, where there is one."""
+    whole = max(tree.end_sectors(), tree.start)
     if tree.data_sectors() > len(data) // 512 or whole > len(image) // 512:
         raise ImageFault("TooSmall", SUPERBLOCK_FAULTS)
-    placed, found = grown(tree, superblock.salt, data_blocks(data, superblock))
-    size = superblock.hash_block
+
+
+def verify_images(data, image, tree, salt, root):
+    """What stands: `matches`, `root differs` or the least hash block that differs."""
+    check_sizes(tree, data, image)
+    placed, found = grown(tree, salt, data_blocks(data, tree))
+    size = tree.hash_block
     for place in sorted(placed):
         if image[place * size:(place + 1) * size] != placed[place]:
             return "area differs at block %d" % place
     return "matches" if found == root else "root differs"
+
+
+def survey(data, image, tree, salt, root):
+    """Of each data block None, `changed` or `unknown`, and the hash blocks whose digests don't stand above them.
+
+    Block k of level l has the digest that stands in slot k mod s of block k / s of level l + 1, of s slots each; that of
+    the top level is the root. Hash blocks come as they lie in the area: the top level first."""
+    size, top = tree.hash_block, len(tree.levels)
+
+    def stored(level, index):
+        at = (tree.first(level) + index) * size
+        return bytes(image[at:at + size])
+
+    def above(level, index):
+        if level == top:
+            return root
+        return stored(level, index // tree.slots)[32 * (index % tree.slots):][:32]
+
+    bad = [(level, index) for level in reversed(range(top)) for index in range(tree.levels[level])
+           if digest(salt, stored(level, index)) != above(level + 1, index)]
+    states, bad_ones = [], set(bad)
+    for at, block in enumerate(data_blocks(data, tree)):
+        way, index = [], at
+        for level in range(top):
+            index //= tree.slots
+            way.append((level, index))
+        state = None if digest(salt, block) == above(0, at) else "changed"
+        states.append("unknown" if bad_ones.intersection(way) else state)
+    return states, bad
 
 
 def spelled_uuid(uuid):
@@ -172,18 +219,17 @@ def spelled_uuid(uuid):
     return "-".join([digits[:8], digits[8:12], digits[12:16], digits[16:20], digits[20:]])
 
 
-def dump_lines(image):
-    superblock = read_superblock(image)
+def dump_facts(superblock):
     return [
-        "uuid " + spelled_uuid(superblock.uuid), "hash_type 1", "algorithm sha256",
-        "data_block %d" % superblock.data_block, "hash_block %d" % superblock.hash_block,
-        "data_blocks %d" % superblock.blocks, "salt " + (superblock.salt.hex() or "-"),
+        ("uuid", spelled_uuid(superblock.uuid)), ("hash_type", 1), ("algorithm", "sha256"),
+        ("data_block", superblock.data_block), ("hash_block", superblock.hash_block),
+        ("data_blocks", superblock.blocks), ("salt", superblock.salt.hex() or "-"),
     ]
 
 
-def table_line(image, root, data_name, hash_name):
-    superblock = read_superblock(image)
-    sectors = superblock.tree().data_sectors()
-    return b"0 %d verity 1 %s %s %d %d %d 1 sha256 %s %s" % (
-        sectors, data_name, hash_name, superblock.data_block, superblock.hash_block,
-        superblock.blocks, root.hex().encode(), superblock.salt.hex().encode() or b"-")
+def table_line(made, root, data_name, hash_name, start=1):
+    """The line of what a superblock says, whose tree begins at that hash block."""
+    tree = Tree(made.data_block, made.hash_block, made.blocks)
+    return b"0 %d verity 1 %s %s %d %d %d %d sha256 %s %s" % (
+        tree.data_sectors(), data_name, hash_name, made.data_block, made.hash_block, made.blocks, start,
+        root.hex().encode(), made.salt.hex().encode() or b"-")

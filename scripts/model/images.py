@@ -1,0 +1,166 @@
+"""The commands on verity images: where superblock and tree stand in their file, what is opened, what is printed."""
+
+from uuid import UUID
+
+from differences import Stored, compared, longest_runs, run_lines, unlike
+from files import WHOLE, Stop
+from partitions import lines_of, root_lines, stack_lines, table_of
+from replies import Json
+from stack import SECTOR
+from tables import digits_of
+from verity import (Superblock, bare_tree, check_sizes, dump_facts, format_images, read_superblock, spelled_uuid, survey,
+                    table_line, verify_images)
+from words import exactly, read_diff, read_format, read_offset, read_partitions, read_table, read_verify
+
+DONE, REFUSED, _, FAULT = range(4)
+
+
+class Drawn(Exception):
+    """A format whose salt or uuid is drawn: no model tells what it prints."""
+
+
+def check_aligned(first, hash_block):
+    """A tree begins where a hash block of its file does."""
+    if hash_block >= SECTOR and first % (hash_block // SECTOR):
+        raise Stop(b"refused 18 Unaligned")
+
+
+def told_root(root, files):
+    """The root itself, or the one that a file begins with."""
+    if isinstance(root, bytes):
+        return root
+    found = digits_of(bytes(files.content(root[0])[:64]), 64, 64)
+    if found is None:
+        raise Stop(b"refused 19 RootText")
+    return found
+
+
+def two_images(files, paths, first, writable):
+    """DATA, as far as its tree doesn't lie in the same file, and HASH, of which the first sectors are left out."""
+    data = files.image(paths[0], False)
+    if first and writable and files.find(paths[1]) is data:
+        files.opened.append((data, True, WHOLE))
+        image = data
+    else:
+        image = files.image(paths[1], writable)
+    seen = data[:first * SECTOR] if first and image is data else data
+    return seen, image
+
+
+def run_format(options, words, files, _given, _features):
+    *paths, (*sizes, blocks, salt), uuid, first = read_format(options, words)
+    is_bare = b"no-superblock" in options
+    if b"grow" in options:
+        files.make(paths[1])
+    check_aligned(first, sizes[1])
+    data, image = two_images(files, paths, first, True)
+    if salt is None or uuid is None and not is_bare:
+        if files.random is None:
+            raise Drawn
+        salt = files.random(32) if salt is None else salt
+        uuid = uuid or UUID(bytes=files.random(16), version=4).bytes
+    uuid = None if is_bare else uuid
+    part = bytearray(image[first * SECTOR:])
+    root, count = format_images(data, part, (*sizes, blocks, salt), uuid, b"grow" in options)
+    if part:
+        del image[first * SECTOR:]
+        image.extend(bytes(max(0, first * SECTOR - len(image))))
+        image.extend(part)
+    lines = ["root " + root.hex(), "salt " + (salt.hex() or "-")]
+    lines += [] if is_bare else ["uuid " + spelled_uuid(uuid)]
+    return [line.encode() for line in [*lines, "blocks %d" % count]], DONE
+
+
+def run_verify(options, words, files, _given, _features):
+    *paths, root, said, first = read_verify(options, words)
+    root = told_root(root, files)
+    if b"no-superblock" in options:
+        check_aligned(first, said[1])
+        data, image = two_images(files, paths, first, False)
+        tree, salt = bare_tree(said, len(data) // SECTOR), said[3]
+    else:
+        data, image = two_images(files, paths, first, False)
+        superblock = read_superblock(image[first * SECTOR:])
+        check_aligned(first, superblock.hash_block)
+        tree, salt = superblock.tree(), superblock.salt
+    image = image[first * SECTOR:]
+    if b"all" in options:
+        return surveyed(data, image, tree, salt, root, b"json" in options)
+    verdict = verify_images(data, image, tree, salt, root)
+    return [verdict.encode()], DONE if verdict == "matches" else FAULT
+
+
+def surveyed(data, image, tree, salt, root, as_json):
+    check_sizes(tree, data, image)
+    states, bad = survey(data, image, tree, salt, root)
+    counts = [("good", states.count(None))] + [(kind, states.count(kind)) for kind in ("changed", "unknown")]
+    status = DONE if set(states) == {None} and not bad else FAULT
+    if as_json:
+        runs = [{"state": kind, "first": first, "count": count} for kind, first, count in longest_runs(states)]
+        hash_blocks = [{"level": level, "index": index} for level, index in bad]
+        return [Json({**dict(counts), "runs": runs, "hash_blocks": hash_blocks})], status
+    lines = run_lines(states, None) + ["hash %d %d" % it for it in bad]
+    lines.append(" ".join("%s %d" % it for it in counts))
+    return [line.encode() for line in lines], status
+
+
+def placed_superblock(files, path, first):
+    return read_superblock(files.image(path, False)[first * SECTOR:])
+
+
+def run_dump(options, words, files, _given, _features):
+    first = read_offset(options)
+    path, = exactly(words, 1)
+    facts = dump_facts(placed_superblock(files, path, first))
+    if b"json" in options:
+        return [Json(dict(facts))], DONE
+    return [("%s %s" % fact).encode() for fact in facts], DONE
+
+
+def run_table(options, words, files, _given, _features):
+    path, root, names, (*sizes, blocks, salt), first = read_table(options, words)
+    root = told_root(root, files)
+    if b"no-superblock" in options:
+        check_aligned(first, sizes[1])
+        bare_tree((*sizes, blocks, salt), 0)
+        made, ahead = Superblock(bytes(16), *sizes, blocks, salt), 0
+    else:
+        made, ahead = placed_superblock(files, path, first), 1
+        check_aligned(first, made.hash_block)
+    line = table_line(made, root, *names, first // (made.hash_block // SECTOR) + ahead)
+    head = options[b"name"] + b",,,ro," if b"name" in options else b""
+    return [head + line], DONE
+
+
+def run_diff(options, words, files, _given, _features):
+    paths, roots, most = read_diff(options, words)
+    images = [files.image(path, False) for path in paths]
+    first, second = (Stored(*it) for it in zip(images, roots, ("first", "second")))
+    refusal = unlike(first, second)
+    if refusal:
+        raise Stop(refusal.encode())
+    lines, kinds, fault = compared(first, second, most)
+    differ = fault is not None or any(kind is not None for kind in kinds)
+    if b"json" in options and fault is None:
+        return [Json(difference_facts(kinds, most))], FAULT if differ else DONE
+    return [line.encode() for line in lines], FAULT if differ else DONE
+
+
+def difference_facts(kinds, most):
+    runs = [{"state": kind, "first": first, "count": count} for kind, first, count in longest_runs(kinds)]
+    counts = {kind: kinds.count(kind) for kind in ("changed", "removed", "added")}
+    is_cut = most is not None and len(runs) > most
+    return {"same": kinds.count(None), **counts, "runs": runs[:most], "more": is_cut}
+
+
+def run_partitions(options, words, files, _given, _features):
+    path, size, root = read_partitions(options, words)
+    image = bytes(files.image(path, False))
+    partitions, copies = table_of(image, size)
+    if root is not None:
+        lines = root_lines(image, partitions, size, root)
+    elif b"stack" in options:
+        lines = stack_lines(partitions, size)
+    else:
+        lines = lines_of(partitions, copies)
+    return lines, DONE

@@ -1,0 +1,152 @@
+"""GUID partition tables (UEFI 2.10, chapter 5): both copies, the partitions, and the stacks over them."""
+
+import struct
+import zlib
+from dataclasses import dataclass
+from uuid import UUID
+
+from files import Stop
+from stack import SECTOR
+from tables import is_mapped_name
+from verity import read_superblock, table_line
+
+MOST_OF_ENTRIES = 1 << 20
+# Types of the Discoverable Partitions Specification, by systemd's names.
+KINDS = {
+    "4f68bce3-e8cd-4db1-96e7-fbcaf984b709": "root-x86-64", "2c7357ed-ebd2-46d9-aec1-23d437ec2bf5": "root-x86-64-verity",
+    "8484680c-9521-48c6-9c11-b0720656f69e": "usr-x86-64", "77ff5f63-e7b6-4633-acf4-1565b864c0e6": "usr-x86-64-verity",
+    "b921b045-1df0-41c3-af44-4c6f280d3fae": "root-arm64", "df3300ce-d69f-4c92-978c-9bfb0f38d820": "root-arm64-verity",
+    "b0e01050-ee5f-4390-949a-9101b17104e9": "usr-arm64", "6e11a4e7-fbca-4ded-b9e9-e1a512bb664e": "usr-arm64-verity",
+    "c12a7328-f81f-11d2-ba4b-00a0c93ec93b": "esp", "bc13c2ff-59e6-4262-a352-b275fd6f7172": "xbootldr",
+    "0657fd6d-a4ab-43c4-84e5-0933c84b4f4f": "swap", "933ac7e1-2eb4-4f13-b844-0e14e2aef915": "home",
+    "3b8f8425-20e0-4f3b-907f-1a25a76f98e8": "srv", "4d21b016-b534-45c2-a9fb-5c16e091fd2d": "var",
+    "7ec6f557-3bc5-4aca-b293-16ef5df639d1": "tmp", "0fc63daf-8483-4772-8e79-3d69d8477de4": "linux-generic",
+}
+
+
+class Wrong(Exception):
+    """What is wrong of one copy of a table."""
+
+
+@dataclass
+class Partition:
+    number: int
+    kind: UUID
+    uuid: UUID
+    first: int
+    last: int
+    label: str
+
+    @property
+    def count(self):
+        return self.last - self.first + 1
+
+
+def label_of(octets):
+    """The label up to its first zero; control characters and surrogates alone can't be shown."""
+    units = struct.unpack("<36H", octets)
+    units = units[:units.index(0)] if 0 in units else units
+    text = struct.pack("<%dH" % len(units), *units).decode("utf-16-le", "replace")
+    return "".join("\ufffd" if ord(one) < 32 or 127 <= ord(one) < 160 else one for one in text)
+
+
+def copy_of(image, size, sector, sectors):
+    """The partitions of the copy whose header is in that sector."""
+    header = image[sector * size:(sector + 1) * size]
+    (signature, revision, length, checksum, _, own, _, first, last, _, at, count, entry, entries_sum) = struct.unpack(
+        "<8sIIIIQQQQ16sQIII", header[:92])
+    checks = [
+        ("Signature", signature == b"EFI PART"), ("Revision", revision == 0x10000),
+        ("HeaderSize", 92 <= length <= size),
+        ("HeaderChecksum", zlib.crc32(header[:16] + bytes(4) + header[20:length]) == checksum),
+        ("HeaderSector", own == sector), ("UsableSectors", first <= last < sectors),
+        ("EntrySize", entry >= 128 and entry & (entry - 1) == 0),
+        ("EntryCount", 0 < count and count * entry <= MOST_OF_ENTRIES),
+    ]
+    for name, is_good in checks:
+        if not is_good:
+            raise Wrong(name)
+    end = at + -(-count * entry // size)
+    if at < 2 or end >= sectors or not (end <= first or last < at):
+        raise Wrong("EntriesSector")
+    array = image[at * size:at * size + count * entry]
+    if zlib.crc32(array) != entries_sum:
+        raise Wrong("EntriesChecksum")
+    return checked([array[place:place + 128] for place in range(0, len(array), entry)], first, last)
+
+
+def checked(entries, first, last):
+    found = []
+    for number, octets in enumerate(entries, 1):
+        if octets[:16] == bytes(16):
+            continue
+        kind, own = UUID(bytes_le=octets[:16]), UUID(bytes_le=octets[16:32])
+        one = Partition(number, kind, own, *struct.unpack("<QQ", octets[32:48]), label_of(octets[56:128]))
+        if one.last < one.first:
+            raise Wrong("Backwards %d" % number)
+        if one.first < first or one.last > last:
+            raise Wrong("OutsideUsable %d" % number)
+        if any(one.first <= other.last and other.first <= one.last for other in found):
+            raise Wrong("Overlap %d" % number)
+        found.append(one)
+    return found
+
+
+def table_of(image, size):
+    """The partitions, and which copies are good as it is said."""
+    sectors = len(image) // SECTOR // (size // SECTOR)
+    if sectors < 2:
+        raise Stop(b"refused 12 NoTable TooSmall")
+    found = []
+    for sector in (1, sectors - 1):
+        try:
+            found.append(copy_of(image, size, sector, sectors))
+        except Wrong as wrong:
+            found.append(str(wrong))
+    primary, backup = found
+    if isinstance(primary, list):
+        return primary, "both" if isinstance(backup, list) else "primary, backup " + backup
+    if isinstance(backup, list):
+        return backup, "backup, primary " + primary
+    raise Stop(b"refused 12 NoTable primary %s backup %s" % (primary.encode(), backup.encode()))
+
+
+def lines_of(partitions, copies):
+    lines = ["copies " + copies]
+    for it in partitions:
+        name = KINDS.get(str(it.kind), "-")
+        lines.append("%d %d %d %s %s %s %s" % (it.number, it.first, it.count, it.kind, name, it.uuid, it.label))
+    return [line.encode() for line in lines]
+
+
+def name_of(partitions, one):
+    label = one.label.encode()
+    others = [it for it in partitions if it is not one]
+    is_taken = any(label in (it.label.encode(), b"p%d" % it.number) for it in others)
+    return label if is_mapped_name(label) and not is_taken else b"p%d" % one.number
+
+
+def linear(name, one, size):
+    unit = size // SECTOR
+    return b"%s,,,ro,0 %d linear DISK %d;" % (name, one.count * unit, one.first * unit)
+
+
+def stack_lines(partitions, size):
+    return [linear(name_of(partitions, it), it, size) for it in partitions]
+
+
+def the_one(partitions, octets, kinds):
+    found = [it for it in partitions if it.uuid.bytes == octets]
+    if len(found) != 1:
+        number, name = kinds[len(found) > 1]
+        raise Stop(b"refused %d %s" % (number, name))
+    return found[0]
+
+
+def root_lines(image, partitions, size, root):
+    """The stack of the two partitions whose own UUIDs are the halves of the root digest."""
+    data = the_one(partitions, root[:16], ((13, b"NoDataPartition"), (14, b"TwoDataPartitions")))
+    tree = the_one(partitions, root[16:], ((15, b"NoVerityPartition"), (16, b"TwoVerityPartitions")))
+    superblock = read_superblock(image[tree.first * size:(tree.last + 1) * size])
+    line = table_line(superblock, root, b"/dev/mapper/data", b"/dev/mapper/hash")
+    return [linear(b"data", data, size), linear(b"hash", tree, size), b"root,,,ro,%s;" % line]

@@ -1,0 +1,236 @@
+"""The words of a command line: options, their values, bindings, and what each command takes of them."""
+
+import re
+
+from session import Usage
+from stack import SECTOR
+from tables import digits_of, is_device_argument, is_mapped_name, number, salt_of
+
+MOST_OF_MEMORY = 65536
+# The bytes of a part of a file have addresses of 64 bits.
+END_OF_PARTS = 2**55
+TREE = (b"data-block", b"hash-block", b"blocks", b"salt")
+# The options of each command, and those of them without a value.
+OPTIONS = {
+    "format": (*TREE, b"uuid", b"hash-offset", b"no-superblock", b"grow"),
+    "verify": (*TREE, b"hash-offset", b"root-hash-file", b"no-superblock", b"all", b"json"),
+    "dump": (b"hash-offset", b"json"),
+    "table": (*TREE, b"hash-offset", b"root-hash-file", b"name", b"no-superblock"),
+    "load": (), "read": (b"cache",), "write": (b"cache",), "session": (b"cache",), "nbd": (b"cache",),
+    "scan": (b"cache", b"map"), "copy": (b"cache", b"map", b"differing"),
+    "cat": (b"cache", b"first", b"count", b"progress"), "store": (b"cache", b"first", b"progress"),
+    "partitions": (b"sector-size", b"stack", b"root", b"json"), "diff": (b"blocks", b"json"),
+    "manual": (), "version": (),
+}
+FLAGS = (b"all", b"stack", b"no-superblock", b"grow", b"json", b"differing", b"progress")
+# veritysetup's names of options that have another here; `diff` counts runs by its --blocks, and has none.
+OTHER_NAMES = {b"data-block-size": b"data-block", b"hash-block-size": b"hash-block",
+               b"data-blocks": b"blocks"}
+UUID = re.compile(rb"[0-9a-f]{8}(-[0-9a-f]{4}){3}-[0-9a-f]{12}", re.IGNORECASE)
+
+
+def cut_words(words, command):
+    """The options by name, and the other words.
+
+    The first of these may begin with `-` behind `--`, and all of them may."""
+    options, words, behind_dashes = {}, list(words), False
+    while words:
+        word = words[0]
+        if word == b"-" or not word.startswith(b"-"):
+            break
+        words.pop(0)
+        if word == b"--":
+            behind_dashes = True
+            break
+        name, equals, value = word[2:].partition(b"=")
+        if command != "diff":
+            name = OTHER_NAMES.get(name, name)
+        if not word.startswith(b"--") or name not in OPTIONS[command] or name in options:
+            raise Usage
+        if name in FLAGS:
+            if equals:
+                raise Usage
+            value = b""
+        elif not equals:
+            if not words or words[0].startswith(b"-") and words[0] != b"-":
+                raise Usage
+            value = words.pop(0)
+        options[name] = value
+    if not behind_dashes and any(word.startswith(b"-") and word != b"-" for word in words[1:]):
+        raise Usage
+    return options, words
+
+
+def the_number(word, below=2**64):
+    value = number(word, below)
+    if value is None:
+        raise Usage
+    return value
+
+
+def needed(value):
+    if value is None:
+        raise Usage
+    return value
+
+
+def exactly(words, count):
+    if len(words) != count:
+        raise Usage
+    return words
+
+
+def at_least(words, count):
+    if len(words) < count:
+        raise Usage
+    return words[:count], words[count:]
+
+
+def the_root(word):
+    return needed(digits_of(word, 64, 64))
+
+
+def uuid_of(word):
+    """A uuid plain, hyphenated, in braces or behind `urn:uuid:`."""
+    if re.fullmatch(rb"[0-9a-fA-F]{32}", word):
+        return bytes.fromhex(word.decode())
+    inner = word
+    if word.startswith(b"urn:uuid:"):
+        inner = word[9:]
+    elif word.startswith(b"{") and word.endswith(b"}"):
+        inner = word[1:-1]
+    if not UUID.fullmatch(inner):
+        raise Usage
+    return bytes.fromhex(inner.replace(b"-", b"").decode())
+
+
+def part_of(kind):
+    """`ro@FIRST+COUNT` or `rw@FIRST+COUNT`: the kind, and the sectors of the part."""
+    kind, at, place = kind.partition(b"@")
+    first, plus, count = place.partition(b"+")
+    if kind not in (b"ro", b"rw") or not at or not plus:
+        raise Usage
+    first, count = the_number(first), the_number(count)
+    if count < 1 or first + count >= END_OF_PARTS:
+        raise Usage
+    return kind, (first, count)
+
+
+def binding(word):
+    """The name, the kind, and the number of sectors or the file of a binding; of a part of a file, that part too."""
+    name, equals, rest = word.partition(b"=")
+    kind, colon, value = rest.partition(b":")
+    if not equals or not colon:
+        raise Usage
+    if b"@" in kind:
+        kind, part = part_of(kind)
+        return name, kind, (value, part)
+    if kind not in (b"rw", b"ro", b"zero", b"ramp"):
+        raise Usage
+    if kind in (b"zero", b"ramp"):
+        value = the_number(value, MOST_OF_MEMORY + 1)
+        if value == 0:
+            raise Usage
+    return name, kind, value
+
+
+def bindings(words):
+    return [binding(word) for word in words]
+
+
+def read_cache(options):
+    the_number(options.get(b"cache", b"64"), 65537)
+
+
+def read_offset(options):
+    """The sector at which superblock or tree begin."""
+    offset = the_number(options.get(b"hash-offset", b"0"))
+    if offset % SECTOR:
+        raise Usage
+    return offset // SECTOR
+
+
+def read_sizes(options):
+    """The block sizes, the number of blocks or None, and the salt or None."""
+    sizes = [the_number(options.get(name, b"4096"), 2**32) for name in (b"data-block", b"hash-block")]
+    blocks = the_number(options[b"blocks"]) if b"blocks" in options else None
+    salt = needed(salt_of(options[b"salt"])) if b"salt" in options else None
+    return (*sizes, blocks, salt)
+
+
+def said_root(options, words):
+    """The root (bytes), or the path of the file that has it as `(path,)`, and the words behind it."""
+    if b"root-hash-file" in options:
+        return (options[b"root-hash-file"],), words
+    if not words:
+        raise Usage
+    return the_root(words[0]), words[1:]
+
+
+def check_tree_values(options, wanted):
+    """What no superblock says is said of a tree without one, and of no other."""
+    if b"no-superblock" in options:
+        if not all(name in options for name in wanted):
+            raise Usage
+    elif any(name in options for name in TREE):
+        raise Usage
+
+
+def read_format(options, words):
+    """DATA, HASH, the sizes, the identifier or None, and the place."""
+    if b"no-superblock" in options and b"uuid" in options:
+        raise Usage
+    uuid = uuid_of(options[b"uuid"]) if b"uuid" in options else None
+    return *exactly(words, 2), read_sizes(options), uuid, read_offset(options)
+
+
+def read_verify(options, words):
+    """DATA, HASH, the root, the sizes, and the place."""
+    check_tree_values(options, (b"salt",))
+    if b"json" in options and b"all" not in options or b"no-superblock" in options and b"all" in options:
+        raise Usage
+    (data_path, hash_path), rest = at_least(words, 2)
+    root, rest = said_root(options, rest)
+    exactly(rest, 0)
+    return data_path, hash_path, root, read_sizes(options), read_offset(options)
+
+
+def read_table(options, words):
+    """HASH, the root, the names of both devices, the sizes, and the place."""
+    check_tree_values(options, (b"salt", b"blocks"))
+    (hash_path,), rest = at_least(words, 1)
+    root, rest = said_root(options, rest)
+    names = exactly(rest, 2)
+    if not all(map(is_device_argument, names)):
+        raise Usage
+    if b"name" in options and not is_mapped_name(options[b"name"]):
+        raise Usage
+    return hash_path, root, names, read_sizes(options), read_offset(options)
+
+
+def read_on_stack(options, words, positional):
+    """The words in front of the bindings, the bindings, the first sector, and how many or None."""
+    read_cache(options)
+    first = the_number(options.get(b"first", b"0"))
+    count = the_number(options[b"count"]) if b"count" in options else None
+    named, rest = at_least(words, positional)
+    return named, bindings(rest), first, count
+
+
+def read_partitions(options, words):
+    if sum(name in options for name in (b"root", b"stack", b"json")) > 1:
+        raise Usage
+    size = the_number(options.get(b"sector-size", b"512"))
+    if size not in (512, 4096):
+        raise Usage
+    root = the_root(options[b"root"]) if b"root" in options else None
+    return *exactly(words, 1), size, root
+
+
+def read_diff(options, words):
+    """Both paths, both roots, and how many runs are printed at most, or None."""
+    old_path, old_root, new_path, new_root = exactly(words, 4)
+    most = the_number(options[b"blocks"]) if b"blocks" in options else None
+    if most == 0:
+        raise Usage
+    return (old_path, new_path), (the_root(old_root), the_root(new_root)), most
