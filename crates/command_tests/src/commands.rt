@@ -145,15 +145,9 @@ static ROWS: [Row; 24] = [
     },
     LOAD,
     CAT,
-    // Why it ends early isn't printed among the bytes.
-    Row {
-        call: 1,
-        status: 3,
-        printed: b"",
-        ..CAT
-    },
-    SCAN,
     // What a failed piece has is read again.
+    Row { call: 1, ..CAT },
+    SCAN,
     Row { call: 1, ..SCAN },
     SESSION,
     Row {
