@@ -59,6 +59,8 @@ impl<A: BlockDev, D: BlockDev, K: Ahead> Headed<A, D, K> {
 impl<A: BlockDev, D: BlockDev, K: Ahead> BlockDev for Headed<A, D, K> {
     ghost state = { λ h. headed (A.state h.head) (D.state h.inner) };
 
+    ghost gives = { λ h first bytes. (A.state h.head).size ≤ first → D.gives h.inner (first - (A.state h.head).size) bytes };
+
     ghost whole = { λ h. headed-whole (A.state h.head) (D.state h.inner) (A.whole h.head) (D.whole h.inner) };
 
     fn sectors(&self) -> u64 {

@@ -29,6 +29,8 @@ impl AnyDev {
 impl BlockDev for AnyDev {
     ghost state = { elim [ Memory m ↦ ⟦<MemoryDev as BlockDev>⟧.state m | File f ↦ ⟦<FileDev as BlockDev>⟧.state f ] };
 
+    ghost gives = { elim [ Memory m ↦ ⟦<MemoryDev as BlockDev>⟧.gives m | File f ↦ ⟦<FileDev as BlockDev>⟧.gives f ] };
+
     ghost whole = { elim [ Memory m ↦ whole_bytes (⟦<MemoryDev as BlockDev>⟧.state m) m.bytes.items refl refl | File f ↦ whole_zeros (⟦<AnyDev as BlockDev>⟧.state (File f)) refl ] };
 
     fn sectors(&self) -> u64 {

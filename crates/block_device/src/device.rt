@@ -1,5 +1,5 @@
 //! A device of sectors, as the layers above see it.
-ghost use Rattle.std.specs.Prelude.{◌≡◌, ◌≤◌, ◌^◌, ◌/◌, length, is_ok, OnOk, OnErr, IsOk, IsTrue};
+ghost use Rattle.std.specs.Prelude.{◌≡◌, ◌≤◌, ◌^◌, ◌/◌, ℕ, List, length, is_ok, OnOk, OnErr, IsOk, IsTrue};
 ghost use Rattle.std.specs.List.{concat};
 ghost use Rattle.block_device.specs.Device.{Device, IsInside, IsWhole, IsRead, IsWritten, HasFailed, run_of, spliced, sectors_of};
 
@@ -18,6 +18,9 @@ pub trait BlockDev {
     /// What a proof sees of the device.
     ghost state: { Self → Device };
 
+    /// Of a device that isn't steady: which bytes a read from that sector on may give. Of a steady one the image says it.
+    ghost gives: { Self → ℕ → List ℕ → Type 0 };
+
     /// How many sectors there are. It never changes.
     fn sectors(&self) -> u64
         ensures size { result ≡ (state self.now).size }
@@ -32,6 +35,7 @@ pub trait BlockDev {
         requires { IsInside (state self.old) first (length out.old) }
         ensures moved { IsRead (state self.old) (length out.old / 512) (is_ok result) (state self.new) }
         ensures bytes { OnOk result (IsTrue (state self.old).steady → out.new ≡ concat (run_of (state self.old).image first (length out.old / 512))) }
+        ensures given { OnOk result (gives self.old first out.new) }
         ensures sure { IsTrue (state self.old).never_fails → IsOk result }
         ensures fault { OnErr result (HasFailed (state self.old) (state self.new)) };
 

@@ -7,9 +7,8 @@ ghost use Rattle.block_device.specs.Failing.{failing, IsInnerRead, IsInnerSync, 
 use crate::{BlockDev, DeviceFault, SyncDev};
 
 /// One chosen call of read, write or sync fails: it counts one failure and the sectors asked for, and the inner
-/// device isn't asked. Every other call is passed on, and does what the trait promises of the inner device. Over
-/// a device that isn't steady no clause says which bytes a read gives: they are the inner device's, which a test
-/// over a script shows.
+/// device isn't asked. Every other call is passed on, and does what the trait promises of the inner device: also
+/// where that one isn't steady, a read gives bytes that a read of it may give.
 #[derive(Drop)]
 pub struct FailAt<D> {
     /// The device that all other calls go to.
@@ -43,6 +42,8 @@ impl<D> FailAt<D> {
 impl<D: BlockDev> BlockDev for FailAt<D> {
     ghost state = { λ f. failing (D.state f.inner) f.calls_to_failure f.sectors_of_failed_reads f.sectors_of_failed_writes f.failed_calls f.has_failed_write };
 
+    ghost gives = { λ f first bytes. D.gives f.inner first bytes };
+
     ghost whole = { λ f. record { length = (D.whole f.inner).length; sectors = (D.whole f.inner).sectors } };
 
     fn sectors(&self) -> u64 {
@@ -57,6 +58,7 @@ impl<D: BlockDev> BlockDev for FailAt<D> {
         requires { IsInside (⟦<FailAt<D> as BlockDev>⟧.state self.old) first (length out.old) }
         ensures moved { IsRead (⟦<FailAt<D> as BlockDev>⟧.state self.old) (length out.old / 512) (is_ok result) (⟦<FailAt<D> as BlockDev>⟧.state self.new) }
         ensures bytes { OnOk result (IsTrue (⟦<FailAt<D> as BlockDev>⟧.state self.old).steady → out.new ≡ concat (run_of (⟦<FailAt<D> as BlockDev>⟧.state self.old).image first (length out.old / 512))) }
+        ensures given { OnOk result (⟦<FailAt<D> as BlockDev>⟧.gives self.old first out.new) }
         ensures sure { IsTrue (⟦<FailAt<D> as BlockDev>⟧.state self.old).never_fails → IsOk result }
         ensures fault { OnErr result (HasFailed (⟦<FailAt<D> as BlockDev>⟧.state self.old) (⟦<FailAt<D> as BlockDev>⟧.state self.new)) }
 

@@ -41,16 +41,20 @@ pub struct FileDev {
 }
 
 impl FileDev {
+    ghost use Rattle.std.specs.declared.fs.attrs.Metadata.{Metadata};
     ghost use Rattle.block_device.specs.FileId.{file_id};
+    ghost use Rattle.block_device.specs.Identity.{IsOpenedAs};
 
     /// Opens the file or block device for reading, and for writing too where `writable` says so. Anything else,
-    /// as a directory, a pipe or a character device, is `OtherFault`.
+    /// as a directory, a pipe or a character device, is `OtherFault`. What is opened is an image by what the system said
+    /// of it, and so are its size and identity.
     pub fn open<R: Files<File = File>>(
         rt: &R,
         path: &str,
         writable: bool,
     ) -> Result<FileDev, OpenFault>
-        ensures { IfOk result (λ f. (⟦<FileDev as BlockDev>⟧.state f) ≡ opened (⟦<FileDev as BlockDev>⟧.state f).size writable) }
+        ensures state { IfOk result (λ f. (⟦<FileDev as BlockDev>⟧.state f) ≡ opened (⟦<FileDev as BlockDev>⟧.state f).size writable) }
+        ensures image { IfOk result (λ f. (m : Metadata) × IsOpenedAs m (⟦<FileDev as BlockDev>⟧.state f).size (file_id f)) }
     {
         // Opening a pipe would wait for its other end, so what is no image is refused before.
         match fs::metadata(rt, path) {
@@ -143,6 +147,8 @@ impl BlockDev for FileDev {
       writes = f.writes;
       failures = f.failures;
     } };
+
+    ghost gives = { λ f first bytes. Unit {0} };
 
     ghost whole = { λ f. whole_zeros (⟦<FileDev as BlockDev>⟧.state f) refl };
 

@@ -100,6 +100,8 @@ impl BlockDev for MemoryDev {
       failures = 0;
     } };
 
+    ghost gives = { λ m first bytes. Unit {0} };
+
     ghost whole = { λ m. whole_bytes (⟦<MemoryDev as BlockDev>⟧.state m) m.bytes.items refl refl };
 
     fn sectors(&self) -> u64 {

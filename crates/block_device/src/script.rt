@@ -69,6 +69,8 @@ impl BlockDev for ScriptDev {
       failures = 0;
     } };
 
+    ghost gives = { λ s first bytes. bytes ≡ answer_of s.answers s.calls (length bytes) };
+
     ghost whole = { λ s. whole_zeros (⟦<ScriptDev as BlockDev>⟧.state s) refl };
 
     fn sectors(&self) -> u64 {

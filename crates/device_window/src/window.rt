@@ -98,6 +98,8 @@ impl<D: BlockDev> Window<D> {
 impl<D: BlockDev, K: Beside> BlockDev for Window<D, K> {
     ghost state = { λ w. windowed (D.state w.inner) w.part };
 
+    ghost gives = { λ w first bytes. D.gives w.inner (w.part.first + first) bytes };
+
     ghost whole = { λ w. windowed-whole (D.state w.inner) w.part w.inside (D.whole w.inner) };
 
     fn sectors(&self) -> u64 {
@@ -112,6 +114,7 @@ impl<D: BlockDev, K: Beside> BlockDev for Window<D, K> {
         requires { IsInside (⟦<Window<D, K> as BlockDev>⟧.state self.old) first (length out.old) }
         ensures moved { IsRead (⟦<Window<D, K> as BlockDev>⟧.state self.old) (length out.old / 512) (is_ok result) (⟦<Window<D, K> as BlockDev>⟧.state self.new) }
         ensures bytes { OnOk result (IsTrue (⟦<Window<D, K> as BlockDev>⟧.state self.old).steady → out.new ≡ concat (run_of (⟦<Window<D, K> as BlockDev>⟧.state self.old).image first (length out.old / 512))) }
+        ensures given { OnOk result (⟦<Window<D, K> as BlockDev>⟧.gives self.old first out.new) }
         ensures sure { IsTrue (⟦<Window<D, K> as BlockDev>⟧.state self.old).never_fails → IsOk result }
         ensures fault { OnErr result (HasFailed (⟦<Window<D, K> as BlockDev>⟧.state self.old) (⟦<Window<D, K> as BlockDev>⟧.state self.new)) }
 

@@ -38,6 +38,8 @@ impl<D> Differing<D> {
 impl<D: BlockDev> BlockDev for Differing<D> {
     ghost state = { λ d. differing (D.state d.inner) d.reads d.writes d.dirty };
 
+    ghost gives = { λ d first bytes. D.gives d.inner first bytes };
+
     ghost whole = { λ d. record { length = (D.whole d.inner).length; sectors = (D.whole d.inner).sectors } };
 
     fn sectors(&self) -> u64 {

@@ -1,5 +1,5 @@
 -- Sectors of one data block of a verity line of a configuration, read from its chain.
-use Rattle.std.proofs.Common.{◌≡◌, ℕ, ◌+◌, ◌*◌, ◌/◌, ◌%◌, ◌<◌, ◌≤◌, List, [], ◌∷◌, ◌++◌, length, get_or, Contains, take, drop, Option, Some, Result, Ok, Err, inl, refl, sym, ap, ◌∙◌, subst, arith}
+use Rattle.std.proofs.Common.{◌≡◌, ℕ, ◌+◌, ◌*◌, ◌/◌, ◌%◌, ◌<◌, ◌≤◌, IsTrue, List, [], ◌∷◌, ◌++◌, length, get_or, Contains, take, drop, Option, Some, Result, Ok, Err, inl, refl, sym, ap, ◌∙◌, subst, arith}
 use Rattle.std.specs.Prelude.{slice_get}
 use Rattle.std.proofs.lemmas.List.Elements.{Contains-push}
 use Rattle.std.proofs.lemmas.List.{get_or_default}
@@ -24,17 +24,18 @@ use Rattle.stack_meaning.specs.Outcomes.{Images, mismatch}
 use Rattle.stack_meaning.specs.Found.{FoundRecord, Entry, entry_of}
 use Rattle.stack_meaning.specs.Meaning.{Said, line_said, said_by_name}
 use Rattle.stack_meaning.specs.Reading.{MeetVerity, IsPlain}
-use Rattle.stack_meaning.specs.Kept.{block_of, LineKeeps, IsOfVerity, IsKept, AllKept}
-use Rattle.stack_meaning.specs.Leaves.{images_of, AllSteady}
+use Rattle.stack_meaning.specs.Kept.{target_leaves, block_of, LineKeeps, IsOfVerity, IsKept, AllKept}
+use Rattle.stack_meaning.specs.Leaves.{steady_images, AreSteady}
 use Rattle.stack_lines.specs.Sources.{LieInBlock, said_of_line, source_said, source_place, ReadsSource}
 use Rattle.stack_lines.specs.Walks.{HasVerity, block_in, chain_expected, GetsChain}
-use Rattle.stack_meaning.proofs.lemmas.LeafListLemmas.{AreRead-none, AreRead-more, AllSteady-kept, images-kept}
+use Rattle.stack_meaning.proofs.lemmas.LeafListLemmas.{AreRead-none, AreRead-more, AreSteady-kept, AreSteady-within, images-kept}
+use Rattle.stack_lines.proofs.lemmas.TouchLemmas.{verity-leaves, verity-names}
 use Rattle.stack_meaning.proofs.lemmas.FoundLemmas.{Grown-none, kept-later}
 use Rattle.stack_meaning.proofs.lemmas.RunLemmas.{Passes, pass}
 use Rattle.stack_engine.proofs.lemmas.BlockLemmas.{block_place, chain_fills, block_fails, length-content, AllKept-push, Grown-push}
 
 -- what was found for an entry of a verity line
-pub kept_for : (c : Configuration) (leaves : List Device) (d l i : ℕ) (v : Verity) (x : FoundRecord) → HasVerity c d l v → entry_of x ≡ (d, l, i) → IsKept c leaves x → IsOfVerity (said_by_name c v.data) (said_by_name c v.hash) leaves v x.chain
+pub kept_for : (c : Configuration) (leaves : List Device) (d l i : ℕ) (v : Verity) (x : FoundRecord) → HasVerity c d l v → entry_of x ≡ (d, l, i) → IsKept c leaves x → IsOfVerity (said_by_name c v.data) (said_by_name c v.hash) (target_leaves c (verity_target v)) leaves v x.chain
 kept_for c leaves d l i v x line at kept =
     let device : x.device ≡ d = ap (λ (e : Entry). e.0) at in
     let number : x.line ≡ l = ap (λ (e : Entry). e.1) at in
@@ -67,6 +68,7 @@ module _ (c : Configuration) (v : Verity) (p : BlockPart) (n : ℕ) (loaded : Is
         sym (ap (λ (o : Option Line). said_of_line c p.device.0 p.line o (p.first + (0 + j))) line.is
         ∙ ap (λ (t : Target). line_said (said_by_name c) p.device.0 p.line t (p.first + (0 + j))) line.has);
     cost = omega arith;
+    leaves = λ i is. verity-names c p.device.0 p.line 0 v loaded line i (subst IsTrue (sym (verity-leaves c v i)) is);
   }
 
   block-cost : (chain_expected (block_in c v (p.first / block_sectors v))).cost ≤ read_cost c (mapped p.device.0)
@@ -81,7 +83,7 @@ module _ (c : Configuration) (v : Verity) (p : BlockPart) (n : ℕ) (loaded : Is
       let number : x.chain.index ≡ p.first / block_sectors v = ap (λ (e : Entry). e.2) here in
       pass passes (record { old = leaves; new = leaves; before = found; after = found }) (Ok _) (record {
         got = chain_fills (block_in c v (p.first / block_sectors v)) (p.device.0, p.line) p.first n (read_cost c (mapped p.device.0)) refl within whole found x (AreRead-none _ leaves)
-            (λ steady. ap (block_of c (images_of leaves) v) (sym number) ∙ one.exact steady) one.good here given is;
+            (λ steady. ap (block_of c (steady_images leaves) v) (sym number) ∙ one.exact (AreSteady-within leaves (λ i is. subst IsTrue (verity-leaves c v i) is) steady)) one.good here given is;
         grown = Grown-none _ 0 n found;
         kept = kept;
       })
@@ -95,11 +97,12 @@ module _ (c : Configuration) (v : Verity) (p : BlockPart) (n : ℕ) (loaded : Is
   part_walked {old = old} {new = new} found chain kept none q is =
       let x : FoundRecord = record { device = p.device.0; line = p.line; chain = chain } in
       let here : entry_of x ≡ (p.device.0, p.line, p.first / block_sectors v) = ap (λ (k : ℕ). (p.device.0, p.line, k)) q.may.0 in
-      let one : IsOfVerity (said_by_name c v.data) (said_by_name c v.hash) new v chain = record {
+      let one : IsOfVerity (said_by_name c v.data) (said_by_name c v.hash) (target_leaves c (verity_target v)) new v chain = record {
         good = q.may.1;
         exact = λ steady.
-            let before : AllSteady old = AllSteady-kept new old (sym q.moved.moved.fixed) steady in
-            ap (block_of c (images_of new) v) q.may.0 ∙ ap (λ (m : Images). block_of c m v (p.first / block_sectors v)) (images-kept q.moved before) ∙ q.exact before;
+            let before : AreSteady (chain_expected (block_in c v (p.first / block_sectors v))).leaves old =
+            AreSteady-kept new old (sym q.moved.moved.fixed) (AreSteady-within new (λ i is. subst IsTrue (sym (verity-leaves c v i)) is) steady) in
+            ap (block_of c (steady_images new) v) q.may.0 ∙ ap (λ (m : Images). block_of c m v (p.first / block_sectors v)) (images-kept q.moved) ∙ q.exact before;
       } in
       pass passes (record { old = old; new = new; before = found; after = found ++ (x ∷ []) }) (Ok _) (record {
         got = chain_fills (block_in c v (p.first / block_sectors v)) (p.device.0, p.line) p.first n (read_cost c (mapped p.device.0)) refl within whole (found ++ (x ∷ [])) x
@@ -138,4 +141,4 @@ block_plain c p n some lies =
     ap (λ (o : Option Line). said_of_line c p.device.0 p.line o (p.first + (0 + 0))) lies.has.is
     ∙ ap (λ (t : Target). line_said (said_by_name c) p.device.0 p.line t (p.first + (0 + 0))) lies.has.has in
     let meets : MeetVerity (source_said c (Block p)) 0 n = (0, some, subst (λ (x : Said). x.meets mismatch) (sym same) (inl refl)) in
-    record { memory = λ is. meets; leaf = λ none. absurd (none meets) }
+    record { memory = λ is. meets; leaf = λ none. absurd (none meets); stops = λ none. absurd (none meets) }

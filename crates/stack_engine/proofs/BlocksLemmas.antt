@@ -1,5 +1,5 @@
 -- Whole data blocks of a verity line of a configuration, which are read at once.
-use Rattle.std.proofs.Common.{◌≡◌, ℕ, zero, suc, ◌+◌, ◌*◌, ◌/◌, ◌%◌, ◌<◌, ◌≤◌, Bool, true, false, cond, List, [], ◌∷◌, ◌++◌, length, get_or, take, drop, Option, Some, Result, Ok, Err, inl, inr, refl, sym, ap, ◌∙◌, subst, arith}
+use Rattle.std.proofs.Common.{◌≡◌, ℕ, zero, suc, ◌+◌, ◌*◌, ◌/◌, ◌%◌, ◌<◌, ◌≤◌, IsTrue, Bool, true, false, cond, List, [], ◌∷◌, ◌++◌, length, get_or, take, drop, Option, Some, Result, Ok, Err, inl, inr, refl, sym, ap, ◌∙◌, subst, arith}
 use Rattle.std.proofs.lemmas.Bool.{cases_lt}
 use Rattle.std.proofs.lemmas.List.{take_all, length-take-le, length-drop}
 use Rattle.std.proofs.lemmas.List.Elements.{All-cons, All-nil, All-append, Contains-push}
@@ -32,12 +32,14 @@ use Rattle.stack_meaning.specs.Found.{FoundRecord, Entry, entry_of}
 use Rattle.stack_meaning.specs.Meaning.{Said, line_said, said_by_name}
 use Rattle.stack_meaning.specs.Places.{Place, place_of, run_expected, Read}
 use Rattle.stack_meaning.specs.Reading.{Gets, Finds, MeetVerity, IsPlain}
-use Rattle.stack_meaning.specs.Kept.{block_of, LineKeeps, IsOfVerity, AllKept}
-use Rattle.stack_meaning.specs.Leaves.{images_of, AllSteady, AreRead}
+use Rattle.stack_meaning.specs.Kept.{target_leaves, block_of, LineKeeps, IsOfVerity, AllKept}
+use Rattle.stack_meaning.specs.Leaves.{steady_images, AreSteady, AreRead}
 use Rattle.stack_lines.specs.AtOnce.{AreBefore, GoAtOnce, MeetNone}
 use Rattle.stack_lines.specs.Sources.{AreBlocks, said_of_line, source_said, ReadsSource}
+use Rattle.stack_lines.proofs.lemmas.TouchLemmas.{verity-leaves, verity-names}
+use Rattle.stack_lines.specs.Touches.{leaves_of}
 use Rattle.stack_lines.specs.Walks.{HasVerity, block_in, checked_expected, chain_expected, GetsChain, IsWalked}
-use Rattle.stack_meaning.proofs.lemmas.LeafListLemmas.{AreRead-none, AreRead-more, AllSteady-kept, images-kept, failed_later}
+use Rattle.stack_meaning.proofs.lemmas.LeafListLemmas.{AreRead-none, AreRead-more, AreSteady-kept, AreSteady-within, images-kept, failed_later}
 use Rattle.stack_meaning.proofs.lemmas.FoundLemmas.{IsMono, Grown-none, kept-later}
 use Rattle.stack_meaning.proofs.lemmas.RunLemmas.{Passes, pass, AllMono, run_ok, run_err}
 use Rattle.stack_lines.proofs.lemmas.VerityLineLemmas.{IsWholeSectors, same-verity, data-whole, place-named}
@@ -48,7 +50,7 @@ use Rattle.stack_engine.proofs.PathLemmas.{checked-at}
 
 -- n sectors of a part, where so much is read for each as for all together at most
 abbrev pub blocks_place : Configuration → BlockPart → ℕ → Place
-blocks_place c p n = record { said = source_said c (Blocks p); cost = n * read_cost c (mapped p.device.0) }
+blocks_place c p n = record { said = source_said c (Blocks p); cost = n * read_cost c (mapped p.device.0); leaves = leaves_of c (mapped p.device.0) }
 
 -- what the way to a block costs
 abbrev pub path_cost : Configuration → Verity → ℕ
@@ -66,17 +68,17 @@ checked-other salt expected block other = go (bytes_eq (digest salt block) expec
     go false e = ap (λ (b : Bool). cond b (Ok block) (Err mismatch)) e
 
 -- leaves that were read twice have the same images
-same-images : {old a b : List Device} {q r : ℕ} → AreRead old q a → AreRead old r b → AllSteady b → AllSteady a × (images_of b ≡ images_of a)
-same-images {old = old} {a = a} {b = b} x y steady =
-    let before : AllSteady old = AllSteady-kept b old (sym y.moved.fixed) steady in
-    (AllSteady-kept old a x.moved.fixed before, images-kept y before ∙ sym (images-kept x before))
+same-images : {old a b : List Device} {q r : ℕ} → AreRead old q a → AreRead old r b → {these : ℕ → Bool} → AreSteady these b → AreSteady these a × (steady_images b ≡ steady_images a)
+same-images {old = old} {a = a} {b = b} x y {these = these} steady =
+    let before : AreSteady these old = AreSteady-kept b old (sym y.moved.fixed) steady in
+    (AreSteady-kept old a x.moved.fixed before, images-kept y ∙ sym (images-kept x))
 
 -- data block k of a part was read from the device beneath, since when no image changed, and its digest was made
 pub record IsRead (c : Configuration) (v : Verity) (p : BlockPart) (lower : Lower) (old : List Device) (k : ℕ) (block made : List ℕ) : Type 0 where
   pub from : List Device
   pub ways : ℕ
   pub first : AreRead old ways from
-  pub means : AllSteady from → span (λ s. ((place_of c lower).said s).means (images_of from)) (p.first + k * block_sectors v) (block_sectors v) ≡ Ok block
+  pub means : AreSteady (leaves_of c lower) from → span (λ s. ((place_of c lower).said s).means (steady_images from)) (p.first + k * block_sectors v) (block_sectors v) ≡ Ok block
   pub made_is : made ≡ digest v.salt block
 
 module _ (c : Configuration) (v : Verity) (p : BlockPart) (n m : ℕ) (loaded : IsLoaded c) (line : HasVerity c p.device.0 p.line v) (aligned : p.first % block_sectors v ≡ 0) (size : IsWholeSectors v.data_block) (count : m * block_sectors v ≡ n) where
@@ -97,7 +99,7 @@ module _ (c : Configuration) (v : Verity) (p : BlockPart) (n m : ℕ) (loaded : 
       let e : p.first + j * block_sectors v ≡ (index + j) * block_sectors v + 0 = omega (arith, start, add-mul index j (block_sectors v)) in
       ap (λ (k : ℕ). k % block_sectors v) e ∙ mod-mul-add (index + j) (block_sectors v) 0 (omega (arith, size.some))
 
-  passes : (j k : ℕ) → Passes (block_place (block_in c v (index + j)) (p.device.0, p.line) (p.first + j * block_sectors v) k) (record { said = source_said c (Blocks p); cost = k }) 0 (0 + j * block_sectors v) (block_sectors v)
+  passes : (j k : ℕ) → Passes (block_place (block_in c v (index + j)) (p.device.0, p.line) (p.first + j * block_sectors v) k) (record { said = source_said c (Blocks p); cost = k; leaves = leaves_of c (mapped p.device.0) }) 0 (0 + j * block_sectors v) (block_sectors v)
   passes j k = record {
     said = λ t h.
         let e : p.first + (0 + j * block_sectors v + t) ≡ p.first + j * block_sectors v + (0 + t) = omega arith in
@@ -105,6 +107,7 @@ module _ (c : Configuration) (v : Verity) (p : BlockPart) (n m : ℕ) (loaded : 
         ∙ ap (λ (u : Target). line_said (said_by_name c) p.device.0 p.line u (p.first + (0 + j * block_sectors v + t))) line.has
         ∙ ap (λ (s : ℕ). line_said (said_by_name c) p.device.0 p.line (verity_target v) s) e);
     cost = omega arith;
+    leaves = λ i is. verity-names c p.device.0 p.line 0 v loaded line i (subst IsTrue (sym (verity-leaves c v i)) is);
   }
 
   -- ---- a block that was read with others
@@ -119,7 +122,7 @@ module _ (c : Configuration) (v : Verity) (p : BlockPart) (n m : ℕ) (loaded : 
 
   module _ (lower : Lower) (is : named c v.data ≡ Some lower) (j : ℕ) {old mid now : List Device} {r : ℕ} (later : AreRead old r now) {expected : List ℕ} {path : List (List ℕ)} (walked : IsWalked (block_in c v (index + j)) 0 expected path mid now)
       (block made : List ℕ) where
-    here : IsRead c v p lower old j block made → AllSteady now → span (λ s. ((place_of c lower).said s).means (images_of now)) (p.first + j * block_sectors v) (block_sectors v) ≡ Ok block
+    here : IsRead c v p lower old j block made → AreSteady (leaves_of c lower) now → span (λ s. ((place_of c lower).said s).means (steady_images now)) (p.first + j * block_sectors v) (block_sectors v) ≡ Ok block
     here was steady =
         let same = same-images was.first later steady in
         ap (λ (i : Images). span (λ s. ((place_of c lower).said s).means i) (p.first + j * block_sectors v) (block_sectors v)) same.1 ∙ was.means same.0
@@ -231,11 +234,12 @@ module _ (c : Configuration) (v : Verity) (p : BlockPart) (n m : ℕ) (loaded : 
     blocks-more content path len before got =
         let chain : ChainRecord = record { index = index + j; content = content; path = path } in
         let one : FoundRecord = record { device = p.device.0; line = p.line; chain = chain } in
-        let whole : IsOfVerity (said_by_name c v.data) (said_by_name c v.hash) new v chain = record {
+        let whole : IsOfVerity (said_by_name c v.data) (said_by_name c v.hash) (target_leaves c (verity_target v)) new v chain = record {
           good = got.may.1;
           exact = λ steady.
-              let before : AllSteady mid = AllSteady-kept new mid (sym moved.moved.fixed) steady in
-              ap (λ (i : Images). block_of c i v (index + j)) (images-kept moved before) ∙ got.exact before;
+              let before : AreSteady (chain_expected (block_in c v (index + j))).leaves mid =
+              AreSteady-kept new mid (sym moved.moved.fixed) (AreSteady-within new (λ i is. subst IsTrue (sym (verity-leaves c v i)) is) steady) in
+              ap (λ (i : Images). block_of c i v (index + j)) (images-kept moved) ∙ got.exact before;
         } in
         let is : content ≡ take (512 * block_sectors v) (drop (512 * ((p.first + j * block_sectors v) % block_sectors v)) content) =
         sym (ap (λ (r : ℕ). take (512 * block_sectors v) (drop (512 * r) content)) (at-begin j) ∙ take_all (512 * block_sectors v) content (omega (arith, len))) in
@@ -296,7 +300,7 @@ blocks_plain c p n some blocks =
     ap (λ (o : Option Line). said_of_line c p.device.0 p.line o (p.first + (0 + 0))) blocks.has.is
     ∙ ap (λ (t : Target). line_said (said_by_name c) p.device.0 p.line t (p.first + (0 + 0))) blocks.has.has in
     let meets : MeetVerity (source_said c (Blocks p)) 0 n = (0, some, subst (λ (x : Said). x.meets mismatch) (sym same) (inl refl)) in
-    record { memory = λ is. meets; leaf = λ none. absurd (none meets) }
+    record { memory = λ is. meets; leaf = λ none. absurd (none meets); stops = λ none. absurd (none meets) }
 
 -- what is known of whole data blocks that are read at once
 pub record BlocksAt (c : Configuration) (v : Verity) (p : BlockPart) (n m : ℕ) (found : List FoundRecord) (lower : Lower) : Type 0 where

@@ -21,7 +21,8 @@ use Rattle.stack_lines.specs.declared.source.Source.{Source}
 use Rattle.stack_lines.specs.declared.source.Source.TheVariants.{Below, Blocks}
 use Rattle.stack_lines.specs.Sources.{IsServed, source_said, source_place}
 use Rattle.stack_engine.specs.declared.path.Chains.TheVariants.{Dropped}
-use Rattle.stack_lines.specs.Touches.{TouchesOnly, leaves_of}
+use Rattle.stack_lines.specs.Touches.{TouchesOnly, leaves_of, source_leaves}
+use Rattle.stack_lines.proofs.lemmas.TouchLemmas.{one-within, served-within}
 use Rattle.stack_engine.specs.Bytes.{IsGoodChain, MayBeBytes, AnyBytes, EachBytes, FindsBytes}
 use Rattle.stack_engine.specs.Keeping.{ReadsBlocks}
 use Rattle.stack_engine.specs.Pieces.{stack_over}
@@ -72,7 +73,7 @@ pass-bytes {place = place} {c = c} {first = first} {n = n} {old = old} {new = ne
 -- the sectors of a leaf or device as those of a run
 pub below-bytes : (c : Configuration) (lower : Lower) (first n : ℕ) {old new : List Device} (answer : Result (List ℕ) IoFault) → FindsBytes (place_of c lower) c first n old new answer → FindsBytes (source_place c (Below lower first)) c 0 n old new answer
 below-bytes c lower first n answer p =
-    pass-bytes {place = place_of c lower} {place' = source_place c (Below lower first)} {first' = 0} answer (record { said = λ j h. let e : j ≡ 0 + j = omega arith in ap (λ (k : ℕ). said_at c lower (first + k)) e; cost = omega arith }) p
+    pass-bytes {place = place_of c lower} {place' = source_place c (Below lower first)} {first' = 0} answer (record { said = λ j h. let e : j ≡ 0 + j = omega arith in ap (λ (k : ℕ). said_at c lower (first + k)) e; cost = omega arith; leaves = λ i h. h }) p
 
 -- ---- runs of one device
 
@@ -80,6 +81,7 @@ served-passes : (c : Configuration) (d s n : ℕ) (source : Source) → IsLoaded
 served-passes c d s n source loaded some r = record {
   said = λ j h. let e : 0 + j ≡ j = omega arith in ap (source_said c source) e ∙ served-said c d s n j source loaded h r;
   cost = served-cost c d s n source loaded some r;
+  leaves = one-within (source_leaves c source) (leaves_of c (mapped d)) (served-within c d s n source loaded some r);
 }
 
 module _ (c : Configuration) (d first a m : ℕ) (source : Source) {old mid new : List Device} {x : List ℕ} (loaded : IsLoaded c) (some : 0 < m) (r : IsServed c d (first + a) m source)
@@ -103,7 +105,7 @@ module _ (c : Configuration) (d first a m : ℕ) (source : Source) {old mid new 
   bytes_err n fault h run =
       let q = pass-bytes (Err fault) (served-passes c d (first + a) m source loaded some r) run in
       let place : Place = place_of c (mapped d) in
-      let same : Gets (run_expected place p.chains (first + a) m) mid new (Err fault) = fault_passes fault q.got (AreRead-none 0 mid) (omega arith) (λ x h. h) (λ steady x is. is) in
+      let same : Gets (run_expected place p.chains (first + a) m) mid new (Err fault) = fault_passes fault q.got (AreRead-none 0 mid) (omega arith) (λ x h. h) (λ i h. h) (λ steady x is. is) in
       record {
         chains = p.chains;
         got = fill_err place p.chains first a m p.got n fault h same;

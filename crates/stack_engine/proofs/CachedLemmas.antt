@@ -1,5 +1,5 @@
 -- What the cache keeps stays true.
-use Rattle.std.proofs.Common.{◌≡◌, ℕ, ◌*◌, ◌<◌, Bool, ◌||◌, true, false, cond, List, length, get_or, All, Option, Some, None, Result, Ok, Err, refl, sym, ap, ◌∙◌, subst}
+use Rattle.std.proofs.Common.{◌≡◌, ℕ, ◌*◌, ◌<◌, IsTrue, Bool, ◌||◌, true, false, cond, List, length, get_or, All, Option, Some, None, Result, Ok, Err, refl, sym, ap, ◌∙◌, subst}
 use Rattle.std.specs.Prelude.{option_map, OnOk, OnErr}
 use Rattle.std.specs.Option.{option_map_or}
 use Rattle.std.specs.declared.alloc.AllocError.{AllocError}
@@ -19,12 +19,12 @@ use Rattle.stack_meaning.specs.Blocks.{checked, hash_sectors, hash_place}
 use Rattle.stack_lines.specs.Caches.{StackCache, IsCached, IsCacheOf, KeepsCache, IsPlaceOf}
 use Rattle.stack_meaning.specs.Changes.{reached, AreWritten}
 use Rattle.stack_lines.specs.Standing.{contains, stands_on, name_stands_on, key_stands_on, cache_without_leaf, AreLeafSets, CoversBlocks}
-use Rattle.stack_meaning.specs.Leaves.{images_of, AllSteady, AreRead}
+use Rattle.stack_meaning.specs.Leaves.{steady_images, AreSteady, AreRead}
 use Rattle.stack_meaning.specs.Meaning.{said_at, said_by_name}
 use Rattle.stack_meaning.specs.Places.{Place, place_of}
 use Rattle.stack_meaning.specs.Reading.{Gets}
 use Rattle.stack_lines.specs.Walks.{HasVerity, IsBlock, checked_expected}
-use Rattle.stack_meaning.proofs.lemmas.LeafListLemmas.{AreRead-none, AllSteady-kept, images-kept}
+use Rattle.stack_meaning.proofs.lemmas.LeafListLemmas.{AreRead-none, AreSteady-kept, AreSteady-within, images-kept}
 use Rattle.stack_engine.proofs.lemmas.WalkLemmas.{checked-same}
 use Rattle.stack_lines.proofs.lemmas.StandingLemmas.{or-true, name-stands, verity-stands}
 use Rattle.stack_lines.proofs.lemmas.ForgetLemmas.{kept-written, others-alone}
@@ -53,8 +53,8 @@ module _ (c : Configuration) where
         line = one.line;
         block = one.block;
         exact = λ steady.
-            let before : AllSteady old = AllSteady-kept new old (sym a.moved.fixed) steady in
-            ap (λ (m : Images). span (λ s. (said_by_name c one.verity.hash s).means m) (hash_place one.verity key.level key.block) (hash_sectors one.verity)) (images-kept a before) ∙ one.exact before;
+            let before : AreSteady (λ j. name_stands_on c j one.verity.hash) old = AreSteady-kept new old (sym a.moved.fixed) steady in
+            ap (λ (m : Images). span (λ s. (said_by_name c one.verity.hash s).means m) (hash_place one.verity key.level key.block) (hash_sectors one.verity)) (images-kept a) ∙ one.exact before;
       }
 
   -- reads change no image of a steady leaf
@@ -82,10 +82,12 @@ module _ (c : Configuration) where
           moved = AreRead-none _ leaves;
           may = (ap (λ (l : List ℕ). length l) is ∙ block.0 ∙ ap (λ (k : ℕ). 512 * k) (sym at.sectors), ap (digest salt) is ∙ good);
           exact = λ steady.
-              let there : span (λ s. (said_by_name c at.verity.hash s).means (images_of leaves)) (hash_place at.verity key.level key.block) (hash_sectors at.verity) ≡ Ok b.bytes =
-              subst (λ (v : Verity). span (λ s. (said_by_name c v.hash s).means (images_of leaves)) (hash_place v key.level key.block) (hash_sectors v) ≡ Ok b.bytes) same
-              (subst (λ (k : Key). span (λ s. (said_by_name c one.verity.hash s).means (images_of leaves)) (hash_place one.verity k.level k.block) (hash_sectors one.verity) ≡ Ok b.bytes) same_key (one.exact steady)) in
-              ap (λ (s : Outcome). then_outcome s (checked salt expected)) (sym (spans (images_of leaves)) ∙ there) ∙ checked-same salt expected b.bytes good ∙ ap Ok (sym is);
+              let on_hash : AreSteady (λ j. name_stands_on c j one.verity.hash) leaves =
+              AreSteady-within leaves (λ i is. subst IsTrue (ap (λ (v : Verity). name_stands_on c i v.hash) same ∙ name-stands c i at.verity.hash extent.lower at.hash) is) steady in
+              let there : span (λ s. (said_by_name c at.verity.hash s).means (steady_images leaves)) (hash_place at.verity key.level key.block) (hash_sectors at.verity) ≡ Ok b.bytes =
+              subst (λ (v : Verity). span (λ s. (said_by_name c v.hash s).means (steady_images leaves)) (hash_place v key.level key.block) (hash_sectors v) ≡ Ok b.bytes) same
+              (subst (λ (k : Key). span (λ s. (said_by_name c one.verity.hash s).means (steady_images leaves)) (hash_place one.verity k.level k.block) (hash_sectors one.verity) ≡ Ok b.bytes) same_key (one.exact on_hash)) in
+              ap (λ (s : Outcome). then_outcome s (checked salt expected)) (sym (spans (steady_images leaves)) ∙ there) ∙ checked-same salt expected b.bytes good ∙ ap Ok (sym is);
         }
 
     hit_of : {A : Type 0} (bytes_of : A → List ℕ) (x : A) (expected : List ℕ) (leaves : List Device) (cache : CacheRecord) → All (IsCached c leaves) cache.blocks
@@ -110,10 +112,11 @@ module _ (c : Configuration) where
       line = at.line;
       block = (got.may.0 ∙ ap (λ (k : ℕ). 512 * k) at.sectors, ap (λ (s : List ℕ). digest s (bytes_of x)) at.salt_is ∙ got.may.1);
       exact = λ steady.
-          let before : AllSteady old = AllSteady-kept new old (sym got.moved.moved.fixed) steady in
-          spans (images_of new)
-          ∙ ap (λ (m : Images). span (λ s. ((place_of c extent.lower).said s).means m) extent.first extent.sectors) (images-kept got.moved before)
-          ∙ passed salt expected (span (λ s. ((place_of c extent.lower).said s).means (images_of old)) extent.first extent.sectors) (bytes_of x) (got.exact before);
+          let before : AreSteady (place_of c extent.lower).leaves old =
+          AreSteady-kept new old (sym got.moved.moved.fixed) (AreSteady-within new (λ i is. subst IsTrue (sym (name-stands c i at.verity.hash extent.lower at.hash)) is) steady) in
+          spans (steady_images new)
+          ∙ ap (λ (m : Images). span (λ s. ((place_of c extent.lower).said s).means m) extent.first extent.sectors) (images-kept got.moved)
+          ∙ passed salt expected (span (λ s. ((place_of c extent.lower).said s).means (steady_images old)) extent.first extent.sectors) (bytes_of x) (got.exact before);
     }
 
     -- a block that was read and checked may be kept

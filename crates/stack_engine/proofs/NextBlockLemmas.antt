@@ -29,7 +29,7 @@ use Rattle.stack_meaning.specs.Blocks.{is_ignored}
 use Rattle.stack_meaning.specs.Outcomes.{Outcome, mismatch, span}
 use Rattle.stack_meaning.specs.Found.{FoundRecord}
 use Rattle.stack_meaning.specs.Kept.{AllKept}
-use Rattle.stack_meaning.specs.Leaves.{images_of, AreRead}
+use Rattle.stack_meaning.specs.Leaves.{steady_images, AreRead}
 use Rattle.stack_meaning.specs.Places.{Place, place_of, run_expected, Read}
 use Rattle.stack_meaning.specs.Reading.{Gets, Finds}
 use Rattle.stack_lines.specs.AtOnce.{AreBefore, MeetNone}
@@ -337,8 +337,8 @@ module _ (c : Configuration) (v : Verity) (p : BlockPart) (n : ℕ) (lower : Low
               ways = _;
               first = AreRead-then had.moved moved;
               means = λ steady.
-                  let f : ℕ → Outcome = λ s. ((place_of c lower).said s).means (images_of walk) in
-                  let sized : AreSized f = λ s. sector-size c (images_of walk) loaded (images-whole walk whole) lower s in
+                  let f : ℕ → Outcome = λ s. ((place_of c lower).said s).means (steady_images walk) in
+                  let sized : AreSized f = λ s. sector-size c (steady_images walk) loaded (images-whole walk whole) lower s in
                   let all : t * u + (u + (many * u - (t * u + u))) ≡ many * u = omega (arith, room_in) in
                   let begins : block_sectors v * (first + j) + t * u ≡ p.first + k * u = omega (arith, place j, ap (λ (i : ℕ). i * u) at_k, add-mul j t u) in
                   ap (λ (i : ℕ). span f i u) (sym begins) ∙ span-part f sized (block_sectors v * (first + j)) (t * u) u (many * u - (t * u + u)) row (ap (span f (block_sectors v * (first + j))) all ∙ got.exact steady);

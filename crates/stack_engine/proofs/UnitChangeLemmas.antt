@@ -26,23 +26,24 @@ use Rattle.stack_meaning.specs.Units.{decrypted_unit, encrypted_unit, unit_first
 use Rattle.stack_meaning.specs.Found.{FoundRecord}
 use Rattle.stack_meaning.specs.Meaning.{Said, crypt_said, said_at}
 use Rattle.stack_meaning.specs.Puts.{Put, stopped, read_put, encrypted_sectors, changed_unit, put_on}
-use Rattle.stack_meaning.specs.Leaves.{images_of, fixed_part, AllSteady, Moves}
+use Rattle.stack_meaning.specs.Leaves.{steady_images, fixed_part, AreSteady, Moves}
+use Rattle.stack_lines.specs.Touches.{leaves_of, source_leaves}
 use Rattle.stack_meaning.specs.Changes.{AllWhole, reached, KeepsOthers, AreWritten}
 use Rattle.stack_meaning.specs.Reading.{Ends, Answers, MeetVerity, IsPlain}
 use Rattle.stack_lines.specs.Sources.{LieInUnit, IsWholeOf, cost_beneath, source_said, ReadsSource}
-use Rattle.stack_lines.specs.Writing.{sectors_in, put_on_line, MayEnd, IsPut, FailedBy, StopsAt, IsCounted, StopsAtFault, StopsBehindPut, with_some, Writes, source_destination}
+use Rattle.stack_lines.specs.Writing.{SomeEncrypt, sectors_in, put_on_line, MayEnd, IsPut, FailedBy, StopsAt, IsCounted, StopsAtFault, StopsBehindPut, with_some, Writes, source_destination}
 use Rattle.stack_rules.proofs.lemmas.UnitLemmas.{unit_sectors-some}
 use Rattle.stack_lines.proofs.lemmas.UnitLineLemmas.{IsUnitLine, unit-line, cost-beneath, unit-said}
 use Rattle.stack_lines.proofs.lemmas.UnitPutLemmas.{sectors_in-of, whole-put, some-put}
 use Rattle.stack_lines.proofs.lemmas.UnitReadLemmas.{images-whole, unit-means, whole-unit, unit-fails}
-use Rattle.stack_lines.proofs.lemmas.UnitSourceLemmas.{lies_in, begin-whole, part-some}
+use Rattle.stack_lines.proofs.lemmas.UnitSourceLemmas.{lies_in, begin-whole, part-some, part-has, part-encrypts, part-up}
 use Rattle.stack_engine.proofs.WritablePlainLemmas.{none-verity}
 use Rattle.stack_meaning.proofs.lemmas.ChangeLemmas.{AreWritten-more, AreWritten-then, AreWritten-read}
-use Rattle.stack_meaning.proofs.lemmas.LeafListLemmas.{AllSteady-kept, images-kept, failed_later}
+use Rattle.stack_meaning.proofs.lemmas.LeafListLemmas.{AreSteady-kept, images-kept, failed_later}
 use Rattle.stack_lines.proofs.lemmas.SizeLemmas.{sector-size}
 use Rattle.stack_meaning.proofs.lemmas.SizedLemmas.{AreSized}
 use Rattle.stack_meaning.proofs.lemmas.SpanLemmas.{span_same, span_fails}
-use Rattle.stack_lines.proofs.lemmas.StopLemmas.{IsUp, stop-here, stop-first, failed-reached}
+use Rattle.stack_lines.proofs.lemmas.StopLemmas.{stop-here, stop-first, failed-reached}
 use Rattle.stack_lines.proofs.lemmas.WriteRunLemmas.{length-sectors_in, MayEnd-as}
 
 abbrev err_of : IoFault → Result Unit IoFault
@@ -96,32 +97,14 @@ module _ (c : Configuration) (b : BlockPart) (whole : WholeUnit) (bytes : List �
 
   -- ---- the first sector of the part, which has all that the unit has
 
-  lies-one : LieInUnit c b.device.0 b.line b.first 1
-  lies-one = record {
-    crypt = lies.crypt;
-    has = record { line = lies.has.line; is = lies.has.is; has = lies.has.has; fits = omega (arith, lies.has.fits, some) };
-    within = omega (arith, lies.within, some);
-    part = omega (arith, lies.part, some);
-  }
-
-  of-first : (P : Said → Type 0) → ((s s' : ℕ) (lower : ℕ → Said) → unit_first of.crypt s ≡ unit_first of.crypt s' → P (crypt_said lower of.crypt s) → P (crypt_said lower of.crypt s'))
-      → SomeOf (λ j. P (source_said c (Units whole.from) j)) 0 whole.sectors → P (source_said c (UnitPart b) 0)
-  of-first P same x =
-      let first = part-some c b whole 1 loaded of lies-one (omega arith) P same x in
-      let at : 0 + first.0 ≡ 0 = omega (arith, first.1) in
-      subst (λ (j : ℕ). P (source_said c (UnitPart b) j)) at first.2
-
   first-meets : (x : Fault) → SomeOf (λ j. (source_said c (Units whole.from) j).meets x) 0 whole.sectors → (source_said c (UnitPart b) 0).meets x
-  first-meets x = of-first (λ y. y.meets x) (λ s s' lower e h. subst (λ (k : ℕ). SomeOf (λ t. (lower t).meets x) k (unit_sectors of.crypt)) e h)
+  first-meets x = part-has c b whole n loaded of lies some (λ y. y.meets x) (λ s s' lower e h. subst (λ (k : ℕ). SomeOf (λ t. (lower t).meets x) k (unit_sectors of.crypt)) e h)
 
   first-reaches : (p : LeafSector) → reached (λ j. (source_said c (Units whole.from) j).reaches) 0 whole.sectors p → Contains (source_said c (UnitPart b) 0).reaches p
-  first-reaches p = of-first (λ y. Contains y.reaches p) (λ s s' lower e h. subst (λ (k : ℕ). Contains (gathered (λ t. (lower t).reaches) k (unit_sectors of.crypt)) p) e h)
+  first-reaches p = part-has c b whole n loaded of lies some (λ y. Contains y.reaches p) (λ s s' lower e h. subst (λ (k : ℕ). Contains (gathered (λ t. (lower t).reaches) k (unit_sectors of.crypt)) p) e h)
 
-  first-encrypts : (source_said c (UnitPart b) 0).encrypts
-  first-encrypts = subst (λ (y : Said). y.encrypts) (sym (unit-said c b.device.0 b.line 0 of.crypt loaded of.has on.0 on.1.crypt_line.named (b.first + 0))) tt
-
-  up-first : (j : ℕ) → j < whole.sectors → IsUp (source_said c (Units whole.from) (0 + j)) (source_said c (UnitPart b) 0)
-  up-first j low = record { meets = λ x h. first-meets x (j, low, h); reaches = λ p h. first-reaches p (j, low, h); encrypts = λ h. first-encrypts }
+  one-encrypts : SomeEncrypt (source_said c (UnitPart b)) 0 (length (sectors_in bytes))
+  one-encrypts = (0, omega (arith, count, some), part-encrypts c b whole n loaded of lies some)
 
   -- the budget of the read and of the write
   paid : whole.sectors * (cost_beneath c (read_cost c) whole.from) + whole.sectors * (source_destination c (Units whole.from)).cost ≤ length (sectors_in bytes) * write_cost c (mapped b.device.0)
@@ -142,41 +125,41 @@ module _ (c : Configuration) (b : BlockPart) (whole : WholeUnit) (bytes : List �
   -- ---- what the unit means
 
   module _ (leaves : List Device) (all : AllWhole leaves) where
-    sized : AreSized (λ t. (said_at c on.0 t).means (images_of leaves))
-    sized t = sector-size c (images_of leaves) loaded (images-whole leaves all) on.0 t
+    sized : AreSized (λ t. (said_at c on.0 t).means (steady_images leaves))
+    sized t = sector-size c (steady_images leaves) loaded (images-whole leaves all) on.0 t
 
     -- its sectors, as those of the line
-    as-line : span (λ j. (source_said c (Units whole.from) j).means (images_of leaves)) 0 whole.sectors
-        ≡ span (λ s. (crypt_said (said_at c on.0) of.crypt s).means (images_of leaves)) (b.first / unit_sectors of.crypt * unit_sectors of.crypt) (unit_sectors of.crypt)
+    as-line : span (λ j. (source_said c (Units whole.from) j).means (steady_images leaves)) 0 whole.sectors
+        ≡ span (λ s. (crypt_said (said_at c on.0) of.crypt s).means (steady_images leaves)) (b.first / unit_sectors of.crypt * unit_sectors of.crypt) (unit_sectors of.crypt)
     as-line =
         let u : ℕ = unit_sectors of.crypt in
-        let g : ℕ → Outcome = λ s. (crypt_said (said_at c on.0) of.crypt s).means (images_of leaves) in
-        ap (λ (k : ℕ). span (λ j. (source_said c (Units whole.from) j).means (images_of leaves)) 0 k) of.sectors
-        ∙ span_same (λ j. (source_said c (Units whole.from) j).means (images_of leaves)) g 0 (b.first - b.first % u) u
-        (λ j h. let e : 0 + j ≡ j = omega arith in ap (λ (x : Said). x.means (images_of leaves)) (from-said (0 + j)) ∙ ap (λ (k : ℕ). g (b.first - b.first % u + k)) e)
+        let g : ℕ → Outcome = λ s. (crypt_said (said_at c on.0) of.crypt s).means (steady_images leaves) in
+        ap (λ (k : ℕ). span (λ j. (source_said c (Units whole.from) j).means (steady_images leaves)) 0 k) of.sectors
+        ∙ span_same (λ j. (source_said c (Units whole.from) j).means (steady_images leaves)) g 0 (b.first - b.first % u) u
+        (λ j h. let e : 0 + j ≡ j = omega arith in ap (λ (x : Said). x.means (steady_images leaves)) (from-said (0 + j)) ∙ ap (λ (k : ℕ). g (b.first - b.first % u + k)) e)
         ∙ ap (λ (k : ℕ). span g k u) begin-is
 
-    beneath-fails : (x : Fault) → span (λ j. (source_said c (Units whole.from) j).means (images_of leaves)) 0 whole.sectors ≡ Err x → span (λ t. (said_at c on.0 t).means (images_of leaves)) (unit_first of.crypt b.first) (unit_sectors of.crypt) ≡ Err x
-    beneath-fails x is = unit-fails (images_of leaves) (said_at c on.0) sized of.crypt (b.first / unit_sectors of.crypt) x (sym as-line ∙ is)
+    beneath-fails : (x : Fault) → span (λ j. (source_said c (Units whole.from) j).means (steady_images leaves)) 0 whole.sectors ≡ Err x → span (λ t. (said_at c on.0 t).means (steady_images leaves)) (unit_first of.crypt b.first) (unit_sectors of.crypt) ≡ Err x
+    beneath-fails x is = unit-fails (steady_images leaves) (said_at c on.0) sized of.crypt (b.first / unit_sectors of.crypt) x (sym as-line ∙ is)
 
-    beneath-is : (plain : List ℕ) → span (λ j. (source_said c (Units whole.from) j).means (images_of leaves)) 0 whole.sectors ≡ Ok plain
-        → (below : List ℕ) × (span (λ t. (said_at c on.0 t).means (images_of leaves)) (unit_first of.crypt b.first) (unit_sectors of.crypt) ≡ Ok below) × (plain ≡ decrypted_unit of.crypt (b.first / unit_sectors of.crypt) below)
-    beneath-is plain is = go (span (λ t. (said_at c on.0 t).means (images_of leaves)) (unit_first of.crypt b.first) (unit_sectors of.crypt)) refl
+    beneath-is : (plain : List ℕ) → span (λ j. (source_said c (Units whole.from) j).means (steady_images leaves)) 0 whole.sectors ≡ Ok plain
+        → (below : List ℕ) × (span (λ t. (said_at c on.0 t).means (steady_images leaves)) (unit_first of.crypt b.first) (unit_sectors of.crypt) ≡ Ok below) × (plain ≡ decrypted_unit of.crypt (b.first / unit_sectors of.crypt) below)
+    beneath-is plain is = go (span (λ t. (said_at c on.0 t).means (steady_images leaves)) (unit_first of.crypt b.first) (unit_sectors of.crypt)) refl
       where
-        go : (o : Outcome) → span (λ t. (said_at c on.0 t).means (images_of leaves)) (unit_first of.crypt b.first) (unit_sectors of.crypt) ≡ o
-            → (below : List ℕ) × (span (λ t. (said_at c on.0 t).means (images_of leaves)) (unit_first of.crypt b.first) (unit_sectors of.crypt) ≡ Ok below) × (plain ≡ decrypted_unit of.crypt (b.first / unit_sectors of.crypt) below)
+        go : (o : Outcome) → span (λ t. (said_at c on.0 t).means (steady_images leaves)) (unit_first of.crypt b.first) (unit_sectors of.crypt) ≡ o
+            → (below : List ℕ) × (span (λ t. (said_at c on.0 t).means (steady_images leaves)) (unit_first of.crypt b.first) (unit_sectors of.crypt) ≡ Ok below) × (plain ≡ decrypted_unit of.crypt (b.first / unit_sectors of.crypt) below)
         go (Ok below) e =
-            let both : Ok (decrypted_unit of.crypt (b.first / unit_sectors of.crypt) below) ≡ Ok plain = sym (whole-unit (images_of leaves) (said_at c on.0) sized of.crypt (b.first / unit_sectors of.crypt) below e) ∙ sym as-line ∙ is in
+            let both : Ok (decrypted_unit of.crypt (b.first / unit_sectors of.crypt) below) ≡ Ok plain = sym (whole-unit (steady_images leaves) (said_at c on.0) sized of.crypt (b.first / unit_sectors of.crypt) below e) ∙ sym as-line ∙ is in
             let same : decrypted_unit of.crypt (b.first / unit_sectors of.crypt) below ≡ plain = cc in
             (below, e, sym same)
         go (Err x) e = absurd (failing x e)
           where
-            failing : (x : Fault) → span (λ t. (said_at c on.0 t).means (images_of leaves)) (unit_first of.crypt b.first) (unit_sectors of.crypt) ≡ Err x → ⊥
+            failing : (x : Fault) → span (λ t. (said_at c on.0 t).means (steady_images leaves)) (unit_first of.crypt b.first) (unit_sectors of.crypt) ≡ Err x → ⊥
             failing x e =
                 let u : ℕ = unit_sectors of.crypt in
-                let g : ℕ → Outcome = λ s. (crypt_said (said_at c on.0) of.crypt s).means (images_of leaves) in
+                let g : ℕ → Outcome = λ s. (crypt_said (said_at c on.0) of.crypt s).means (steady_images leaves) in
                 let zero_on : b.first / u * u + 0 ≡ b.first / u * u = omega arith in
-                let first : g (b.first / u * u) ≡ Err x = ap g (sym zero_on) ∙ unit-means (images_of leaves) (said_at c on.0) sized of.crypt (b.first / u) 0 (Err x) e (omega (arith, unit_sectors-some of.crypt)) in
+                let first : g (b.first / u * u) ≡ Err x = ap g (sym zero_on) ∙ unit-means (steady_images leaves) (said_at c on.0) sized of.crypt (b.first / u) 0 (Err x) e (omega (arith, unit_sectors-some of.crypt)) in
                 let clash : Err x ≡ Ok plain = sym (span_fails g (b.first / u * u) u x (omega (arith, unit_sectors-some of.crypt)) first) ∙ sym as-line ∙ is in
                 cc
 
@@ -210,14 +193,17 @@ module _ (c : Configuration) (b : BlockPart) (whole : WholeUnit) (bytes : List �
   read-ends old new after (io.Device i) may grown = may
   read-ends old new after io.NoMemory may grown = absurd (grown refl)
 
-  stops : (leaves : List Device) → AllWhole leaves → (x : Fault) → span (λ j. (source_said c (Units whole.from) j).means (images_of leaves)) 0 whole.sectors ≡ Err x
-      → (source_destination c (UnitPart b)).puts 0 (sectors_in bytes) (images_of leaves) ≡ stopped x (images_of leaves)
+  stops : (leaves : List Device) → AllWhole leaves → (x : Fault) → span (λ j. (source_said c (Units whole.from) j).means (steady_images leaves)) 0 whole.sectors ≡ Err x
+      → (source_destination c (UnitPart b)).puts 0 (sectors_in bytes) (steady_images leaves) ≡ stopped x (steady_images leaves)
   stops leaves all x is =
-      part-puts (images_of leaves)
-      ∙ ap (λ (o : Outcome). read_put o (λ below. put_on c on.0 (unit_first of.crypt b.first) (encrypted_sectors of.crypt b.first (changed_unit of.crypt b.first (sectors_in bytes) below))) (images_of leaves)) (beneath-fails leaves all x is)
+      part-puts (steady_images leaves)
+      ∙ ap (λ (o : Outcome). read_put o (λ below. put_on c on.0 (unit_first of.crypt b.first) (encrypted_sectors of.crypt b.first (changed_unit of.crypt b.first (sectors_in bytes) below))) (steady_images leaves)) (beneath-fails leaves all x is)
 
-  read-exact : (old new : List Device) (fault : IoFault) → AllWhole old → Answers {A = List ℕ} (λ x. x) (span (λ j. (source_said c (Units whole.from) j).means (images_of old)) 0 whole.sectors) (Err fault) → images_of new ≡ images_of old
-      → IsPut ((source_destination c (UnitPart b)).puts 0 (sectors_in bytes) (images_of old)) (images_of new) (Err fault)
+  unit-steady : (leaves : List Device) → AreSteady (leaves_of c (mapped b.device.0)) leaves → AreSteady (source_leaves c (Units whole.from)) leaves
+  unit-steady leaves steady = subst (λ (x : BlockPart). AreSteady (leaves_of c (mapped x.device.0)) leaves) (sym of.from) steady
+
+  read-exact : (old new : List Device) (fault : IoFault) → AllWhole old → Answers {A = List ℕ} (λ x. x) (span (λ j. (source_said c (Units whole.from) j).means (steady_images old)) 0 whole.sectors) (Err fault) → steady_images new ≡ steady_images old
+      → IsPut ((source_destination c (UnitPart b)).puts 0 (sectors_in bytes) (steady_images old)) (steady_images new) (Err fault)
   read-exact old new (io.Stack fault) all is same = stops old all fault is ∙ ap (stopped fault) (sym same)
   read-exact old new (io.Device i) all is same = tt
   read-exact old new io.NoMemory all is same = tt
@@ -270,9 +256,10 @@ module _ (c : Configuration) (b : BlockPart) (whole : WholeUnit) (bytes : List �
     moved = AreWritten-more (λ x h. h) (omega (arith, paid)) (read-moved (Err fault) (Err fault) p q);
     ends = read-ends old new after fault p.got.may (λ is. none-meets (q.memory (ap err_of is)));
     grown = λ is. none-meets (q.memory is);
-    exact = λ steady. read-exact old new fault all (p.got.exact steady) (images-kept p.got.moved steady);
+    exact = λ steady. read-exact old new fault all (p.got.exact (unit-steady old steady)) (images-kept p.got.moved);
     stops = λ counted. read-stop fault p q counted;
-    behind = λ steady counted. stop-here (source_destination c (UnitPart b)) 0 (sectors_in bytes) p.got.moved.moved.fixed steady (read-stop fault p q counted) (λ j h. absurd (omega (arith, h)));
+    behind = λ steady counted. stop-here (source_destination c (UnitPart b)) 0 (sectors_in bytes) p.got.moved.moved.fixed (read-stop fault p q counted) (λ j h. absurd (omega (arith, h)));
+    unread = λ none. absurd (none one-encrypts);
   }
 
   -- ---- the write
@@ -294,7 +281,7 @@ module _ (c : Configuration) (b : BlockPart) (whole : WholeUnit) (bytes : List �
       → ReadsSource c (Units whole.from) whole.sectors (record { old = old; new = mid; before = found; after = after }) (Ok plain) → IsPlain (source_said c (Units whole.from)) 0 whole.sectors old mid (Ok tt)
       → StopsAt (source_said c (Units whole.from)) 0 (length (sectors_in out)) fault mid new → StopsAt (source_said c (UnitPart b)) 0 (length (sectors_in bytes)) fault old new
   written-stop {plain = plain} out outs fault p q stop =
-      stop-first (source_said c (Units whole.from)) (source_said c (UnitPart b)) 0 0 (length (sectors_in out)) (length (sectors_in bytes)) (omega (arith, count, some)) (λ j h. up-first j (omega (arith, h, outs)))
+      stop-first (source_said c (Units whole.from)) (source_said c (UnitPart b)) 0 0 (length (sectors_in out)) (length (sectors_in bytes)) (omega (arith, count, some)) (λ j h. part-up c b whole n loaded of lies some j (omega (arith, h, outs)))
       p.got.moved.moved.fixed (read-others (Ok tt) (Ok plain) p q) stop
 
   pub part-written : {old mid new : List Device} {found after : List FoundRecord} {plain out : List ℕ} {result : Result Unit IoFault} → AllWhole old
@@ -317,31 +304,32 @@ module _ (c : Configuration) (b : BlockPart) (whole : WholeUnit) (bytes : List �
             (λ x h. meets-more x (subst (λ (k : ℕ). SomeOf (λ j. (source_said c (Units whole.from) j).meets x) 0 k) outs h)) w.ends) p.got.moved.moved w.moved.moved;
         grown = w.grown;
         exact = λ steady.
-            let under = beneath-is old all plain (p.got.exact steady) in
-            let images = images-kept p.got.moved steady in
+            let under = beneath-is old all plain (p.got.exact (unit-steady old steady)) in
+            let images = images-kept p.got.moved in
             let k : ℕ = b.first / u in
             let bytes_are : out ≡ changed_unit of.crypt b.first (sectors_in bytes) under.0 =
             is ∙ changed-is plain long ∙ ap (λ (x : List ℕ). concat (spliced (sectors_of u x) (b.first % u) (sectors_in bytes))) under.2 in
             let whole_puts : (images' : Images) → (source_destination c (Units whole.from)).puts 0 (sectors_in out) images' ≡ put_on c on.0 (unit_first of.crypt b.first) (encrypted_sectors of.crypt b.first out) images' = λ images'. whole-unit-puts out images' size in
-            subst (λ (x : Put). IsPut x (images_of new) result)
-            (whole_puts (images_of mid)
+            subst (λ (x : Put). IsPut x (steady_images new) result)
+            (whole_puts (steady_images mid)
             ∙ ap (put_on c on.0 (unit_first of.crypt b.first) (encrypted_sectors of.crypt b.first out)) images
-            ∙ ap (λ (x : List ℕ). put_on c on.0 (unit_first of.crypt b.first) (encrypted_sectors of.crypt b.first x) (images_of old)) bytes_are
-            ∙ sym (part-puts (images_of old)
-            ∙ ap (λ (o : Outcome). read_put o (λ below. put_on c on.0 (unit_first of.crypt b.first) (encrypted_sectors of.crypt b.first (changed_unit of.crypt b.first (sectors_in bytes) below))) (images_of old)) under.1))
-            (w.exact (AllSteady-kept old mid p.got.moved.moved.fixed steady));
+            ∙ ap (λ (x : List ℕ). put_on c on.0 (unit_first of.crypt b.first) (encrypted_sectors of.crypt b.first x) (steady_images old)) bytes_are
+            ∙ sym (part-puts (steady_images old)
+            ∙ ap (λ (o : Outcome). read_put o (λ below. put_on c on.0 (unit_first of.crypt b.first) (encrypted_sectors of.crypt b.first (changed_unit of.crypt b.first (sectors_in bytes) below))) (steady_images old)) under.1))
+            (w.exact (AreSteady-kept old mid p.got.moved.moved.fixed (unit-steady old steady)));
         stops = stops-first outs result w.stops;
-        behind = λ steady. behind-first outs result steady (w.moved.moved.fixed ∙ p.got.moved.moved.fixed) w.stops;
+        behind = λ steady. behind-first outs result (w.moved.moved.fixed ∙ p.got.moved.moved.fixed) w.stops;
+        unread = λ none. absurd (none one-encrypts);
       }
     where
       stops-first : length (sectors_in out) ≡ whole.sectors → (result : Result Unit IoFault) → StopsAtFault (source_said c (Units whole.from)) 0 (length (sectors_in out)) mid new result → StopsAtFault (source_said c (UnitPart b)) 0 (length (sectors_in bytes)) old new result
       stops-first outs (Ok x) h = tt
       stops-first outs (Err fault) h = λ counted. written-stop out outs fault p q (h counted)
 
-      behind-first : length (sectors_in out) ≡ whole.sectors → (result : Result Unit IoFault) → AllSteady old → map fixed_part new ≡ map fixed_part old → StopsAtFault (source_said c (Units whole.from)) 0 (length (sectors_in out)) mid new result
+      behind-first : length (sectors_in out) ≡ whole.sectors → (result : Result Unit IoFault) → map fixed_part new ≡ map fixed_part old → StopsAtFault (source_said c (Units whole.from)) 0 (length (sectors_in out)) mid new result
           → StopsBehindPut (with_some (source_destination c (UnitPart b))) 0 (sectors_in bytes) old new result
-      behind-first outs (Ok x) steady fixed h = tt
-      behind-first outs (Err fault) steady fixed h = λ counted. stop-here (source_destination c (UnitPart b)) 0 (sectors_in bytes) fixed steady (written-stop out outs fault p q (h counted)) (λ j low. absurd (omega (arith, low)))
+      behind-first outs (Ok x) fixed h = tt
+      behind-first outs (Err fault) fixed h = λ counted. stop-here (source_destination c (UnitPart b)) 0 (sectors_in bytes) fixed (written-stop out outs fault p q (h counted)) (λ j low. absurd (omega (arith, low)))
 
       later : (result : Result Unit IoFault) → (result ≡ Err io.NoMemory → ⊥) → MayEnd (λ x. SomeOf (λ j. (source_said c (UnitPart b) j).meets x) 0 (length (sectors_in bytes))) mid new result
           → {r w' r' w'' : ℕ} → Moves r w' old mid → Moves r' w'' mid new → MayEnd (λ x. SomeOf (λ j. (source_said c (UnitPart b) j).meets x) 0 (length (sectors_in bytes))) old new result

@@ -1,15 +1,15 @@
 -- What is written through the units of a `crypt` line.
-use Rattle.std.proofs.Common.{◌≡◌, ℕ, suc, ◌+◌, ◌-◌, ◌*◌, ◌/◌, ◌%◌, ◌<◌, ◌≤◌, List, [], ◌++◌, length, take, drop, Contains, Option, Some, None, Result, Ok, Err, refl, sym, ap, ◌∙◌, subst, arith}
+use Rattle.std.proofs.Common.{◌≡◌, ℕ, suc, ◌+◌, ◌-◌, ◌*◌, ◌/◌, ◌%◌, ◌<◌, ◌≤◌, IsTrue, List, [], ◌++◌, length, take, drop, Contains, Option, Some, None, Result, Ok, Err, refl, sym, ap, ◌∙◌, subst, arith}
 use Rattle.std.specs.Prelude.{slice_get}
 use Rattle.std.proofs.lemmas.List.{take_all, length-take-le, take-append-drop, append_assoc}
-use Rattle.std.proofs.lemmas.Nat.{div-add-mod', div-mul-add, mod-mul-add, mod_below}
+use Rattle.std.proofs.lemmas.Nat.{div-add-mod', div-mul-add, mod-mul-add}
 use Rattle.std.proofs.Math.Nat.{add-mul, mul_assoc}
 use Rattle.block_device.specs.Device.{Device}
 use Rattle.dm_table.specs.declared.crypt.Crypt.{Crypt}
 use Rattle.dm_table.specs.declared.table.Line.{Line}
 use Rattle.stack_rules.specs.declared.lower.Lower.{Lower}
 use Rattle.stack_rules.specs.Records.{Configuration}
-use Rattle.stack_rules.specs.Names.{named, lines_of}
+use Rattle.stack_rules.specs.Names.{mapped, named, lines_of}
 use Rattle.stack_rules.specs.Descend.{write_cost}
 use Rattle.stack_rules.specs.Rules.{IsLoaded}
 use Rattle.xts_sector.specs.Units.{unit}
@@ -24,14 +24,17 @@ use Rattle.stack_rules.specs.Units.{unit_sectors}
 use Rattle.stack_meaning.specs.Units.{encrypted_units, unit_first}
 use Rattle.stack_meaning.specs.Meaning.{Said, crypt_said, said_at}
 use Rattle.stack_meaning.specs.Puts.{Put, done, then_put, Putting, put_on}
-use Rattle.stack_meaning.specs.Leaves.{images_of, AllSteady}
+use Rattle.stack_meaning.specs.Leaves.{steady_images}
+use Rattle.stack_meaning.proofs.lemmas.LeafListLemmas.{AreSteady-within}
+use Rattle.stack_lines.specs.Touches.{leaves_of}
+use Rattle.stack_lines.proofs.lemmas.TouchLemmas.{crypt-within, one-within}
 use Rattle.stack_meaning.specs.Changes.{reached}
 use Rattle.stack_lines.specs.Cuts.{PutsInSteps}
 use Rattle.stack_lines.specs.Sources.{HasCrypt, AreUnits, source_said}
 use Rattle.stack_lines.specs.Writing.{sectors_in, put_on_line, IsPut, StopsAt, StopsAtFault, StopsBehindPut, with_some, destination_of, Writes, source_destination}
 use Rattle.stack_rules.proofs.lemmas.UnitLemmas.{unit_sectors-some, unit-bytes}
 use Rattle.stack_lines.proofs.lemmas.UnitLineLemmas.{cost-beneath, unit-said}
-use Rattle.stack_lines.proofs.lemmas.UnitSourceLemmas.{units-aligned, units-whole}
+use Rattle.stack_lines.proofs.lemmas.UnitSourceLemmas.{units-aligned, units-whole, units-up}
 use Rattle.stack_lines.proofs.lemmas.UnitReadLemmas.{units-some, unit_first-more}
 use Rattle.stack_lines.proofs.lemmas.UnitPutLemmas.{unit-step, unit-apart, units-apart, front-more, front-length, lower-units}
 use Rattle.stack_meaning.proofs.lemmas.ChangeLemmas.{AreWritten-more}
@@ -85,21 +88,6 @@ module _ (c : Configuration) (b : BlockPart) (bytes : List ℕ) (n : ℕ) (crypt
   meet-up : (a m : ℕ) → a % unit_sectors crypt ≡ 0 → (x : Fault) → SomeOf (λ s. (said_at c lower s).meets x) (unit_first crypt b.first + a) m → SomeOf (λ j. (source_said c (Units b) j).meets x) a m
   meet-up a m even x some = up a m even (λ y. y.meets x) (λ y. y.meets x) (λ s some. some) some
 
-  -- a sector of a unit has what the sector beneath it has
-  up-at : (j : ℕ) → IsUp (said_at c lower (unit_first crypt b.first + j)) (source_said c (Units b) j)
-  up-at j =
-      let u : ℕ = unit_sectors crypt in
-      let w : ℕ = b.first + j in
-      let low : w % u < u = mod_below w u (omega (arith, unit_sectors-some crypt)) in
-      let place : unit_first crypt b.first + j ≡ unit_first crypt w + w % u = omega (arith, div-add-mod' b.first u, aligned, div-add-mod' w u) in
-      let beneath : IsUp (said_at c lower (unit_first crypt b.first + j)) (crypt_said (said_at c lower) crypt w) =
-      subst (λ (t : ℕ). IsUp (said_at c lower t) (crypt_said (said_at c lower) crypt w)) (sym place) (record {
-        meets = λ x h. (w % u, low, h);
-        reaches = λ p h. in-gathered (λ t. (said_at c lower t).reaches) (unit_first crypt w) u (w % u) p low h;
-        encrypts = λ h. tt;
-      }) in
-      subst (λ (x : Said). IsUp (said_at c lower (unit_first crypt b.first + j)) x) (on-line j) beneath
-
   all-encrypt : (j : ℕ) → (source_said c (Units b) j).encrypts
   all-encrypt j = subst (λ (x : Said). x.encrypts) (on-line j) tt
 
@@ -109,7 +97,10 @@ module _ (c : Configuration) (b : BlockPart) (bytes : List ℕ) (n : ℕ) (crypt
   stop-raised a xs ys {fault = fault} {old = old} {new = new} count q =
       subst (λ (m : ℕ). StopsAt (source_said c (Units b)) a m fault old new) (sym count)
       (stop-up (said_at c lower) (source_said c (Units b)) (unit_first crypt b.first + a) a (length ys)
-      (λ j h. let at : unit_first crypt b.first + (a + j) ≡ unit_first crypt b.first + a + j = omega arith in subst (λ (s : ℕ). IsUp (said_at c lower s) (source_said c (Units b) (a + j))) at (up-at (a + j))) q)
+      (λ j h. let at : unit_first crypt b.first + (a + j) ≡ unit_first crypt b.first + a + j = omega arith in subst (λ (s : ℕ). IsUp (said_at c lower s) (source_said c (Units b) (a + j))) at (units-up c b n crypt loaded has units lower is (a + j))) q)
+
+  within : (i : ℕ) → IsTrue (leaves_of c lower i) → IsTrue (leaves_of c (mapped b.device.0) i)
+  within = one-within (leaves_of c lower) (leaves_of c (mapped b.device.0)) (crypt-within c b.device.0 b.line 0 crypt lower loaded has is)
 
   -- units that were written beneath, from the a-th sector on
   raised : (a : ℕ) (xs ys : List (List ℕ)) {old new : List Device} {result : Result Unit IoFault} → a % unit_sectors crypt ≡ 0 → length xs ≡ length ys
@@ -121,18 +112,19 @@ module _ (c : Configuration) (b : BlockPart) (bytes : List ℕ) (n : ℕ) (crypt
     ends = MayEnd-as (λ x. SomeOf (λ s. (said_at c lower s).meets x) (unit_first crypt b.first + a) (length ys)) (λ x. SomeOf (λ j. (source_said c (Units b) j).meets x) a (length xs)) old new result
         (λ x some. subst (λ (m : ℕ). SomeOf (λ j. (source_said c (Units b) j).meets x) a m) (sym count) (meet-up a (length ys) even x some)) p.ends;
     grown = p.grown;
-    exact = λ steady. subst (λ (q : Put). IsPut q (images_of new) result) (sym (puts (images_of old))) (p.exact steady);
+    exact = λ steady. subst (λ (q : Put). IsPut q (steady_images new) result) (sym (puts (steady_images old))) (p.exact (AreSteady-within old within steady));
     stops = stops-up result p.stops;
-    behind = λ steady. behind-up result steady p.stops;
+    behind = λ steady. behind-up result p.stops;
+    unread = λ none. p.unread (λ some. none (some.0, omega (arith, some.1, count), all-encrypt (a + some.0)));
   }
     where
       stops-up : (result : Result Unit IoFault) → StopsAtFault (said_at c lower) (unit_first crypt b.first + a) (length ys) old new result → StopsAtFault (source_said c (Units b)) a (length xs) old new result
       stops-up (Ok x) h = tt
       stops-up (Err fault) h = λ counted. stop-raised a xs ys count (h counted)
 
-      behind-up : (result : Result Unit IoFault) → AllSteady old → StopsAtFault (said_at c lower) (unit_first crypt b.first + a) (length ys) old new result → StopsBehindPut (with_some (source_destination c (Units b))) a xs old new result
-      behind-up (Ok x) steady h = tt
-      behind-up (Err fault) steady h = λ counted. stop-here (source_destination c (Units b)) a xs p.moved.moved.fixed steady (stop-raised a xs ys count (h counted)) (λ j low. all-encrypt (a + j))
+      behind-up : (result : Result Unit IoFault) → StopsAtFault (said_at c lower) (unit_first crypt b.first + a) (length ys) old new result → StopsBehindPut (with_some (source_destination c (Units b))) a xs old new result
+      behind-up (Ok x) h = tt
+      behind-up (Err fault) h = λ counted. stop-here (source_destination c (Units b)) a xs p.moved.moved.fixed (stop-raised a xs ys count (h counted)) (λ j low. all-encrypt (a + j))
 
   enc-length : length (encrypted_units crypt (b.first / unit_sectors crypt) bytes) ≡ 512 * n
   enc-length = length-encrypted_units crypt bytes n len whole (b.first / unit_sectors crypt)

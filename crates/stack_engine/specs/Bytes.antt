@@ -14,7 +14,7 @@ use Rattle.stack_meaning.specs.Found.{FoundRecord, AreUsed}
 use Rattle.stack_meaning.specs.Kept.{AllKept}
 use Rattle.stack_meaning.specs.Meaning.{sector}
 use Rattle.stack_meaning.specs.May.{MayRead, MayFault}
-use Rattle.stack_meaning.specs.Leaves.{images_of, AllSteady, AreRead}
+use Rattle.stack_meaning.specs.Leaves.{steady_images, AreSteady, AreRead}
 use Rattle.stack_meaning.specs.Places.{Place, place_of, run_expected}
 use Rattle.stack_meaning.specs.Reading.{Ends, Answers, Gets}
 use Rattle.stack_lines.specs.Touches.{TouchesOnly, leaves_of}
@@ -41,15 +41,15 @@ pub record AnyBytes (w : StackRecord) (d first n : ℕ) (answer : Result (List �
   pub may : Ends (MayBeBytes w.config (mapped d) first n) (MayFault w.config (mapped d) first n) w.leaves w'.leaves answer
   pub touches : TouchesOnly (leaves_of w.config (mapped d)) w.leaves w'.leaves answer
 
--- over steady leaves: what the stack means
+-- where the leaves beneath are steady: what the stack means
 pub record SteadyBytes (w : StackRecord) (d first n : ℕ) (answer : Result (List ℕ) IoFault) (w' : StackRecord) : Type 0 where
   pub any : AnyBytes w d first n answer w'
-  pub exact : Answers (λ bytes. bytes) (span (sector w.config (images_of w.leaves) (mapped d)) first n) answer
+  pub exact : Answers (λ bytes. bytes) (span (sector w.config (steady_images w.leaves) (mapped d)) first n) answer
 
 -- both
 pub record EachBytes (w : StackRecord) (d first n : ℕ) (answer : Result (List ℕ) IoFault) (w' : StackRecord) : Type 0 where
   pub any : AnyBytes w d first n answer w'
-  pub steady : AllSteady w.leaves → SteadyBytes w d first n answer w'
+  pub steady : AreSteady (leaves_of w.config (mapped d)) w.leaves → SteadyBytes w d first n answer w'
 
 -- ---- on the way
 

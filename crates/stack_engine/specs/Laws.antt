@@ -1,5 +1,5 @@
 -- Laws of what a stack means and of what is answered.
-use Rattle.std.specs.Prelude.{◌≡◌, ◌≢◌, ℕ, ◌+◌, ◌-◌, ◌<◌, ◌*◌, ◌/◌, IsTrue, if◌then◌else◌, List, [], ◌++◌, map, All, Contains, Some, Ok}
+use Rattle.std.specs.Prelude.{◌≡◌, ◌≢◌, ℕ, ◌+◌, ◌-◌, ◌<◌, ◌*◌, ◌/◌, IsTrue, if◌then◌else◌, List, [], ◌++◌, map, All, Contains, Some, Result, Ok}
 use Rattle.std.specs.List.{slice_index_or, concat}
 use Rattle.sha2.specs.Sha256.{sha256}
 use Rattle.hash_tree.specs.declared.difference.Place.{Place}
@@ -13,6 +13,7 @@ use Rattle.dm_table.specs.declared.table.Line.{Line}
 use Rattle.dm_table.specs.declared.table.Target.TheVariants.{Verity as verity_target}
 use Rattle.dm_table.specs.declared.verity.Verity.{Verity}
 use Rattle.stack_rules.specs.declared.lower.Lower.{Lower}
+use Rattle.stack_meaning.specs.declared.fault.IoFault.{IoFault}
 use Rattle.stack_rules.specs.Lines.{line_at}
 use Rattle.stack_rules.specs.Names.{mapped}
 use Rattle.stack_rules.specs.Records.{Configuration}
@@ -20,12 +21,17 @@ use Rattle.stack_rules.specs.Rules.{IsLoaded}
 use Rattle.stack_rules.specs.Trees.{tree_of, data_sectors, block_sectors, zero_block}
 use Rattle.stack_meaning.specs.Blocks.{hash_sectors, is_ignored}
 use Rattle.stack_meaning.specs.Found.{FoundRecord}
+use Rattle.stack_meaning.specs.Leaves.{steady_images, AreSteady}
 use Rattle.stack_meaning.specs.LeavesBeneath.{leaves_beneath}
 use Rattle.stack_meaning.specs.May.{MayBe}
 use Rattle.stack_meaning.specs.Meaning.{content_part, sector, said_by_name}
 use Rattle.stack_meaning.specs.Outcomes.{Images, AreWhole, Outcome, span, part, zero_sector}
+use Rattle.stack_meaning.specs.Reading.{Answers}
+use Rattle.stack_lines.specs.Touches.{leaves_of}
 use Rattle.stack_lines.specs.Walks.{HasVerity}
 use Rattle.stack_engine.specs.Bytes.{MayBeBytes}
+use Rattle.stack_engine.specs.Pieces.{EachPiece}
+use Rattle.stack_engine.specs.Stacks.{StackRecord, AnswerRecord}
 
 -- ---- a verity line over formatted devices
 
@@ -70,6 +76,14 @@ abbrev pub SpansStandOnLeaves : Type 0
 SpansStandOnLeaves = (c : Configuration) (lower : Lower) (images other : Images)
     → All (λ i. slice_index_or images i [] ≡ slice_index_or other i []) (leaves_beneath c lower)
     → (first n : ℕ) → span (sector c images lower) first n ≡ span (sector c other lower) first n
+
+-- So what a piece answers depends on them alone: where they are steady it is what the stack means over any images that
+-- have theirs, whatever the other leaves are and hold.
+abbrev pub OtherLeavesChangeNoAnswer : Type 0
+OtherLeavesChangeNoAnswer = (w w' : StackRecord) (d first n : ℕ) (answer : Result AnswerRecord IoFault) → EachPiece w d first n answer w'
+    → AreSteady (leaves_of w.config (mapped d)) w.leaves
+    → (images : Images) → All (λ i. slice_index_or (steady_images w.leaves) i [] ≡ slice_index_or images i []) (leaves_beneath w.config (mapped d))
+    → Answers (λ got. got.bytes) (span (sector w.config images (mapped d)) first n) answer
 
 -- ---- answered chains
 

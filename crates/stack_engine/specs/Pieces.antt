@@ -8,7 +8,7 @@ use Rattle.stack_meaning.specs.declared.fault.IoFault.{IoFault}
 use Rattle.stack_meaning.specs.Outcomes.{span}
 use Rattle.stack_meaning.specs.Meaning.{sector}
 use Rattle.stack_meaning.specs.May.{MayBe, MayFault}
-use Rattle.stack_meaning.specs.Leaves.{images_of, AllSteady, AreRead}
+use Rattle.stack_meaning.specs.Leaves.{steady_images, AreSteady, AreRead}
 use Rattle.stack_meaning.specs.Reading.{Ends, Answers}
 use Rattle.stack_lines.specs.Touches.{TouchesOnly, leaves_of}
 use Rattle.stack_engine.specs.Stacks.{StackRecord, AnswerRecord}
@@ -26,12 +26,12 @@ pub record AnyPiece (w : StackRecord) (d first n : ℕ) (answer : Result AnswerR
   pub may : Ends (λ got. MayBe w.config (mapped d) first n got.bytes got.chains) (MayFault w.config (mapped d) first n) w.leaves w'.leaves answer
   pub touches : TouchesOnly (leaves_of w.config (mapped d)) w.leaves w'.leaves answer
 
--- over steady leaves: what the stack means
+-- where the leaves beneath are steady: what the stack means
 pub record SteadyPiece (w : StackRecord) (d first n : ℕ) (answer : Result AnswerRecord IoFault) (w' : StackRecord) : Type 0 where
   pub any : AnyPiece w d first n answer w'
-  pub exact : Answers (λ got. got.bytes) (span (sector w.config (images_of w.leaves) (mapped d)) first n) answer
+  pub exact : Answers (λ got. got.bytes) (span (sector w.config (steady_images w.leaves) (mapped d)) first n) answer
 
 -- both
 pub record EachPiece (w : StackRecord) (d first n : ℕ) (answer : Result AnswerRecord IoFault) (w' : StackRecord) : Type 0 where
   pub any : AnyPiece w d first n answer w'
-  pub steady : AllSteady w.leaves → SteadyPiece w d first n answer w'
+  pub steady : AreSteady (leaves_of w.config (mapped d)) w.leaves → SteadyPiece w d first n answer w'

@@ -7,9 +7,10 @@ use Rattle.stack_meaning.specs.declared.fault.IoFault.{IoFault}
 use Rattle.stack_meaning.specs.Meaning.{said_at}
 use Rattle.stack_meaning.specs.May.{MayFault}
 use Rattle.stack_meaning.specs.Puts.{put_on}
-use Rattle.stack_meaning.specs.Leaves.{images_of, AllSteady}
-use Rattle.stack_meaning.specs.Changes.{LeafSectors, reached, AreWritten, DifferWithin, AllWhole}
-use Rattle.stack_lines.specs.Writing.{AreSectors, MayEnd, IsPut, destination_of, StopsAtFault, StopsBehindPut, sectors_in}
+use Rattle.stack_meaning.specs.Leaves.{steady_images, AreSteady}
+use Rattle.stack_meaning.specs.Changes.{LeafSectors, reached, AreWritten, NoneRead, DifferWithin, AllWhole}
+use Rattle.stack_lines.specs.Writing.{AreSectors, SomeEncrypt, MayEnd, IsPut, destination_of, StopsAtFault, StopsBehindPut, sectors_in}
+use Rattle.stack_lines.specs.Touches.{leaves_of}
 use Rattle.stack_engine.specs.Stacks.{StackRecord}
 
 -- the bytes of 1 to 128 whole sectors
@@ -30,19 +31,20 @@ pub record AnyWrite (w : StackRecord) (d first : ℕ) (bytes : List ℕ) (result
   pub moved : AreWritten (piece_reached w.config d first (length bytes / 512)) w.leaves (length bytes / 512 * write_cost w.config (mapped d)) w'.leaves
   pub ends : MayEnd (MayFault w.config (mapped d) first (length bytes / 512)) w.leaves w'.leaves result
   pub stops : StopsAtFault (said_at w.config (mapped d)) first (length bytes / 512) w.leaves w'.leaves result
+  pub unread : (SomeEncrypt (said_at w.config (mapped d)) first (length bytes / 512) → ⊥) → NoneRead w.leaves w'.leaves
 
--- Over steady leaves: what the put leaves, no leaf sector that isn't reached is changed, and what stands before the
+-- Where the leaves beneath are steady: what the put leaves, no leaf sector that isn't reached is changed, and what stands before the
 -- sectors that failed is put.
 pub record SteadyWrite (w : StackRecord) (d first : ℕ) (bytes : List ℕ) (result : Result Unit IoFault) (w' : StackRecord) : Type 0 where
   pub any : AnyWrite w d first bytes result w'
-  pub exact : IsPut (put_on w.config (mapped d) first (sectors_in bytes) (images_of w.leaves)) (images_of w'.leaves) result
-  pub others : DifferWithin (piece_reached w.config d first (length bytes / 512)) (images_of w.leaves) (images_of w'.leaves)
+  pub exact : IsPut (put_on w.config (mapped d) first (sectors_in bytes) (steady_images w.leaves)) (steady_images w'.leaves) result
+  pub others : DifferWithin (piece_reached w.config d first (length bytes / 512)) (steady_images w.leaves) (steady_images w'.leaves)
   pub behind : StopsBehindPut (destination_of w.config (mapped d)) first (sectors_in bytes) w.leaves w'.leaves result
 
 -- both
 pub record EachWrite (w : StackRecord) (d first : ℕ) (bytes : List ℕ) (result : Result Unit IoFault) (w' : StackRecord) : Type 0 where
   pub any : AnyWrite w d first bytes result w'
-  pub steady : AllSteady w.leaves → SteadyWrite w d first bytes result w'
+  pub steady : AreSteady (leaves_of w.config (mapped d)) w.leaves → SteadyWrite w d first bytes result w'
 
 -- ---- several pieces
 

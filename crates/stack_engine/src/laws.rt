@@ -1,5 +1,5 @@
 //! Laws of the definitions: each function's contract is the law, and its call gives it.
-ghost use Rattle.stack_engine.specs.Laws.{FormattedDataIsRead, IgnoredBlocksCollide, SpansStandOnLeaves, AnsweredChainsAreGood, ForgedAnswersCollide, ForgedBytesCollide, ForgedSectorsCollide};
+ghost use Rattle.stack_engine.specs.Laws.{FormattedDataIsRead, IgnoredBlocksCollide, SpansStandOnLeaves, AnsweredChainsAreGood, ForgedAnswersCollide, ForgedBytesCollide, ForgedSectorsCollide, OtherLeavesChangeNoAnswer};
 ghost use Rattle.stack_engine.specs.TableLines.{TableLinesReadBack};
 
 use hash_tree::laws::{forged_blocks_collide, formed_chains_are_good};
@@ -22,6 +22,12 @@ pub fn ignored_blocks_collide()
 /// A span of a device depends on the images of the leaves beneath it alone.
 pub fn spans_stand_on_leaves()
     ensures { SpansStandOnLeaves }
+{}
+
+/// What a piece answers depends on the leaves beneath its device alone, whatever stands beside them: a device over steady
+/// leaves answers what the stack means also where another leaf is a file.
+pub fn other_leaves_change_no_answer()
+    ensures { OtherLeavesChangeNoAnswer }
 {}
 
 /// Each chain of an answer is good for the line that it names.

@@ -5,14 +5,16 @@ ghost use Rattle.stack_rules.specs.Names.{mapped, size, may_write};
 ghost use Rattle.stack_rules.specs.Rules.{after_load, IsRefusal, first_refusal};
 ghost use Rattle.stack_rules.specs.Removal.{removal_fault, after_removal};
 ghost use Rattle.stack_rules.specs.declared.refusal.Refusal.{Refusal};
-ghost use Rattle.stack_meaning.specs.Leaves.{ServeLeaves, AllSteady, reads_of, writes_of};
+ghost use Rattle.stack_meaning.specs.Leaves.{ServeLeaves, AreSteady, reads_of, writes_of};
 ghost use Rattle.stack_engine.specs.Bytes.{AnyBytes, SteadyBytes};
 ghost use Rattle.stack_engine.specs.Pieces.{AnyPiece, SteadyPiece, stack_over};
 ghost use Rattle.stack_engine.specs.Stacks.{StackRecord, IsSound};
 ghost use Rattle.stack_meaning.specs.Meaning.{said_at};
 ghost use Rattle.stack_meaning.specs.Reading.{MeetVerity, buffer_answer};
+ghost use Rattle.stack_meaning.specs.Stops.{ReadStops};
 ghost use Rattle.stack_engine.specs.Syncs.{FailsToSync, NeverFail};
 ghost use Rattle.stack_engine.specs.WritePieces.{ArePiece, AnyWrite, SteadyWrite};
+ghost use Rattle.stack_lines.specs.Touches.{leaves_of};
 ghost use Rattle.stack_lines.specs.Writing.{SomeEncrypt};
 
 use crate::answer::Answer;
@@ -94,13 +96,14 @@ impl<D: BlockDev> Stack<D> {
 
     /// The `n` sectors of a device from `first` on, and the chains of the verity lines on their way. They lie
     /// inside the device, and are 1 to 128. `exact` in `steady` is what the stack means; `any` holds whatever the
-    /// leaves answer.
+    /// leaves answer. Where no `verity` line is on the way, nothing behind the first fault is asked for (`stops`).
     pub fn read_piece(&mut self, d: DevId, first: u64, n: u32) -> Result<Answer, IoFault>
         requires some { 1 ≤ n }
         requires most { n ≤ 128 }
         requires inside { first + n ≤ size self.old.config (mapped d.0) }
         ensures any { AnyPiece self.old d.0 first n result self.new }
-        ensures steady { AllSteady self.old.leaves → SteadyPiece self.old d.0 first n result self.new }
+        ensures steady { AreSteady (leaves_of self.old.config (mapped d.0)) self.old.leaves → SteadyPiece self.old d.0 first n result self.new }
+        ensures stops { (MeetVerity (said_at self.old.config (mapped d.0)) first n → ⊥) → ReadStops (said_at self.old.config (mapped d.0)) first n self.old.leaves self.new.leaves result }
     {
         let mut bytes = match zero_sectors(self.reader.alloc, n) {
             Ok(bytes) => bytes,
@@ -127,8 +130,9 @@ impl<D: BlockDev> Stack<D> {
         requires piece { ArePiece out.old }
         requires inside { first + length out.old / 512 ≤ size self.old.config (mapped d.0) }
         ensures any { AnyBytes self.old d.0 first (length out.old / 512) (buffer_answer result out.new) self.new }
-        ensures steady { AllSteady self.old.leaves → SteadyBytes self.old d.0 first (length out.old / 512) (buffer_answer result out.new) self.new }
+        ensures steady { AreSteady (leaves_of self.old.config (mapped d.0)) self.old.leaves → SteadyBytes self.old d.0 first (length out.old / 512) (buffer_answer result out.new) self.new }
         ensures memory { result ≡ Err IoFault.NoMemory → MeetVerity (said_at self.old.config (mapped d.0)) first (length out.old / 512) }
+        ensures stops { (MeetVerity (said_at self.old.config (mapped d.0)) first (length out.old / 512) → ⊥) → ReadStops (said_at self.old.config (mapped d.0)) first (length out.old / 512) self.old.leaves self.new.leaves result }
     {
         device_bytes(&self.config, &mut self.reader, d, first, out)
     }
@@ -142,7 +146,7 @@ impl<D: BlockDev> Stack<D> {
         requires inside { first + length bytes.now / 512 ≤ size self.old.config (mapped d.0) }
         requires allowed { IsTrue (may_write self.old.config (mapped d.0)) }
         ensures any { AnyWrite self.old d.0 first bytes.now result self.new }
-        ensures steady { AllSteady self.old.leaves → SteadyWrite self.old d.0 first bytes.now result self.new }
+        ensures steady { AreSteady (leaves_of self.old.config (mapped d.0)) self.old.leaves → SteadyWrite self.old d.0 first bytes.now result self.new }
         ensures memory { result ≡ Err IoFault.NoMemory → SomeEncrypt (said_at self.old.config (mapped d.0)) first (length bytes.now / 512) }
     {
         let mut buffer = match bytes_to_encrypt(self.reader.alloc, &self.config, d, first, bytes) {

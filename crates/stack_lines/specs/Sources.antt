@@ -25,6 +25,7 @@ use Rattle.stack_meaning.specs.Puts.{together}
 use Rattle.stack_meaning.specs.Beneath.{beneath, HandsOn}
 use Rattle.stack_meaning.specs.Meaning.{Said, none_said, zero_said, error_said, line_said, said_at, said_by_name}
 use Rattle.stack_meaning.specs.Places.{Place, Read}
+use Rattle.stack_lines.specs.Touches.{source_leaves}
 use Rattle.stack_meaning.specs.Reading.{Finds}
 
 -- n sectors of a line, from its sector w on, lie on those of a lower device from the first on
@@ -159,7 +160,7 @@ source_cost c (Block b) = read_cost c (mapped b.device.0)
 source_cost c (Blocks b) = read_cost c (mapped b.device.0)
 
 abbrev pub source_place : Configuration → Source → Place
-source_place c source = record { said = source_said c source; cost = source_cost c source }
+source_place c source = record { said = source_said c source; cost = source_cost c source; leaves = source_leaves c source }
 
 -- how deep the devices stand, for the measure of the recursion
 abbrev pub source_depth : Configuration → Source → ℕ

@@ -1,12 +1,12 @@
 -- The leaves on which devices and lines stand.
 use Rattle.std.specs.Prelude.{◌≡◌, ℕ, ◌<◌, Bool, true, false, ◌==◌, List, length, slice_get, is_some, All}
 use Rattle.std.specs.Int.{bit_at}
-use Rattle.std.specs.List.{list_any, slice_index_or}
+use Rattle.std.specs.List.{slice_index_or}
 use Rattle.std.specs.Option.{option_map_or}
 use Rattle.dm_table.specs.declared.table.Target.{Target}
 use Rattle.stack_rules.specs.declared.lower.Lower.{Lower}
 use Rattle.stack_rules.specs.declared.lower.Lower.TheVariants.{Leaf as leaf, Device as device}
-use Rattle.stack_rules.specs.Descend.{by_name, depth, most_devices}
+use Rattle.stack_rules.specs.Descend.{depth, most_devices}
 use Rattle.stack_rules.specs.Names.{mapped, lines_of}
 use Rattle.stack_rules.specs.Records.{Configuration}
 use Rattle.stack_rules.specs.Rules.{most_leaves}
@@ -14,7 +14,7 @@ use Rattle.stack_rules.specs.Trees.{verity_of}
 use Rattle.verified_cache.specs.Cache.{CachedBlock, CacheRecord, cache_without}
 use Rattle.verified_cache.specs.declared.key.Key.{Key}
 use Rattle.stack_lines.specs.declared.leaf_set.LeafSet.{LeafSet}
-use Rattle.stack_meaning.specs.LeavesBeneath.{leaves_beneath}
+pub use Rattle.stack_meaning.specs.LeavesBeneath.{stands_on, name_stands_on}
 
 -- ---- sets of leaves
 
@@ -26,14 +26,6 @@ abbrev pub set_at : List LeafSet → ℕ → LeafSet
 set_at sets d = slice_index_or sets d (record { bits = 0 })
 
 -- ---- what stands on a leaf
-
--- a leaf or device is leaf i, or stands on it
-abbrev pub stands_on : Configuration → ℕ → Lower → Bool
-stands_on c i lower = list_any (λ j. i == j) (leaves_beneath c lower)
-
--- what the name means is leaf i, or stands on it
-abbrev pub name_stands_on : Configuration → ℕ → List ℕ → Bool
-name_stands_on c i = by_name c false (stands_on c i)
 
 abbrev pub is_verity : Target → Bool
 is_verity target = is_some (verity_of target)

@@ -1,5 +1,5 @@
 -- Contracts of reads of data blocks, from the root down.
-use Rattle.std.specs.Prelude.{◌≡◌, ◌⊎◌, ℕ, ◌+◌, ◌*◌, ◌<◌, List, ◌++◌, length, Some, Result}
+use Rattle.std.specs.Prelude.{◌≡◌, ◌⊎◌, ℕ, ◌+◌, ◌*◌, ◌<◌, ◌||◌, List, ◌++◌, length, Some, Result}
 use Rattle.hash_tree.specs.Chain.{ChainRecord, HangsFrom, IsGood}
 use Rattle.tree_shape.specs.Digests.{digest}
 use Rattle.tree_shape.specs.Shape.{levels}
@@ -16,10 +16,11 @@ use Rattle.stack_meaning.specs.Sectors.{SomeOf}
 use Rattle.stack_meaning.specs.declared.fault.Fault.{Fault}
 use Rattle.stack_meaning.specs.Outcomes.{Outcome, mismatch, Images}
 use Rattle.stack_meaning.specs.Blocks.{hash_sectors, checked_span, data_block_at, block_below, block_at, BlockMeets}
-use Rattle.stack_meaning.specs.Leaves.{images_of, AllSteady, AreRead}
+use Rattle.stack_meaning.specs.Leaves.{steady_images, AreSteady, AreRead}
 use Rattle.stack_meaning.specs.Meaning.{said_by_name}
 use Rattle.stack_meaning.specs.Places.{Place, Expected}
 use Rattle.stack_meaning.specs.Reading.{Gets}
+use Rattle.stack_lines.specs.Standing.{name_stands_on}
 use Rattle.stack_lines.specs.Sources.{HasTarget}
 
 -- ---- lines
@@ -61,6 +62,7 @@ checked_expected bytes_of place first n salt expected = record {
   bytes_of = bytes_of;
   means = λ images. checked_span (λ s. (place.said s).means images) first n salt expected;
   cost = n * place.cost;
+  leaves = place.leaves;
 }
 
 -- ---- a data block
@@ -74,7 +76,7 @@ pub record DataBlock : Type 1 where
 
 -- what a name means, as a place
 abbrev pub place_named : Configuration → List ℕ → Place
-place_named c name = record { said = said_by_name c name; cost = by_name c 0 (read_cost c) name }
+place_named c name = record { said = said_by_name c name; cost = by_name c 0 (read_cost c) name; leaves = λ i. name_stands_on c i name }
 
 abbrev pub block_in : Configuration → Verity → ℕ → DataBlock
 block_in c v i = record { verity = v; on_data = place_named c v.data; on_hash = place_named c v.hash; index = i }
@@ -91,6 +93,7 @@ data_expected bytes_of b expected = record {
   bytes_of = bytes_of;
   means = λ images. data_block_at b.verity (λ s. (b.on_data.said s).means images) b.index expected;
   cost = block_sectors b.verity * b.on_data.cost;
+  leaves = b.on_data.leaves;
 }
 
 -- of its chain
@@ -101,6 +104,7 @@ chain_expected b = record {
   bytes_of = λ chain. chain.content;
   means = λ images. block_at b.verity (λ s. (b.on_data.said s).means images) (λ s. (b.on_hash.said s).means images) b.index;
   cost = block_sectors b.verity * b.on_data.cost + path_sectors b.verity * b.on_hash.cost;
+  leaves = λ i. b.on_data.leaves i || b.on_hash.leaves i;
 }
 
 abbrev pub GetsChain : DataBlock → List Device → List Device → Result ChainRecord IoFault → Type 0
@@ -112,4 +116,4 @@ pub record IsWalked (b : DataBlock) (l : ℕ) (expected : List ℕ) (path : List
   pub moved : AreRead old (length path * (hash_sectors b.verity * b.on_hash.cost)) new
   pub hangs : (rest : List (List ℕ)) (content : List ℕ) → length rest ≡ l → HangsFrom (tree_of b.verity) b.verity.salt b.index expected rest content
       → HangsFrom (tree_of b.verity) b.verity.salt b.index b.verity.root (path ++ rest) content
-  pub exact : AllSteady old → (chain_expected b).means (images_of old) ≡ means_below b (images_of old) l expected
+  pub exact : AreSteady (chain_expected b).leaves old → (chain_expected b).means (steady_images old) ≡ means_below b (steady_images old) l expected

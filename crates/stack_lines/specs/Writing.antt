@@ -1,5 +1,6 @@
 -- Contracts of writes.
-use Rattle.std.specs.Prelude.{◌≡◌, ℕ, ◌+◌, ◌-◌, ◌*◌, ◌/◌, ◌%◌, ◌^◌, ◌<◌, ◌≤◌, ◌⊎◌, IsTrue, List, [], ◌∷◌, ◌++◌, length, take, drop, slice_get, Contains, Option, Some, None, Result, Ok, Err, IfErr}
+pub use Rattle.stack_meaning.specs.Stops.{AreOneCall, FailedBy, IsCounted}
+use Rattle.std.specs.Prelude.{Bool, ◌≡◌, ℕ, ◌+◌, ◌-◌, ◌*◌, ◌/◌, ◌%◌, ◌^◌, ◌<◌, ◌≤◌, ◌⊎◌, IsTrue, List, [], ◌∷◌, ◌++◌, length, take, drop, slice_get, Contains, Option, Some, None, Result, Ok, Err, IfErr}
 use Rattle.std.specs.List.{slice_index_or}
 use Rattle.block_device.specs.Device.{Device, sectors_of}
 use Rattle.dm_table.specs.declared.table.Line.{Line}
@@ -18,9 +19,10 @@ use Rattle.stack_meaning.specs.declared.fault.Fault.{Fault}
 use Rattle.stack_meaning.specs.Outcomes.{error_target, Images, LeafSector}
 use Rattle.stack_meaning.specs.Meaning.{Said, said_at}
 use Rattle.stack_meaning.specs.Puts.{Put, done, stopped, Putting, none_put, runs_from, put_runs, together, line_put, put_on}
-use Rattle.stack_meaning.specs.Leaves.{images_of, AllSteady, LeafFailed}
-use Rattle.stack_meaning.specs.Changes.{reached, KeepsOthers, AreWritten, DifferWithin}
+use Rattle.stack_meaning.specs.Leaves.{steady_images, AreSteady, LeafFailed}
+use Rattle.stack_meaning.specs.Changes.{reached, KeepsOthers, AreWritten, NoneRead, DifferWithin}
 use Rattle.stack_lines.specs.Sources.{source_said, cost_beneath}
+use Rattle.stack_lines.specs.Touches.{leaves_of, source_leaves}
 
 -- the bytes of whole sectors, at least one
 pub record AreSectors (bytes : List ℕ) : Type 0 where
@@ -53,10 +55,11 @@ pub record Destination : Type 1 where
   pub said : ℕ → Said
   pub puts : ℕ → Putting
   pub cost : ℕ
+  pub leaves : ℕ → Bool
 
 -- a leaf or device
 abbrev pub destination_of : Configuration → Lower → Destination
-destination_of c lower = record { said = said_at c lower; puts = put_on c lower; cost = write_cost c lower }
+destination_of c lower = record { said = said_at c lower; puts = put_on c lower; cost = write_cost c lower; leaves = leaves_of c lower }
 
 -- a write encrypts some of n sectors from the first on
 abbrev pub SomeEncrypt : (ℕ → Said) → ℕ → ℕ → Type 0
@@ -73,20 +76,6 @@ pub record IsBufferFor (said : ℕ → Said) (first : ℕ) (bytes buffer : List 
   pub same : drop (length buffer) bytes ++ buffer ≡ bytes
 
 -- ---- where a write stops that a fault ends
-
--- n sectors from s on are those of one call of leaf i's device: each reaches one of so many sectors of the leaf, which
--- stand side by side, and each of these is reached.
-pub record AreOneCall (i : ℕ) (reaches : ℕ → List LeafSector) (s n : ℕ) : Type 0 where
-  pub start : ℕ
-  pub count : ℕ
-  pub each : (j : ℕ) → j < n → SomeOf (λ t. Contains (reaches (s + j)) (i, t)) start count
-  pub own : (t : ℕ) → t < count → reached reaches s n (i, start + t)
-
--- n sectors from s on failed by the fault: each meets it, or they are those of the call that failed
-abbrev pub FailedBy : (ℕ → Said) → IoFault → ℕ → ℕ → Type 0
-FailedBy said (io.Stack fault) s n = (j : ℕ) → j < n → (said (s + j)).meets fault
-FailedBy said (io.Device i) s n = AreOneCall (i - 1) (λ t. (said t).reaches) s n
-FailedBy said io.NoMemory s n = Unit {0}
 
 -- Whatever the leaves answer, of n sectors from the first on: behind so many of them some failed, and what only later
 -- ones reach is as it was. So is a leaf that only later ones reach, with its counters: it wasn't asked.
@@ -106,14 +95,8 @@ pub record StopsBehind (to : Destination) (first : ℕ) (sectors : List (List �
   pub within : put ≤ stop.before
   pub together : (j : ℕ) → put ≤ j → j < stop.before → (to.said (first + j)).encrypts
   pub images : Images
-  pub is : to.puts first (take put sectors) (images_of old) ≡ done images
-  pub others : DifferWithin (reached (λ s. (to.said s).reaches) (first + put) (stop.before + stop.failed - put)) images (images_of new)
-
--- the count of failures of the leaf that the fault names, if it names one, isn't at its end
-abbrev pub IsCounted : IoFault → List Device → Type 0
-IsCounted (io.Stack fault) leaves = Unit {0}
-IsCounted (io.Device i) leaves = (d : Device) → (slice_index_or leaves (i - 1) d).failures < 2 ^ 64 - 1
-IsCounted io.NoMemory leaves = Unit {0}
+  pub is : to.puts first (take put sectors) (steady_images old) ≡ done images
+  pub others : DifferWithin (reached (λ s. (to.said s).reaches) (first + put) (stop.before + stop.failed - put)) images (steady_images new)
 
 -- by an answer
 abbrev pub StopsAtFault : (ℕ → Said) → ℕ → ℕ → List Device → List Device → Result Unit IoFault → Type 0
@@ -128,7 +111,7 @@ put_some puts s [] images = done images
 put_some puts s (x ∷ xs) images = puts s (x ∷ xs) images
 
 abbrev pub with_some : Destination → Destination
-with_some to = record { said = to.said; puts = put_some to.puts; cost = to.cost }
+with_some to = record { said = to.said; puts = put_some to.puts; cost = to.cost; leaves = to.leaves }
 
 -- ---- one write
 
@@ -137,9 +120,10 @@ pub record Writes (to : Destination) (first : ℕ) (sectors : List (List ℕ)) (
   pub moved : AreWritten (reached (λ s. (to.said s).reaches) first (length sectors)) old (length sectors * to.cost) new
   pub ends : MayEnd (λ fault. SomeOf (λ s. (to.said s).meets fault) first (length sectors)) old new result
   pub grown : result ≡ Err io.NoMemory → ⊥
-  pub exact : AllSteady old → IsPut (to.puts first sectors (images_of old)) (images_of new) result
+  pub exact : AreSteady to.leaves old → IsPut (to.puts first sectors (steady_images old)) (steady_images new) result
   pub stops : StopsAtFault to.said first (length sectors) old new result
-  pub behind : AllSteady old → StopsBehindPut (with_some to) first sectors old new result
+  pub behind : AreSteady to.leaves old → StopsBehindPut (with_some to) first sectors old new result
+  pub unread : (SomeEncrypt to.said first (length sectors) → ⊥) → NoneRead old new
 
 -- ---- what the engine writes as one run
 
@@ -186,4 +170,4 @@ SourceMayWrite c (Block b) = ⊥
 SourceMayWrite c (Blocks b) = ⊥
 
 abbrev pub source_destination : Configuration → Source → Destination
-source_destination c source = record { said = source_said c source; puts = source_put c source; cost = source_write_cost c source }
+source_destination c source = record { said = source_said c source; puts = source_put c source; cost = source_write_cost c source; leaves = source_leaves c source }

@@ -20,4 +20,5 @@ pub mod SizedLemmas
 pub mod SpanLemmas
 pub mod StripesLemmas
 pub mod UnitLemmas
+pub mod UpLemmas
 pub mod targets

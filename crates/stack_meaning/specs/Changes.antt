@@ -1,5 +1,5 @@
 -- What writes do to the leaves.
-use Rattle.std.specs.Prelude.{◌≡◌, ℕ, ◌+◌, ◌≤◌, IsTrue, List, [], length, All, Contains}
+use Rattle.std.specs.Prelude.{◌≡◌, ℕ, ◌+◌, ◌≤◌, IsTrue, List, [], length, map, All, Contains}
 use Rattle.std.specs.List.{slice_index_or}
 use Rattle.block_device.specs.Device.{Device, IsWhole}
 use Rattle.stack_meaning.specs.Sectors.{SomeOf}
@@ -28,6 +28,10 @@ pub record AreWritten (these : LeafSectors) (old : List Device) (most : ℕ) (ne
   pub within : read + written ≤ most
   pub moved : Moves read written old new
   pub others : KeepsOthers these old new
+
+-- no leaf counts a read
+abbrev pub NoneRead : List Device → List Device → Type 0
+NoneRead old new = map (λ l. l.reads) new ≡ map (λ l. l.reads) old
 
 -- images that differ in these leaf sectors alone
 pub record DifferWithin (these : LeafSectors) (old new : Images) : Type 0 where

@@ -1,5 +1,6 @@
 -- What holds of the chains that were found, while the leaves stand.
-use Rattle.std.specs.Prelude.{ℕ, List, All}
+use Rattle.std.specs.Prelude.{ℕ, Bool, List, All}
+use Rattle.std.specs.List.{list_any}
 use Rattle.hash_tree.specs.Chain.{ChainRecord}
 use Rattle.block_device.specs.Device.{Device}
 use Rattle.dm_table.specs.declared.verity.Verity.{Verity}
@@ -7,6 +8,8 @@ use Rattle.dm_table.specs.declared.table.Line.{Line}
 use Rattle.dm_table.specs.declared.table.Target.{Target}
 use Rattle.stack_rules.specs.Records.{Configuration}
 use Rattle.stack_rules.specs.Lines.{IsLine}
+use Rattle.stack_rules.specs.Names.{names}
+use Rattle.stack_meaning.specs.LeavesBeneath.{name_stands_on}
 use Rattle.stack_meaning.specs.Outcomes.{Images, Outcome}
 use Rattle.stack_meaning.specs.Blocks.{block_at}
 use Rattle.stack_meaning.specs.Found.{FoundRecord}
@@ -20,9 +23,13 @@ pub use Rattle.stack_meaning.specs.targets.Verity.{IsOfVerity}
 abbrev pub block_of : Configuration → Images → Verity → ℕ → Outcome
 block_of c images v i = block_at v (λ t. (said_by_name c v.data t).means images) (λ t. (said_by_name c v.hash t).means images) i
 
+-- the leaves on which what a line of that target names stands
+abbrev pub target_leaves : Configuration → Target → ℕ → Bool
+target_leaves c target i = list_any (name_stands_on c i) (names target)
+
 -- what holds of a chain that such a line gave
 abbrev pub LineKeeps : Configuration → List Device → Target → ChainRecord → Type 0
-LineKeeps c leaves target chain = keeps_as (meaning_of target).meant (below none_said (said_by_name c) target) leaves chain
+LineKeeps c leaves target chain = keeps_as (meaning_of target).meant (below none_said (said_by_name c) target) (target_leaves c target) leaves chain
 
 -- what holds of a chain that was found: it has its line, and what this line keeps
 pub record IsKept (c : Configuration) (leaves : List Device) (x : FoundRecord) : Type 0 where

@@ -1,5 +1,5 @@
 -- What reads do to the leaves.
-use Rattle.std.specs.Prelude.{◌≡◌, ℕ, ◌+◌, ◌<◌, ◌≤◌, Bool, IsTrue, List, length, map, sum_by, All}
+use Rattle.std.specs.Prelude.{◌≡◌, ℕ, ◌+◌, ◌<◌, ◌≤◌, Bool, IsTrue, List, [], length, map, sum_by, All, if◌then◌else◌}
 use Rattle.std.specs.List.{slice_index_or}
 use Rattle.block_device.specs.Device.{Device, HasFailed}
 use Rattle.stack_rules.specs.Records.{LeafRecord}
@@ -7,6 +7,13 @@ use Rattle.stack_meaning.specs.Outcomes.{Images}
 
 abbrev pub images_of : List Device → Images
 images_of leaves = map (λ l. l.image) leaves
+
+-- those of the steady leaves; of another leaf none is known
+abbrev pub steady_image : Device → List (List ℕ)
+steady_image l = if l.steady then l.image else []
+
+abbrev pub steady_images : List Device → Images
+steady_images leaves = map steady_image leaves
 
 abbrev pub sizes_of : List Device → List ℕ
 sizes_of leaves = map (λ l. l.size) leaves
@@ -28,6 +35,10 @@ writes_of leaves = sum_by (λ l. l.writes) leaves
 
 abbrev pub AllSteady : List Device → Type 0
 AllSteady leaves = All (λ l. IsTrue l.steady) leaves
+
+-- each of these leaves is steady
+abbrev pub AreSteady : (ℕ → Bool) → List Device → Type 0
+AreSteady these leaves = (i : ℕ) (d : Device) → i < length leaves → IsTrue (these i) → IsTrue (slice_index_or leaves i d).steady
 
 -- what no call changes of a leaf
 pub record Fixed : Type 0 where

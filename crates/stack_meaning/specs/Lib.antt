@@ -15,6 +15,7 @@ pub mod LeavesBeneath
 pub mod Puts
 pub mod May
 pub mod Changes
+pub mod Stops
 pub mod Kept
 pub mod Places
 pub mod Reading

@@ -1,5 +1,5 @@
 -- Places from which sectors are read, and what is expected of a read.
-use Rattle.std.specs.Prelude.{ℕ, ◌*◌, List}
+use Rattle.std.specs.Prelude.{ℕ, ◌*◌, Bool, List}
 use Rattle.block_device.specs.Device.{Device}
 use Rattle.stack_rules.specs.declared.lower.Lower.{Lower}
 use Rattle.stack_rules.specs.Records.{Configuration}
@@ -8,25 +8,28 @@ use Rattle.stack_meaning.specs.Sectors.{SomeOf, IsRun}
 use Rattle.stack_meaning.specs.declared.fault.Fault.{Fault}
 use Rattle.stack_meaning.specs.Outcomes.{Outcome, Images, span}
 use Rattle.stack_meaning.specs.Found.{FoundRecord}
+use Rattle.stack_meaning.specs.LeavesBeneath.{stands_on}
 use Rattle.stack_meaning.specs.Meaning.{Said, said_at}
 
--- what is said of each sector of a place, and the leaf sectors that are read for one at most
+-- what is said of each sector of a place, the leaf sectors that are read for one at most, and the leaves on which it stands
 pub record Place : Type 1 where
   pub said : ℕ → Said
   pub cost : ℕ
+  pub leaves : ℕ → Bool
 
 -- a leaf or device
 abbrev pub place_of : Configuration → Lower → Place
-place_of c lower = record { said = said_at c lower; cost = read_cost c lower }
+place_of c lower = record { said = said_at c lower; cost = read_cost c lower; leaves = λ i. stands_on c i lower }
 
 -- What is expected of an answer: what it may be, the faults in its place, its bytes, what these mean over the
--- leaves' images, and the leaf sectors that are read for it at most.
+-- leaves' images, the leaf sectors that are read for it at most, and the leaves on which it stands.
 pub record Expected (A : Type 0) : Type 1 where
   pub is : A → Type 0
   pub faults : Fault → Type 0
   pub bytes_of : A → List ℕ
   pub means : Images → Outcome
   pub cost : ℕ
+  pub leaves : ℕ → Bool
 
 -- of the bytes of n sectors of a place, from the first on, with those chains
 abbrev pub run_expected : Place → List FoundRecord → ℕ → ℕ → Expected (List ℕ)
@@ -36,6 +39,7 @@ run_expected place chains first n = record {
   bytes_of = λ bytes. bytes;
   means = λ images. span (λ s. (place.said s).means images) first n;
   cost = n * place.cost;
+  leaves = place.leaves;
 }
 
 -- what a read went from and to: the leaves, and the chains that were found

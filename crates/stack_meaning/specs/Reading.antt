@@ -8,10 +8,11 @@ use Rattle.stack_meaning.specs.declared.fault.IoFault.{IoFault}
 use Rattle.stack_meaning.specs.declared.fault.IoFault.TheVariants as io
 use Rattle.stack_meaning.specs.declared.fault.Fault.{Fault}
 use Rattle.stack_meaning.specs.Outcomes.{mismatch, Outcome}
-use Rattle.stack_meaning.specs.Leaves.{images_of, AllSteady, AreRead, LeafFailed}
+use Rattle.stack_meaning.specs.Leaves.{steady_images, AreSteady, AreRead, LeafFailed}
 use Rattle.stack_meaning.specs.Sectors.{SomeOf}
 use Rattle.stack_meaning.specs.Changes.{reached}
 use Rattle.stack_meaning.specs.Meaning.{Said}
+use Rattle.stack_meaning.specs.Stops.{ReadStops}
 use Rattle.stack_meaning.specs.Found.{Grown}
 use Rattle.stack_meaning.specs.Kept.{AllKept}
 use Rattle.stack_meaning.specs.Places.{Place, place_of, Expected, run_expected, Read}
@@ -24,7 +25,7 @@ Ends Is May old new (Err (io.Stack fault)) = May fault
 Ends Is May old new (Err (io.Device i)) = (1 ≤ i) × LeafFailed (i - 1) old new
 Ends Is May old new (Err io.NoMemory) = Unit {0}
 
--- over steady leaves: what this means, unless a device failed or memory ran out
+-- where the leaves beneath are steady: what this means, unless a device failed or memory ran out
 abbrev pub Answers : {A : Type 0} → (A → List ℕ) → Outcome → Result A IoFault → Type 0
 Answers bytes_of meaning (Ok x) = meaning ≡ Ok (bytes_of x)
 Answers bytes_of meaning (Err (io.Stack fault)) = meaning ≡ Err fault
@@ -35,7 +36,7 @@ Answers bytes_of meaning (Err io.NoMemory) = Unit {0}
 pub record Gets {A : Type 0} (wanted : Expected A) (old new : List Device) (result : Result A IoFault) : Type 0 where
   pub moved : AreRead old wanted.cost new
   pub may : Ends wanted.is wanted.faults old new result
-  pub exact : AllSteady old → Answers wanted.bytes_of (wanted.means (images_of old)) result
+  pub exact : AreSteady wanted.leaves old → Answers wanted.bytes_of (wanted.means (steady_images old)) result
 
 -- the bytes of a buffer that was filled, or the fault
 abbrev pub buffer_answer : Result Unit IoFault → List ℕ → Result (List ℕ) IoFault
@@ -47,10 +48,11 @@ abbrev pub MeetVerity : (ℕ → Said) → ℕ → ℕ → Type 0
 MeetVerity said first n = SomeOf (λ s. (said s).meets mismatch) first n
 
 -- A read of n sectors, from the first on, takes memory where a verity line is on their way alone. Where none is, it
--- keeps each leaf on which none of them lies as it was.
+-- keeps each leaf on which none of them lies as it was, and a fault ends it where it comes.
 pub record IsPlain (said : ℕ → Said) (first n : ℕ) (old new : List Device) (result : Result Unit IoFault) : Type 0 where
   pub memory : result ≡ Err io.NoMemory → MeetVerity said first n
   pub leaf : (MeetVerity said first n → ⊥) → (i : ℕ) (d : Device) → ((t : ℕ) → reached (λ s. (said s).reaches) first n (i, t) → ⊥) → slice_index_or new i d ≡ slice_index_or old i d
+  pub stops : (MeetVerity said first n → ⊥) → ReadStops said first n old new result
 
 -- A read of n sectors of a place, from the first on. Each may be its bytes with the chains that are there after it.
 pub record Finds (place : Place) (c : Configuration) (first n : ℕ) (did : Read) (answer : Result (List ℕ) IoFault) : Type 0 where

@@ -12,8 +12,8 @@ pub record OwnMeaning : Type 1 where
   pub said : (ℕ → ℕ → Said) → ℕ → ℕ → ℕ → Said
   -- what a put from sector s on does, of sectors that go down together
   pub put : (ℕ → ℕ → Said) → (ℕ → ℕ → Putting) → ℕ → Putting
-  -- what holds of a chain that the line gave
-  pub keeps : (ℕ → ℕ → Said) → List Device → ChainRecord → Type 0
+  -- what holds of a chain that the line gave, where the line stands on some leaves
+  pub keeps : (ℕ → ℕ → Said) → (ℕ → Bool) → List Device → ChainRecord → Type 0
 
 -- each sector is handed on as the one beneath, or means something of its own
 pub data Meant : Type 1 where
@@ -34,9 +34,9 @@ abbrev pub put_as : Meant → Putting → (ℕ → ℕ → Said) → (ℕ → �
 put_as handed beneath reads puts s sectors images = beneath sectors images
 put_as (own m) beneath reads puts s sectors images = m.put reads puts s sectors images
 
-abbrev pub keeps_as : Meant → (ℕ → ℕ → Said) → List Device → ChainRecord → Type 0
-keeps_as handed below leaves chain = ⊥
-keeps_as (own m) below leaves chain = m.keeps below leaves chain
+abbrev pub keeps_as : Meant → (ℕ → ℕ → Said) → (ℕ → Bool) → List Device → ChainRecord → Type 0
+keeps_as handed below these leaves chain = ⊥
+keeps_as (own m) below these leaves chain = m.keeps below these leaves chain
 
 abbrev pub IsHanded : Meant → Type 0
 IsHanded handed = Unit {0}

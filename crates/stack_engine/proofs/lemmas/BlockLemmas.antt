@@ -18,7 +18,7 @@ use Rattle.stack_meaning.specs.Found.{FoundRecord, Entry, entry_of, Grown}
 use Rattle.stack_meaning.specs.Blocks.{block_at, BlockMeets}
 use Rattle.stack_meaning.specs.Meaning.{content_part, verity_said}
 use Rattle.stack_meaning.specs.Kept.{IsKept, AllKept}
-use Rattle.stack_meaning.specs.Leaves.{images_of, AllSteady, AreRead}
+use Rattle.stack_meaning.specs.Leaves.{steady_images, AreSteady, AreRead}
 use Rattle.stack_meaning.specs.Places.{Place, run_expected}
 use Rattle.stack_meaning.specs.Reading.{Gets}
 use Rattle.stack_lines.specs.Walks.{DataBlock, chain_expected, GetsChain}
@@ -89,7 +89,7 @@ Grown-push entries first n found x some is none = record {
 
 -- the sectors of data block b from sector w of its line on, the l-th of device d, as a place
 abbrev pub block_place : DataBlock → ℕ × ℕ → ℕ → ℕ → Place
-block_place b at w cost = record { said = λ j. verity_said b.on_data.said b.on_hash.said at.0 at.1 b.verity (w + j); cost = cost }
+block_place b at w cost = record { said = λ j. verity_said b.on_data.said b.on_hash.said at.0 at.1 b.verity (w + j); cost = cost; leaves = (chain_expected b).leaves }
 
 abbrev pub entry_in : DataBlock → ℕ × ℕ → Entry
 entry_in b at = (at.0, at.1, b.index)
@@ -109,7 +109,7 @@ module _ (b : DataBlock) (at : ℕ × ℕ) (w n cost : ℕ) (index : b.index ≡
 
   -- the sectors of a good chain that is there
   pub chain_fills : {old new : List Device} (chains : List FoundRecord) (x : FoundRecord) {bytes : List ℕ} → AreRead old (n * cost) new
-      → (AllSteady old → (chain_expected b).means (images_of old) ≡ Ok x.chain.content)
+      → (AreSteady (chain_expected b).leaves old → (chain_expected b).means (steady_images old) ≡ Ok x.chain.content)
       → IsGood (tree_of b.verity) b.verity.salt b.verity.root x.chain → entry_of x ≡ entry_in b at → Contains chains x
       → bytes ≡ take (512 * n) (drop (512 * (w % block_sectors b.verity)) x.chain.content)
       → Gets (run_expected (block_place b at w cost) chains 0 n) old new (Ok bytes)
@@ -127,8 +127,8 @@ module _ (b : DataBlock) (at : ℕ × ℕ) (w n cost : ℕ) (index : b.index ≡
           );
         };
         exact = λ steady.
-            span_block (λ j. ((block_place b at w cost).said j).means (images_of old)) content 0 (w % block_sectors b.verity) n
-            (λ j h. means_is (images_of old) (0 + j) (omega (arith, h))
+            span_block (λ j. ((block_place b at w cost).said j).means (steady_images old)) content 0 (w % block_sectors b.verity) n
+            (λ j h. means_is (steady_images old) (0 + j) (omega (arith, h))
             ∙ ap (λ (y : Outcome). then_outcome y (λ block. Ok (content_part b.verity (w + (0 + j)) block))) (exact steady)
             ∙ ap (λ (k : ℕ). Ok (part content k)) (same_within (block_sectors b.verity) w (0 + j) (omega (arith, h, within)) ∙ let e : w % block_sectors b.verity + (0 + j) ≡ w % block_sectors b.verity + j = omega arith in e))
             (omega (arith, size, within))
@@ -142,6 +142,7 @@ module _ (b : DataBlock) (at : ℕ × ℕ) (w n cost : ℕ) (index : b.index ≡
       fault_passes {wanted = chain_expected b} {wanted' = run_expected (block_place b at w cost) chains 0 n} fault p (AreRead-none 0 old)
       (omega (arith, most, mul-le-mul_right cost some))
       (λ x meets. (0, some, subst (λ (k : ℕ). BlockMeets b.verity (λ s. (b.on_data.said s).meets) (λ s. (b.on_hash.said s).meets) k x) (sym (index_is (0 + 0) some)) meets))
+      (λ i is. is)
       (λ steady x is.
-      span_fails (λ j. ((block_place b at w cost).said j).means (images_of old)) 0 n x some
-      (means_is (images_of old) 0 some ∙ ap (λ (y : Outcome). then_outcome y (λ block. Ok (content_part b.verity (w + 0) block))) is))
+      span_fails (λ j. ((block_place b at w cost).said j).means (steady_images old)) 0 n x some
+      (means_is (steady_images old) 0 some ∙ ap (λ (y : Outcome). then_outcome y (λ block. Ok (content_part b.verity (w + 0) block))) is))

@@ -24,7 +24,7 @@ piece-sound c {old = old} {new = new} s a = record { loaded = s.loaded; serve = 
 
 -- what is expected of an answer that has chains, where bytes and chains are so
 abbrev answer_expected : (AnswerRecord → Type 0) → Configuration → Lower → ℕ → ℕ → Expected AnswerRecord
-answer_expected Is c lower first n = let run = run_expected (place_of c lower) [] first n in record { is = Is; faults = run.faults; bytes_of = λ answer. answer.bytes; means = run.means; cost = run.cost }
+answer_expected Is c lower first n = let run = run_expected (place_of c lower) [] first n in record { is = Is; faults = run.faults; bytes_of = λ answer. answer.bytes; means = run.means; cost = run.cost; leaves = run.leaves }
 
 -- of the answer of `read_piece`
 abbrev pub piece_expected : Configuration → Lower → ℕ → ℕ → Expected AnswerRecord
@@ -50,8 +50,8 @@ piece_ok c lower first n p = record {
 
 -- a fault is the same under any answer with these faults and this meaning
 fault_as : {A B : Type 0} {wanted : Expected A} (Is : B → Type 0) (bytes_of : B → List ℕ) {old new : List Device} (fault : IoFault)
-    → Gets wanted old new (Err fault) → Gets (record { is = Is; faults = wanted.faults; bytes_of = bytes_of; means = wanted.means; cost = wanted.cost }) old new (Err fault)
-fault_as Is bytes_of {old = old} fault p = fault_passes fault p (AreRead-none 0 old) (omega arith) (λ x h. h) (λ steady x is. is)
+    → Gets wanted old new (Err fault) → Gets (record { is = Is; faults = wanted.faults; bytes_of = bytes_of; means = wanted.means; cost = wanted.cost; leaves = wanted.leaves }) old new (Err fault)
+fault_as Is bytes_of {old = old} fault p = fault_passes fault p (AreRead-none 0 old) (omega arith) (λ x h. h) (λ i h. h) (λ steady x is. is)
 
 pub piece_err : (c : Configuration) (lower : Lower) (first n : ℕ) {old new : List Device} {chains : List FoundRecord} (fault : IoFault)
     → Reads c lower first n (record { old = old; new = new; before = []; after = chains }) (Err fault) → Gets (piece_expected c lower first n) old new (Err fault)

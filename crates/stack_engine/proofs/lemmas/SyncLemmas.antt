@@ -8,9 +8,9 @@ use Rattle.std.proofs.lemmas.List.Sums.{sum-map}
 use Rattle.block_device.specs.Device.{Device, HasFailed, IsUnsynced, synced}
 use Rattle.stack_meaning.specs.declared.fault.IoFault.{IoFault}
 use Rattle.stack_meaning.specs.declared.fault.IoFault.TheVariants as io
-use Rattle.stack_meaning.specs.Leaves.{AllSteady, AreRead, Counts, LeafFailed, fixed_part}
+use Rattle.stack_meaning.specs.Leaves.{AllSteady, AreSteady, AreRead, Counts, LeafFailed, fixed_part}
 use Rattle.stack_engine.specs.Syncs.{FailsToSync, LeafUnsynced, NeverFail, synced_first}
-use Rattle.stack_meaning.proofs.lemmas.LeafListLemmas.{AllSteady-kept, AreRead-then}
+use Rattle.stack_meaning.proofs.lemmas.LeafListLemmas.{AreSteady-kept, AllSteady-kept, AreRead-then}
 
 -- ---- leaves that are synced
 
@@ -147,12 +147,19 @@ unsynced-read old new (io.Device i) f = AreRead-then {m = 0} {n = 0} (first-read
 unsynced-read old new (io.Stack fault) f = absurd f
 unsynced-read old new io.NoMemory f = absurd f
 
+-- leaves that are steady stay so
+pub unsynced-on : (these : ℕ → Bool) (old new : List Device) (fault : IoFault) → FailsToSync old new fault → AreSteady these old → AreSteady these new
+unsynced-on these old new fault f = AreSteady-kept old new (unsynced-read old new fault f).moved.fixed
+
 pub unsynced-steady : (old new : List Device) (fault : IoFault) → FailsToSync old new fault → AllSteady old → AllSteady new
 unsynced-steady old new fault f = AllSteady-kept old new (unsynced-read old new fault f).moved.fixed
 
 -- nor does one that succeeds
 pub synced-read : (leaves : List Device) → AreRead leaves 0 (map synced leaves)
 synced-read leaves = subst (AreRead leaves 0) (synced-all leaves) (first-read leaves (length leaves))
+
+pub synced-on : (these : ℕ → Bool) (leaves : List Device) → AreSteady these leaves → AreSteady these (map synced leaves)
+synced-on these leaves = AreSteady-kept leaves (map synced leaves) (synced-read leaves).moved.fixed
 
 pub synced-steady : (leaves : List Device) → AllSteady leaves → AllSteady (map synced leaves)
 synced-steady leaves = AllSteady-kept leaves (map synced leaves) (synced-read leaves).moved.fixed

@@ -1,5 +1,5 @@
 -- The walk to a data block of a verity line.
-use Rattle.std.proofs.Common.{◌≡◌, ℕ, suc, ◌+◌, ◌*◌, ◌<◌, ◌≤◌, Bool, true, false, cond, List, [], ◌∷◌, ◌++◌, length, Result, Ok, Err, refl, sym, ap, ◌∙◌, subst, arith, inl, inr}
+use Rattle.std.proofs.Common.{◌≡◌, ℕ, suc, ◌+◌, ◌*◌, ◌<◌, ◌≤◌, Bool, IsTrue, ◌||◌, true, false, cond, List, [], ◌∷◌, ◌++◌, length, Result, Ok, Err, refl, sym, ap, ◌∙◌, subst, arith, inl, inr}
 use Rattle.std.proofs.lemmas.Bool.{and_parts, cond-true, cond-false}
 use Rattle.std.proofs.lemmas.Slice.Eq.{bytes_eq-Decides}
 use Rattle.std.proofs.lemmas.List.{append_assoc, append-nil, length-append, length-replicate}
@@ -15,11 +15,12 @@ use Rattle.stack_meaning.specs.declared.fault.IoFault.TheVariants as io
 use Rattle.stack_meaning.specs.Outcomes.{mismatch, Outcome, Images, then_outcome}
 use Rattle.stack_meaning.specs.Found.{FoundRecord}
 use Rattle.stack_meaning.specs.Blocks.{hash_sectors, hash_start, next_digest, checked, checked_span, is_ignored, data_block_at}
-use Rattle.stack_meaning.specs.Leaves.{images_of, AllSteady, AreRead}
+use Rattle.stack_meaning.specs.Leaves.{steady_images, AreSteady, AreRead}
 use Rattle.stack_meaning.specs.Places.{Place, Expected, run_expected}
 use Rattle.stack_meaning.specs.Reading.{Answers, Gets}
 use Rattle.stack_lines.specs.Walks.{checked_expected, DataBlock, means_below, data_expected, chain_expected, GetsChain, IsWalked}
-use Rattle.stack_meaning.proofs.lemmas.LeafListLemmas.{AreRead-none, AreRead-then, AreRead-more, AllSteady-kept, images-kept}
+use Rattle.stack_meaning.proofs.lemmas.LeafListLemmas.{AreRead-none, AreRead-then, AreRead-more, AreSteady-kept, AreSteady-within, images-kept}
+use Rattle.stack_lines.proofs.lemmas.StandingLemmas.{or-true}
 use Rattle.stack_meaning.proofs.lemmas.RunLemmas.{fault_passes}
 
 -- ---- one block that is checked
@@ -75,21 +76,28 @@ levels_cost v hb cost m n h =
 abbrev hash_expected : {A : Type 0} → (A → List ℕ) → DataBlock → ℕ → List ℕ → Expected A
 hash_expected bytes_of b l expected = checked_expected bytes_of b.on_hash (hash_start b.verity l b.index) (hash_sectors b.verity) b.verity.salt expected
 
+-- the leaves beneath one of the two devices are some of those beneath both
+hash-in : (b : DataBlock) (i : ℕ) → IsTrue (b.on_hash.leaves i) → IsTrue ((chain_expected b).leaves i)
+hash-in b i is = ap (λ (x : Bool). b.on_data.leaves i || x) is ∙ or-true (b.on_data.leaves i)
+
+data-in : (b : DataBlock) (i : ℕ) → IsTrue (b.on_data.leaves i) → IsTrue ((chain_expected b).leaves i)
+data-in b i is = ap (λ (x : Bool). x || b.on_hash.leaves i) is
+
 -- the meaning goes on with what the next hash block means
-means-step : {A : Type 0} (bytes_of : A → List ℕ) (b : DataBlock) (l : ℕ) {expected : List ℕ} {path : List (List ℕ)} {old mid : List Device} → IsWalked b (suc l) expected path old mid → AllSteady old
-    → (x : Outcome) → (hash_expected bytes_of b l expected).means (images_of mid) ≡ x
-    → (chain_expected b).means (images_of old) ≡ then_outcome x (λ block. means_below b (images_of old) l (next_digest b.verity l b.index block))
+means-step : {A : Type 0} (bytes_of : A → List ℕ) (b : DataBlock) (l : ℕ) {expected : List ℕ} {path : List (List ℕ)} {old mid : List Device} → IsWalked b (suc l) expected path old mid → AreSteady (chain_expected b).leaves old
+    → (x : Outcome) → (hash_expected bytes_of b l expected).means (steady_images mid) ≡ x
+    → (chain_expected b).means (steady_images old) ≡ then_outcome x (λ block. means_below b (steady_images old) l (next_digest b.verity l b.index block))
 means-step bytes_of b l {expected = expected} {old = old} {mid = mid} p steady x is =
-    let images : images_of mid ≡ images_of old = images-kept p.moved steady in
+    let images : steady_images mid ≡ steady_images old = images-kept p.moved in
     p.exact steady
-    ∙ ap (λ (y : Outcome). then_outcome y (λ block. means_below b (images_of old) l (next_digest b.verity l b.index block)))
+    ∙ ap (λ (y : Outcome). then_outcome y (λ block. means_below b (steady_images old) l (next_digest b.verity l b.index block)))
     (ap (λ (m : Images). checked_span (λ s. (b.on_hash.said s).means m) (hash_start b.verity l b.index) (hash_sectors b.verity) b.verity.salt expected) (sym images) ∙ is)
 
 -- and with what the data block means
-means-end : {A : Type 0} (bytes_of : A → List ℕ) (b : DataBlock) {expected : List ℕ} {path : List (List ℕ)} {old mid : List Device} → IsWalked b 0 expected path old mid → AllSteady old
-    → (x : Outcome) → (data_expected bytes_of b expected).means (images_of mid) ≡ x → (chain_expected b).means (images_of old) ≡ x
+means-end : {A : Type 0} (bytes_of : A → List ℕ) (b : DataBlock) {expected : List ℕ} {path : List (List ℕ)} {old mid : List Device} → IsWalked b 0 expected path old mid → AreSteady (chain_expected b).leaves old
+    → (x : Outcome) → (data_expected bytes_of b expected).means (steady_images mid) ≡ x → (chain_expected b).means (steady_images old) ≡ x
 means-end bytes_of b {expected = expected} {old = old} {mid = mid} p steady x is =
-    let images : images_of mid ≡ images_of old = images-kept p.moved steady in
+    let images : steady_images mid ≡ steady_images old = images-kept p.moved in
     p.exact steady
     ∙ ap (λ (m : Images). data_block_at b.verity (λ s. (b.on_data.said s).means m) b.index expected) (sym images)
     ∙ is
@@ -114,7 +122,7 @@ module _ {A : Type 0} (bytes_of : A → List ℕ) (b : DataBlock) (l : ℕ) {exp
             let size : length block ≡ b.verity.hash_block = q.may.0 ∙ whole in
             subst (λ (y : List (List ℕ)). HangsFrom (tree_of b.verity) b.verity.salt b.index b.verity.root y content) (sym (append_assoc path (block ∷ []) rest))
             (p.hangs (block ∷ rest) content (omega (arith, h)) (size, q.may.1, subst (λ (e : List ℕ). HangsFrom (tree_of b.verity) b.verity.salt b.index e rest content) at hangs));
-        exact = λ steady. means-step bytes_of b l p steady (Ok block) (q.exact (AllSteady-kept old mid p.moved.moved.fixed steady));
+        exact = λ steady. means-step bytes_of b l p steady (Ok block) (q.exact (AreSteady-within mid (hash-in b) (AreSteady-kept old mid p.moved.moved.fixed steady)));
       }
 
   -- a fault on the way down
@@ -124,6 +132,7 @@ module _ {A : Type 0} (bytes_of : A → List ℕ) (b : DataBlock) (l : ℕ) {exp
       fault_passes {wanted = hash_expected bytes_of b l expected} {wanted' = chain_expected b} fault q p.moved
       (let most = levels_cost (levels (tree_of b.verity)) (hash_sectors b.verity) b.on_hash.cost (length path) 1 (omega (arith, p.count)) in omega (arith, most))
       (λ x meets. elim meets [ inl differs ↦ inl differs | inr some ↦ inr (inr (l, omega (arith, p.count), some)) ])
+      (hash-in b)
       (λ steady x is. means-step bytes_of b l p steady (Err x) is)
 
 module _ {A : Type 0} (bytes_of : A → List ℕ) (b : DataBlock) {expected : List ℕ} {path : List (List ℕ)} {old mid new : List Device} (whole : 512 * block_sectors b.verity ≡ b.verity.data_block) (p : IsWalked b 0 expected path old mid) where
@@ -135,7 +144,7 @@ module _ {A : Type 0} (bytes_of : A → List ℕ) (b : DataBlock) {expected : Li
       record {
         moved = AreRead-more (path_cost b p) (AreRead-then p.moved q.moved);
         may = (refl, record { index = h; path = omega (arith, p.count); hangs = subst (λ (y : List (List ℕ)). HangsFrom (tree_of b.verity) b.verity.salt b.index b.verity.root y (bytes_of x)) (append-nil path) (p.hangs [] (bytes_of x) refl (size, q.may.1)) });
-        exact = λ steady. means-end bytes_of b p steady (Ok (bytes_of x)) (q.exact (AllSteady-kept old mid p.moved.moved.fixed steady));
+        exact = λ steady. means-end bytes_of b p steady (Ok (bytes_of x)) (q.exact (AreSteady-within mid (data-in b) (AreSteady-kept old mid p.moved.moved.fixed steady)));
       }
 
   pub walk_fails : (fault : IoFault) → Gets (data_expected bytes_of b expected) mid new (Err fault)
@@ -143,6 +152,7 @@ module _ {A : Type 0} (bytes_of : A → List ℕ) (b : DataBlock) {expected : Li
   walk_fails fault q =
       fault_passes {wanted = data_expected bytes_of b expected} {wanted' = chain_expected b} fault q p.moved (path_cost b p)
       (λ x meets. elim meets [ inl differs ↦ inl differs | inr some ↦ inr (inl some) ])
+      (data-in b)
       (λ steady x is. means-end bytes_of b p steady (Err x) is)
 
 -- no memory for the path

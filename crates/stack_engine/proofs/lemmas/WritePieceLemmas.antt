@@ -9,8 +9,8 @@ use Rattle.stack_meaning.specs.declared.fault.IoFault.{IoFault}
 use Rattle.stack_meaning.specs.declared.fault.Fault.TheVariants as why
 use Rattle.stack_meaning.specs.declared.fault.IoFault.TheVariants as io
 use Rattle.stack_meaning.specs.May.{MayFault}
-use Rattle.stack_meaning.specs.Changes.{reached, AreWritten, AllWhole}
-use Rattle.stack_lines.specs.Writing.{sectors_in, MayEnd, destination_of, StopsAt, StopsAtFault, StopsBehindPut, with_some, Writes}
+use Rattle.stack_meaning.specs.Changes.{reached, AreWritten, NoneRead, AllWhole}
+use Rattle.stack_lines.specs.Writing.{sectors_in, SomeEncrypt, MayEnd, destination_of, StopsAt, StopsAtFault, StopsBehindPut, with_some, Writes}
 use Rattle.stack_engine.specs.Stacks.{StackRecord, IsSound}
 use Rattle.stack_meaning.specs.declared.fault.Fault.{Fault}
 use Rattle.stack_meaning.specs.Outcomes.{error_target, LeafSector}
@@ -39,8 +39,9 @@ each-write {w = w} {w' = w'} d first bytes result config capacity whole p =
       moved = subst (λ (n : ℕ). AreWritten (piece_reached w.config d first n) w.leaves (n * write_cost w.config (mapped d)) w'.leaves) count p.moved;
       ends = subst (λ (n : ℕ). MayEnd (MayFault w.config (mapped d) first n) w.leaves w'.leaves result) count p.ends;
       stops = subst (λ (n : ℕ). StopsAtFault (said_at w.config (mapped d)) first n w.leaves w'.leaves result) count p.stops;
+      unread = subst (λ (n : ℕ). (SomeEncrypt (said_at w.config (mapped d)) first n → ⊥) → NoneRead w.leaves w'.leaves) count p.unread;
     } in
-    record { any = any; steady = λ steady. record { any = any; exact = p.exact steady; others = differ-within w.leaves w'.leaves any.moved.moved.fixed steady any.moved.others; behind = behind-all result (p.behind steady) } }
+    record { any = any; steady = λ steady. record { any = any; exact = p.exact steady; others = differ-within w.leaves w'.leaves any.moved.moved.fixed any.moved.others; behind = behind-all result (p.behind steady) } }
   where
     behind-all : (result : Result Unit IoFault) → StopsBehindPut (with_some (destination_of w.config (mapped d))) first (sectors_in bytes) w.leaves w'.leaves result
         → StopsBehindPut (destination_of w.config (mapped d)) first (sectors_in bytes) w.leaves w'.leaves result
@@ -59,12 +60,12 @@ none-written w d first bytes some = record {
     exact = tt;
     others = record { leaves = refl; sizes = λ i. refl; sector = λ i t h. refl };
     behind = λ counted. behind-of (destination_of w.config (mapped d)) first (sectors_in bytes) (put-none w.config (mapped d))
-        (stop-here (destination_of w.config (mapped d)) first (sectors_in bytes) refl steady (none-stop w d first (length (sectors_in bytes)) (omega (arith, some, length-sectors_in bytes))) (λ j h. absurd (omega (arith, h))));
+        (stop-here (destination_of w.config (mapped d)) first (sectors_in bytes) refl (none-stop w d first (length (sectors_in bytes)) (omega (arith, some, length-sectors_in bytes))) (λ j h. absurd (omega (arith, h))));
   };
 }
   where
     any : AnyWrite w d first bytes (Err io.NoMemory) w
-    any = record { config = refl; capacity = refl; whole = λ h. h; moved = AreWritten-none _ _ w.leaves; ends = refl; stops = λ counted. none-stop w d first (length bytes / 512) some }
+    any = record { config = refl; capacity = refl; whole = λ h. h; moved = AreWritten-none _ _ w.leaves; ends = refl; stops = λ counted. none-stop w d first (length bytes / 512) some; unread = λ none. refl }
 
 pub write-sound : (c : Configuration) {w w' : StackRecord} {d first : ℕ} {bytes : List ℕ} {result : Result Unit IoFault} → IsSound c w.leaves → EachWrite w d first bytes result w' → IsSound c w'.leaves
 write-sound c {w = w} {w' = w'} s p = record { loaded = s.loaded; serve = leaves_kept c.leaves w.leaves w'.leaves p.any.moved.moved.fixed s.serve }
@@ -80,7 +81,7 @@ fault_of fault e = cc
 -- nothing was written yet
 pub write-none : (w : StackRecord) (d first : ℕ) → WritesInPieces w d first [] (Ok tt) w
 write-none w d first = record {
-  any = record { config = refl; capacity = refl; whole = λ h. h; moved = AreWritten-none _ _ w.leaves; ends = tt; stops = tt };
+  any = record { config = refl; capacity = refl; whole = λ h. h; moved = AreWritten-none _ _ w.leaves; ends = tt; stops = tt; unread = λ none. refl };
   pieces = nothing;
 }
 
@@ -116,12 +117,18 @@ module _ {w w' w'' : StackRecord} (d first : ℕ) (x y z : List ℕ) (even : len
     moved = both-moved q;
     ends = later result grown (subst (λ (c : Configuration). MayEnd (MayFault c (mapped d) (first + length x / 512) (length y / 512)) w'.leaves w''.leaves result) p.config q.ends);
     stops = stops-later result (subst (λ (c : Configuration). StopsAtFault (said_at c (mapped d)) (first + length x / 512) (length y / 512) w'.leaves w''.leaves result) p.config q.stops);
+    unread = λ none. after-unread none ∙ p.unread (λ some. none (some.0, omega (arith, some.1, fits x y z even), some.2));
   }
     where
       stops-later : (result : Result Unit IoFault) → StopsAtFault (said_at w.config (mapped d)) (first + length x / 512) (length y / 512) w'.leaves w''.leaves result
           → StopsAtFault (said_at w.config (mapped d)) first (length (x ++ (y ++ z)) / 512) w.leaves w''.leaves result
       stops-later (Ok u) h = tt
       stops-later (Err fault) h = λ counted. stop-later first (length x / 512) (length y / 512) (length (x ++ (y ++ z)) / 512) (fits x y z even) p.moved.moved.fixed p.moved.others (h counted)
+
+      after-unread : (SomeEncrypt (said_at w.config (mapped d)) first (length (x ++ (y ++ z)) / 512) → ⊥) → NoneRead w'.leaves w''.leaves
+      after-unread none =
+          subst (λ (c : Configuration). (SomeEncrypt (said_at c (mapped d)) (first + length x / 512) (length y / 512) → ⊥) → NoneRead w'.leaves w''.leaves) p.config q.unread
+          (λ some. none (SomeOf-more (λ s. (said_at w.config (mapped d) s).encrypts) first (length x / 512) (length y / 512) (length (x ++ (y ++ z)) / 512) (fits x y z even) some))
 
       more : (fault : Fault) → MayFault w.config (mapped d) (first + length x / 512) (length y / 512) fault → MayFault w.config (mapped d) first (length (x ++ (y ++ z)) / 512) fault
       more fault h = SomeOf-more (λ s. (said_at w.config (mapped d) s).meets fault) first (length x / 512) (length y / 512) (length (x ++ (y ++ z)) / 512) (fits x y z even) h

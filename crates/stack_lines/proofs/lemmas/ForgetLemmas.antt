@@ -20,12 +20,12 @@ use Rattle.stack_meaning.specs.Blocks.{hash_sectors, hash_place}
 use Rattle.stack_lines.specs.Caches.{IsCached}
 use Rattle.stack_meaning.specs.Changes.{KeepsOthers, reached}
 use Rattle.stack_meaning.specs.LeavesBeneath.{leaves_beneath}
-use Rattle.stack_meaning.specs.Leaves.{images_of, AllSteady, fixed_part}
+use Rattle.stack_meaning.specs.Leaves.{steady_image, steady_images, AreSteady, fixed_part}
 use Rattle.stack_meaning.specs.Meaning.{Said, none_said, said_at}
 use Rattle.stack_meaning.specs.Outcomes.{Images, LeafSector, span}
-use Rattle.stack_lines.specs.Standing.{contains, stands_on, key_stands_on, cache_without_leaf, CoversBlocks}
+use Rattle.stack_lines.specs.Standing.{contains, name_stands_on, stands_on, key_stands_on, cache_without_leaf, CoversBlocks}
 use Rattle.stack_lines.proofs.lemmas.StandingLemmas.{and-true, verity-stands}
-use Rattle.stack_meaning.proofs.lemmas.LeafListLemmas.{AllSteady-kept}
+use Rattle.stack_meaning.proofs.lemmas.LeafListLemmas.{AreSteady-kept}
 use Rattle.stack_meaning.proofs.lemmas.LeavesBeneathLemmas.{spans-alike}
 use Rattle.stack_meaning.proofs.lemmas.SectorLemmas.{said_at-leaf}
 
@@ -100,14 +100,14 @@ module _ (c : Configuration) (i : ℕ) (old new : List Device) (fixed : map fixe
   abbrev any_device : Device
   any_device = record { size = 0; may_write = false; steady = false; never_fails = false; dirty = false; image = []; reads = 0; writes = 0; failures = 0 }
 
-  image_at : (leaves : List Device) (j : ℕ) → get_or (images_of leaves) j [] ≡ (get_or leaves j any_device).image
+  image_at : (leaves : List Device) (j : ℕ) → get_or (steady_images leaves) j [] ≡ steady_image (get_or leaves j any_device)
   image_at leaves j = elim (cases_lt j (length leaves)) [
-    | inl low ↦ get_or-map (λ l. l.image) leaves j any_device [] low
-    | inr high ↦ get_or_past (images_of leaves) j [] (omega (arith, high, length-map leaves (λ l. l.image))) ∙ sym (ap (λ (d : Device). d.image) (get_or_past leaves j any_device high))
+    | inl low ↦ get_or-map steady_image leaves j any_device [] low
+    | inr high ↦ get_or_past (steady_images leaves) j [] (omega (arith, high, length-map leaves steady_image)) ∙ sym (ap steady_image (get_or_past leaves j any_device high))
   ]
 
-  same-image : (j : ℕ) → j ≢ i → get_or (images_of old) j [] ≡ get_or (images_of new) j []
-  same-image j apart = image_at old j ∙ ap (λ (d : Device). d.image) (sym (others j any_device apart)) ∙ sym (image_at new j)
+  same-image : (j : ℕ) → j ≢ i → get_or (steady_images old) j [] ≡ get_or (steady_images new) j []
+  same-image j apart = image_at old j ∙ ap steady_image (sym (others j any_device apart)) ∙ sym (image_at new j)
 
   not-on : (b : CachedBlock) (one : IsCached c old b) → not (key_stands_on c i b.key) ≡ true → known false (stands_on c i) (named c one.verity.hash) ≡ false
   not-on b one off = sym (verity-stands c i b.key.device b.key.line one.line.line one.verity one.line.is one.line.has) ∙ not-true c i (key_stands_on c i b.key) off
@@ -120,8 +120,8 @@ module _ (c : Configuration) (i : ℕ) (old new : List Device) (fixed : map fixe
         line = one.line;
         block = one.block;
         exact = λ steady.
-            let before : AllSteady old = AllSteady-kept new old (sym fixed) steady in
-            sym (spans-known c i (images_of old) (images_of new) same-image (named c one.verity.hash) (not-on b one off) (hash_place one.verity b.key.level b.key.block) (hash_sectors one.verity)) ∙ one.exact before;
+            let before : AreSteady (λ j. name_stands_on c j one.verity.hash) old = AreSteady-kept new old (sym fixed) steady in
+            sym (spans-known c i (steady_images old) (steady_images new) same-image (named c one.verity.hash) (not-on b one off) (hash_place one.verity b.key.level b.key.block) (hash_sectors one.verity)) ∙ one.exact before;
       }) cache.blocks all
 
 -- a write to a leaf's sectors leaves the other leaves alone

@@ -14,6 +14,7 @@ use Rattle.stack_rules.specs.Descend.{known, depth, read_cost}
 use Rattle.stack_rules.specs.Rules.{IsLoaded}
 use Rattle.stack_meaning.specs.declared.fault.IoFault.{IoFault}
 use Rattle.stack_meaning.specs.declared.fault.IoFault.TheVariants as io
+use Rattle.stack_meaning.specs.declared.fault.Fault.TheVariants as why
 use Rattle.stack_lines.specs.declared.source.BlockPart.{BlockPart}
 use Rattle.stack_lines.specs.declared.source.Source.{Source}
 use Rattle.stack_lines.specs.declared.source.Source.TheVariants.{Below, Units, UnitPart, Zeros, Fails, Block, Blocks}
@@ -25,7 +26,7 @@ use Rattle.stack_meaning.specs.Outcomes.{error_target, zero_sector, part}
 use Rattle.stack_meaning.specs.Found.{FoundRecord}
 use Rattle.stack_meaning.specs.Kept.{AllKept}
 use Rattle.stack_meaning.specs.Meaning.{Said, none_said, line_said, said_at, said_by_name}
-use Rattle.stack_meaning.specs.Leaves.{images_of}
+use Rattle.stack_meaning.specs.Leaves.{steady_images}
 use Rattle.stack_meaning.specs.Places.{place_of, run_expected, Read}
 use Rattle.stack_lines.specs.Sources.{LieInBlock, AreBlocks, AreUnits, LieInUnit, BeginsAt, ComeFrom, IsServed, said_of_line, part_said, source_said, source_cost, source_place, source_depth, SourceHolds, ReadsSource}
 use Rattle.stack_meaning.specs.Reading.{Gets, Reads, IsPlain}
@@ -35,8 +36,10 @@ use Rattle.stack_meaning.proofs.lemmas.LoadedLemmas.{depth-falls}
 use Rattle.stack_meaning.proofs.lemmas.LeafListLemmas.{AreRead-none}
 use Rattle.stack_meaning.proofs.lemmas.FoundLemmas.{said_at-mono, Grown-none, kept-later}
 use Rattle.stack_meaning.proofs.lemmas.SpanLemmas.{span_zeros, span_fails}
+use Rattle.stack_lines.specs.Touches.{leaves_of, source_leaves}
+use Rattle.stack_lines.proofs.lemmas.TouchLemmas.{one-within, served-within}
 use Rattle.stack_meaning.proofs.lemmas.RunLemmas.{run_ok, run_err, Passes, pass}
-use Rattle.stack_meaning.proofs.lemmas.PlainLemmas.{plain-as, plain-then}
+use Rattle.stack_meaning.proofs.lemmas.PlainLemmas.{plain-none, plain-as, plain-then}
 
 -- ---- what is said of the sectors where those of a device come from
 
@@ -133,10 +136,11 @@ served-passes : (c : Configuration) (d s n : ℕ) (source : Source) → IsLoaded
 served-passes c d s n source loaded some r = record {
   said = λ j h. let e : 0 + j ≡ j = omega arith in ap (source_said c source) e ∙ served-said c d s n j source loaded h r;
   cost = served-cost c d s n source loaded some r;
+  leaves = one-within (source_leaves c source) (leaves_of c (mapped d)) (served-within c d s n source loaded some r);
 }
 
 below-passes : (c : Configuration) (lower : Lower) (first n : ℕ) → Passes (place_of c lower) (source_place c (Below lower first)) first 0 n
-below-passes c lower first n = record { said = λ j h. let e : j ≡ 0 + j = omega arith in ap (λ (k : ℕ). said_at c lower (first + k)) e; cost = omega arith }
+below-passes c lower first n = record { said = λ j h. let e : j ≡ 0 + j = omega arith in ap (λ (k : ℕ). said_at c lower (first + k)) e; cost = omega arith; leaves = λ i is. is }
 
 pub below_of : (c : Configuration) (lower : Lower) (first n : ℕ) (did : Read) (answer : Result (List ℕ) IoFault) → Reads c lower first n did answer → ReadsSource c (Below lower first) n did answer
 below_of c lower first n did answer p = pass (below-passes c lower first n) did answer p
@@ -155,7 +159,7 @@ zeros_of c n leaves found bytes kept e = record {
   got = record {
     moved = AreRead-none _ leaves;
     may = record { len = ap length e ∙ length-replicate {A = ℕ} (512 * n) 0; sectors = λ j h. ap (λ (b : List ℕ). part b j) e ∙ part-zeros n j h };
-    exact = λ steady. span_zeros (λ j. (source_said c Zeros j).means (images_of leaves)) 0 n (λ j h. refl) ∙ ap Ok (sym e);
+    exact = λ steady. span_zeros (λ j. (source_said c Zeros j).means (steady_images leaves)) 0 n (λ j h. refl) ∙ ap Ok (sym e);
   };
   grown = Grown-none (λ j. (source_said c Zeros j).entries) 0 n found;
   kept = kept;
@@ -166,7 +170,7 @@ fails_of c n leaves found kept some = record {
   got = record {
     moved = AreRead-none _ leaves;
     may = (0, some, refl);
-    exact = λ steady. span_fails (λ j. (source_said c Fails j).means (images_of leaves)) 0 n error_target some refl;
+    exact = λ steady. span_fails (λ j. (source_said c Fails j).means (steady_images leaves)) 0 n error_target some refl;
   };
   grown = Grown-none (λ j. (source_said c Fails j).entries) 0 n found;
   kept = kept;
@@ -197,6 +201,15 @@ device_plain c d first a m n source loaded h r p q =
 
 pub below_plain : (c : Configuration) (lower : Lower) (first n : ℕ) {old new : List Device} {result : Result Unit IoFault} → IsPlain (said_at c lower) first n old new result → IsPlain (source_said c (Below lower first)) 0 n old new result
 below_plain c lower first n p = plain-as (said_at c lower) (source_said c (Below lower first)) first 0 n (λ j h. let e : j ≡ 0 + j = omega arith in ap (λ (k : ℕ). said_at c lower (first + k)) e) p
+
+-- what isn't read
+pub zeros_plain : (c : Configuration) (n : ℕ) (leaves : List Device) → IsPlain (source_said c Zeros) 0 n leaves leaves (Ok tt)
+zeros_plain c n leaves = plain-none (source_said c Zeros) 0 n leaves (Ok tt) (λ e. cc) tt
+
+pub fails_plain : (c : Configuration) (n : ℕ) (leaves : List Device) → 0 < n → IsPlain (source_said c Fails) 0 n leaves leaves (Err (io.Stack why.ErrorTarget))
+fails_plain c n leaves some =
+    plain-none (source_said c Fails) 0 n leaves (Err (io.Stack why.ErrorTarget)) (λ e. cc)
+    (λ counted. record { before = 0; failed = n; some = some; inside = omega arith; by = λ j h. refl; leaf = λ i d out. refl })
 
 -- a leaf's sectors were read, and no chain found
 pub leaf_of : (c : Configuration) (i first n : ℕ) {old new : List Device} (found : List FoundRecord) {answer : Result (List ℕ) IoFault} → AllKept c old found

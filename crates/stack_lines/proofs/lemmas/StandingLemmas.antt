@@ -1,5 +1,5 @@
 -- The leaves on which the devices of a loaded configuration stand.
-use Rattle.std.proofs.Common.{◌≡◌, ◌≢◌, ℕ, ◌+◌, ◌*◌, ◌%◌, ◌^◌, ◌<◌, ◌≤◌, Bool, true, false, not, ◌&&◌, ◌||◌, ◌==◌, ◌⊎◌, List, [], ◌∷◌, ◌++◌, length, get_or, set, take, Option, Some, None, refl, sym, ap, ◌∙◌, subst, arith, max, inl, inr}
+use Rattle.std.proofs.Common.{IsTrue, ◌≡◌, ◌≢◌, ℕ, ◌+◌, ◌*◌, ◌%◌, ◌^◌, ◌<◌, ◌≤◌, Bool, true, false, not, ◌&&◌, ◌||◌, ◌==◌, ◌⊎◌, List, [], ◌∷◌, ◌++◌, length, get_or, set, take, Option, Some, None, refl, sym, ap, ◌∙◌, subst, arith, max, inl, inr}
 use Rattle.std.specs.Prelude.{filter_map, flat_map, slice_get, is_some, option_map, option_and_then, position}
 use Rattle.std.specs.Int.{bit_at, bit_not, w64}
 use Rattle.std.specs.Int.RustNames.{bit_or, bit_and}
@@ -106,6 +106,10 @@ module _ (c : Configuration) where
   pub stands-leaf : (i j : ℕ) → stands_on c i (leaf j) ≡ (i == j)
   unfolding descend
   stands-leaf i j = or-false (i == j)
+
+  -- a leaf stands on itself
+  pub leaf-stands : (i : ℕ) → IsTrue (stands_on c i (leaf i))
+  leaf-stands i = let same : (i == i) ≡ true = grind (arith, nat_tests) in stands-leaf i i ∙ same
 
   module _ (loaded : IsLoaded c) where
     low : (y : Lower) → depth c y < most_devices

@@ -8,56 +8,26 @@ use Rattle.stack_meaning.specs.declared.fault.IoFault.{IoFault}
 use Rattle.stack_meaning.specs.declared.fault.IoFault.TheVariants as io
 use Rattle.stack_meaning.specs.declared.fault.Fault.{Fault}
 use Rattle.stack_meaning.specs.Outcomes.{LeafSector, Images}
-use Rattle.stack_meaning.specs.Leaves.{images_of, fixed_part, AllSteady, LeafFailed}
+use Rattle.stack_meaning.specs.Leaves.{steady_images, fixed_part, LeafFailed}
 use Rattle.stack_meaning.specs.Meaning.{Said}
 use Rattle.stack_meaning.specs.Puts.{Put, Putting, done, then_put}
 use Rattle.stack_meaning.specs.Changes.{LeafSectors, reached, KeepsOthers, DifferWithin}
 use Rattle.stack_lines.specs.Writing.{Destination, FailedBy, StopsAt, StopsBehind, put_some, with_some}
+pub use Rattle.stack_meaning.proofs.lemmas.UpLemmas.{IsUp, up-same}
+use Rattle.stack_meaning.proofs.lemmas.UpLemmas.{failed-up, up-from, among-from, among-first, failed-first, among-one}
 use Rattle.stack_meaning.proofs.lemmas.ChangeLemmas.{Among, reached-first, reached-later, KeepsOthers-more, KeepsOthers-then, differ-within}
 
--- ---- what is said of one sector and of another
+-- ---- sectors of one place, as those of another
 
--- a fault that the one meets the other meets, and what the one reaches the other reaches
-pub record IsUp (x y : Said) : Type 0 where
-  pub meets : (fault : Fault) → x.meets fault → y.meets fault
-  pub reaches : (p : LeafSector) → Contains x.reaches p → Contains y.reaches p
-  pub encrypts : x.encrypts → y.encrypts
-
-pub up-same : (x y : Said) → x ≡ y → IsUp x y
-up-same x y e = subst (λ (z : Said). IsUp x z) e (record { meets = λ fault h. h; reaches = λ p h. h; encrypts = λ h. h })
-
-pub failed-up : (said said' : ℕ → Said) (s s' n : ℕ) (fault : IoFault) → ((j : ℕ) → j < n → IsUp (said (s + j)) (said' (s' + j))) → FailedBy said fault s n → FailedBy said' fault s' n
-failed-up said said' s s' n (io.Stack fault) up by = λ j h. (up j h).meets fault (by j h)
-failed-up said said' s s' n (io.Device i) up by = record {
-  start = by.start;
-  count = by.count;
-  each = λ j h. let some = by.each j h in (some.0, some.1, (up j h).reaches (i - 1, by.start + some.0) some.2);
-  own = λ t h. let some = by.own t h in (some.0, some.1, (up some.0 some.1).reaches (i - 1, by.start + t) some.2);
-}
-failed-up said said' s s' n io.NoMemory up by = tt
-
--- sectors of one place, as those of another
 module _ (said said' : ℕ → Said) (first first' n : ℕ) (up : (j : ℕ) → j < n → IsUp (said (first + j)) (said' (first' + j))) where
-  pub up-from : (a m : ℕ) → a + m ≤ n → (j : ℕ) → j < m → IsUp (said (first + a + j)) (said' (first' + a + j))
-  up-from a m h j low =
-      let at : first + (a + j) ≡ first + a + j = omega arith in
-      let at' : first' + (a + j) ≡ first' + a + j = omega arith in
-      subst (λ (s : ℕ). IsUp (said s) (said' (first' + a + j))) at (subst (λ (s : ℕ). IsUp (said (first + (a + j))) (said' s)) at' (up (a + j) (omega (arith, h, low))))
-
-  pub among-from : (a m : ℕ) → a + m ≤ n → Among (reached (λ s. (said s).reaches) (first + a) m) (reached (λ s. (said' s).reaches) (first' + a) m)
-  among-from a m h p some = (some.0, some.1, (up-from a m h some.0 some.1).reaches p some.2)
-
-  pub among-first : (m : ℕ) → m ≤ n → Among (reached (λ s. (said s).reaches) first m) (reached (λ s. (said' s).reaches) first' m)
-  among-first m h p some = (some.0, some.1, (up some.0 (omega (arith, h, some.1))).reaches p some.2)
-
   abbrev pub stop-up : {fault : IoFault} {old new : List Device} → StopsAt said first n fault old new → StopsAt said' first' n fault old new
   stop-up {fault = fault} q = record {
     before = q.before;
     failed = q.failed;
     some = q.some;
     inside = q.inside;
-    by = failed-up said said' (first + q.before) (first' + q.before) q.failed fault (up-from q.before q.failed q.inside) q.by;
-    others = KeepsOthers-more (among-first (q.before + q.failed) q.inside) q.others;
+    by = failed-up said said' (first + q.before) (first' + q.before) q.failed fault (up-from said said' first first' n up q.before q.failed q.inside) q.by;
+    others = KeepsOthers-more (among-first said said' first first' n up (q.before + q.failed) q.inside) q.others;
   }
 
 -- ---- images
@@ -72,16 +42,16 @@ reached-as reaches s s' n n' e h p some = (some.0, omega (arith, some.1, h), sub
 -- ---- where it is known to stop
 
 -- sectors before which all are encrypted stop a write before any is known to be put
-pub stop-here : (to : Destination) (first : ℕ) (sectors : List (List ℕ)) {fault : IoFault} {old new : List Device} → map fixed_part new ≡ map fixed_part old → AllSteady old → (stop : StopsAt to.said first (length sectors) fault old new)
+pub stop-here : (to : Destination) (first : ℕ) (sectors : List (List ℕ)) {fault : IoFault} {old new : List Device} → map fixed_part new ≡ map fixed_part old → (stop : StopsAt to.said first (length sectors) fault old new)
     → ((j : ℕ) → j < stop.before → (to.said (first + j)).encrypts) → StopsBehind (with_some to) first sectors fault old new
-stop-here to first sectors {old = old} {new = new} fixed steady stop all = record {
+stop-here to first sectors {old = old} {new = new} fixed stop all = record {
   stop = stop;
   put = 0;
   within = omega arith;
   together = λ j low h. all j h;
-  images = images_of old;
+  images = steady_images old;
   is = refl;
-  others = differ-within old new fixed steady
+  others = differ-within old new fixed
       (KeepsOthers-more (reached-as (λ s. (to.said s).reaches) first (first + 0) (stop.before + stop.failed) (stop.before + stop.failed - 0) (omega arith) (omega arith)) stop.others);
 }
 
@@ -117,7 +87,7 @@ module _ (to : Destination) (none : PutsNothing to.puts) (first : ℕ) (xs ys zs
   front-of : (k : ℕ) → k ≤ length ys → take (length xs + k) (xs ++ (ys ++ zs)) ≡ xs ++ take k ys
   front-of k h = take-append-add xs (ys ++ zs) k ∙ ap (λ (l : List (List ℕ)). xs ++ l) (take-append-le k ys zs h)
 
-  pub behind-later : {fault : IoFault} {old mid new : List Device} → map fixed_part mid ≡ map fixed_part old → KeepsOthers (reached (λ s. (to.said s).reaches) first (length xs)) old mid → to.puts first xs (images_of old) ≡ done (images_of mid)
+  pub behind-later : {fault : IoFault} {old mid new : List Device} → map fixed_part mid ≡ map fixed_part old → KeepsOthers (reached (λ s. (to.said s).reaches) first (length xs)) old mid → to.puts first xs (steady_images old) ≡ done (steady_images mid)
       → ((l : List (List ℕ)) (images : Images) → to.puts first (xs ++ l) images ≡ then_put (to.puts first xs images) (to.puts (first + length xs) l))
       → StopsBehind (with_some to) (first + length xs) ys fault mid new → StopsBehind (with_some to) first (xs ++ (ys ++ zs)) fault old new
   behind-later {old = old} {mid = mid} fixed front put parts q =
@@ -133,11 +103,11 @@ module _ (to : Destination) (none : PutsNothing to.puts) (first : ℕ) (xs ys zs
             subst (λ (s : ℕ). (to.said s).encrypts) at (q.together (j - a) (omega (arith, low)) (omega (arith, low, h)));
         images = q.images;
         is =
-            ap (λ (l : List (List ℕ)). put_some to.puts first l (images_of old)) (front-of q.put fits)
-            ∙ some-is to.puts none first (xs ++ take q.put ys) (images_of old)
-            ∙ parts (take q.put ys) (images_of old)
+            ap (λ (l : List (List ℕ)). put_some to.puts first l (steady_images old)) (front-of q.put fits)
+            ∙ some-is to.puts none first (xs ++ take q.put ys) (steady_images old)
+            ∙ parts (take q.put ys) (steady_images old)
             ∙ ap (λ (p : Put). then_put p (to.puts (first + a) (take q.put ys))) put
-            ∙ sym (some-is to.puts none (first + a) (take q.put ys) (images_of mid))
+            ∙ sym (some-is to.puts none (first + a) (take q.put ys) (steady_images mid))
             ∙ q.is;
         others = differ-more
             (reached-as reaches (first + a + q.put) (first + (a + q.put)) (q.stop.before + q.stop.failed - q.put) (a + q.stop.before + q.stop.failed - (a + q.put)) (omega arith) (omega arith))
@@ -157,7 +127,7 @@ behind-as to to' first first' sectors {old = old} up puts q =
       within = q.within;
       together = λ j low h. (up j (omega (arith, h, q.stop.inside, q.stop.some))).encrypts (q.together j low h);
       images = q.images;
-      is = sym (puts q.put (images_of old)) ∙ q.is;
+      is = sym (puts q.put (steady_images old)) ∙ q.is;
       others = differ-more (among-from to.said to'.said first first' (length sectors) up q.put (q.stop.before + q.stop.failed - q.put) (omega (arith, q.within, q.stop.inside))) q.others;
     }
 
@@ -169,39 +139,13 @@ behind-of to first sectors {old = old} none q = record {
   within = q.within;
   together = q.together;
   images = q.images;
-  is = sym (some-is to.puts none first (take q.put sectors) (images_of old)) ∙ q.is;
+  is = sym (some-is to.puts none first (take q.put sectors) (steady_images old)) ∙ q.is;
   others = q.others;
 }
 
 -- ---- sectors of which each has what all of some others have
 
 module _ (said said' : ℕ → Said) (first first' m n : ℕ) (some : 0 < n) (up : (j : ℕ) → j < m → IsUp (said (first + j)) (said' first')) where
-  pub failed-first : (fault : IoFault) (a k : ℕ) → 0 < k → a + k ≤ m → FailedBy said fault (first + a) k → FailedBy said' fault (first' + 0) 1
-  failed-first (io.Stack fault) a k more h by = λ j low.
-      let at : first + a + 0 ≡ first + a = omega arith in
-      let at' : first' ≡ first' + 0 + j = omega (arith, low) in
-      subst (λ (s : ℕ). (said' s).meets fault) at' ((up a (omega (arith, more, h))).meets fault (subst (λ (s : ℕ). (said s).meets fault) at (by 0 more)))
-  failed-first (io.Device i) a k more h by =
-      let at' : first' ≡ first' + 0 + 0 = omega arith in
-      let reached-by : (j t : ℕ) → j < k → Contains (said (first + a + j)).reaches (i - 1, t) → Contains (said' first').reaches (i - 1, t) = λ j t low there.
-      let at : first + a + j ≡ first + (a + j) = omega arith in
-      (up (a + j) (omega (arith, low, h))).reaches (i - 1, t) (subst (λ (s : ℕ). Contains (said s).reaches (i - 1, t)) at there) in
-      record {
-        start = by.start;
-        count = by.count;
-        each = λ j low.
-            let e : first' ≡ first' + 0 + j = omega (arith, low) in
-            let one = by.each 0 more in
-            (one.0, one.1, subst (λ (s : ℕ). Contains (said' s).reaches (i - 1, by.start + one.0)) e (reached-by 0 (by.start + one.0) more one.2));
-        own = λ t low. let one = by.own t low in (0, omega arith, subst (λ (s : ℕ). Contains (said' s).reaches (i - 1, by.start + t)) at' (reached-by one.0 (by.start + t) one.1 one.2));
-      }
-  failed-first io.NoMemory a k more h by = tt
-
-  pub among-one : (k : ℕ) → k ≤ m → Among (reached (λ s. (said s).reaches) first k) (reached (λ s. (said' s).reaches) first' (0 + 1))
-  among-one k h p there =
-      let e : first' ≡ first' + 0 = omega arith in
-      (0, omega arith, subst (λ (s : ℕ). Contains (said' s).reaches p) e ((up there.0 (omega (arith, h, there.1))).reaches p there.2))
-
   -- the first one stops where one of those stopped, after what changed no more than what it reaches
   abbrev pub stop-first : {fault : IoFault} {old mid new : List Device} → map fixed_part mid ≡ map fixed_part old → KeepsOthers (reached (λ s. (said' s).reaches) first' (0 + 1)) old mid → StopsAt said first m fault mid new → StopsAt said' first' n fault old new
   stop-first {fault = fault} fixed front q = record {
@@ -209,8 +153,8 @@ module _ (said said' : ℕ → Said) (first first' m n : ℕ) (some : 0 < n) (up
     failed = 1;
     some = omega arith;
     inside = omega (arith, some);
-    by = failed-first fault q.before q.failed q.some q.inside q.by;
-    others = KeepsOthers-then fixed front (KeepsOthers-more (among-one (q.before + q.failed) q.inside) q.others);
+    by = failed-first said said' first first' m n some up fault q.before q.failed q.some q.inside q.by;
+    others = KeepsOthers-then fixed front (KeepsOthers-more (among-one said said' first first' m n some up (q.before + q.failed) q.inside) q.others);
   }
 
 -- ---- the leaves that are reached

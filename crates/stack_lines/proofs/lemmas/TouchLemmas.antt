@@ -1,5 +1,5 @@
 -- Which leaves a read touches, from the lines down.
-use Rattle.std.proofs.Common.{◌≡◌, ◌≢◌, ℕ, ◌+◌, ◌-◌, ◌<◌, Bool, true, false, ◌||◌, ◌==◌, List, [], ◌∷◌, get_or, map, set, Some, Result, Ok, Err, refl, sym, ap, ◌∙◌, subst, arith}
+use Rattle.std.proofs.Common.{IsTrue, ◌≡◌, ◌≢◌, ℕ, ◌+◌, ◌-◌, ◌<◌, Bool, true, false, ◌||◌, ◌==◌, List, [], ◌∷◌, get_or, map, set, Some, Result, Ok, Err, refl, sym, ap, ◌∙◌, subst, arith}
 use Rattle.std.specs.Prelude.{slice_get, IfErr}
 use Rattle.std.specs.List.{AllByRecursion, list_any}
 use Rattle.std.proofs.lemmas.Bool.Decides.{nat_tests}
@@ -9,7 +9,7 @@ use Rattle.dm_table.specs.declared.crypt.Crypt.{Crypt}
 use Rattle.dm_table.specs.declared.verity.Verity.{Verity}
 use Rattle.dm_table.specs.declared.table.Line.{Line}
 use Rattle.dm_table.specs.declared.table.Target.{Target}
-use Rattle.dm_table.specs.declared.table.Target.TheVariants.{Crypt as crypt_target}
+use Rattle.dm_table.specs.declared.table.Target.TheVariants.{Crypt as crypt_target, Verity as verity_target}
 use Rattle.stack_rules.specs.declared.lower.Lower.{Lower}
 use Rattle.stack_rules.specs.declared.lower.Lower.TheVariants.{Leaf}
 use Rattle.stack_rules.specs.Records.{Configuration}
@@ -19,6 +19,7 @@ use Rattle.stack_rules.specs.Rules.{IsLoaded}
 use Rattle.stack_meaning.specs.declared.fault.IoFault.{IoFault}
 use Rattle.stack_meaning.specs.declared.fault.IoFault.TheVariants as io
 use Rattle.stack_meaning.specs.Beneath.{beneath}
+use Rattle.stack_meaning.specs.Kept.{target_leaves}
 use Rattle.stack_meaning.proofs.lemmas.LoadedLemmas.{at_place, of_beneath}
 use Rattle.stack_lines.specs.declared.source.Source.{Source}
 use Rattle.stack_lines.specs.declared.source.Source.TheVariants.{Below, Units, UnitPart, Zeros, Fails, Block, Blocks}
@@ -27,7 +28,7 @@ use Rattle.stack_lines.specs.Sources.{HasTarget, IsServed}
 use Rattle.stack_lines.specs.Standing.{stands_on, name_stands_on}
 use Rattle.stack_lines.specs.Touches.{NamesOneOf, TouchesOnly, leaves_of, source_leaves}
 use Rattle.stack_lines.specs.Walks.{IsTreeOf}
-use Rattle.stack_lines.proofs.lemmas.StandingLemmas.{stands-leaf, stands-device, name-stands}
+use Rattle.stack_lines.proofs.lemmas.StandingLemmas.{or-false, stands-leaf, stands-device, name-stands}
 
 -- ---- one set of leaves, and several calls
 
@@ -48,6 +49,14 @@ touches-as other fault p = record { leaf = p.leaf; fault = fault }
 -- what isn't one of more isn't one of these
 abbrev pub AreWithin : (ℕ → Bool) → (ℕ → Bool) → Type 0
 AreWithin these more = (i : ℕ) → more i ≡ false → these i ≡ false
+
+-- one of these is one of more
+pub one-within : (these more : ℕ → Bool) → AreWithin these more → (i : ℕ) → IsTrue (these i) → IsTrue (more i)
+one-within these more up i h = go (more i) refl
+  where
+    go : (b : Bool) → more i ≡ b → IsTrue (more i)
+    go true e = e
+    go false e = let clash : true ≡ false = sym h ∙ up i e in absurd cc
 
 named-up : (these more : ℕ → Bool) → AreWithin these more → (fault : IoFault) → NamesOneOf these fault → NamesOneOf more fault
 named-up these more up (io.Stack fault) h = tt
@@ -110,6 +119,18 @@ module _ (c : Configuration) (loaded : IsLoaded c) (d l : ℕ) (line : Line) (at
 
   under-out : (s : ℕ) (p : List ℕ × ℕ) (lower : Lower) → beneath line.target s ≡ Some p → named c p.0 ≡ Some lower → stands_on c i lower ≡ false
   under-out s p lower under is = sym (name-stands c i p.0 lower is) ∙ of_beneath (λ (n : List ℕ). name_stands_on c i n ≡ false) line.target s p names-out under
+
+-- the leaves beneath a verity line
+names-none : (f : List ℕ → Bool) (a b : List ℕ) → AllByRecursion (λ name. f name ≡ false) (a ∷ b ∷ []) → list_any f (a ∷ b ∷ []) ≡ false
+names-none f a b none = ap (λ (x : Bool). x || (f b || false)) none.0 ∙ ap (λ (y : Bool). y || false) none.1.0
+
+pub verity-names : (c : Configuration) (d l n : ℕ) (v : Verity) → IsLoaded c → HasTarget c d l (verity_target v) n → (i : ℕ) → IsTrue (target_leaves c (verity_target v) i) → IsTrue (leaves_of c (mapped d) i)
+verity-names c d l n v loaded has =
+    one-within (target_leaves c (verity_target v)) (leaves_of c (mapped d))
+    (λ i out. names-none (name_stands_on c i) v.data v.hash (subst (λ (t : Target). AllByRecursion (λ name. name_stands_on c i name ≡ false) (names t)) has.has (names-out c loaded d l has.line has.is i out)))
+
+pub verity-leaves : (c : Configuration) (v : Verity) (i : ℕ) → target_leaves c (verity_target v) i ≡ (name_stands_on c i v.data || name_stands_on c i v.hash)
+verity-leaves c v i = ap (λ (b : Bool). name_stands_on c i v.data || b) (or-false (name_stands_on c i v.hash))
 
 -- the device beneath a crypt line
 pub crypt-within : (c : Configuration) (d l n : ℕ) (crypt : Crypt) (lower : Lower) → IsLoaded c → HasTarget c d l (crypt_target crypt) n → named c crypt.base.device ≡ Some lower

@@ -1,7 +1,8 @@
 -- What is read of the units of a `crypt` line.
-use Rattle.std.proofs.Common.{◌≡◌, ◌++◌, [], ℕ, zero, suc, ◌+◌, ◌-◌, ◌*◌, ◌/◌, ◌%◌, ◌<◌, ◌≤◌, List, length, get_or, Contains, take, drop, Ok, Err, All, refl, sym, ap, ◌∙◌, subst, arith}
+use Rattle.std.proofs.Common.{Bool, true, false, IsTrue, ◌≡◌, ◌++◌, [], ℕ, zero, suc, ◌+◌, ◌-◌, ◌*◌, ◌/◌, ◌%◌, ◌<◌, ◌≤◌, List, length, get_or, Contains, take, drop, Ok, Err, All, refl, sym, ap, ◌∙◌, subst, arith}
 use Rattle.std.proofs.lemmas.List.{length-take-le, length-drop, take-append-drop, drop-drop}
-use Rattle.std.proofs.lemmas.List.Elements.{All-map}
+use Rattle.std.proofs.lemmas.List.Elements.{All-map, All-nil}
+use Rattle.std.specs.Prelude.{if◌then◌else◌}
 use Rattle.std.proofs.lemmas.Nat.{div-add-mod', div-mul-add, mod-mul-add, mod_below}
 use Rattle.std.proofs.Math.Nat.{add-mul}
 use Rattle.xts_sector.specs.Units.{unit}
@@ -19,12 +20,13 @@ use Rattle.stack_rules.specs.Units.{unit_sectors}
 use Rattle.stack_meaning.specs.Units.{decrypted_unit, decrypted_units, unit_number, unit_part, unit_first}
 use Rattle.stack_meaning.specs.Found.{entry_of, Grown}
 use Rattle.stack_meaning.specs.Meaning.{Said, crypt_said, said_at}
-use Rattle.stack_meaning.specs.Leaves.{images_of}
+use Rattle.stack_meaning.specs.Leaves.{steady_image, steady_images}
+use Rattle.stack_meaning.specs.LeavesBeneath.{stands_on}
 use Rattle.stack_meaning.specs.Changes.{AllWhole}
 use Rattle.stack_meaning.specs.Places.{Place, place_of, run_expected, Read}
 use Rattle.stack_meaning.specs.Reading.{Reads, Finds}
 use Rattle.stack_rules.proofs.lemmas.UnitLemmas.{unit_sectors-some}
-use Rattle.stack_meaning.proofs.lemmas.LeafListLemmas.{AreRead-none, AreRead-more}
+use Rattle.stack_meaning.proofs.lemmas.LeafListLemmas.{AreRead-none, AreRead-more, AreSteady-within}
 use Rattle.stack_meaning.proofs.lemmas.FoundLemmas.{in-gathered}
 use Rattle.stack_meaning.proofs.lemmas.RunLemmas.{part_left, fault_passes}
 use Rattle.stack_lines.proofs.lemmas.SizeLemmas.{sector-size}
@@ -33,15 +35,22 @@ use Rattle.stack_meaning.proofs.lemmas.SpanLemmas.{span-add, span_same, span_fai
 use Rattle.stack_meaning.proofs.lemmas.UnitLemmas.{span-parts, unit-more, unit-fits, unit-is, unit-length, unit-sector, length-decrypted_units, part-decrypted}
 use Rattle.xts_sector.proofs.lemmas.UnitLemmas as xts
 
-pub images-whole : (leaves : List Device) → AllWhole leaves → AreWhole (images_of leaves)
-images-whole leaves whole = All-map (λ image. All IsSector image) (λ (l : Device). l.image) leaves (λ i d h. (whole i d h).sectors)
+pub images-whole : (leaves : List Device) → AllWhole leaves → AreWhole (steady_images leaves)
+images-whole leaves whole = All-map (λ image. All IsSector image) steady_image leaves (λ i d h. known (get_or leaves i d) (whole i d h).sectors)
+  where
+    known : (x : Device) → All IsSector x.image → All IsSector (steady_image x)
+    known x all = go x.steady
+      where
+        go : (b : Bool) → All IsSector (if b then x.image else [])
+        go true = all
+        go false = All-nil IsSector
 
 -- the sectors of a crypt line from its sector w on, over that device
 abbrev pub units_said : Configuration → Lower → Crypt → ℕ → ℕ → Said
 units_said c lower crypt w j = crypt_said (said_at c lower) crypt (w + j)
 
-abbrev pub units_place : Configuration → Lower → Crypt → ℕ → ℕ → Place
-units_place c lower crypt w cost = record { said = units_said c lower crypt w; cost = cost }
+abbrev pub units_place : Configuration → Lower → Crypt → ℕ → ℕ → (ℕ → Bool) → Place
+units_place c lower crypt w cost these = record { said = units_said c lower crypt w; cost = cost; leaves = these }
 
 -- ---- sectors beneath units
 
@@ -170,7 +179,7 @@ module _ (images : Images) (lower : ℕ → Said) (sized : AreSized (λ t. (lowe
 
 -- ---- whole units
 
-module _ (c : Configuration) (lower : Lower) (crypt : Crypt) (w n cost : ℕ) (did : Read) (aligned : w % unit_sectors crypt ≡ 0) (whole : n % unit_sectors crypt ≡ 0) (dear : cost ≡ (place_of c lower).cost) where
+module _ (c : Configuration) (lower : Lower) (crypt : Crypt) (w n cost : ℕ) (these : ℕ → Bool) (within : (i : ℕ) → IsTrue (stands_on c i lower) → IsTrue (these i)) (did : Read) (aligned : w % unit_sectors crypt ≡ 0) (whole : n % unit_sectors crypt ≡ 0) (dear : cost ≡ (place_of c lower).cost) where
   units-grown : Grown (λ s. (said_at c lower s).entries) (unit_first crypt w) n did.before did.after → Grown (λ j. (units_said c lower crypt w j).entries) 0 n did.before did.after
   units-grown p = record {
     added = p.added;
@@ -183,7 +192,7 @@ module _ (c : Configuration) (lower : Lower) (crypt : Crypt) (w n cost : ℕ) (d
 
   -- they were decrypted in place
   pub units_ok : (bytes : List ℕ) → IsLoaded c → AllWhole did.old → Reads c lower (unit_first crypt w) n did (Ok bytes)
-      → Finds (units_place c lower crypt w cost) c 0 n did (Ok (decrypted_units crypt (w / unit_sectors crypt) bytes))
+      → Finds (units_place c lower crypt w cost these) c 0 n did (Ok (decrypted_units crypt (w / unit_sectors crypt) bytes))
   units_ok bytes loaded all p =
       let u : ℕ = unit_sectors crypt in
       let some : 0 < u = omega (arith, unit_sectors-some crypt) in
@@ -214,7 +223,7 @@ module _ (c : Configuration) (lower : Lower) (crypt : Crypt) (w n cost : ℕ) (d
                 );
           };
           exact = λ steady.
-              let images : Images = images_of did.old in
+              let images : Images = steady_images did.old in
               let f : ℕ → Outcome = λ s. (said_at c lower s).means images in
               let sized : AreSized f = λ s. sector-size c images loaded (images-whole did.old all) lower s in
               let g : ℕ → Outcome = λ j. (units_said c lower crypt w j).means images in
@@ -224,7 +233,7 @@ module _ (c : Configuration) (lower : Lower) (crypt : Crypt) (w n cost : ℕ) (d
               let fits = unit-fits u n j some whole h in
               let rest : n ≡ i * u + (u + (n - (i * u + u))) = omega (arith, fits) in
               let under : span f (unit_first crypt w + i * u) u ≡ Ok (take (512 * u) (drop (512 * (i * u)) bytes)) =
-              span-part f sized (unit_first crypt w) (i * u) u (n - (i * u + u)) bytes (ap (span f (unit_first crypt w)) (sym rest) ∙ p.got.exact steady) in
+              span-part f sized (unit_first crypt w) (i * u) u (n - (i * u + u)) bytes (ap (span f (unit_first crypt w)) (sym rest) ∙ p.got.exact (AreSteady-within did.old within steady)) in
               ap g at
               ∙ ap (λ (s : ℕ). changed_outcome (unit_part crypt (w + j)) (span f s u)) (unit_first-more (said_at c lower) crypt w aligned j)
               ∙ ap (changed_outcome (unit_part crypt (w + j))) under
@@ -236,14 +245,15 @@ module _ (c : Configuration) (lower : Lower) (crypt : Crypt) (w n cost : ℕ) (d
       }
 
   -- a fault beneath
-  pub units_err : (fault : IoFault) → IsLoaded c → AllWhole did.old → Reads c lower (unit_first crypt w) n did (Err fault) → Finds (units_place c lower crypt w cost) c 0 n did (Err fault)
+  pub units_err : (fault : IoFault) → IsLoaded c → AllWhole did.old → Reads c lower (unit_first crypt w) n did (Err fault) → Finds (units_place c lower crypt w cost these) c 0 n did (Err fault)
   units_err fault loaded all p = record {
-    got = fault_passes {wanted = run_expected (place_of c lower) did.after (unit_first crypt w) n} {wanted' = run_expected (units_place c lower crypt w cost) did.after 0 n} fault p.got (AreRead-none 0 did.old)
+    got = fault_passes {wanted = run_expected (place_of c lower) did.after (unit_first crypt w) n} {wanted' = run_expected (units_place c lower crypt w cost these) did.after 0 n} fault p.got (AreRead-none 0 did.old)
         (let same = ap (λ (k : ℕ). n * k) dear in omega (arith, same))
         (λ x some. units-meet (said_at c lower) crypt w aligned x n some)
+        within
         (λ steady x is.
         let u : ℕ = unit_sectors crypt in
-        let images : Images = images_of did.old in
+        let images : Images = steady_images did.old in
         let f : ℕ → Outcome = λ s. (said_at c lower s).means images in
         let g : ℕ → Outcome = λ s. (crypt_said (said_at c lower) crypt s).means images in
         let count : n ≡ n / u * u = omega (arith, div-add-mod' n u, whole) in
@@ -257,7 +267,7 @@ module _ (c : Configuration) (lower : Lower) (crypt : Crypt) (w n cost : ℕ) (d
 
 -- ---- sectors of one unit
 
-module _ (c : Configuration) (lower : Lower) (crypt : Crypt) (w0 r n cost dear : ℕ) (did : Read) (aligned : w0 % unit_sectors crypt ≡ 0) (some : 0 < n) (fits : r + n ≤ unit_sectors crypt)
+module _ (c : Configuration) (lower : Lower) (crypt : Crypt) (w0 r n cost dear : ℕ) (these : ℕ → Bool) (did : Read) (aligned : w0 % unit_sectors crypt ≡ 0) (some : 0 < n) (fits : r + n ≤ unit_sectors crypt)
     (paid : unit_sectors crypt * cost ≤ n * dear) where
   -- all sectors of a unit have one unit beneath
   pub same-first : (j : ℕ) → j < unit_sectors crypt → unit_first crypt (w0 + j) ≡ unit_first crypt w0
@@ -284,8 +294,8 @@ module _ (c : Configuration) (lower : Lower) (crypt : Crypt) (w0 r n cost dear :
   part-said : (j : ℕ) → units_said c lower crypt w0 (0 + (r + j)) ≡ units_said c lower crypt (w0 + r) (0 + j)
   part-said j = let at : w0 + (0 + (r + j)) ≡ w0 + r + (0 + j) = omega arith in ap (crypt_said (said_at c lower) crypt) at
 
-  pub part_ok : (bytes : List ℕ) → IsLoaded c → AllWhole did.old → Finds (units_place c lower crypt w0 cost) c 0 (unit_sectors crypt) did (Ok bytes)
-      → Finds (units_place c lower crypt (w0 + r) dear) c 0 n did (Ok (take (512 * n) (drop (512 * r) bytes)))
+  pub part_ok : (bytes : List ℕ) → IsLoaded c → AllWhole did.old → Finds (units_place c lower crypt w0 cost these) c 0 (unit_sectors crypt) did (Ok bytes)
+      → Finds (units_place c lower crypt (w0 + r) dear these) c 0 n did (Ok (take (512 * n) (drop (512 * r) bytes)))
   part_ok bytes loaded all p =
       let u : ℕ = unit_sectors crypt in
       let out = take (512 * n) (drop (512 * r) bytes) in
@@ -301,7 +311,7 @@ module _ (c : Configuration) (lower : Lower) (crypt : Crypt) (w0 r n cost dear :
                 (subst (λ (x : Said). x.may did.after (part bytes (r + j))) (part-said j) (run.sectors (r + j) (omega (arith, h, fits))));
           };
           exact = λ steady.
-              let images : Images = images_of did.old in
+              let images : Images = steady_images did.old in
               let g : ℕ → Outcome = λ j. (units_said c lower crypt w0 j).means images in
               let sized : AreSized g = λ j. crypt-size images (said_at c lower) (λ t. sector-size c images loaded (images-whole did.old all) lower t) crypt (w0 + j) in
               let rest : u ≡ r + (n + (u - (r + n))) = omega (arith, fits) in
@@ -334,13 +344,14 @@ module _ (c : Configuration) (lower : Lower) (crypt : Crypt) (w0 r n cost dear :
       ∙ span_same g (λ j. g (w0 + j)) w0 0 u (λ j h. let at : j ≡ 0 + j = omega arith in ap (λ (k : ℕ). g (w0 + k)) at)
       ∙ is)
 
-  pub part_err : (fault : IoFault) → IsLoaded c → AllWhole did.old → Finds (units_place c lower crypt w0 cost) c 0 (unit_sectors crypt) did (Err fault) → Finds (units_place c lower crypt (w0 + r) dear) c 0 n did (Err fault)
+  pub part_err : (fault : IoFault) → IsLoaded c → AllWhole did.old → Finds (units_place c lower crypt w0 cost these) c 0 (unit_sectors crypt) did (Err fault) → Finds (units_place c lower crypt (w0 + r) dear these) c 0 n did (Err fault)
   part_err fault loaded all p = record {
-    got = fault_passes {wanted = run_expected (units_place c lower crypt w0 cost) did.after 0 (unit_sectors crypt)} {wanted' = run_expected (units_place c lower crypt (w0 + r) dear) did.after 0 n} fault p.got (AreRead-none 0 did.old)
+    got = fault_passes {wanted = run_expected (units_place c lower crypt w0 cost these) did.after 0 (unit_sectors crypt)} {wanted' = run_expected (units_place c lower crypt (w0 + r) dear these) did.after 0 n} fault p.got (AreRead-none 0 did.old)
         (omega (arith, paid))
         (λ x some. unit-some (λ first. SomeOf (λ t. (said_at c lower t).meets x) first (unit_sectors crypt)) some)
+        (λ i is. is)
         (λ steady x is.
-        let images : Images = images_of did.old in
+        let images : Images = steady_images did.old in
         let first : w0 + r + 0 ≡ w0 + r = omega arith in
         let g : ℕ → Outcome = λ j. (units_said c lower crypt (w0 + r) j).means images in
         span_fails g 0 n x some (

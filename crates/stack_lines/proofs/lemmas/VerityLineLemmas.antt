@@ -1,4 +1,5 @@
 -- What a loaded configuration gives of a verity line and its blocks.
+use Rattle.stack_meaning.specs.LeavesBeneath.{stands_on}
 use Rattle.std.proofs.Common.{◌≡◌, ℕ, ◌+◌, ◌*◌, ◌/◌, ◌%◌, ◌<◌, ◌≤◌, false, List, Option, Some, sym, ap, ◌∙◌, subst, arith}
 use Rattle.std.proofs.Math.Nat.{mul_comm}
 use Rattle.std.proofs.lemmas.Nat.{div_below}
@@ -39,7 +40,7 @@ same-verity c d l m n v w a b =
 
 -- what a name means is the place of what it names
 pub place-named : (c : Configuration) (name : List ℕ) (lower : Lower) → named c name ≡ Some lower → place_named c name ≡ place_of c lower
-place-named c name lower is = ap {B = Place} (λ (o : Option Lower). record { said = known {A = ℕ → Said} (λ t. none_said) (said_at c) o; cost = known 0 (read_cost c) o }) is
+place-named c name lower is = ap {B = Place} (λ (o : Option Lower). record { said = known {A = ℕ → Said} (λ t. none_said) (said_at c) o; cost = known 0 (read_cost c) o; leaves = λ i. known false (stands_on c i) o }) is
 
 module _ (c : Configuration) (v : Verity) (tree : Tree) (loaded : IsLoaded c) (is : IsTreeOf c v tree) where
   facts : IsVerityLine c tree.device.0 is.is.line v tree.data tree.hash

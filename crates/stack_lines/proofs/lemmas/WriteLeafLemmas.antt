@@ -9,11 +9,14 @@ use Rattle.stack_rules.specs.Descend.{descend, write_cost}
 use Rattle.stack_meaning.specs.declared.fault.IoFault.{IoFault}
 use Rattle.stack_meaning.specs.declared.fault.IoFault.TheVariants as io
 use Rattle.stack_meaning.specs.Reading.{IsPlain}
+use Rattle.stack_meaning.specs.Stops.{ReadStops}
 use Rattle.stack_meaning.specs.Outcomes.{LeafSector, zero_sector, Images}
 use Rattle.stack_meaning.specs.Meaning.{Said, said_at}
 use Rattle.stack_meaning.specs.Puts.{done, leaf_put, put_on}
-use Rattle.stack_meaning.specs.Leaves.{images_of, fixed_part, LeafFailed}
-use Rattle.stack_meaning.specs.Changes.{LeafSectors, reached, KeepsOthers, AreWritten}
+use Rattle.stack_meaning.specs.Leaves.{steady_image, steady_images, fixed_part, LeafFailed}
+use Rattle.stack_meaning.proofs.lemmas.LeafListLemmas.{known-image}
+use Rattle.stack_lines.proofs.lemmas.StandingLemmas.{leaf-stands}
+use Rattle.stack_meaning.specs.Changes.{LeafSectors, reached, KeepsOthers, AreWritten, NoneRead}
 use Rattle.stack_lines.specs.Writing.{AreOneCall, StopsAt, destination_of, Writes}
 use Rattle.stack_meaning.proofs.lemmas.CostLemmas.{write_cost-leaf}
 use Rattle.stack_meaning.proofs.lemmas.LeafLemmas.{same_map, each_leaf, counts_one, image_at, steady_at, LeafFailed-device}
@@ -97,15 +100,49 @@ leaf-has c i s = subst (λ (x : Said). Contains x.reaches (i, s)) (sym (said_at-
 leaf-reaches : (c : Configuration) (i first n j : ℕ) → j < n → reached (λ s. (said_at c (Leaf i) s).reaches) first n (i, first + j)
 leaf-reaches c i first n j h = (j, h, leaf-has c i (first + j))
 
+-- its sectors are those of one call
+one-call : (c : Configuration) (i first n : ℕ) → AreOneCall (i + 1 - 1) (λ s. (said_at c (Leaf i) s).reaches) (first + 0) n
+one-call c i first n =
+    let number : i ≡ i + 1 - 1 = omega arith in
+    let from : first ≡ first + 0 = omega arith in
+    let reaches : ℕ → List LeafSector = λ s. (said_at c (Leaf i) s).reaches in
+    let call : AreOneCall i reaches first n = record {
+      start = first;
+      count = n;
+      each = λ j h. (j, h, leaf-has c i (first + j));
+      own = λ t h. leaf-reaches c i first n t h;
+    } in
+    subst (λ (k : ℕ). AreOneCall k reaches (first + 0) n) number (subst (λ (s : ℕ). AreOneCall i reaches s n) from call)
+
+-- a call of a leaf keeps the others
+leaf-others : {X : Type 0} (state : X → Device) (devices : List X) (i : ℕ) (c : Configuration) (first n : ℕ) → 0 < n → (new : X) (k : ℕ) (d : Device) → ((t : ℕ) → reached (λ s. (said_at c (Leaf i) s).reaches) first n (k, t) → ⊥)
+    → get_or (map state (set devices i new)) k d ≡ get_or (map state devices) k d
+leaf-others state devices i c first n some new k d out = elim (cases_eq k i) [
+  | inl here ↦ absurd (out (first + 0) (subst (λ (q : ℕ). reached (λ s. (said_at c (Leaf i) s).reaches) first n (q, first + 0)) (sym here) (leaf-reaches c i first n 0 some)))
+  | inr other ↦ ap (λ (l : List Device). get_or l k d) (map-set state devices i new) ∙ get_or-set_other (map state devices) i k (state new) d other
+]
+
+-- a read of a leaf that failed stops there
+pub leaf-stops : {X : Type 0} (state : X → Device) (devices : List X) (i : ℕ) (c : Configuration) (first n : ℕ) → 0 < n → (new : X)
+    → ReadStops {A = Unit} (said_at c (Leaf i)) first n (map state devices) (map state (set devices i new)) (Err (io.Device (i + 1)))
+leaf-stops state devices i c first n some new = λ counted. record {
+  before = 0;
+  failed = n;
+  some = some;
+  inside = omega arith;
+  by = one-call c i first n;
+  leaf = λ k d out.
+      let all : 0 + n ≡ n = omega arith in
+      leaf-others state devices i c first n some new k d (λ t x. out t (subst (λ (m : ℕ). reached (λ s. (said_at c (Leaf i) s).reaches) first m (k, t)) (sym all) x));
+}
+
 -- a read of a leaf keeps the others
 pub leaf-plain : {X : Type 0} (state : X → Device) (devices : List X) (i : ℕ) (c : Configuration) (first n : ℕ) → 0 < n → (new : X) (result : Result Unit IoFault) → (result ≡ Err io.NoMemory → ⊥)
-    → IsPlain (said_at c (Leaf i)) first n (map state devices) (map state (set devices i new)) result
-leaf-plain state devices i c first n some new result grown = record {
+    → ReadStops (said_at c (Leaf i)) first n (map state devices) (map state (set devices i new)) result → IsPlain (said_at c (Leaf i)) first n (map state devices) (map state (set devices i new)) result
+leaf-plain state devices i c first n some new result grown stops = record {
   memory = λ is. absurd (grown is);
-  leaf = λ none k d out. elim (cases_eq k i) [
-    | inl here ↦ absurd (out (first + 0) (subst (λ (q : ℕ). reached (λ s. (said_at c (Leaf i) s).reaches) first n (q, first + 0)) (sym here) (leaf-reaches c i first n 0 some)))
-    | inr other ↦ ap (λ (l : List Device). get_or l k d) (map-set state devices i new) ∙ get_or-set_other (map state devices) i k (state new) d other
-  ];
+  leaf = λ none k d out. leaf-others state devices i c first n some new k d out;
+  stops = λ none. stops;
 }
 
 module _ {X : Type 0} (state : X → Device) (whole : (y : X) → IsWhole (state y)) (devices : List X) (i : ℕ) (x : X) (there : i < length devices) (c : Configuration) (first : ℕ) (sectors : List (List ℕ)) (some : 0 < length sectors) (new : X) where
@@ -116,6 +153,11 @@ module _ {X : Type 0} (state : X → Device) (whole : (y : X) → IsWhole (state
       AreWritten-more (λ p h. h) (omega (arith, one))
       (AreWritten-device state devices i x there first (length sectors) (reached (λ s. (said_at c (Leaf i) s).reaches) first (length sectors)) ok new some (leaf-reaches c i first (length sectors)) whole grows r)
 
+  leaf-unread : (ok : Bool) → IsWritten (state (get_or devices i x)) first (length sectors) ok (state new) → NoneRead (map state devices) (map state (set devices i new))
+  leaf-unread ok r =
+      ap (λ (l : List Device). map (λ (d : Device). d.reads) l) (map-set state devices i new)
+      ∙ same_map (λ (d : Device). d.reads) (map state devices) i (state (get_or devices i x)) (state new) (omega (arith, there, length-map devices state)) (get_or-map state devices i x _ there) r.reads
+
   pub leaf-written : (state (get_or devices i x)).failures ≤ (state new).failures → IsWritten (state (get_or devices i x)) first (length sectors) true (state new)
       → (IsTrue (state (get_or devices i x)).steady → (state new).image ≡ spliced (state (get_or devices i x)).image first sectors)
       → Writes (destination_of c (Leaf i)) first sectors (map state devices) (map state (set devices i new)) (Ok tt)
@@ -124,35 +166,29 @@ module _ {X : Type 0} (state : X → Device) (whole : (y : X) → IsWhole (state
     ends = tt;
     grown = λ e. cc;
     exact = λ steady.
-        let images : Images = images_of (map state devices) in
+        let images : Images = steady_images (map state devices) in
+        let is : IsTrue (state (get_or devices i x)).steady = steady_at state devices i x there (leaf-stands c i) steady in
         put-leaf c i first sectors images
-        ∙ ap (λ (l : List (List ℕ)). done (set images i (spliced l first sectors))) (image_at state devices i x there)
-        ∙ ap (λ (l : List (List ℕ)). done (set images i l)) (sym (image (steady_at state devices i x there steady)))
-        ∙ ap done (sym (ap images_of (map-set state devices i new) ∙ map-set (λ (d : Device). d.image) (map state devices) i (state new)));
+        ∙ ap (λ (l : List (List ℕ)). done (set images i (spliced l first sectors))) (image_at state devices i x there is)
+        ∙ ap (λ (l : List (List ℕ)). done (set images i l)) (sym (image is) ∙ sym (known-image (state new) (ap (λ (b : Bool). b) r.same.steady ∙ is)))
+        ∙ ap done (sym (ap steady_images (map-set state devices i new) ∙ map-set steady_image (map state devices) i (state new)));
     stops = tt;
     behind = λ steady. tt;
+    unread = λ none. leaf-unread true r;
   }
 
   -- the sectors of a call of the leaf's device that failed
   abbrev leaf-stop : (state (get_or devices i x)).failures ≤ (state new).failures → IsWritten (state (get_or devices i x)) first (length sectors) false (state new)
       → StopsAt (said_at c (Leaf i)) first (length sectors) (io.Device (i + 1)) (map state devices) (map state (set devices i new))
   leaf-stop grows r =
-      let number : i ≡ i + 1 - 1 = omega arith in
-      let from : first ≡ first + 0 = omega arith in
       let all : 0 + length sectors ≡ length sectors = omega arith in
       let reaches : ℕ → List LeafSector = λ s. (said_at c (Leaf i) s).reaches in
-      let call : AreOneCall i reaches first (length sectors) = record {
-        start = first;
-        count = length sectors;
-        each = λ j h. (j, h, leaf-has c i (first + j));
-        own = λ t h. leaf-reaches c i first (length sectors) t h;
-      } in
       record {
         before = 0;
         failed = length sectors;
         some = some;
         inside = omega arith;
-        by = subst (λ (k : ℕ). AreOneCall k reaches (first + 0) (length sectors)) number (subst (λ (s : ℕ). AreOneCall i reaches s (length sectors)) from call);
+        by = one-call c i first (length sectors);
         others = subst (λ (n : ℕ). KeepsOthers (reached reaches first n) (map state devices) (map state (set devices i new))) (sym all) (leaf-moved false grows r).others;
       }
 
@@ -167,5 +203,6 @@ module _ {X : Type 0} (state : X → Device) (whole : (y : X) → IsWhole (state
         grown = λ e. cc;
         exact = λ steady. tt;
         stops = λ counted. leaf-stop grows r;
-        behind = λ steady counted. stop-here (destination_of c (Leaf i)) first sectors (leaf-moved false grows r).moved.fixed steady (leaf-stop grows r) (λ j h. absurd (omega (arith, h)));
+        behind = λ steady counted. stop-here (destination_of c (Leaf i)) first sectors (leaf-moved false grows r).moved.fixed (leaf-stop grows r) (λ j h. absurd (omega (arith, h)));
+        unread = λ none. leaf-unread false r;
       }

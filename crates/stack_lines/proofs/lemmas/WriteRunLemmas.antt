@@ -1,5 +1,5 @@
 -- What writes did, one after another.
-use Rattle.std.proofs.Common.{◌≡◌, ℕ, ◌+◌, ◌*◌, ◌/◌, ◌%◌, ◌<◌, ◌≤◌, List, [], ◌++◌, length, take, Result, Ok, Err, Contains, refl, sym, ap, ◌∙◌, subst, arith}
+use Rattle.std.proofs.Common.{◌≡◌, ℕ, ◌+◌, ◌*◌, ◌/◌, ◌%◌, ◌<◌, ◌≤◌, IsTrue, List, [], ◌++◌, length, take, Result, Ok, Err, Contains, refl, sym, ap, ◌∙◌, subst, arith}
 use Rattle.std.proofs.lemmas.List.{length-append}
 use Rattle.std.proofs.Math.Nat.{mul-le-mul_left, mul-le-mul_right}
 use Rattle.block_device.specs.Device.{Device, sectors_of}
@@ -11,12 +11,12 @@ use Rattle.stack_meaning.specs.declared.fault.IoFault.TheVariants as io
 use Rattle.stack_meaning.specs.Sectors.{SomeOf}
 use Rattle.stack_meaning.specs.declared.fault.Fault.{Fault}
 use Rattle.stack_meaning.specs.Outcomes.{error_target, LeafSector, Images}
-use Rattle.stack_meaning.specs.Leaves.{images_of, Moves}
+use Rattle.stack_meaning.specs.Leaves.{steady_images, Moves}
 use Rattle.stack_meaning.specs.Meaning.{Said}
 use Rattle.stack_meaning.specs.Puts.{Put, done, then_put}
-use Rattle.stack_meaning.specs.Changes.{reached, AreWritten}
-use Rattle.stack_lines.specs.Writing.{sectors_in, MayEnd, IsPut, Destination, StopsAtFault, StopsBehindPut, put_some, with_some, Writes}
-use Rattle.stack_meaning.proofs.lemmas.LeafListLemmas.{AllSteady-kept, failed_later}
+use Rattle.stack_meaning.specs.Changes.{reached, AreWritten, NoneRead}
+use Rattle.stack_lines.specs.Writing.{sectors_in, SomeEncrypt, MayEnd, IsPut, Destination, StopsAtFault, StopsBehindPut, put_some, with_some, Writes}
+use Rattle.stack_meaning.proofs.lemmas.LeafListLemmas.{AreSteady-kept, AreSteady-within, failed_later}
 use Rattle.stack_meaning.proofs.lemmas.FoundLemmas.{SomeOf-more}
 use Rattle.stack_lines.proofs.lemmas.StopLemmas.{IsUp, up-same, stop-up, stop-later, PutsNothing, behind-later, behind-as}
 use Rattle.stack_meaning.proofs.lemmas.ChangeLemmas.{reached-first, reached-later, AreWritten-none, AreWritten-then, AreWritten-more}
@@ -72,9 +72,10 @@ write_none to first leaves empty = record {
   moved = AreWritten-none _ _ leaves;
   ends = tt;
   grown = λ e. cc;
-  exact = λ steady. empty (images_of leaves);
+  exact = λ steady. empty (steady_images leaves);
   stops = tt;
   behind = λ steady. tt;
+  unread = λ none. refl;
 }
 
 module _ (to : Destination) (first : ℕ) (xs ys : List (List ℕ)) {old mid new : List Device} (p : Writes to first xs old mid (Ok tt)) where
@@ -86,6 +87,12 @@ module _ (to : Destination) (first : ℕ) (xs ys : List (List ℕ)) {old mid new
       let back : AreWritten (reached reaches first n) mid (length ys * to.cost) new = AreWritten-more (reached-later reaches first (length xs) (length ys) n h) (omega arith) q.moved in
       AreWritten-more (λ x all. all) (omega (arith, mul-le-mul_right to.cost h)) (AreWritten-then front back)
 
+  -- nor were leaves read, where none is encrypted
+  both-unread : (n : ℕ) {result : Result Unit IoFault} → length xs + length ys ≤ n → Writes to (first + length xs) ys mid new result → (SomeEncrypt to.said first n → ⊥) → NoneRead old new
+  both-unread n h q none =
+      q.unread (λ some. none (SomeOf-more (λ s. (to.said s).encrypts) first (length xs) (length ys) n h some))
+      ∙ p.unread (λ some. none (some.0, omega (arith, some.1, h), some.2))
+
   -- the next ones
   pub write_ok : PutsInParts to first xs ys → Writes to (first + length xs) ys mid new (Ok tt) → Writes to first (xs ++ ys) old new (Ok tt)
   write_ok parts q = record {
@@ -93,11 +100,12 @@ module _ (to : Destination) (first : ℕ) (xs ys : List (List ℕ)) {old mid new
     ends = tt;
     grown = λ e. cc;
     exact = λ steady.
-        parts (images_of old)
+        parts (steady_images old)
         ∙ ap (λ (x : Put). then_put x (to.puts (first + length xs) ys)) (p.exact steady)
-        ∙ q.exact (AllSteady-kept old mid p.moved.moved.fixed steady);
+        ∙ q.exact (AreSteady-kept old mid p.moved.moved.fixed steady);
     stops = tt;
     behind = λ steady. tt;
+    unread = both-unread (length (xs ++ ys)) (omega (arith, length-append xs ys)) q;
   }
 
   -- the next ones, which a fault ends before the last ones
@@ -110,25 +118,27 @@ module _ (to : Destination) (first : ℕ) (xs ys : List (List ℕ)) {old mid new
         grown = q.grown;
         exact = λ steady.
             let rest : Images → Put = to.puts (first + length xs + length ys) zs in
-            let same : then_put (to.puts (first + length xs) ys (images_of mid)) rest ≡ to.puts first (xs ++ (ys ++ zs)) (images_of old) = sym (
-            parts (ys ++ zs) (images_of old)
+            let same : then_put (to.puts (first + length xs) ys (steady_images mid)) rest ≡ to.puts first (xs ++ (ys ++ zs)) (steady_images old) = sym (
+            parts (ys ++ zs) (steady_images old)
             ∙ ap (λ (x : Put). then_put x (to.puts (first + length xs) (ys ++ zs))) (p.exact steady)
-            ∙ more (images_of mid)) in
-            subst (λ (x : Put). IsPut x (images_of new) (Err fault)) same
-            (put-ends (to.puts (first + length xs) ys (images_of mid)) rest (images_of new) fault (q.exact (AllSteady-kept old mid p.moved.moved.fixed steady)));
+            ∙ more (steady_images mid)) in
+            subst (λ (x : Put). IsPut x (steady_images new) (Err fault)) same
+            (put-ends (to.puts (first + length xs) ys (steady_images mid)) rest (steady_images new) fault (q.exact (AreSteady-kept old mid p.moved.moved.fixed steady)));
         stops = λ counted. stop-later first (length xs) (length ys) (length (xs ++ (ys ++ zs))) fits p.moved.moved.fixed p.moved.others (q.stops counted);
         behind = λ steady counted.
-            behind-later to none first xs ys zs p.moved.moved.fixed p.moved.others (p.exact steady) parts (q.behind (AllSteady-kept old mid p.moved.moved.fixed steady) counted);
+            behind-later to none first xs ys zs p.moved.moved.fixed p.moved.others (p.exact steady) parts (q.behind (AreSteady-kept old mid p.moved.moved.fixed steady) counted);
+        unread = both-unread (length (xs ++ (ys ++ zs))) fits q;
       }
 
 -- ---- sectors written to one place are written to another
 
--- the same is said of them, their put is the same, and they cost no less
+-- the same is said of them, their put is the same, they cost no less, and stand on no fewer leaves
 pub record PutsAlike (to to' : Destination) (first first' : ℕ) (sectors : List (List ℕ)) : Type 1 where
   pub said : (j : ℕ) → j < length sectors → to.said (first + j) ≡ to'.said (first' + j)
   pub puts : (images : Images) → to.puts first sectors images ≡ to'.puts first' sectors images
   pub fronts : (k : ℕ) (images : Images) → put_some to.puts first (take k sectors) images ≡ put_some to'.puts first' (take k sectors) images
   pub cost : to.cost ≤ to'.cost
+  pub leaves : (i : ℕ) → IsTrue (to.leaves i) → IsTrue (to'.leaves i)
 
 pub write_as : {to to' : Destination} {first first' : ℕ} {sectors : List (List ℕ)} {old new : List Device} {result : Result Unit IoFault} → PutsAlike to to' first first' sectors
     → Writes to first sectors old new result → Writes to' first' sectors old new result
@@ -136,9 +146,10 @@ write_as {to = to} {to' = to'} {first = first} {first' = first'} {sectors = sect
   moved = AreWritten-more (λ x some. (some.0, some.1, subst (λ (s : Said). Contains s.reaches x) (alike.said some.0 some.1) some.2)) (mul-le-mul_left (length sectors) alike.cost) p.moved;
   ends = MayEnd-as (λ x. SomeOf (λ s. (to.said s).meets x) first (length sectors)) (λ x. SomeOf (λ s. (to'.said s).meets x) first' (length sectors)) old new result (λ x some. (some.0, some.1, subst (λ (s : Said). s.meets x) (alike.said some.0 some.1) some.2)) p.ends;
   grown = p.grown;
-  exact = λ steady. subst (λ (x : Put). IsPut x (images_of new) result) (alike.puts (images_of old)) (p.exact steady);
+  exact = λ steady. subst (λ (x : Put). IsPut x (steady_images new) result) (alike.puts (steady_images old)) (p.exact (AreSteady-within old alike.leaves steady));
   stops = stops-as result p.stops;
-  behind = λ steady. behind-all result (p.behind steady);
+  behind = λ steady. behind-all result (p.behind (AreSteady-within old alike.leaves steady));
+  unread = λ none. p.unread (λ some. none (some.0, some.1, subst (λ (s : Said). s.encrypts) (alike.said some.0 some.1) some.2));
 }
   where
     up : (j : ℕ) → j < length sectors → IsUp (to.said (first + j)) (to'.said (first' + j))

@@ -13,6 +13,8 @@ use Rattle.stack_rules.specs.Rules.{IsLoaded}
 use Rattle.stack_meaning.specs.declared.fault.IoFault.{IoFault}
 use Rattle.stack_meaning.specs.declared.fault.Fault.TheVariants as why
 use Rattle.stack_meaning.specs.declared.fault.IoFault.TheVariants as io
+use Rattle.stack_lines.specs.Touches.{leaves_of, source_leaves}
+use Rattle.stack_lines.proofs.lemmas.TouchLemmas.{one-within, served-within}
 use Rattle.stack_lines.specs.declared.source.Source.{Source}
 use Rattle.stack_lines.specs.declared.source.Source.TheVariants.{Below, Units, UnitPart, Zeros, Fails, Block, Blocks}
 use Rattle.stack_rules.specs.Units.{unit_sectors}
@@ -124,6 +126,7 @@ served-alike c d s source sectors loaded some may r = record {
       sym (served-put c d s (length sectors) 0 source sectors images loaded some (omega arith) may r) ∙ ap (λ (k : ℕ). put_on c (mapped d) k sectors images) e;
   fronts = λ k images. front k images (take k sectors) (omega (arith, length-take k sectors));
   cost = served-write-cost c d s (length sectors) source loaded some r;
+  leaves = one-within (source_leaves c source) (leaves_of c (mapped d)) (served-within c d s (length sectors) source loaded some r);
 }
   where
     front : (k : ℕ) (images : Images) (part : List (List ℕ)) → length part ≤ length sectors → put_some (source_put c source) 0 part images ≡ put_some (put_on c (mapped d)) s part images
@@ -138,11 +141,24 @@ below-alike c lower first sectors = record {
   puts = λ images. let e : first ≡ first + 0 = omega arith in ap (λ (k : ℕ). put_on c lower k sectors images) e;
   fronts = λ k images. front images (take k sectors);
   cost = omega arith;
+  leaves = λ i is. is;
 }
   where
     front : (images : Images) (part : List (List ℕ)) → put_some (put_on c lower) first part images ≡ put_some (source_put c (Below lower first)) 0 part images
     front images [] = refl
     front images (x ∷ xs) = let e : first ≡ first + 0 = omega arith in ap (λ (k : ℕ). put_on c lower k (x ∷ xs) images) e
+
+-- sectors of a `zero` line
+pub zeros-written : (c : Configuration) (sectors : List (List ℕ)) (leaves : List Device) → Writes (source_destination c Zeros) 0 sectors leaves leaves (Ok tt)
+zeros-written c sectors leaves = record {
+  moved = AreWritten-none _ _ leaves;
+  ends = tt;
+  grown = λ e. cc;
+  exact = λ steady. refl;
+  stops = tt;
+  behind = λ steady. tt;
+  unread = λ none. refl;
+}
 
 -- sectors of an `error` line: the first one of them fails
 abbrev fails-stop : (c : Configuration) (n : ℕ) (leaves : List Device) → 0 < n → StopsAt (source_said c Fails) 0 n (io.Stack why.ErrorTarget) leaves leaves
@@ -155,7 +171,8 @@ fails-written c sectors leaves some = record {
   grown = λ e. cc;
   exact = λ steady. refl;
   stops = λ counted. fails-stop c (length sectors) leaves some;
-  behind = λ steady counted. stop-here (source_destination c Fails) 0 sectors refl steady (fails-stop c (length sectors) leaves some) (λ j h. absurd (no-less j h));
+  behind = λ steady counted. stop-here (source_destination c Fails) 0 sectors refl (fails-stop c (length sectors) leaves some) (λ j h. absurd (no-less j h));
+  unread = λ none. refl;
 }
   where
     no-less : (j : ℕ) → j < 0 → ⊥

@@ -1,10 +1,10 @@
 -- Writes of the leaves, one after another.
-use Rattle.std.proofs.Common.{◌≡◌, ℕ, ◌+◌, ◌<◌, ◌≤◌, true, List, [], length, get_or, map, Contains, refl, sym, ap, ◌∙◌, subst, arith, inl, inr}
-use Rattle.std.proofs.lemmas.List.{get_or-map, get_or_past, length-map}
-use Rattle.std.proofs.lemmas.Bool.{cases_lt}
+use Rattle.std.proofs.Common.{◌≡◌, ℕ, zero, suc, ◌+◌, ◌≤◌, Bool, IsTrue, true, false, List, [], ◌∷◌, length, get_or, map, Contains, refl, sym, ap, ◌∙◌, subst, arith}
+use Rattle.std.specs.Prelude.{if◌then◌else◌}
+use Rattle.std.proofs.lemmas.List.{length-map}
 use Rattle.block_device.specs.Device.{Device, in_memory}
 use Rattle.stack_meaning.specs.Outcomes.{LeafSector, zero_sector}
-use Rattle.stack_meaning.specs.Leaves.{images_of, fixed_part, AllSteady, AreRead}
+use Rattle.stack_meaning.specs.Leaves.{steady_image, steady_images, Fixed, fixed_part, AreRead}
 use Rattle.stack_meaning.specs.Changes.{LeafSectors, reached, KeepsOthers, AreWritten, DifferWithin}
 use Rattle.stack_meaning.proofs.lemmas.LeafListLemmas.{Moves-none, Moves-then, same_length, steady_kept}
 
@@ -65,22 +65,34 @@ AreWritten-read these {n = n} a leaf = record {
 
 -- ---- images
 
+field-at : {X : Type 0} (f : Device → X) (leaves : List Device) (i : ℕ) (d : Device) → get_or (map f leaves) i (f d) ≡ f (get_or leaves i d)
+field-at f [] i d = refl
+field-at f (x ∷ leaves) zero d = refl
+field-at f (x ∷ leaves) (suc i) d = field-at f leaves i d
+
+-- what holds of two images of which none is known, and of those of a steady leaf, holds of those that are known
+known-both : (Q : List (List ℕ) → List (List ℕ) → Type 0) (x y : Device) → y.steady ≡ x.steady → Q [] [] → (IsTrue x.steady → Q y.image x.image) → Q (steady_image y) (steady_image x)
+known-both Q x y e none some = go x.steady y.steady e some
+  where
+    go : (a b : Bool) → b ≡ a → (IsTrue a → Q y.image x.image) → Q (if b then y.image else []) (if a then x.image else [])
+    go true true e some = some refl
+    go true false e some = absurd cc
+    go false true e some = absurd cc
+    go false false e some = none
+
 -- the images of steady leaves differ in these sectors alone
-pub differ-within : {these : LeafSectors} (old new : List Device) → map fixed_part new ≡ map fixed_part old → AllSteady old → KeepsOthers these old new → DifferWithin these (images_of old) (images_of new)
-differ-within old new e steady k =
+pub differ-within : {these : LeafSectors} (old new : List Device) → map fixed_part new ≡ map fixed_part old → KeepsOthers these old new → DifferWithin these (steady_images old) (steady_images new)
+differ-within {these = these} old new e k =
     let none : Device = in_memory [] true in
     let len : length new ≡ length old = same_length old new e in
-    let image = λ (leaves : List Device) (i : ℕ) (h : i < length leaves). get_or-map (λ (l : Device). l.image) leaves i none [] h in
-    let past = λ (leaves : List Device) (i : ℕ) (h : length leaves ≤ i). get_or_past (images_of leaves) i [] (omega (arith, h, length-map leaves (λ (l : Device). l.image))) in
+    let same : (i : ℕ) → (get_or new i none).steady ≡ (get_or old i none).steady = λ i.
+    ap (λ (f : Fixed). f.steady) (sym (field-at fixed_part new i none) ∙ ap (λ (l : List Fixed). get_or l i (fixed_part none)) e ∙ field-at fixed_part old i none) in
+    let at : (Q : List (List ℕ) → List (List ℕ) → Type 0) (i : ℕ) → Q [] [] → (IsTrue (get_or old i none).steady → Q (get_or new i none).image (get_or old i none).image)
+    → Q (get_or (steady_images new) i []) (get_or (steady_images old) i []) = λ Q i nothing some.
+    subst (λ (b : List (List ℕ)). Q b (get_or (steady_images old) i [])) (sym (field-at steady_image new i none))
+    (subst (λ (a : List (List ℕ)). Q (steady_image (get_or new i none)) a) (sym (field-at steady_image old i none)) (known-both Q (get_or old i none) (get_or new i none) (same i) nothing some)) in
     record {
-      leaves = length-map new (λ (l : Device). l.image) ∙ len ∙ sym (length-map old (λ (l : Device). l.image));
-      sizes = λ i. elim (cases_lt i (length old)) [
-        | inl low ↦ ap (λ (l : List (List ℕ)). length l) (image new i (omega (arith, low, len))) ∙ k.size i none (steady i none low) ∙ ap (λ (l : List (List ℕ)). length l) (sym (image old i low))
-        | inr high ↦ ap (λ (l : List (List ℕ)). length l) (past new i (omega (arith, high, len)) ∙ sym (past old i high))
-      ];
-      sector = λ i t out. elim (cases_lt i (length old)) [
-        | inl low ↦ ap (λ (l : List (List ℕ)). get_or l t zero_sector) (image new i (omega (arith, low, len))) ∙ k.sector i t none (steady i none low) out
-            ∙ ap (λ (l : List (List ℕ)). get_or l t zero_sector) (sym (image old i low))
-        | inr high ↦ ap (λ (l : List (List ℕ)). get_or l t zero_sector) (past new i (omega (arith, high, len)) ∙ sym (past old i high))
-      ];
+      leaves = length-map new steady_image ∙ len ∙ sym (length-map old steady_image);
+      sizes = λ i. at (λ b a. length b ≡ length a) i refl (λ is. k.size i none is);
+      sector = λ i t out. at (λ b a. get_or b t zero_sector ≡ get_or a t zero_sector) i refl (λ is. k.sector i t none is out);
     }

@@ -1,5 +1,5 @@
 -- What was found in one read after another.
-use Rattle.std.proofs.Common.{ℕ, ◌+◌, ◌-◌, ◌≤◌, List, [], ◌++◌, get_or, Contains, Option, Some, None, sym, ap, ◌∙◌, subst, arith, append_assoc, append-nil}
+use Rattle.std.proofs.Common.{ℕ, ◌+◌, ◌≤◌, List, [], ◌++◌, get_or, Contains, Option, Some, None, sym, ap, ◌∙◌, subst, arith, append_assoc, append-nil}
 use Rattle.std.proofs.lemmas.List.Elements.{Contains-append_left, All-append, All-nil}
 use Rattle.block_device.specs.Device.{Device}
 use Rattle.dm_table.specs.declared.table.Target.{Target}
@@ -17,7 +17,7 @@ use Rattle.stack_meaning.proofs.lemmas.MeaningLaws.{MeantLaws}
 use Rattle.stack_meaning.proofs.lemmas.MeaningLawsOf.{meaning-laws}
 use Rattle.stack_meaning.proofs.lemmas.SectorLemmas.{IsHandedUp, said_at-each}
 use Rattle.stack_meaning.specs.Found.{FoundRecord, Entry, entry_of, AreUsed, Grown}
-use Rattle.stack_meaning.specs.Kept.{LineKeeps, AllKept}
+use Rattle.stack_meaning.specs.Kept.{LineKeeps, AllKept, target_leaves}
 
 pub Grown-none : (entries : ℕ → List Entry) (first n : ℕ) (found : List FoundRecord) → Grown entries first n found found
 Grown-none entries first n found = record { added = []; is = sym (append-nil found); used = All-nil _; distinct = λ h. h }
@@ -50,9 +50,9 @@ grown-keeps {u = u} p x h = subst (λ (l : List FoundRecord). Contains l x) (sym
 LineKeeps-later : (c : Configuration) {old new : List Device} {n : ℕ} (target : Target) (x : FoundRecord) → AreRead old n new → LineKeeps c old target x.chain → LineKeeps c new target x.chain
 LineKeeps-later c {old = old} {new = new} {n = n} target x a h = go (meaning_of target).meant (meaning-laws target) h
   where
-    go : (m : Meant) → MeantLaws target m → keeps_as m (below none_said (said_by_name c) target) old x.chain → keeps_as m (below none_said (said_by_name c) target) new x.chain
+    go : (m : Meant) → MeantLaws target m → keeps_as m (below none_said (said_by_name c) target) (target_leaves c target) old x.chain → keeps_as m (below none_said (said_by_name c) target) (target_leaves c target) new x.chain
     go handed laws h = absurd h
-    go (own m) laws h = laws.later (below none_said (said_by_name c) target) old new n x.chain a h
+    go (own m) laws h = laws.later (below none_said (said_by_name c) target) (target_leaves c target) old new n x.chain a h
 
 pub kept-later : (c : Configuration) {old new : List Device} {n : ℕ} (found : List FoundRecord) → AreRead old n new → AllKept c old found → AllKept c new found
 kept-later c found a all = λ k d below.

@@ -8,7 +8,8 @@ use Rattle.std.proofs.lemmas.List.Elements.{All-nil, All-cons}
 use Rattle.std.proofs.lemmas.Bool.{cases_eq}
 use Rattle.block_device.specs.Device.{Device, IsRead, IsWhole, HasFailed}
 use Rattle.stack_rules.specs.Records.{LeafRecord}
-use Rattle.stack_meaning.specs.Leaves.{images_of, ServeLeaves, fixed_part, AllSteady, Counts, AreRead, LeafFailed}
+use Rattle.stack_meaning.specs.Leaves.{steady_image, steady_images, ServeLeaves, fixed_part, AreSteady, Counts, AreRead, LeafFailed}
+use Rattle.stack_meaning.proofs.lemmas.LeafListLemmas.{known-image}
 
 -- a field that is the same at the one leaf that was set
 pub same_map : {X : Type 0} (f : Device → X) (leaves : List Device) (i : ℕ) (old new : Device) → i < length leaves → get_or leaves i old ≡ old → f new ≡ f old → map f (set leaves i new) ≡ map f leaves
@@ -71,12 +72,12 @@ module _ {X : Type 0} (state : X → Device) (devices : List X) (i : ℕ) (x : X
       subst (AreRead (map state devices) n) (sym (map-set state devices i new))
       (AreRead-set (map state devices) i (state (get_or devices i x)) (state new) (omega (arith, there, length-map devices state)) (get_or-map state devices i x _ there) n ok some grows r)
 
-  pub image_at : get_or (images_of (map state devices)) i [] ≡ (state (get_or devices i x)).image
-  image_at =
-      get_or-map (λ (d : Device). d.image) (map state devices) i (state x) [] (omega (arith, there, length-map devices state)) ∙ ap (λ (d : Device). d.image) (get_or-map state devices i x (state x) there)
+  pub steady_at : {these : ℕ → Bool} → IsTrue (these i) → AreSteady these (map state devices) → IsTrue (state (get_or devices i x)).steady
+  steady_at is steady = subst (λ (d : Device). IsTrue d.steady) (get_or-map state devices i x (state x) there) (steady i (state x) (omega (arith, there, length-map devices state)) is)
 
-  pub steady_at : AllSteady (map state devices) → IsTrue (state (get_or devices i x)).steady
-  steady_at steady = subst (λ (d : Device). IsTrue d.steady) (get_or-map state devices i x (state x) there) (steady i (state x) (omega (arith, there, length-map devices state)))
+  pub image_at : IsTrue (state (get_or devices i x)).steady → get_or (steady_images (map state devices)) i [] ≡ (state (get_or devices i x)).image
+  image_at steady =
+      get_or-map steady_image (map state devices) i (state x) [] (omega (arith, there, length-map devices state)) ∙ ap steady_image (get_or-map state devices i x (state x) there) ∙ known-image (state (get_or devices i x)) steady
 
   pub LeafFailed-device : (new : X) → HasFailed (state (get_or devices i x)) (state new) → (IsTrue (state (get_or devices i x)).never_fails → ⊥) → LeafFailed i (map state devices) (map state (set devices i new))
   LeafFailed-device new f unsure = record {

@@ -1,11 +1,12 @@
 -- One read of the leaves after another.
-use Rattle.std.proofs.Common.{◌≡◌, ℕ, suc, ◌+◌, ◌-◌, ◌^◌, ◌<◌, ◌≤◌, Bool, IsTrue, List, [], ◌∷◌, length, get_or, map, refl, sym, ap, ◌∙◌, subst, arith, inl, inr}
+use Rattle.std.proofs.Common.{true, false, drop, ◌≡◌, ℕ, suc, ◌+◌, ◌-◌, ◌^◌, ◌<◌, ◌≤◌, Bool, IsTrue, List, [], ◌∷◌, length, get_or, map, refl, sym, ap, ◌∙◌, subst, arith, inl, inr}
+use Rattle.std.specs.Prelude.{if◌then◌else◌}
 use Rattle.std.proofs.lemmas.List.{get_or-map, get_or_past, length-map}
 use Rattle.std.proofs.lemmas.Bool.{cases_lt}
 use Rattle.block_device.specs.Device.{Device}
 use Rattle.stack_rules.specs.Records.{LeafRecord}
 use Rattle.stack_meaning.specs.Outcomes.{Images}
-use Rattle.stack_meaning.specs.Leaves.{images_of, sizes_of, flags_of, ServeLeaves, Fixed, fixed_part, AllSteady, Counts, Moves, KeepsImages, AreRead, LeafFailed}
+use Rattle.stack_meaning.specs.Leaves.{images_of, steady_image, steady_images, AreSteady, sizes_of, flags_of, ServeLeaves, Fixed, fixed_part, AllSteady, Counts, Moves, KeepsImages, AreRead, LeafFailed}
 
 -- ---- nothing was moved
 
@@ -44,21 +45,57 @@ steady_kept old new e i d h = elim (cases_lt i (length old)) [
       subst (λ (x : Device). IsTrue x.steady) (sym (get_or_past new i d (omega (arith, high, same_length old new e)))) was
 ]
 
+pub AreSteady-kept : {these : ℕ → Bool} (old new : List Device) → map fixed_part new ≡ map fixed_part old → AreSteady these old → AreSteady these new
+AreSteady-kept old new e steady i d h is = let below : i < length old = omega (arith, h, same_length old new e) in steady_at old new e i d below (steady i d below is)
+
+-- fewer leaves
+pub AreSteady-within : {these more : ℕ → Bool} (leaves : List Device) → ((i : ℕ) → IsTrue (these i) → IsTrue (more i)) → AreSteady more leaves → AreSteady these leaves
+AreSteady-within leaves within steady i d h is = steady i d h (within i is)
+
+pub some-steady : (these : ℕ → Bool) (leaves : List Device) → AllSteady leaves → AreSteady these leaves
+some-steady these leaves steady i d h is = steady i d h
+
 pub AllSteady-kept : (old new : List Device) → map fixed_part new ≡ map fixed_part old → AllSteady old → AllSteady new
 AllSteady-kept old new e steady i d h = let below : i < length old = omega (arith, h, same_length old new e) in steady_at old new e i d below (steady i d below)
 
-images-same : (old new : List Device) → length new ≡ length old → ((i : ℕ) (d : Device) → IsTrue (get_or old i d).steady → (get_or new i d).image ≡ (get_or old i d).image) → AllSteady old → images_of new ≡ images_of old
-images-same [] [] e same steady = refl
-images-same [] (y ∷ new) e same steady = absurd (omega (arith, e))
-images-same (x ∷ old) [] e same steady = absurd (omega (arith, e))
-images-same (x ∷ old) (y ∷ new) e same steady =
-    let first : y.image ≡ x.image = same 0 x (steady 0 x (omega arith)) in
-    let rest = images-same old new (omega (arith, e)) (λ i d h. same (suc i) d h) (λ i d h. steady (suc i) d (omega (arith, h))) in
-    ap (λ (image : List (List ℕ)). image ∷ images_of new) first ∙ ap (λ (images : Images). x.image ∷ images) rest
+-- a steady leaf's image is known
+pub known-image : (x : Device) → IsTrue x.steady → steady_image x ≡ x.image
+known-image x is = go x.steady is
+  where
+    go : (b : Bool) → IsTrue b → (if b then x.image else []) ≡ x.image
+    go true is = refl
+    go false is = absurd cc
 
--- where all leaves are steady, all images are as they were
-pub images-kept : {old new : List Device} {n : ℕ} → AreRead old n new → AllSteady old → images_of new ≡ images_of old
-images-kept {old = old} {new = new} a steady = images-same old new (same_length old new a.moved.fixed) a.images.image steady
+image-same : (x y : Device) → y.steady ≡ x.steady → (IsTrue x.steady → y.image ≡ x.image) → steady_image y ≡ steady_image x
+image-same x y e same = go x.steady y.steady e same
+  where
+    go : (a b : Bool) → b ≡ a → (IsTrue a → y.image ≡ x.image) → (if b then y.image else []) ≡ (if a then x.image else [])
+    go true true e same = same refl
+    go true false e same = absurd cc
+    go false true e same = absurd cc
+    go false false e same = refl
+
+images-same : (old new : List Device) → map fixed_part new ≡ map fixed_part old → ((i : ℕ) (d : Device) → IsTrue (get_or old i d).steady → (get_or new i d).image ≡ (get_or old i d).image) → steady_images new ≡ steady_images old
+images-same [] [] e same = refl
+images-same [] (y ∷ new) e same = absurd (omega (arith, same_length [] (y ∷ new) e))
+images-same (x ∷ old) [] e same = absurd (omega (arith, same_length (x ∷ old) [] e))
+images-same (x ∷ old) (y ∷ new) e same =
+    let one : fixed_part y ≡ fixed_part x = ap (λ (l : List Fixed). get_or l 0 (fixed_part x)) e in
+    let more : map fixed_part new ≡ map fixed_part old = ap (drop 1) e in
+    let first : steady_image y ≡ steady_image x = image-same x y (ap (λ (f : Fixed). f.steady) one) (same 0 x) in
+    let rest = images-same old new more (λ i d h. same (suc i) d h) in
+    ap (λ (image : List (List ℕ)). image ∷ steady_images new) first ∙ ap (λ (images : Images). steady_image x ∷ images) rest
+
+-- no read changes the image of a steady leaf
+pub images-kept : {old new : List Device} {n : ℕ} → AreRead old n new → steady_images new ≡ steady_images old
+images-kept {old = old} {new = new} a = images-same old new a.moved.fixed a.images.image
+
+-- where all leaves are steady, their images are those that are known
+pub all-images : (leaves : List Device) → AllSteady leaves → steady_images leaves ≡ images_of leaves
+all-images [] steady = refl
+all-images (x ∷ leaves) steady =
+    let first : steady_image x ≡ x.image = known-image x (steady 0 x (omega arith)) in
+    ap (λ (image : List (List ℕ)). image ∷ steady_images leaves) first ∙ ap (λ (images : Images). x.image ∷ images) (all-images leaves (λ i d h. steady (suc i) d (omega (arith, h))))
 
 -- ---- one call after another
 

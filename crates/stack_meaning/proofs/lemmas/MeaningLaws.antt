@@ -1,5 +1,5 @@
 -- What holds of what a target means, whatever its kind is.
-use Rattle.std.proofs.Common.{◌≡◌, ℕ, false, List, Contains, Ok}
+use Rattle.std.proofs.Common.{◌≡◌, ℕ, Bool, false, List, Contains, Ok}
 use Rattle.hash_tree.specs.Chain.{ChainRecord}
 use Rattle.block_device.specs.Device.{Device, IsSector}
 use Rattle.dm_table.specs.Grammar.{IsTargetOfGrammar}
@@ -48,7 +48,7 @@ pub record OwnLaws (target : Target) (m : OwnMeaning) : Type 1 where
   -- and where it isn't one that can only be read
   pub unchecked : (len : ℕ) → needs_read_only len target ≡ false → (below : ℕ → ℕ → Said) → ((i t : ℕ) → IsUnchecked (below i t)) → (d l s : ℕ) → IsUnchecked (m.said below d l s)
   -- what it keeps of a chain stands while the leaves are read
-  pub later : (below : ℕ → ℕ → Said) (old new : List Device) (n : ℕ) (chain : ChainRecord) → AreRead old n new → m.keeps below old chain → m.keeps below new chain
+  pub later : (below : ℕ → ℕ → Said) (these : ℕ → Bool) (old new : List Device) (n : ℕ) (chain : ChainRecord) → AreRead old n new → m.keeps below these old chain → m.keeps below these new chain
 
 -- of what is handed on nothing has to hold
 abbrev pub MeantLaws : Target → Meant → Type 1

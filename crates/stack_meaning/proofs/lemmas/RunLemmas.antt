@@ -1,5 +1,5 @@
 -- What reads got, one after another.
-use Rattle.std.proofs.Common.{◌≡◌, ℕ, ◌+◌, ◌-◌, ◌*◌, ◌<◌, ◌≤◌, List, ◌++◌, length, get_or, Contains, take, drop, Result, Ok, Err, sym, ap, ◌∙◌, subst, arith, inl, inr}
+use Rattle.std.proofs.Common.{◌≡◌, ℕ, ◌+◌, ◌-◌, ◌*◌, ◌<◌, ◌≤◌, IsTrue, List, ◌++◌, length, get_or, Contains, take, drop, Result, Ok, Err, sym, ap, ◌∙◌, subst, arith, inl, inr}
 use Rattle.std.proofs.lemmas.List.{take-append-le, drop-append-le, length-drop, length-append, length-take-le}
 use Rattle.std.proofs.lemmas.Bool.{cases_lt}
 use Rattle.std.proofs.Math.Seq.{drop-append-add}
@@ -11,12 +11,12 @@ use Rattle.stack_meaning.specs.declared.fault.IoFault.TheVariants as io
 use Rattle.stack_meaning.specs.declared.fault.Fault.{Fault}
 use Rattle.stack_meaning.specs.Outcomes.{Outcome, Images, joint_outcome, span, part}
 use Rattle.stack_meaning.specs.Sectors.{IsRun}
-use Rattle.stack_meaning.specs.Leaves.{images_of, AllSteady, AreRead}
+use Rattle.stack_meaning.specs.Leaves.{steady_images, AreSteady, AreRead}
 use Rattle.stack_meaning.specs.Found.{FoundRecord, entry_of}
 use Rattle.stack_meaning.specs.Meaning.{Said}
 use Rattle.stack_meaning.specs.Places.{Place, Expected, run_expected, Read}
 use Rattle.stack_meaning.specs.Reading.{Ends, Answers, Gets, Finds}
-use Rattle.stack_meaning.proofs.lemmas.LeafListLemmas.{AreRead-then, AreRead-more, AllSteady-kept, images-kept, failed_later}
+use Rattle.stack_meaning.proofs.lemmas.LeafListLemmas.{AreRead-then, AreRead-more, AreSteady-kept, AreSteady-within, images-kept, failed_later}
 use Rattle.stack_meaning.proofs.lemmas.FoundLemmas.{HasMore, IsMono, SomeOf-more, Grown-then, grown-keeps}
 use Rattle.stack_meaning.proofs.lemmas.SpanLemmas.{span-add, span_same}
 
@@ -32,19 +32,20 @@ Ends-as wanted wanted' old new (Err io.NoMemory) is faults h = tt
 -- a fault passes on, also to what begins before the call
 pub fault_passes : {A B : Type 0} {wanted : Expected A} {wanted' : Expected B} {old mid new : List Device} {m : ℕ} (fault : IoFault)
     → Gets wanted mid new (Err fault) → AreRead old m mid → m + wanted.cost ≤ wanted'.cost → ((x : Fault) → wanted.faults x → wanted'.faults x)
-    → (AllSteady old → (x : Fault) → wanted.means (images_of mid) ≡ Err x → wanted'.means (images_of old) ≡ Err x)
+    → ((i : ℕ) → IsTrue (wanted.leaves i) → IsTrue (wanted'.leaves i))
+    → (AreSteady wanted'.leaves old → (x : Fault) → wanted.means (steady_images mid) ≡ Err x → wanted'.means (steady_images old) ≡ Err x)
     → Gets wanted' old new (Err fault)
-fault_passes {old = old} {mid = mid} (io.Stack fault) p a h faults means = record {
+fault_passes {old = old} {mid = mid} (io.Stack fault) p a h faults within means = record {
   moved = AreRead-more h (AreRead-then a p.moved);
   may = faults fault p.may;
-  exact = λ steady. means steady fault (p.exact (AllSteady-kept old mid a.moved.fixed steady));
+  exact = λ steady. means steady fault (p.exact (AreSteady-within mid within (AreSteady-kept old mid a.moved.fixed steady)));
 }
-fault_passes (io.Device i) p a h faults means = record {
+fault_passes (io.Device i) p a h faults within means = record {
   moved = AreRead-more h (AreRead-then a p.moved);
   may = (p.may.0, failed_later a.moved p.moved.moved p.may.1);
   exact = λ steady. tt;
 }
-fault_passes io.NoMemory p a h faults means = record {
+fault_passes io.NoMemory p a h faults within means = record {
   moved = AreRead-more h (AreRead-then a p.moved);
   may = tt;
   exact = λ steady. tt;
@@ -95,11 +96,11 @@ module _ (place : Place) (chains : List FoundRecord) (first a m : ℕ) {old mid 
     may = run-append (λ s. (place.said s).may chains) first a m x y p.may q.may;
     exact = λ steady.
         let f : Images → ℕ → Outcome = λ images s. (place.said s).means images in
-        let images : images_of mid ≡ images_of old = images-kept p.moved steady in
-        span-add (f (images_of old)) first a m
-        ∙ ap (λ (s : Outcome). joint_outcome s (span (f (images_of old)) (first + a) m)) (p.exact steady)
+        let images : steady_images mid ≡ steady_images old = images-kept p.moved in
+        span-add (f (steady_images old)) first a m
+        ∙ ap (λ (s : Outcome). joint_outcome s (span (f (steady_images old)) (first + a) m)) (p.exact steady)
         ∙ ap (λ (i : Images). joint_outcome (Ok x) (span (f i) (first + a) m)) (sym images)
-        ∙ ap (joint_outcome (Ok x)) (q.exact (AllSteady-kept old mid p.moved.moved.fixed steady));
+        ∙ ap (joint_outcome (Ok x)) (q.exact (AreSteady-kept old mid p.moved.moved.fixed steady));
   }
 
   -- the next one, which ends by a fault
@@ -109,10 +110,11 @@ module _ (place : Place) (chains : List FoundRecord) (first a m : ℕ) {old mid 
       fault_passes {wanted = run_expected place chains (first + a) m} {wanted' = run_expected place chains first n} fault q p.moved
       (omega (arith, mul-le-mul_right place.cost h))
       (λ x meets. SomeOf-more (λ s. (place.said s).meets x) first a m n h meets)
+      (λ i is. is)
       (λ steady fails is.
-      let images : images_of mid ≡ images_of old = images-kept p.moved steady in
+      let images : steady_images mid ≡ steady_images old = images-kept p.moved in
       let parts : n ≡ a + (m + (n - (a + m))) = omega arith in
-      let g : ℕ → Outcome = f (images_of old) in
+      let g : ℕ → Outcome = f (steady_images old) in
       ap (span g first) parts ∙ span-add g first a (m + (n - (a + m)))
       ∙ ap (λ (s : Outcome). joint_outcome s (span g (first + a) (m + (n - (a + m))))) (p.exact steady)
       ∙ ap (joint_outcome (Ok x)) (span-add g (first + a) m (n - (a + m))
@@ -155,10 +157,11 @@ module _ (place : Place) (c : Configuration) (mono : AllMono place) (first a m :
 
 -- ---- n sectors of a place that are n of another
 
--- the same is said of them, and they cost no less
+-- the same is said of them, they cost no less, and stand on no fewer leaves
 pub record Passes (place place' : Place) (first first' n : ℕ) : Type 1 where
   pub said : (j : ℕ) → j < n → place.said (first + j) ≡ place'.said (first' + j)
   pub cost : place.cost ≤ place'.cost
+  pub leaves : (i : ℕ) → IsTrue (place.leaves i) → IsTrue (place'.leaves i)
 
 module _ {place place' : Place} {first first' n : ℕ} (passes : Passes place place' first first' n) where
   fill_as : (chains : List FoundRecord) {old new : List Device} (answer : Result (List ℕ) IoFault) → Gets (run_expected place chains first n) old new answer → Gets (run_expected place' chains first' n) old new answer
@@ -168,9 +171,9 @@ module _ {place place' : Place} {first first' n : ℕ} (passes : Passes place pl
         (λ bytes all. record { len = all.len; sectors = λ j h. subst (λ (x : Said). x.may chains (part bytes j)) (passes.said j h) (all.sectors j h) })
         (λ fault some. (some.0, some.1, subst (λ (x : Said). x.meets fault) (passes.said some.0 some.1) some.2)) p.may;
     exact = λ steady.
-        let means : (ℕ → Said) → ℕ → Outcome = λ said s. (said s).means (images_of old) in
+        let means : (ℕ → Said) → ℕ → Outcome = λ said s. (said s).means (steady_images old) in
         subst (λ (s : Outcome). Answers {A = List ℕ} (λ bytes. bytes) s answer)
-        (span_same (means place.said) (means place'.said) first first' n (λ j h. ap (λ (x : Said). x.means (images_of old)) (passes.said j h))) (p.exact steady);
+        (span_same (means place.said) (means place'.said) first first' n (λ j h. ap (λ (x : Said). x.means (steady_images old)) (passes.said j h))) (p.exact (AreSteady-within old passes.leaves steady));
   }
 
   pub pass : {c : Configuration} (did : Read) (answer : Result (List ℕ) IoFault) → Finds place c first n did answer → Finds place' c first' n did answer

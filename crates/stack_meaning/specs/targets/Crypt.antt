@@ -48,7 +48,7 @@ crypt line = record {
   meant = own (record {
     said = λ below d l. crypt_said (below 0) line;
     put = λ reads puts. unit_put (λ images t. (reads 0 t).means images) (puts 0) line;
-    keeps = λ below leaves chain. ⊥;
+    keeps = λ below these leaves chain. ⊥;
   });
   together = λ s. nat_lt (s % unit_sectors line + 1) (unit_sectors line);
 }

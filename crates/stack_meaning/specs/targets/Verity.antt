@@ -1,5 +1,5 @@
 -- `verity`: data blocks, each checked from the root down.
-use Rattle.std.specs.Prelude.{◌≡◌, ℕ, ◌+◌, ◌/◌, ◌%◌, nat_lt, List, [], ◌∷◌, Contains, Ok}
+use Rattle.std.specs.Prelude.{◌≡◌, ℕ, ◌+◌, ◌/◌, ◌%◌, nat_lt, Bool, List, [], ◌∷◌, Contains, Ok}
 use Rattle.hash_tree.specs.Chain.{ChainRecord, IsGood}
 use Rattle.block_device.specs.Device.{Device}
 use Rattle.dm_table.specs.declared.verity.Verity.{Verity}
@@ -7,7 +7,7 @@ use Rattle.stack_rules.specs.Trees.{tree_of, block_sectors}
 use Rattle.stack_meaning.specs.Outcomes.{then_outcome, part}
 use Rattle.stack_meaning.specs.Found.{FoundRecord, Entry, entry_of}
 use Rattle.stack_meaning.specs.Blocks.{block_at, BlockMeets}
-use Rattle.stack_meaning.specs.Leaves.{images_of, AllSteady}
+use Rattle.stack_meaning.specs.Leaves.{steady_images, AreSteady}
 use Rattle.stack_meaning.specs.Said.{Said}
 use Rattle.stack_meaning.specs.Putting.{done}
 use Rattle.stack_meaning.specs.TargetMeaning.{TargetMeaning, own}
@@ -36,17 +36,17 @@ verity_said on_data on_hash d l v s =
       encrypts = ⊥;
     }
 
--- a chain of a verity line: it is good, and over steady leaves its content is the data block
-pub record IsOfVerity (on_data on_hash : ℕ → Said) (leaves : List Device) (v : Verity) (chain : ChainRecord) : Type 0 where
+-- a chain of a verity line on these leaves: it is good, and where they are steady its content is the data block
+pub record IsOfVerity (on_data on_hash : ℕ → Said) (these : ℕ → Bool) (leaves : List Device) (v : Verity) (chain : ChainRecord) : Type 0 where
   pub good : IsGood (tree_of v) v.salt v.root chain
-  pub exact : AllSteady leaves → block_at v (λ t. (on_data t).means (images_of leaves)) (λ t. (on_hash t).means (images_of leaves)) chain.index ≡ Ok chain.content
+  pub exact : AreSteady these leaves → block_at v (λ t. (on_data t).means (steady_images leaves)) (λ t. (on_hash t).means (steady_images leaves)) chain.index ≡ Ok chain.content
 
 abbrev pub verity : Verity → TargetMeaning
 verity line = record {
   meant = own (record {
     said = λ below d l. verity_said (below 0) (below 1) d l line;
     put = λ reads puts s sectors images. done images;
-    keeps = λ below leaves chain. IsOfVerity (below 0) (below 1) leaves line chain;
+    keeps = λ below these leaves chain. IsOfVerity (below 0) (below 1) these leaves line chain;
   });
   together = λ s. nat_lt (s % block_sectors line + 1) (block_sectors line);
 }

@@ -34,7 +34,7 @@ use Rattle.stack_lines.specs.Sources.{SourceHolds, ReadsSource, source_said}
 use Rattle.stack_engine.proofs.RunBytesLemmas.{room_sectors, run_length}
 use Rattle.stack_engine.proofs.StackLemmas.{stack-later}
 use Rattle.stack_meaning.proofs.lemmas.LoadedLemmas.{size-small}
-use Rattle.stack_lines.proofs.lemmas.SourceLemmas.{served-depth, served-holds, below_of, leaf_of, empty_read, zeros_of, fails_of, device_ok, device_err, device_plain, below_plain, same_reads}
+use Rattle.stack_lines.proofs.lemmas.SourceLemmas.{served-depth, served-holds, below_of, leaf_of, empty_read, zeros_of, fails_of, device_ok, device_err, device_plain, below_plain, zeros_plain, fails_plain, same_reads}
 use Rattle.stack_lines.proofs.lemmas.VerityLineLemmas.{data-whole, hash-whole, part-within, part-index, hash-depth, data-depth}
 use Rattle.stack_engine.proofs.PathBlockLemmas.{bytes, hash_place_of, hash-lies, block_there, checked_as, place_key, hash_read, hash_failed, data_had, data_failed}
 use Rattle.stack_engine.proofs.CachedLemmas.{cached-read, cached-hit, keeps-noted, noted_key, keeps-kept, keeps-found}
@@ -49,7 +49,6 @@ use Rattle.stack_meaning.proofs.lemmas.LeafLemmas.{all-whole}
 use Rattle.stack_rules.specs.Units.{unit_sectors}
 use Rattle.stack_meaning.specs.Units.{decrypted_units}
 use Rattle.stack_meaning.specs.Meaning.{said_at}
-use Rattle.stack_meaning.proofs.lemmas.PlainLemmas.{plain-none}
 use Rattle.stack_lines.proofs.lemmas.UnitLineLemmas.{unit-line-on}
 use Rattle.stack_lines.proofs.lemmas.UnitSourceLemmas.{units-inside, units-small, units-bytes, lies_in, whole-units, part-read, part-failed, part-plain, units-read, units-failed, units-plain}
 use Rattle.std.proofs.lemmas.List.{take_more, get_or_default}
@@ -220,10 +219,10 @@ pub read_run-returns-in-UnitPart-clause-plain : goal.read_run-returns-in-UnitPar
 read_run-returns-in-UnitPart-clause-plain g t c = rw c.in-UnitPart.is c.read_unit_part.ensures.plain
 
 pub read_run-returns-in-Zeros-clause-plain : goal.read_run-returns-in-Zeros-clause-plain
-read_run-returns-in-Zeros-clause-plain g t c = plain-none _ 0 (length c.args.out.now / 512) (map g.D.BlockDev.state c.args.reader.now.devices.items) _ (λ e. cc)
+read_run-returns-in-Zeros-clause-plain g t c = rw c.in-Zeros.is (zeros_plain c.args.config.now (length c.args.out.now / 512) (map g.D.BlockDev.state c.args.reader.now.devices.items))
 
 pub read_run-returns-in-Fails-clause-plain : goal.read_run-returns-in-Fails-clause-plain
-read_run-returns-in-Fails-clause-plain g t c = plain-none _ 0 (length c.args.out.now / 512) (map g.D.BlockDev.state c.args.reader.now.devices.items) _ (λ e. cc)
+read_run-returns-in-Fails-clause-plain g t c = rw c.in-Fails.is (fails_plain c.args.config.now (length c.args.out.now / 512) (map g.D.BlockDev.state c.args.reader.now.devices.items) (omega (arith, c.requires.fits.sectors.some, c.requires.fits.sectors.whole)))
 
 pub read_run-returns-in-Block-clause-plain : goal.read_run-returns-in-Block-clause-plain
 read_run-returns-in-Block-clause-plain g t c = rw c.in-Block.is c.read_block.ensures.plain

@@ -5,9 +5,10 @@ use Rattle.stack_rules.specs.Records.{Configuration}
 use Rattle.stack_rules.specs.Descend.{read_cost}
 use Rattle.stack_meaning.specs.Outcomes.{zero_sector}
 use Rattle.stack_meaning.specs.Meaning.{Said, said_at}
-use Rattle.stack_meaning.specs.Leaves.{images_of, LeafFailed}
-use Rattle.stack_lines.proofs.lemmas.WriteLeafLemmas.{leaf-plain}
+use Rattle.stack_meaning.specs.Leaves.{steady_images, LeafFailed}
+use Rattle.stack_lines.proofs.lemmas.WriteLeafLemmas.{leaf-plain, leaf-stops}
 use Rattle.stack_lines.proofs.lemmas.TouchLemmas.{leaf-touched, leaf-named}
+use Rattle.stack_lines.proofs.lemmas.StandingLemmas.{leaf-stands}
 use Rattle.stack_meaning.proofs.lemmas.LeafLemmas.{leaf-size, leaves-few, AreRead-device, image_at, steady_at, LeafFailed-device}
 use Rattle.stack_engine.proofs.StackLemmas.{leaf-there}
 use Rattle.stack_meaning.proofs.lemmas.LeafListLemmas.{AreRead-more}
@@ -55,9 +56,9 @@ returns-in-Ok-clause-got g c =
           (λ s bytes h. subst (λ (x : Said). x.may found bytes) (sym (said_at-leaf c.args.config.now c.args.leaf s)) h);
       exact = λ steady.
           span_image _ old.image c.args.first n
-          (λ s. ap (λ (x : Said). x.means (images_of (map state devices))) (said_at-leaf c.args.config.now c.args.leaf s) ∙ ap (λ (l : List (List ℕ)). Ok (get_or l s zero_sector)) (image_at state devices c.args.leaf x (leaf-there g.D.BlockDev.state c.args.devices.now c.args.config.now c.args.leaf c.args.first c.args.out.now c.requires.sound c.requires.fits)))
+          (λ s. ap (λ (x : Said). x.means (steady_images (map state devices))) (said_at-leaf c.args.config.now c.args.leaf s) ∙ ap (λ (l : List (List ℕ)). Ok (get_or l s zero_sector)) (image_at state devices c.args.leaf x (leaf-there g.D.BlockDev.state c.args.devices.now c.args.config.now c.args.leaf c.args.first c.args.out.now c.requires.sound c.requires.fits) (steady_at state devices c.args.leaf x (leaf-there g.D.BlockDev.state c.args.devices.now c.args.config.now c.args.leaf c.args.first c.args.out.now c.requires.sound c.requires.fits) (leaf-stands c.args.config.now c.args.leaf) steady)))
           (omega (arith, size, whole.length, c.requires.fits.holds))
-          ∙ ap Ok (sym (c.in-Ok.ensures.bytes (steady_at state devices c.args.leaf x (leaf-there g.D.BlockDev.state c.args.devices.now c.args.config.now c.args.leaf c.args.first c.args.out.now c.requires.sound c.requires.fits) steady)));
+          ∙ ap Ok (sym (c.in-Ok.ensures.bytes (steady_at state devices c.args.leaf x (leaf-there g.D.BlockDev.state c.args.devices.now c.args.config.now c.args.leaf c.args.first c.args.out.now c.requires.sound c.requires.fits) (leaf-stands c.args.config.now c.args.leaf) steady)));
     }
 
 pub returns-in-Err-clause-got : goal.returns-in-Err-clause-got
@@ -79,12 +80,13 @@ returns-in-Err-clause-got g c =
 pub returns-in-Ok-clause-plain : goal.returns-in-Ok-clause-plain
 returns-in-Ok-clause-plain g c =
     let n : ℕ = length c.args.out.now / 512 in
-    leaf-plain g.D.BlockDev.state c.args.devices.now c.args.leaf c.args.config.now c.args.first n (omega (arith, c.requires.fits.sectors.some, c.requires.fits.sectors.whole)) c.read.new.self _ (λ e. cc)
+    leaf-plain g.D.BlockDev.state c.args.devices.now c.args.leaf c.args.config.now c.args.first n (omega (arith, c.requires.fits.sectors.some, c.requires.fits.sectors.whole)) c.read.new.self _ (λ e. cc) tt
 
 pub returns-in-Err-clause-plain : goal.returns-in-Err-clause-plain
 returns-in-Err-clause-plain g c =
     let n : ℕ = length c.args.out.now / 512 in
     leaf-plain g.D.BlockDev.state c.args.devices.now c.args.leaf c.args.config.now c.args.first n (omega (arith, c.requires.fits.sectors.some, c.requires.fits.sectors.whole)) c.read.new.self _ (λ e. cc)
+    (leaf-stops g.D.BlockDev.state c.args.devices.now c.args.leaf c.args.config.now c.args.first n (omega (arith, c.requires.fits.sectors.some, c.requires.fits.sectors.whole)) c.read.new.self)
 
 -- nor was another one touched
 pub returns-in-Ok-clause-touches : goal.returns-in-Ok-clause-touches

@@ -14,7 +14,7 @@ use Rattle.stack_engine.specs.Premises.{FitsIn, CanWrite}
 use Rattle.stack_engine.proofs.StackLemmas.{stack-later}
 use Rattle.stack_meaning.proofs.lemmas.LoadedLemmas.{size-small}
 use Rattle.stack_lines.proofs.lemmas.SourceLemmas.{served-depth, served-holds}
-use Rattle.stack_lines.proofs.lemmas.WriteSourceLemmas.{served-may_write, below-alike, fails-written, device-written, device-ended}
+use Rattle.stack_lines.proofs.lemmas.WriteSourceLemmas.{served-may_write, below-alike, zeros-written, fails-written, device-written, device-ended}
 use Rattle.stack_lines.proofs.lemmas.PutLemmas.{put-none}
 use Rattle.stack_lines.proofs.lemmas.WriteRunLemmas.{length-sectors_in, sectors_in-none, write_none, write_as}
 use Rattle.dm_table.specs.declared.crypt.Crypt.{Crypt}
@@ -235,6 +235,10 @@ write_run-returns-in-UnitPart-clause-writes g t c =
     let buffer = c.args.buffer.now in
     let none = none-of_part c.args.config.now run.part c.args.source plain buffer c.requires.can.fits c.requires.bytes run.is in
     rw (run.is, none) c.write_unit_part.ensures.writes
+
+pub write_run-returns-in-Zeros-clause-writes : goal.write_run-returns-in-Zeros-clause-writes
+write_run-returns-in-Zeros-clause-writes g t c =
+    rw c.in-Zeros.is (zeros-written c.args.config.now (sectors_in (c.args.plain.now ++ c.args.buffer.now)) (map g.D.BlockDev.state c.args.reader.now.devices.items))
 
 pub write_run-returns-in-Fails-clause-writes : goal.write_run-returns-in-Fails-clause-writes
 write_run-returns-in-Fails-clause-writes g t c =

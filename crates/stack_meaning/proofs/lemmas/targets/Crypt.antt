@@ -22,5 +22,5 @@ crypt-laws line = record {
       let some = of-gathered (λ t. (below 0 t).entries) (unit_first line s) (unit_sectors line) entry there in
       all 0 (unit_first line s + some.0) (part may.0 some.0) entry (may.1.sectors some.0 some.1) some.2;
   unchecked = λ len writable below all d l s h. all 0 (unit_first line s + h.0) h.2;
-  later = λ below old new n chain a h. absurd h;
+  later = λ below these old new n chain a h. absurd h;
 }

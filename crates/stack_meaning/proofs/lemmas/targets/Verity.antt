@@ -10,13 +10,13 @@ use Rattle.dm_table.specs.declared.verity.Verity.{Verity}
 use Rattle.stack_rules.specs.Trees.{tree_of, block_sectors}
 use Rattle.stack_meaning.specs.Found.{Entry}
 use Rattle.stack_meaning.specs.Blocks.{block_at}
-use Rattle.stack_meaning.specs.Leaves.{AllSteady}
+use Rattle.stack_meaning.specs.Leaves.{AreSteady}
 use Rattle.stack_meaning.specs.Outcomes.{Images, Outcome, then_outcome, part}
 use Rattle.stack_meaning.specs.targets.Verity.{verity}
 use Rattle.stack_meaning.proofs.lemmas.BlockSizeLemmas.{whole-sectors}
 use Rattle.stack_meaning.proofs.lemmas.MeaningLaws.{MeantLaws}
 use Rattle.stack_meaning.proofs.lemmas.SizedLemmas.{block-length, then-parts}
-use Rattle.stack_meaning.proofs.lemmas.LeafListLemmas.{AllSteady-kept, images-kept}
+use Rattle.stack_meaning.proofs.lemmas.LeafListLemmas.{AreSteady-kept, images-kept}
 
 pub verity-laws : (v : Verity) → MeantLaws (verity_target v) (verity v).meant
 verity-laws v = record {
@@ -44,10 +44,10 @@ verity-laws v = record {
       let same : here ≡ entry = ap (λ (k : ℕ). get_or (here ∷ []) k entry) (sym first) ∙ there.2 in
       subst P same (own v may.0 (s / block_sectors v) refl may.1);
   unchecked = λ len writable below all d l s h. let clash : true ≡ false = writable in cc;
-  later = λ below old new n chain a h. record {
+  later = λ below these old new n chain a h. record {
     good = h.good;
     exact = λ steady.
-        let before : AllSteady old = AllSteady-kept new old (sym a.moved.fixed) steady in
-        ap (λ (m : Images). block_at v (λ t. (below 0 t).means m) (λ t. (below 1 t).means m) chain.index) (images-kept a before) ∙ h.exact before;
+        let before : AreSteady these old = AreSteady-kept new old (sym a.moved.fixed) steady in
+        ap (λ (m : Images). block_at v (λ t. (below 0 t).means m) (λ t. (below 1 t).means m) chain.index) (images-kept a) ∙ h.exact before;
   };
 }

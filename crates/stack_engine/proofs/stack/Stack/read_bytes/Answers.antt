@@ -1,7 +1,11 @@
 use Rattle.std.proofs.Common.{◌/◌, ℕ, List, length, map, Result, subst}
 use Rattle.stack_meaning.specs.declared.fault.IoFault.{IoFault}
-use Rattle.stack_meaning.specs.Leaves.{AllSteady}
-use Rattle.stack_meaning.specs.Reading.{buffer_answer}
+use Rattle.stack_meaning.specs.Leaves.{AreSteady}
+use Rattle.stack_rules.specs.Names.{mapped}
+use Rattle.stack_lines.specs.Touches.{leaves_of}
+use Rattle.stack_meaning.specs.Meaning.{said_at}
+use Rattle.stack_meaning.specs.Reading.{MeetVerity, buffer_answer}
+use Rattle.stack_meaning.specs.Stops.{ReadStops}
 use Rattle.stack_engine.specs.Stacks.{StackRecord}
 use Rattle.stack_engine.specs.Pieces.{stack_over}
 use Rattle.stack_engine.specs.Bytes.{AnyBytes, SteadyBytes}
@@ -25,5 +29,12 @@ returns-clause-steady g c =
     let n : ℕ = length c.args.out.now / 512 in
     let answer : Result (List ℕ) IoFault = buffer_answer c.device_bytes.result c.device_bytes.new.out in
     let after : StackRecord = stack_over c.self.inside.config (map g.D.BlockDev.state c.device_bytes.new.reader.devices.items) c.device_bytes.new.reader.cache.blocks.capacity in
-    subst (λ (w : StackRecord). AllSteady w.leaves → SteadyBytes w c.args.d.0 c.args.first n answer after) c.self.view_is
+    subst (λ (w : StackRecord). AreSteady (leaves_of w.config (mapped c.args.d.0)) w.leaves → SteadyBytes w c.args.d.0 c.args.first n answer after) c.self.view_is
     (each-bytes c.self.inside.config c.args.d.0 c.args.first n answer c.device_bytes.ensures.reads (buffer-touched c.device_bytes.result c.device_bytes.new.out c.device_bytes.ensures.touches) c.device_bytes.ensures.cached.capacity).steady
+
+pub returns-clause-stops : goal.returns-clause-stops
+returns-clause-stops g c =
+    let n : ℕ = length c.args.out.now / 512 in
+    let new = map g.D.BlockDev.state c.device_bytes.new.reader.devices.items in
+    subst (λ (w : StackRecord). (MeetVerity (said_at w.config (mapped c.args.d.0)) c.args.first n → ⊥) → ReadStops (said_at w.config (mapped c.args.d.0)) c.args.first n w.leaves new c.device_bytes.result) c.self.view_is
+    c.device_bytes.ensures.plain.stops

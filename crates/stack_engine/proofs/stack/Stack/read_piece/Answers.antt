@@ -1,10 +1,12 @@
-use Rattle.std.proofs.Common.{◌≡◌, ◌/◌, ℕ, List, [], length, map, Result, Ok, sym, ap, ◌∙◌, subst, arith}
+use Rattle.std.proofs.Common.{◌≡◌, ◌/◌, ℕ, List, [], length, map, Result, Ok, refl, sym, ap, ◌∙◌, subst, arith}
 use Rattle.std.specs.Prelude.{IfErr}
 use Rattle.std.proofs.lemmas.List.{with_items_is}
 use Rattle.stack_rules.specs.Names.{mapped}
 use Rattle.stack_meaning.specs.declared.fault.IoFault.{IoFault}
 use Rattle.stack_meaning.specs.Found.{FoundRecord}
-use Rattle.stack_meaning.specs.Reading.{Gets, Reads, buffer_answer}
+use Rattle.stack_meaning.specs.Meaning.{Said, said_at}
+use Rattle.stack_meaning.specs.Reading.{Gets, Reads, MeetVerity, IsPlain, buffer_answer}
+use Rattle.stack_meaning.specs.Stops.{ReadStops}
 use Rattle.stack_lines.specs.Touches.{NamesOneOf, leaves_of}
 use Rattle.stack_lines.proofs.lemmas.TouchLemmas.{touches-as}
 use Rattle.stack_engine.specs.Stacks.{StackRecord, AnswerRecord}
@@ -13,6 +15,14 @@ use Rattle.stack_engine.proofs.lemmas.PieceLemmas.{piece_expected, each-piece, p
 use Rattle.stack_engine.proofs.stack.Stack.read_piece.Goals.{in-Err-read_device, in-Ok-read_device}
 use Rattle.stack_engine.proofs.stack.Stack.read_piece.Given as given
 use Rattle.stack_engine.proofs.stack.Stack.read_piece.Goals as goal
+
+-- the buffer has n sectors
+count : (g : given.Over) (c : goal.Joined-read_device g) → length c.as_mut_slice.result.now / 512 ≡ c.args.n
+count g c =
+    let size = c.in-Ok.ensures in
+    let block = c.in-Ok.bytes.ok.0 in
+    let len : length c.as_mut_slice.result.now ≡ length c.in-Ok.bytes.items = ap (λ l. length l) c.as_mut_slice.ensures.value in
+    omega (arith, len, size, block)
 
 -- what the read did, of the stack's own devices
 reads : (g : given.Over) (c : goal.Joined-read_device g)
@@ -25,10 +35,7 @@ reads g c =
     Reads c.self.inside.config (mapped c.args.d.0) c.args.first k
     (record { old = map state c.self.inside.reader.devices.items; new = map state c.read_device.new.reader.devices.items; before = u; after = c.read_device.new.found.items })
     (buffer_answer c.read_device.result c.read_device.new.out) in
-    let size = c.in-Ok.ensures in
-    let block = c.in-Ok.bytes.ok.0 in
-    let count : length c.as_mut_slice.result.now / 512 ≡ c.args.n = let len : length c.as_mut_slice.result.now ≡ length c.in-Ok.bytes.items = ap (λ l. length l) c.as_mut_slice.ensures.value in omega (arith, len, size, block) in
-    subst (λ k. R k []) count (subst (R (length c.as_mut_slice.result.now / 512)) c.new-chains.ensures.items c.read_device.ensures.reads)
+    subst (λ k. R k []) (count g c) (subst (R (length c.as_mut_slice.result.now / 512)) c.new-chains.ensures.items c.read_device.ensures.reads)
 
 piece : (g : given.Over) (c : goal.Joined-read_device g)
     → EachPiece c.args.self.now c.args.d.0 c.args.first c.args.n c.match-read_device.result (stack_over c.self.inside.config (map g.D.BlockDev.state c.read_device.new.reader.devices.items) c.read_device.new.reader.cache.blocks.capacity)
@@ -65,3 +72,21 @@ returns-clause-any g c = (piece g c).any
 
 pub returns-clause-steady : goal.returns-clause-steady
 returns-clause-steady g c = (piece g c).steady
+
+pub returns-clause-stops : goal.returns-clause-stops
+returns-clause-stops g c =
+    let state = g.D.BlockDev.state in
+    let config = c.self.inside.config in
+    let old = map state c.self.inside.reader.devices.items in
+    let new = map state c.read_device.new.reader.devices.items in
+    let said : ℕ → Said = said_at config (mapped c.args.d.0) in
+    let plain = subst (λ (n : ℕ). IsPlain said c.args.first n old new c.read_device.result) (count g c) c.read_device.ensures.plain in
+    let Stops : Result AnswerRecord IoFault → Type 0 = λ r. ReadStops said c.args.first c.args.n old new r in
+    let stops : (MeetVerity said c.args.first c.args.n → ⊥) → Stops c.match-read_device.result = λ none. elim c.match-read_device.branch [
+      | in-Err-read_device w ↦ subst Stops (sym w.result-is) (subst (λ (r : Result Unit IoFault). ReadStops said c.args.first c.args.n old new r) w.in-Err-read_device.is (plain.stops none))
+      | in-Ok-read_device w ↦ subst Stops (sym w.result-is) tt
+    ] in
+    subst (λ (w : StackRecord). (MeetVerity (said_at w.config (mapped c.args.d.0)) c.args.first c.args.n → ⊥) → ReadStops (said_at w.config (mapped c.args.d.0)) c.args.first c.args.n w.leaves new c.match-read_device.result) c.self.view_is stops
+
+pub returns-in-Err-clause-stops : goal.returns-in-Err-clause-stops
+returns-in-Err-clause-stops g c = λ none counted. record { before = 0; failed = c.args.n; some = omega (arith, c.requires.some); inside = omega arith; by = tt; leaf = λ i d out. refl }
