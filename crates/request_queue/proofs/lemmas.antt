@@ -10,4 +10,8 @@ pub mod ServedLemmas
 pub mod WholeRunLemmas
 pub mod LedLemmas
 pub mod ChangesLemmas
+pub mod AsStepsLemmas
+pub mod WaitingLemmas
+pub mod PutLemmas
+pub mod ListLawLemmas
 pub mod QueueLawLemmas

@@ -2,7 +2,9 @@
 use Rattle.std.specs.Prelude.{◌≡◌, ℕ, ◌+◌, ◌*◌, ◌/◌, ◌<◌, ◌≤◌, Bool, true, false, List, [], ◌∷◌, length, All, Option, Some, None, Result, Ok, Err, if◌then◌else◌}
 use Rattle.stack_rules.specs.Records.{Configuration}
 use Rattle.stack_meaning.specs.declared.fault.IoFault.{IoFault}
-use Rattle.stack_meaning.specs.Leaves.{AllSteady}
+use Rattle.stack_meaning.specs.Leaves.{AreSteady}
+use Rattle.stack_rules.specs.Names.{mapped}
+use Rattle.stack_lines.specs.Touches.{leaves_of}
 use Rattle.stack_engine.specs.Stacks.{StackRecord, AnswerRecord}
 use Rattle.request_queue.specs.declared.reply.Progress.TheVariants.{More, Done}
 use Rattle.request_queue.specs.declared.reply.Reply.{Reply}
@@ -71,22 +73,25 @@ abbrev pub IsOver : Configuration → Passage → Type 0
 IsOver c p = p.before.config ≡ c
 
 -- A request that was begun from world w, as world v, and the turns after it. Whatever the leaves answer and whatever
--- is served in between, its own steps serve it; over steady leaves each piece is what the stack means at its step.
+-- is served in between, its own steps serve it; where the leaves beneath its device are steady each piece is what the
+-- stack means at its step.
 -- All its steps are over the configuration in which it was begun. It takes no more steps than its range has pieces,
 -- and these move no more than its budget.
 pub record RequestLaw (w : World) (r : RequestRecord) (t : ℕ) (range : SectorRange) (v : World) (turns : List Turn) : Type 0 where
   pub any : IsServed AnyPart (first_flight t range r) (passages t v turns) (answer_to t turns)
-  pub steady : AllSteady w.stack.leaves → IsServed SteadyPart (first_flight t range r) (passages t v turns) (answer_to t turns)
+  pub steady : AreSteady (leaves_of w.stack.config (mapped range.device.0)) w.stack.leaves → IsServed SteadyPart (first_flight t range r) (passages t v turns) (answer_to t turns)
   pub config : All (IsOver w.stack.config) (passages t v turns)
   pub steps : length (passages t v turns) ≤ range.count
   pub pieces : (n : ℕ) → IsCut w.stack.config range n → length (passages t v turns) ≤ n
   pub moved : total (moved_for t) v turns ≤ range.count * work_cost w.stack.config range.device.0 (first_work r)
 
--- A request that is run is begun as the next ticket, and these turns serve it to its answer.
+-- A request that is run is begun as the next ticket, and these turns, which are steps of it alone, serve it to its answer.
 pub record RunLaw (w : World) (r : RequestRecord) (answer : Result Reply IoFault) (w' : World) : Type 0 where
   pub begun : World
   pub begins : Begins w r (w.given + 1) begun
   pub turns : List Turn
+  pub taken : Run EachPart begun turns
+  pub own : All (λ (x : Turn). is_step (w.given + 1) x.event ≡ true) turns
   pub law : RequestLaw w r (w.given + 1) begins.range begun turns
   pub answered : answer_to (w.given + 1) turns ≡ Some answer
   pub ends : last begun turns ≡ w'

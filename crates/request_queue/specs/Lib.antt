@@ -11,3 +11,8 @@ pub mod Chains
 pub mod Changes
 pub mod Laws
 pub mod WholeRuns
+pub mod AsSteps
+pub mod Waiting
+pub mod Touching
+pub mod Puts
+pub mod ListLaws

@@ -4,6 +4,7 @@ ghost use Rattle.stack_meaning.specs.Meaning.{said_at};
 ghost use Rattle.stack_meaning.specs.Reading.{MeetVerity};
 ghost use Rattle.stack_rules.specs.Names.{mapped};
 ghost use Rattle.request_queue.specs.Laws.{QueueLaw};
+ghost use Rattle.request_queue.specs.ListLaws.{ListsLaw};
 ghost use Rattle.request_queue.specs.Parts.{EachPart};
 ghost use Rattle.request_queue.specs.Replies.{bytes_outcome, outcome_of};
 ghost use Rattle.request_queue.specs.Requests.{request_record};
@@ -54,10 +55,12 @@ impl<D: BlockDev> Model for Queue<D> {
 }
 
 impl<D: BlockDev> Queue<D> {
-    /// A queue with no request. Each call of it is a `Step` of its world, so that `law` holds of every list of calls.
+    /// A queue with no request. Each call of it is a `Step` of its world, so that `law` and `lists` hold of every list
+    /// of calls.
     pub fn new(alloc: Global, stack: Stack<D>) -> Queue<D>
         ensures value { result ≡ record { stack = stack; given = 0; in_flight = [] } }
         ensures law { QueueLaw result }
+        ensures lists { ListsLaw result }
     {
         // The laws of pieces, and what holds of every stack, are learned from calls.
         answered_chains_are_good();

@@ -4,11 +4,11 @@ use Rattle.request_queue.specs.Parts.{PartRelation}
 use Rattle.request_queue.specs.Runs.{IsLed, Turn, Run, last}
 use Rattle.request_queue.specs.World.{World, Event, Step}
 
-run-append : (part : PartRelation) (w : World) (xs ys : List Turn) → Run part w xs → Run part (last w xs) ys → Run part w (xs ++ ys)
+pub run-append : (part : PartRelation) (w : World) (xs ys : List Turn) → Run part w xs → Run part (last w xs) ys → Run part w (xs ++ ys)
 run-append part w [] ys r s = s
 run-append part w (x ∷ xs) ys r s = (r.0, run-append part x.after xs ys r.1 s)
 
-last-append : (w : World) (xs ys : List Turn) → last w (xs ++ ys) ≡ last (last w xs) ys
+pub last-append : (w : World) (xs ys : List Turn) → last w (xs ++ ys) ≡ last (last w xs) ys
 last-append w [] ys = refl
 last-append w (x ∷ xs) ys = last-append x.after xs ys
 

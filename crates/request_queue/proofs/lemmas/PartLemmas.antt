@@ -6,7 +6,8 @@ use Rattle.stack_rules.specs.Records.{Configuration}
 use Rattle.stack_rules.specs.Names.{mapped}
 use Rattle.stack_rules.specs.Descend.{read_cost, write_cost}
 use Rattle.stack_meaning.specs.declared.fault.IoFault.{IoFault}
-use Rattle.stack_meaning.specs.Leaves.{AllSteady, fixed_part}
+use Rattle.stack_meaning.specs.Leaves.{AreSteady, fixed_part}
+use Rattle.stack_lines.specs.Touches.{leaves_of}
 use Rattle.stack_engine.specs.Stacks.{StackRecord, AnswerRecord}
 use Rattle.request_queue.specs.Flights.{WorkRecord, reads, writes, work_cost}
 use Rattle.request_queue.specs.Parts.{Part, read_part, bytes_part, write_part, AnyPart, SteadyPart, EachPart, part_of_work}
@@ -46,7 +47,7 @@ each-any v d first (read_part n) answer v' p = p.any
 each-any v d first (bytes_part n) answer v' p = p.any
 each-any v d first (write_part bytes) answer v' p = p.any
 
-pub each-steady : (v : StackRecord) (d first : ℕ) (part : Part) (answer : Result AnswerRecord IoFault) (v' : StackRecord) → AllSteady v.leaves → EachPart v d first part answer v' → SteadyPart v d first part answer v'
+pub each-steady : (v : StackRecord) (d first : ℕ) (part : Part) (answer : Result AnswerRecord IoFault) (v' : StackRecord) → AreSteady (leaves_of v.config (mapped d)) v.leaves → EachPart v d first part answer v' → SteadyPart v d first part answer v'
 each-steady v d first (read_part n) answer v' steady p = p.steady steady
 each-steady v d first (bytes_part n) answer v' steady p = p.steady steady
 each-steady v d first (write_part bytes) answer v' steady p = p.steady steady

@@ -1,15 +1,17 @@
 -- From what holds of each part: what holds over any leaves, and what holds over steady ones.
-use Rattle.std.proofs.Common.{◌≡◌, ℕ, ◌+◌, List, [], ◌∷◌, map, sym, subst, Result, Ok, Err}
+use Rattle.std.proofs.Common.{◌≡◌, ℕ, Bool, ◌+◌, List, [], ◌∷◌, map, sym, subst, Result, Ok, Err}
 use Rattle.block_device.specs.Device.{Device, synced}
 use Rattle.dm_table.specs.declared.stack.Entry.{Entry}
 use Rattle.stack_rules.specs.declared.refusal.LoadFault.{LoadFault}
 use Rattle.stack_rules.specs.declared.refusal.RemoveFault.{RemoveFault}
 use Rattle.stack_meaning.specs.declared.fault.IoFault.{IoFault}
-use Rattle.stack_meaning.specs.Leaves.{AllSteady}
+use Rattle.stack_meaning.specs.Leaves.{AllSteady, AreSteady}
+use Rattle.stack_rules.specs.Names.{mapped}
+use Rattle.stack_lines.specs.Touches.{leaves_of}
 use Rattle.stack_engine.specs.Stacks.{StackRecord, AnswerRecord}
 use Rattle.stack_engine.specs.Syncs.{FailsToSync}
-use Rattle.stack_meaning.proofs.lemmas.LeafListLemmas.{AllSteady-kept}
-use Rattle.stack_engine.proofs.lemmas.SyncLemmas.{synced-steady, unsynced-steady}
+use Rattle.stack_meaning.proofs.lemmas.LeafListLemmas.{AllSteady-kept, AreSteady-kept, some-steady}
+use Rattle.stack_engine.proofs.lemmas.SyncLemmas.{synced-on, synced-steady, unsynced-on, unsynced-steady}
 use Rattle.request_queue.specs.declared.fault.Held.{Held}
 use Rattle.request_queue.specs.declared.fault.Held.TheVariants.{Busy, Fault}
 use Rattle.request_queue.specs.declared.fault.SubmitFault.{SubmitFault}
@@ -122,13 +124,23 @@ outlives-steady : OutlivesSyncs AllSteady
 outlives-steady = record { synced = synced-steady; unsynced = unsynced-steady }
 
 pass-steady : Passes EachPart SteadyPart AllSteady
-pass-steady v d first part answer v' h p = (each-steady v d first part answer v' h p, AllSteady-kept v.leaves v'.leaves (any-keeps v d first part answer v' (each-any v d first part answer v' p)).fixed h)
+pass-steady v d first part answer v' h p = (each-steady v d first part answer v' (some-steady (leaves_of v.config (mapped d)) v.leaves h) p, AllSteady-kept v.leaves v'.leaves (any-keeps v d first part answer v' (each-any v d first part answer v' p)).fixed h)
 
 pub serves-any : (w : World) (t : ℕ) (progress : Progress) (w' : World) → Serves EachPart w t progress w' → Serves AnyPart w t progress w'
 serves-any w t progress w' s = (serves-as EachPart AnyPart Anything pass-any outlives-any w t progress w' tt s).0
 
 pub step-any : (w : World) (e : Event) (w' : World) → Step EachPart w e w' → Step AnyPart w e w'
 step-any w e w' s = (step-as EachPart AnyPart Anything pass-any outlives-any w e w' tt s).0
+
+-- a fact that some leaves are steady goes on
+outlives-on : (these : ℕ → Bool) → OutlivesSyncs (AreSteady these)
+outlives-on these = record { synced = synced-on these; unsynced = unsynced-on these }
+
+pass-on : (these : ℕ → Bool) → Passes EachPart EachPart (AreSteady these)
+pass-on these v d first part answer v' h p = (p, AreSteady-kept v.leaves v'.leaves (any-keeps v d first part answer v' (each-any v d first part answer v' p)).fixed h)
+
+pub step-on : (these : ℕ → Bool) (w : World) (e : Event) (w' : World) → Step EachPart w e w' → AreSteady these w.stack.leaves → AreSteady these w'.stack.leaves
+step-on these w e w' s h = (step-as EachPart EachPart (AreSteady these) (pass-on these) (outlives-on these) w e w' h s).1
 
 -- a run whatever the leaves answer
 pub run-any : (w : World) (turns : List Turn) → Run EachPart w turns → Run AnyPart w turns

@@ -4,8 +4,10 @@ use Rattle.std.specs.Prelude.{remove}
 use Rattle.std.proofs.lemmas.List.Elements.{All-cons, All-head, All-nil, All-tail}
 use Rattle.stack_rules.specs.Records.{Configuration}
 use Rattle.stack_meaning.specs.declared.fault.IoFault.{IoFault}
-use Rattle.stack_meaning.specs.Leaves.{AllSteady}
-use Rattle.stack_engine.specs.Stacks.{StackRecord}
+use Rattle.stack_rules.specs.Names.{mapped}
+use Rattle.stack_meaning.specs.Leaves.{AreSteady}
+use Rattle.stack_lines.specs.Touches.{leaves_of}
+use Rattle.stack_engine.specs.Stacks.{StackRecord, AnswerRecord}
 use Rattle.request_queue.specs.declared.fault.Held.TheVariants.{Busy, Fault}
 use Rattle.request_queue.specs.declared.reply.Progress.{Progress}
 use Rattle.request_queue.specs.declared.range.SectorRange.{SectorRange}
@@ -14,12 +16,13 @@ use Rattle.request_queue.specs.declared.reply.Reply.{Reply}
 use Rattle.request_queue.specs.Ranges.{IsCut, last_piece, next_piece, piece_len, range_after}
 use Rattle.request_queue.specs.Requests.{RequestRecord}
 use Rattle.request_queue.specs.Flights.{FlightRecord, first_flight, next_flight}
-use Rattle.request_queue.specs.Parts.{PartRelation, AnyPart, SteadyPart, EachPart, Asks}
+use Rattle.request_queue.specs.Parts.{PartRelation, AnyPart, SteadyPart, EachPart, Asks, part_of_work, done_of}
 use Rattle.request_queue.specs.World.{World, world, Event, submit, step, read_bytes, load, remove_device, run, sync, Step, Serves, Begins, Ends, at_once, later, next_count}
 use Rattle.request_queue.specs.Runs.{Turn, Run, last, total, is_step, flight_of, served_for}
 use Rattle.request_queue.specs.Laws.{Passage, passage, passages, end_of, answer_to, IsServed, waits, goes_on, finishes, fails, IsOver, RequestLaw, RunLaw, is_refusal, TurnLaw}
 use Rattle.request_queue.proofs.lemmas.TicketLemmas.{test-same, at-ticket, find-at, find-changed, find-removed}
-use Rattle.request_queue.proofs.lemmas.PremiseLemmas.{step-any, run-any, run-steady}
+use Rattle.request_queue.proofs.lemmas.PremiseLemmas.{step-any, step-on, run-any}
+use Rattle.request_queue.proofs.lemmas.PartLemmas.{each-steady}
 use Rattle.request_queue.proofs.lemmas.BudgetLemmas.{InOrder, Knows, Turned, own_turn, other_turn, turned, knows-turn, newly, whole-budget, whole-steps, untouched}
 
 -- a request that is over has no steps more
@@ -178,8 +181,35 @@ few-pieces part c f (p ∷ more) answer n (goes_on got asks less rest) over cut 
 few-pieces part c f (p ∷ []) answer n (finishes got asks end replies) over cut = some-pieces c f.rest n cut
 few-pieces part c f (p ∷ []) answer n (fails asks) over cut = some-pieces c f.rest n cut
 
-steady-any : Includes SteadyPart
-steady-any w e w' s = Rattle.request_queue.proofs.lemmas.PremiseLemmas.step-steady-any w e w' s
+-- some leaves are steady before it
+abbrev IsOn : (ℕ → Bool) → Passage → Type 0
+IsOn these p = AreSteady these p.before.leaves
+
+-- while turns go by, leaves that are steady stay so
+passages-on : (these : ℕ → Bool) (t : ℕ) (v : World) (turns : List Turn) → AreSteady these v.stack.leaves → Run EachPart v turns → All (IsOn these) (passages t v turns)
+passages-on these t v [] steady r = All-nil _
+passages-on these t v (x ∷ more) steady r = by (is_step t x.event) refl (passages-on these t x.after more (step-on these v x.event x.after r.0 steady) r.1)
+  where
+    by : (b : Bool) → is_step t x.event ≡ b → All (IsOn these) (passages t x.after more) → All (IsOn these) (passages t v (x ∷ more))
+    by true is all = rw is (All-cons (IsOn these) (passage v x) (passages t x.after more) steady all)
+    by false is all = rw is all
+
+-- what holds of each step holds of it over steady leaves
+asks-steady : (c : Configuration) (f : FlightRecord) (p : Passage) (answer : Result AnswerRecord IoFault) → p.before.config ≡ c → AreSteady (leaves_of c (mapped f.rest.device.0)) p.before.leaves
+    → Asks EachPart p.before f answer p.after → Asks SteadyPart p.before f answer p.after
+asks-steady c f p answer same steady asks =
+    each-steady p.before f.rest.device.0 f.rest.first (part_of_work f.work (done_of f) (piece_len p.before.config f.rest)) answer p.after
+    (subst (λ (x : Configuration). AreSteady (leaves_of x (mapped f.rest.device.0)) p.before.leaves) (sym same) steady) asks
+
+steady-served : (c : Configuration) (f : FlightRecord) (ps : List Passage) (answer : Option (Result Reply IoFault)) → IsServed EachPart f ps answer → All (IsOver c) ps → All (IsOn (leaves_of c (mapped f.rest.device.0))) ps
+    → IsServed SteadyPart f ps answer
+steady-served c f [] answer waits over on = waits
+steady-served c f (p ∷ more) answer (goes_on got asks less rest) over on =
+    goes_on got (asks-steady c f p (Ok got) (All-head (IsOver c) p more over) (All-head (IsOn (leaves_of c (mapped f.rest.device.0))) p more on) asks) less
+    (steady-served c (next_flight f (piece_len p.before.config f.rest) got) more answer rest (All-tail (IsOver c) p more over) (All-tail (IsOn (leaves_of c (mapped f.rest.device.0))) p more on))
+steady-served c f (p ∷ []) answer (finishes got asks end replies) over on =
+    finishes got (asks-steady c f p (Ok got) (All-head (IsOver c) p [] over) (All-head (IsOn (leaves_of c (mapped f.rest.device.0))) p [] on) asks) end replies
+steady-served c f (p ∷ []) answer (fails {fault = fault} asks) over on = fails (asks-steady c f p (Err fault) (All-head (IsOver c) p [] over) (All-head (IsOn (leaves_of c (mapped f.rest.device.0))) p [] on) asks)
 
 -- what a request gets that was begun
 pub request-law : (w : World) (r : RequestRecord) (t : ℕ) (v : World) (turns : List Turn) → InOrder w → (b : Begins w r t v) → Run EachPart v turns → RequestLaw w r t b.range v turns
@@ -193,7 +223,9 @@ request-law w r t v turns order b each =
     record {
       any = any;
       steady = λ steady.
-          is-served SteadyPart steady-any t v turns (first_flight t b.range r) knows new.flight (run-steady v turns (subst (λ (s : StackRecord). AllSteady s.leaves) (sym new.stack) steady) each).0;
+          let these = leaves_of w.stack.config (mapped b.range.device.0) in
+          steady-served w.stack.config (first_flight t b.range r) (passages t v turns) (answer_to t turns) (is-served EachPart step-any t v turns (first_flight t b.range r) knows new.flight each)
+          over (passages-on these t v turns (subst (λ (s : StackRecord). AreSteady these s.leaves) (sym new.stack) steady) each);
       config = over;
       steps = omega (arith, few, passages-count t v turns);
       pieces = λ n cut. few-pieces AnyPart w.stack.config (first_flight t b.range r) (passages t v turns) (answer_to t turns) n any over cut;
@@ -201,20 +233,23 @@ request-law w r t v turns order b each =
     }
 
 -- the steps of a run, one turn after another
-record StepsAlone (t : ℕ) (answer : Result Reply IoFault) (v w' : World) : Type 0 where
-  turns : List Turn
-  run : Run EachPart v turns
-  answered : answer_to t turns ≡ Some answer
-  ends : last v turns ≡ w'
+pub record StepsAlone (t : ℕ) (answer : Result Reply IoFault) (v w' : World) : Type 0 where
+  pub turns : List Turn
+  pub run : Run EachPart v turns
+  pub own : All (λ (x : Turn). is_step t x.event ≡ true) turns
+  pub answered : answer_to t turns ≡ Some answer
+  pub ends : last v turns ≡ w'
 
-steps-alone : (t : ℕ) (answer : Result Reply IoFault) (v w' : World) → Ends EachPart t answer v w' → StepsAlone t answer v w'
+pub steps-alone : (t : ℕ) (answer : Result Reply IoFault) (v w' : World) → Ends EachPart t answer v w' → StepsAlone t answer v w'
 steps-alone t answer v w' (at_once s) =
     let own : (t == t) ≡ true = grind arith in
-    record { turns = record { event = step t (Ok (Done answer)); after = w' } ∷ []; run = (s, tt); answered = rw own refl; ends = refl }
+    let last_step : Turn = record { event = step t (Ok (Done answer)); after = w' } in
+    record { turns = last_step ∷ []; run = (s, tt); own = All-cons (λ (x : Turn). is_step t x.event ≡ true) last_step [] own (All-nil _); answered = rw own refl; ends = refl }
 steps-alone t answer v w' (later {v = mid} s more) =
     let own : (t == t) ≡ true = grind arith in
     let rest = steps-alone t answer mid w' more in
-    record { turns = record { event = step t (Ok More); after = mid } ∷ rest.turns; run = (s, rest.run); answered = rw own rest.answered; ends = rest.ends }
+    let first_step : Turn = record { event = step t (Ok More); after = mid } in
+    record { turns = first_step ∷ rest.turns; run = (s, rest.run); own = All-cons (λ (x : Turn). is_step t x.event ≡ true) first_step rest.turns own rest.own; answered = rw own rest.answered; ends = rest.ends }
 
 -- what a request gets that is run
 pub run-law : (w : World) (r : RequestRecord) (answer : Result Reply IoFault) (w' : World) → InOrder w → Step EachPart w (run r (Ok answer)) w' → RunLaw w r answer w'
@@ -224,6 +259,8 @@ run-law w r answer w' order s =
       begun = s.begun;
       begins = s.begins;
       turns = alone.turns;
+      taken = alone.run;
+      own = alone.own;
       law = request-law w r (w.given + 1) s.begun alone.turns order s.begins alone.run;
       answered = alone.answered;
       ends = alone.ends;
