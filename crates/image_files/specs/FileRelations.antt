@@ -39,4 +39,6 @@ file_relations view = record {
   takes = λ old path device new. new ≡ old;
   takes_part = λ old path part device new. new ≡ old;
   grows = λ old path sectors outcome new. new ≡ old;
+  measures = λ old path outcome new. new ≡ old;
+  replaces = λ old path bytes outcome new. new ≡ old;
 }

@@ -6,6 +6,7 @@ use Rattle.block_device.specs.Device.{Device}
 use Rattle.image_files.specs.declared.images.FileText.{FileText}
 use Rattle.image_files.specs.declared.images.OpenImage.{OpenImage}
 use Rattle.image_files.specs.declared.parts.PartFault.{PartFault}
+use Rattle.text_files.specs.declared.texts.ReplaceFault.{ReplaceFault}
 
 -- Relations of the opener before a call, the call's arguments, its outcome, and the opener after it. What is generic over the
 -- opener knows none of them but by a call, so that a clause that cites one says which call was made.
@@ -22,6 +23,10 @@ pub record Opener (S D : Type 0) : Type 1 where
   pub takes_part : S → List ℕ → Part → D → S → Type 0
   -- a path, and how many sectors its file has then at least
   pub grows : S → List ℕ → ℕ → Result (Unit {0}) OpenFault → S → Type 0
+  -- a path, and whether its file ends inside a sector
+  pub measures : S → List ℕ → Result Bool OpenFault → S → Type 0
+  -- a path, and the bytes that are put in the place of what its file holds
+  pub replaces : S → List ℕ → List ℕ → Result (Unit {0}) ReplaceFault → S → Type 0
 
 -- a device that was just opened
 pub record IsFresh (device : Device) (writable : Bool) : Type 0 where

@@ -11,6 +11,7 @@ use std::fs::{File, OpenFile, OpenOptions};
 use std::io::{ErrorKind, Read};
 use std::rt::Files;
 use std::{fs, io};
+use text_files::{FileTexts, ReplaceFault, Texts};
 
 // The text under this path is the standard input's.
 const INPUT: &str = "-";
@@ -129,6 +130,17 @@ impl<R: Files<File = File> + AllocGlobal + Input> Images for FileImages<'_, R> {
             Ok(()) => Ok(()),
             Err(error) => Err(OpenFault::from(error.kind())),
         }
+    }
+
+    fn has_part_sector(&mut self, path: &str) -> Result<bool, OpenFault> {
+        match fs::metadata(self.rt, path) {
+            Ok(metadata) => Ok(metadata.is_file() && metadata.len() % SECTOR != 0),
+            Err(error) => Err(OpenFault::from(error.kind())),
+        }
+    }
+
+    fn replace(&mut self, path: &str, bytes: &[u8]) -> Result<(), ReplaceFault> {
+        FileTexts::new(self.rt).replace(path, bytes)
     }
 
     fn of_memory(memory: MemoryDev) -> Window<AnyDev> {

@@ -5,6 +5,7 @@ ghost use Rattle.image_files.specs.Opener.{IsFresh, Opener};
 use crate::parts::PartFault;
 use block_device::{BlockDev, FileId, MemoryDev, OpenFault, SyncDev};
 use device_window::Part;
+use text_files::ReplaceFault;
 
 /// An image that was opened, and which file it is, where that is known.
 #[derive(Drop)]
@@ -62,6 +63,14 @@ pub trait Images {
     /// kept, and zeros stand behind. What has a size of its own, as a block device, stays as it is.
     fn grow(&mut self, path: &str, sectors: u64) -> Result<(), OpenFault>
         ensures { relations.grows self.old path.now sectors result self.new };
+
+    /// Whether the file under this path ends inside a sector. What has a size of its own, as a block device, doesn't.
+    fn has_part_sector(&mut self, path: &str) -> Result<bool, OpenFault>
+        ensures { relations.measures self.old path.now result self.new };
+
+    /// Puts these bytes in the place of what stands under this path: a cut leaves the old file or the new one.
+    fn replace(&mut self, path: &str, bytes: &[u8]) -> Result<(), ReplaceFault>
+        ensures { relations.replaces self.old path.now bytes.now result self.new };
 
     /// A device in memory as one of these, which is under no path.
     fn of_memory(memory: MemoryDev) -> Self::Dev

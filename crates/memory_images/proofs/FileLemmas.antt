@@ -1,5 +1,5 @@
 -- Images in memory as files.
-use Rattle.std.proofs.Common.{◌≡◌, ◌<◌, ◌/◌, ◌==◌, ◌&&◌, ℕ, Bool, true, false, List, length, take, Option, Some, None, Result, Ok, Err, Vec, refl, sym, ap, subst, ◌∙◌}
+use Rattle.std.proofs.Common.{◌≡◌, ◌<◌, ◌/◌, ◌%◌, ◌==◌, ◌&&◌, ℕ, Bool, true, false, not, List, length, take, Option, Some, None, Result, Ok, Err, Vec, refl, sym, ap, subst, ◌∙◌}
 use Rattle.std.specs.Prelude.{IsSome, slice_get}
 use Rattle.std.specs.Option.{option_map}
 use Rattle.std.proofs.lemmas.Bool.{eq-eqb, false≢true}
@@ -11,10 +11,11 @@ use Rattle.block_device.specs.Device.{Device, sectors_of}
 use Rattle.block_device.specs.Memory.{memory_bytes}
 use Rattle.image_files.specs.declared.images.FileText.{FileText}
 use Rattle.image_files.specs.declared.images.OpenImage.{OpenImage}
-use Rattle.image_files.specs.Promises.{AreApart, FileRecord, HoldsSectors}
+use Rattle.image_files.specs.Promises.{AreApart, FileRecord, HoldsSectors, IsApartFrom, beside}
 use Rattle.memory_images.specs.declared.named_images.MemoryImages.{MemoryImages}
+use Rattle.text_files.specs.declared.texts.ReplaceFault.{ReplaceFault}
 use Rattle.memory_images.specs.Files.{file_at, file_at_place, file_under}
-use Rattle.memory_images.specs.MemoryRelations.{ChangesAt, IsCopy, IsText, PutsAt, id_at}
+use Rattle.memory_images.specs.MemoryRelations.{ChangesAt, IsCopy, IsMeasured, IsReplaced, IsText, PutsAt, ReplacesAt, id_at}
 use Rattle.memory_images.specs.Named.{IsPut, Stands, bytes_at, place_of}
 
 -- what stands at a place as a file
@@ -124,3 +125,31 @@ others-unchanged old new path other change file another is_changed is is' apart 
     subst (λ (f : FileRecord). AreApart f (file-of at'.place at'.bytes)) at.is (subst (λ (f : FileRecord). AreApart file f) at'.is apart) in
     let kept = at_place.1.others at'.place (apart-places at.place at'.place at.bytes at'.bytes apart') in
     under new other at'.place at'.bytes (record { placed = placed-still old new other at'.place at_place.0 at'.placed; found = kept ∙ at'.found }) ∙ ap (λ (f : FileRecord). Some f) (sym at'.is)
+
+pub part-measured : (m : MemoryImages) (path : List ℕ) (part : Bool) → IsMeasured m path part
+    → (file : FileRecord) × (file_under m path ≡ Some file) × (part ≡ not (length file.bytes % 512 == 0))
+part-measured m path part t = (file-of t.place t.bytes, under m path t.place t.bytes t.stands, t.is)
+
+-- ---- bytes in the place of a file's
+
+pub text-replaced : (old new : MemoryImages) (path bytes : List ℕ) → ReplacesAt old path bytes (Ok tt) new
+    → (file : FileRecord) × (file_under new path ≡ Some file) × (file.bytes ≡ bytes)
+text-replaced old new path bytes r = (
+  file-of r.place bytes,
+  under new path r.place bytes (record { placed = placed-still old new path r.place r.names r.stands.placed; found = r.put.here (within old.images.items r.place r.held r.stands.found) }),
+  refl,
+)
+
+replaced-others : (old new : MemoryImages) (path other bytes : List ℕ) (another : FileRecord) → IsReplaced old path bytes new → file_under old other ≡ Some another
+    → IsApartFrom (file_under old path) another → file_under new other ≡ Some another
+replaced-others old new path other bytes another r is' apart =
+    let at' = is-at old other another is' in
+    let here : AreApart (file-of r.place r.held) another = apart (file-of r.place r.held) (under old path r.place r.held r.stands) in
+    let apart' : AreApart (file-of r.place r.held) (file-of at'.place at'.bytes) = subst (λ (f : FileRecord). AreApart (file-of r.place r.held) f) at'.is here in
+    let kept = r.put.others at'.place (apart-places r.place at'.place r.held at'.bytes apart') in
+    under new other at'.place at'.bytes (record { placed = placed-still old new other at'.place r.names at'.placed; found = kept ∙ at'.found }) ∙ ap (λ (f : FileRecord). Some f) (sym at'.is)
+
+pub others-unreplaced : (old new : MemoryImages) (path other bytes : List ℕ) (outcome : Result (Unit {0}) ReplaceFault) (another : FileRecord) → ReplacesAt old path bytes outcome new
+    → file_under old other ≡ Some another → IsApartFrom (file_under old path) another → IsApartFrom (file_under old (beside path)) another → file_under new other ≡ Some another
+others-unreplaced old new path other bytes (Ok done) another r is' apart apart-too = replaced-others old new path other bytes another r is' apart
+others-unreplaced old new path other bytes (Err fault) another same is' apart apart-too = ap (λ (m : MemoryImages). file_under m other) same ∙ is'

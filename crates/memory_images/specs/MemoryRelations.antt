@@ -1,5 +1,5 @@
 -- What a proof sees of images in memory.
-use Rattle.std.specs.Prelude.{◌≡◌, ℕ, Bool, List, length, ◌/◌, take, Option, Some, None, Result, Ok, Err}
+use Rattle.std.specs.Prelude.{◌≡◌, ◌==◌, ℕ, Bool, not, List, length, ◌/◌, ◌%◌, take, Option, Some, None, Result, Ok, Err}
 use Rattle.block_device.specs.declared.file_id.FileId.{FileId}
 use Rattle.block_device.specs.declared.file_id.FileId.TheVariants.{Inode}
 use Rattle.block_device.specs.declared.memory.MemoryDev.{MemoryDev}
@@ -16,6 +16,7 @@ use Rattle.memory_images.specs.declared.named_images.MemoryImages.{MemoryImages}
 use Rattle.memory_images.specs.Named.{IsChanged, IsPut, IsUncopied, Stands, place_of}
 use Rattle.memory_images.specs.Parts.{LiesWithin, grown, part_bytes, with_part}
 use Rattle.image_files.specs.Opener.{Opener}
+use Rattle.text_files.specs.declared.texts.ReplaceFault.{ReplaceFault}
 
 -- these bytes stand under a path, at this place
 abbrev pub StandsAt : MemoryImages → List ℕ → ℕ → List ℕ → Type 0
@@ -87,6 +88,30 @@ abbrev pub GrowsAt : MemoryImages → List ℕ → ℕ → Result (Unit {0}) Ope
 GrowsAt old path sectors (Ok done) new = ChangesAt (place_of old.names.items path) (λ image. grown image sectors) old new
 GrowsAt old path sectors (Err fault) new = ChangesAt (place_of old.names.items path) (λ image. image) old new
 
+-- whether what stands under a path ends inside a sector
+pub record IsMeasured (m : MemoryImages) (path : List ℕ) (part : Bool) : Type 0 where
+  pub place : ℕ
+  pub bytes : List ℕ
+  pub stands : StandsAt m path place bytes
+  pub is : part ≡ not (length bytes % 512 == 0)
+
+abbrev pub Measures : MemoryImages → List ℕ → Result Bool OpenFault → Type 0
+Measures m path (Ok part) = IsMeasured m path part
+Measures m path (Err fault) = IsUncopied m.names.items m.images.items path fault
+
+-- bytes stand in the place of those that stood under a path
+pub record IsReplaced (old : MemoryImages) (path bytes : List ℕ) (new : MemoryImages) : Type 0 where
+  pub place : ℕ
+  pub held : List ℕ
+  pub stands : StandsAt old path place held
+  pub names : new.names ≡ old.names
+  pub put : IsPut old.images.items place bytes new.images.items
+
+-- or all stays as it is
+abbrev pub ReplacesAt : MemoryImages → List ℕ → List ℕ → Result (Unit {0}) ReplaceFault → MemoryImages → Type 0
+ReplacesAt old path bytes (Ok done) new = IsReplaced old path bytes new
+ReplacesAt old path bytes (Err fault) new = new ≡ old
+
 abbrev pub memory_relations : Opener MemoryImages MemoryDev
 memory_relations = record {
   opens = λ old path writable outcome new. (new ≡ old) × OpensCopy old path writable outcome;
@@ -95,4 +120,6 @@ memory_relations = record {
   takes = λ old path device new. PutsAt (place_of old.names.items path) (memory_bytes device) old new;
   takes_part = λ old path part device new. ChangesAt (place_of old.names.items path) (λ image. with_part image part (memory_bytes device)) old new;
   grows = GrowsAt;
+  measures = λ old path outcome new. (new ≡ old) × Measures old path outcome;
+  replaces = ReplacesAt;
 }

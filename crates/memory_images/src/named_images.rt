@@ -8,6 +8,9 @@ use block_device::{FileId, MemoryDev, OpenFault};
 use device_window::Part;
 use image_files::{FileText, Images, OpenImage, PartFault};
 use std::alloc::AllocError;
+use text_files::ReplaceFault;
+
+const SECTOR: usize = 512;
 
 /// Images in memory under names, of which the first with a name counts. An open image is a copy; what was written to it
 /// stands under its name once it is given back.
@@ -156,6 +159,24 @@ impl Images for MemoryImages {
             return Err(OpenFault::NotFound);
         };
         grow_image(&mut self.images, place, sectors)
+    }
+
+    fn has_part_sector(&mut self, path: &str) -> Result<bool, OpenFault> {
+        let (_, bytes) = copy_under(&self.names, &self.images, path)?;
+        Ok(bytes.len() % SECTOR != 0)
+    }
+
+    // What stands under no name isn't made.
+    fn replace(&mut self, path: &str, bytes: &[u8]) -> Result<(), ReplaceFault> {
+        let Ok((place, mut text)) = copy_under(&self.names, &self.images, path) else {
+            return Err(ReplaceFault::Write);
+        };
+        text.clear();
+        if text.extend_from_slice(bytes).is_err() {
+            return Err(ReplaceFault::NoMemory);
+        }
+        put_image(&mut self.images, place, text);
+        Ok(())
     }
 
     fn of_memory(memory: MemoryDev) -> MemoryDev {

@@ -9,8 +9,14 @@ const MIB: u64 = 1 << 20;
 /// The least time between two lines, in milliseconds.
 const BETWEEN: u128 = 500;
 
+/// What a terminal (ECMA-48, CUU and EL) is told to write over the line above, and to clear what is left of it.
+const OVER: &str = "\x1b[A\r";
+
+const CLEAR: &str = "\x1b[K";
+
 /// Prints to standard error, at most twice a second, one line that is written over: the bytes that are done, of how many,
-/// the speed, and the seconds that are left. Where standard error or the clock fails it shows nothing.
+/// the speed, and the seconds that are left. What is printed meanwhile, as a fault, stands on a line of its own. Of a
+/// transfer that takes no half of a second, or where standard error or the clock fails, nothing is shown.
 #[derive(Drop)]
 pub struct ProgressLine<'a, R> {
     rt: &'a R,
@@ -28,31 +34,31 @@ impl<'a, R: Clock + Eprint> ProgressLine<'a, R> {
         }
     }
 
-    /// Ends the line, where one was begun.
-    pub fn finish(&mut self) {
-        if self.shown.take().is_some() {
-            let _ended = self.rt.eprintln("");
-        }
-    }
-
     // Whether it is time for the next line.
-    fn is_due(&self, now: Instant) -> bool {
-        match self.shown {
-            None => true,
-            Some(shown) => now.duration_since(shown).as_millis() >= BETWEEN,
-        }
+    fn is_due(&self, begun: Instant, now: Instant) -> bool {
+        let last = self.shown.unwrap_or(begun);
+        now.duration_since(last).as_millis() >= BETWEEN
     }
 
     fn show(&self, done: u64, all: Option<u64>, millis: u128) -> io::Result<()> {
         let speed = per_second(done, millis);
         let had = done / MIB;
         let rate = speed / MIB;
+        let (over, clear) = match self.shown {
+            None => ("", ""),
+            Some(_) => (OVER, CLEAR),
+        };
         match all {
-            None => self.rt.eprint(format_args!("\r{had} MiB, {rate} MiB/s  ")),
+            None => {
+                let text = format_args!("{over}{had} MiB, {rate} MiB/s{clear}\n");
+                self.rt.eprint(text)
+            }
             Some(all) => {
                 let whole = all / MIB;
                 let left = all.saturating_sub(done).checked_div(speed).unwrap_or(0);
-                let text = format_args!("\r{had} of {whole} MiB, {rate} MiB/s, {left} s left  ");
+                let text = format_args!(
+                    "{over}{had} of {whole} MiB, {rate} MiB/s, {left} s left{clear}\n"
+                );
                 self.rt.eprint(text)
             }
         }
@@ -78,7 +84,7 @@ impl<R: Clock + Eprint> Progress for ProgressLine<'_, R> {
         let Ok(now) = Instant::now(self.rt) else {
             return;
         };
-        if self.is_due(now) {
+        if self.is_due(begun, now) {
             let _printed = self.show(done, all, now.duration_since(begun).as_millis());
             self.shown = Some(now);
         }

@@ -1,5 +1,5 @@
 -- What a command on a stack file opens, in this order: the stack text, what stands beside it, and the bindings.
-use Rattle.std.specs.Prelude.{◌⊎◌, ℕ, true, List, [], ◌∷◌, map}
+use Rattle.std.specs.Prelude.{◌⊎◌, ℕ, Bool, true, List, [], ◌∷◌, map}
 use Rattle.command_line.specs.Bindings.{BindingRecord, binding_record}
 use Rattle.image_files.specs.Apart.{OpensApart, RefusesApart}
 use Rattle.image_files.specs.declared.images.FileText.{FileText}
@@ -69,33 +69,40 @@ abbrev pub FailsToOpenSource : {S D : Type 0} → Calls S D → StackWords → L
 FailsToOpenSource w words source fault =
     IsTextEnd w words.stack fault ⊎ (FailsAtSource w words.stack source fault ⊎ FailsBehindSource w words source fault)
 
--- STACK's text was told, and then OUT opened for writing, which is another file
-pub record TellsAndOpens {S D : Type 0} (w : Calls S D) (stack out : List ℕ) (text : FileText) (image : OpenImage D) : Type 0 where
+-- STACK's text was told, and then an image opened beside it, for writing too or not: that is another file where it may be written
+pub record TellsAndOpens {S D : Type 0} (w : Calls S D) (stack path : List ℕ) (writable : Bool) (text : FileText) (image : OpenImage D) : Type 0 where
   pub between : S
   pub told : TellsStack (record w { new = between }) stack text
-  pub opened : OpensApart (record w { old = between }) (text_use text ∷ []) out true image
+  pub opened : OpensApart (record w { old = between }) (text_use text ∷ []) path writable image
 
 -- and then the images of the bindings opened beside both
-pub record OpensOutput {S D : Type 0} (w : Calls S D) (words : StackWords) (out : List ℕ) (over : OpenStack D) (image : OpenImage D) : Type 0 where
+pub record OpensBeside {S D : Type 0} (w : Calls S D) (words : StackWords) (path : List ℕ) (writable : Bool) (over : OpenStack D) (image : OpenImage D) : Type 0 where
   pub between : S
-  pub told : TellsAndOpens (record w { new = between }) words.stack out over.text image
-  pub bound : AreBound (record w { old = between }) (text_use over.text ∷ image_use true image ∷ []) words.bindings over.leaves.items over.devices.items
+  pub told : TellsAndOpens (record w { new = between }) words.stack path writable over.text image
+  pub bound : AreBound (record w { old = between }) (text_use over.text ∷ image_use writable image ∷ []) words.bindings over.leaves.items over.devices.items
 
--- STACK's text was told, and OUT isn't opened
-pub record FailsAtOutput {S D : Type 0} (w : Calls S D) (stack out : List ℕ) (fault : OpeningFault) : Type 0 where
+-- STACK's text was told, and the image isn't opened
+pub record FailsAtImage {S D : Type 0} (w : Calls S D) (stack path : List ℕ) (writable : Bool) (fault : OpeningFault) : Type 0 where
   pub text : FileText
   pub between : S
   pub told : TellsStack (record w { new = between }) stack text
-  pub fails : IsUnopened (RefusesApart (record w { old = between }) (text_use text ∷ []) out true) fault
+  pub fails : IsUnopened (RefusesApart (record w { old = between }) (text_use text ∷ []) path writable) fault
 
--- OUT is open, and then the bindings weren't all opened
-pub record FailsBehindOutput {S D : Type 0} (w : Calls S D) (words : StackWords) (out : List ℕ) (fault : OpeningFault) : Type 0 where
+-- the image is open, and then the bindings weren't all opened
+pub record FailsBehindImage {S D : Type 0} (w : Calls S D) (words : StackWords) (path : List ℕ) (writable : Bool) (fault : OpeningFault) : Type 0 where
   pub text : FileText
   pub image : OpenImage D
   pub between : S
-  pub told : TellsAndOpens (record w { new = between }) words.stack out text image
-  pub fails : IsBindingEnd (record w { old = between }) (text_use text ∷ image_use true image ∷ []) words.bindings fault
+  pub told : TellsAndOpens (record w { new = between }) words.stack path writable text image
+  pub fails : IsBindingEnd (record w { old = between }) (text_use text ∷ image_use writable image ∷ []) words.bindings fault
+
+abbrev pub FailsToOpenBeside : {S D : Type 0} → Calls S D → StackWords → List ℕ → Bool → OpeningFault → Type 0
+FailsToOpenBeside w words path writable fault =
+    IsTextEnd w words.stack fault ⊎ (FailsAtImage w words.stack path writable fault ⊎ FailsBehindImage w words path writable fault)
+
+-- OUT is opened for writing
+abbrev pub OpensOutput : {S D : Type 0} → Calls S D → StackWords → List ℕ → OpenStack D → OpenImage D → Type 0
+OpensOutput w words out over image = OpensBeside w words out true over image
 
 abbrev pub FailsToOpenOutput : {S D : Type 0} → Calls S D → StackWords → List ℕ → OpeningFault → Type 0
-FailsToOpenOutput w words out fault =
-    IsTextEnd w words.stack fault ⊎ (FailsAtOutput w words.stack out fault ⊎ FailsBehindOutput w words out fault)
+FailsToOpenOutput w words out fault = FailsToOpenBeside w words out true fault

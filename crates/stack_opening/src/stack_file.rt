@@ -1,8 +1,8 @@
 //! What a command on a stack file opens, in this order: the stack text, what stands beside it, and the bindings.
-ghost use Rattle.std.specs.Prelude.{◌≡◌, true, map, IfOk, IfErr};
+ghost use Rattle.std.specs.Prelude.{◌≡◌, false, true, map, IfOk, IfErr};
 ghost use Rattle.image_files.specs.FileUses.{text_use};
 ghost use Rattle.image_files.specs.Opener.{calls};
-ghost use Rattle.stack_opening.specs.OpenStacks.{FailsToOpen, FailsToOpenOutput, FailsToOpenSource, OpensOutput, OpensSource, OpensStack, stack_words};
+ghost use Rattle.stack_opening.specs.OpenStacks.{FailsToOpen, FailsToOpenBeside, FailsToOpenOutput, FailsToOpenSource, OpensBeside, OpensOutput, OpensSource, OpensStack, stack_words};
 
 use crate::fault::OpeningFault;
 use crate::leaves::{OpenLeaves, open_all};
@@ -95,14 +95,39 @@ pub fn open_with_output<'a, I: Images>(
     ensures writable { IfOk result (λ both. (I.Dev.state both.1.device).may_write ≡ true) }
     ensures err { IfErr result (FailsToOpenOutput (calls I.relations I.Dev.state images.old images.new) (stack_words file.entry) out.now) }
 {
+    open_beside(alloc, images, file, out, true)
+}
+
+/// The same, and between them an image that is only read, which may be the stack file.
+pub fn open_with_input<'a, I: Images>(
+    alloc: Global,
+    images: &mut I,
+    file: StackFile<'a, '_>,
+    source: &'a str,
+) -> Result<(OpenStack<I::Dev>, OpenImage<I::Dev>), OpeningFault<'a>>
+    ensures ok { IfOk result (λ both. OpensBeside (calls I.relations I.Dev.state images.old images.new) (stack_words file.entry) source.now false both.0 both.1) }
+    ensures err { IfErr result (FailsToOpenBeside (calls I.relations I.Dev.state images.old images.new) (stack_words file.entry) source.now false) }
+{
+    open_beside(alloc, images, file, source, false)
+}
+
+// The stack file, an image, for writing too where `writable` says so, and then the leaves of the bindings.
+fn open_beside<'a, I: Images>(
+    alloc: Global,
+    images: &mut I,
+    file: StackFile<'a, '_>,
+    path: &'a str,
+    writable: bool,
+) -> Result<(OpenStack<I::Dev>, OpenImage<I::Dev>), OpeningFault<'a>>
+    ensures ok { IfOk result (λ both. OpensBeside (calls I.relations I.Dev.state images.old images.new) (stack_words file.entry) path.now writable both.0 both.1) }
+    ensures writable { IfOk result (λ both. (I.Dev.state both.1.device).may_write ≡ writable) }
+    ensures err { IfErr result (FailsToOpenBeside (calls I.relations I.Dev.state images.old images.new) (stack_words file.entry) path.now writable) }
+{
     let text = read_stack(images, file.path)?;
-    let image = open_apart(images, &[text_use(&text)], out, true)?;
-    let output = FileUse {
-        id: image.id,
-        writable: true,
-        part: None,
-    };
-    let files = [text_use(&text), output];
+    let image = open_apart(images, &[text_use(&text)], path, writable)?;
+    let id = image.id;
+    let part = None;
+    let files = [text_use(&text), FileUse { id, writable, part }];
     let OpenLeaves { leaves, devices } = open_all(alloc, images, &files, file.bindings)?;
     let over = OpenStack {
         text,

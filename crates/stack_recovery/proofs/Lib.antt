@@ -1,4 +1,5 @@
 pub mod lemmas
+mod AheadLemmas
 mod AlikeLemmas
 mod CopyLemmas
 mod LongestLemmas

@@ -1,21 +1,23 @@
 -- What is found over leaves that are steady and never fail.
-use Rattle.std.proofs.Common.{◌≡◌, ◌≢◌, ℕ, zero, suc, ◌+◌, ◌-◌, ◌<◌, List, [], ◌∷◌, ◌++◌, length, replicate, true, Some, None, Ok, Err, refl, sym, ap, ◌∙◌, arith}
+use Rattle.std.proofs.Common.{Bool, ◌≡◌, ◌≢◌, ℕ, zero, suc, ◌+◌, ◌-◌, ◌<◌, List, [], ◌∷◌, ◌++◌, length, replicate, true, Some, None, Ok, Err, refl, sym, ap, ◌∙◌, subst, arith}
+use Rattle.std.proofs.lemmas.Bool.{false≢true}
 use Rattle.std.proofs.lemmas.List.{length-append, length-replicate}
 use Rattle.block_device.specs.Device.{Device, in_memory}
 use Rattle.stack_rules.specs.Names.{mapped}
 use Rattle.stack_rules.specs.Records.{Configuration}
 use Rattle.stack_meaning.specs.declared.fault.IoFault.{IoFault}
 use Rattle.stack_meaning.specs.declared.fault.IoFault.TheVariants.{Stack, Device as DeviceFailed, NoMemory}
-use Rattle.stack_meaning.specs.Leaves.{AreRead, images_of}
+use Rattle.stack_meaning.specs.Leaves.{AreRead, steady_images}
+use Rattle.stack_meaning.specs.LeavesBeneath.{stands_on}
 use Rattle.stack_meaning.specs.Meaning.{sector}
 use Rattle.stack_meaning.specs.declared.fault.Fault.{Fault}
 use Rattle.stack_meaning.specs.Outcomes.{Images, Outcome, joint_outcome, span}
 use Rattle.stack_engine.specs.Bytes.{EachBytes}
 use Rattle.stack_engine.specs.Stacks.{StackRecord}
-use Rattle.stack_meaning.proofs.lemmas.LeafListLemmas.{AllSteady-kept, images-kept, same_length}
+use Rattle.stack_meaning.proofs.lemmas.LeafListLemmas.{AreSteady-kept, images-kept, same_length}
 use Rattle.stack_recovery.specs.Alike.{AreAlike}
 use Rattle.stack_recovery.specs.Laws.{AreSure, StatesAreMeant, meant_state, meant_states}
-use Rattle.stack_recovery.specs.Surveys.{Finding, IsPieceRead, State, again, all_states, had, lost, states_found, states_of}
+use Rattle.stack_recovery.specs.Surveys.{Finding, IsPieceRead, State, again, all_states, had, kept, lost, states_found, states_of}
 use Rattle.stack_recovery.proofs.lemmas.LostLemmas.{span-fault}
 
 -- ---- sectors of a span
@@ -64,45 +66,54 @@ meant-fault c images d first n fault alike e =
 
 -- ---- pieces
 
-sure-kept : {old new : List Device} {n : ℕ} → AreRead old n new → AreSure old → AreSure new
+sure-kept : {these : ℕ → Bool} {old new : List Device} {n : ℕ} → AreRead old n new → AreSure these old → AreSure these new
 sure-kept {old = old} {new = new} a s = record {
-  steady = AllSteady-kept old new a.moved.fixed s.steady;
-  never_fail = λ i d low. a.moved.never_fails i d (s.never_fail i d (omega (arith, low, same_length old new a.moved.fixed)));
+  steady = AreSteady-kept old new a.moved.fixed s.steady;
+  never_fail = λ i d low is. a.moved.never_fails i d (s.never_fail i d (omega (arith, low, same_length old new a.moved.fixed)) is);
 }
 
 -- any device
 abbrev some-device : Device
 some-device = in_memory [] true
 
-module _ (d first : ℕ) (w : StackRecord) (sure : AreSure w.leaves) (n : ℕ) (after : StackRecord) where
+module _ (d first : ℕ) (w : StackRecord) (sure : AreSure (λ i. stands_on w.config i (mapped d)) w.leaves) (n : ℕ) (after : StackRecord) where
   abbrev at : ℕ → Outcome
-  at = sector w.config (images_of w.leaves) (mapped d)
+  at = sector w.config (steady_images w.leaves) (mapped d)
 
-  meant-lost : (fault : IoFault) → EachBytes w d first n (Err fault) after → AreAlike w.config d first n → fault ≢ NoMemory → meant_states (sector w.config (images_of w.leaves) (mapped d)) first n ≡ replicate n (Some fault)
-  meant-lost (Stack fault) p alike kind = meant-fault w.config (images_of w.leaves) d first n fault alike (p.steady sure.steady).exact
-  meant-lost (DeviceFailed i) p alike kind = let failed = p.any.may.1 in absurd (failed.unsure some-device (sure.never_fail (i - 1) some-device failed.inside))
+  meant-lost : (fault : IoFault) → EachBytes w d first n (Err fault) after → AreAlike w.config d first n → fault ≢ NoMemory → meant_states (sector w.config (steady_images w.leaves) (mapped d)) first n ≡ replicate n (Some fault)
+  meant-lost (Stack fault) p alike kind = meant-fault w.config (steady_images w.leaves) d first n fault alike (p.steady sure.steady).exact
+  meant-lost (DeviceFailed i) p alike kind = let failed = p.any.may.1 in absurd (failed.unsure some-device (sure.never_fail (i - 1) some-device failed.inside p.any.touches.fault))
   meant-lost NoMemory p alike kind = absurd (kind refl)
 
-  pub meant-piece : (found : Finding) → IsPieceRead d first w (record { count = n; found = found; after = after })
-      → states_found n found ≡ meant_states (sector w.config (images_of w.leaves) (mapped d)) first (length (states_found n found))
+  pub meant-piece : (found : Finding) → IsPieceRead [] d first w (record { count = n; found = found; after = after })
+      → states_found n found ≡ meant_states (sector w.config (steady_images w.leaves) (mapped d)) first (length (states_found n found))
   meant-piece (had bytes) p =
       sym (ap (meant_states at first) (length-replicate {A = State} n None) ∙ meant-bytes at first n bytes (p.answered.steady sure.steady).exact)
   meant-piece (lost fault) p =
       sym (ap (meant_states at first) (length-replicate {A = State} n (Some fault)) ∙ meant-lost fault p.answered p.may.0 p.may.1)
   meant-piece (again fault) p = refl
+  meant-piece kept p = absurd (false≢true (p.marked 0 p.may))
+
+-- what a piece leaves, of sectors of which none was had before
+moved : (d first : ℕ) (w : StackRecord) (n : ℕ) (found : Finding) (after : StackRecord) → IsPieceRead [] d first w (record { count = n; found = found; after = after })
+    → (k : ℕ) × AreRead w.leaves k after.leaves × (after.config ≡ w.config)
+moved d first w n (had bytes) after p = (_, p.answered.any.moved, p.answered.any.config)
+moved d first w n (lost fault) after p = (_, p.answered.any.moved, p.answered.any.config)
+moved d first w n (again fault) after p = (_, p.answered.any.moved, p.answered.any.config)
+moved d first w n kept after p = absurd (false≢true (p.marked 0 p.may))
 
 pub states-meant : StatesAreMeant
 states-meant d first w [] w' s sure = refl
 states-meant d first w (r ∷ more) w' s sure =
     let n : ℕ = length (states_of r) in
     let m : ℕ = length (all_states more) in
-    let moved = s.0.answered.any.moved in
-    let config : r.after.config ≡ w.config = s.0.answered.any.config in
-    let images : images_of r.after.leaves ≡ images_of w.leaves = images-kept moved sure.steady in
-    let at : ℕ → Outcome = sector w.config (images_of w.leaves) (mapped d) in
+    let left = moved d first w r.count r.found r.after s.0 in
+    let config : r.after.config ≡ w.config = left.2 in
+    let images : steady_images r.after.leaves ≡ steady_images w.leaves = images-kept left.1 in
+    let at : ℕ → Outcome = sector w.config (steady_images w.leaves) (mapped d) in
     let head : states_of r ≡ meant_states at first n = meant-piece d first w sure r.count r.after r.found s.0 in
-    let rest = states-meant d (first + n) r.after more w' s.1 (sure-kept moved sure) in
+    let rest = states-meant d (first + n) r.after more w' s.1 (subst (λ (c : Configuration). AreSure (λ i. stands_on c i (mapped d)) r.after.leaves) (sym config) (sure-kept left.1 sure)) in
     let tail : all_states more ≡ meant_states at (first + n) m =
-    rest ∙ ap (λ (c : Configuration). meant_states (sector c (images_of r.after.leaves) (mapped d)) (first + n) m) config ∙ ap (λ (i : Images). meant_states (sector w.config i (mapped d)) (first + n) m) images in
+    rest ∙ ap (λ (c : Configuration). meant_states (sector c (steady_images r.after.leaves) (mapped d)) (first + n) m) config ∙ ap (λ (i : Images). meant_states (sector w.config i (mapped d)) (first + n) m) images in
     ap (λ (l : List State). l ++ all_states more) head ∙ ap (λ (l : List State). meant_states at first n ++ l) tail
     ∙ sym (ap (meant_states at first) (length-append (states_of r) (all_states more)) ∙ meant-add at first n m)

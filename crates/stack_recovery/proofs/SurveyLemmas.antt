@@ -1,19 +1,28 @@
 -- Pieces that are read one after another.
-use Rattle.std.proofs.Common.{◌≡◌, ℕ, ◌+◌, List, [], ◌∷◌, ◌++◌, length, refl, ap, ◌∙◌, subst, arith}
+use Rattle.std.proofs.Common.{◌≡◌, ℕ, ◌+◌, Bool, false, List, [], ◌∷◌, ◌++◌, length, get_or, refl, ap, ◌∙◌, subst, arith}
 use Rattle.std.proofs.lemmas.List.{append-nil, length-append}
 use Rattle.std.proofs.lemmas.List.Concat.{flat_map-append}
 use Rattle.stack_engine.specs.Stacks.{StackRecord}
-use Rattle.stack_recovery.specs.Surveys.{IsPieceRead, IsSurvey, PieceRead, State, all_states, states_of}
+use Rattle.stack_recovery.specs.Surveys.{IsPieceRead, IsSurveyOver, PieceRead, State, all_states, states_of}
 
 pub states-push : (reads : List PieceRead) (r : PieceRead) → all_states (reads ++ r ∷ []) ≡ all_states reads ++ states_of r
 states-push reads r = flat_map-append states_of reads (r ∷ []) ∙ ap (λ (l : List State). all_states reads ++ l) (append-nil (states_of r))
 
 -- a piece behind those so far
-pub survey-push : (d first : ℕ) (w : StackRecord) (reads : List PieceRead) (mid : StackRecord) (r : PieceRead) → IsSurvey d first w reads mid
-    → IsPieceRead d (first + length (all_states reads)) mid r → IsSurvey d first w (reads ++ r ∷ []) r.after
-survey-push d first w [] mid r s p =
+pub survey-push : (marks : List Bool) (d first : ℕ) (w : StackRecord) (reads : List PieceRead) (mid : StackRecord) (r : PieceRead) → IsSurveyOver marks d first w reads mid
+    → IsPieceRead marks d (first + length (all_states reads)) mid r → IsSurveyOver marks d first w (reads ++ r ∷ []) r.after
+survey-push marks d first w [] mid r s p =
     let at : first + 0 ≡ first = omega arith in
-    (subst (λ (v : StackRecord). IsPieceRead d first v r) s (subst (λ (k : ℕ). IsPieceRead d k mid r) at p), refl)
-survey-push d first w (x ∷ more) mid r s p =
+    (subst (λ (v : StackRecord). IsPieceRead marks d first v r) s (subst (λ (k : ℕ). IsPieceRead marks d k mid r) at p), refl)
+survey-push marks d first w (x ∷ more) mid r s p =
     let at : first + length (all_states (x ∷ more)) ≡ first + length (states_of x) + length (all_states more) = omega (arith, length-append (states_of x) (all_states more)) in
-    (s.0, survey-push d (first + length (states_of x)) x.after more mid r s.1 (subst (λ (k : ℕ). IsPieceRead d k mid r) at p))
+    (s.0, survey-push marks d (first + length (states_of x)) x.after more mid r s.1 (subst (λ (k : ℕ). IsPieceRead marks d k mid r) at p))
+
+-- the same marks
+pub survey-same : (marks others : List Bool) (d first : ℕ) (w : StackRecord) (reads : List PieceRead) (w' : StackRecord) → ((k : ℕ) → get_or others k false ≡ get_or marks k false)
+    → IsSurveyOver marks d first w reads w' → IsSurveyOver others d first w reads w'
+survey-same marks others d first w [] w' same s = s
+survey-same marks others d first w (r ∷ more) w' same s = (
+  record { answered = s.0.answered; may = s.0.may; marked = λ j low. same (first + j) ∙ s.0.marked j low },
+  survey-same marks others d (first + length (states_of r)) r.after more w' same s.1,
+)

@@ -1,11 +1,12 @@
 -- Lines that are written one after another.
 use Rattle.std.proofs.Common.{◌≡◌, ℕ, List, [], ◌++◌, Option, Some, None, Result, Ok, Err, sym, ap, ◌∙◌, subst}
-use Rattle.std.specs.Prelude.{IfErr, IsErrAnd}
+use Rattle.std.specs.Prelude.{IfErr, IfOk, IsErrAnd}
 use Rattle.std.specs.Io.KnownBytes.{Appends}
 use Rattle.std.proofs.lemmas.List.{append-nil, append_assoc}
 use Rattle.std.proofs.lemmas.List.Concat.{flat_map-append}
 use Rattle.stack_recovery.specs.declared.fault.RecoveryFault.{RecoveryFault}
 use Rattle.stack_recovery.specs.declared.lost_run.LostRun.{LostRun}
+use Rattle.stack_recovery.specs.declared.recovery.Counts.{Counts}
 use Rattle.stack_recovery.specs.Texts.{run_text, runs_text}
 
 pub writes_nothing : (known : Option (List ℕ)) → Appends known known []
@@ -25,3 +26,12 @@ runs-then a b c runs more p q = rw (flat_map-append run_text runs more) (writes-
 pub err-from : {T : Type 0} (r : Result T RecoveryFault) (P : RecoveryFault → Type 0) (fault : RecoveryFault) → IsErrAnd r (λ e. e ≡ fault) → P fault → IfErr r P
 err-from (Ok done) P fault is holds = tt
 err-from (Err e) P fault is holds = subst P (sym is) holds
+
+-- what follows of a result
+pub ok-as : (r : Result Counts RecoveryFault) (P Q : Counts → Type 0) → ((counts : Counts) → P counts → Q counts) → IfOk r P → IfOk r Q
+ok-as (Ok counts) P Q f h = f counts h
+ok-as (Err fault) P Q f h = tt
+
+pub err-as : (r : Result Counts RecoveryFault) (P Q : RecoveryFault → Type 0) → ((fault : RecoveryFault) → P fault → Q fault) → IfErr r P → IfErr r Q
+err-as (Ok counts) P Q f h = tt
+err-as (Err fault) P Q f h = f fault h

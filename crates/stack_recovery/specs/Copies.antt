@@ -1,13 +1,14 @@
 -- What is put on another device while a mapped device is gone over.
 use Rattle.std.specs.Prelude.{◌≡◌, ℕ, ◌+◌, IsTrue, List, [], ◌∷◌, length}
 use Rattle.block_device.specs.Device.{Device, IsSameDevice, sectors_of, spliced}
-use Rattle.stack_recovery.specs.Surveys.{Finding, had, lost, again, PieceRead, states_of}
+use Rattle.stack_recovery.specs.Surveys.{Finding, had, lost, again, kept, PieceRead, states_of}
 
 -- the sectors that were had stand where they stood, and no others are changed
 abbrev pub image_after : ℕ → Finding → ℕ → List (List ℕ) → List (List ℕ)
 image_after first (had bytes) n image = spliced image first (sectors_of n bytes)
 image_after first (lost fault) n image = image
 image_after first (again fault) n image = image
+image_after first kept n image = image
 
 -- the same of pieces one after another, from the first sector on
 abbrev pub copied_image : ℕ → List PieceRead → List (List ℕ) → List (List ℕ)

@@ -1,5 +1,6 @@
 -- Laws of what is found where a device is gone over.
-use Rattle.std.specs.Prelude.{◌≡◌, ◌≢◌, ◌↔◌, ℕ, zero, suc, ◌+◌, ◌-◌, ◌/◌, ◌<◌, ◌≤◌, IsTrue, List, [], ◌∷◌, length, get_or, All, Some, None, Ok, Err}
+use Rattle.std.specs.Prelude.{◌≡◌, ◌≢◌, ◌↔◌, ℕ, zero, suc, ◌+◌, ◌-◌, ◌/◌, ◌<◌, ◌≤◌, Bool, IsTrue, List, [], ◌∷◌, length, get_or, All, Some, None, Ok, Err}
+use Rattle.std.specs.List.{slice_index_or}
 use Rattle.block_device.specs.Device.{Device}
 use Rattle.dm_table.specs.declared.table.Line.{Line}
 use Rattle.dm_table.specs.declared.verity.Verity.{Verity}
@@ -10,7 +11,8 @@ use Rattle.stack_rules.specs.Trees.{block_sectors}
 use Rattle.stack_meaning.specs.declared.fault.IoFault.TheVariants.{Stack}
 use Rattle.stack_meaning.specs.Kept.{block_of}
 use Rattle.stack_engine.specs.Laws.{LiesInVerity}
-use Rattle.stack_meaning.specs.Leaves.{AllSteady, images_of}
+use Rattle.stack_meaning.specs.Leaves.{AreSteady, steady_images}
+use Rattle.stack_meaning.specs.LeavesBeneath.{stands_on}
 use Rattle.stack_meaning.specs.Meaning.{sector}
 use Rattle.stack_meaning.specs.declared.fault.Fault.{Fault}
 use Rattle.stack_meaning.specs.Outcomes.{Images, Outcome}
@@ -21,9 +23,10 @@ use Rattle.stack_recovery.specs.Surveys.{IsSurvey, PieceRead, State, all_states}
 
 -- ---- over leaves that are steady and never fail
 
-pub record AreSure (leaves : List Device) : Type 0 where
-  pub steady : AllSteady leaves
-  pub never_fail : All (λ l. IsTrue l.never_fails) leaves
+-- of these leaves each is steady and never fails
+pub record AreSure (these : ℕ → Bool) (leaves : List Device) : Type 0 where
+  pub steady : AreSteady these leaves
+  pub never_fail : (i : ℕ) (x : Device) → i < length leaves → IsTrue (these i) → IsTrue (slice_index_or leaves i x).never_fails
 
 -- what becomes of a sector that means this
 abbrev pub meant_state : Outcome → State
@@ -35,10 +38,10 @@ abbrev pub meant_states : (ℕ → Outcome) → ℕ → ℕ → List State
 meant_states at first zero = []
 meant_states at first (suc n) = meant_state (at first) ∷ meant_states at (suc first) n
 
--- a sector is lost where it means a fault, by that fault
+-- where those beneath the device are such, a sector is lost where it means a fault, by that fault
 abbrev pub StatesAreMeant : Type 0
-StatesAreMeant = (d first : ℕ) (w : StackRecord) (reads : List PieceRead) (w' : StackRecord) → IsSurvey d first w reads w' → AreSure w.leaves
-    → all_states reads ≡ meant_states (sector w.config (images_of w.leaves) (mapped d)) first (length (all_states reads))
+StatesAreMeant = (d first : ℕ) (w : StackRecord) (reads : List PieceRead) (w' : StackRecord) → IsSurvey d first w reads w' → AreSure (λ i. stands_on w.config i (mapped d)) w.leaves
+    → all_states reads ≡ meant_states (sector w.config (steady_images w.leaves) (mapped d)) first (length (all_states reads))
 
 -- ---- runs
 

@@ -1,16 +1,19 @@
 -- What going over a mapped device does.
-use Rattle.std.specs.Prelude.{◌≡◌, ℕ, ◌-◌, Bool, true, IsTrue, List, ◌++◌, length, Option}
+use Rattle.std.specs.Prelude.{◌≡◌, ℕ, ◌-◌, Bool, true, false, IsTrue, List, [], ◌++◌, length, map, Option, Some, None}
 use Rattle.std.specs.Io.KnownBytes.{Appends}
 use Rattle.block_device.specs.Device.{Device, HasFailed}
 use Rattle.stack_rules.specs.Names.{mapped, size}
 use Rattle.stack_engine.specs.Stacks.{StackRecord}
+use Rattle.rescue_map.specs.declared.map.Run.{Run}
+use Rattle.rescue_map.specs.Maps.{marks}
 use Rattle.stack_recovery.specs.declared.fault.RecoveryFault.{RecoveryFault}
 use Rattle.stack_recovery.specs.declared.fault.RecoveryFault.TheVariants.{NoMemory, Output, Write}
 use Rattle.stack_recovery.specs.declared.lost_run.LostRun.{LostRun}
 use Rattle.stack_recovery.specs.declared.recovery.Counts.{Counts}
+use Rattle.stack_recovery.specs.declared.rescued.Rescued.{Rescued}
 use Rattle.stack_recovery.specs.Copies.{IsCopied}
 use Rattle.stack_recovery.specs.LostRuns.{lost_in, lost_runs}
-use Rattle.stack_recovery.specs.Surveys.{IsSurvey, PieceRead, all_states}
+use Rattle.stack_recovery.specs.Surveys.{IsSurvey, IsSurveyOver, PieceRead, State, all_states}
 use Rattle.stack_recovery.specs.Texts.{runs_text}
 
 -- the stack, the device to which is copied, and what was printed, where that is known
@@ -34,17 +37,53 @@ pub record Recovers (d : ℕ) (old : Sides) (counts : Counts) (new : Sides) : Ty
   pub counted : counts ≡ record { read = length (all_states reads) - lost_in (all_states reads); lost = lost_in (all_states reads) }
 
 -- some first pieces of the device were read, and the first of their lost runs printed
-pub record IsBegun (d : ℕ) (old new : Sides) : Type 0 where
+pub record IsBegunOver (marks : List Bool) (d : ℕ) (old new : Sides) : Type 0 where
   pub reads : List PieceRead
   pub left : StackRecord
   pub runs : List LostRun
   pub more : List LostRun
-  pub survey : IsSurvey d 0 old.stack reads left
+  pub survey : IsSurveyOver marks d 0 old.stack reads left
   pub first : lost_runs 0 (all_states reads) ≡ runs ++ more
   pub printed : Appends old.printed new.printed (runs_text runs)
 
 -- why it ended early, where the last says whether the writer failed
+abbrev pub IsRescueEnd : List Bool → ℕ → Sides → Sides → Bool → RecoveryFault → Type 0
+IsRescueEnd marks d old new failed NoMemory = IsBegunOver marks d old new
+IsRescueEnd marks d old new failed Output = IsBegunOver marks d old new × (HasFailed old.out new.out × (IsTrue old.out.never_fails → ⊥))
+IsRescueEnd marks d old new failed Write = failed ≡ true
+
 abbrev pub IsRecoveryEnd : ℕ → Sides → Sides → Bool → RecoveryFault → Type 0
-IsRecoveryEnd d old new failed NoMemory = IsBegun d old new
-IsRecoveryEnd d old new failed Output = IsBegun d old new × (HasFailed old.out new.out × (IsTrue old.out.never_fails → ⊥))
-IsRecoveryEnd d old new failed Write = failed ≡ true
+IsRecoveryEnd d old new failed fault = IsRescueEnd [] d old new failed fault
+
+-- ---- where some sectors were had before
+
+-- whether a sector is had
+abbrev pub is_had : State → Bool
+is_had None = true
+is_had (Some fault) = false
+
+-- the marks of a map, where one is made, are those of the states
+abbrev pub IsNoted : Option (List Run) → List State → Type 0
+IsNoted None states = Unit {0}
+IsNoted (Some runs) states = marks runs ≡ map is_had states
+
+-- Each sector of device d was had, before or now, or is lost: as above, and a map is made of all of them.
+pub record GoesOver (before : List Bool) (d : ℕ) (old : Sides) (counts : Counts) (made : Option (List Run)) (new : Sides) : Type 0 where
+  pub reads : List PieceRead
+  pub survey : IsSurveyOver before d 0 old.stack reads new.stack
+  pub whole : length (all_states reads) ≡ size old.stack.config (mapped d)
+  pub copied : IsCopied reads old.out new.out
+  pub unfailed : new.out.failures ≡ old.out.failures
+  pub printed : Appends old.printed new.printed (runs_text (lost_runs 0 (all_states reads)))
+  pub counted : counts ≡ record { read = length (all_states reads) - lost_in (all_states reads); lost = lost_in (all_states reads) }
+  pub noted : IsNoted made (all_states reads)
+
+-- it answers that map
+abbrev pub Rescues : List Bool → ℕ → Sides → Rescued → Sides → Type 0
+Rescues before d old rescued new = GoesOver before d old rescued.counts (Some rescued.map) new
+
+-- these sectors were noted behind those before
+abbrev pub NotesMore : Option (List Run) → Option (List Run) → List Bool → Type 0
+NotesMore None None more = Unit {0}
+NotesMore (Some old) (Some new) more = marks new ≡ marks old ++ more
+NotesMore old new more = ⊥

@@ -1,6 +1,6 @@
 -- A mapped device gone over from sector to sector: the pieces that were read, and what came of each.
-use Rattle.std.specs.Prelude.{◌≡◌, ◌≢◌, ℕ, ◌+◌, List, [], ◌∷◌, length, replicate, Option, Some, None, Result, Ok, Err}
-use Rattle.std.specs.List.{flat_map}
+use Rattle.std.specs.Prelude.{◌≡◌, ◌≢◌, ℕ, ◌+◌, ◌<◌, ◌≤◌, Bool, true, false, List, [], ◌∷◌, length, replicate, Option, Some, None, Ok, Err}
+use Rattle.std.specs.List.{flat_map, slice_index_or}
 use Rattle.stack_rules.specs.Records.{Configuration}
 use Rattle.stack_meaning.specs.declared.fault.IoFault.{IoFault}
 use Rattle.stack_meaning.specs.declared.fault.IoFault.TheVariants.{NoMemory}
@@ -16,6 +16,8 @@ pub data Finding : Type 0 where
   lost : IoFault → Finding
   -- it ended in this fault, and its sectors are read again in smaller pieces
   again : IoFault → Finding
+  -- they were had before, and aren't asked again
+  kept : Finding
 
 -- so many sectors were read, and the stack that this left
 pub record PieceRead : Type 0 where
@@ -23,22 +25,34 @@ pub record PieceRead : Type 0 where
   pub found : Finding
   pub after : StackRecord
 
--- how the stack answered
-abbrev pub answer_of : Finding → Result (List ℕ) IoFault
-answer_of (had bytes) = Ok bytes
-answer_of (lost fault) = Err fault
-answer_of (again fault) = Err fault
+-- how the stack answered, and what this left
+abbrev pub Answers : StackRecord → ℕ → ℕ → ℕ → Finding → StackRecord → Type 0
+Answers w d first n (had bytes) w' = EachBytes w d first n (Ok bytes) w'
+Answers w d first n (lost fault) w' = EachBytes w d first n (Err fault) w'
+Answers w d first n (again fault) w' = EachBytes w d first n (Err fault) w'
+Answers w d first n kept w' = w' ≡ w
 
 -- Sectors are lost only by a read of one alone, or of some that are lost together; and want of memory is no loss.
 abbrev pub MayFind : Configuration → ℕ → ℕ → ℕ → Finding → Type 0
 MayFind c d first n (had bytes) = Unit {0}
 MayFind c d first n (lost fault) = AreAlike c d first n × (fault ≢ NoMemory)
 MayFind c d first n (again fault) = Unit {0}
+MayFind c d first n kept = 1 ≤ n
 
--- a piece of device d from sector first on, which the stack answered so
-pub record IsPieceRead (d first : ℕ) (w : StackRecord) (r : PieceRead) : Type 0 where
-  pub answered : EachBytes w d first r.count (answer_of r.found) r.after
+-- of each sector a mark says whether it was had before, and beyond the last mark none was: n sectors have this one
+abbrev pub AreMarked : List Bool → ℕ → ℕ → Bool → Type 0
+AreMarked marks first n mark = (j : ℕ) → j < n → slice_index_or marks (first + j) false ≡ mark
+
+-- the mark of sectors of which that was found
+abbrev pub mark_of : Finding → Bool
+mark_of kept = true
+mark_of other = false
+
+-- a piece of device d from sector first on, which the stack answered so, unless its sectors were had before
+pub record IsPieceRead (marks : List Bool) (d first : ℕ) (w : StackRecord) (r : PieceRead) : Type 0 where
+  pub answered : Answers w d first r.count r.found r.after
   pub may : MayFind w.config d first r.count r.found
+  pub marked : AreMarked marks first r.count (mark_of r.found)
 
 -- what became of a sector: it is had, or lost by that fault
 abbrev pub State : Type 0
@@ -48,6 +62,7 @@ abbrev pub states_found : ℕ → Finding → List State
 states_found n (had bytes) = replicate n None
 states_found n (lost fault) = replicate n (Some fault)
 states_found n (again fault) = []
+states_found n kept = replicate n None
 
 -- of the sectors of a piece, and of several pieces
 abbrev pub states_of : PieceRead → List State
@@ -56,7 +71,12 @@ states_of r = states_found r.count r.found
 abbrev pub all_states : List PieceRead → List State
 all_states reads = flat_map states_of reads
 
--- the pieces are read one after another, from sector first of device d on, and leave the stack w'
+-- The pieces are read one after another, from sector first of device d on, and leave the stack w'. A sector that was had
+-- before isn't in a piece that is read, and no other is kept.
+abbrev pub IsSurveyOver : List Bool → ℕ → ℕ → StackRecord → List PieceRead → StackRecord → Type 0
+IsSurveyOver marks d first w [] w' = w' ≡ w
+IsSurveyOver marks d first w (r ∷ more) w' = IsPieceRead marks d first w r × IsSurveyOver marks d (first + length (states_of r)) r.after more w'
+
+-- the same where no sector was had before
 abbrev pub IsSurvey : ℕ → ℕ → StackRecord → List PieceRead → StackRecord → Type 0
-IsSurvey d first w [] w' = w' ≡ w
-IsSurvey d first w (r ∷ more) w' = IsPieceRead d first w r × IsSurvey d (first + length (states_of r)) r.after more w'
+IsSurvey d first w reads w' = IsSurveyOver [] d first w reads w'

@@ -1,9 +1,9 @@
 //! A device that keeps nothing.
-ghost use Rattle.std.specs.Prelude.{◌≡◌, ◌≤◌, ◌^◌, ◌==◌, false, true, not, refl};
+ghost use Rattle.std.specs.Prelude.{◌≡◌, ◌≤◌, ◌^◌, false, true, refl};
 ghost use Rattle.block_device.specs.Device.{zeros_image};
 ghost use Rattle.block_device.specs.Whole.{whole_zeros};
 
-use block_device::{BlockDev, DeviceFault};
+use block_device::{BlockDev, DeviceFault, SyncDev};
 
 /// A device of so many sectors that takes every write, and keeps nothing of it. It never fails, and a read leaves the
 /// buffer as it is.
@@ -12,6 +12,7 @@ pub struct Discard {
     sectors: u64,
     reads: u64,
     writes: u64,
+    dirty: bool,
     ghost small: { sectors ≤ 2 ^ 54 },
 }
 
@@ -26,6 +27,7 @@ impl Discard {
             sectors,
             reads: 0,
             writes: 0,
+            dirty: false,
         }
     }
 }
@@ -36,12 +38,14 @@ impl BlockDev for Discard {
       may_write = true;
       steady = false;
       never_fails = true;
-      dirty = not (f.writes == 0);
+      dirty = f.dirty;
       image = zeros_image f.sectors;
       reads = f.reads;
       writes = f.writes;
       failures = 0;
     } };
+
+    ghost gives = { λ f first bytes. Unit {0} };
 
     ghost whole = { λ f. whole_zeros (⟦<Discard as BlockDev>⟧.state f) refl };
 
@@ -60,6 +64,7 @@ impl BlockDev for Discard {
 
     fn write(&mut self, _first: u64, bytes: &[u8]) -> Result<(), DeviceFault> {
         self.writes = self.writes.saturating_add(bytes.len() as u64 / 512);
+        self.dirty = true;
         Ok(())
     }
 
@@ -73,5 +78,17 @@ impl BlockDev for Discard {
 
     fn failures(&self) -> u64 {
         0
+    }
+}
+
+impl SyncDev for Discard {
+    fn is_dirty(&self) -> bool {
+        self.dirty
+    }
+
+    // There is nothing to put on a medium.
+    fn sync(&mut self) -> Result<(), DeviceFault> {
+        self.dirty = false;
+        Ok(())
     }
 }

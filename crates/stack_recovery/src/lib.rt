@@ -5,9 +5,11 @@ mod discard;
 mod fault;
 pub mod laws;
 mod lost_run;
+mod notes;
 mod pace;
 mod piece;
 mod recovery;
+mod rescued;
 mod tally;
 
 pub use discard::Discard;
@@ -15,4 +17,5 @@ pub use fault::RecoveryFault;
 pub use lost_run::{LostRun, is_same};
 pub use pace::Pace;
 pub use piece::{Piece, piece_at};
-pub use recovery::{Counts, recover};
+pub use recovery::{Counts, recover, recover_with};
+pub use rescued::{Rescued, rescue};

@@ -1,15 +1,20 @@
 //! Going over a mapped device from its first sector to its last.
-ghost use Rattle.std.specs.Prelude.{◌≡◌, ◌≤◌, ◌<◌, length, IsTrue, IfOk, IfErr};
+ghost use Rattle.std.specs.Prelude.{◌≡◌, ◌≤◌, ◌<◌, [], length, IsTrue, IfOk, IfErr, OnOk};
 ghost use Rattle.stack_rules.specs.Names.{mapped, size};
-ghost use Rattle.stack_recovery.specs.Recoveries.{IsRecoveryEnd, Recovers, sides};
+ghost use Rattle.std.specs.Option.{is_some};
+ghost use Rattle.rescue_map.specs.Aheads.{marks_ahead};
+ghost use Rattle.stack_recovery.specs.Recoveries.{GoesOver, IsNoted, IsRecoveryEnd, IsRescueEnd, Recovers, sides};
 
 use crate::fault::RecoveryFault;
 use crate::lost_run::{LostRun, is_same};
+use crate::notes::note;
 use crate::pace::Pace;
 use crate::piece::piece_at;
 use crate::tally::Tally;
 use block_device::BlockDev;
 use counted_io::Counted;
+use progress::{NoProgress, Progress};
+use rescue_map::{Ahead, Map};
 use stack_config::DevId;
 use stack_engine::{IoFault, Stack};
 use std::io::Write;
@@ -39,57 +44,127 @@ pub fn recover<D: BlockDev, O: BlockDev, W: Write>(
     ensures ok { IfOk result (λ counts. Recovers d.0 (sides stack.old (O.state out.old) (W.contents writer.old.inner)) counts (sides stack.new (O.state out.new) (W.contents writer.new.inner))) }
     ensures err { IfErr result (IsRecoveryEnd d.0 (sides stack.old (O.state out.old) (W.contents writer.old.inner)) (sides stack.new (O.state out.new) (W.contents writer.new.inner)) writer.new.failed) }
 {
-    let mut room = [0u8; ROOM];
-    recover_by(stack, d, out, writer, room.as_mut_slice())
+    recover_with(stack, d, out, writer, &mut NoProgress)
 }
 
-/// The same, each piece by that buffer.
-fn recover_by<D: BlockDev, O: BlockDev, W: Write>(
+/// The same, and tells how far it has come.
+pub fn recover_with<D: BlockDev, O: BlockDev, W: Write, P: Progress>(
     stack: &mut Stack<D>,
     d: DevId,
     out: &mut O,
     writer: &mut Counted<W>,
-    room: &mut [u8],
+    progress: &mut P,
 ) -> Result<Counts, RecoveryFault>
     requires device { d.0 < length stack.old.config.devices }
     requires room { size stack.old.config (mapped d.0) ≤ (O.state out.old).size }
     requires allowed { IsTrue (O.state out.old).may_write }
-    requires buffer { length room.old ≡ 65536 }
     ensures ok { IfOk result (λ counts. Recovers d.0 (sides stack.old (O.state out.old) (W.contents writer.old.inner)) counts (sides stack.new (O.state out.new) (W.contents writer.new.inner))) }
     ensures err { IfErr result (IsRecoveryEnd d.0 (sides stack.old (O.state out.old) (W.contents writer.old.inner)) (sides stack.new (O.state out.new) (W.contents writer.new.inner)) writer.new.failed) }
 {
+    let ahead = Ahead::unread(stack.config().sectors(d));
+    go_over(stack, d, out, ahead, &mut None, writer, progress)
+}
+
+/// Goes over all sectors, of which those that were had before aren't asked; the map that is made begins empty.
+pub(crate) fn go_over<D: BlockDev, O: BlockDev, W: Write, P: Progress>(
+    stack: &mut Stack<D>,
+    d: DevId,
+    out: &mut O,
+    ahead: Ahead<'_>,
+    noted: &mut Option<Map>,
+    writer: &mut Counted<W>,
+    progress: &mut P,
+) -> Result<Counts, RecoveryFault>
+    requires device { d.0 < length stack.old.config.devices }
+    requires fits { length (marks_ahead ahead) ≡ size stack.old.config (mapped d.0) }
+    requires room { size stack.old.config (mapped d.0) ≤ (O.state out.old).size }
+    requires allowed { IsTrue (O.state out.old).may_write }
+    requires begun { IsNoted noted.old [] }
+    ensures ok { IfOk result (λ counts. GoesOver (marks_ahead ahead.entry) d.0 (sides stack.old (O.state out.old) (W.contents writer.old.inner)) counts noted.new (sides stack.new (O.state out.new) (W.contents writer.new.inner))) }
+    ensures err { IfErr result (IsRescueEnd (marks_ahead ahead.entry) d.0 (sides stack.old (O.state out.old) (W.contents writer.old.inner)) (sides stack.new (O.state out.new) (W.contents writer.new.inner)) writer.new.failed) }
+    ensures noted { OnOk result (is_some noted.new ≡ is_some noted.old) }
+{
+    let mut room = [0u8; ROOM];
+    go_over_by(
+        stack,
+        d,
+        out,
+        ahead,
+        noted,
+        writer,
+        progress,
+        room.as_mut_slice(),
+    )
+}
+
+/// The same, each piece by that buffer.
+fn go_over_by<D: BlockDev, O: BlockDev, W: Write, P: Progress>(
+    stack: &mut Stack<D>,
+    d: DevId,
+    out: &mut O,
+    mut ahead: Ahead<'_>,
+    noted: &mut Option<Map>,
+    writer: &mut Counted<W>,
+    progress: &mut P,
+    room: &mut [u8],
+) -> Result<Counts, RecoveryFault>
+    requires device { d.0 < length stack.old.config.devices }
+    requires fits { length (marks_ahead ahead) ≡ size stack.old.config (mapped d.0) }
+    requires room { size stack.old.config (mapped d.0) ≤ (O.state out.old).size }
+    requires allowed { IsTrue (O.state out.old).may_write }
+    requires begun { IsNoted noted.old [] }
+    requires buffer { length room.old ≡ 65536 }
+    ensures ok { IfOk result (λ counts. GoesOver (marks_ahead ahead.entry) d.0 (sides stack.old (O.state out.old) (W.contents writer.old.inner)) counts noted.new (sides stack.new (O.state out.new) (W.contents writer.new.inner))) }
+    ensures err { IfErr result (IsRescueEnd (marks_ahead ahead.entry) d.0 (sides stack.old (O.state out.old) (W.contents writer.old.inner)) (sides stack.new (O.state out.new) (W.contents writer.new.inner)) writer.new.failed) }
+    ensures noted { OnOk result (is_some noted.new ≡ is_some noted.old) }
+{
+    // How many sectors a device can have is learned from a call.
+    let _fits = out.sectors();
     let sectors = stack.config().sectors(d);
     let mut tally = Tally::new();
     let mut pace = Pace::new();
     let mut at = 0;
     'pieces: while at < sectors {
-        let piece = piece_at(stack.config(), d, at, sectors, pace.most);
-        let count = u64::from(piece.count);
-        let bytes = &mut room[..piece.count as usize * 512];
-        match stack.read_bytes(d, at, bytes) {
-            Ok(()) => {
-                out.write(at, bytes)?;
-                tally.close(writer)?;
-                at += count;
-                pace = pace.after_bytes(piece.count, at);
-            }
-            Err(fault) => {
-                if is_same(fault, IoFault::NoMemory) {
-                    return Err(RecoveryFault::NoMemory);
-                }
-                if piece.alike {
-                    tally.lose(
-                        writer,
-                        LostRun {
-                            first: at,
-                            count,
-                            fault,
-                        },
-                    )?;
+        let run = ahead.next_run();
+        if run.had {
+            note(noted, run.count, true)?;
+            tally.close(writer)?;
+            ahead.pass(run.count);
+            at += run.count;
+        } else {
+            tell(progress, at, sectors);
+            let piece = piece_at(stack.config(), d, at, at + run.count, pace.most);
+            let count = u64::from(piece.count);
+            let bytes = &mut room[..piece.count as usize * 512];
+            match stack.read_bytes(d, at, bytes) {
+                Ok(()) => {
+                    note(noted, count, true)?;
+                    out.write(at, bytes)?;
+                    tally.close(writer)?;
+                    ahead.pass(count);
                     at += count;
-                    pace = Pace::after_loss();
-                } else {
-                    pace = Pace::after_failure(piece.count, at + count);
+                    pace = pace.after_bytes(piece.count, at);
+                }
+                Err(fault) => {
+                    if is_same(fault, IoFault::NoMemory) {
+                        return Err(RecoveryFault::NoMemory);
+                    }
+                    if piece.alike {
+                        note(noted, count, false)?;
+                        tally.lose(
+                            writer,
+                            LostRun {
+                                first: at,
+                                count,
+                                fault,
+                            },
+                        )?;
+                        ahead.pass(count);
+                        at += count;
+                        pace = Pace::after_loss();
+                    } else {
+                        pace = Pace::after_failure(piece.count, at + count);
+                    }
                 }
             }
         }
@@ -99,4 +174,9 @@ fn recover_by<D: BlockDev, O: BlockDev, W: Write>(
         read: sectors - tally.lost,
         lost: tally.lost,
     })
+}
+
+// So many sectors are done of so many.
+fn tell<P: Progress>(progress: &mut P, done: u64, all: u64) {
+    progress.tell(done.saturating_mul(512), Some(all.saturating_mul(512)));
 }

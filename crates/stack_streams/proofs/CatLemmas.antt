@@ -9,7 +9,7 @@ use Rattle.stack_rules.specs.Names.{mapped}
 use Rattle.stack_meaning.specs.declared.fault.IoFault.{IoFault}
 use Rattle.stack_meaning.specs.declared.fault.IoFault.TheVariants as io
 use Rattle.stack_meaning.specs.Found.{FoundRecord}
-use Rattle.stack_meaning.specs.Leaves.{AllSteady, images_of}
+use Rattle.stack_meaning.specs.Leaves.{AreSteady, steady_images}
 use Rattle.stack_meaning.specs.Meaning.{said_at, sector}
 use Rattle.stack_meaning.specs.Reading.{MeetVerity}
 use Rattle.stack_meaning.specs.Sectors.{IsRun}
@@ -19,7 +19,7 @@ use Rattle.stack_lines.proofs.lemmas.TouchLemmas.{touches-none, touches-then, to
 use Rattle.stack_engine.specs.Bytes.{EachBytes, IsGoodChain, MayBeBytes}
 use Rattle.stack_engine.specs.Stacks.{StackRecord}
 use Rattle.stack_meaning.proofs.lemmas.FoundLemmas.{HasMore, said_at-mono, used-append}
-use Rattle.stack_meaning.proofs.lemmas.LeafListLemmas.{AllSteady-kept, AreRead-none, AreRead-then, images-kept}
+use Rattle.stack_meaning.proofs.lemmas.LeafListLemmas.{AreSteady-kept, AreRead-none, AreRead-then, images-kept}
 use Rattle.stack_meaning.proofs.lemmas.RunLemmas.{run-append, run-may}
 use Rattle.stack_meaning.proofs.lemmas.SpanLemmas.{span-add}
 use Rattle.stack_recovery.specs.Alike.{AreAlike}
@@ -74,10 +74,14 @@ cat-none d first old = record {
 
 module _ (d first k : ℕ) (old now : CatSide) (p : IsCat d first k old now) (n : ℕ) (stack : StackRecord) where
   -- what a sector means over the leaves of now, it means over those of old
-  same-meaning : AllSteady old.stack.leaves → sector now.stack.config (images_of now.stack.leaves) (mapped d) ≡ sector old.stack.config (images_of old.stack.leaves) (mapped d)
-  same-meaning steady =
-      ap (λ (c : Configuration). sector c (images_of now.stack.leaves) (mapped d)) p.config
-      ∙ ap (λ (i : Images). sector old.stack.config i (mapped d)) (images-kept p.moved steady)
+  same-meaning : sector now.stack.config (steady_images now.stack.leaves) (mapped d) ≡ sector old.stack.config (steady_images old.stack.leaves) (mapped d)
+  same-meaning =
+      ap (λ (c : Configuration). sector c (steady_images now.stack.leaves) (mapped d)) p.config
+      ∙ ap (λ (i : Images). sector old.stack.config i (mapped d)) (images-kept p.moved)
+
+  -- they are as steady as before
+  steady-now : AreSteady (leaves_of old.stack.config (mapped d)) old.stack.leaves → AreSteady (leaves_of now.stack.config (mapped d)) now.stack.leaves
+  steady-now steady = subst (λ (c : Configuration). AreSteady (leaves_of c (mapped d)) now.stack.leaves) (sym p.config) (AreSteady-kept old.stack.leaves now.stack.leaves p.moved.moved.fixed steady)
 
   -- a piece that was had, and written
   pub cat-had : (bytes : List ℕ) (written : Option (List ℕ)) → EachBytes now.stack d (first + k) n (Ok bytes) stack → Appends now.written written bytes → IsCat d first (k + n) old (cat_side stack written)
@@ -90,9 +94,9 @@ module _ (d first k : ℕ) (old now : CatSide) (p : IsCat d first k old now) (n 
     touches = touches-as (Ok (p.bytes ++ bytes)) tt (touches-then p.touches (subst (λ (c : Configuration). TouchesOnly {A = List ℕ} (leaves_of c (mapped d)) now.stack.leaves stack.leaves (Ok bytes)) p.config q.any.touches));
     may = bytes-then old.stack.config (mapped d) first k n p.bytes bytes p.may (subst (λ (c : Configuration). MayBeBytes c (mapped d) (first + k) n bytes) p.config q.any.may);
     exact = λ steady.
-        let f : ℕ → Outcome = sector old.stack.config (images_of old.stack.leaves) (mapped d) in
+        let f : ℕ → Outcome = sector old.stack.config (steady_images old.stack.leaves) (mapped d) in
         span-then f first k n p.bytes bytes (p.exact steady)
-        (ap (λ (g : ℕ → Outcome). span g (first + k) n) (sym (same-meaning steady)) ∙ (q.steady (AllSteady-kept old.stack.leaves now.stack.leaves p.moved.moved.fixed steady)).exact);
+        (ap (λ (g : ℕ → Outcome). span g (first + k) n) (sym same-meaning) ∙ (q.steady (steady-now steady)).exact);
     written = Appends-trans old.written now.written written p.bytes bytes p.written told;
   }
 
@@ -110,13 +114,13 @@ module _ (d first k : ℕ) (old now : CatSide) (p : IsCat d first k old now) (n 
     written = p.written;
   }
 
-  means-fault : (fault : IoFault) → EachBytes now.stack d (first + k) n (Err fault) stack → (fault ≢ io.NoMemory → AreAlike old.stack.config d (first + k) n) → AllSteady old.stack.leaves
-      → MeansFault (sector old.stack.config (images_of old.stack.leaves) (mapped d) (first + k)) fault
+  means-fault : (fault : IoFault) → EachBytes now.stack d (first + k) n (Err fault) stack → (fault ≢ io.NoMemory → AreAlike old.stack.config d (first + k) n) → AreSteady (leaves_of old.stack.config (mapped d)) old.stack.leaves
+      → MeansFault (sector old.stack.config (steady_images old.stack.leaves) (mapped d) (first + k)) fault
   means-fault (io.Stack fault) q alike steady =
-      let f : ℕ → Outcome = sector old.stack.config (images_of old.stack.leaves) (mapped d) in
+      let f : ℕ → Outcome = sector old.stack.config (steady_images old.stack.leaves) (mapped d) in
       let kind : io.Stack fault ≢ io.NoMemory = λ e. cc in
-      first-lost old.stack.config (images_of old.stack.leaves) d (first + k) n fault (alike kind)
-      (ap (λ (g : ℕ → Outcome). span g (first + k) n) (sym (same-meaning steady)) ∙ (q.steady (AllSteady-kept old.stack.leaves now.stack.leaves p.moved.moved.fixed steady)).exact)
+      first-lost old.stack.config (steady_images old.stack.leaves) d (first + k) n fault (alike kind)
+      (ap (λ (g : ℕ → Outcome). span g (first + k) n) (sym same-meaning) ∙ (q.steady (steady-now steady)).exact)
   means-fault (io.Device i) q alike steady = tt
   means-fault io.NoMemory q alike steady = tt
 

@@ -1,3 +1,4 @@
 mod CatLemmas
 mod FillLemmas
+mod ImageLemmas
 mod StoreLemmas

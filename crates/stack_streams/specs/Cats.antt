@@ -4,7 +4,7 @@ use Rattle.std.specs.Io.KnownBytes.{Appends}
 use Rattle.stack_rules.specs.Names.{mapped, size}
 use Rattle.stack_meaning.specs.declared.fault.IoFault.{IoFault}
 use Rattle.stack_meaning.specs.declared.fault.IoFault.TheVariants as io
-use Rattle.stack_meaning.specs.Leaves.{AllSteady, AreRead, images_of}
+use Rattle.stack_meaning.specs.Leaves.{AreSteady, AreRead, steady_images}
 use Rattle.stack_meaning.specs.Meaning.{said_at, sector}
 use Rattle.stack_meaning.specs.Outcomes.{Outcome, span}
 use Rattle.stack_meaning.specs.Reading.{MeetVerity}
@@ -25,7 +25,7 @@ abbrev pub cat_side : StackRecord → Option (List ℕ) → CatSide
 cat_side stack written = record { stack = stack; written = written }
 
 -- The bytes of k sectors of device d from the first on were written out, and nothing else: over any leaves bytes for which
--- there are good chains, over steady ones what the stack means. Leaves were read alone, and only those on which the device
+-- there are good chains, where those beneath are steady what the stack means. Leaves were read alone, and only those on which the device
 -- stands.
 pub record IsCat (d first k : ℕ) (old new : CatSide) : Type 0 where
   pub bytes : List ℕ
@@ -35,7 +35,7 @@ pub record IsCat (d first k : ℕ) (old new : CatSide) : Type 0 where
   pub moved : AreRead old.stack.leaves most new.stack.leaves
   pub touches : TouchesOnly (leaves_of old.stack.config (mapped d)) old.stack.leaves new.stack.leaves (Ok bytes)
   pub may : MayBeBytes old.stack.config (mapped d) first k bytes
-  pub exact : AllSteady old.stack.leaves → span (sector old.stack.config (images_of old.stack.leaves) (mapped d)) first k ≡ Ok bytes
+  pub exact : AreSteady (leaves_of old.stack.config (mapped d)) old.stack.leaves → span (sector old.stack.config (steady_images old.stack.leaves) (mapped d)) first k ≡ Ok bytes
   pub written : Appends old.written new.written bytes
 
 -- a sector means this fault, where it is one that a sector may mean
@@ -55,7 +55,7 @@ pub record IsCatStop (d first count : ℕ) (old new : CatSide) (fault : IoFault)
   pub read : EachBytes left d (first + k) n (Err fault) new.stack
   pub memory : fault ≡ io.NoMemory → MeetVerity (said_at old.stack.config (mapped d)) (first + k) n
   pub alike : fault ≢ io.NoMemory → AreAlike old.stack.config d (first + k) n
-  pub means : AllSteady old.stack.leaves → MeansFault (sector old.stack.config (images_of old.stack.leaves) (mapped d) (first + k)) fault
+  pub means : AreSteady (leaves_of old.stack.config (mapped d)) old.stack.leaves → MeansFault (sector old.stack.config (steady_images old.stack.leaves) (mapped d) (first + k)) fault
 
 -- why it ended early, where the last says whether the writer failed
 abbrev pub IsCatEnd : ℕ → SectorRange → CatSide → CatSide → Bool → CatFault → Type 0

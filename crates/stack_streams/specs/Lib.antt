@@ -1,3 +1,4 @@
 pub mod Cats
 pub mod Filling
+pub mod Images
 pub mod Stores

@@ -24,12 +24,12 @@ pub struct StorePlace {
 }
 
 /// The bytes of the longest piece.
-const ROOM: usize = 65536;
+pub(crate) const ROOM: usize = 65536;
 
-const MOST_PIECE: u64 = 128;
+pub(crate) const MOST_PIECE: u64 = 128;
 
 // Why nothing is written, as far as that is known before.
-fn refusal_of(config: &Config, d: DevId, place: StorePlace) -> Option<StoreCause>
+pub(crate) fn refusal_of(config: &Config, d: DevId, place: StorePlace) -> Option<StoreCause>
     requires { d.0 < length config.now.devices }
     ensures { result ≡ refusal_of config.now d.0 place }
 {
@@ -79,7 +79,7 @@ pub fn store<D: SyncDev, R: Read, P: Progress>(
 }
 
 // Has what was written put on the media.
-fn sync_stored<D: SyncDev>(stack: &mut Stack<D>, written: u64) -> Result<u64, StoreFault>
+pub(crate) fn sync_stored<D: SyncDev>(stack: &mut Stack<D>, written: u64) -> Result<u64, StoreFault>
     ensures ok { IfOk result (λ n. (n ≡ written) × IsSynced stack.old stack.new) }
     ensures err { IfErr result (λ fault. (fault.written ≡ written) × IsUnsynced fault.cause stack.old stack.new) }
 {
@@ -200,6 +200,6 @@ fn store_last<D: BlockDev>(
 }
 
 // So many sectors are done of so many bytes.
-fn tell<P: Progress>(progress: &mut P, done: u64, all: Option<u64>) {
+pub(crate) fn tell<P: Progress>(progress: &mut P, done: u64, all: Option<u64>) {
     progress.tell(done.saturating_mul(512), all);
 }

@@ -59,7 +59,7 @@ impl<R: Files<File = File> + AllocGlobal> Texts for FileTexts<'_, R> {
 
     // The new text is written beside the old one, and then put in its place at once.
     fn replace(&mut self, path: &str, bytes: &[u8]) -> Result<(), ReplaceFault> {
-        let Ok(beside) = format!(in self.rt.alloc(); "{path}.new") else {
+        let Ok(beside) = format!(in self.rt.alloc(); "{path}.dmstack-new") else {
             return Err(ReplaceFault::NoMemory);
         };
         write_synced(self.rt, beside.as_str(), bytes)?;

@@ -1,7 +1,7 @@
 use Rattle.std.proofs.Common.{inl, inr}
 use Rattle.stack_opening.specs.declared.fault.OpeningFault.TheVariants.{Open}
 use Rattle.stack_opening.proofs.OpeningLemmas.{err-from}
-use Rattle.stack_opening.proofs.stack_file.open_with_output.Goals as goal
+use Rattle.stack_opening.proofs.stack_file.open_beside.Goals as goal
 
 pub returns-in_err-image-clause-err : goal.returns-in_err-image-clause-err
 returns-in_err-image-clause-err g c =

@@ -1,20 +1,24 @@
-use Rattle.std.proofs.Common.{◌≡◌, ◌-◌, ◌+◌, ◌*◌, ◌≤◌}
+use Rattle.std.proofs.Common.{◌≡◌, ◌-◌, ◌+◌, ◌*◌, ◌≤◌, ◌^◌, drop, is_some}
 use Rattle.stack_rules.specs.Names.{mapped, size}
+use Rattle.rescue_map.specs.Aheads.{marks_ahead}
 use Rattle.stack_recovery.specs.Pieces.{IsPace}
 use Rattle.stack_recovery.specs.Recoveries.{sides}
 use Rattle.stack_recovery.proofs.UnderwayLemmas.{IsUnderway}
-use Rattle.stack_recovery.proofs.recovery.recover_by.Given as goal
+use Rattle.stack_recovery.proofs.recovery.go_over_by.Given as goal
 
 -- the sectors before this one are had or lost
 abbrev pub invariant-pieces : goal.invariant-pieces
 invariant-pieces g l = record {
-  so_far : IsUnderway l.fn.d.0 (sides l.fn.stack (g.O.BlockDev.state l.fn.out) (g.W.Write.contents l.fn.writer.inner)) (sides l.stack (g.O.BlockDev.state l.out) (g.W.Write.contents l.writer.inner)) l.at l.tally;
+  so_far : IsUnderway (marks_ahead l.fn.ahead) l.fn.d.0 (sides l.fn.stack (g.O.BlockDev.state l.fn.out) (g.W.Write.contents l.fn.writer.inner)) (sides l.stack (g.O.BlockDev.state l.out) (g.W.Write.contents l.writer.inner)) l.at l.tally l.noted;
+  ahead : drop l.at (marks_ahead l.fn.ahead) ≡ marks_ahead l.ahead;
   config : l.stack.config ≡ l.fn.stack.config;
   within : l.at ≤ l.sectors;
   all : l.sectors ≡ size l.fn.stack.config (mapped l.d.0);
+  few : l.sectors ≤ 2 ^ 54;
   pace : IsPace l.pace.most;
   kept : l.writer.failed ≡ l.fn.writer.failed;
   unfailed : (g.O.BlockDev.state l.out).failures ≡ (g.O.BlockDev.state l.fn.out).failures;
+  noted : is_some l.noted ≡ is_some l.fn.noted;
 }
 
 -- a piece that is lost in part makes the next one shorter

@@ -1,0 +1,2 @@
+mod MapFileLemmas
+mod TurnLemmas

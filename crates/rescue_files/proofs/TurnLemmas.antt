@@ -1,0 +1,97 @@
+-- A turn over a device.
+use Rattle.std.proofs.Common.{◌≡◌, ◌⊎◌, ℕ, suc, ◌+◌, ◌-◌, ◌<◌, ◌^◌, Bool, IsTrue, List, [], ◌∷◌, length, map, Result, Ok, Err, IfErr, IsErrAnd, refl, sym, ap, ◌∙◌, subst}
+use Rattle.block_device.specs.Device.{Device, HasFailed, IsSameDevice}
+use Rattle.rescue_map.specs.declared.map.Run.{Run}
+use Rattle.rescue_map.specs.Maps.{marks, totals_of}
+use Rattle.stack_rules.specs.Names.{mapped, size}
+use Rattle.stack_engine.specs.Stacks.{StackRecord}
+use Rattle.stack_recovery.specs.declared.rescued.Rescued.{Rescued}
+use Rattle.rescue_files.specs.declared.fault.RescueFault.{RescueFault}
+use Rattle.rescue_files.specs.declared.fault.RescueFault.TheVariants.{NoMap, NoMemory, Output, TooLong, Unread, Unwritten, Write}
+use Rattle.rescue_files.specs.MapFiles.{recovery_ending}
+use Rattle.text_files.specs.declared.texts.ReplaceFault.{ReplaceFault}
+use Rattle.rescue_map.specs.declared.totals.Totals.{Totals}
+use Rattle.rescue_files.specs.Turns.{IsTurnsEnd, IsUnwritten, Kept, Progressed, RescuesInTurns, StopsIn, Turn, Turns, kept as kept_by, progressed}
+use Rattle.stack_recovery.specs.declared.fault.RecoveryFault.{RecoveryFault}
+use Rattle.stack_recovery.specs.declared.fault.RecoveryFault.TheVariants as recovery
+use Rattle.stack_recovery.specs.Recoveries.{IsRescueEnd, Rescues, Sides, is_had}
+use Rattle.stack_recovery.specs.Surveys.{Answers, Finding, IsSurveyOver, PieceRead, State, again, had, kept, lost, states_of}
+
+length-map : (states : List State) → length (map is_had states) ≡ length states
+length-map [] = refl
+length-map (x ∷ states) = ap suc (length-map states)
+
+-- the map that was made is of all sectors
+pub rescued-sectors : (before : List Bool) (d : ℕ) (old : Sides) (rescued : Rescued) (new : Sides) → Rescues before d old rescued new → length (marks rescued.map) ≡ size old.stack.config (mapped d)
+rescued-sectors before d old rescued new r = ap length r.noted ∙ length-map _ ∙ r.whole
+
+answers-config : (w : StackRecord) (d first n : ℕ) (found : Finding) (w' : StackRecord) → Answers w d first n found w' → w'.config ≡ w.config
+answers-config w d first n (had bytes) w' a = a.any.config
+answers-config w d first n (lost fault) w' a = a.any.config
+answers-config w d first n (again fault) w' a = a.any.config
+answers-config w d first n kept w' a = ap (λ (s : StackRecord). s.config) a
+
+survey-config : (before : List Bool) (d first : ℕ) (w : StackRecord) (reads : List PieceRead) (w' : StackRecord) → IsSurveyOver before d first w reads w' → w'.config ≡ w.config
+survey-config before d first w [] w' s = ap (λ (t : StackRecord). t.config) s
+survey-config before d first w (r ∷ more) w' s =
+    survey-config before d (first + length (states_of r)) r.after more w' s.1 ∙ answers-config w d first r.count r.found r.after s.0.answered
+
+-- the configuration stays
+pub rescued-config : (before : List Bool) (d : ℕ) (old : Sides) (rescued : Rescued) (new : Sides) → Rescues before d old rescued new → new.stack.config ≡ old.stack.config
+rescued-config before d old rescued new r = survey-config before d 0 old.stack r.reads new.stack r.survey
+
+-- a failure behind a copy that had none
+pub failed-behind : (old left new : Device) → left.failures ≡ old.failures → HasFailed left new → HasFailed old new
+failed-behind old left new same failed = subst (λ (n : ℕ). (n < new.failures) ⊎ (n ≡ 2 ^ 64 - 1)) same failed
+
+-- what holds of a fault holds of the result that hands it on
+pub err-from : {T E : Type 0} (r : Result T E) (P : E → Type 0) (fault : E) → IsErrAnd r (λ e. e ≡ fault) → P fault → IfErr r P
+err-from (Ok done) P fault is holds = tt
+err-from (Err e) P fault is holds = subst P (sym is) holds
+
+-- ---- a turn that ends early
+
+pub stops-rescue : {S : Type 0} (k : Kept S) (now : Progressed S) (before : List Bool) (new : Sides) (failed : Bool) (fault : RecoveryFault)
+    → IsRescueEnd before k.d now.sides new failed fault → StopsIn k now now.images new failed (recovery_ending fault)
+stops-rescue k now before new failed recovery.NoMemory e = refl
+stops-rescue k now before new failed recovery.Output e = (refl, e.1.0, e.1.1)
+stops-rescue k now before new failed recovery.Write e = (refl, e)
+
+pub stops-unwritten : {S : Type 0} (k : Kept S) (now : Progressed S) (text : List ℕ) (images : S) (new : Sides) (failed : Bool) (fault : RescueFault)
+    → IsUnwritten k.replaces k.path now.images text images fault → StopsIn k now images new failed fault
+stops-unwritten k now text images new failed NoMemory e = e
+stops-unwritten k now text images new failed (Unread cause) e = absurd e
+stops-unwritten k now text images new failed TooLong e = absurd e
+stops-unwritten k now text images new failed (NoMap cause) e = absurd e
+stops-unwritten k now text images new failed Output e = absurd e
+stops-unwritten k now text images new failed Write e = absurd e
+stops-unwritten k now text images new failed (Unwritten cause) e = (text, e)
+
+-- the device stays one, of that size, which may be written
+pub rescued-out : (before : List Bool) (d : ℕ) (old : Sides) (rescued : Rescued) (new : Sides) → Rescues before d old rescued new → IsSameDevice old.out new.out
+rescued-out before d old rescued new r = r.copied.same
+
+-- ---- turns one after another
+
+pub turn-config : {S : Type 0} (k : Kept S) (old new : Progressed S) → Turn k old new → new.sides.stack.config ≡ old.sides.stack.config
+turn-config k old new t = ap (λ (s : Sides). s.stack.config) t.on_medium ∙ rescued-config _ k.d old.sides t.rescued t.left t.rescues
+
+pub turn-out : {S : Type 0} (k : Kept S) (old new : Progressed S) → Turn k old new → (new.sides.out.size ≡ old.sides.out.size) × (IsTrue old.sides.out.may_write → IsTrue new.sides.out.may_write)
+turn-out k old new t =
+    let same = rescued-out _ k.d old.sides t.rescued t.left t.rescues in
+    (ap (λ (s : Sides). s.out.size) t.on_medium ∙ same.size, λ h. subst IsTrue (sym (ap (λ (s : Sides). s.out.may_write) t.on_medium ∙ same.may_write)) h)
+
+-- the size of the device as it was told
+pub ends-as : {S : Type 0} (replaces : S → List ℕ → List ℕ → Result (Unit {0}) ReplaceFault → S → Type 0) (path : List ℕ) (d m n : ℕ) (first now : Progressed S) (images : S) (new : Sides) (failed : Bool) (fault : RescueFault)
+    → m ≡ n → Turns (kept_by replaces path d m) first now → StopsIn (kept_by replaces path d m) now images new failed fault → IsTurnsEnd (kept_by replaces path d n) first images new failed fault
+ends-as replaces path d m n first now images new failed fault e t s =
+    subst (λ (k : ℕ). IsTurnsEnd (kept_by replaces path d k) first images new failed fault) e (record { now = now; turns = t; stops = s })
+
+pub whole-as : {S : Type 0} (replaces : S → List ℕ → List ℕ → Result (Unit {0}) ReplaceFault → S → Type 0) (path : List ℕ) (d m n at : ℕ) (first : Progressed S) (images : S) (new : Sides) (runs : List Run) (totals : Totals)
+    → m ≡ n → at ≡ m → Turns (kept_by replaces path d m) first (progressed images new runs at) → totals ≡ totals_of runs → RescuesInTurns (kept_by replaces path d n) first images new totals
+whole-as replaces path d m n at first images new runs totals e here t counted =
+    subst (λ (k : ℕ). RescuesInTurns (kept_by replaces path d k) first images new totals) e (record {
+      runs = runs;
+      turns = subst (λ (k : ℕ). Turns (kept_by replaces path d m) first (progressed images new runs k)) here t;
+      counted = counted;
+    })

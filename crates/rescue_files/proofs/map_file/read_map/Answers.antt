@@ -1,0 +1,46 @@
+use Rattle.std.proofs.Common.{◌≡◌, ℕ, false, List, length, Ok, Err, sym, ap, subst, ◌∙◌, arith, inl, inr}
+use Rattle.std.proofs.lemmas.List.{length-replicate}
+use Rattle.std.proofs.lemmas.Result.{IfErr-weaker, IfOk-weaker}
+use Rattle.block_device.specs.declared.open_fault.OpenFault.{OpenFault}
+use Rattle.image_files.specs.Opener.{calls}
+use Rattle.rescue_map.specs.MapText.{IsMapAnswer, map_of}
+use Rattle.rescue_files.specs.declared.fault.RescueFault.{RescueFault}
+use Rattle.rescue_files.specs.MapFiles.{IsUnread, most_map}
+use Rattle.rescue_files.proofs.MapFileLemmas.{missing-is, told-fault}
+use Rattle.rescue_files.proofs.map_file.read_map.Goals as goal
+
+pub returns-then-len-gt-MOST_TEXT-clause-err : goal.returns-then-len-gt-MOST_TEXT-clause-err
+returns-then-len-gt-MOST_TEXT-clause-err g c = (c.in-Ok.text, c.in-Ok.ensures.told, omega (arith, c.len.ensures, c.if-len-gt-MOST_TEXT.true))
+
+pub returns-in-Ok-parse_map-clause-ok : goal.returns-in-Ok-parse_map-clause-ok
+returns-in-Ok-parse_map-clause-ok g c = inl (record {
+  text = c.in-Ok.text;
+  told = c.in-Ok.ensures.told;
+  says = subst (λ (l : List ℕ). map_of c.args.sectors l ≡ Ok c.in-Ok-parse_map.map) c.as_slice.ensures.value c.in-Ok-parse_map.ensures.answer;
+})
+
+pub returns-in-Ok-clause-err : goal.returns-in-Ok-clause-err
+returns-in-Ok-clause-err g c = (
+  c.in-Ok.text,
+  c.in-Ok.ensures.told,
+  told-fault c.in-Err-parse_map.fault (map_of c.args.sectors c.in-Ok.text.bytes.items)
+      (subst (λ (l : List ℕ). IsMapAnswer (Err c.in-Err-parse_map.fault) (map_of c.args.sectors l)) c.as_slice.ensures.value c.in-Err-parse_map.ensures.answer),
+)
+
+pub returns-then-is_missing-clause-ok : goal.returns-then-is_missing-clause-ok
+returns-then-is_missing-clause-ok g c =
+    let missing = missing-is c.in-Err.fault (sym c.is_missing.ensures ∙ c.if-is_missing.true) in
+    let told = subst (λ (f : OpenFault). g.I.Images.relations.tells c.args.images.now c.args.path.now most_map (Err f) c.read_text.new.self) missing c.in-Err.ensures.told in
+    IfOk-weaker c.new_map.result _ _ (λ map is. inr (record { missing = told; unread = is })) c.new_map.ensures.ok
+
+pub returns-then-is_missing-clause-sectors : goal.returns-then-is_missing-clause-sectors
+returns-then-is_missing-clause-sectors g c = IfOk-weaker c.new_map.result _ _ (λ map is. ap length is ∙ length-replicate c.args.sectors false) c.new_map.ensures.ok
+
+pub returns-then-is_missing-clause-err : goal.returns-then-is_missing-clause-err
+returns-then-is_missing-clause-err g c =
+    let missing = missing-is c.in-Err.fault (sym c.is_missing.ensures ∙ c.if-is_missing.true) in
+    let told = subst (λ (f : OpenFault). g.I.Images.relations.tells c.args.images.now c.args.path.now most_map (Err f) c.read_text.new.self) missing c.in-Err.ensures.told in
+    IfErr-weaker c.new_map.result _ _ (λ fault is. subst (λ (f : RescueFault). IsUnread (calls g.I.Images.relations g.I.Dev.BlockDev.state c.args.images.now c.read_text.new.self) c.args.path.now c.args.sectors f) (sym is) told) c.new_map.ensures.err
+
+pub returns : goal.returns
+returns g c = record { ok = tt; sectors = tt; err = (sym c.is_missing.ensures ∙ c.if-is_missing.false, c.in-Err.ensures.told) }

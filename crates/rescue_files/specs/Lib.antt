@@ -1,0 +1,2 @@
+pub mod MapFiles
+pub mod Turns

@@ -1,0 +1,107 @@
+-- A device that is gone over in turns, behind each of which its map is put in the place of the one before.
+use Rattle.std.specs.Prelude.{◌≡◌, ℕ, ◌+◌, ◌/◌, ◌≤◌, ◌==◌, max, Bool, true, IsTrue, List, replicate, Option, Some, None, Result, Ok, Err, if◌then◌else◌}
+use Rattle.std.specs.List.{list_all}
+use Rattle.block_device.specs.Device.{HasFailed, synced}
+use Rattle.rescue_map.specs.declared.map.Run.{Run}
+use Rattle.rescue_map.specs.declared.splicing.Span.{Span}
+use Rattle.rescue_map.specs.Maps.{marks, spliced, totals_of}
+use Rattle.rescue_map.specs.MapText.{map_text}
+use Rattle.rescue_map.specs.declared.totals.Totals.{Totals}
+use Rattle.stack_recovery.specs.declared.rescued.Rescued.{Rescued}
+use Rattle.stack_recovery.specs.Recoveries.{Rescues, Sides, sides}
+use Rattle.text_files.specs.declared.texts.ReplaceFault.{ReplaceFault}
+use Rattle.rescue_files.specs.declared.fault.RescueFault.{RescueFault}
+use Rattle.rescue_files.specs.declared.fault.RescueFault.TheVariants.{NoMemory, Output, Unwritten, Write}
+
+-- a device of so many sectors, the path of its map, and what puts bytes under a path
+pub record Kept (S : Type 0) : Type 1 where
+  pub replaces : S → List ℕ → List ℕ → Result (Unit {0}) ReplaceFault → S → Type 0
+  pub path : List ℕ
+  pub d : ℕ
+  pub sectors : ℕ
+
+abbrev pub kept : {S : Type 0} → (S → List ℕ → List ℕ → Result (Unit {0}) ReplaceFault → S → Type 0) → List ℕ → ℕ → ℕ → Kept S
+kept replaces path d sectors = record { replaces = replaces; path = path; d = d; sectors = sectors }
+
+-- the opener, the stack with what is copied and printed, and the map; the sectors before `at` are done
+pub record Progressed (S : Type 0) : Type 0 where
+  pub images : S
+  pub sides : Sides
+  pub runs : List Run
+  pub at : ℕ
+
+abbrev pub progressed : {S : Type 0} → S → Sides → List Run → ℕ → Progressed S
+progressed images sides runs at = record { images = images; sides = sides; runs = runs; at = at }
+
+-- 64 MiB, or a 256th of a larger device
+unfoldable pub turn_len : ℕ → ℕ
+turn_len sectors = max 131072 (sectors / 256)
+
+-- those of the span as the map says; all others count as had, so that they aren't asked
+abbrev pub asked : Span → ℕ → List Run → List Bool
+asked span sectors runs = spliced span (replicate sectors true) (marks runs)
+
+-- of a map that is put in the place of the one before: the sectors before that one were tried, or all
+abbrev pub tried_before : ℕ → ℕ → Option ℕ
+tried_before sectors at = if at == sectors then None else Some at
+
+-- the next sectors
+pub record IsSpan (sectors at : ℕ) (span : Span) (at' : ℕ) : Type 0 where
+  pub first : span.first ≡ at
+  pub some : 1 ≤ span.count
+  pub few : span.count ≤ turn_len sectors
+  pub end : at' ≡ at + span.count
+  pub inside : at' ≤ sectors
+
+-- A turn: of the next sectors those that weren't had were asked, what was had was copied and is on the medium, and then the
+-- map that says so was put in the place of the old one.
+pub record Turn {S : Type 0} (k : Kept S) (old new : Progressed S) : Type 0 where
+  pub span : Span
+  pub next : IsSpan k.sectors old.at span new.at
+  pub left : Sides
+  pub rescued : Rescued
+  pub rescues : Rescues (asked span k.sectors old.runs) k.d old.sides rescued left
+  pub on_medium : new.sides ≡ sides left.stack (synced left.out) left.printed
+  pub map : marks new.runs ≡ spliced span (marks old.runs) (marks rescued.map)
+  pub written : k.replaces old.images k.path (map_text (tried_before k.sectors new.at) new.runs) (Ok tt) new.images
+
+-- all of the next sectors were had before, so that nothing is done
+pub record IsPassed {S : Type 0} (k : Kept S) (old new : Progressed S) : Type 0 where
+  pub span : Span
+  pub next : IsSpan k.sectors old.at span new.at
+  pub runs : List Run
+  pub asked : marks runs ≡ asked span k.sectors old.runs
+  pub none : list_all (λ run. run.had) runs ≡ true
+  pub same : new ≡ record old { at = new.at }
+
+pub data Turns {S : Type 0} (k : Kept S) (first : Progressed S) : Progressed S → Type 0 where
+  begins : Turns k first first
+  goes_on : {now next : Progressed S} → Turns k first now → Turn k now next → Turns k first next
+  passes : {now next : Progressed S} → Turns k first now → IsPassed k now next → Turns k first next
+
+-- all sectors are done, and the totals are those of the last map
+pub record RescuesInTurns {S : Type 0} (k : Kept S) (first : Progressed S) (images : S) (sides : Sides) (totals : Totals) : Type 0 where
+  pub runs : List Run
+  pub turns : Turns k first (progressed images sides runs k.sectors)
+  pub counted : totals ≡ totals_of runs
+
+-- a map isn't put in the place of the one before: its text is refused, or memory ran out before
+abbrev pub IsUnwritten : {S : Type 0} → (S → List ℕ → List ℕ → Result (Unit {0}) ReplaceFault → S → Type 0) → List ℕ → S → List ℕ → S → RescueFault → Type 0
+IsUnwritten replaces path old text new NoMemory = new ≡ old
+IsUnwritten replaces path old text new (Unwritten fault) = replaces old path text (Err fault) new
+IsUnwritten replaces path old text new other = ⊥
+
+-- why the turn behind some ended early, where the last but one says whether the writer failed: the map that stands is the last
+-- one that was put in its place
+abbrev pub StopsIn : {S : Type 0} → Kept S → Progressed S → S → Sides → Bool → RescueFault → Type 0
+StopsIn k now images new failed NoMemory = images ≡ now.images
+StopsIn k now images new failed Output = (images ≡ now.images) × HasFailed now.sides.out new.out × (IsTrue now.sides.out.never_fails → ⊥)
+StopsIn k now images new failed Write = (images ≡ now.images) × (failed ≡ true)
+StopsIn k now images new failed (Unwritten fault) = (text : List ℕ) × k.replaces now.images k.path text (Err fault) images
+StopsIn k now images new failed other = ⊥
+
+-- some turns were ended, and the next one wasn't
+pub record IsTurnsEnd {S : Type 0} (k : Kept S) (first : Progressed S) (images : S) (new : Sides) (failed : Bool) (fault : RescueFault) : Type 0 where
+  pub now : Progressed S
+  pub turns : Turns k first now
+  pub stops : StopsIn k now images new failed fault

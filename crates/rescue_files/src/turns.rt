@@ -1,0 +1,156 @@
+//! Goes over a mapped device in turns, and keeps its map.
+ghost use Rattle.std.specs.Prelude.{◌≡◌, ◌+◌, ◌≤◌, ◌<◌, length, IsTrue, IfOk, IfErr, OnOk};
+ghost use Rattle.rescue_map.specs.Maps.{marks, spliced};
+ghost use Rattle.rescue_map.specs.MapText.{map_text};
+ghost use Rattle.stack_rules.specs.Names.{mapped, size};
+ghost use Rattle.stack_recovery.specs.Recoveries.{sides};
+ghost use Rattle.rescue_files.specs.Turns.{IsSpan, IsTurnsEnd, IsUnwritten, RescuesInTurns, StopsIn, Turn, asked, kept, progressed, tried_before, turn_len};
+
+use crate::fault::RescueFault;
+use crate::map_file::MapFile;
+use block_device::{BlockDev, SyncDev};
+use counted_io::Counted;
+use image_files::Images;
+use progress::Progress;
+use rescue_map::{Map, Span, Totals, is_had, print_map, splice, totals_of};
+use stack_config::DevId;
+use stack_engine::Stack;
+use stack_recovery::rescue;
+use std::alloc::{AllocError, Global};
+use std::io::Write;
+
+const LEAST_TURN: u64 = 131_072;
+
+const MOST_TURNS: u64 = 256;
+
+// How many sectors of a device of so many are asked in a turn.
+#[tactic(auto, unfolding(crate::specs::Turns::turn_len))]
+fn turn_len(sectors: u64) -> u64
+    ensures value { result ≡ turn_len sectors }
+    ensures some { 1 ≤ result }
+{
+    LEAST_TURN.max(sectors / MOST_TURNS)
+}
+
+// The map by which the sectors of a span are asked, and no others.
+fn asked(alloc: Global, map: &Map, span: Span, sectors: u64) -> Result<Map, AllocError>
+    requires map { length (marks map.now) ≡ sectors }
+    requires inside { span.first + span.count ≤ sectors }
+    ensures { IfOk result (λ runs. marks runs ≡ asked span sectors map.now) }
+{
+    // How many sectors a map can have is learned from a call.
+    let _runs = map.runs();
+    let all = Map::filled(alloc, sectors, true)?;
+    splice(alloc, &all, map, span, sectors)
+}
+
+// Which sectors were tried, where those before one are.
+fn tried_before(sectors: u64, at: u64) -> Option<u64>
+    ensures { result ≡ tried_before sectors at }
+{
+    if at == sectors { None } else { Some(at) }
+}
+
+// Puts a map, whose sectors before one were tried, in the place of the one before.
+fn write_map<I: Images>(
+    alloc: Global,
+    images: &mut I,
+    path: &str,
+    map: &Map,
+    tried: Option<u64>,
+) -> Result<(), RescueFault>
+    ensures ok { OnOk result (I.relations.replaces images.old path.now (map_text tried map.now) (Ok tt) images.new) }
+    ensures err { IfErr result (IsUnwritten I.relations.replaces path.now images.old (map_text tried map.now) images.new) }
+{
+    let text = print_map(alloc, map, tried)?;
+    Ok(images.replace(path, text.as_slice())?)
+}
+
+/// A turn: the sectors that are asked in it, and the maps before it.
+#[derive(Clone, Copy)]
+struct NextTurn<'a> {
+    span: Span,
+    sectors: u64,
+    path: &'a str,
+    map: &'a Map,
+    wanted: &'a Map,
+}
+
+// Asks the sectors, and puts the map that says what was had in the place of the one before.
+fn take_turn<I: Images, D: BlockDev, O: SyncDev, W: Write, P: Progress>(
+    alloc: Global,
+    images: &mut I,
+    stack: &mut Stack<D>,
+    d: DevId,
+    out: &mut O,
+    turn: NextTurn<'_>,
+    writer: &mut Counted<W>,
+    progress: &mut P,
+) -> Result<Map, RescueFault>
+    requires device { d.0 < length stack.old.config.devices }
+    requires next { IsSpan turn.sectors turn.span.first turn.span (turn.span.first + turn.span.count) }
+    requires all { turn.sectors ≡ size stack.old.config (mapped d.0) }
+    requires map { length (marks turn.map.now) ≡ turn.sectors }
+    requires wanted { marks turn.wanted.now ≡ asked turn.span turn.sectors turn.map.now }
+    requires room { size stack.old.config (mapped d.0) ≤ (O.state out.old).size }
+    requires allowed { IsTrue (O.state out.old).may_write }
+    ensures ok { IfOk result (λ map. Turn (kept I.relations.replaces turn.entry.path.now d.0 turn.entry.sectors) (progressed images.old (sides stack.old (O.state out.old) (W.contents writer.old.inner)) turn.entry.map.now turn.entry.span.first) (progressed images.new (sides stack.new (O.state out.new) (W.contents writer.new.inner)) map (turn.entry.span.first + turn.entry.span.count))) }
+    ensures sectors { IfOk result (λ map. length (marks map) ≡ turn.entry.sectors) }
+    ensures err { IfErr result (StopsIn (kept I.relations.replaces turn.entry.path.now d.0 turn.entry.sectors) (progressed images.old (sides stack.old (O.state out.old) (W.contents writer.old.inner)) turn.entry.map.now turn.entry.span.first) images.new (sides stack.new (O.state out.new) (W.contents writer.new.inner)) writer.new.failed) }
+{
+    let rescued = rescue(alloc, stack, d, out, turn.wanted, writer, progress)?;
+    out.sync()?;
+    let map = splice(alloc, turn.map, &rescued.map, turn.span, turn.sectors)?;
+    let tried = tried_before(turn.sectors, turn.span.first + turn.span.count);
+    write_map(alloc, images, turn.path, &map, tried)?;
+    Ok(map)
+}
+
+/// Reads each sector of a mapped device that wasn't had, as a map says, in turns of 64 MiB or of a 256th of the device. In
+/// each turn the longest runs of sectors that are lost by one fault are printed; what is had is put where it stands on
+/// another device, which has room for all, and on its medium; and then the map, with what was had and what is lost, is put
+/// in the place of the one before. So a cut loses one turn.
+///
+/// # Errors
+///
+/// The map that then stands is that of the turns before.
+pub fn rescue_in_turns<I: Images, D: BlockDev, O: SyncDev, W: Write, P: Progress>(
+    alloc: Global,
+    images: &mut I,
+    stack: &mut Stack<D>,
+    d: DevId,
+    out: &mut O,
+    file: MapFile<'_>,
+    writer: &mut Counted<W>,
+    progress: &mut P,
+) -> Result<Totals, RescueFault>
+    requires device { d.0 < length stack.old.config.devices }
+    requires fits { length (marks file.map) ≡ size stack.old.config (mapped d.0) }
+    requires room { size stack.old.config (mapped d.0) ≤ (O.state out.old).size }
+    requires allowed { IsTrue (O.state out.old).may_write }
+    ensures ok { IfOk result (RescuesInTurns (kept I.relations.replaces file.entry.path.now d.0 (size stack.old.config (mapped d.0))) (progressed images.old (sides stack.old (O.state out.old) (W.contents writer.old.inner)) file.entry.map 0) images.new (sides stack.new (O.state out.new) (W.contents writer.new.inner))) }
+    ensures err { IfErr result (IsTurnsEnd (kept I.relations.replaces file.entry.path.now d.0 (size stack.old.config (mapped d.0))) (progressed images.old (sides stack.old (O.state out.old) (W.contents writer.old.inner)) file.entry.map 0) images.new (sides stack.new (O.state out.new) (W.contents writer.new.inner)) writer.new.failed) }
+{
+    let sectors = stack.config().sectors(d);
+    let MapFile { path, mut map } = file;
+    let mut at = 0;
+    'turns: while at < sectors {
+        let count = turn_len(sectors).min(sectors - at);
+        let span = Span { first: at, count };
+        let wanted = asked(alloc, &map, span, sectors)?;
+        if is_had(&wanted) {
+            at += count;
+        } else {
+            let turn = NextTurn {
+                span,
+                sectors,
+                path,
+                map: &map,
+                wanted: &wanted,
+            };
+            map = take_turn(alloc, images, stack, d, out, turn, writer, progress)?;
+            at += count;
+        }
+    }
+    Ok(totals_of(&map))
+}

@@ -1,0 +1,6 @@
+mod LineLemmas
+mod NumberLemmas
+mod PrintedLemmas
+mod ReadLemmas
+mod RunLemmas
+mod SpliceLemmas

@@ -1,0 +1,46 @@
+use Rattle.std.proofs.Common.{◌+◌, ◌++◌, ◌≤◌, ◌^◌, ℕ, false, List, [], ◌∷◌, length, take, get_or, append-nil, refl, sym, ap, subst, ◌∙◌, take_all, arith}
+use Rattle.std.proofs.lemmas.List.{take_more}
+use Rattle.rescue_map.specs.declared.map.Run.{Run}
+use Rattle.rescue_map.specs.Maps.{marks}
+use Rattle.rescue_map.specs.MapText.{map_of, map_text, run_text, status_text}
+use Rattle.rescue_map.proofs.PrintedLemmas.{map-read, map_text-push}
+use Rattle.rescue_map.proofs.RunLemmas.{length-take, length-within}
+use Rattle.rescue_map.proofs.print.print_map.Goals as goal
+
+pub loop-run-init : goal.loop-run-init
+unfolding map_text
+loop-run-init c = (c.in_ok-text.ensures.items ∙ c.status_line.ensures ∙ sym (append-nil (status_text c.args.tried ++ 10 ∷ [])), refl)
+
+pub print_run-requires : goal.print_run-requires
+print_run-requires c =
+    let runs : List Run = c.runs-run-items.result.now in
+    let i : ℕ = c.loop-run.run-index in
+    let few : length (marks runs) ≤ 2 ^ 54 = subst (λ (l : List Run). length (marks l) ≤ 2 ^ 54) (sym c.runs-run-items.ensures.value) c.runs-run-items.ensures.whole.few in
+    omega (arith, few, length-take runs i (record { count = 0; had = false }) c.loop-run-test.true, length-within runs (i + 1), c.loop-run.invariant.1)
+
+pub overflow_add-at : goal.overflow_add-at
+overflow_add-at c =
+    let runs : List Run = c.runs-run-items.result.now in
+    let i : ℕ = c.loop-run.run-index in
+    let few : length (marks runs) ≤ 2 ^ 54 = subst (λ (l : List Run). length (marks l) ≤ 2 ^ 54) (sym c.runs-run-items.ensures.value) c.runs-run-items.ensures.whole.few in
+    omega (arith, few, length-take runs i (record { count = 0; had = false }) c.loop-run-test.true, length-within runs (i + 1), c.loop-run.invariant.1)
+
+pub loop-run-preserved : goal.loop-run-preserved
+loop-run-preserved c =
+    let runs : List Run = c.runs-run-items.result.now in
+    let i : ℕ = c.loop-run.run-index in
+    let run : Run = get_or runs i (record { count = 0; had = false }) in
+    let front : List Run = take i runs in (
+      c.in_ok-print_run.ensures
+          ∙ ap (λ (t : List ℕ). t ++ run_text c.args.tried c.loop-run.at run) c.loop-run.invariant.0
+          ∙ ap (λ (n : ℕ). map_text c.args.tried front ++ run_text c.args.tried n run) c.loop-run.invariant.1
+          ∙ map_text-push c.args.tried front run
+          ∙ ap (map_text c.args.tried) (sym (take_more runs i (record { count = 0; had = false }) c.loop-run-test.true)),
+      ap (λ (n : ℕ). n + run.count) c.loop-run.invariant.1 ∙ sym (length-take runs i (record { count = 0; had = false }) c.loop-run-test.true),
+    )
+
+pub returns-clause-reads_back : goal.returns-clause-reads_back
+returns-clause-reads_back c =
+    let items = c.runs-run-items.ensures in
+    ap (map_of (length (marks c.args.map.now))) (c.loop-run.invariant.0 ∙ ap (map_text c.args.tried) (take_all _ _ c.loop-run-test.false ∙ items.value))
+    ∙ map-read c.args.tried c.args.map.now items.whole

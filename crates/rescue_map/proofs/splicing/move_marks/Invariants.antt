@@ -1,0 +1,16 @@
+use Rattle.std.proofs.Common.{◌≡◌, ◌+◌, ◌++◌, ◌≤◌, ◌^◌, take, drop, length}
+use Rattle.rescue_map.specs.Aheads.{marks_ahead}
+use Rattle.rescue_map.specs.Maps.{marks}
+use Rattle.rescue_map.proofs.splicing.move_marks.Given as goal
+
+-- what is left of the sectors comes behind those that were moved
+abbrev pub invariant-runs : goal.invariant-runs
+invariant-runs l = record {
+  moved : marks l.map ++ take l.left (marks_ahead l.ahead) ≡ marks l.fn.map ++ take l.fn.count (marks_ahead l.fn.ahead);
+  rest : drop l.left (marks_ahead l.ahead) ≡ drop l.fn.count (marks_ahead l.fn.ahead);
+  enough : l.left ≤ length (marks_ahead l.ahead);
+  room : length (marks l.map) + l.left ≤ 2 ^ 54;
+}
+
+abbrev pub decreases-runs : goal.decreases-runs
+decreases-runs l = l.left

@@ -1,0 +1,22 @@
+use Rattle.std.proofs.Common.{◌≡◌, ◌++◌, ◌≤◌, ℕ, Bool, replicate, refl, sym, ap, ◌∙◌, arith}
+use Rattle.rescue_map.specs.Aheads.{marks_ahead}
+use Rattle.rescue_map.specs.declared.map.Run.{Run}
+use Rattle.rescue_map.proofs.SpliceLemmas.{enough-more, rest-more}
+use Rattle.rescue_map.proofs.splicing.skip_marks.Goals as goal
+
+pub runs-init : goal.runs-init
+runs-init c = record { rest = refl; enough = c.requires }
+
+pub runs-preserved : goal.runs-preserved
+runs-preserved c =
+    let u = c.runs.invariant in
+    let run : Run = c.next_run-run.result in
+    let n : ℕ = c.min-count.result in
+    let le : n ≤ c.runs.left = omega (arith, c.min-count.ensures) in
+    let had = ap (λ (r : Run). r.had) (sym c.next_run-run.ensures.first) in
+    let is : marks_ahead c.runs.ahead ≡ replicate n run.had ++ marks_ahead c.pass.new.self =
+    sym c.next_run-run.ensures.same ∙ c.pass.ensures ∙ ap (λ (h : Bool). replicate n h ++ marks_ahead c.pass.new.self) had in
+    record {
+      rest = rest-more _ _ n c.runs.left run.had le is ∙ u.rest;
+      enough = enough-more _ _ n c.runs.left run.had le is u.enough;
+    }

@@ -1,0 +1,5 @@
+pub mod Aheads
+pub mod Blocks
+pub mod MapText
+pub mod Maps
+pub mod Numbers

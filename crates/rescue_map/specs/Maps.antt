@@ -1,0 +1,31 @@
+-- Which sectors of a device were had.
+use Rattle.std.specs.Prelude.{ℕ, ◌+◌, ◌^◌, ◌≤◌, Bool, List, [], ◌∷◌, ◌++◌, length, replicate, take, drop, All, if◌then◌else◌}
+use Rattle.std.specs.List.{flat_map}
+use Rattle.rescue_map.specs.declared.map.Run.{Run}
+use Rattle.rescue_map.specs.declared.splicing.Span.{Span}
+use Rattle.rescue_map.specs.declared.totals.Totals.{Totals}
+
+-- of each sector, from the first on, whether it was had
+abbrev pub marks : List Run → List Bool
+marks runs = flat_map (λ r. replicate r.count r.had) runs
+
+-- none is empty, and a device has so many sectors at most
+pub record AreRuns (runs : List Run) : Type 0 where
+  pub some : All (λ r. 1 ≤ r.count) runs
+  pub few : length (marks runs) ≤ 2 ^ 54
+
+-- the marks of a span of sectors among those of all others
+abbrev pub spliced : Span → List Bool → List Bool → List Bool
+spliced span around within =
+    take span.first around ++ (take span.count (drop span.first within) ++ drop (span.first + span.count) around)
+
+-- how many sectors of some runs were had, and how many weren't
+abbrev pub with_run : Totals → Run → Totals
+with_run t r = if r.had then record { had = t.had + r.count; lost = t.lost } else record { had = t.had; lost = t.lost + r.count }
+
+abbrev pub totals_from : Totals → List Run → Totals
+totals_from t [] = t
+totals_from t (r ∷ more) = totals_from (with_run t r) more
+
+abbrev pub totals_of : List Run → Totals
+totals_of runs = totals_from (record { had = 0; lost = 0 }) runs

@@ -1,0 +1,60 @@
+//! The sectors that are still to be gone over.
+ghost use Rattle.std.specs.Prelude.{◌≡◌, ◌≤◌, ◌++◌, [], replicate, false, length};
+ghost use Rattle.rescue_map.specs.Aheads.{marks_ahead};
+ghost use Rattle.rescue_map.specs.Maps.{marks};
+
+use crate::map::{Map, Run};
+
+/// The sectors ahead: what is left of a run, and the runs behind it.
+#[derive(Drop)]
+pub struct Ahead<'a> {
+    pub first: Run,
+    pub rest: &'a [Run],
+}
+
+impl<'a> Ahead<'a> {
+    /// All sectors of a map.
+    pub fn of_map(map: &'a Map) -> Ahead<'a>
+        ensures { marks_ahead result ≡ marks map.now }
+    {
+        Ahead {
+            first: Run {
+                count: 0,
+                had: false,
+            },
+            rest: map.runs(),
+        }
+    }
+
+    /// So many sectors, of which none was had.
+    pub fn unread(count: u64) -> Ahead<'a>
+        ensures { marks_ahead result ≡ replicate count false }
+    {
+        Ahead {
+            first: Run { count, had: false },
+            rest: &[],
+        }
+    }
+
+    /// The run of the next sectors, where there are some.
+    pub fn next_run(&mut self) -> Run
+        requires { 1 ≤ length (marks_ahead self.old) }
+        ensures same { marks_ahead self.new ≡ marks_ahead self.old }
+        ensures first { result ≡ self.new.first }
+        ensures some { 1 ≤ result.count }
+    {
+        'runs: while self.first.count == 0 {
+            self.first = self.rest[0];
+            self.rest = &self.rest[1..];
+        }
+        self.first
+    }
+
+    /// So many sectors of that run are done.
+    pub fn pass(&mut self, count: u64)
+        requires { count ≤ self.old.first.count }
+        ensures { marks_ahead self.old ≡ replicate count self.old.first.had ++ marks_ahead self.new }
+    {
+        self.first.count -= count;
+    }
+}

@@ -1,0 +1,115 @@
+//! The lines of a map file.
+ghost use Rattle.std.specs.Prelude.{◌≡◌, ◌-◌, ◌≤◌, IfOk};
+ghost use Rattle.dm_table.specs.Words.{words};
+ghost use Rattle.rescue_map.specs.Blocks.{block_of, is_state, is_status, is_unfinished, is_whole, run_at, status_of};
+
+use crate::fault::MapFault;
+use crate::map::Run;
+use crate::numbers::map_number;
+use table_reader::Words;
+
+/// So many bytes from one on, and whether they were had.
+#[derive(Clone, Copy)]
+pub(crate) struct Block {
+    pub(crate) first: u64,
+    pub(crate) count: u64,
+    pub(crate) had: bool,
+}
+
+// Bad, not tried, not trimmed or not scraped.
+fn is_unfinished(status: u8) -> bool
+    ensures { result ≡ is_unfinished status }
+{
+    status == b'-' || status == b'?' || status == b'*' || status == b'/'
+}
+
+// Whether a block was had.
+fn status_of(word: &[u8]) -> Option<bool>
+    ensures { result ≡ status_of word.now }
+{
+    if word.len() != 1 {
+        return None;
+    }
+    if word[0] == b'+' {
+        return Some(true);
+    }
+    if is_unfinished(word[0]) {
+        return Some(false);
+    }
+    None
+}
+
+fn is_state(word: &[u8]) -> bool
+    ensures { result ≡ is_state word.now }
+{
+    if word.len() != 1 {
+        return false;
+    }
+    word[0] == b'+' || is_unfinished(word[0]) || word[0] == b'F' || word[0] == b'G'
+}
+
+/// Whether a line is a status line. The number of the pass isn't looked at.
+pub(crate) fn is_status(line: &[u8]) -> bool
+    ensures { result ≡ is_status (words line.now) }
+{
+    let mut words = Words::new(line);
+    let Some(pos) = words.next_word() else {
+        return false;
+    };
+    let Some(state) = words.next_word() else {
+        return false;
+    };
+    let _pass = words.next_word();
+    words.next_word().is_none() && map_number(pos).is_some() && is_state(state)
+}
+
+/// The block of a line.
+pub(crate) fn read_block(line: &[u8]) -> Result<Block, MapFault>
+    ensures { result ≡ block_of (words line.now) }
+{
+    let mut words = Words::new(line);
+    let pos = words.next_word().ok_or(MapFault::Block)?;
+    let size = words.next_word().ok_or(MapFault::Block)?;
+    let status = words.next_word().ok_or(MapFault::Block)?;
+    if words.next_word().is_some() {
+        return Err(MapFault::Block);
+    }
+    let first = map_number(pos).ok_or(MapFault::Block)?;
+    let count = map_number(size).ok_or(MapFault::Block)?;
+    let had = status_of(status).ok_or(MapFault::Block)?;
+    Ok(Block { first, count, had })
+}
+
+// Whole sectors, at least one.
+fn is_whole(block: Block) -> bool
+    ensures { result ≡ is_whole block }
+{
+    block.first % 512 == 0 && block.count % 512 == 0 && block.count > 0
+}
+
+/// The sectors of a block that has to begin at that one, on a device of so many.
+pub(crate) fn run_at(at: u64, sectors: u64, block: Block) -> Result<Run, MapFault>
+    requires { at ≤ sectors }
+    ensures value { result ≡ run_at at sectors block }
+    ensures some { IfOk result (λ run. 1 ≤ run.count) }
+    ensures room { IfOk result (λ run. run.count ≤ sectors - at) }
+{
+    if !is_whole(block) {
+        return Err(MapFault::PartSector);
+    }
+    let first = block.first / 512;
+    if at < first {
+        return Err(MapFault::Gap);
+    }
+    if first < at {
+        return Err(MapFault::Overlap);
+    }
+    let count = block.count / 512;
+    if sectors - at < count {
+        return Err(MapFault::Size);
+    }
+    Ok(Run {
+        count,
+        had: block.had,
+    })
+}

@@ -1,0 +1,21 @@
+//! Map files of GNU ddrescue: which sectors of a device were had, and which are still to be read.
+#![tactic(auto)]
+
+mod ahead;
+mod block;
+mod fault;
+mod lines;
+mod map;
+mod numbers;
+mod print;
+mod splicing;
+mod text;
+mod totals;
+
+pub use ahead::Ahead;
+pub use fault::MapFault;
+pub use map::{Map, Run};
+pub use print::print_map;
+pub use splicing::{Span, splice};
+pub use text::parse_map;
+pub use totals::{Totals, is_had, totals_of};

@@ -1,0 +1,85 @@
+//! The lines of a text, and those that say something.
+ghost use Rattle.std.specs.Prelude.{◌≡◌, ◌==◌, [], ◌∷◌, ◌≤◌, length, MatchOption};
+ghost use Rattle.std.specs.List.{position_or_len};
+ghost use Rattle.dm_table.specs.TableText.{is_skipped};
+ghost use Rattle.dm_table.specs.Words.{lines_of, words};
+ghost use Rattle.rescue_map.specs.MapText.{said};
+
+use std::marker::Model;
+use table_reader::Words;
+
+// How many bytes stand before the first newline.
+fn line_len(text: &[u8]) -> usize
+    ensures value { result ≡ position_or_len (λ b. b == 10) text.now }
+    ensures bound { result ≤ length text.now }
+{
+    'bytes: for (at, byte) in text.iter().enumerate() {
+        if *byte == b'\n' {
+            return at;
+        }
+    }
+    text.len()
+}
+
+/// The lines that are left of a text.
+#[derive(Drop)]
+pub(crate) struct Lines<'a> {
+    rest: Option<&'a [u8]>,
+}
+
+impl<'a> Model for Lines<'a> {
+    ghost use Rattle.std.specs.Prelude.{List, ℕ};
+    ghost use Rattle.dm_table.specs.Words.{pieces_left};
+
+    ghost Value = { List (List ℕ) };
+
+    ghost view = { λ l. pieces_left 10 l.rest };
+}
+
+impl<'a> Lines<'a> {
+    pub(crate) fn new(text: &'a [u8]) -> Lines<'a>
+        ensures { result ≡ lines_of text.now }
+    {
+        Lines { rest: Some(text) }
+    }
+
+    // Takes the first line. Without one it is at its end, and stays there.
+    fn next_line(&mut self) -> Option<&'a [u8]>
+        ensures { MatchOption result
+            ((self.old ≡ []) × (self.new ≡ []))
+            (λ line. self.old ≡ line.now ∷ self.new) }
+    {
+        let rest = self.rest?;
+        let end = line_len(rest);
+        self.rest = if end < rest.len() {
+            Some(&rest[end + 1..])
+        } else {
+            None
+        };
+        Some(&rest[..end])
+    }
+}
+
+// A line without a word, or a comment.
+fn is_skipped(line: &[u8]) -> bool
+    ensures { result ≡ is_skipped (words line.now) }
+{
+    match Words::new(line).next_word() {
+        None => true,
+        Some(word) => word.starts_with(b"#"),
+    }
+}
+
+/// Takes the first line that says something.
+pub(crate) fn next_said<'a>(lines: &mut Lines<'a>) -> Option<&'a [u8]>
+    ensures { MatchOption result
+        ((said lines.old ≡ []) × (said lines.new ≡ []))
+        (λ line. said lines.old ≡ words line.now ∷ said lines.new) }
+{
+    'lines: while let Some(line) = lines.next_line() {
+        if !is_skipped(line) {
+            return Some(line);
+        }
+    }
+    None
+}

@@ -1,0 +1,94 @@
+//! Which sectors of a device were had.
+ghost use Rattle.std.specs.Prelude.{◌≡◌, ◌+◌, ◌^◌, ◌≤◌, [], ◌∷◌, ◌++◌, length, replicate, IfOk, MatchResult};
+ghost use Rattle.rescue_map.specs.Maps.{AreRuns, marks};
+
+use std::alloc::{AllocError, Global};
+use std::marker::Model;
+
+/// So many sectors, and whether they were had.
+#[derive(Clone, Copy, Debug, PartialEq, Eq)]
+pub struct Run {
+    pub count: u64,
+    pub had: bool,
+}
+
+/// Which sectors were had, as runs from the first sector on, of which none is empty.
+#[derive(Drop)]
+pub struct Map {
+    runs: Vec<Run>,
+    ghost whole: { AreRuns runs.items },
+}
+
+impl Model for Map {
+    ghost use Rattle.std.specs.Prelude.{List};
+    ghost use Rattle.rescue_map.specs.declared.map.Run.{Run};
+    ghost use Rattle.rescue_map.specs.Maps.{AreRuns};
+
+    ghost Value = { List Run };
+
+    ghost view = { λ m. m.runs.items };
+}
+
+impl Map {
+    /// Of no sector.
+    pub fn new(alloc: Global) -> Map
+        ensures { result ≡ [] }
+    {
+        Map {
+            runs: Vec::new(alloc),
+        }
+    }
+
+    /// Of so many sectors, which are alike.
+    ///
+    /// # Errors
+    ///
+    /// Memory was refused.
+    pub fn filled(alloc: Global, count: u64, had: bool) -> Result<Map, AllocError>
+        requires { count ≤ 2 ^ 54 }
+        ensures { IfOk result (λ map. marks map ≡ replicate count had) }
+    {
+        let mut map = Map::new(alloc);
+        if count > 0 {
+            map.push(Run { count, had })?;
+        }
+        Ok(map)
+    }
+
+    /// The runs, from the first sector on.
+    pub fn runs(&self) -> &[Run]
+        ensures value { result.now ≡ self.now }
+        ensures whole { AreRuns self.now }
+    {
+        self.runs.as_slice()
+    }
+
+    // A run behind those so far, whatever the last one is.
+    pub(crate) fn add(&mut self, run: Run) -> Result<(), AllocError>
+        requires some { 1 ≤ run.count }
+        requires room { length (marks self.old) + run.count ≤ 2 ^ 54 }
+        ensures { MatchResult result
+            (λ _. self.new ≡ self.old ++ run ∷ [])
+            (λ _. self.new ≡ self.old) }
+    {
+        self.runs.push(run)?;
+        Ok(())
+    }
+
+    /// More sectors behind those so far. It fails only where memory does.
+    pub fn push(&mut self, run: Run) -> Result<(), AllocError>
+        requires some { 1 ≤ run.count }
+        requires room { length (marks self.old) + run.count ≤ 2 ^ 54 }
+        ensures { MatchResult result
+            (λ _. marks self.new ≡ marks self.old ++ replicate run.count run.had)
+            (λ _. self.new ≡ self.old) }
+    {
+        let end = self.runs.len();
+        if end > 0 && self.runs[end - 1].had == run.had {
+            self.runs[end - 1].count += run.count;
+            return Ok(());
+        }
+        self.runs.push(run)?;
+        Ok(())
+    }
+}

@@ -1,0 +1,81 @@
+//! A map with a part of another one.
+ghost use Rattle.std.specs.Prelude.{◌≡◌, ◌+◌, ◌^◌, ◌≤◌, ◌++◌, length, take, drop, IfOk, OnOk};
+ghost use Rattle.rescue_map.specs.Aheads.{marks_ahead};
+ghost use Rattle.rescue_map.specs.Maps.{marks, spliced};
+
+use crate::ahead::Ahead;
+use crate::map::{Map, Run};
+use std::alloc::{AllocError, Global};
+
+/// So many sectors from one on.
+#[derive(Clone, Copy, Debug, PartialEq, Eq)]
+pub struct Span {
+    pub first: u64,
+    pub count: u64,
+}
+
+/// The sectors of a span as one map says, and around them as another one does, both of so many sectors.
+///
+/// # Errors
+///
+/// Memory was refused.
+pub fn splice(
+    alloc: Global,
+    around: &Map,
+    within: &Map,
+    span: Span,
+    sectors: u64,
+) -> Result<Map, AllocError>
+    requires around { length (marks around.now) ≡ sectors }
+    requires within { length (marks within.now) ≡ sectors }
+    requires inside { span.first + span.count ≤ sectors }
+    ensures marks { IfOk result (λ map. marks map ≡ spliced span (marks around.now) (marks within.now)) }
+    ensures sectors { IfOk result (λ map. length (marks map) ≡ sectors) }
+{
+    // How many sectors a map can have is learned from a call.
+    let _runs = around.runs();
+    let mut map = Map::new(alloc);
+    let mut outer = Ahead::of_map(around);
+    let mut inner = Ahead::of_map(within);
+    move_marks(&mut map, &mut outer, span.first)?;
+    skip_marks(&mut inner, span.first);
+    move_marks(&mut map, &mut inner, span.count)?;
+    skip_marks(&mut outer, span.count);
+    move_marks(&mut map, &mut outer, sectors - span.first - span.count)?;
+    Ok(map)
+}
+
+// The next sectors, so many of them.
+fn move_marks(map: &mut Map, ahead: &mut Ahead<'_>, count: u64) -> Result<(), AllocError>
+    requires enough { count ≤ length (marks_ahead ahead.old) }
+    requires room { length (marks map.old) + count ≤ 2 ^ 54 }
+    ensures moved { OnOk result (marks map.new ≡ marks map.old ++ take count (marks_ahead ahead.old)) }
+    ensures rest { OnOk result (marks_ahead ahead.new ≡ drop count (marks_ahead ahead.old)) }
+{
+    let mut left = count;
+    'runs: while left > 0 {
+        let run = ahead.next_run();
+        let count = run.count.min(left);
+        map.push(Run {
+            count,
+            had: run.had,
+        })?;
+        ahead.pass(count);
+        left -= count;
+    }
+    Ok(())
+}
+
+// They are left out.
+fn skip_marks(ahead: &mut Ahead<'_>, count: u64)
+    requires { count ≤ length (marks_ahead ahead.old) }
+    ensures { marks_ahead ahead.new ≡ drop count (marks_ahead ahead.old) }
+{
+    let mut left = count;
+    'runs: while left > 0 {
+        let run = ahead.next_run();
+        let count = run.count.min(left);
+        ahead.pass(count);
+        left -= count;
+    }
+}

@@ -1,0 +1,48 @@
+//! Map files read.
+ghost use Rattle.std.specs.Prelude.{◌≡◌, ◌≤◌, ◌^◌, ℕ, Err, length, IfOk, MatchResult};
+ghost use Rattle.rescue_map.specs.declared.fault.MapFault.TheVariants as map_fault;
+ghost use Rattle.rescue_map.specs.Maps.{marks};
+ghost use Rattle.rescue_map.specs.MapText.{IsMapAnswer, map_of, runs_behind, runs_from, said};
+
+use crate::block::{is_status, read_block, run_at};
+use crate::fault::MapFault;
+use crate::lines::{Lines, next_said};
+use crate::map::Map;
+use std::alloc::Global;
+
+/// Reads a map of a device of so many sectors.
+///
+/// # Errors
+///
+/// The first fault in reading order, or `NoMemory`.
+pub fn parse_map(alloc: Global, text: &[u8], sectors: u64) -> Result<Map, MapFault>
+    requires { sectors ≤ 2 ^ 54 }
+    ensures answer { IsMapAnswer result (map_of sectors text.now) }
+    ensures sectors { IfOk result (λ map. length (marks map) ≡ sectors) }
+{
+    let mut lines = Lines::new(text);
+    take_status(&mut lines)?;
+    let mut map = Map::new(alloc);
+    let mut at = 0;
+    'lines: while let Some(line) = next_said(&mut lines) {
+        let run = run_at(at, sectors, read_block(line)?)?;
+        map.add(run)?;
+        at += run.count;
+    }
+    if at != sectors {
+        return Err(MapFault::Size);
+    }
+    Ok(map)
+}
+
+// Takes the status line.
+fn take_status(lines: &mut Lines<'_>) -> Result<(), MapFault>
+    ensures { MatchResult result
+        (λ _. (n : ℕ) → runs_behind n (said lines.old) ≡ runs_from n 0 (said lines.new))
+        (λ fault. (n : ℕ) → runs_behind n (said lines.old) ≡ Err fault) }
+{
+    match next_said(lines) {
+        Some(line) if is_status(line) => Ok(()),
+        _ => Err(MapFault::Status),
+    }
+}

@@ -1,0 +1,48 @@
+//! How many sectors of a map were had.
+ghost use Rattle.std.specs.Prelude.{◌≡◌, ◌+◌, ◌<◌, ◌^◌};
+ghost use Rattle.std.specs.List.{list_all};
+ghost use Rattle.rescue_map.specs.Maps.{totals_of, with_run};
+
+use crate::map::{Map, Run};
+
+/// How many sectors were had, and how many weren't.
+#[derive(Clone, Copy, Debug, PartialEq, Eq)]
+pub struct Totals {
+    pub had: u64,
+    pub lost: u64,
+}
+
+/// Whether all sectors of a map were had.
+pub fn is_had(map: &Map) -> bool
+    ensures { result ≡ list_all (λ run. run.had) map.now }
+{
+    map.runs().iter().all(|run| run.had)
+}
+
+fn with_run(totals: Totals, run: Run) -> Totals
+    requires { totals.had + totals.lost + run.count < 2 ^ 64 }
+    ensures { result ≡ with_run totals run }
+{
+    if run.had {
+        Totals {
+            had: totals.had + run.count,
+            lost: totals.lost,
+        }
+    } else {
+        Totals {
+            had: totals.had,
+            lost: totals.lost + run.count,
+        }
+    }
+}
+
+/// How many sectors of a map were had, and how many weren't.
+pub fn totals_of(map: &Map) -> Totals
+    ensures { result ≡ totals_of map.now }
+{
+    let mut totals = Totals { had: 0, lost: 0 };
+    for run in map.runs() {
+        totals = with_run(totals, *run);
+    }
+    totals
+}

@@ -1,0 +1,72 @@
+-- The sectors ahead of which some were had before, and the map that is made.
+use Rattle.std.proofs.Common.{◌≡◌, ℕ, zero, suc, ◌+◌, ◌<◌, ◌≤◌, Bool, false, List, [], ◌∷◌, ◌++◌, length, drop, get_or, map, replicate, Option, Some, None, is_some, refl, sym, ap, ◌∙◌, arith}
+use Rattle.std.proofs.lemmas.List.{drop-drop, get_or-drop, get_or-replicate, get_or_append_left, length-append, length-drop, length-replicate}
+use Rattle.rescue_map.specs.Aheads.{marks_ahead}
+use Rattle.rescue_map.specs.declared.ahead.Ahead.{Ahead}
+use Rattle.rescue_map.specs.declared.map.Run.{Run}
+use Rattle.rescue_map.specs.Maps.{marks}
+use Rattle.stack_recovery.specs.Recoveries.{IsNoted, NotesMore, is_had}
+use Rattle.stack_recovery.specs.Surveys.{AreMarked, State}
+
+-- some of the next sectors, which are alike
+pub marked-next : (before : List Bool) (at n count : ℕ) (had : Bool) (rest : List Bool) → n ≤ count → drop at before ≡ replicate count had ++ rest → AreMarked before at n had
+marked-next before at n count had rest few e j low =
+    let inside : j < length (replicate count had) = omega (arith, few, low, length-replicate {A = Bool} count had) in
+    sym (get_or-drop at before j false) ∙ ap (λ (l : List Bool). get_or l j false) e ∙ get_or_append_left (replicate count had) rest false j inside ∙ get_or-replicate count j had false (omega (arith, few, low))
+
+drop-front : (n : ℕ) (had : Bool) (next : List Bool) → drop n (replicate n had ++ next) ≡ next
+drop-front zero had next = refl
+drop-front (suc n) had next = drop-front n had next
+
+-- once they are passed
+pub ahead-next : (before : List Bool) (at n : ℕ) (had : Bool) (now next : List Bool) → drop at before ≡ now → now ≡ replicate n had ++ next → drop (at + n) before ≡ next
+ahead-next before at n had now next e f =
+    sym (drop-drop n at before) ∙ ap (drop n) (e ∙ f) ∙ drop-front n had next
+
+-- how many are ahead, and that the first run is among them
+pub ahead-some : (before : List Bool) (at sectors : ℕ) (now : List Bool) → length before ≡ sectors → drop at before ≡ now → at < sectors → 1 ≤ length now
+ahead-some before at sectors now all e low = omega (arith, all, low, length-drop at before, ap length e)
+
+pub ahead-inside : (before : List Bool) (at sectors count : ℕ) (had : Bool) (rest now : List Bool) → length before ≡ sectors → drop at before ≡ now → now ≡ replicate count had ++ rest → at ≤ sectors → at + count ≤ sectors
+ahead-inside before at sectors count had rest now all e f low =
+    omega (arith, all, low, length-drop at before, ap length e, ap length f, length-append (replicate count had) rest, length-replicate {A = Bool} count had)
+
+-- the run of the next sectors
+pub first-run : (old new : Ahead) (run : Run) → marks_ahead new ≡ marks_ahead old → run ≡ new.first → marks_ahead old ≡ replicate run.count run.had ++ marks new.rest.now
+first-run old new run same first = sym same ∙ ap (λ (r : Run). replicate r.count r.had ++ marks new.rest.now) (sym first)
+
+-- ---- the map that is made
+
+pub notes-some : (old new : Option (List Run)) (more : List Bool) → NotesMore old new more → is_some new ≡ is_some old
+notes-some None None more p = refl
+notes-some None (Some new) more p = absurd p
+notes-some (Some old) None more p = absurd p
+notes-some (Some old) (Some new) more p = refl
+
+map-append : (xs ys : List State) → map is_had (xs ++ ys) ≡ map is_had xs ++ map is_had ys
+map-append [] ys = refl
+map-append (x ∷ xs) ys = ap (λ (l : List Bool). is_had x ∷ l) (map-append xs ys)
+
+map-replicate : (n : ℕ) (s : State) → map is_had (replicate n s) ≡ replicate n (is_had s)
+map-replicate zero s = refl
+map-replicate (suc n) s = ap (λ (l : List Bool). is_had s ∷ l) (map-replicate n s)
+
+pub noted-more : (old new : Option (List Run)) (states : List State) (n : ℕ) (s : State) → IsNoted old states → NotesMore old new (replicate n (is_had s)) → IsNoted new (states ++ replicate n s)
+noted-more None None states n s p q = tt
+noted-more None (Some new) states n s p q = absurd q
+noted-more (Some old) None states n s p q = absurd q
+noted-more (Some old) (Some new) states n s p q =
+    q ∙ ap (λ (l : List Bool). l ++ replicate n (is_had s)) p ∙ sym (map-append states (replicate n s) ∙ ap (λ (l : List Bool). map is_had states ++ l) (map-replicate n s))
+
+length-map : (states : List State) → length (map is_had states) ≡ length states
+length-map [] = refl
+length-map (x ∷ states) = ap suc (length-map states)
+
+pub length-noted : (runs : List Run) (states : List State) → IsNoted (Some runs) states → length (marks runs) ≡ length states
+length-noted runs states p = ap length p ∙ length-map states
+
+-- where none was had before
+pub marks-none : (n k : ℕ) → get_or {A = Bool} [] k false ≡ get_or (replicate n false) k false
+marks-none zero k = refl
+marks-none (suc n) zero = refl
+marks-none (suc n) (suc k) = marks-none n k

@@ -1,0 +1,278 @@
+use Rattle.std.proofs.Common.{◌≡◌, ◌⊎◌, ◌+◌, ◌-◌, ◌≤◌, ◌<◌, ◌*◌, ◌/◌, ◌^◌, ℕ, Bool, true, false, List, Ok, Err, arith, refl, sym, ◌∙◌, ap, ap₂, subst, length, take, Option, Some, None}
+use Rattle.std.proofs.lemmas.Bool.{false≢true}
+use Rattle.std.proofs.lemmas.List.{length-take-le}
+use Rattle.stack_rules.specs.Names.{mapped, size}
+use Rattle.stack_rules.specs.Records.{Configuration}
+use Rattle.stack_engine.specs.Bytes.{EachBytes}
+use Rattle.stack_meaning.specs.declared.fault.IoFault.{IoFault}
+use Rattle.stack_meaning.specs.declared.fault.IoFault.TheVariants.{NoMemory}
+use Rattle.rescue_map.specs.Aheads.{marks_ahead}
+use Rattle.rescue_map.specs.declared.map.Run.{Run}
+use Rattle.stack_recovery.specs.declared.fault.RecoveryFault.TheVariants.{Output}
+use Rattle.stack_recovery.specs.declared.lost_run.LostRun.{LostRun}
+use Rattle.stack_recovery.specs.declared.tally.Tally.{Tally}
+use Rattle.stack_recovery.specs.Alike.{AreAlike}
+use Rattle.stack_recovery.specs.LostRuns.{is_same, run}
+use Rattle.stack_recovery.specs.Recoveries.{IsRescueEnd, Sides, sides}
+use Rattle.stack_recovery.specs.Surveys.{AreMarked}
+use Rattle.stack_recovery.specs.Tallies.{EndsAt, opened_by}
+use Rattle.stack_recovery.proofs.AheadLemmas.{ahead-inside, ahead-next, first-run, marked-next, notes-some}
+use Rattle.stack_recovery.proofs.UnderwayLemmas.{IsUnderway, begun, few, note-room, underway-again, underway-all, underway-had, underway-kept, underway-lost, underway-none}
+use Rattle.stack_recovery.proofs.WritingLemmas.{err-from}
+use Rattle.stack_recovery.proofs.recovery.go_over_by.Goals as goal
+
+pub pieces-init : goal.pieces-init
+pieces-init g c =
+    let old : Sides = sides c.args.stack.now (g.O.BlockDev.state c.args.out.now) (g.W.Write.contents c.args.writer.now.inner) in
+    let before : List Bool = marks_ahead c.args.ahead in
+    let all = c.sectors-sectors.ensures ∙ ap (λ (x : Configuration). size x (mapped c.args.d.0)) c.config.ensures.value in
+    record {
+      so_far = subst (λ (t : Tally). IsUnderway before c.args.d.0 old old 0 t c.args.noted.now) (sym c.new-tally.ensures) (underway-none before c.args.d.0 old c.args.noted.now c.requires.begun);
+      ahead = refl;
+      config = refl;
+      within = omega arith;
+      all = all;
+      few = omega (arith, all, c.requires.room, c.sectors-fits.ensures.size, c.sectors-fits.ensures.small);
+      pace = c.new-pace.ensures;
+      kept = refl;
+      unfailed = refl;
+      noted = refl;
+    }
+
+pub note-requires-clause-room : goal.note-requires-clause-room
+note-requires-clause-room g c =
+    let u = c.pieces.invariant in
+    let first = first-run c.pieces.ahead c.next_run-run.new.self c.next_run-run.result c.next_run-run.ensures.same c.next_run-run.ensures.first in
+    let inside = ahead-inside (marks_ahead c.args.ahead) c.pieces.at c.sectors-sectors.result c.next_run-run.result.count c.next_run-run.result.had _ _ (c.requires.fits ∙ sym u.all) u.ahead first u.within in
+    λ x e. note-room _ _ _ _ _ _ _ u.so_far c.next_run-run.result.count (omega (arith, inside, u.few)) x e
+
+pub returns-in_err-note-clause-err : goal.returns-in_err-note-clause-err
+returns-in_err-note-clause-err g c =
+    let old : Sides = sides c.args.stack.now (g.O.BlockDev.state c.args.out.now) (g.W.Write.contents c.args.writer.now.inner) in
+    let new : Sides = sides c.pieces.stack (g.O.BlockDev.state c.pieces.out) (g.W.Write.contents c.pieces.writer.inner) in
+    err-from c.from_residual.result _ _ c.from_residual.ensures.1 (subst (IsRescueEnd (marks_ahead c.args.ahead) c.args.d.0 old new c.pieces.writer.failed) (sym c.in_err-note.ensures.err) (begun _ _ _ _ _ _ _ c.pieces.invariant.so_far c.pieces.stack _))
+
+pub overflow_add-at : goal.overflow_add-at
+overflow_add-at g c =
+    let u = c.pieces.invariant in
+    let first = first-run c.pieces.ahead c.next_run-run.new.self c.next_run-run.result c.next_run-run.ensures.same c.next_run-run.ensures.first in
+    let inside = ahead-inside (marks_ahead c.args.ahead) c.pieces.at c.sectors-sectors.result c.next_run-run.result.count c.next_run-run.result.had _ _ (c.requires.fits ∙ sym u.all) u.ahead first u.within in
+    omega (arith, inside, u.few)
+
+pub pieces-preserved-then-run : goal.pieces-preserved-then-run
+pieces-preserved-then-run g c =
+    let u = c.pieces.invariant in
+    let before : List Bool = marks_ahead c.args.ahead in
+    let here : Run = c.next_run-run.result in
+    let first = first-run c.pieces.ahead c.next_run-run.new.self here c.next_run-run.ensures.same c.next_run-run.ensures.first in
+    let inside = ahead-inside before c.pieces.at c.sectors-sectors.result here.count here.had _ _ (c.requires.fits ∙ sym u.all) u.ahead first u.within in
+    let marked : AreMarked before c.pieces.at here.count true = subst (AreMarked before c.pieces.at here.count) c.if-run.true (marked-next before c.pieces.at here.count here.count here.had _ (omega arith) (u.ahead ∙ first)) in
+    let tally : c.close.new.self ≡ record { last = None; lost = c.pieces.tally.lost } = ap₂ {C = Tally} (λ (l : Option LostRun) (m : ℕ). record { last = l; lost = m }) c.in_ok-close.ensures.last c.close.ensures.lost in
+    record {
+      so_far = underway-kept _ _ _ _ _ _ _ u.so_far here.count (g.W.Write.contents c.close.new.writer.inner) c.close.new.self c.note.new.noted c.next_run-run.ensures.some marked c.in_ok-note.ensures.ok c.in_ok-close.ensures.text.ok tally;
+      ahead = ahead-next before c.pieces.at here.count _ _ _ (u.ahead ∙ sym c.next_run-run.ensures.same) c.pass.ensures;
+      config = u.config;
+      within = inside;
+      all = u.all;
+      few = u.few;
+      pace = u.pace;
+      kept = c.in_ok-close.ensures.text.kept ∙ u.kept;
+      unfailed = u.unfailed;
+      noted = notes-some c.pieces.noted c.note.new.noted _ c.in_ok-note.ensures.ok ∙ u.noted;
+    }
+
+pub overflow_add-at-else-run : goal.overflow_add-at-else-run
+overflow_add-at-else-run g c =
+    let u = c.pieces.invariant in
+    let first = first-run c.pieces.ahead c.next_run-run.new.self c.next_run-run.result c.next_run-run.ensures.same c.next_run-run.ensures.first in
+    let inside = ahead-inside (marks_ahead c.args.ahead) c.pieces.at c.sectors-sectors.result c.next_run-run.result.count c.next_run-run.result.had _ _ (c.requires.fits ∙ sym u.all) u.ahead first u.within in
+    omega (arith, inside, u.few)
+
+pub piece_at-piece-requires-clause-inside : goal.piece_at-piece-requires-clause-inside
+piece_at-piece-requires-clause-inside g c =
+    let u = c.pieces.invariant in
+    let count : ℕ = c.next_run-run.result.count in
+    let first = first-run c.pieces.ahead c.next_run-run.new.self c.next_run-run.result c.next_run-run.ensures.same c.next_run-run.ensures.first in
+    let inside = ahead-inside (marks_ahead c.args.ahead) c.pieces.at c.sectors-sectors.result count c.next_run-run.result.had _ _ (c.requires.fits ∙ sym u.all) u.ahead first u.within in
+    subst (λ (x : Configuration). c.pieces.at + count ≤ size x (mapped c.args.d.0)) (sym (c.config-else-run.ensures.value ∙ u.config)) (subst (λ (m : ℕ). c.pieces.at + count ≤ m) u.all inside)
+
+pub read_bytes-requires-clause-inside : goal.read_bytes-requires-clause-inside
+read_bytes-requires-clause-inside g c =
+    let u = c.pieces.invariant in
+    let count : ℕ = c.next_run-run.result.count in
+    let n : ℕ = c.piece_at-piece.result.count in
+    let first = first-run c.pieces.ahead c.next_run-run.new.self c.next_run-run.result c.next_run-run.ensures.same c.next_run-run.ensures.first in
+    let inside = ahead-inside (marks_ahead c.args.ahead) c.pieces.at c.sectors-sectors.result count c.next_run-run.result.had _ _ (c.requires.fits ∙ sym u.all) u.ahead first u.within in
+    let wide : length (take (n * 512) c.pieces.room) ≡ n * 512 = length-take-le (n * 512) c.pieces.room (omega (arith, c.requires.buffer, c.pieces.auto.room, c.piece_at-piece.ensures.few)) in
+    let within : c.pieces.at + length (take (n * 512) c.pieces.room) / 512 ≤ c.sectors-sectors.result = omega (arith, wide, inside, c.piece_at-piece.ensures.inside) in
+    subst (λ (x : Configuration). c.pieces.at + length (take (n * 512) c.pieces.room) / 512 ≤ size x (mapped c.args.d.0)) (sym u.config) (subst (λ (m : ℕ). c.pieces.at + length (take (n * 512) c.pieces.room) / 512 ≤ m) u.all within)
+
+pub note-requires-in-Ok-clause-room : goal.note-requires-in-Ok-clause-room
+note-requires-in-Ok-clause-room g c =
+    let u = c.pieces.invariant in
+    let first = first-run c.pieces.ahead c.next_run-run.new.self c.next_run-run.result c.next_run-run.ensures.same c.next_run-run.ensures.first in
+    let inside = ahead-inside (marks_ahead c.args.ahead) c.pieces.at c.sectors-sectors.result c.next_run-run.result.count c.next_run-run.result.had _ _ (c.requires.fits ∙ sym u.all) u.ahead first u.within in
+    λ x e. note-room _ _ _ _ _ _ _ u.so_far c.from-count.result (omega (arith, inside, u.few, c.from-count.ensures, c.piece_at-piece.ensures.inside)) x e
+
+pub returns-in_err-note-in-Ok-clause-err : goal.returns-in_err-note-in-Ok-clause-err
+returns-in_err-note-in-Ok-clause-err g c =
+    let old : Sides = sides c.args.stack.now (g.O.BlockDev.state c.args.out.now) (g.W.Write.contents c.args.writer.now.inner) in
+    let new : Sides = sides c.read_bytes.new.self (g.O.BlockDev.state c.pieces.out) (g.W.Write.contents c.pieces.writer.inner) in
+    err-from c.from_residual-in_err-note-in-Ok.result _ _ c.from_residual-in_err-note-in-Ok.ensures.1 (subst (IsRescueEnd (marks_ahead c.args.ahead) c.args.d.0 old new c.pieces.writer.failed) (sym c.in_err-note-in-Ok.ensures.err) (begun _ _ _ _ _ _ _ c.pieces.invariant.so_far c.read_bytes.new.self _))
+
+pub write-requires-clause-range : goal.write-requires-clause-range
+write-requires-clause-range g c =
+    let u = c.pieces.invariant in
+    let n : ℕ = c.piece_at-piece.result.count in
+    let first = first-run c.pieces.ahead c.next_run-run.new.self c.next_run-run.result c.next_run-run.ensures.same c.next_run-run.ensures.first in
+    let inside = ahead-inside (marks_ahead c.args.ahead) c.pieces.at c.sectors-sectors.result c.next_run-run.result.count c.next_run-run.result.had _ _ (c.requires.fits ∙ sym u.all) u.ahead first u.within in
+    let wide : length (take (n * 512) c.pieces.room) ≡ n * 512 = length-take-le (n * 512) c.pieces.room (omega (arith, c.requires.buffer, c.pieces.auto.room, c.piece_at-piece.ensures.few)) in
+    let number : length (take (n * 512) c.pieces.room) / 512 ≡ n = omega (arith, wide) in
+    let piece = subst (λ (m : ℕ). EachBytes c.pieces.stack c.args.d.0 c.pieces.at m (Ok c.read_bytes.new.out) c.read_bytes.new.self) number (record { any = c.in-Ok.ensures.any; steady = c.in-Ok.ensures.steady }) in
+    let len : length c.read_bytes.new.out ≡ 512 * n = piece.any.may.read.run.len in
+    record {
+      some = omega (arith, len, c.piece_at-piece.ensures.some);
+      whole = omega (arith, len);
+      inside = omega (arith, len, inside, c.piece_at-piece.ensures.inside, u.all, c.requires.room, u.so_far.copied.same.size);
+    }
+
+pub returns-in_err-write-in-Ok-clause-err : goal.returns-in_err-write-in-Ok-clause-err
+returns-in_err-write-in-Ok-clause-err g c =
+    err-from c.from_residual-in_err-write-in-Ok.result _ Output c.from_residual-in_err-write-in-Ok.ensures.1 (
+      begun _ _ _ _ _ _ _ c.pieces.invariant.so_far c.read_bytes.new.self _,
+      (subst (λ (n : ℕ). (n < (g.O.BlockDev.state c.write.new.self).failures) ⊎ (n ≡ 2 ^ 64 - 1)) c.pieces.invariant.unfailed c.in_err-write-in-Ok.ensures.fault, λ h. false≢true (c.in_err-write-in-Ok.ensures.sure (c.pieces.invariant.so_far.copied.same.never_fails h))),
+    )
+
+pub pieces-preserved-in-Ok : goal.pieces-preserved-in-Ok
+pieces-preserved-in-Ok g c =
+    let u = c.pieces.invariant in
+    let before : List Bool = marks_ahead c.args.ahead in
+    let here : Run = c.next_run-run.result in
+    let n : ℕ = c.piece_at-piece.result.count in
+    let first = first-run c.pieces.ahead c.next_run-run.new.self here c.next_run-run.ensures.same c.next_run-run.ensures.first in
+    let inside = ahead-inside before c.pieces.at c.sectors-sectors.result here.count here.had _ _ (c.requires.fits ∙ sym u.all) u.ahead first u.within in
+    let marked : AreMarked before c.pieces.at n false = subst (AreMarked before c.pieces.at n) c.if-run.false (marked-next before c.pieces.at n here.count here.had _ (omega (arith, c.piece_at-piece.ensures.inside)) (u.ahead ∙ first)) in
+    let wide : length (take (n * 512) c.pieces.room) ≡ n * 512 = length-take-le (n * 512) c.pieces.room (omega (arith, c.requires.buffer, c.pieces.auto.room, c.piece_at-piece.ensures.few)) in
+    let number : length (take (n * 512) c.pieces.room) / 512 ≡ n = omega (arith, wide) in
+    let bytes : List ℕ = c.read_bytes.new.out in
+    let piece = subst (λ (m : ℕ). EachBytes c.pieces.stack c.args.d.0 c.pieces.at m (Ok bytes) c.read_bytes.new.self) number (record { any = c.in-Ok.ensures.any; steady = c.in-Ok.ensures.steady }) in
+    let len : length bytes ≡ 512 * n = piece.any.may.read.run.len in
+    let old : Sides = sides c.args.stack.now (g.O.BlockDev.state c.args.out.now) (g.W.Write.contents c.args.writer.now.inner) in
+    let new : Sides = sides c.read_bytes.new.self (g.O.BlockDev.state c.write.new.self) (g.W.Write.contents c.close-in-Ok.new.writer.inner) in
+    let tally : c.close-in-Ok.new.self ≡ record { last = None; lost = c.pieces.tally.lost } = ap₂ {C = Tally} (λ (l : Option LostRun) (m : ℕ). record { last = l; lost = m }) c.in_ok-close-in-Ok.ensures.last c.close-in-Ok.ensures.lost in
+    let k : ℕ = length bytes / 512 in
+    let count : length bytes / 512 ≡ n = omega (arith, len) in
+    let same : c.from-count.result ≡ n = c.from-count.ensures in
+    record {
+      so_far = subst (λ (m : ℕ). IsUnderway before c.args.d.0 old new (c.pieces.at + m) c.close-in-Ok.new.self c.note-in-Ok.new.noted) (sym same)
+          (underway-had _ _ _ _ _ _ _ u.so_far n bytes c.read_bytes.new.self k _ (g.O.BlockDev.state c.write.new.self) (g.W.Write.contents c.close-in-Ok.new.writer.inner) c.close-in-Ok.new.self c.note-in-Ok.new.noted
+          c.piece_at-piece.ensures.some piece marked (rw same at c.in_ok-note-in-Ok.ensures.ok) count c.in_ok-write-in-Ok.ensures.moved
+          c.in_ok-write-in-Ok.ensures.image
+          c.in_ok-close-in-Ok.ensures.text.ok tally);
+      ahead = ahead-next before c.pieces.at c.from-count.result _ _ _ (u.ahead ∙ sym c.next_run-run.ensures.same) c.pass-in-Ok.ensures;
+      config = c.in-Ok.ensures.any.config ∙ u.config;
+      within = omega (arith, inside, same, c.piece_at-piece.ensures.inside);
+      all = u.all;
+      few = u.few;
+      pace = c.after_bytes-pace.ensures;
+      kept = c.in_ok-close-in-Ok.ensures.text.kept ∙ u.kept;
+      unfailed = c.in_ok-write-in-Ok.ensures.moved.failures ∙ u.unfailed;
+      noted = notes-some c.pieces.noted c.note-in-Ok.new.noted _ c.in_ok-note-in-Ok.ensures.ok ∙ u.noted;
+    }
+
+pub returns-then-is_same-clause-err : goal.returns-then-is_same-clause-err
+returns-then-is_same-clause-err g c = begun _ _ _ _ _ _ _ c.pieces.invariant.so_far c.read_bytes.new.self _
+
+pub note-requires-then-piece-clause-room : goal.note-requires-then-piece-clause-room
+note-requires-then-piece-clause-room g c =
+    let u = c.pieces.invariant in
+    let first = first-run c.pieces.ahead c.next_run-run.new.self c.next_run-run.result c.next_run-run.ensures.same c.next_run-run.ensures.first in
+    let inside = ahead-inside (marks_ahead c.args.ahead) c.pieces.at c.sectors-sectors.result c.next_run-run.result.count c.next_run-run.result.had _ _ (c.requires.fits ∙ sym u.all) u.ahead first u.within in
+    λ x e. note-room _ _ _ _ _ _ _ u.so_far c.from-count.result (omega (arith, inside, u.few, c.from-count.ensures, c.piece_at-piece.ensures.inside)) x e
+
+pub returns-in_err-note-in-Err-clause-err : goal.returns-in_err-note-in-Err-clause-err
+returns-in_err-note-in-Err-clause-err g c =
+    let old : Sides = sides c.args.stack.now (g.O.BlockDev.state c.args.out.now) (g.W.Write.contents c.args.writer.now.inner) in
+    let new : Sides = sides c.read_bytes.new.self (g.O.BlockDev.state c.pieces.out) (g.W.Write.contents c.pieces.writer.inner) in
+    err-from c.from_residual-in_err-note-in-Err.result _ _ c.from_residual-in_err-note-in-Err.ensures.1 (subst (IsRescueEnd (marks_ahead c.args.ahead) c.args.d.0 old new c.pieces.writer.failed) (sym c.in_err-note-in-Err.ensures.err) (begun _ _ _ _ _ _ _ c.pieces.invariant.so_far c.read_bytes.new.self _))
+
+pub lose-requires : goal.lose-requires
+lose-requires g c =
+    let u = c.pieces.invariant in
+    let first = first-run c.pieces.ahead c.next_run-run.new.self c.next_run-run.result c.next_run-run.ensures.same c.next_run-run.ensures.first in
+    let inside = ahead-inside (marks_ahead c.args.ahead) c.pieces.at c.sectors-sectors.result c.next_run-run.result.count c.next_run-run.result.had _ _ (c.requires.fits ∙ sym u.all) u.ahead first u.within in
+    record {
+      ends = subst (EndsAt c.pieces.tally.last) (sym u.so_far.here) u.so_far.tallied.ends;
+      lost = few _ _ _ _ _ _ _ u.so_far;
+      room = omega (arith, inside, u.few, c.from-count.ensures, c.piece_at-piece.ensures.inside);
+    }
+
+pub pieces-preserved-then-piece : goal.pieces-preserved-then-piece
+pieces-preserved-then-piece g c =
+    let u = c.pieces.invariant in
+    let before : List Bool = marks_ahead c.args.ahead in
+    let here : Run = c.next_run-run.result in
+    let n : ℕ = c.piece_at-piece.result.count in
+    let first = first-run c.pieces.ahead c.next_run-run.new.self here c.next_run-run.ensures.same c.next_run-run.ensures.first in
+    let inside = ahead-inside before c.pieces.at c.sectors-sectors.result here.count here.had _ _ (c.requires.fits ∙ sym u.all) u.ahead first u.within in
+    let marked : AreMarked before c.pieces.at n false = subst (AreMarked before c.pieces.at n) c.if-run.false (marked-next before c.pieces.at n here.count here.had _ (omega (arith, c.piece_at-piece.ensures.inside)) (u.ahead ∙ first)) in
+    let wide : length (take (n * 512) c.pieces.room) ≡ n * 512 = length-take-le (n * 512) c.pieces.room (omega (arith, c.requires.buffer, c.pieces.auto.room, c.piece_at-piece.ensures.few)) in
+    let number : length (take (n * 512) c.pieces.room) / 512 ≡ n = omega (arith, wide) in
+    let piece = subst (λ (m : ℕ). EachBytes c.pieces.stack c.args.d.0 c.pieces.at m (Err c.in-Err.fault) c.read_bytes.new.self) number (record { any = c.in-Err.ensures.any; steady = c.in-Err.ensures.steady }) in
+    let alike : AreAlike c.pieces.stack.config c.args.d.0 c.pieces.at n = subst (λ (x : Configuration). AreAlike x c.args.d.0 c.pieces.at n) c.config-else-run.ensures.value (c.piece_at-piece.ensures.alike c.if-piece.true) in
+    let none : c.in-Err.fault ≡ NoMemory → ⊥ = λ e. false≢true (sym c.if-is_same.false ∙ c.is_same.ensures ∙ ap (λ (f : IoFault). is_same f NoMemory) e) in
+    let old : Sides = sides c.args.stack.now (g.O.BlockDev.state c.args.out.now) (g.W.Write.contents c.args.writer.now.inner) in
+    let new : Sides = sides c.read_bytes.new.self (g.O.BlockDev.state c.pieces.out) (g.W.Write.contents c.lose.new.writer.inner) in
+    let same : c.from-count.result ≡ n = c.from-count.ensures in
+    let grown : LostRun = run c.pieces.at c.from-count.result c.in-Err.fault in
+    let tally : c.lose.new.self ≡ record { last = Some (opened_by c.pieces.tally.last grown); lost = c.pieces.tally.lost + c.from-count.result } =
+    ap₂ {C = Tally} (λ (l : Option LostRun) (m : ℕ). record { last = l; lost = m }) c.in_ok-lose-in-Err.ensures.last c.in_ok-lose-in-Err.ensures.lost in
+    record {
+      so_far = subst (λ (m : ℕ). IsUnderway before c.args.d.0 old new (c.pieces.at + m) c.lose.new.self c.note-then-piece.new.noted) (sym same)
+          (underway-lost _ _ _ _ _ _ _ u.so_far n c.in-Err.fault c.read_bytes.new.self (g.W.Write.contents c.lose.new.writer.inner) c.lose.new.self c.note-then-piece.new.noted
+          c.piece_at-piece.ensures.some piece marked (rw same at c.in_ok-note-in-Err.ensures.ok) alike none (rw same at c.in_ok-lose-in-Err.ensures.text.ok)
+          (rw same at tally));
+      ahead = ahead-next before c.pieces.at c.from-count.result _ _ _ (u.ahead ∙ sym c.next_run-run.ensures.same) c.pass-then-piece.ensures;
+      config = c.in-Err.ensures.any.config ∙ u.config;
+      within = omega (arith, inside, same, c.piece_at-piece.ensures.inside);
+      all = u.all;
+      few = u.few;
+      pace = c.after_loss-pace.ensures;
+      kept = c.in_ok-lose-in-Err.ensures.text.kept ∙ u.kept;
+      unfailed = u.unfailed;
+      noted = notes-some c.pieces.noted c.note-then-piece.new.noted _ c.in_ok-note-in-Err.ensures.ok ∙ u.noted;
+    }
+
+pub pieces-preserved : goal.pieces-preserved
+pieces-preserved g c =
+    let u = c.pieces.invariant in
+    let before : List Bool = marks_ahead c.args.ahead in
+    let here : Run = c.next_run-run.result in
+    let n : ℕ = c.piece_at-piece.result.count in
+    let first = first-run c.pieces.ahead c.next_run-run.new.self here c.next_run-run.ensures.same c.next_run-run.ensures.first in
+    let marked : AreMarked before c.pieces.at n false = subst (AreMarked before c.pieces.at n) c.if-run.false (marked-next before c.pieces.at n here.count here.had _ (omega (arith, c.piece_at-piece.ensures.inside)) (u.ahead ∙ first)) in
+    let wide : length (take (n * 512) c.pieces.room) ≡ n * 512 = length-take-le (n * 512) c.pieces.room (omega (arith, c.requires.buffer, c.pieces.auto.room, c.piece_at-piece.ensures.few)) in
+    let number : length (take (n * 512) c.pieces.room) / 512 ≡ n = omega (arith, wide) in
+    let piece = subst (λ (m : ℕ). EachBytes c.pieces.stack c.args.d.0 c.pieces.at m (Err c.in-Err.fault) c.read_bytes.new.self) number (record { any = c.in-Err.ensures.any; steady = c.in-Err.ensures.steady }) in
+    record {
+      so_far = underway-again _ _ _ _ _ _ _ u.so_far n c.in-Err.fault c.read_bytes.new.self piece marked;
+      ahead = u.ahead ∙ sym c.next_run-run.ensures.same;
+      config = c.in-Err.ensures.any.config ∙ u.config;
+      within = u.within;
+      all = u.all;
+      few = u.few;
+      pace = c.after_failure-pace.ensures.pace;
+      kept = u.kept;
+      unfailed = u.unfailed;
+      noted = u.noted;
+    }
+
+pub overflow_sub-result : goal.overflow_sub-result
+overflow_sub-result g c = omega (arith, few _ _ _ _ _ _ _ c.pieces.invariant.so_far, c.pieces.invariant.within, c.close-2.ensures.lost)
+
+pub returns-clause-ok : goal.returns-clause-ok
+returns-clause-ok g c =
+    let u = c.pieces.invariant in
+    let all : c.sectors-sectors.result ≡ c.pieces.at = omega (arith, u.within, c.pieces-test.false) in
+    underway-all _ _ _ _ _ _ _ u.so_far (g.W.Write.contents c.close-2.new.writer.inner) c.sectors-sectors.result _ (sym all ∙ u.all) all
+    c.in_ok-close-2.ensures.text.ok (ap (λ m. record { read = c.sectors-sectors.result - m; lost = m }) c.close-2.ensures.lost) u.unfailed

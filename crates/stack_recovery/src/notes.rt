@@ -1,0 +1,25 @@
+//! The map that is made while a device is gone over.
+ghost use Rattle.std.specs.Prelude.{◌≡◌, ◌+◌, ◌≤◌, ◌^◌, length, replicate, IfErr, OnOk};
+ghost use Rattle.std.specs.Option.{ForSome};
+ghost use Rattle.rescue_map.specs.Maps.{marks};
+ghost use Rattle.stack_recovery.specs.Recoveries.{NotesMore};
+ghost use Rattle.stack_recovery.specs.declared.fault.RecoveryFault.TheVariants as recovery_fault;
+
+use crate::fault::RecoveryFault;
+use rescue_map::{Map, Run};
+
+/// Notes that the next sectors are had, or lost, where a map is made.
+pub(crate) fn note(noted: &mut Option<Map>, count: u64, had: bool) -> Result<(), RecoveryFault>
+    requires some { 1 ≤ count }
+    requires room { ForSome noted.old (λ map. length (marks map) + count ≤ 2 ^ 54) }
+    ensures ok { OnOk result (NotesMore noted.old noted.new (replicate count had)) }
+    ensures err { IfErr result (λ fault. fault ≡ recovery_fault.NoMemory) }
+{
+    match noted {
+        None => Ok(()),
+        Some(map) => match map.push(Run { count, had }) {
+            Ok(()) => Ok(()),
+            Err(_) => Err(RecoveryFault::NoMemory),
+        },
+    }
+}

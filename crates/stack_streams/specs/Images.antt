@@ -1,0 +1,55 @@
+-- The sectors of another device that are written to a mapped device.
+use Rattle.std.specs.Prelude.{◌≡◌, ◌⊎◌, ℕ, ◌+◌, ◌*◌, IsTrue, List, length, Some, Ok, Err}
+use Rattle.std.specs.List.{concat}
+use Rattle.block_device.specs.Device.{Device, HasFailed, run_of}
+use Rattle.stack_engine.specs.Stacks.{StackRecord}
+use Rattle.stack_engine.specs.WritePieces.{EachWrite, WritesInPieces}
+use Rattle.stack_streams.specs.declared.fault.StoreCause.{StoreCause}
+use Rattle.stack_streams.specs.declared.fault.StoreCause.TheVariants as cause
+use Rattle.stack_streams.specs.declared.fault.StoreFault.{StoreFault}
+use Rattle.stack_streams.specs.declared.input.StorePlace.{StorePlace}
+use Rattle.stack_streams.specs.Stores.{IsSynced, IsUnsynced, refusal_of}
+
+-- all sectors of a source are to come behind that one
+abbrev pub image_place : ℕ → Device → StorePlace
+image_place first source = record { first = first; length = Some (source.size * 512) }
+
+-- The first n sectors of the source were read, and written to device d from its sector first on, in pieces. Over a steady
+-- source the bytes are those that it holds.
+pub record HasStoredImage (d first n : ℕ) (w : StackRecord) (source : Device) (w' : StackRecord) : Type 0 where
+  pub bytes : List ℕ
+  pub count : length bytes ≡ 512 * n
+  pub pieces : WritesInPieces w d first bytes (Ok tt) w'
+  pub held : IsTrue source.steady → bytes ≡ concat (run_of source.image 0 n)
+
+-- all of them, and they were put on the media
+pub record StoresImage (d first : ℕ) (w : StackRecord) (source : Device) (w' : StackRecord) (n : ℕ) : Type 0 where
+  pub left : StackRecord
+  pub stored : HasStoredImage d first n w source left
+  pub all : n ≡ source.size
+  pub synced : IsSynced left w'
+
+-- why it ended early behind so many sectors: the source failed, or a write did
+abbrev pub ImageStopsAt : ℕ → ℕ → ℕ → StackRecord → Device → StackRecord → Device → StoreCause → Type 0
+ImageStopsAt d first n w source w' source' cause.Read = HasStoredImage d first n w source w' × HasFailed source source'
+ImageStopsAt d first n w source w' source' (cause.Write fault) =
+    (left : StackRecord) × HasStoredImage d first n w source left × (piece : List ℕ) × EachWrite left d (first + n) piece (Err fault) w'
+ImageStopsAt d first n w source w' source' other = ⊥
+
+-- all was written, and a leaf couldn't be synced
+pub record IsImageSyncStop (d first : ℕ) (w : StackRecord) (source : Device) (w' : StackRecord) (fault : StoreFault) : Type 0 where
+  pub left : StackRecord
+  pub stored : HasStoredImage d first fault.written w source left
+  pub unsynced : IsUnsynced fault.cause left w'
+
+-- or it was known before, and nothing was done
+pub record IsImageRefused (d first : ℕ) (w : StackRecord) (source : Device) (w' : StackRecord) (source' : Device) (fault : StoreFault) : Type 0 where
+  pub why : refusal_of w.config d (image_place first source) ≡ Some fault.cause
+  pub none : fault.written ≡ 0
+  pub same : w' ≡ w
+  pub unread : source' ≡ source
+
+abbrev pub IsImageEnd : ℕ → ℕ → StackRecord → Device → StackRecord → Device → StoreFault → Type 0
+IsImageEnd d first w source w' source' fault =
+    IsImageRefused d first w source w' source' fault
+    ⊎ (ImageStopsAt d first fault.written w source w' source' fault.cause ⊎ IsImageSyncStop d first w source w' fault)
