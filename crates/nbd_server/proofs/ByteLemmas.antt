@@ -5,13 +5,13 @@ use Rattle.std.proofs.lemmas.List.{length-append, length-drop, length-replicate,
 use Rattle.std.proofs.Math.Seq.{take-append-add}
 use borrow.Rule.Slice.PartMut.{put_mid, post_of}
 use Rattle.request_queue.specs.World.{World}
-use Rattle.nbd_server.specs.declared.header.Header.{Header}
-use Rattle.nbd_server.specs.declared.header.Command.{Command}
-use Rattle.nbd_server.specs.declared.header.Command.TheVariants.{Read, Write, Zero, Hint, Flush}
-use Rattle.nbd_server.specs.declared.request_error.RequestError.{RequestError}
-use Rattle.nbd_server.specs.declared.request_error.RequestError.TheVariants.{NotPermitted, Invalid, NoSpace}
-use Rattle.nbd_server.specs.Exports.{ExportRecord}
-use Rattle.nbd_server.specs.Headers.{cache_command, command_of, flush_command, has_fua, has_offered, payload_len, most_length, read_command, trim_command, write_command, zero_command}
+use Rattle.nbd_protocol.specs.declared.header.Header.{Header}
+use Rattle.nbd_protocol.specs.declared.header.Command.{Command}
+use Rattle.nbd_protocol.specs.declared.header.Command.TheVariants.{Read, Write, Zero, Hint, Flush}
+use Rattle.nbd_protocol.specs.declared.request_error.RequestError.{RequestError}
+use Rattle.nbd_protocol.specs.declared.request_error.RequestError.TheVariants.{NotPermitted, Invalid, NoSpace}
+use Rattle.nbd_protocol.specs.Exports.{ExportRecord}
+use Rattle.nbd_protocol.specs.Headers.{cache_command, command_of, flush_command, has_fua, has_offered, payload_len, most_length, read_command, trim_command, write_command, zero_command}
 use Rattle.nbd_server.specs.Sectors.{IsStored, FailsToStore}
 use Rattle.nbd_server.specs.Transmission.{RequestOutcome, FailsToReadEnds, Flushes, IsFramed, ReadsBytes, ReadsEnds, Serves, ServesCommand, Settles, Stays, WritesBytes, WritesGiven, WritesSome, room_behind, touched, written}
 

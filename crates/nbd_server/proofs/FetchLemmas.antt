@@ -23,10 +23,11 @@ use Rattle.request_queue.specs.WholeRuns.{ReadsWhole}
 use Rattle.request_queue.specs.World.{World, Step, read_bytes}
 use Rattle.request_queue.proofs.lemmas.BytesLemmas.{bytes-at}
 use Rattle.request_queue.proofs.lemmas.LedLemmas.{led-none, led-one}
-use Rattle.nbd_server.specs.declared.request_error.RequestError.TheVariants.{NoMemory}
-use Rattle.nbd_server.specs.Exports.{ExportRecord}
+use Rattle.nbd_protocol.specs.declared.request_error.RequestError.TheVariants.{NoMemory}
+use Rattle.nbd_protocol.specs.Exports.{ExportRecord}
 use Rattle.nbd_server.specs.Premises.{AreBytesOf, AreSectorsOf}
-use Rattle.nbd_server.specs.Sectors.{IsFetched, FailsToFetch, error_of}
+use Rattle.nbd_protocol.specs.Headers.{error_of}
+use Rattle.nbd_server.specs.Sectors.{IsFetched, FailsToFetch}
 use Rattle.nbd_server.specs.Transmission.{room_behind, touched}
 
 -- ---- which sectors a request is for

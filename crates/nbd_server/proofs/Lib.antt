@@ -1,7 +1,5 @@
 pub mod ByteLemmas
-pub mod CountedLemmas
 pub mod FetchLemmas
-pub mod IntakeLemmas
 pub mod ServiceLemmas
 pub mod StoreLemmas
 pub mod MessageLemmas

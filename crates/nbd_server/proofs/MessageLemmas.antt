@@ -1,31 +1,33 @@
 -- Messages as they are taken and answered.
-use Rattle.std.proofs.Common.{◌≡◌, ◌≢◌, ◌<◌, ◌≤◌, ◌^◌, ℕ, List, [], ◌∷◌, ◌++◌, length, refl, ap, sym, ◌∙◌, subst, append-nil, inl, inr, Option, Some, None, Ok, Err, arith}
-use Rattle.std.specs.Prelude.{◌⊎◌, ◌||◌, Bool, true, false, not, take, codes, ◌==◌, if◌then◌else◌}
+use Rattle.std.proofs.Common.{◌≡◌, ◌≢◌, ◌<◌, ◌≤◌, ℕ, List, [], ◌∷◌, ◌++◌, length, refl, ap, sym, ◌∙◌, subst, append-nil, inl, inr, Option, Some, None, Ok, Err, arith}
+use Rattle.std.specs.Prelude.{◌⊎◌, ◌||◌, ◌&&◌, All, Bool, true, false, is_some, not, position, take, codes, ◌==◌, if◌then◌else◌}
 use Rattle.std.specs.Io.KnownBytes.{Appends, Consumes, Keeps}
 use Rattle.std.specs.Str.{bytes_eq}
 use Rattle.std.proofs.KnownBytes.{Appends-nil, Appends-kept, Consumes-trans, Keeps-refl}
-use Rattle.std.proofs.lemmas.Bool.{eqb-true, ne_eqb}
+use Rattle.std.proofs.lemmas.Bool.{eqb-true}
+use Rattle.std.proofs.lemmas.List.Elements.{All-get_or}
+use Rattle.std.proofs.lemmas.List.Quantifiers.{position-Some}
 use Rattle.std.proofs.lemmas.Slice.Eq.{bytes_eq-Decides}
 use Rattle.request_queue.specs.World.{World}
 use Rattle.counted_io.specs.Streams.{Streams, streams}
-use Rattle.nbd_server.specs.declared.fault.ServiceFault.{ServiceFault}
-use Rattle.nbd_server.specs.declared.fault.ServiceFault.TheVariants as fault
-use Rattle.nbd_server.specs.declared.phase.Phase.{Phase}
-use Rattle.nbd_server.specs.declared.phase.Phase.TheVariants.{Greeted, Haggling, Serving, Over}
-use Rattle.nbd_server.specs.declared.header.Header.{Header}
-use Rattle.nbd_server.specs.Numbers.{number32}
-use Rattle.nbd_server.specs.Exports.{ExportRecord, is_asked}
-use Rattle.nbd_server.specs.Handshake.{answer_to, answer_to_long, most_data, names_export, phase_after, phase_after_long}
-use Rattle.nbd_server.specs.Headers.{header_of, payload_len, request_magic}
+use Rattle.nbd_protocol.specs.declared.fault.ServiceFault.{ServiceFault}
+use Rattle.nbd_protocol.specs.declared.fault.ServiceFault.TheVariants as fault
+use Rattle.nbd_protocol.specs.declared.phase.Phase.{Phase}
+use Rattle.nbd_protocol.specs.declared.phase.Phase.TheVariants.{Greeted, Haggling, Serving, Over}
+use Rattle.nbd_protocol.specs.declared.header.Header.{Header}
+use Rattle.nbd_protocol.specs.Numbers.{number32}
+use Rattle.nbd_protocol.specs.Exports.{ExportRecord, HasShortName, asked, export_at, most_name, no_export, place_of}
+use Rattle.nbd_protocol.specs.Handshake.{answer_to, answer_to_long, most_data, names_export, phase_after, phase_after_long}
+use Rattle.nbd_protocol.specs.Headers.{header_of, payload_len, request_magic}
 use Rattle.nbd_server.specs.Causes.{Breaks, IsCut, IsCutWithin, IsNaming}
-use Rattle.nbd_server.specs.Streaming.{IsShort, Spoken, Stops, TakesInto}
+use Rattle.nbd_protocol.specs.Streaming.{IsShort, Spoken, Stops, TakesInto}
 use Rattle.nbd_server.specs.Transmission.{RequestOutcome, Serves, simple_reply}
 use Rattle.nbd_server.specs.Service.{Answers, AnswersOption, IsTooLong, IsAnswered, IsUnnamed, IsUnread, TakesOption, TakesRequest, Turns}
 
 -- what came of a message that the service ends in
-broken : (e : ExportRecord) (phase : Phase) (w w' : World) (old new : Streams) (x : ServiceFault) → w' ≡ w → (part : List ℕ) → Consumes old.input new.input part → Keeps old.output new.output → Breaks e phase part new.input x
-    → Spoken old new (λ taken written. (written ≡ []) × (w' ≡ w) × Breaks e phase taken new.input x)
-broken e phase w w' old new x same part c k cause = record {
+broken : (es : List ExportRecord) (phase : Phase) (w w' : World) (old new : Streams) (x : ServiceFault) → w' ≡ w → (part : List ℕ) → Consumes old.input new.input part → Keeps old.output new.output → Breaks es phase part new.input x
+    → Spoken old new (λ taken written. (written ≡ []) × (w' ≡ w) × Breaks es phase taken new.input x)
+broken es phase w w' old new x same part c k cause = record {
   taken = part;
   written = [];
   consumed = c;
@@ -33,40 +35,40 @@ broken e phase w w' old new x same part c k cause = record {
   holds = (refl, same, cause);
 }
 
-pub turns-fault : (e : ExportRecord) (phase : Phase) (w w' : World) (old new : Streams) (x : ServiceFault) → w' ≡ w → (part : List ℕ) → Consumes old.input new.input part → Keeps old.output new.output → Breaks e phase part new.input x
-    → Turns e phase w w' old new (Err x)
-turns-fault e phase w w' old new fault.Lost same part c k cause = broken e phase w w' old new fault.Lost same part c k cause
-turns-fault e phase w w' old new fault.Magic same part c k cause = broken e phase w w' old new fault.Magic same part c k cause
-turns-fault e phase w w' old new fault.Flags same part c k cause = broken e phase w w' old new fault.Flags same part c k cause
-turns-fault e phase w w' old new fault.NoSuchExport same part c k cause = broken e phase w w' old new fault.NoSuchExport same part c k cause
-turns-fault e phase w w' old new fault.ReadFault same part c k cause = broken e phase w w' old new fault.ReadFault same part c k cause
-turns-fault e phase w w' old new fault.WriteFault same part c k cause = absurd cause
+pub turns-fault : (es : List ExportRecord) (phase : Phase) (w w' : World) (old new : Streams) (x : ServiceFault) → w' ≡ w → (part : List ℕ) → Consumes old.input new.input part → Keeps old.output new.output → Breaks es phase part new.input x
+    → Turns es phase w w' old new (Err x)
+turns-fault es phase w w' old new fault.Lost same part c k cause = broken es phase w w' old new fault.Lost same part c k cause
+turns-fault es phase w w' old new fault.Magic same part c k cause = broken es phase w w' old new fault.Magic same part c k cause
+turns-fault es phase w w' old new fault.Flags same part c k cause = broken es phase w w' old new fault.Flags same part c k cause
+turns-fault es phase w w' old new fault.NoSuchExport same part c k cause = broken es phase w w' old new fault.NoSuchExport same part c k cause
+turns-fault es phase w w' old new fault.ReadFault same part c k cause = broken es phase w w' old new fault.ReadFault same part c k cause
+turns-fault es phase w w' old new fault.WriteFault same part c k cause = absurd cause
 
 -- a message that began and didn't end, or didn't begin
-cut-breaks : (e : ExportRecord) (phase : Phase) (rest : List ℕ) (input : Option (List ℕ)) (x : ServiceFault) → Stops input x → (x ≡ fault.Lost → IsCut phase rest) → (rest ≡ []) ⊎ IsCut phase rest → Breaks e phase rest input x
-cut-breaks e phase rest input fault.Lost stops lost failed = (lost refl, stops)
-cut-breaks e phase rest input fault.Magic stops lost failed = absurd stops
-cut-breaks e phase rest input fault.Flags stops lost failed = absurd stops
-cut-breaks e phase rest input fault.NoSuchExport stops lost failed = absurd stops
-cut-breaks e phase rest input fault.ReadFault stops lost failed = failed
-cut-breaks e phase rest input fault.WriteFault stops lost failed = absurd stops
+cut-breaks : (es : List ExportRecord) (phase : Phase) (rest : List ℕ) (input : Option (List ℕ)) (x : ServiceFault) → Stops input x → (x ≡ fault.Lost → IsCut phase rest) → (rest ≡ []) ⊎ IsCut phase rest → Breaks es phase rest input x
+cut-breaks es phase rest input fault.Lost stops lost failed = (lost refl, stops)
+cut-breaks es phase rest input fault.Magic stops lost failed = absurd stops
+cut-breaks es phase rest input fault.Flags stops lost failed = absurd stops
+cut-breaks es phase rest input fault.NoSuchExport stops lost failed = absurd stops
+cut-breaks es phase rest input fault.ReadFault stops lost failed = failed
+cut-breaks es phase rest input fault.WriteFault stops lost failed = absurd stops
 
-module _ (e : ExportRecord) (phase : Phase) (size : ℕ) (within : (rest : List ℕ) → IsCutWithin size rest → IsCut phase rest) where
+module _ (es : List ExportRecord) (phase : Phase) (size : ℕ) (within : (rest : List ℕ) → IsCutWithin size rest → IsCut phase rest) where
   begun : (rest : List ℕ) → length rest < size → (rest ≡ []) ⊎ IsCut phase rest
   begun [] few = inl refl
   begun (byte ∷ more) few = inr (within (byte ∷ more) (omega arith, few))
 
   -- the header wasn't whole
   pub header-cut : (w : World) (input input' output : Option (List ℕ)) (x : ServiceFault) (n : ℕ) → n ≡ size → (short : IsShort n input input' x) × (x ≡ fault.Lost → 0 < length short.part)
-      → Turns e phase w w (streams input output) (streams input' output) (Err x)
+      → Turns es phase w w (streams input output) (streams input' output) (Err x)
   header-cut w input input' output x n is p =
       let few : length p.0.part < size = omega (arith, p.0.few, is) in
-      turns-fault e phase w w (streams input output) (streams input' output) x refl p.0.part p.0.consumed (Keeps-refl output)
-      (cut-breaks e phase p.0.part input' x p.0.cause (λ lost. within p.0.part (p.1 lost, few)) (begun p.0.part few))
+      turns-fault es phase w w (streams input output) (streams input' output) x refl p.0.part p.0.consumed (Keeps-refl output)
+      (cut-breaks es phase p.0.part input' x p.0.cause (λ lost. within p.0.part (p.1 lost, few)) (begun p.0.part few))
 
-pub flags-unlike : (e : ExportRecord) (w : World) (input input' output : Option (List ℕ)) (bytes : List ℕ) → Consumes input input' bytes → length bytes ≡ 4 → 4 ≤ number32 bytes 0
-    → Turns e Greeted w w (streams input output) (streams input' output) (Err fault.Flags)
-flags-unlike e w input input' output bytes c size other = turns-fault e Greeted w w (streams input output) (streams input' output) fault.Flags refl bytes c (Keeps-refl output) (size, other)
+pub flags-unlike : (es : List ExportRecord) (w : World) (input input' output : Option (List ℕ)) (bytes : List ℕ) → Consumes input input' bytes → length bytes ≡ 4 → 4 ≤ number32 bytes 0
+    → Turns es Greeted w w (streams input output) (streams input' output) (Err fault.Flags)
+flags-unlike es w input input' output bytes c size other = turns-fault es Greeted w w (streams input output) (streams input' output) fault.Flags refl bytes c (Keeps-refl output) (size, other)
 
 -- ---- options
 
@@ -85,56 +87,68 @@ other-name is = cc
 pub unread-writing : (Is : List ℕ → Phase → Type 0) (option count : ℕ) (old new : Option (List ℕ)) (x : ServiceFault) → Answers Is (IsUnread option count) old new (Err x) → Some x ≢ Some fault.ReadFault
 unread-writing Is option count old new x k = unanswered Is (IsUnread option count) old new (λ p. other-name p.0) x k
 
-pub unnamed-writing : (Is : List ℕ → Phase → Type 0) (e : ExportRecord) (option : ℕ) (content : List ℕ) (old new : Option (List ℕ)) (x : ServiceFault) → Answers Is (IsUnnamed e option content) old new (Err x) → Some x ≢ Some fault.ReadFault
-unnamed-writing Is e option content old new x k = unanswered Is (IsUnnamed e option content) old new (λ p. other-name p.0) x k
+pub unnamed-writing : (Is : List ℕ → Phase → Type 0) (es : List ExportRecord) (option : ℕ) (content : List ℕ) (old new : Option (List ℕ)) (x : ServiceFault) → Answers Is (IsUnnamed es option content) old new (Err x) → Some x ≢ Some fault.ReadFault
+unnamed-writing Is es option content old new x k = unanswered Is (IsUnnamed es option content) old new (λ p. other-name p.0) x k
 
 not-or : (asked named : Bool) → (not asked || named) ≡ false → (asked ≡ true) × (named ≡ false)
 not-or true true h = let clash : true ≡ false = h in cc
 not-or true false h = (refl, refl)
 not-or false named h = let clash : true ≡ false = h in cc
 
+both-left : (a b : Bool) → (a && b) ≡ true → a ≡ true
+both-left true b h = refl
+both-left false b h = let clash : false ≡ true = h in cc
+
+no-place : (found : Option ℕ) → is_some found ≡ false → found ≡ None
+no-place None h = refl
+no-place (Some place) h = let clash : true ≡ false = h in cc
+
 -- EXPORT_NAME of another
-pub names-other : (e : ExportRecord) (option : ℕ) (content : List ℕ) → names_export e option content ≡ false → (option ≡ 1) × (is_asked e content ≡ false)
-names-other e option content h = let p = not-or (option == 1) (is_asked e content) h in (eqb-true option 1 p.0, p.1)
+pub names-other : (es : List ExportRecord) (option : ℕ) (content : List ℕ) → names_export es option content ≡ false → (option ≡ 1) × (asked es content ≡ None)
+names-other es option content h = let p = not-or (option == 1) (is_some (asked es content)) h in (eqb-true option 1 p.0, no-place (asked es content) p.1)
 
-neither : (a b : Bool) → a ≡ false → b ≡ false → (a || b) ≡ false
-neither false b p q = q
-neither true b p q = let clash : true ≡ false = p in cc
-
--- a name that is longer than the export's
-long-name : (e : ExportRecord) (name : List ℕ) → length e.name < length name → is_asked e name ≡ false
-long-name e name longer = neither (length name == 0) (bytes_eq name e.name) (ne_eqb (length name) 0 (λ none. omega (arith, none, longer))) (apart (bytes_eq name e.name) refl)
+-- a name that is longer than any export's
+pub long-name : (es : List ExportRecord) (name : List ℕ) → All HasShortName es → most_name < length name → asked es name ≡ None
+unfolding asked
+long-name es name short longer = go ((length name == 0) && (length es == 1)) refl
   where
-    apart : (same : Bool) → bytes_eq name e.name ≡ same → same ≡ false
-    apart true is = let equal = (bytes_eq-Decides name e.name).0 is in absurd (omega (arith, ap length equal, longer))
-    apart false is = refl
+    apart : (found : Option ℕ) → place_of es name ≡ found → found ≡ None
+    apart None is = refl
+    apart (Some place) is =
+        let p = position-Some (λ e. bytes_eq e.name name) es place no_export is in
+        let equal = (bytes_eq-Decides (export_at es place).name name).0 p.1 in
+        absurd (omega (arith, ap length equal, longer, All-get_or HasShortName es place no_export p.0 short))
+
+    go : (only : Bool) → ((length name == 0) && (length es == 1)) ≡ only → (if only then Some 0 else place_of es name) ≡ None
+    go true is = absurd (omega (arith, eqb-true (length name) 0 (both-left (length name == 0) (length es == 1) is), longer))
+    go false is = apart (place_of es name) refl
 
 -- what is replied to an option whose data are too long
 pub too-long : (no_zeroes : Bool) (option count : ℕ) → most_data < count → option ≢ 1 → IsTooLong no_zeroes option count (answer_to_long option) (phase_after_long no_zeroes option)
 too-long no_zeroes option count long other = record { long = long; other = other; reply_is = refl; next_is = refl }
 
 -- and to one whose data are there
-pub is-answered : (e : ExportRecord) (no_zeroes : Bool) (option : ℕ) (content : List ℕ) → length content ≤ most_data → names_export e option content ≡ true
-    → IsAnswered e no_zeroes option content (answer_to e no_zeroes option content) (phase_after e no_zeroes option content)
-is-answered e no_zeroes option content short named = record { short = short; named = named; reply_is = refl; next_is = refl }
+pub is-answered : (es : List ExportRecord) (no_zeroes : Bool) (option : ℕ) (content : List ℕ) → length content ≤ most_data → names_export es option content ≡ true
+    → IsAnswered es no_zeroes option content (answer_to es no_zeroes option content) (phase_after es no_zeroes option content)
+is-answered es no_zeroes option content short named = record { short = short; named = named; reply_is = refl; next_is = refl }
 
-module _ (e : ExportRecord) (no_zeroes : Bool) (w : World) (input mid input' : Option (List ℕ)) (header : List ℕ) (first : Consumes input mid header) (size : length header ≡ 16) where
-  pub option-unlike : (output : Option (List ℕ)) → take 8 header ≢ codes "IHAVEOPT" → Turns e (Haggling no_zeroes) w w (streams input output) (streams mid output) (Err fault.Magic)
-  option-unlike output other = turns-fault e (Haggling no_zeroes) w w (streams input output) (streams mid output) fault.Magic refl header first (Keeps-refl output) (size, other)
+module _ (es : List ExportRecord) (no_zeroes : Bool) (w : World) (input mid input' : Option (List ℕ)) (header : List ℕ) (first : Consumes input mid header) (size : length header ≡ 16) where
+  pub option-unlike : (output : Option (List ℕ)) → take 8 header ≢ codes "IHAVEOPT" → Turns es (Haggling no_zeroes) w w (streams input output) (streams mid output) (Err fault.Magic)
+  option-unlike output other = turns-fault es (Haggling no_zeroes) w w (streams input output) (streams mid output) fault.Magic refl header first (Keeps-refl output) (size, other)
 
   module _ (magic : take 8 header ≡ codes "IHAVEOPT") (output output' : Option (List ℕ)) where
     -- the client was lost in an option's data, or the reader failed there
-    pub option-lost : (x : ServiceFault) → IsShort (number32 header 12) mid input' x → Turns e (Haggling no_zeroes) w w (streams input output) (streams input' output) (Err x)
+    pub option-lost : (x : ServiceFault) → IsShort (number32 header 12) mid input' x → Turns es (Haggling no_zeroes) w w (streams input output) (streams input' output) (Err x)
     option-lost x s =
         let cut : IsCut (Haggling no_zeroes) (header ++ s.part) = inr (record { header = header; part = s.part; rest_is = refl; is_header = record { size = size; magic = magic }; few = s.few }) in
-        turns-fault e (Haggling no_zeroes) w w (streams input output) (streams input' output) x refl (header ++ s.part) (Consumes-trans input mid input' header s.part first s.consumed) (Keeps-refl output)
-        (cut-breaks e (Haggling no_zeroes) (header ++ s.part) input' x s.cause (λ lost. cut) (inr cut))
+        turns-fault es (Haggling no_zeroes) w w (streams input output) (streams input' output) x refl (header ++ s.part) (Consumes-trans input mid input' header s.part first s.consumed) (Keeps-refl output)
+        (cut-breaks es (Haggling no_zeroes) (header ++ s.part) input' x s.cause (λ lost. cut) (inr cut))
 
-    option-takes : (content : List ℕ) → length content ≡ number32 header 12 → (next : Phase) (reply : List ℕ) → AnswersOption e no_zeroes (number32 header 8) content reply next → TakesOption e no_zeroes (header ++ content) reply next
+    option-takes : (content : List ℕ) → length content ≡ number32 header 12 → (next : Phase) (reply : List ℕ) → AnswersOption es no_zeroes (number32 header 8) content reply next → TakesOption es no_zeroes (header ++ content) reply next
     option-takes content count next reply answered = record { header = header; content = content; message_is = refl; size = size; magic = magic; count = count; answered = answered }
 
-    option-answered : (content : List ℕ) → Consumes mid input' content → length content ≡ number32 header 12 → (next : Phase) (reply : List ℕ) → AnswersOption e no_zeroes (number32 header 8) content reply next → Appends output output' reply
-        → Turns e (Haggling no_zeroes) w w (streams input output) (streams input' output') (Ok (Some next))
+    option-answered : (content : List ℕ) → Consumes mid input' content → length content ≡ number32 header 12 → (next : Phase) (reply : List ℕ) → AnswersOption es no_zeroes (number32 header 8) content reply next → Appends output output' reply
+        → Turns es (Haggling no_zeroes) w w (streams input output) (streams input' output') (Ok (Some next))
     option-answered content c count next reply answered a = record {
       taken = header ++ content;
       written = reply;
@@ -145,13 +159,13 @@ module _ (e : ExportRecord) (no_zeroes : Bool) (w : World) (input mid input' : O
 
     -- it has no reply, or the writer failed in that
     pub option-ends : (content : List ℕ) → Consumes mid input' content → length content ≡ number32 header 12 → (Is : List ℕ → Phase → Type 0) (Ends : ServiceFault → Type 0) (x : ServiceFault)
-        → ((reply : List ℕ) (next : Phase) → Is reply next → AnswersOption e no_zeroes (number32 header 8) content reply next) → (Ends x → Breaks e (Haggling no_zeroes) (header ++ content) input' x)
-        → Answers Is Ends output output' (Err x) → Turns e (Haggling no_zeroes) w w (streams input output) (streams input' output') (Err x)
-    option-ends content c count Is Ends fault.Lost answers breaks k = turns-fault e (Haggling no_zeroes) w w (streams input output) (streams input' output') fault.Lost refl (header ++ content) (Consumes-trans input mid input' header content first c) k.0 (breaks k.1)
-    option-ends content c count Is Ends fault.Magic answers breaks k = turns-fault e (Haggling no_zeroes) w w (streams input output) (streams input' output') fault.Magic refl (header ++ content) (Consumes-trans input mid input' header content first c) k.0 (breaks k.1)
-    option-ends content c count Is Ends fault.Flags answers breaks k = turns-fault e (Haggling no_zeroes) w w (streams input output) (streams input' output') fault.Flags refl (header ++ content) (Consumes-trans input mid input' header content first c) k.0 (breaks k.1)
-    option-ends content c count Is Ends fault.NoSuchExport answers breaks k = turns-fault e (Haggling no_zeroes) w w (streams input output) (streams input' output') fault.NoSuchExport refl (header ++ content) (Consumes-trans input mid input' header content first c) k.0 (breaks k.1)
-    option-ends content c count Is Ends fault.ReadFault answers breaks k = turns-fault e (Haggling no_zeroes) w w (streams input output) (streams input' output') fault.ReadFault refl (header ++ content) (Consumes-trans input mid input' header content first c) k.0 (breaks k.1)
+        → ((reply : List ℕ) (next : Phase) → Is reply next → AnswersOption es no_zeroes (number32 header 8) content reply next) → (Ends x → Breaks es (Haggling no_zeroes) (header ++ content) input' x)
+        → Answers Is Ends output output' (Err x) → Turns es (Haggling no_zeroes) w w (streams input output) (streams input' output') (Err x)
+    option-ends content c count Is Ends fault.Lost answers breaks k = turns-fault es (Haggling no_zeroes) w w (streams input output) (streams input' output') fault.Lost refl (header ++ content) (Consumes-trans input mid input' header content first c) k.0 (breaks k.1)
+    option-ends content c count Is Ends fault.Magic answers breaks k = turns-fault es (Haggling no_zeroes) w w (streams input output) (streams input' output') fault.Magic refl (header ++ content) (Consumes-trans input mid input' header content first c) k.0 (breaks k.1)
+    option-ends content c count Is Ends fault.Flags answers breaks k = turns-fault es (Haggling no_zeroes) w w (streams input output) (streams input' output') fault.Flags refl (header ++ content) (Consumes-trans input mid input' header content first c) k.0 (breaks k.1)
+    option-ends content c count Is Ends fault.NoSuchExport answers breaks k = turns-fault es (Haggling no_zeroes) w w (streams input output) (streams input' output') fault.NoSuchExport refl (header ++ content) (Consumes-trans input mid input' header content first c) k.0 (breaks k.1)
+    option-ends content c count Is Ends fault.ReadFault answers breaks k = turns-fault es (Haggling no_zeroes) w w (streams input output) (streams input' output') fault.ReadFault refl (header ++ content) (Consumes-trans input mid input' header content first c) k.0 (breaks k.1)
     option-ends content c count Is Ends fault.WriteFault answers breaks k = record {
       message = header ++ content;
       reply = k.0;
@@ -164,47 +178,47 @@ module _ (e : ExportRecord) (no_zeroes : Bool) (w : World) (input mid input' : O
     naming name count option = record { header = header; rest_is = refl; is_header = record { size = size; magic = magic }; option = option; count = count }
 
     -- a name that is another's
-    pub unnamed-breaks : (content : List ℕ) → length content ≡ number32 header 12 → (option : ℕ) → option ≡ number32 header 8 → (x : ServiceFault) → IsUnnamed e option content x
-        → Breaks e (Haggling no_zeroes) (header ++ content) input' x
-    unnamed-breaks content count option is x p = subst (Breaks e (Haggling no_zeroes) (header ++ content) input') (sym p.0) (content, naming content count (sym is ∙ p.1), p.2)
+    pub unnamed-breaks : (content : List ℕ) → length content ≡ number32 header 12 → (option : ℕ) → option ≡ number32 header 8 → (x : ServiceFault) → IsUnnamed es option content x
+        → Breaks es (Haggling no_zeroes) (header ++ content) input' x
+    unnamed-breaks content count option is x p = subst (Breaks es (Haggling no_zeroes) (header ++ content) input') (sym p.0) (content, naming content count (sym is ∙ p.1), p.2)
 
     -- a name that is too long
-    pub unread-breaks : length e.name < 2 ^ 16 → (content : List ℕ) → length content ≡ number32 header 12 → (option n : ℕ) → option ≡ number32 header 8 → n ≡ number32 header 12 → (x : ServiceFault) → IsUnread option n x
-        → Breaks e (Haggling no_zeroes) (header ++ content) input' x
+    pub unread-breaks : All HasShortName es → (content : List ℕ) → length content ≡ number32 header 12 → (option n : ℕ) → option ≡ number32 header 8 → n ≡ number32 header 12 → (x : ServiceFault) → IsUnread option n x
+        → Breaks es (Haggling no_zeroes) (header ++ content) input' x
     unread-breaks short content count option n is same x p =
-        subst (Breaks e (Haggling no_zeroes) (header ++ content) input') (sym p.0) (content, naming content count (sym is ∙ p.1), long-name e content (omega (arith, p.2, count, same, short)))
+        subst (Breaks es (Haggling no_zeroes) (header ++ content) input') (sym p.0) (content, naming content count (sym is ∙ p.1), long-name es content short (omega (arith, p.2, count, same)))
 
     -- an option whose data are there
-    pub option-told : (content : List ℕ) → TakesInto (Some content) (number32 header 12) mid input' → (next : Phase) (Ends : ServiceFault → Type 0) → Answers (IsAnswered e no_zeroes (number32 header 8) content) Ends output output' (Ok next)
-        → Turns e (Haggling no_zeroes) w w (streams input output) (streams input' output') (Ok (Some next))
+    pub option-told : (content : List ℕ) → TakesInto (Some content) (number32 header 12) mid input' → (next : Phase) (Ends : ServiceFault → Type 0) → Answers (IsAnswered es no_zeroes (number32 header 8) content) Ends output output' (Ok next)
+        → Turns es (Haggling no_zeroes) w w (streams input output) (streams input' output') (Ok (Some next))
     option-told content t next Ends a =
         option-answered content (subst (λ l. Consumes mid input' l) (sym t.kept) t.takes.consumed) (ap length t.kept ∙ t.takes.count) next a.0 (inl a.1) a.2
 
     -- one whose data are too long
     pub option-refused : TakesInto None (number32 header 12) mid input' → (next : Phase) (Ends : ServiceFault → Type 0) → Answers (IsTooLong no_zeroes (number32 header 8) (number32 header 12)) Ends output output' (Ok next)
-        → Turns e (Haggling no_zeroes) w w (streams input output) (streams input' output') (Ok (Some next))
+        → Turns es (Haggling no_zeroes) w w (streams input output) (streams input' output') (Ok (Some next))
     option-refused t next Ends a =
         let room = subst (λ n. IsTooLong no_zeroes (number32 header 8) n a.0 next) (sym t.takes.count) a.1 in
         option-answered t.takes.bytes t.takes.consumed t.takes.count next a.0 (inr room) a.2
 
 -- ---- requests
 
-pub request-unlike : (e : ExportRecord) (w : World) (input input' output : Option (List ℕ)) (header : List ℕ) → Consumes input input' header → length header ≡ 28 → number32 header 0 ≢ request_magic
-    → Turns e Serving w w (streams input output) (streams input' output) (Err fault.Magic)
-request-unlike e w input input' output header c size other = turns-fault e Serving w w (streams input output) (streams input' output) fault.Magic refl header c (Keeps-refl output) (size, other)
+pub request-unlike : (es : List ExportRecord) (place : ℕ) (w : World) (input input' output : Option (List ℕ)) (header : List ℕ) → Consumes input input' header → length header ≡ 28 → number32 header 0 ≢ request_magic
+    → Turns es (Serving place) w w (streams input output) (streams input' output) (Err fault.Magic)
+request-unlike es place w input input' output header c size other = turns-fault es (Serving place) w w (streams input output) (streams input' output) fault.Magic refl header c (Keeps-refl output) (size, other)
 
-module _ (e : ExportRecord) (w w' : World) (input mid input' : Option (List ℕ)) (header : List ℕ) (first : Consumes input mid header) (size : length header ≡ 28) (magic : number32 header 0 ≡ request_magic) where
+module _ (es : List ExportRecord) (place : ℕ) (e : ExportRecord) (at : export_at es place ≡ e) (w w' : World) (input mid input' : Option (List ℕ)) (header : List ℕ) (first : Consumes input mid header) (size : length header ≡ 28) (magic : number32 header 0 ≡ request_magic) where
   -- the client was lost in the bytes of a write, or the reader failed there
-  pub request-lost : (output : Option (List ℕ)) (x : ServiceFault) → IsShort (payload_len (header_of header)) mid input' x × (w' ≡ w) → Turns e Serving w w' (streams input output) (streams input' output) (Err x)
+  pub request-lost : (output : Option (List ℕ)) (x : ServiceFault) → IsShort (payload_len (header_of header)) mid input' x × (w' ≡ w) → Turns es (Serving place) w w' (streams input output) (streams input' output) (Err x)
   request-lost output x p =
-      let cut : IsCut Serving (header ++ p.0.part) = inr (record { header = header; part = p.0.part; rest_is = refl; is_header = record { size = size; magic = magic }; few = p.0.few }) in
-      turns-fault e Serving w w' (streams input output) (streams input' output) x p.1 (header ++ p.0.part) (Consumes-trans input mid input' header p.0.part first p.0.consumed) (Keeps-refl output)
-      (cut-breaks e Serving (header ++ p.0.part) input' x p.0.cause (λ lost. cut) (inr cut))
+      let cut : IsCut (Serving place) (header ++ p.0.part) = inr (record { header = header; part = p.0.part; rest_is = refl; is_header = record { size = size; magic = magic }; few = p.0.few }) in
+      turns-fault es (Serving place) w w' (streams input output) (streams input' output) x p.1 (header ++ p.0.part) (Consumes-trans input mid input' header p.0.part first p.0.consumed) (Keeps-refl output)
+      (cut-breaks es (Serving place) (header ++ p.0.part) input' x p.0.cause (λ lost. cut) (inr cut))
 
   -- it was taken and served
   request-takes : (outcome : RequestOutcome) → (header_of header).kind ≢ 2 → (payload : List ℕ) → length payload ≡ payload_len (header_of header) → Serves e w (header_of header) payload outcome w'
-      → TakesRequest e w (header ++ payload) (simple_reply (header_of header).cookie outcome) Serving w'
-  request-takes outcome other payload count serves = record {
+      → TakesRequest (export_at es place) place w (header ++ payload) (simple_reply (header_of header).cookie outcome) (Serving place) w'
+  request-takes outcome other payload count serves = subst (λ x. TakesRequest x place w (header ++ payload) (simple_reply (header_of header).cookie outcome) (Serving place) w') (sym at) (record {
     header = header;
     payload = payload;
     message_is = refl;
@@ -212,11 +226,11 @@ module _ (e : ExportRecord) (w w' : World) (input mid input' : Option (List ℕ)
     magic = magic;
     count = count;
     answered = inr (other, record { outcome = outcome; serves = serves; reply_is = refl; next_is = refl });
-  }
+  })
 
   pub request-served : (output output' : Option (List ℕ)) (outcome : RequestOutcome) → (header_of header).kind ≢ 2
       → (payload : List ℕ) × (length payload ≡ payload_len (header_of header)) × Consumes mid input' payload × Serves e w (header_of header) payload outcome w'
-      → Appends output output' (simple_reply (header_of header).cookie outcome) → Turns e Serving w w' (streams input output) (streams input' output') (Ok (Some Serving))
+      → Appends output output' (simple_reply (header_of header).cookie outcome) → Turns es (Serving place) w w' (streams input output) (streams input' output') (Ok (Some (Serving place)))
   request-served output output' outcome other p a = record {
     taken = header ++ p.0;
     written = simple_reply (header_of header).cookie outcome;
@@ -228,11 +242,11 @@ module _ (e : ExportRecord) (w w' : World) (input mid input' : Option (List ℕ)
   -- and the writer failed in its reply
   pub request-unanswered : (output output' : Option (List ℕ)) (outcome : RequestOutcome) → (header_of header).kind ≢ 2
       → (payload : List ℕ) × (length payload ≡ payload_len (header_of header)) × Consumes mid input' payload × Serves e w (header_of header) payload outcome w'
-      → Turns e Serving w w' (streams input output) (streams input' output') (Err fault.WriteFault)
+      → Turns es (Serving place) w w' (streams input output) (streams input' output') (Err fault.WriteFault)
   request-unanswered output output' outcome other p = record {
     message = header ++ p.0;
     reply = simple_reply (header_of header).cookie outcome;
-    next = Serving;
+    next = Serving place;
     consumed = Consumes-trans input mid input' header p.0 first p.2;
     takes = request-takes outcome other p.0 p.1 p.3;
   }
@@ -240,9 +254,9 @@ module _ (e : ExportRecord) (w w' : World) (input mid input' : Option (List ℕ)
 last-payload : (h : Header) → h.kind ≡ 2 → 0 ≡ payload_len h
 last-payload h kind = sym (ap (λ (k : ℕ). if k == 1 then h.length else 0) kind)
 
-pub request-last : (e : ExportRecord) (w : World) (input input' output : Option (List ℕ)) (header : List ℕ) → Consumes input input' header → length header ≡ 28 → number32 header 0 ≡ request_magic → (header_of header).kind ≡ 2
-    → Turns e Serving w w (streams input output) (streams input' output) (Ok (Some Over))
-request-last e w input input' output header c size magic kind = record {
+pub request-last : (es : List ExportRecord) (place : ℕ) (w : World) (input input' output : Option (List ℕ)) (header : List ℕ) → Consumes input input' header → length header ≡ 28 → number32 header 0 ≡ request_magic → (header_of header).kind ≡ 2
+    → Turns es (Serving place) w w (streams input output) (streams input' output) (Ok (Some Over))
+request-last es place w input input' output header c size magic kind = record {
   taken = header;
   written = [];
   consumed = c;

@@ -5,13 +5,13 @@ use Rattle.request_queue.specs.Parts.{EachPart}
 use Rattle.request_queue.specs.Runs.{IsLed}
 use Rattle.request_queue.specs.World.{World, sync}
 use Rattle.request_queue.proofs.lemmas.LedLemmas.{led-none, led-one, led-then}
-use Rattle.nbd_server.specs.declared.header.Command.{Command}
-use Rattle.nbd_server.specs.declared.header.Command.TheVariants.{Read, Write, Zero, Hint, Flush}
-use Rattle.nbd_server.specs.declared.phase.Phase.{Phase}
-use Rattle.nbd_server.specs.declared.phase.Phase.TheVariants.{Greeted, Haggling, Serving, Over}
-use Rattle.nbd_server.specs.declared.request_error.RequestError.{RequestError}
-use Rattle.nbd_server.specs.Exports.{ExportRecord}
-use Rattle.nbd_server.specs.Headers.{command_of, header_of}
+use Rattle.nbd_protocol.specs.declared.header.Command.{Command}
+use Rattle.nbd_protocol.specs.declared.header.Command.TheVariants.{Read, Write, Zero, Hint, Flush}
+use Rattle.nbd_protocol.specs.declared.phase.Phase.{Phase}
+use Rattle.nbd_protocol.specs.declared.phase.Phase.TheVariants.{Greeted, Haggling, Serving, Over}
+use Rattle.nbd_protocol.specs.declared.request_error.RequestError.{RequestError}
+use Rattle.nbd_protocol.specs.Exports.{ExportRecord, export_at}
+use Rattle.nbd_protocol.specs.Headers.{command_of, header_of}
 use Rattle.nbd_server.specs.Transmission.{RequestOutcome, FailsToReadEnds, Flushes, IsFramed, ReadsBytes, ServesCommand, Settles, WritesBytes, WritesGiven, WritesSome, room_behind}
 use Rattle.nbd_server.specs.Service.{Conversation, begins, goes_on, IsLast, IsServed, TakesMessage}
 
@@ -66,18 +66,18 @@ command-led e w (Ok (Zero offset length fua)) payload outcome w' p = settle-led 
 command-led e w (Ok Hint) payload outcome w' p = stays-led w w' p.1
 command-led e w (Ok Flush) payload outcome w' p = flush-led w outcome w' p
 
-request-led : (e : ExportRecord) (w : World) (header payload reply : List ℕ) (next : Phase) (w' : World) → IsLast w header reply next w' ⊎ ((header_of header).kind ≢ 2) × IsServed e w header payload reply next w' → IsLed EachPart w w'
-request-led e w header payload reply next w' (inl x) = stays-led w w' x.same
-request-led e w header payload reply next w' (inr x) = command-led e w (command_of e (header_of header)) payload x.1.outcome w' x.1.serves
+request-led : (e : ExportRecord) (place : ℕ) (w : World) (header payload reply : List ℕ) (next : Phase) (w' : World) → IsLast w header reply next w' ⊎ ((header_of header).kind ≢ 2) × IsServed e place w header payload reply next w' → IsLed EachPart w w'
+request-led e place w header payload reply next w' (inl x) = stays-led w w' x.same
+request-led e place w header payload reply next w' (inr x) = command-led e w (command_of e (header_of header)) payload x.1.outcome w' x.1.serves
 
-message-led : (e : ExportRecord) (phase : Phase) (w : World) (message reply : List ℕ) (next : Phase) (w' : World) → TakesMessage e phase w message reply next w' → IsLed EachPart w w'
-message-led e Greeted w message reply next w' p = stays-led w w' p.1
-message-led e (Haggling no_zeroes) w message reply next w' p = stays-led w w' p.1
-message-led e Serving w message reply next w' p = request-led e w p.header p.payload reply next w' p.answered
-message-led e Over w message reply next w' p = absurd p
+message-led : (es : List ExportRecord) (phase : Phase) (w : World) (message reply : List ℕ) (next : Phase) (w' : World) → TakesMessage es phase w message reply next w' → IsLed EachPart w w'
+message-led es Greeted w message reply next w' p = stays-led w w' p.1
+message-led es (Haggling no_zeroes) w message reply next w' p = stays-led w w' p.1
+message-led es (Serving place) w message reply next w' p = request-led (export_at es place) place w p.header p.payload reply next w' p.answered
+message-led es Over w message reply next w' p = absurd p
 
 -- messages one after another are a run of the queue
-pub talk-led : {e : ExportRecord} {first : World} {phase : Phase} {w : World} {taken written : List ℕ} → Conversation e first phase w taken written → IsLed EachPart first w
-talk-led {e = e} {first = first} begins = led-none EachPart first
-talk-led {e = e} {first = first} (goes_on {phase = phase} {next = next} {w = w} {w' = w'} message reply talk takes) =
-    led-then EachPart first w w' (talk-led talk) (message-led e phase w message reply next w' takes)
+pub talk-led : {es : List ExportRecord} {first : World} {phase : Phase} {w : World} {taken written : List ℕ} → Conversation es first phase w taken written → IsLed EachPart first w
+talk-led {es = es} {first = first} begins = led-none EachPart first
+talk-led {es = es} {first = first} (goes_on {phase = phase} {next = next} {w = w} {w' = w'} message reply talk takes) =
+    led-then EachPart first w w' (talk-led talk) (message-led es phase w message reply next w' takes)

@@ -1,44 +1,48 @@
 -- A service, message by message.
 use Rattle.std.proofs.Common.{◌≡◌, ◌≢◌, ℕ, ◌+◌, ◌-◌, ◌/◌, ◌%◌, List, [], ◌∷◌, ◌++◌, length, refl, ap, sym, ◌∙◌, subst, append_assoc, append-nil, inl, inr, Option, Some, None, Result, Ok, Err}
-use Rattle.std.specs.Prelude.{◌⊎◌, Bool, true, false, replicate}
+use Rattle.std.specs.Prelude.{◌⊎◌, ◌<◌, ◌&&◌, ◌==◌, Bool, true, false, replicate, if◌then◌else◌}
 use Rattle.std.specs.Io.KnownBytes.{Appends, Consumes, Keeps}
 use Rattle.std.proofs.KnownBytes.{Appends-nil, Appends-trans, Appends-kept, Consumes-nil, Consumes-trans}
 use Rattle.request_queue.specs.Parts.{EachPart}
 use Rattle.request_queue.specs.Runs.{IsLed}
 use Rattle.request_queue.specs.World.{World}
 use Rattle.counted_io.specs.Streams.{Streams, streams}
-use Rattle.nbd_server.specs.declared.fault.ServiceFault.{ServiceFault}
-use Rattle.nbd_server.specs.declared.fault.ServiceFault.TheVariants as fault
-use Rattle.nbd_server.specs.declared.phase.Phase.{Phase}
-use Rattle.nbd_server.specs.declared.phase.Phase.TheVariants.{Greeted, Haggling, Serving, Over}
-use Rattle.nbd_server.specs.declared.header.Command.{Command}
-use Rattle.nbd_server.specs.declared.header.Command.TheVariants.{Read, Write, Zero, Hint, Flush}
-use Rattle.nbd_server.specs.declared.request_error.RequestError.{RequestError}
-use Rattle.nbd_server.specs.Exports.{ExportRecord, IsExport}
-use Rattle.nbd_server.specs.Headers.{command_of, header_of}
+use Rattle.nbd_protocol.specs.declared.fault.ServiceFault.{ServiceFault}
+use Rattle.nbd_protocol.specs.declared.fault.ServiceFault.TheVariants as fault
+use Rattle.nbd_protocol.specs.declared.phase.Phase.{Phase}
+use Rattle.nbd_protocol.specs.declared.phase.Phase.TheVariants.{Greeted, Haggling, Serving, Over}
+use Rattle.nbd_protocol.specs.declared.header.Command.{Command}
+use Rattle.nbd_protocol.specs.declared.header.Command.TheVariants.{Read, Write, Zero, Hint, Flush}
+use Rattle.nbd_protocol.specs.declared.request_error.RequestError.{RequestError}
+use Rattle.nbd_protocol.specs.Exports.{AreExports, ExportRecord, asked, export_at, export_records}
+use Rattle.nbd_protocol.specs.declared.export.Export.{Export}
+use Rattle.nbd_protocol.specs.Numbers.{number32}
+use Rattle.nbd_protocol.specs.Headers.{command_of, header_of}
 use Rattle.nbd_server.specs.Sectors.{FailsToFetch, EndsIn, HasNoBuffer, EndsPut, StopsPut}
 use Rattle.nbd_server.specs.Transmission.{RequestOutcome, FailsToReadEnds, Flushes, IsFramed, ReadsBytes, ServesCommand, Settles, WritesBytes, WritesGiven, WritesSome, room_behind, touched}
-use Rattle.nbd_server.specs.Handshake.{greeting}
+use Rattle.nbd_protocol.specs.Handshake.{greeting, is_info, name_in, phase_after, serving_at}
+use Rattle.nbd_protocol.proofs.lemmas.ExportLemmas.{asked-inside}
+use Rattle.nbd_server.specs.Premises.{IsPlaced}
 use Rattle.nbd_server.specs.Causes.{Breaks}
-use Rattle.nbd_server.specs.Streaming.{Spoken}
-use Rattle.nbd_server.specs.Service.{Conversation, begins, goes_on, Turns, IsService, IsLast, IsServed, TakesMessage}
+use Rattle.nbd_protocol.specs.Streaming.{Spoken}
+use Rattle.nbd_server.specs.Service.{AnswersOption, Conversation, begins, goes_on, Turns, IsService, IsLast, IsServed, TakesMessage}
 use Rattle.nbd_server.proofs.RunLemmas.{talk-led}
 
 -- the messages so far, and the greeting and their replies
-abbrev pub IsTalk : ExportRecord → World → Phase → World → List ℕ → List ℕ → Type 0
-IsTalk e first phase now taken written = (replies : List ℕ) × Conversation e first phase now taken replies × (written ≡ greeting ++ replies)
+abbrev pub IsTalk : List ExportRecord → World → Phase → World → List ℕ → List ℕ → Type 0
+IsTalk es first phase now taken written = (replies : List ℕ) × Conversation es first phase now taken replies × (written ≡ greeting ++ replies)
 
-abbrev pub Held : ExportRecord → World → Phase → World → Streams → Streams → Type 0
-Held e first phase now old new = Spoken old new (IsTalk e first phase now)
+abbrev pub Held : List ExportRecord → World → Phase → World → Streams → Streams → Type 0
+Held es first phase now old new = Spoken old new (IsTalk es first phase now)
 
-pub held-starts : (e : ExportRecord) (first : World) (input output output' : Option (List ℕ)) → Appends output output' greeting → Held e first Greeted first (streams input output) (streams input output')
-held-starts e first input output output' a = record { taken = []; written = greeting; consumed = Consumes-nil input; appended = a; holds = ([], begins, sym (append-nil greeting)) }
+pub held-starts : (es : List ExportRecord) (first : World) (input output output' : Option (List ℕ)) → Appends output output' greeting → Held es first Greeted first (streams input output) (streams input output')
+held-starts es first input output output' a = record { taken = []; written = greeting; consumed = Consumes-nil input; appended = a; holds = ([], begins, sym (append-nil greeting)) }
 
 -- what was kept back is handed on
-pub held-kept : {e : ExportRecord} {first now : World} {phase : Phase} {old : Streams} (input output output' : Option (List ℕ)) → Held e first phase now old (streams input output) → Keeps output output' → Held e first phase now old (streams input output')
+pub held-kept : {es : List ExportRecord} {first now : World} {phase : Phase} {old : Streams} (input output output' : Option (List ℕ)) → Held es first phase now old (streams input output) → Keeps output output' → Held es first phase now old (streams input output')
 held-kept {old = old} input output output' h k = record { taken = h.taken; written = h.written; consumed = h.consumed; appended = Appends-kept old.output output output' h.written h.appended k; holds = h.holds }
 
-pub held-more : {e : ExportRecord} {first now : World} {phase : Phase} {old mid : Streams} (next : Phase) (now' : World) (new : Streams) → Held e first phase now old mid → Turns e phase now now' mid new (Ok (Some next)) → Held e first next now' old new
+pub held-more : {es : List ExportRecord} {first now : World} {phase : Phase} {old mid : Streams} (next : Phase) (now' : World) (new : Streams) → Held es first phase now old mid → Turns es phase now now' mid new (Ok (Some next)) → Held es first next now' old new
 held-more {old = old} {mid = mid} next now' new h t = record {
   taken = h.taken ++ t.taken;
   written = h.written ++ t.written;
@@ -52,8 +56,8 @@ held-more {old = old} {mid = mid} next now' new h t = record {
 }
 
 -- it went away between two messages
-pub held-none : {e : ExportRecord} {first now : World} {phase : Phase} {old mid : Streams} (now' : World) (new : Streams) (done : Unit) → Held e first phase now old mid → Turns e phase now now' mid new (Ok None) → IsService e first now' old new (Ok done)
-held-none {e = e} {first = first} {now = now} {phase = phase} {old = old} {mid = mid} now' new done h t =
+pub held-none : {es : List ExportRecord} {first now : World} {phase : Phase} {old mid : Streams} (now' : World) (new : Streams) (done : Unit) → Held es first phase now old mid → Turns es phase now now' mid new (Ok None) → IsService es first now' old new (Ok done)
+held-none {es = es} {first = first} {now = now} {phase = phase} {old = old} {mid = mid} now' new done h t =
     let none = t.0 in
     record {
       held = λ other. record {
@@ -66,7 +70,7 @@ held-none {e = e} {first = first} {now = now} {phase = phase} {old = old} {mid =
           whole = h.taken;
           replies = h.holds.0;
           rest = none.taken;
-          talk = subst (λ (x : World). Conversation e first phase x h.taken h.holds.0) (sym none.holds.2) h.holds.1;
+          talk = subst (λ (x : World). Conversation es first phase x h.taken h.holds.0) (sym none.holds.2) h.holds.1;
           taken_is = refl;
           written_is = ap (λ l. h.written ++ l) none.holds.1 ∙ append-nil h.written ∙ h.holds.2;
           ends = (none.holds.0, inr t.1);
@@ -77,9 +81,9 @@ held-none {e = e} {first = first} {now = now} {phase = phase} {old = old} {mid =
     }
 
 -- the service ends in a message, for another fault than the writer's
-ends-in : {e : ExportRecord} {first now : World} {phase : Phase} {old mid : Streams} (now' : World) (new : Streams) (x : ServiceFault) → x ≢ fault.WriteFault → Held e first phase now old mid
-    → Spoken mid new (λ taken written. (written ≡ []) × (now' ≡ now) × Breaks e phase taken new.input x) → IsService e first now' old new (Err x)
-ends-in {e = e} {first = first} {now = now} {phase = phase} {old = old} {mid = mid} now' new x apart h t = record {
+ends-in : {es : List ExportRecord} {first now : World} {phase : Phase} {old mid : Streams} (now' : World) (new : Streams) (x : ServiceFault) → x ≢ fault.WriteFault → Held es first phase now old mid
+    → Spoken mid new (λ taken written. (written ≡ []) × (now' ≡ now) × Breaks es phase taken new.input x) → IsService es first now' old new (Err x)
+ends-in {es = es} {first = first} {now = now} {phase = phase} {old = old} {mid = mid} now' new x apart h t = record {
   held = λ other. record {
     taken = h.taken ++ t.taken;
     written = h.written ++ t.written;
@@ -90,7 +94,7 @@ ends-in {e = e} {first = first} {now = now} {phase = phase} {old = old} {mid = m
       whole = h.taken;
       replies = h.holds.0;
       rest = t.taken;
-      talk = subst (λ (y : World). Conversation e first phase y h.taken h.holds.0) (sym t.holds.1) h.holds.1;
+      talk = subst (λ (y : World). Conversation es first phase y h.taken h.holds.0) (sym t.holds.1) h.holds.1;
       taken_is = refl;
       written_is = ap (λ l. h.written ++ l) t.holds.0 ∙ append-nil h.written ∙ h.holds.2;
       ends = t.holds.2;
@@ -103,7 +107,7 @@ ends-in {e = e} {first = first} {now = now} {phase = phase} {old = old} {mid = m
 -- ---- the writer failed
 
 -- those messages were taken and done
-stuck : {e : ExportRecord} {first last : World} {phase : Phase} {old new : Streams} (whole replies : List ℕ) → Consumes old.input new.input whole → Conversation e first phase last whole replies → IsService e first last old new (Err fault.WriteFault)
+stuck : {es : List ExportRecord} {first last : World} {phase : Phase} {old new : Streams} (whole replies : List ℕ) → Consumes old.input new.input whole → Conversation es first phase last whole replies → IsService es first last old new (Err fault.WriteFault)
 stuck {phase = phase} whole replies c talk = record {
   held = λ other. absurd (other refl);
   done = λ is. record { phase = phase; whole = whole; replies = replies; consumed = c; talk = talk };
@@ -111,16 +115,16 @@ stuck {phase = phase} whole replies c talk = record {
 }
 
 -- in the greeting
-pub held-unsaid : (e : ExportRecord) (first : World) (input output output' : Option (List ℕ)) → IsService e first first (streams input output) (streams input output') (Err fault.WriteFault)
-held-unsaid e first input output output' = stuck {old = streams input output} {new = streams input output'} [] [] (Consumes-nil input) begins
+pub held-unsaid : (es : List ExportRecord) (first : World) (input output output' : Option (List ℕ)) → IsService es first first (streams input output) (streams input output') (Err fault.WriteFault)
+held-unsaid es first input output output' = stuck {old = streams input output} {new = streams input output'} [] [] (Consumes-nil input) begins
 
 -- between two messages
-pub held-stuck : {e : ExportRecord} {first now : World} {phase : Phase} {old : Streams} (input output output' : Option (List ℕ)) → Held e first phase now old (streams input output) → IsService e first now old (streams input output') (Err fault.WriteFault)
+pub held-stuck : {es : List ExportRecord} {first now : World} {phase : Phase} {old : Streams} (input output output' : Option (List ℕ)) → Held es first phase now old (streams input output) → IsService es first now old (streams input output') (Err fault.WriteFault)
 held-stuck {old = old} input output output' h = stuck {old = old} {new = streams input output'} h.taken h.holds.0 h.consumed h.holds.1
 
 -- ---- any fault
 
-pub held-ends : {e : ExportRecord} {first now : World} {phase : Phase} {old mid : Streams} (now' : World) (new : Streams) (x : ServiceFault) → Held e first phase now old mid → Turns e phase now now' mid new (Err x) → IsService e first now' old new (Err x)
+pub held-ends : {es : List ExportRecord} {first now : World} {phase : Phase} {old mid : Streams} (now' : World) (new : Streams) (x : ServiceFault) → Held es first phase now old mid → Turns es phase now now' mid new (Err x) → IsService es first now' old new (Err x)
 held-ends now' new fault.Lost h t = ends-in now' new fault.Lost (λ is. (cc)) h t
 held-ends now' new fault.Magic h t = ends-in now' new fault.Magic (λ is. (cc)) h t
 held-ends now' new fault.Flags h t = ends-in now' new fault.Flags (λ is. (cc)) h t
@@ -130,12 +134,12 @@ held-ends {old = old} {mid = mid} now' new fault.WriteFault h t =
     stuck {old = old} {new = new} (h.taken ++ t.message) (h.holds.0 ++ t.reply) (Consumes-trans old.input mid.input new.input h.taken t.message h.consumed t.consumed) (goes_on t.message t.reply h.holds.1 t.takes)
 
 -- the reader was called too often
-pub held-stops : {e : ExportRecord} {first now : World} {phase : Phase} {old : Streams} (new : Streams) → Held e first phase now old new → IsService e first now old new (Err fault.ReadFault)
+pub held-stops : {es : List ExportRecord} {first now : World} {phase : Phase} {old : Streams} (new : Streams) → Held es first phase now old new → IsService es first now old new (Err fault.ReadFault)
 held-stops {now = now} new h =
     ends-in {mid = new} now new fault.ReadFault (λ is. (cc)) h (record { taken = []; written = []; consumed = Consumes-nil new.input; appended = Appends-nil new.output; holds = (refl, refl, inl refl) })
 
 -- the client has ended it
-pub held-over : {e : ExportRecord} {first now : World} {phase : Phase} {old new : Streams} (done : Unit) → Held e first phase now old new → phase ≡ Over → IsService e first now old new (Ok done)
+pub held-over : {es : List ExportRecord} {first now : World} {phase : Phase} {old new : Streams} (done : Unit) → Held es first phase now old new → phase ≡ Over → IsService es first now old new (Ok done)
 held-over {phase = phase} done h over = record {
   held = λ other. record {
     taken = h.taken;
@@ -219,15 +223,55 @@ command-config e w (Ok (Zero offset length fua)) payload outcome w' p = settle-c
 command-config e w (Ok Hint) payload outcome w' p = same-config w w' p.1
 command-config e w (Ok Flush) payload outcome w' p = flush-config w outcome w' p
 
-request-config : (e : ExportRecord) (w : World) (header payload reply : List ℕ) (next : Phase) (w' : World) → IsLast w header reply next w' ⊎ ((header_of header).kind ≢ 2) × IsServed e w header payload reply next w' → w'.stack.config ≡ w.stack.config
-request-config e w header payload reply next w' (inl x) = same-config w w' x.same
-request-config e w header payload reply next w' (inr x) = command-config e w (command_of e (header_of header)) payload x.1.outcome w' x.1.serves
+request-config : (e : ExportRecord) (place : ℕ) (w : World) (header payload reply : List ℕ) (next : Phase) (w' : World) → IsLast w header reply next w' ⊎ ((header_of header).kind ≢ 2) × IsServed e place w header payload reply next w' → w'.stack.config ≡ w.stack.config
+request-config e place w header payload reply next w' (inl x) = same-config w w' x.same
+request-config e place w header payload reply next w' (inr x) = command-config e w (command_of e (header_of header)) payload x.1.outcome w' x.1.serves
 
-pub message-config : (e : ExportRecord) (phase : Phase) (w : World) (message reply : List ℕ) (next : Phase) (w' : World) → TakesMessage e phase w message reply next w' → w'.stack.config ≡ w.stack.config
-message-config e Greeted w message reply next w' p = same-config w w' p.1
-message-config e (Haggling no_zeroes) w message reply next w' p = same-config w w' p.1
-message-config e Serving w message reply next w' p = request-config e w p.header p.payload reply next w' p.answered
-message-config e Over w message reply next w' p = absurd p
+pub message-config : (es : List ExportRecord) (phase : Phase) (w : World) (message reply : List ℕ) (next : Phase) (w' : World) → TakesMessage es phase w message reply next w' → w'.stack.config ≡ w.stack.config
+message-config es Greeted w message reply next w' p = same-config w w' p.1
+message-config es (Haggling no_zeroes) w message reply next w' p = same-config w w' p.1
+message-config es (Serving place) w message reply next w' p = request-config (export_at es place) place w p.header p.payload reply next w' p.answered
+message-config es Over w message reply next w' p = absurd p
 
-pub export-kept : (e : ExportRecord) (phase : Phase) (w w' : World) (old new : Streams) (next : Phase) → IsExport w.stack.config e → Turns e phase w w' old new (Ok (Some next)) → IsExport w'.stack.config e
-export-kept e phase w w' old new next x t = subst (λ c. IsExport c e) (sym (message-config e phase w t.taken t.written next w' t.holds)) x
+pub exports-kept : (exports : List Export) (phase : Phase) (w w' : World) (old new : Streams) (next : Phase) → AreExports w.stack.config exports → Turns (export_records exports) phase w w' old new (Ok (Some next))
+    → AreExports w'.stack.config exports
+exports-kept exports phase w w' old new next x t = subst (λ c. AreExports c exports) (sym (message-config (export_records exports) phase w t.taken t.written next w' t.holds)) x
+
+-- ---- the export that is served is one of them
+
+module _ (es : List ExportRecord) where
+  serving-placed : (no_zeroes : Bool) (name : List ℕ) (found : Option ℕ) → asked es name ≡ found → IsPlaced es (serving_at no_zeroes found)
+  serving-placed no_zeroes name (Some place) is = asked-inside es name place is
+  serving-placed no_zeroes name None is = tt
+
+  after-placed : (no_zeroes : Bool) (option : ℕ) (content : List ℕ) → IsPlaced es (phase_after es no_zeroes option content)
+  unfolding phase_after
+  after-placed no_zeroes option content = go (option == 1) (option == 2) ((option == 7) && is_info content)
+    where
+      go : (named ended goes : Bool) → IsPlaced es (if named then serving_at no_zeroes (asked es content) else if ended then Over else if goes then serving_at no_zeroes (asked es (name_in content)) else Haggling no_zeroes)
+      go true ended goes = serving-placed no_zeroes content (asked es content) refl
+      go false true goes = tt
+      go false false true = serving-placed no_zeroes (name_in content) (asked es (name_in content)) refl
+      go false false false = tt
+
+  long-placed : (no_zeroes ended : Bool) → IsPlaced es (if ended then Over else Haggling no_zeroes)
+  long-placed no_zeroes true = tt
+  long-placed no_zeroes false = tt
+
+  option-placed : (no_zeroes : Bool) (option : ℕ) (content reply : List ℕ) (next : Phase) → AnswersOption es no_zeroes option content reply next → IsPlaced es next
+  option-placed no_zeroes option content reply next (inl a) = subst (IsPlaced es) (sym a.next_is) (after-placed no_zeroes option content)
+  option-placed no_zeroes option content reply next (inr a) = subst (IsPlaced es) (sym a.next_is) (long-placed no_zeroes (option == 2))
+
+  request-placed : (e : ExportRecord) (place : ℕ) (w : World) (header payload reply : List ℕ) (next : Phase) (w' : World) → place < length es
+      → IsLast w header reply next w' ⊎ ((header_of header).kind ≢ 2) × IsServed e place w header payload reply next w' → IsPlaced es next
+  request-placed e place w header payload reply next w' inside (inl x) = subst (IsPlaced es) (sym x.next_is) tt
+  request-placed e place w header payload reply next w' inside (inr x) = subst (IsPlaced es) (sym x.1.next_is) inside
+
+  message-placed : (phase : Phase) (w : World) (message reply : List ℕ) (next : Phase) (w' : World) → IsPlaced es phase → TakesMessage es phase w message reply next w' → IsPlaced es next
+  message-placed Greeted w message reply next w' placed p = subst (IsPlaced es) (sym p.0.next_is) tt
+  message-placed (Haggling no_zeroes) w message reply next w' placed p = option-placed no_zeroes (number32 p.0.header 8) p.0.content reply next p.0.answered
+  message-placed (Serving place) w message reply next w' placed p = request-placed (export_at es place) place w p.header p.payload reply next w' placed p.answered
+  message-placed Over w message reply next w' placed p = absurd p
+
+  pub placed-next : (phase : Phase) (w w' : World) (old new : Streams) (next : Phase) → IsPlaced es phase → Turns es phase w w' old new (Ok (Some next)) → IsPlaced es next
+  placed-next phase w w' old new next placed t = message-placed phase w t.taken t.written next w' placed t.holds

@@ -17,9 +17,10 @@ use Rattle.request_queue.specs.Requests.{a_write, sector_count, sectors_for}
 use Rattle.request_queue.specs.WholeRuns.{WritesWhole, RunAnswers}
 use Rattle.request_queue.specs.World.{World, Step, admission, is_full, run}
 use Rattle.request_queue.proofs.lemmas.AdmissionLemmas.{admission-whole, unless-ok, writable-ok}
-use Rattle.nbd_server.specs.declared.request_error.RequestError.{RequestError}
-use Rattle.nbd_server.specs.declared.request_error.RequestError.TheVariants.{NoMemory, InputOutput}
-use Rattle.nbd_server.specs.Sectors.{IsStored, FailsToStore, EndsPut, StopsPut, error_of}
+use Rattle.nbd_protocol.specs.declared.request_error.RequestError.{RequestError}
+use Rattle.nbd_protocol.specs.declared.request_error.RequestError.TheVariants.{NoMemory, InputOutput}
+use Rattle.nbd_protocol.specs.Headers.{error_of}
+use Rattle.nbd_server.specs.Sectors.{IsStored, FailsToStore, EndsPut, StopsPut}
 use Rattle.nbd_server.proofs.FetchLemmas.{named-range}
 use Rattle.request_queue.proofs.lemmas.LedLemmas.{led-none, led-one, led-then}
 

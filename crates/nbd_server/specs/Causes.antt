@@ -1,13 +1,13 @@
 -- Why the service of a client ends early: the phase it was in, and what had come of the client's message.
-use Rattle.std.specs.Prelude.{◌≡◌, ◌≢◌, ◌⊎◌, ◌<◌, ◌≤◌, ℕ, false, List, [], ◌++◌, length, take, codes, Option}
+use Rattle.std.specs.Prelude.{◌≡◌, ◌≢◌, ◌⊎◌, ◌<◌, ◌≤◌, ℕ, List, [], ◌++◌, length, take, codes, Option, None}
 use Rattle.std.specs.Io.KnownBytes.{IsAtEnd}
-use Rattle.nbd_server.specs.Numbers.{number32}
-use Rattle.nbd_server.specs.Exports.{ExportRecord, is_asked}
-use Rattle.nbd_server.specs.Headers.{header_of, payload_len, request_magic}
-use Rattle.nbd_server.specs.declared.fault.ServiceFault.{ServiceFault}
-use Rattle.nbd_server.specs.declared.fault.ServiceFault.TheVariants.{Lost, Magic, Flags, NoSuchExport, ReadFault, WriteFault}
-use Rattle.nbd_server.specs.declared.phase.Phase.{Phase}
-use Rattle.nbd_server.specs.declared.phase.Phase.TheVariants.{Greeted, Haggling, Serving, Over}
+use Rattle.nbd_protocol.specs.Numbers.{number32}
+use Rattle.nbd_protocol.specs.Exports.{ExportRecord, asked}
+use Rattle.nbd_protocol.specs.Headers.{header_of, payload_len, request_magic}
+use Rattle.nbd_protocol.specs.declared.fault.ServiceFault.{ServiceFault}
+use Rattle.nbd_protocol.specs.declared.fault.ServiceFault.TheVariants.{Lost, Magic, Flags, NoSuchExport, ReadFault, WriteFault}
+use Rattle.nbd_protocol.specs.declared.phase.Phase.{Phase}
+use Rattle.nbd_protocol.specs.declared.phase.Phase.TheVariants.{Greeted, Haggling, Serving, Over}
 
 -- ---- messages that were cut
 
@@ -43,7 +43,7 @@ pub record IsCutBehind (IsHeader : List ℕ → Type 0) (count : List ℕ → �
 abbrev pub IsCut : Phase → List ℕ → Type 0
 IsCut Greeted rest = IsCutWithin 4 rest
 IsCut (Haggling no_zeroes) rest = IsCutWithin 16 rest ⊎ IsCutBehind IsOptionHeader data_len rest
-IsCut Serving rest = IsCutWithin 28 rest ⊎ IsCutBehind IsRequestHeader request_payload_len rest
+IsCut (Serving place) rest = IsCutWithin 28 rest ⊎ IsCutBehind IsRequestHeader request_payload_len rest
 IsCut Over rest = ⊥
 
 -- ---- messages that a service doesn't go on from
@@ -52,7 +52,7 @@ IsCut Over rest = ⊥
 abbrev pub HasOtherMagic : Phase → List ℕ → Type 0
 HasOtherMagic Greeted rest = ⊥
 HasOtherMagic (Haggling no_zeroes) rest = (length rest ≡ 16) × (take 8 rest ≢ codes "IHAVEOPT")
-HasOtherMagic Serving rest = (length rest ≡ 28) × (number32 rest 0 ≢ request_magic)
+HasOtherMagic (Serving place) rest = (length rest ≡ 28) × (number32 rest 0 ≢ request_magic)
 HasOtherMagic Over rest = ⊥
 
 -- the client's flags, of others than the two that were offered
@@ -69,16 +69,16 @@ pub record IsNaming (rest name : List ℕ) : Type 0 where
   pub count : length name ≡ data_len header
 
 -- it names no export that is there
-abbrev pub NamesOther : ExportRecord → Phase → List ℕ → Type 0
-NamesOther e (Haggling no_zeroes) rest = (name : List ℕ) × IsNaming rest name × (is_asked e name ≡ false)
-NamesOther e phase rest = ⊥
+abbrev pub NamesOther : List ExportRecord → Phase → List ℕ → Type 0
+NamesOther es (Haggling no_zeroes) rest = (name : List ℕ) × IsNaming rest name × (asked es name ≡ None)
+NamesOther es phase rest = ⊥
 
 -- Why the service ends in that phase, where this came of a message and that is left of the input. `HasRead` says of
 -- ReadFault that the reader failed, and `HasWritten` of WriteFault that the writer did.
-abbrev pub Breaks : ExportRecord → Phase → List ℕ → Option (List ℕ) → ServiceFault → Type 0
-Breaks e phase rest input Lost = IsCut phase rest × IsAtEnd input
-Breaks e phase rest input Magic = HasOtherMagic phase rest
-Breaks e phase rest input Flags = HasOtherFlags phase rest
-Breaks e phase rest input NoSuchExport = NamesOther e phase rest
-Breaks e phase rest input ReadFault = (rest ≡ []) ⊎ IsCut phase rest
-Breaks e phase rest input WriteFault = ⊥
+abbrev pub Breaks : List ExportRecord → Phase → List ℕ → Option (List ℕ) → ServiceFault → Type 0
+Breaks es phase rest input Lost = IsCut phase rest × IsAtEnd input
+Breaks es phase rest input Magic = HasOtherMagic phase rest
+Breaks es phase rest input Flags = HasOtherFlags phase rest
+Breaks es phase rest input NoSuchExport = NamesOther es phase rest
+Breaks es phase rest input ReadFault = (rest ≡ []) ⊎ IsCut phase rest
+Breaks es phase rest input WriteFault = ⊥

@@ -1,16 +1,23 @@
 -- What the calls on a client's messages stand on.
-use Rattle.std.specs.Prelude.{◌≡◌, ◌≢◌, ◌<◌, ◌≤◌, ℕ, ◌+◌, ◌*◌, ◌/◌, ◌%◌, ◌^◌, List, length}
+use Rattle.std.specs.Prelude.{◌≡◌, ◌≢◌, ◌<◌, ◌≤◌, ℕ, ◌+◌, ◌/◌, ◌%◌, ◌^◌, List, length}
 use Rattle.stack_rules.specs.Names.{mapped, size}
 use Rattle.stack_rules.specs.Records.{Configuration}
-use Rattle.nbd_server.specs.Exports.{ExportRecord, IsExport}
+use Rattle.nbd_protocol.specs.Exports.{AreExports, ExportRecord, IsExport, export_records}
+use Rattle.nbd_protocol.specs.declared.export.Export.{Export}
 use Rattle.nbd_server.specs.Transmission.{room_behind}
 use Rattle.nbd_server.specs.declared.zeros.Zeros.{Zeros}
-use Rattle.nbd_server.specs.declared.phase.Phase.{Phase}
-use Rattle.nbd_server.specs.declared.phase.Phase.TheVariants.{Over}
+use Rattle.nbd_protocol.specs.declared.phase.Phase.{Phase}
+use Rattle.nbd_protocol.specs.declared.phase.Phase.TheVariants.{Over, Serving}
 
--- a message of the export's client may still come
-pub record IsGoing (c : Configuration) (e : ExportRecord) (phase : Phase) : Type 0 where
-  pub export : IsExport c e
+-- the export that is served is one of them
+abbrev pub IsPlaced : List ExportRecord → Phase → Type 0
+IsPlaced es (Serving place) = place < length es
+IsPlaced es phase = Unit {0}
+
+-- a message of the exports' client may still come
+pub record IsGoing (c : Configuration) (exports : List Export) (phase : Phase) : Type 0 where
+  pub exports_are : AreExports c exports
+  pub placed : IsPlaced (export_records exports) phase
   pub going : phase ≢ Over
 
 -- bytes of the export
@@ -39,9 +46,3 @@ pub record HaveEnds (z : Zeros) : Type 0 where
   pub before : length z.before.now < 512
   pub few : z.count < 2 ^ 32
   pub behind : length z.behind.now < 512
-
--- some bytes have their place in so many sectors
-pub record HavePlace (sectors start count : ℕ) : Type 0 where
-  pub some : 0 < count
-  pub few : sectors < 2 ^ 32
-  pub inside : start + count ≤ 512 * sectors

@@ -13,14 +13,9 @@ use Rattle.request_queue.specs.Ranges.{range_at}
 use Rattle.request_queue.specs.Runs.{IsLed}
 use Rattle.request_queue.specs.WholeRuns.{ReadsWhole}
 use Rattle.request_queue.specs.World.{World}
-use Rattle.nbd_server.specs.declared.request_error.RequestError.{RequestError}
-use Rattle.nbd_server.specs.declared.request_error.RequestError.TheVariants.{NoMemory, InputOutput}
-
--- how a fault of the stack is told
-abbrev pub error_of : IoFault → RequestError
-error_of (io.Stack fault) = InputOutput
-error_of (io.Device leaf) = InputOutput
-error_of io.NoMemory = NoMemory
+use Rattle.nbd_protocol.specs.Headers.{error_of}
+use Rattle.nbd_protocol.specs.declared.request_error.RequestError.{RequestError}
+use Rattle.nbd_protocol.specs.declared.request_error.RequestError.TheVariants.{NoMemory, InputOutput}
 
 -- The sectors of a mapped device were read, as one read of them all: such bytes as its lines allow with some chains, each
 -- good for its line, and over steady leaves those that the stack means.

@@ -1,21 +1,21 @@
 -- The service of a client: its messages one after another, and what is replied to each.
-use Rattle.std.specs.Prelude.{◌≡◌, ◌≢◌, ◌⊎◌, ℕ, ◌<◌, ◌≤◌, nat_le, Bool, true, false, List, [], ◌++◌, length, take, codes, Option, Some, None, Result, Ok, Err}
+use Rattle.std.specs.Prelude.{◌≡◌, ◌≢◌, ◌⊎◌, ℕ, ◌<◌, ◌≤◌, nat_le, Bool, true, List, [], ◌++◌, length, take, codes, Option, Some, None, Result, Ok, Err}
 use Rattle.std.specs.Io.KnownBytes.{Appends, Consumes, IsAtEnd, Keeps}
 use Rattle.request_queue.specs.Parts.{EachPart}
 use Rattle.request_queue.specs.Runs.{IsLed}
 use Rattle.request_queue.specs.World.{World}
 use Rattle.counted_io.specs.Streams.{Streams}
-use Rattle.nbd_server.specs.Numbers.{number32}
-use Rattle.nbd_server.specs.Exports.{ExportRecord, is_asked}
-use Rattle.nbd_server.specs.Handshake.{greeting, answer_to, answer_to_long, phase_after, phase_after_long, names_export, most_data}
-use Rattle.nbd_server.specs.Headers.{header_of, payload_len, request_magic}
+use Rattle.nbd_protocol.specs.Numbers.{number32}
+use Rattle.nbd_protocol.specs.Exports.{ExportRecord, asked, export_at}
+use Rattle.nbd_protocol.specs.Handshake.{greeting, answer_to, answer_to_long, phase_after, phase_after_long, names_export, most_data}
+use Rattle.nbd_protocol.specs.Headers.{header_of, payload_len, request_magic}
 use Rattle.nbd_server.specs.Causes.{Breaks}
-use Rattle.nbd_server.specs.Streaming.{Spoken}
+use Rattle.nbd_protocol.specs.Streaming.{Spoken}
 use Rattle.nbd_server.specs.Transmission.{RequestOutcome, Serves, simple_reply}
-use Rattle.nbd_server.specs.declared.fault.ServiceFault.{ServiceFault}
-use Rattle.nbd_server.specs.declared.fault.ServiceFault.TheVariants.{NoSuchExport, WriteFault}
-use Rattle.nbd_server.specs.declared.phase.Phase.{Phase}
-use Rattle.nbd_server.specs.declared.phase.Phase.TheVariants.{Greeted, Haggling, Serving, Over}
+use Rattle.nbd_protocol.specs.declared.fault.ServiceFault.{ServiceFault}
+use Rattle.nbd_protocol.specs.declared.fault.ServiceFault.TheVariants.{NoSuchExport, WriteFault}
+use Rattle.nbd_protocol.specs.declared.phase.Phase.{Phase}
+use Rattle.nbd_protocol.specs.declared.phase.Phase.TheVariants.{Greeted, Haggling, Serving, Over}
 
 -- The client's flags: four bytes, of the two flags that were offered. They have no reply.
 pub record TakesFlags (message reply : List ℕ) (next : Phase) : Type 0 where
@@ -25,11 +25,11 @@ pub record TakesFlags (message reply : List ℕ) (next : Phase) : Type 0 where
   pub silent : reply ≡ []
 
 -- an option that is answered by its number and its data
-pub record IsAnswered (e : ExportRecord) (no_zeroes : Bool) (option : ℕ) (content reply : List ℕ) (next : Phase) : Type 0 where
+pub record IsAnswered (es : List ExportRecord) (no_zeroes : Bool) (option : ℕ) (content reply : List ℕ) (next : Phase) : Type 0 where
   pub short : length content ≤ most_data
-  pub named : names_export e option content ≡ true
-  pub reply_is : reply ≡ answer_to e no_zeroes option content
-  pub next_is : next ≡ phase_after e no_zeroes option content
+  pub named : names_export es option content ≡ true
+  pub reply_is : reply ≡ answer_to es no_zeroes option content
+  pub next_is : next ≡ phase_after es no_zeroes option content
 
 -- an option whose data, so many bytes, are too long
 pub record IsTooLong (no_zeroes : Bool) (option count : ℕ) (reply : List ℕ) (next : Phase) : Type 0 where
@@ -38,25 +38,25 @@ pub record IsTooLong (no_zeroes : Bool) (option count : ℕ) (reply : List ℕ) 
   pub reply_is : reply ≡ answer_to_long option
   pub next_is : next ≡ phase_after_long no_zeroes option
 
-abbrev pub AnswersOption : ExportRecord → Bool → ℕ → List ℕ → List ℕ → Phase → Type 0
-AnswersOption e no_zeroes option content reply next = IsAnswered e no_zeroes option content reply next ⊎ IsTooLong no_zeroes option (length content) reply next
+abbrev pub AnswersOption : List ExportRecord → Bool → ℕ → List ℕ → List ℕ → Phase → Type 0
+AnswersOption es no_zeroes option content reply next = IsAnswered es no_zeroes option content reply next ⊎ IsTooLong no_zeroes option (length content) reply next
 
 -- An option: its magic, its number, the length of its data, and the data.
-pub record TakesOption (e : ExportRecord) (no_zeroes : Bool) (message reply : List ℕ) (next : Phase) : Type 0 where
+pub record TakesOption (es : List ExportRecord) (no_zeroes : Bool) (message reply : List ℕ) (next : Phase) : Type 0 where
   pub header : List ℕ
   pub content : List ℕ
   pub message_is : message ≡ header ++ content
   pub size : length header ≡ 16
   pub magic : take 8 header ≡ codes "IHAVEOPT"
   pub count : length content ≡ number32 header 12
-  pub answered : AnswersOption e no_zeroes (number32 header 8) content reply next
+  pub answered : AnswersOption es no_zeroes (number32 header 8) content reply next
 
--- a request that isn't the last: it is served, and has a simple reply
-pub record IsServed (e : ExportRecord) (w : World) (header payload reply : List ℕ) (next : Phase) (w' : World) : Type 0 where
+-- a request to the export at that place that isn't the last: it is served, and has a simple reply
+pub record IsServed (e : ExportRecord) (place : ℕ) (w : World) (header payload reply : List ℕ) (next : Phase) (w' : World) : Type 0 where
   pub outcome : RequestOutcome
   pub serves : Serves e w (header_of header) payload outcome w'
   pub reply_is : reply ≡ simple_reply (header_of header).cookie outcome
-  pub next_is : next ≡ Serving
+  pub next_is : next ≡ Serving place
 
 -- the request by which the client ends the service: it has no reply
 pub record IsLast (w : World) (header reply : List ℕ) (next : Phase) (w' : World) : Type 0 where
@@ -66,33 +66,33 @@ pub record IsLast (w : World) (header reply : List ℕ) (next : Phase) (w' : Wor
   pub same : w' ≡ w
 
 -- A request: 28 bytes, and those of a write.
-pub record TakesRequest (e : ExportRecord) (w : World) (message reply : List ℕ) (next : Phase) (w' : World) : Type 0 where
+pub record TakesRequest (e : ExportRecord) (place : ℕ) (w : World) (message reply : List ℕ) (next : Phase) (w' : World) : Type 0 where
   pub header : List ℕ
   pub payload : List ℕ
   pub message_is : message ≡ header ++ payload
   pub size : length header ≡ 28
   pub magic : number32 header 0 ≡ request_magic
   pub count : length payload ≡ payload_len (header_of header)
-  pub answered : IsLast w header reply next w' ⊎ ((header_of header).kind ≢ 2) × IsServed e w header payload reply next w'
+  pub answered : IsLast w header reply next w' ⊎ ((header_of header).kind ≢ 2) × IsServed e place w header payload reply next w'
 
 -- One message of the client, by what it may say: from one world of the queue to the next.
-abbrev pub TakesMessage : ExportRecord → Phase → World → List ℕ → List ℕ → Phase → World → Type 0
-TakesMessage e Greeted w message reply next w' = TakesFlags message reply next × (w' ≡ w)
-TakesMessage e (Haggling no_zeroes) w message reply next w' = TakesOption e no_zeroes message reply next × (w' ≡ w)
-TakesMessage e Serving w message reply next w' = TakesRequest e w message reply next w'
-TakesMessage e Over w message reply next w' = ⊥
+abbrev pub TakesMessage : List ExportRecord → Phase → World → List ℕ → List ℕ → Phase → World → Type 0
+TakesMessage es Greeted w message reply next w' = TakesFlags message reply next × (w' ≡ w)
+TakesMessage es (Haggling no_zeroes) w message reply next w' = TakesOption es no_zeroes message reply next × (w' ≡ w)
+TakesMessage es (Serving place) w message reply next w' = TakesRequest (export_at es place) place w message reply next w'
+TakesMessage es Over w message reply next w' = ⊥
 
 -- Messages one after another, what they are in all, and all that is replied.
-pub data Conversation (e : ExportRecord) (first : World) : Phase → World → List ℕ → List ℕ → Type 0 where
-  begins : Conversation e first Greeted first [] []
-  goes_on : {phase next : Phase} {w w' : World} {taken written : List ℕ} (message reply : List ℕ) → Conversation e first phase w taken written → TakesMessage e phase w message reply next w'
-      → Conversation e first next w' (taken ++ message) (written ++ reply)
+pub data Conversation (es : List ExportRecord) (first : World) : Phase → World → List ℕ → List ℕ → Type 0 where
+  begins : Conversation es first Greeted first [] []
+  goes_on : {phase next : Phase} {w w' : World} {taken written : List ℕ} (message reply : List ℕ) → Conversation es first phase w taken written → TakesMessage es phase w message reply next w'
+      → Conversation es first next w' (taken ++ message) (written ++ reply)
 
--- an option that has no reply: EXPORT_NAME, whose name is another's
-abbrev pub IsUnnamed : ExportRecord → ℕ → List ℕ → ServiceFault → Type 0
-IsUnnamed e option content fault = (fault ≡ NoSuchExport) × (option ≡ 1) × (is_asked e content ≡ false)
+-- an option that has no reply: EXPORT_NAME, whose name is no export's
+abbrev pub IsUnnamed : List ExportRecord → ℕ → List ℕ → ServiceFault → Type 0
+IsUnnamed es option content fault = (fault ≡ NoSuchExport) × (option ≡ 1) × (asked es content ≡ None)
 
--- the same whose name is too long for the export's
+-- the same whose name is too long for an export's
 abbrev pub IsUnread : ℕ → ℕ → ServiceFault → Type 0
 IsUnread option count fault = (fault ≡ NoSuchExport) × (option ≡ 1) × (most_data < count)
 
@@ -103,50 +103,50 @@ Answers Is Ends old new (Err WriteFault) = (reply : List ℕ) × (next : Phase) 
 Answers Is Ends old new (Err fault) = Keeps old new × Ends fault
 
 -- a message was taken and done, and the writer failed in its reply
-pub record IsUnanswered (e : ExportRecord) (phase : Phase) (w w' : World) (old new : Option (List ℕ)) : Type 0 where
+pub record IsUnanswered (es : List ExportRecord) (phase : Phase) (w w' : World) (old new : Option (List ℕ)) : Type 0 where
   pub message : List ℕ
   pub reply : List ℕ
   pub next : Phase
   pub consumed : Consumes old new message
-  pub takes : TakesMessage e phase w message reply next w'
+  pub takes : TakesMessage es phase w message reply next w'
 
 -- how a message ends: it was taken, the input ended before it, the writer failed in its reply, or the service ends in it
 -- for its cause; then nothing happened
-abbrev pub Turns : ExportRecord → Phase → World → World → Streams → Streams → Result (Option Phase) ServiceFault → Type 0
-Turns e phase w w' old new (Ok (Some next)) = Spoken old new (λ message reply. TakesMessage e phase w message reply next w')
-Turns e phase w w' old new (Ok None) = Spoken old new (λ taken written. (taken ≡ []) × (written ≡ []) × (w' ≡ w)) × IsAtEnd new.input
-Turns e phase w w' old new (Err WriteFault) = IsUnanswered e phase w w' old.input new.input
-Turns e phase w w' old new (Err fault) = Spoken old new (λ taken written. (written ≡ []) × (w' ≡ w) × Breaks e phase taken new.input fault)
+abbrev pub Turns : List ExportRecord → Phase → World → World → Streams → Streams → Result (Option Phase) ServiceFault → Type 0
+Turns es phase w w' old new (Ok (Some next)) = Spoken old new (λ message reply. TakesMessage es phase w message reply next w')
+Turns es phase w w' old new (Ok None) = Spoken old new (λ taken written. (taken ≡ []) × (written ≡ []) × (w' ≡ w)) × IsAtEnd new.input
+Turns es phase w w' old new (Err WriteFault) = IsUnanswered es phase w w' old.input new.input
+Turns es phase w w' old new (Err fault) = Spoken old new (λ taken written. (written ≡ []) × (w' ≡ w) × Breaks es phase taken new.input fault)
 
 -- how the service ends after those messages: the client ended it or went away, or the fault has its cause in the rest
-abbrev pub EndsSo : ExportRecord → Phase → List ℕ → Option (List ℕ) → Result Unit ServiceFault → Type 0
-EndsSo e phase rest input (Ok done) = (rest ≡ []) × ((phase ≡ Over) ⊎ IsAtEnd input)
-EndsSo e phase rest input (Err fault) = Breaks e phase rest input fault
+abbrev pub EndsSo : List ExportRecord → Phase → List ℕ → Option (List ℕ) → Result Unit ServiceFault → Type 0
+EndsSo es phase rest input (Ok done) = (rest ≡ []) × ((phase ≡ Over) ⊎ IsAtEnd input)
+EndsSo es phase rest input (Err fault) = Breaks es phase rest input fault
 
 -- what was taken is whole messages and a rest, and what was written is the greeting and the replies to them
-pub record IsHeld (e : ExportRecord) (first last : World) (input : Option (List ℕ)) (result : Result Unit ServiceFault) (taken written : List ℕ) : Type 0 where
+pub record IsHeld (es : List ExportRecord) (first last : World) (input : Option (List ℕ)) (result : Result Unit ServiceFault) (taken written : List ℕ) : Type 0 where
   pub phase : Phase
   pub whole : List ℕ
   pub replies : List ℕ
   pub rest : List ℕ
-  pub talk : Conversation e first phase last whole replies
+  pub talk : Conversation es first phase last whole replies
   pub taken_is : taken ≡ whole ++ rest
   pub written_is : written ≡ greeting ++ replies
-  pub ends : EndsSo e phase rest input result
+  pub ends : EndsSo es phase rest input result
 
 -- what was taken is whole messages, and these were done; their replies may not all be written
-pub record IsDone (e : ExportRecord) (first last : World) (old new : Option (List ℕ)) : Type 0 where
+pub record IsDone (es : List ExportRecord) (first last : World) (old new : Option (List ℕ)) : Type 0 where
   pub phase : Phase
   pub whole : List ℕ
   pub replies : List ℕ
   pub consumed : Consumes old new whole
-  pub talk : Conversation e first phase last whole replies
+  pub talk : Conversation es first phase last whole replies
 
 -- What a service read and wrote, from the first world of its queue to the last.
-pub record IsService (e : ExportRecord) (first last : World) (old new : Streams) (result : Result Unit ServiceFault) : Type 0 where
+pub record IsService (es : List ExportRecord) (first last : World) (old new : Streams) (result : Result Unit ServiceFault) : Type 0 where
   -- unless the writer failed
-  pub held : result ≢ Err WriteFault → Spoken old new (IsHeld e first last new.input result)
+  pub held : result ≢ Err WriteFault → Spoken old new (IsHeld es first last new.input result)
   -- where it failed
-  pub done : result ≡ Err WriteFault → IsDone e first last old.input new.input
+  pub done : result ≡ Err WriteFault → IsDone es first last old.input new.input
   -- however it ended, its messages are a run of the queue, of which the queue's law speaks
   pub led : IsLed EachPart first last

@@ -4,16 +4,16 @@ use Rattle.std.specs.Io.KnownBytes.{Consumes}
 use Rattle.stack_meaning.specs.declared.fault.IoFault.{IoFault}
 use Rattle.request_queue.specs.Parts.{EachPart}
 use Rattle.request_queue.specs.World.{World, Step, sync}
-use Rattle.nbd_server.specs.Numbers.{bytes32, bytes64}
-use Rattle.nbd_server.specs.Exports.{ExportRecord}
-use Rattle.nbd_server.specs.Headers.{command_of, error_number, payload_len}
+use Rattle.nbd_protocol.specs.Numbers.{bytes32, bytes64}
+use Rattle.nbd_protocol.specs.Exports.{ExportRecord}
+use Rattle.nbd_protocol.specs.Headers.{command_of, error_number, payload_len}
 use Rattle.nbd_server.specs.Sectors.{IsFetched, FailsToFetch, IsStored, FailsToStore}
-use Rattle.nbd_server.specs.declared.header.Header.{Header}
-use Rattle.nbd_server.specs.declared.header.Command.{Command}
-use Rattle.nbd_server.specs.declared.header.Command.TheVariants.{Read, Write, Zero, Hint, Flush}
+use Rattle.nbd_protocol.specs.declared.header.Header.{Header}
+use Rattle.nbd_protocol.specs.declared.header.Command.{Command}
+use Rattle.nbd_protocol.specs.declared.header.Command.TheVariants.{Read, Write, Zero, Hint, Flush}
 use Rattle.nbd_server.specs.declared.reply.Data.{Data}
-use Rattle.nbd_server.specs.declared.request_error.RequestError.{RequestError}
-use Rattle.nbd_server.specs.declared.request_error.RequestError.TheVariants.{NoMemory, InputOutput}
+use Rattle.nbd_protocol.specs.declared.request_error.RequestError.{RequestError}
+use Rattle.nbd_protocol.specs.declared.request_error.RequestError.TheVariants.{NoMemory, InputOutput}
 
 -- the bytes that a request gives, or why it fails
 abbrev pub RequestOutcome : Type 0

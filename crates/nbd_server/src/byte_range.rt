@@ -1,16 +1,15 @@
 //! Bytes of the export, read and written by the sectors that they touch.
 ghost use Rattle.std.specs.Prelude.{◌≡◌, ◌<◌, ◌≤◌, ◌+◌, ◌*◌, ◌%◌, ◌^◌, drop, length, replicate, take, Ok, IfErr, IfOk};
-ghost use Rattle.nbd_server.specs.Exports.{export_record};
+ghost use Rattle.nbd_protocol.specs.Exports.{export_record};
 ghost use Rattle.nbd_server.specs.Premises.{AreBytesOf, HaveSizes};
 ghost use Rattle.nbd_server.specs.Transmission.{FailsToReadEnds, IsInside, ReadsBytes, ReadsEnds, WritesBytes, WritesSome, data_of, outcome_of, touched, written};
 
-use crate::export::Export;
 use crate::fetch::fetch;
 use crate::reply::Data;
-use crate::request_error::RequestError;
 use crate::store::{store, store_zeros};
 use crate::zeros::Zeros;
 use block_device::BlockDev;
+use nbd_protocol::{Export, RequestError};
 use request_queue::Queue;
 use std::alloc::Global;
 

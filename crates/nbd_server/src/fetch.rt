@@ -1,13 +1,11 @@
 //! Reads sectors of the export.
 ghost use Rattle.std.specs.Prelude.{◌≡◌, ◌*◌, length, IfErr, IfOk, OnOk};
-ghost use Rattle.nbd_server.specs.Exports.{export_record};
+ghost use Rattle.nbd_protocol.specs.Exports.{export_record};
 ghost use Rattle.nbd_server.specs.Premises.{AreSectorsOf};
 ghost use Rattle.nbd_server.specs.Sectors.{FailsToFetch, IsFetched};
 
-use crate::export::Export;
-use crate::intake::zeros;
-use crate::request_error::RequestError;
 use block_device::BlockDev;
+use nbd_protocol::{Export, RequestError, zeros};
 use request_queue::{BytesFault, Queue};
 use std::alloc::Global;
 

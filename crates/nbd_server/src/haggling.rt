@@ -2,19 +2,16 @@
 ghost use Rattle.std.specs.Prelude.{◌≡◌, ◌≢◌, ◌<◌, ◌≤◌, ◌^◌, ℕ, List, length, nat_le, Option, IfOk, IfErr};
 ghost use Rattle.counted_io.specs.Streams.{streams};
 ghost use Rattle.request_queue.specs.World.{World};
-ghost use Rattle.nbd_server.specs.Exports.{ExportRecord, export_record};
+ghost use Rattle.nbd_protocol.specs.Exports.{HaveShortNames, ExportRecord, export_records};
 ghost use Rattle.nbd_server.specs.Service.{Answers, IsAnswered, IsTooLong, IsUnnamed, IsUnread, Turns};
-ghost use Rattle.nbd_server.specs.Streaming.{HasRead, HasWritten, IsShort, TakesInto, content_in, fault_of};
-ghost use Rattle.nbd_server.specs.declared.phase.Phase.TheVariants.{Greeted, Haggling};
+ghost use Rattle.nbd_protocol.specs.Streaming.{HasRead, HasWritten, IsShort, TakesInto, content_in, fault_of};
+ghost use Rattle.nbd_protocol.specs.declared.phase.Phase.TheVariants.{Greeted, Haggling};
 
-use crate::export::Export;
-use crate::fault::ServiceFault;
-use crate::intake::{fill, fill_part, skip};
-use crate::numbers::number32;
-use crate::option::{ABORT, EXPORT_NAME, names_export, phase_after, say_answer};
-use crate::option_reply::{Refusal, acknowledge, refuse};
-use crate::phase::Phase;
 use counted_io::Counted;
+use nbd_protocol::{
+    ABORT, EXPORT_NAME, Export, Phase, Refusal, ServiceFault, acknowledge, fill, fill_part,
+    names_export, number32, phase_after, refuse, say_answer, skip,
+};
 use std::io::{Read, Write};
 
 // The most bytes of an option's data.
@@ -22,7 +19,7 @@ const MOST_DATA: usize = 65536;
 
 /// Takes the client's flags.
 pub(crate) fn take_flags<R: Read>(reader: &mut Counted<R>) -> Result<Option<Phase>, ServiceFault>
-    ensures turn { (e : ExportRecord) (w : World) (written : Option (List ℕ)) → Turns e Greeted w w (streams (R.remaining reader.old.inner) written) (streams (R.remaining reader.new.inner) written) result }
+    ensures turn { (es : List ExportRecord) (w : World) (written : Option (List ℕ)) → Turns es Greeted w w (streams (R.remaining reader.old.inner) written) (streams (R.remaining reader.new.inner) written) result }
     ensures reader { HasRead 1 reader.old reader.new (fault_of result) }
     ensures other { result ≢ Err ServiceFault.WriteFault }
 {
@@ -88,33 +85,33 @@ fn refuse_content<W: Write>(
 
 // Replies to an option. `NoSuchExport`: it has no reply.
 fn answer_option<W: Write>(
-    export: &Export<'_>,
+    exports: &[Export<'_>],
     no_zeroes: bool,
     option: u32,
     content: &[u8],
     writer: &mut Counted<W>,
 ) -> Result<Phase, ServiceFault>
-    requires name { length export.now.name.now < 2 ^ 16 }
+    requires names { HaveShortNames exports.now }
     requires short { length content.now ≤ MOST_DATA }
-    ensures answer { Answers (IsAnswered (export_record export.now) no_zeroes option content.now) (IsUnnamed (export_record export.now) option content.now) (W.contents writer.old.inner) (W.contents writer.new.inner) result }
+    ensures answer { Answers (IsAnswered (export_records exports.now) no_zeroes option content.now) (IsUnnamed (export_records exports.now) option content.now) (W.contents writer.old.inner) (W.contents writer.new.inner) result }
     ensures writer { HasWritten writer.old writer.new (fault_of result) }
 {
-    if !names_export(export, option, content) {
+    if !names_export(exports, option, content) {
         return Err(ServiceFault::NoSuchExport);
     }
-    say_answer(writer, export, no_zeroes, option, content)?;
-    Ok(phase_after(export, no_zeroes, option, content))
+    say_answer(writer, exports, no_zeroes, option, content)?;
+    Ok(phase_after(exports, no_zeroes, option, content))
 }
 
 /// Takes an option, and replies to it.
 pub(crate) fn take_option<R: Read, W: Write>(
-    export: &Export<'_>,
+    exports: &[Export<'_>],
     no_zeroes: bool,
     reader: &mut Counted<R>,
     writer: &mut Counted<W>,
 ) -> Result<Option<Phase>, ServiceFault>
-    requires { length export.now.name.now < 2 ^ 16 }
-    ensures turn { (w : World) → Turns (export_record export.now) (Haggling no_zeroes) w w
+    requires { HaveShortNames exports.now }
+    ensures turn { (w : World) → Turns (export_records exports.now) (Haggling no_zeroes) w w
         (streams (R.remaining reader.old.inner) (W.contents writer.old.inner)) (streams (R.remaining reader.new.inner) (W.contents writer.new.inner)) result }
     ensures reader { HasRead 1 reader.old reader.new (fault_of result) }
     ensures writer { HasWritten writer.old writer.new (fault_of result) }
@@ -133,5 +130,5 @@ pub(crate) fn take_option<R: Read, W: Write>(
         return Ok(Some(refuse_content(no_zeroes, option, count, writer)?));
     }
     let content = &room[..count as usize];
-    Ok(Some(answer_option(export, no_zeroes, option, content, writer)?))
+    Ok(Some(answer_option(exports, no_zeroes, option, content, writer)?))
 }

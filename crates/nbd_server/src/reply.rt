@@ -1,12 +1,11 @@
 //! Replies to requests.
 ghost use Rattle.std.specs.Prelude.{◌≡◌, ◌≤◌, ◌+◌, [], ◌++◌, length};
 ghost use Rattle.counted_io.specs.Counted.{Writes};
-ghost use Rattle.nbd_server.specs.Numbers.{bytes32, bytes64};
+ghost use Rattle.nbd_protocol.specs.Numbers.{bytes32, bytes64};
 ghost use Rattle.nbd_server.specs.Transmission.{IsInside, data_of, outcome_of, simple_reply};
 
-use crate::numbers::{put32, put64};
-use crate::request_error::RequestError;
 use counted_io::{Counted, WriteFault};
+use nbd_protocol::{RequestError, put32, put64};
 use std::alloc::Global;
 use std::io::Write;
 

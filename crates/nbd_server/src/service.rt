@@ -1,19 +1,17 @@
 //! The service of a client: its messages one after another, and what is replied to each.
 ghost use Rattle.std.specs.Prelude.{◌≢◌};
 ghost use Rattle.counted_io.specs.Streams.{streams};
-ghost use Rattle.nbd_server.specs.Exports.{IsExport, export_record};
+ghost use Rattle.nbd_protocol.specs.Exports.{AreExports, export_records};
 ghost use Rattle.nbd_server.specs.Premises.{IsGoing};
 ghost use Rattle.nbd_server.specs.Service.{IsService, Turns};
-ghost use Rattle.nbd_server.specs.Streaming.{HasRead, HasWritten, fault_of};
-ghost use Rattle.nbd_server.specs.declared.phase.Phase.TheVariants.{Over};
+ghost use Rattle.nbd_protocol.specs.Streaming.{HasRead, HasWritten, fault_of};
+ghost use Rattle.nbd_protocol.specs.declared.phase.Phase.TheVariants.{Over};
 
-use crate::export::Export;
-use crate::fault::ServiceFault;
 use crate::haggling::{take_flags, take_option};
-use crate::phase::Phase;
 use crate::transmission::take_request;
 use block_device::SyncDev;
 use counted_io::Counted;
+use nbd_protocol::{Export, Phase, ServiceFault, export_at};
 use request_queue::Queue;
 use std::alloc::Global;
 use std::io::{Read, Write};
@@ -24,37 +22,40 @@ const GREETING: [u8; 18] = *b"NBDMAGICIHAVEOPT\0\x03";
 fn take_message<D: SyncDev, R: Read, W: Write>(
     alloc: Global,
     queue: &mut Queue<D>,
-    export: &Export<'_>,
+    exports: &[Export<'_>],
     phase: Phase,
     reader: &mut Counted<R>,
     writer: &mut Counted<W>,
 ) -> Result<Option<Phase>, ServiceFault>
-    requires { IsGoing queue.old.stack.config (export_record export.now) phase }
-    ensures turn { Turns (export_record export.now) phase queue.old queue.new
+    requires { IsGoing queue.old.stack.config exports.now phase }
+    ensures turn { Turns (export_records exports.now) phase queue.old queue.new
         (streams (R.remaining reader.old.inner) (W.contents writer.old.inner)) (streams (R.remaining reader.new.inner) (W.contents writer.new.inner)) result }
     ensures reader { HasRead 1 reader.old reader.new (fault_of result) }
     ensures writer { HasWritten writer.old writer.new (fault_of result) }
 {
     match phase {
         Phase::Greeted => take_flags(reader),
-        Phase::Haggling { no_zeroes } => take_option(export, no_zeroes, reader, writer),
-        Phase::Serving => take_request(alloc, queue, export, reader, writer),
+        Phase::Haggling { no_zeroes } => take_option(exports, no_zeroes, reader, writer),
+        Phase::Serving { place } => {
+            let export = export_at(exports, place);
+            take_request(alloc, queue, export, place, reader, writer)
+        }
         Phase::Over => unreachable!(),
     }
 }
 
-/// Serves a client, until it ends the service or goes away between two messages.
+/// Serves a client the export that it names of these, until it ends the service or goes away between two messages.
 ///
 /// Replies are handed on before the reader is called again.
 pub fn serve<D: SyncDev, R: Read, W: Write>(
     alloc: Global,
     queue: &mut Queue<D>,
-    export: &Export<'_>,
+    exports: &[Export<'_>],
     reader: &mut Counted<R>,
     writer: &mut Counted<W>,
 ) -> Result<(), ServiceFault>
-    requires { IsExport queue.old.stack.config (export_record export.now) }
-    ensures service { IsService (export_record export.now) queue.old queue.new
+    requires { AreExports queue.old.stack.config exports.now }
+    ensures service { IsService (export_records exports.now) queue.old queue.new
         (streams (R.remaining reader.old.inner) (W.contents writer.old.inner)) (streams (R.remaining reader.new.inner) (W.contents writer.new.inner)) result }
     ensures reader { HasRead 0 reader.old reader.new (fault_of result) }
     ensures writer { HasWritten writer.old writer.new (fault_of result) }
@@ -65,7 +66,7 @@ pub fn serve<D: SyncDev, R: Read, W: Write>(
         writer.flush()?;
         match phase {
             Phase::Over => return Ok(()),
-            _ => match take_message(alloc, queue, export, phase, reader, writer)? {
+            _ => match take_message(alloc, queue, exports, phase, reader, writer)? {
                 Some(next) => phase = next,
                 None => return Ok(()),
             },

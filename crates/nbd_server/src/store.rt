@@ -2,14 +2,13 @@
 ghost use Rattle.std.specs.Prelude.{◌≡◌, ◌≤◌, ◌+◌, ◌/◌, ◌%◌, ◌^◌, Some, length, IfErr, OnOk};
 ghost use Rattle.stack_rules.specs.Names.{device_named};
 ghost use Rattle.nbd_server.specs.Sectors.{FailsToStore, IsStored};
-ghost use Rattle.nbd_server.specs.Exports.{IsExport, export_record};
+ghost use Rattle.nbd_protocol.specs.Exports.{IsExport, export_record};
 ghost use Rattle.nbd_server.specs.Premises.{AreSectors, HaveEnds};
 ghost use Rattle.nbd_server.specs.Zeros.{zeros_of};
 
-use crate::export::Export;
-use crate::request_error::RequestError;
 use crate::zeros::Zeros;
 use block_device::BlockDev;
+use nbd_protocol::{Export, RequestError};
 use request_queue::{Queue, Reply, Request, RunFault};
 use std::alloc::Global;
 

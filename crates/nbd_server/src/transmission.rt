@@ -2,25 +2,22 @@
 ghost use Rattle.std.specs.Prelude.{◌≡◌, ◌<◌, ◌+◌, ◌^◌, ℕ, List, length, replicate, IfOk, IfErr};
 ghost use Rattle.std.specs.Io.KnownBytes.{Consumes};
 ghost use Rattle.counted_io.specs.Streams.{streams};
-ghost use Rattle.nbd_server.specs.Exports.{IsExport, export_record};
-ghost use Rattle.nbd_server.specs.Headers.{payload_len};
+ghost use Rattle.nbd_protocol.specs.Exports.{ExportRecord, IsExport, export_at, export_record};
+ghost use Rattle.nbd_protocol.specs.Headers.{payload_len};
 ghost use Rattle.nbd_server.specs.Premises.{AreBytesOf};
 ghost use Rattle.nbd_server.specs.Service.{Turns};
-ghost use Rattle.nbd_server.specs.Streaming.{HasRead, HasWritten, IsShort, fault_of};
+ghost use Rattle.nbd_protocol.specs.Streaming.{HasRead, HasWritten, IsShort, fault_of};
 ghost use Rattle.nbd_server.specs.Transmission.{Flushes, IsInside, IsServed, Settles, Stays, WritesGiven, WritesSome, outcome_of, written};
-ghost use Rattle.nbd_server.specs.declared.phase.Phase.TheVariants.{Serving};
+ghost use Rattle.nbd_protocol.specs.declared.phase.Phase.TheVariants.{Serving};
 
 use crate::byte_range::{read_bytes, touched, write_bytes, write_zeros};
-use crate::export::Export;
-use crate::fault::ServiceFault;
-use crate::header::{Command, DISCONNECT, Header};
-use crate::intake::{fill, skip, take_sectors};
-use crate::numbers::number32;
-use crate::phase::Phase;
 use crate::reply::{Data, say_reply};
-use crate::request_error::RequestError;
 use block_device::{BlockDev, SyncDev};
 use counted_io::Counted;
+use nbd_protocol::{
+    Command, DISCONNECT, Export, Header, Phase, RequestError, ServiceFault, fill, number32, skip,
+    take_sectors,
+};
 use request_queue::Queue;
 use std::alloc::Global;
 use std::io::{Read, Write};
@@ -146,16 +143,17 @@ fn serve_request<D: SyncDev, R: Read>(
     }
 }
 
-/// Takes a request, and replies to it.
+/// Takes a request to the export at that place, and replies to it.
 pub(crate) fn take_request<D: SyncDev, R: Read, W: Write>(
     alloc: Global,
     queue: &mut Queue<D>,
     export: &Export<'_>,
+    place: usize,
     reader: &mut Counted<R>,
     writer: &mut Counted<W>,
 ) -> Result<Option<Phase>, ServiceFault>
     requires { IsExport queue.old.stack.config (export_record export.now) }
-    ensures turn { Turns (export_record export.now) Serving queue.old queue.new
+    ensures turn { (es : List ExportRecord) → export_at es place ≡ export_record export.now → Turns es (Serving place) queue.old queue.new
         (streams (R.remaining reader.old.inner) (W.contents writer.old.inner)) (streams (R.remaining reader.new.inner) (W.contents writer.new.inner)) result }
     ensures reader { HasRead 1 reader.old reader.new (fault_of result) }
     ensures writer { HasWritten writer.old writer.new (fault_of result) }
@@ -173,5 +171,5 @@ pub(crate) fn take_request<D: SyncDev, R: Read, W: Write>(
     }
     let outcome = serve_request(alloc, queue, export, header, reader)?;
     say_reply(writer, header.cookie, outcome)?;
-    Ok(Some(Phase::Serving))
+    Ok(Some(Phase::Serving { place }))
 }

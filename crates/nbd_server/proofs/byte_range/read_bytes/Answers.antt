@@ -1,5 +1,5 @@
 use Rattle.std.proofs.Common.{arith}
-use Rattle.nbd_server.specs.Exports.{export_record}
+use Rattle.nbd_protocol.specs.Exports.{export_record}
 use Rattle.nbd_server.proofs.FetchLemmas.{sectors-of}
 use Rattle.nbd_server.proofs.byte_range.read_bytes.Goals as goal
 

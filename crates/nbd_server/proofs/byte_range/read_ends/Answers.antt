@@ -1,6 +1,6 @@
 use Rattle.std.proofs.Common.{◌+◌, ◌-◌, ◌%◌, Ok, Err, subst, sym}
 use Rattle.std.proofs.lemmas.Result.{err_from_is_err_and}
-use Rattle.nbd_server.specs.Exports.{export_record}
+use Rattle.nbd_protocol.specs.Exports.{export_record}
 use Rattle.stack_rules.specs.Records.{Configuration}
 use Rattle.nbd_server.specs.Premises.{AreBytesOf}
 use Rattle.nbd_server.specs.Transmission.{ReadsBytes, data_of, room_behind}

@@ -1,7 +1,7 @@
 use Rattle.std.proofs.Common.{◌≡◌, ℕ, ◌+◌, ◌-◌, ◌%◌, ◌++◌, List, arith, drop, inl, length, refl, sym, ◌∙◌, subst, take}
 use Rattle.std.proofs.lemmas.List.{length-take-le}
 use Rattle.std.proofs.lemmas.Result.{err_from_is_err_and}
-use Rattle.nbd_server.specs.Exports.{export_record}
+use Rattle.nbd_protocol.specs.Exports.{export_record}
 use Rattle.nbd_server.specs.Transmission.{FailsToReadEnds, ReadsEnds, data_of}
 use Rattle.nbd_server.proofs.ByteLemmas.{framed, meant-length, writes-ended}
 use Rattle.nbd_server.proofs.byte_range.write_bytes.Goals as goal

@@ -1,6 +1,6 @@
 use Rattle.std.proofs.Common.{ℕ, List, arith, sym, subst}
 use Rattle.std.proofs.lemmas.Result.{err_from_is_err_and}
-use Rattle.nbd_server.specs.Exports.{export_record}
+use Rattle.nbd_protocol.specs.Exports.{export_record}
 use Rattle.nbd_server.specs.Transmission.{ReadsEnds, data_of}
 use Rattle.nbd_server.proofs.ByteLemmas.{zeros-unread, zeros-written}
 use Rattle.nbd_server.proofs.byte_range.write_zeros.Goals as goal

@@ -1,4 +1,4 @@
-use Rattle.nbd_server.specs.Exports.{export_record}
+use Rattle.nbd_protocol.specs.Exports.{export_record}
 use Rattle.nbd_server.proofs.FetchLemmas.{fetched, unfetched, named-below, not-refused}
 use Rattle.nbd_server.proofs.fetch.read_into.Goals as goal
 

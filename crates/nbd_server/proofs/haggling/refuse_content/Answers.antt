@@ -1,7 +1,7 @@
 use Rattle.std.proofs.Common.{Some}
 use Rattle.std.proofs.lemmas.Result.{err_from_is_err_and}
-use Rattle.nbd_server.specs.declared.fault.ServiceFault.TheVariants as fault
-use Rattle.nbd_server.proofs.CountedLemmas.{written-same, written-ok, written-failed}
+use Rattle.nbd_protocol.specs.declared.fault.ServiceFault.TheVariants as fault
+use Rattle.nbd_protocol.proofs.lemmas.CountedLemmas.{written-same, written-ok, written-failed}
 use Rattle.nbd_server.proofs.MessageLemmas.{too-long}
 use Rattle.nbd_server.proofs.haggling.refuse_content.Goals as goal
 

@@ -1,7 +1,7 @@
 use Rattle.std.proofs.Common.{◌≡◌, ℕ, Ok, Some, arith, drop, length, refl, subst, sym, take}
 use Rattle.std.proofs.lemmas.List.{length-take-le}
-use Rattle.nbd_server.specs.Streaming.{Fills, TakesInto}
-use Rattle.nbd_server.proofs.IntakeLemmas.{into-all, into-none}
+use Rattle.nbd_protocol.specs.Streaming.{Fills, TakesInto}
+use Rattle.nbd_protocol.proofs.lemmas.IntakeLemmas.{into-all, into-none}
 use Rattle.nbd_server.proofs.haggling.take_content.Goals as goal
 
 pub returns-then-count-eq0-clause-ok : goal.returns-then-count-eq0-clause-ok

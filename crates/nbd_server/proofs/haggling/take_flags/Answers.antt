@@ -1,9 +1,9 @@
 use Rattle.std.proofs.Common.{Ok, arith, length, subst}
 use Rattle.std.proofs.lemmas.Result.{err_from_is_err_and}
-use Rattle.nbd_server.specs.declared.fault.ServiceFault.TheVariants as fault
-use Rattle.nbd_server.specs.declared.phase.Phase.TheVariants.{Greeted}
-use Rattle.nbd_server.specs.Streaming.{Fills}
-use Rattle.nbd_server.proofs.CountedLemmas.{read-other, stops-reading}
+use Rattle.nbd_protocol.specs.declared.fault.ServiceFault.TheVariants as fault
+use Rattle.nbd_protocol.specs.declared.phase.Phase.TheVariants.{Greeted}
+use Rattle.nbd_protocol.specs.Streaming.{Fills}
+use Rattle.nbd_protocol.proofs.lemmas.CountedLemmas.{read-other, stops-reading}
 use Rattle.nbd_server.proofs.MessageLemmas.{header-cut, flags-unlike}
 use Rattle.nbd_server.proofs.haggling.take_flags.Goals as goal
 

@@ -1,16 +1,17 @@
 use Rattle.std.proofs.Common.{arith}
 use Rattle.std.proofs.lemmas.Result.{err_from_is_err_and}
 use Rattle.counted_io.specs.Streams.{streams}
-use Rattle.nbd_server.specs.declared.fault.ServiceFault.TheVariants as fault
-use Rattle.nbd_server.specs.Exports.{export_record}
-use Rattle.nbd_server.proofs.CountedLemmas.{read-none, read-then, read-fewer, read-over, read-other, written-ok, written-other, written-then, written-failed}
-use Rattle.nbd_server.proofs.ServiceLemmas.{held-starts, held-kept, held-more, held-none, held-ends, held-over, held-stops, held-stuck, held-unsaid, export-kept}
+use Rattle.nbd_protocol.specs.declared.fault.ServiceFault.TheVariants as fault
+use Rattle.nbd_protocol.specs.Exports.{export_records}
+use Rattle.nbd_protocol.proofs.lemmas.CountedLemmas.{read-none, read-then, read-fewer, read-over, read-other, written-ok, written-other, written-then, written-failed}
+use Rattle.nbd_server.proofs.ServiceLemmas.{held-starts, held-kept, held-more, held-none, held-ends, held-over, held-stops, held-stuck, held-unsaid, exports-kept, placed-next}
 use Rattle.nbd_server.proofs.service.serve.Goals as goal
 
 pub loop-turn-init : goal.loop-turn-init
 loop-turn-init g c = record {
-  held = held-starts (export_record c.args.export.now) c.args.queue.now (g.R.Read.remaining c.args.reader.now.inner) (g.W.Write.contents c.args.writer.now.inner) (g.W.Write.contents c.put.new.self.inner) c.in_ok-put.ensures.writes.ok;
-  export = c.requires;
+  held = held-starts (export_records c.args.exports.now) c.args.queue.now (g.R.Read.remaining c.args.reader.now.inner) (g.W.Write.contents c.args.writer.now.inner) (g.W.Write.contents c.put.new.self.inner) c.in_ok-put.ensures.writes.ok;
+  exports_are = c.requires;
+  placed = tt;
   read = read-none c.args.reader.now;
   written = written-ok c.in_ok-put.ensures.writes.kept;
 }
@@ -41,7 +42,8 @@ loop-turn-preserved g c =
       held = held-more c.in-Some.next c.take_message.new.queue new held taken;
       read = read-then c.loop-turn.invariant.read c.in_ok-next-in_default.ensures.reader;
       written = written-then c.loop-turn.invariant.written (written-then (written-ok c.in_ok-flush.ensures.kept) c.in_ok-next-in_default.ensures.writer);
-      export = export-kept (export_record c.args.export.now) c.loop-turn.phase c.loop-turn.queue c.take_message.new.queue mid new c.in-Some.next c.loop-turn.invariant.export taken;
+      exports_are = exports-kept c.args.exports.now c.loop-turn.phase c.loop-turn.queue c.take_message.new.queue mid new c.in-Some.next c.loop-turn.invariant.exports_are taken;
+      placed = placed-next (export_records c.args.exports.now) c.loop-turn.phase c.loop-turn.queue c.take_message.new.queue mid new c.in-Some.next c.loop-turn.invariant.placed taken;
     }
 
 pub returns-in_err-next-in_default-clause-reader : goal.returns-in_err-next-in_default-clause-reader
@@ -98,7 +100,7 @@ returns-in-Over-clause-writer g c = written-then c.loop-turn.invariant.written (
 pub returns-in_err-put-clause-service : goal.returns-in_err-put-clause-service
 returns-in_err-put-clause-service g c =
     let p = err_from_is_err_and c.from_residual.result c.from_residual.ensures.1 in
-    rw (p.1, p.2) (held-unsaid (export_record c.args.export.now) c.args.queue.now (g.R.Read.remaining c.args.reader.now.inner) (g.W.Write.contents c.args.writer.now.inner) (g.W.Write.contents c.put.new.self.inner))
+    rw (p.1, p.2) (held-unsaid (export_records c.args.exports.now) c.args.queue.now (g.R.Read.remaining c.args.reader.now.inner) (g.W.Write.contents c.args.writer.now.inner) (g.W.Write.contents c.put.new.self.inner))
 
 pub returns-in_err-flush-clause-service : goal.returns-in_err-flush-clause-service
 returns-in_err-flush-clause-service g c =

@@ -1,6 +1,6 @@
 use Rattle.std.proofs.Common.{arith, refl, sym, subst}
 use Rattle.std.proofs.lemmas.Result.{err_from_is_err_and}
-use Rattle.nbd_server.specs.Exports.{IsExport, export_record}
+use Rattle.nbd_protocol.specs.Exports.{IsExport, export_record}
 use Rattle.nbd_server.proofs.StoreLemmas.{stored-none, stored-next, stored-stops}
 use Rattle.nbd_server.proofs.store.store.Goals as goal
 

@@ -1,5 +1,5 @@
 use Rattle.std.proofs.Common.{◌≡◌, ◌≤◌, ◌-◌, ◌%◌, length, take}
-use Rattle.nbd_server.specs.Exports.{IsExport, export_record}
+use Rattle.nbd_protocol.specs.Exports.{IsExport, export_record}
 use Rattle.nbd_server.specs.Sectors.{IsStored}
 use Rattle.nbd_server.proofs.store.store.Given as goal
 

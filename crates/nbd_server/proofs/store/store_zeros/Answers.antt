@@ -1,6 +1,6 @@
 use Rattle.std.proofs.Common.{◌≡◌, ◌≤◌, ℕ, ◌+◌, ◌-◌, ◌/◌, List, [], ◌++◌, arith, length, replicate, sym, subst}
 use Rattle.std.proofs.lemmas.Result.{err_from_is_err_and}
-use Rattle.nbd_server.specs.Exports.{IsExport, export_record}
+use Rattle.nbd_protocol.specs.Exports.{IsExport, export_record}
 use Rattle.nbd_server.specs.Zeros.{zeros_of}
 use Rattle.nbd_server.proofs.StoreLemmas.{IsPut, length-zeros, put-ends, put-err, put-more, put-none, put-ok, zeros-split}
 use Rattle.nbd_server.proofs.store.store_zeros.Goals as goal

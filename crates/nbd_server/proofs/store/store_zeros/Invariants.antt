@@ -1,5 +1,5 @@
 use Rattle.std.proofs.Common.{◌≡◌, ◌≤◌, ◌+◌, ◌/◌, ◌%◌, ◌^◌, length}
-use Rattle.nbd_server.specs.Exports.{IsExport, export_record}
+use Rattle.nbd_protocol.specs.Exports.{IsExport, export_record}
 use Rattle.nbd_server.specs.Premises.{HaveEnds}
 use Rattle.nbd_server.specs.Zeros.{zeros_of}
 use Rattle.nbd_server.proofs.StoreLemmas.{IsPut}

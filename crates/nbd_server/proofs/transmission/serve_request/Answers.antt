@@ -1,10 +1,10 @@
 use Rattle.std.proofs.Common.{◌≡◌, ℕ, [], Result, Ok, Err, ap, sym, subst, ◌∙◌}
 use Rattle.std.proofs.lemmas.Result.{err_from_is_err_and}
-use Rattle.nbd_server.specs.declared.header.Command.TheVariants.{Write}
-use Rattle.nbd_server.specs.declared.request_error.RequestError.{RequestError}
-use Rattle.nbd_server.specs.Exports.{export_record}
-use Rattle.nbd_server.specs.Headers.{command_of}
-use Rattle.nbd_server.specs.Streaming.{IsShort}
+use Rattle.nbd_protocol.specs.declared.header.Command.TheVariants.{Write}
+use Rattle.nbd_protocol.specs.declared.request_error.RequestError.{RequestError}
+use Rattle.nbd_protocol.specs.Exports.{export_record}
+use Rattle.nbd_protocol.specs.Headers.{command_of}
+use Rattle.nbd_protocol.specs.Streaming.{IsShort}
 use Rattle.nbd_server.specs.Transmission.{WritesGiven, outcome_of, written}
 use Rattle.nbd_server.proofs.ByteLemmas.{served-write, settled, unsettled, write-payload}
 use Rattle.nbd_server.proofs.transmission.serve_request.Goals as goal

@@ -1,6 +1,6 @@
 use Rattle.std.proofs.Common.{replicate}
 use Rattle.std.proofs.lemmas.Result.{err_from_is_err_and}
-use Rattle.nbd_server.specs.Exports.{export_record}
+use Rattle.nbd_protocol.specs.Exports.{export_record}
 use Rattle.nbd_server.specs.Transmission.{WritesSome, outcome_of}
 use Rattle.nbd_server.proofs.ByteLemmas.{settled, unsettled}
 use Rattle.nbd_server.proofs.transmission.zero.Goals as goal

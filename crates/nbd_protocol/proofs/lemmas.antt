@@ -1,0 +1,4 @@
+-- What callers may cite.
+pub mod CountedLemmas
+pub mod ExportLemmas
+pub mod IntakeLemmas

@@ -1,0 +1,99 @@
+-- What is served: a mapped device as a run of bytes.
+use Rattle.std.specs.Prelude.{◌≡◌, ◌⊎◌, ◌<◌, ◌≤◌, ◌&&◌, ◌==◌, ℕ, ◌+◌, ◌*◌, ◌^◌, All, Bool, false, List, [], get_or, length, map, position, Option, Some, None, if◌then◌else◌}
+use Rattle.std.specs.Str.{bytes_eq}
+use Rattle.stack_rules.specs.Names.{device_named, mapped, may_write, size}
+use Rattle.stack_rules.specs.Records.{Configuration}
+use Rattle.nbd_protocol.specs.declared.export.Export.{Export}
+
+-- its name, its place among the devices, how many bytes it has, and whether it may be written
+pub record ExportRecord : Type 0 where
+  pub name : List ℕ
+  pub device : ℕ
+  pub size : ℕ
+  pub writable : Bool
+
+abbrev pub export_record : Export → ExportRecord
+export_record e = record { name = e.name.now; device = e.device.0; size = e.size; writable = e.writable }
+
+-- the most bytes of a string of the protocol
+abbrev pub most_name : ℕ
+most_name = 4096
+
+-- It is the device of that name in the configuration, and may be written where the device may. What the protocol
+-- tells of it fits: its size in 64 bits, and its name as a string.
+pub record IsExport (c : Configuration) (e : ExportRecord) : Type 0 where
+  pub found : device_named c e.name ≡ Some e.device
+  pub size : e.size ≡ 512 * size c (mapped e.device)
+  pub writable : e.writable ≡ may_write c (mapped e.device)
+  pub fits : e.size < 2 ^ 64
+  pub short : length e.name ≤ most_name
+
+-- no device has that name, or the protocol can't tell its name or its size
+abbrev pub HasNoExport : Configuration → List ℕ → Type 0
+HasNoExport c name =
+    (device_named c name ≡ None) ⊎ ((most_name < length name) ⊎ ((d : ℕ) × (device_named c name ≡ Some d) × (2 ^ 64 ≤ 512 * size c (mapped d))))
+
+-- ---- the exports of a service, in the order of LIST
+
+-- what stands past the end of them
+abbrev pub no_export : ExportRecord
+no_export = record { name = []; device = 0; size = 0; writable = false }
+
+abbrev pub export_at : List ExportRecord → ℕ → ExportRecord
+export_at es place = get_or es place no_export
+
+-- the place of the first export of that name
+abbrev pub place_of : List ExportRecord → List ℕ → Option ℕ
+place_of es name = position (λ e. bytes_eq e.name name) es
+
+-- the place of the export that a client asks for: the one of that name; the empty name is that of an only export
+unfoldable pub asked : List ExportRecord → List ℕ → Option ℕ
+asked es name = if (length name == 0) && (length es == 1) then Some 0 else place_of es name
+
+abbrev pub export_records : List Export → List ExportRecord
+export_records exports = map export_record exports
+
+-- each is the device of its name
+abbrev pub AreExports : Configuration → List Export → Type 0
+AreExports c exports = All (λ e. IsExport c (export_record e)) exports
+
+-- the protocol can tell their names
+abbrev pub HasShortName : ExportRecord → Type 0
+HasShortName e = length e.name ≤ most_name
+
+abbrev pub HaveShortNames : List Export → Type 0
+HaveShortNames exports = All (λ e. HasShortName (export_record e)) exports
+
+-- ---- the transmission flags
+
+abbrev pub has_flags : ℕ
+has_flags = 1
+
+abbrev pub read_only : ℕ
+read_only = 2
+
+abbrev pub send_flush : ℕ
+send_flush = 4
+
+abbrev pub send_fua : ℕ
+send_fua = 8
+
+abbrev pub send_trim : ℕ
+send_trim = 32
+
+abbrev pub send_write_zeroes : ℕ
+send_write_zeroes = 64
+
+abbrev pub can_multi_conn : ℕ
+can_multi_conn = 256
+
+abbrev pub send_cache : ℕ
+send_cache = 1024
+
+-- what any client is told of an export
+abbrev pub flags_of_each : ℕ
+flags_of_each = has_flags + send_flush + send_fua + send_cache
+
+-- What a client is told of it. Several connections see the same bytes where none of them writes.
+abbrev pub transmission_flags : ExportRecord → ℕ
+transmission_flags e = flags_of_each + (if e.writable then send_trim + send_write_zeroes else read_only + can_multi_conn)

@@ -1,0 +1,6 @@
+pub mod Numbers
+pub mod Exports
+pub mod Offers
+pub mod Headers
+pub mod Handshake
+pub mod Streaming

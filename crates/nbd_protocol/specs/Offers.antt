@@ -1,0 +1,18 @@
+-- The devices of a stack, each as an export under its name.
+use Rattle.std.specs.Prelude.{◌≡◌, ◌⊎◌, ℕ, List, [], ◌∷◌, ◌++◌, map}
+use Rattle.stack_rules.specs.Records.{Configuration, DeviceRecord}
+use Rattle.nbd_protocol.specs.Exports.{ExportRecord, HasNoExport, IsExport}
+
+-- these are the devices' names, in their order
+abbrev pub AreNames : List DeviceRecord → List (List ℕ) → Type 0
+AreNames devices names = names ≡ map (λ d. d.name) devices
+
+-- the export of that name was added, or there is none
+abbrev pub Adds : Configuration → List ℕ → List ExportRecord → List ExportRecord → Type 0
+Adds c name es es' =
+    ((e : ExportRecord) × IsExport c e × (e.name ≡ name) × (es' ≡ es ++ e ∷ [])) ⊎ (HasNoExport c name × (es' ≡ es))
+
+-- The exports of these names, in their order: one whose name or size the protocol can't tell is left out.
+pub data Offers (c : Configuration) : List (List ℕ) → List ExportRecord → Type 0 where
+  offers_none : Offers c [] []
+  offers_more : {names : List (List ℕ)} {es es' : List ExportRecord} (name : List ℕ) → Offers c names es → Adds c name es es' → Offers c (names ++ name ∷ []) es'

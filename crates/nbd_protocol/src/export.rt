@@ -1,0 +1,67 @@
+//! What is served: a mapped device as a run of bytes.
+ghost use Rattle.std.specs.Prelude.{◌≡◌, IfNone, IfSome};
+ghost use Rattle.nbd_protocol.specs.Exports.{HasNoExport, IsExport, export_record, transmission_flags};
+
+use stack_config::{Config, DevId};
+
+// The most bytes of a string of the protocol.
+const MOST_NAME: usize = 4096;
+
+// The transmission flags.
+const HAS_FLAGS: u16 = 1;
+
+const READ_ONLY: u16 = 2;
+
+const SEND_FLUSH: u16 = 4;
+
+const SEND_FUA: u16 = 8;
+
+const SEND_TRIM: u16 = 32;
+
+const SEND_WRITE_ZEROES: u16 = 64;
+
+const CAN_MULTI_CONN: u16 = 256;
+
+const SEND_CACHE: u16 = 1024;
+
+/// A mapped device as a run of bytes.
+#[derive(Clone, Copy, Debug, PartialEq, Eq)]
+pub struct Export<'a> {
+    pub name: &'a [u8],
+    pub device: DevId,
+    pub size: u64,
+    pub writable: bool,
+}
+
+impl<'a> Export<'a> {
+    /// The mapped device of that name.
+    pub fn of(config: &Config, name: &'a [u8]) -> Option<Export<'a>>
+        ensures none { IfNone result (HasNoExport config.now name.now) }
+        ensures some { IfSome result (λ e. IsExport config.now (export_record e) × (e.name ≡ name.entry)) }
+    {
+        if name.len() > MOST_NAME {
+            return None;
+        }
+        let device = config.device(name)?;
+        let size = config.sectors(device).checked_mul(512)?;
+        Some(Export {
+            name,
+            device,
+            size,
+            writable: config.writable(device),
+        })
+    }
+
+    /// What a client is told of it. Each connection is a service with a cache of its own, so that several are offered
+    /// only where none of them writes.
+    pub fn flags(&self) -> u16
+        ensures { result ≡ transmission_flags (export_record self.now) }
+    {
+        let each = HAS_FLAGS + SEND_FLUSH + SEND_FUA + SEND_CACHE;
+        if self.writable {
+            each + SEND_TRIM + SEND_WRITE_ZEROES
+        } else {
+            each + READ_ONLY + CAN_MULTI_CONN
+        }
+    }
+}

@@ -1,0 +1,32 @@
+//! The exports of a service, in the order in which a client is told of them.
+ghost use Rattle.std.specs.Prelude.{◌≡◌, ◌<◌, length, IfSome};
+ghost use Rattle.nbd_protocol.specs.Exports.{asked, export_at, export_record, export_records, place_of};
+
+use crate::export::Export;
+
+// The place of the first export of that name.
+fn place_of(exports: &[Export<'_>], name: &[u8]) -> Option<usize>
+    ensures { result ≡ place_of (export_records exports.now) name.now }
+{
+    exports.iter().position(|export| export.name == name)
+}
+
+/// The place of the export that a client asks for by that name: the empty one is that of an only export.
+#[tactic(auto, unfolding(crate::specs::Exports::asked))]
+pub fn asked(exports: &[Export<'_>], name: &[u8]) -> Option<usize>
+    ensures value { result ≡ asked (export_records exports.now) name.now }
+    ensures inside { IfSome result (λ place. place < length exports.now) }
+{
+    if name.is_empty() && exports.len() == 1 {
+        return Some(0);
+    }
+    place_of(exports, name)
+}
+
+/// The export at a place.
+pub fn export_at<'a, 'e>(exports: &'e [Export<'a>], place: usize) -> &'e Export<'a>
+    requires { place < length exports.now }
+    ensures { export_record result.now ≡ export_at (export_records exports.now) place }
+{
+    &exports[place]
+}

@@ -1,0 +1,37 @@
+//! Why the service of a client ends early.
+ghost use Rattle.std.specs.Prelude.{◌≡◌};
+ghost use Rattle.nbd_protocol.specs.declared.fault.ServiceFault.TheVariants as service_fault;
+
+use counted_io::WriteFault;
+use thiserror::Error;
+
+/// Why the service of a client ended early.
+#[derive(Clone, Copy, Debug, PartialEq, Eq, Error)]
+pub enum ServiceFault {
+    /// The client went away inside a message.
+    #[error("the client went away inside a message")]
+    Lost = 1,
+    /// A message doesn't begin with its magic number.
+    #[error("a message doesn't begin with its magic number")]
+    Magic = 2,
+    /// The client's flags are none that were offered.
+    #[error("the client asked for flags that aren't offered")]
+    Flags = 3,
+    /// An export of that name isn't there.
+    #[error("the client asked for an export that isn't there")]
+    NoSuchExport = 4,
+    /// The reader failed, or was called 2^64 - 1 times.
+    #[error("the reader failed")]
+    ReadFault = 5,
+    /// The writer failed.
+    #[error("the writer failed")]
+    WriteFault = 6,
+}
+
+impl From<WriteFault> for ServiceFault {
+    ghost from_gives = { λ _ fault. fault ≡ service_fault.WriteFault };
+
+    fn from(_fault: WriteFault) -> ServiceFault {
+        ServiceFault::WriteFault
+    }
+}

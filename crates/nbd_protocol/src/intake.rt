@@ -1,0 +1,101 @@
+//! Takes bytes from a client.
+ghost use Rattle.std.specs.Prelude.{◌≡◌, ℕ, ◌<◌, ◌≤◌, ◌+◌, ◌*◌, ◌^◌, drop, length, take, OnOk, IfOk, IfErr};
+ghost use Rattle.nbd_protocol.specs.Streaming.{HavePlace};
+ghost use Rattle.nbd_protocol.specs.Streaming.{Fills, HasRead, IsShort, Takes, TakesToPlace, fault_of};
+
+use crate::fault::ServiceFault;
+use counted_io::Counted;
+use std::alloc::{AllocError, Global};
+use std::io::{ErrorKind, Read};
+
+const PIECE: usize = 4096;
+
+/// Fills a buffer. `false`: the input ended before its first byte.
+pub fn fill<R: Read>(reader: &mut Counted<R>, buffer: &mut [u8]) -> Result<bool, ServiceFault>
+    requires { 0 < length buffer.old }
+    ensures filled { Fills (R.remaining reader.old.inner) (R.remaining reader.new.inner) buffer.new result }
+    ensures reader { HasRead 1 reader.old reader.new (fault_of result) }
+{
+    let mut done = 0;
+    for _turn in 0..u64::MAX {
+        match reader.read(&mut buffer[done..]) {
+            Ok(0) if done == 0 => return Ok(false),
+            Ok(0) => return Err(ServiceFault::Lost),
+            Ok(n) => {
+                done += n;
+                if done == buffer.len() {
+                    return Ok(true);
+                }
+            }
+            Err(error) => {
+                if error.kind() != ErrorKind::Interrupted {
+                    return Err(ServiceFault::ReadFault);
+                }
+            }
+        }
+    }
+    Err(ServiceFault::ReadFault)
+}
+
+/// Takes bytes that nobody wants.
+pub fn skip<R: Read>(reader: &mut Counted<R>, count: u32) -> Result<(), ServiceFault>
+    ensures ok { OnOk result (Takes count (R.remaining reader.old.inner) (R.remaining reader.new.inner)) }
+    ensures err { IfErr result (IsShort count (R.remaining reader.old.inner) (R.remaining reader.new.inner)) }
+    ensures reader { HasRead 0 reader.old reader.new (fault_of result) }
+{
+    let mut piece = [0u8; PIECE];
+    let mut left = count as usize;
+    'pieces: while left > 0 {
+        let part = left.min(PIECE);
+        if !fill(reader, &mut piece[..part])? {
+            return Err(ServiceFault::Lost);
+        }
+        left -= part;
+    }
+    Ok(())
+}
+
+/// Fills a part of a buffer. `false`: the input ended before its first byte.
+pub fn fill_part<R: Read>(
+    reader: &mut Counted<R>,
+    buffer: &mut [u8],
+    start: usize,
+    count: usize,
+) -> Result<bool, ServiceFault>
+    requires some { 0 < count }
+    requires inside { start + count ≤ length buffer.old }
+    ensures filled { Fills (R.remaining reader.old.inner) (R.remaining reader.new.inner) (take count (drop start buffer.new)) result }
+    ensures reader { HasRead 1 reader.old reader.new (fault_of result) }
+{
+    fill(reader, &mut buffer[start..start + count])
+}
+
+/// Takes so many bytes to their place in as many sectors. `None`: memory ran out, and they are gone.
+pub fn take_sectors<R: Read>(
+    alloc: Global,
+    reader: &mut Counted<R>,
+    sectors: usize,
+    start: usize,
+    count: u32,
+) -> Result<Option<Vec<u8>>, ServiceFault>
+    requires { HavePlace sectors start count }
+    ensures ok { IfOk result (λ found. TakesToPlace found sectors start count (R.remaining reader.old.inner) (R.remaining reader.new.inner)) }
+    ensures err { IfErr result (IsShort count (R.remaining reader.old.inner) (R.remaining reader.new.inner)) }
+    ensures reader { HasRead 0 reader.old reader.new (fault_of result) }
+{
+    let Ok(mut bytes) = zeros(alloc, 512 * sectors) else {
+        skip(reader, count)?;
+        return Ok(None);
+    };
+    if !fill_part(reader, bytes.as_mut_slice(), start, count as usize)? {
+        return Err(ServiceFault::Lost);
+    }
+    Ok(Some(bytes))
+}
+
+/// Room for so many bytes.
+pub fn zeros(alloc: Global, count: usize) -> Result<Vec<u8>, AllocError>
+    ensures { IfOk result (λ bytes. length bytes.items ≡ count) }
+{
+    vec![in alloc; 0u8; count]
+}

@@ -1,0 +1,26 @@
+//! The messages of the NBD protocol: what a client asks for, and what it is told before its requests.
+#![tactic(auto)]
+
+mod export;
+mod exports;
+mod fault;
+mod header;
+mod intake;
+mod numbers;
+mod offers;
+mod option;
+mod option_reply;
+mod phase;
+mod request_error;
+
+pub use export::Export;
+pub use exports::{asked, export_at};
+pub use fault::ServiceFault;
+pub use header::{Command, DISCONNECT, Header};
+pub use intake::{fill, fill_part, skip, take_sectors, zeros};
+pub use numbers::{number32, put32, put64};
+pub use offers::{exports_of, names_of};
+pub use option::{ABORT, EXPORT_NAME, names_export, phase_after, say_answer};
+pub use option_reply::{Refusal, acknowledge, refuse};
+pub use phase::Phase;
+pub use request_error::RequestError;

@@ -1,0 +1,61 @@
+//! Numbers in network byte order.
+ghost use Rattle.std.specs.Prelude.{◌≡◌, ◌+◌, ◌≤◌, length};
+ghost use Rattle.counted_io.specs.Counted.{Writes};
+ghost use Rattle.nbd_protocol.specs.Numbers.{bytes16, bytes32, bytes64, number16, number32, number64};
+
+use counted_io::{Counted, WriteFault};
+use std::io::Write;
+
+/// The number in two bytes from a place on.
+pub fn number16(bytes: &[u8], at: usize) -> u16
+    requires { at + 2 ≤ length bytes.now }
+    ensures { result ≡ number16 bytes.now at }
+{
+    let mut number = [0; 2];
+    number.copy_from_slice(&bytes[at..at + 2]);
+    u16::from_be_bytes(number)
+}
+
+/// The number in four bytes from a place on.
+pub fn number32(bytes: &[u8], at: usize) -> u32
+    requires { at + 4 ≤ length bytes.now }
+    ensures { result ≡ number32 bytes.now at }
+{
+    let mut number = [0; 4];
+    number.copy_from_slice(&bytes[at..at + 4]);
+    u32::from_be_bytes(number)
+}
+
+/// The number in eight bytes from a place on.
+pub fn number64(bytes: &[u8], at: usize) -> u64
+    requires { at + 8 ≤ length bytes.now }
+    ensures { result ≡ number64 bytes.now at }
+{
+    let mut number = [0; 8];
+    number.copy_from_slice(&bytes[at..at + 8]);
+    u64::from_be_bytes(number)
+}
+
+/// Writes a number in two bytes.
+#[tactic(auto, unfolding(crate::specs::Numbers::bytes16))]
+pub fn put16<W: Write>(writer: &mut Counted<W>, number: u16) -> Result<(), WriteFault>
+    ensures { Writes W.contents writer.old writer.new (bytes16 number) result }
+{
+    writer.put(&number.to_be_bytes())
+}
+
+/// Writes a number in four bytes.
+#[tactic(auto, unfolding(crate::specs::Numbers::bytes32))]
+pub fn put32<W: Write>(writer: &mut Counted<W>, number: u32) -> Result<(), WriteFault>
+    ensures { Writes W.contents writer.old writer.new (bytes32 number) result }
+{
+    writer.put(&number.to_be_bytes())
+}
+
+/// Writes a number in eight bytes.
+#[tactic(auto, unfolding(crate::specs::Numbers::bytes64))]
+pub fn put64<W: Write>(writer: &mut Counted<W>, number: u64) -> Result<(), WriteFault>
+    ensures { Writes W.contents writer.old writer.new (bytes64 number) result }
+{
+    writer.put(&number.to_be_bytes())
+}

@@ -1,0 +1,71 @@
+//! Why a request fails.
+ghost use Rattle.std.specs.Prelude.{◌≡◌};
+ghost use Rattle.nbd_protocol.specs.Headers.{error_number};
+ghost use Rattle.nbd_protocol.specs.Headers.{error_of};
+ghost use Rattle.nbd_protocol.specs.declared.request_error.RequestError.TheVariants as request_error;
+
+use stack_meaning::IoFault;
+use std::alloc::{AllocError, AllocFailed};
+use thiserror::Error;
+
+/// Why a request fails, by the number that its reply has.
+#[derive(Clone, Copy, Debug, PartialEq, Eq, Error)]
+pub enum RequestError {
+    /// A write to an export that may only be read.
+    #[error("not permitted")]
+    NotPermitted = 1,
+    /// The stack has no such bytes, or a device failed.
+    #[error("input or output failed")]
+    InputOutput = 5,
+    /// Memory ran out, or the queue is full.
+    #[error("out of memory")]
+    NoMemory = 12,
+    /// No request, too many bytes, or bytes past the end.
+    #[error("invalid")]
+    Invalid = 22,
+    /// A write past the end.
+    #[error("no space")]
+    NoSpace = 28,
+}
+
+impl RequestError {
+    /// Its number in a reply.
+    pub fn number(self) -> u32
+        ensures { result ≡ error_number self }
+    {
+        match self {
+            RequestError::NotPermitted => 1,
+            RequestError::InputOutput => 5,
+            RequestError::NoMemory => 12,
+            RequestError::Invalid => 22,
+            RequestError::NoSpace => 28,
+        }
+    }
+}
+
+impl From<IoFault> for RequestError {
+    ghost from_gives = { λ fault error. error ≡ error_of fault };
+
+    fn from(fault: IoFault) -> RequestError {
+        match fault {
+            IoFault::NoMemory => RequestError::NoMemory,
+            _ => RequestError::InputOutput,
+        }
+    }
+}
+
+impl From<AllocError> for RequestError {
+    ghost from_gives = { λ _ error. error ≡ request_error.NoMemory };
+
+    fn from(_error: AllocError) -> RequestError {
+        RequestError::NoMemory
+    }
+}
+
+impl<T: Drop> From<AllocFailed<T>> for RequestError {
+    ghost from_gives = { λ _ error. error ≡ request_error.NoMemory };
+
+    fn from(_refused: AllocFailed<T>) -> RequestError {
+        RequestError::NoMemory
+    }
+}
