@@ -1,0 +1,5 @@
+pub mod LayoutLemmas
+pub mod CallLemmas
+pub mod PlaceLemmas
+pub mod RoundLemmas
+pub mod WritingLemmas

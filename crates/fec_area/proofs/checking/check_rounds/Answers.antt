@@ -1,0 +1,92 @@
+use Rattle.std.proofs.Common.{◌≡◌, ◌≢◌, ◌+◌, ◌-◌, ◌*◌, ◌/◌, ◌<◌, ◌≤◌, ℕ, List, IsTrue, length, sym, ap, ◌∙◌, arith, subst, refl, inl, inr}
+use Rattle.std.proofs.lemmas.Result.{err_from_is_err_and}
+use Rattle.fec_area.specs.Layouts.{IsParityOf, parity_sectors, round_bytes, rounds}
+use Rattle.verity_format.specs.Blocks.{block_at}
+use Rattle.verity_format.proofs.DeviceLemmas.{only_read-none, only_read-then, steady-then, failed-then}
+use Rattle.fec_area.proofs.CallLemmas.{call-read, other-told, same-told, read-none, read-then, unfailed-none, unfailed-then, one_failed-then, laid-then, image-then}
+use Rattle.fec_area.proofs.LayoutLemmas.{round-quotient}
+use Rattle.fec_area.proofs.WritingLemmas.{round-at, round-more, round-other, write-inside}
+use Rattle.fec_area.proofs.checking.check_rounds.Goals as goal
+
+pub loop-round-init : goal.loop-round-init
+loop-round-init g c = record {
+  read = read-none (g.D.BlockDev.state c.args.data_dev.now) (g.H.BlockDev.state c.args.hash_dev.now);
+  unfailed = unfailed-none (g.D.BlockDev.state c.args.data_dev.now) (g.H.BlockDev.state c.args.hash_dev.now);
+  parity_read = only_read-none (g.P.BlockDev.state c.args.parity_dev.now);
+  parity_unfailed = refl;
+  parity = λ one other third r lt. absurd (omega (arith, lt));
+}
+
+pub sum_parity-requires : goal.sum_parity-requires
+sum_parity-requires g c = record {
+  laid = laid-then c.args.layout.now c.loop-round.invariant.read c.requires.laid;
+  products_are = c.requires.products_are;
+  round_is = omega (arith, c.loop-round-test.true, c.rounds-round-end.ensures.value);
+  block_is = c.loop-round.auto.block ∙ c.requires.block_is;
+  parity_is = c.loop-round.auto.parity ∙ c.requires.parity_is;
+}
+
+pub returns-in_err-sum_parity-clause-read : goal.returns-in_err-sum_parity-clause-read
+returns-in_err-sum_parity-clause-read g c = read-then c.loop-round.invariant.read c.sum_parity.ensures.read
+
+pub returns-in_err-sum_parity-clause-err : goal.returns-in_err-sum_parity-clause-err
+returns-in_err-sum_parity-clause-err g c =
+    let p = err_from_is_err_and c.from_residual.result c.from_residual.ensures.1 in
+    rw p.1 (inl (one_failed-then (g.D.BlockDev.state c.args.data_dev.now) (g.H.BlockDev.state c.args.hash_dev.now) (g.D.BlockDev.state c.loop-round.data_dev) (g.H.BlockDev.state c.loop-round.hash_dev) (g.D.BlockDev.state c.sum_parity.new.data_dev) (g.H.BlockDev.state c.sum_parity.new.hash_dev) c.loop-round.invariant.unfailed c.in_err-sum_parity.ensures.err))
+
+pub read-requires : goal.read-requires
+read-requires g c =
+    let l = c.args.layout.now in
+    let valid = c.requires.laid.layout in
+    let size = c.loop-round.auto.stored ∙ c.requires.stored_is in
+    write-inside l (g.P.BlockDev.state c.args.parity_dev.now) (g.P.BlockDev.state c.loop-round.parity_dev) c.loop-round.round (length c.loop-round.stored) _ valid c.requires.room c.loop-round.invariant.parity_read.same.size
+    (omega (arith, c.loop-round-test.true, c.rounds-round-end.ensures.value)) size (round-quotient l (length c.args.stored.now) valid c.requires.stored_is)
+
+pub loop-round-preserved : goal.loop-round-preserved
+loop-round-preserved g c =
+    let l = c.args.layout.now in
+    let valid = c.requires.laid.layout in
+    let here = c.loop-round.invariant in
+    let parity = c.sum_parity.new.parity in
+    let stored = c.read.new.out in
+    let round = c.loop-round.round in
+    let now = g.P.BlockDev.state c.loop-round.parity_dev in
+    let a = g.D.BlockDev.state c.args.data_dev.now in
+    let b = g.H.BlockDev.state c.args.hash_dev.now in
+    let first = round-quotient l (length c.args.stored.now) valid c.requires.stored_is in
+    let size = c.loop-round.auto.stored ∙ c.requires.stored_is in
+    record {
+      read = read-then here.read c.sum_parity.ensures.read;
+      unfailed = unfailed-then here.unfailed c.in_ok-sum_parity.ensures.ok;
+      parity_read = only_read-then here.parity_read (call-read c.in_ok-read.ensures.moved);
+      parity_unfailed = c.in_ok-read.ensures.moved.failures ∙ here.parity_unfailed;
+      parity = λ one other third.
+          let steady = steady-then here.parity_read.same third in
+          let summed = image-then here.read (λ (x y : List (List ℕ)). IsParityOf l x y round parity) c.in_ok-sum_parity.ensures.parity one other in
+          let image : now.image ≡ (g.P.BlockDev.state c.args.parity_dev.now).image = here.parity_read.image third in
+          let at = round-at l now.image round (length c.args.stored.now / 512) (length c.loop-round.stored) stored valid first size (c.in_ok-read.ensures.bytes steady) ∙ ap (λ xs. block_at xs (round_bytes l) round) image in
+          round-more l a.image b.image (g.P.BlockDev.state c.args.parity_dev.now).image round parity stored at (sym c.is_same.ensures ∙ same-told c.is_same.result c.if-not-is_same.false) summed (here.parity one other third);
+    }
+
+pub returns-then-not-is_same-clause-ok : goal.returns-then-not-is_same-clause-ok
+returns-then-not-is_same-clause-ok g c one other third =
+    let l = c.args.layout.now in
+    let valid = c.requires.laid.layout in
+    let here = c.loop-round.invariant in
+    let parity = c.sum_parity.new.parity in
+    let stored = c.read.new.out in
+    let round = c.loop-round.round in
+    let now = g.P.BlockDev.state c.loop-round.parity_dev in
+    let a = g.D.BlockDev.state c.args.data_dev.now in
+    let b = g.H.BlockDev.state c.args.hash_dev.now in
+    let first = round-quotient l (length c.args.stored.now) valid c.requires.stored_is in
+    let size = c.loop-round.auto.stored ∙ c.requires.stored_is in
+    let steady = steady-then here.parity_read.same third in
+    let summed = image-then here.read (λ (x y : List (List ℕ)). IsParityOf l x y round parity) c.in_ok-sum_parity.ensures.parity one other in
+    let image : now.image ≡ (g.P.BlockDev.state c.args.parity_dev.now).image = here.parity_read.image third in
+    let at = round-at l now.image round (length c.args.stored.now / 512) (length c.loop-round.stored) stored valid first size (c.in_ok-read.ensures.bytes steady) ∙ ap (λ xs. block_at xs (round_bytes l) round) image in (
+      omega (arith, c.loop-round-test.true, c.rounds-round-end.ensures.value),
+      here.parity one other third,
+      round-other l a.image b.image (g.P.BlockDev.state c.args.parity_dev.now).image round parity stored valid (c.sum_parity.auto.parity ∙ c.loop-round.auto.parity ∙ c.requires.parity_is) (c.read.auto.out ∙ size) at
+          (sym c.is_same.ensures ∙ other-told c.is_same.result c.if-not-is_same.true) summed,
+    )

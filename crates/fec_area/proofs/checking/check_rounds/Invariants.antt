@@ -1,0 +1,16 @@
+use Rattle.std.proofs.Common.{◌≡◌, IsTrue}
+use Rattle.verity_format.specs.Blocks.{AreOnlyRead, IsOnlyRead}
+use Rattle.fec_area.specs.Rounds.{AreUnfailed}
+use Rattle.fec_area.proofs.WritingLemmas.{AreWrittenRounds}
+use Rattle.fec_area.proofs.checking.check_rounds.Given as goal
+
+-- the rounds so far
+abbrev pub invariant-loop-round : goal.invariant-loop-round
+invariant-loop-round g l = record {
+  read : AreOnlyRead (g.D.BlockDev.state l.fn.data_dev) (g.H.BlockDev.state l.fn.hash_dev) (g.D.BlockDev.state l.data_dev) (g.H.BlockDev.state l.hash_dev);
+  unfailed : AreUnfailed (g.D.BlockDev.state l.fn.data_dev) (g.H.BlockDev.state l.fn.hash_dev) (g.D.BlockDev.state l.data_dev) (g.H.BlockDev.state l.hash_dev);
+  parity_read : IsOnlyRead (g.P.BlockDev.state l.fn.parity_dev) (g.P.BlockDev.state l.parity_dev);
+  parity_unfailed : (g.P.BlockDev.state l.parity_dev).failures ≡ (g.P.BlockDev.state l.fn.parity_dev).failures;
+  parity : IsTrue (g.D.BlockDev.state l.fn.data_dev).steady → IsTrue (g.H.BlockDev.state l.fn.hash_dev).steady → IsTrue (g.P.BlockDev.state l.fn.parity_dev).steady
+      → AreWrittenRounds l.layout (g.D.BlockDev.state l.fn.data_dev).image (g.H.BlockDev.state l.fn.hash_dev).image (g.P.BlockDev.state l.fn.parity_dev).image l.round;
+}

@@ -1,0 +1,104 @@
+use Rattle.std.proofs.Common.{◌≡◌, ◌+◌, ◌-◌, ◌*◌, ◌<◌, ◌≤◌, ℕ, List, length, replicate, sym, ap, ◌∙◌, arith, subst}
+use Rattle.std.specs.Prelude.{slice_index}
+use Rattle.std.proofs.lemmas.List.{get_or-replicate}
+use Rattle.std.proofs.lemmas.Result.{err_from_is_err_and}
+use Rattle.fec_area.specs.Layouts.{codeword}
+use Rattle.fec_area.specs.Rounds.{IsPlaceAdded}
+use Rattle.fec_area.proofs.CallLemmas.{read-none, read-then, unfailed-none, unfailed-then, one_failed-then, laid-then, image-then}
+use Rattle.fec_area.proofs.PlaceLemmas.{place-fits, products-added}
+use Rattle.fec_area.proofs.RoundLemmas.{AreSummed, column-more, message-more, summed-none, summed-restored}
+use Rattle.fec_area.proofs.round.restore_blocks.Goals as goal
+
+pub loop-place-init : goal.loop-place-init
+loop-place-init g c =
+    let sums = c.fill.new.self in
+    let zeros : sums ≡ replicate (length c.args.sums.now) 0 = c.fill.ensures.after (λ y h. h) in
+    record {
+      read = read-none (g.D.BlockDev.state c.args.data_dev.now) (g.H.BlockDev.state c.args.hash_dev.now);
+      unfailed = unfailed-none (g.D.BlockDev.state c.args.data_dev.now) (g.H.BlockDev.state c.args.hash_dev.now);
+      sums = λ one other. summed-none (λ c'. slice_index (codeword c.args.layout.now (g.D.BlockDev.state c.args.data_dev.now).image (g.H.BlockDev.state c.args.hash_dev.now).image c.args.round c.args.parity.now c')) (length c.args.lost.now) c.args.products.now sums (λ m lt. ap (λ xs. slice_index xs m) zeros ∙ get_or-replicate {A = ℕ} (length c.args.sums.now) m 0 0 (omega (arith, lt, c.fill.ensures.len)));
+    }
+
+pub add_place-requires-clause-can : goal.add_place-requires-clause-can
+add_place-requires-clause-can g c =
+    let valid = c.requires.laid.layout in
+    record {
+      laid = laid-then c.args.layout.now c.loop-place.invariant.read c.requires.laid;
+      few = omega (arith, c.requires.enough, valid.few);
+      products_are = c.requires.products_are.len;
+      round_is = c.requires.round_is;
+      block_is = c.loop-place.auto.block ∙ c.requires.block_is;
+      sums_are = c.loop-place.auto.sums ∙ c.fill.ensures.len ∙ c.requires.sums_are;
+    }
+
+pub loop-place-preserved : goal.loop-place-preserved
+loop-place-preserved g c =
+    let l = c.args.layout.now in
+    let here = c.loop-place.invariant in
+    let old = c.loop-place.sums in
+    let new = c.add_place.new.sums in
+    let products = c.args.products.now in
+    let n = length c.args.lost.now in
+    let place = c.loop-place.place in
+    let a = g.D.BlockDev.state c.args.data_dev.now in
+    let b = g.H.BlockDev.state c.args.hash_dev.now in
+    let added = image-then here.read (λ (x y : List (List ℕ)). IsPlaceAdded l x y n products c.args.round place old new) c.in_ok-add_place.ensures.added in
+    record {
+      read = read-then here.read c.add_place.ensures.read;
+      unfailed = unfailed-then here.unfailed c.in_ok-add_place.ensures.ok;
+      sums = λ one other. message-more l a.image b.image products c.args.round c.args.parity.now n place old new c.loop-place-test.true c.add_place.auto.sums (added one other) (here.sums one other);
+    }
+
+pub returns-in_err-add_place-clause-read : goal.returns-in_err-add_place-clause-read
+returns-in_err-add_place-clause-read g c = read-then c.loop-place.invariant.read c.add_place.ensures.read
+
+pub returns-in_err-add_place-clause-err : goal.returns-in_err-add_place-clause-err
+returns-in_err-add_place-clause-err g c =
+    let p = err_from_is_err_and c.from_residual.result c.from_residual.ensures.1 in
+    rw p.1 (one_failed-then (g.D.BlockDev.state c.args.data_dev.now) (g.H.BlockDev.state c.args.hash_dev.now) (g.D.BlockDev.state c.loop-place.data_dev) (g.H.BlockDev.state c.loop-place.hash_dev) (g.D.BlockDev.state c.add_place.new.data_dev) (g.H.BlockDev.state c.add_place.new.hash_dev) c.loop-place.invariant.unfailed c.in_err-add_place.ensures.err)
+
+pub loop-k-init : goal.loop-k-init
+loop-k-init g c one other =
+    let l = c.args.layout.now in
+    let a = g.D.BlockDev.state c.args.data_dev.now in
+    let b = g.H.BlockDev.state c.args.hash_dev.now in
+    let end : c.loop-place.place ≡ 255 - l.roots + 0 = omega (arith, c.loop-place-test.false, c.loop-place.auto.place-end) in
+    subst (λ (j : ℕ). AreSummed (λ c'. slice_index (codeword l a.image b.image c.args.round c.args.parity.now c')) (length c.args.lost.now) c.args.products.now c.loop-place.sums j) end (c.loop-place.invariant.sums one other)
+
+pub loop-k-preserved : goal.loop-k-preserved
+loop-k-preserved g c one other =
+    let l = c.args.layout.now in
+    let a = g.D.BlockDev.state c.args.data_dev.now in
+    let b = g.H.BlockDev.state c.args.hash_dev.now in
+    let few = c.requires.laid.layout.few in
+    let products = c.args.products.now in
+    let n = length c.args.lost.now in
+    let k = c.loop-k.k in
+    let block = c.take_column.new.column in
+    let old = c.loop-k.sums in
+    let new = c.add_products.new.sums in
+    let size : length new ≡ length old = c.add_products.auto.sums in
+    let all : length new ≡ l.block * n = size ∙ c.loop-k.auto.sums ∙ c.loop-place.auto.sums ∙ c.fill.ensures.len ∙ c.requires.sums_are in
+    let long : length block ≡ l.block = c.take_column.auto.column ∙ c.loop-k.auto.block ∙ c.loop-place.auto.block ∙ c.requires.block_is in
+    let first : ℕ = (255 - l.roots + k) * n in
+    let last : first + n ≤ 255 * n = place-fits (255 - l.roots + k) n (omega (arith, few, c.loop-k-test.true)) in
+    let fits : first + n ≤ length products = omega (arith, last, c.requires.products_are.len) in
+    column-more l a.image b.image products c.args.round c.args.parity.now n k block old new (omega (arith, few)) c.loop-k-test.true size long all c.take_column.ensures
+    (products-added products block old new n first l.block fits all c.add_products.ensures)
+    (c.loop-k.invariant one other)
+
+pub returns-clause-restored : goal.returns-clause-restored
+returns-clause-restored g c one other =
+    let l = c.args.layout.now in
+    let valid = c.requires.laid.layout in
+    let few = valid.few in
+    let a = g.D.BlockDev.state c.args.data_dev.now in
+    let b = g.H.BlockDev.state c.args.hash_dev.now in
+    summed-restored l a.image b.image c.args.products.now c.args.round c.args.parity.now c.args.lost.now c.loop-k.sums (255 - l.roots + c.loop-k.k) valid c.requires.products_are c.requires.lost_are c.requires.enough
+    (c.loop-k.auto.sums ∙ c.loop-place.auto.sums ∙ c.fill.ensures.len ∙ c.requires.sums_are) (omega (arith, few, c.loop-k-test.false, c.loop-k.auto.k-end)) (c.loop-k.invariant one other)
+
+pub slice_bounds-add_products-end : goal.slice_bounds-add_products-end
+slice_bounds-add_products-end g c =
+    let l = c.args.layout.now in
+    let last = place-fits (255 - l.roots + c.loop-k.k) (length c.args.lost.now) (omega (arith, c.requires.laid.layout.few, c.loop-k-test.true)) in
+    omega (arith, last, c.requires.products_are.len)

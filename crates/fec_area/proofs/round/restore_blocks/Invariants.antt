@@ -1,0 +1,22 @@
+use Rattle.std.proofs.Common.{◌+◌, ◌-◌, IsTrue, length}
+use Rattle.std.specs.Prelude.{slice_index}
+use Rattle.verity_format.specs.Blocks.{AreOnlyRead}
+use Rattle.fec_area.specs.Layouts.{codeword}
+use Rattle.fec_area.specs.Rounds.{AreUnfailed}
+use Rattle.fec_area.proofs.RoundLemmas.{AreSummed}
+use Rattle.fec_area.proofs.round.restore_blocks.Given as goal
+
+-- the places of the message so far
+abbrev pub invariant-loop-place : goal.invariant-loop-place
+invariant-loop-place g l = record {
+  read : AreOnlyRead (g.D.BlockDev.state l.fn.data_dev) (g.H.BlockDev.state l.fn.hash_dev) (g.D.BlockDev.state l.data_dev) (g.H.BlockDev.state l.hash_dev);
+  unfailed : AreUnfailed (g.D.BlockDev.state l.fn.data_dev) (g.H.BlockDev.state l.fn.hash_dev) (g.D.BlockDev.state l.data_dev) (g.H.BlockDev.state l.hash_dev);
+  sums : IsTrue (g.D.BlockDev.state l.fn.data_dev).steady → IsTrue (g.H.BlockDev.state l.fn.hash_dev).steady
+      → AreSummed (λ c. slice_index (codeword l.layout (g.D.BlockDev.state l.fn.data_dev).image (g.H.BlockDev.state l.fn.hash_dev).image l.round l.parity c)) (length l.lost) l.products l.sums l.place;
+}
+
+-- those of the parity so far
+abbrev pub invariant-loop-k : goal.invariant-loop-k
+invariant-loop-k g l =
+    IsTrue (g.D.BlockDev.state l.fn.data_dev).steady → IsTrue (g.H.BlockDev.state l.fn.hash_dev).steady
+    → AreSummed (λ c. slice_index (codeword l.layout (g.D.BlockDev.state l.fn.data_dev).image (g.H.BlockDev.state l.fn.hash_dev).image l.round l.parity c)) (length l.lost) l.products l.sums (255 - l.layout.roots + l.k)

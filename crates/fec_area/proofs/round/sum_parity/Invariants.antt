@@ -1,0 +1,15 @@
+use Rattle.std.proofs.Common.{IsTrue}
+use Rattle.verity_format.specs.Blocks.{AreOnlyRead}
+use Rattle.fec_area.specs.Layouts.{message}
+use Rattle.fec_area.specs.Rounds.{AreUnfailed}
+use Rattle.fec_area.proofs.RoundLemmas.{AreBytes, AreSummed}
+use Rattle.fec_area.proofs.round.sum_parity.Given as goal
+
+-- the places so far
+abbrev pub invariant-loop-place : goal.invariant-loop-place
+invariant-loop-place g l = record {
+  read : AreOnlyRead (g.D.BlockDev.state l.fn.data_dev) (g.H.BlockDev.state l.fn.hash_dev) (g.D.BlockDev.state l.data_dev) (g.H.BlockDev.state l.hash_dev);
+  unfailed : AreUnfailed (g.D.BlockDev.state l.fn.data_dev) (g.H.BlockDev.state l.fn.hash_dev) (g.D.BlockDev.state l.data_dev) (g.H.BlockDev.state l.hash_dev);
+  sums : IsTrue (g.D.BlockDev.state l.fn.data_dev).steady → IsTrue (g.H.BlockDev.state l.fn.hash_dev).steady → AreSummed (message l.layout (g.D.BlockDev.state l.fn.data_dev).image (g.H.BlockDev.state l.fn.hash_dev).image l.round) l.layout.roots l.products l.parity l.place;
+  bytes : IsTrue (g.D.BlockDev.state l.fn.data_dev).steady → IsTrue (g.H.BlockDev.state l.fn.hash_dev).steady → AreBytes l.layout (g.D.BlockDev.state l.fn.data_dev).image (g.H.BlockDev.state l.fn.hash_dev).image l.round l.place;
+}

@@ -1,0 +1,4 @@
+pub mod Layouts
+pub mod Rounds
+pub mod Writing
+pub mod Checking

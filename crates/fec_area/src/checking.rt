@@ -1,0 +1,85 @@
+//! Parity compared with what stands on a device.
+ghost use Rattle.std.specs.Prelude.{◌≡◌, IfErr, IfOk, OnErr, length};
+ghost use Rattle.std.specs.Str.{bytes_eq};
+ghost use Rattle.verity_format.specs.Blocks.{AreOnlyRead, IsOnlyRead};
+ghost use Rattle.fec_area.specs.Checking.{CanCheckRounds, IsCheckCause, IsChecked};
+ghost use Rattle.fec_area.specs.Layouts.{IsLaidOn};
+ghost use Rattle.fec_area.specs.Writing.{HasAnyFailed};
+
+use crate::layout::Layout;
+use crate::round::sum_parity;
+use crate::writing::{ParityFault, zeros};
+use block_device::{BlockDev, DeviceFault};
+use reed_solomon::{Products, parity_products};
+use std::alloc::Global;
+
+/// The first round whose parity isn't the one on its device, from the beginning of that on; `None` where each is.
+///
+/// Each covered block is read once, and the parity up to that round.
+pub fn check_parity<D: BlockDev, H: BlockDev, P: BlockDev>(
+    alloc: Global,
+    layout: &Layout,
+    data_dev: &mut D,
+    hash_dev: &mut H,
+    parity_dev: &mut P,
+) -> Result<Option<u64>, ParityFault>
+    requires { IsLaidOn layout.now (D.state data_dev.old) (H.state hash_dev.old) }
+    ensures read { AreOnlyRead (D.state data_dev.old) (H.state hash_dev.old) (D.state data_dev.new) (H.state hash_dev.new) }
+    ensures parity { IsOnlyRead (P.state parity_dev.old) (P.state parity_dev.new) }
+    ensures ok { IfOk result (IsChecked layout.now (D.state data_dev.old) (H.state hash_dev.old) (P.state parity_dev.old)) }
+    ensures err { IfErr result (IsCheckCause layout.now (D.state data_dev.old) (H.state hash_dev.old) (P.state parity_dev.old) (D.state data_dev.new) (H.state hash_dev.new) (P.state parity_dev.new)) }
+{
+    let needed = layout.parity_sectors();
+    if parity_dev.sectors() < needed {
+        return Err(ParityFault::TooSmall { needed });
+    }
+    let products = parity_products(alloc, layout.roots)?;
+    let mut block = zeros(alloc, layout.block as usize)?;
+    let mut parity = zeros(alloc, layout.round_bytes())?;
+    let mut stored = zeros(alloc, layout.round_bytes())?;
+    let found = check_rounds(
+        layout,
+        &products,
+        data_dev,
+        hash_dev,
+        parity_dev,
+        &mut block,
+        &mut parity,
+        &mut stored,
+    )?;
+    Ok(found)
+}
+
+// Sums up each round and compares its parity.
+fn check_rounds<D: BlockDev, H: BlockDev, P: BlockDev>(
+    layout: &Layout,
+    products: &[Products],
+    data_dev: &mut D,
+    hash_dev: &mut H,
+    parity_dev: &mut P,
+    block: &mut [u8],
+    parity: &mut [u8],
+    stored: &mut [u8],
+) -> Result<Option<u64>, DeviceFault>
+    requires { CanCheckRounds layout.now (D.state data_dev.old) (H.state hash_dev.old) (P.state parity_dev.old) products.now (length block.old) (length parity.old) (length stored.old) }
+    ensures read { AreOnlyRead (D.state data_dev.old) (H.state hash_dev.old) (D.state data_dev.new) (H.state hash_dev.new) }
+    ensures parity { IsOnlyRead (P.state parity_dev.old) (P.state parity_dev.new) }
+    ensures ok { IfOk result (IsChecked layout.now (D.state data_dev.old) (H.state hash_dev.old) (P.state parity_dev.old)) }
+    ensures err { OnErr result (HasAnyFailed (D.state data_dev.old) (H.state hash_dev.old) (P.state parity_dev.old) (D.state data_dev.new) (H.state hash_dev.new) (P.state parity_dev.new)) }
+{
+    let sectors = (stored.len() / 512) as u64;
+    for round in 0..layout.rounds() {
+        sum_parity(layout, products, data_dev, hash_dev, round, block, parity)?;
+        parity_dev.read(round * sectors, stored)?;
+        if !is_same(parity, stored) {
+            return Ok(Some(round));
+        }
+    }
+    Ok(None)
+}
+
+fn is_same(parity: &[u8], stored: &[u8]) -> bool
+    ensures { result ≡ bytes_eq parity.now stored.now }
+{
+    parity == stored
+}

@@ -1,0 +1,14 @@
+//! The parity of verity images: codewords that lie across the blocks of the data and of the hash area, as Linux's
+//! dm-verity-fec reads them.
+#![tactic(auto)]
+
+mod checking;
+mod covered;
+mod layout;
+mod round;
+mod writing;
+
+pub use checking::check_parity;
+pub use layout::Layout;
+pub use round::{restore_blocks, sum_parity};
+pub use writing::{ParityFault, write_parity};

@@ -1,0 +1,120 @@
+//! Parity written to a device.
+ghost use Rattle.std.specs.Prelude.{◌≡◌, ◌<◌, ◌≤◌, IsTrue, IfErr, OnErr, OnOk, IfOk, length, replicate};
+ghost use Rattle.block_device.specs.Device.{HasFailed};
+ghost use Rattle.reed_solomon.specs.Factors.{AreProducts, parity_places};
+ghost use Rattle.verity_format.specs.Blocks.{AreOnlyRead, IsOnlyWritten};
+ghost use Rattle.fec_area.specs.Layouts.{IsLaidOn, parity_sectors, round_bytes, rounds};
+ghost use Rattle.fec_area.specs.Writing.{CanWriteRounds, HasAnyFailed, IsParityCause, IsParityWritten};
+
+use crate::layout::Layout;
+use crate::round::sum_parity;
+use block_device::{BlockDev, DeviceFault};
+use reed_solomon::{Products, parity_products};
+use std::alloc::{AllocError, Global};
+use thiserror::Error;
+
+/// Why parity wasn't written, or not all of it.
+#[derive(Clone, Copy, Debug, PartialEq, Eq, Error)]
+pub enum ParityFault {
+    /// The parity's device has fewer sectors of 512 bytes than are needed.
+    #[error("TooSmall needed {needed}")]
+    TooSmall { needed: u64 },
+    /// The parity's device may not be written.
+    #[error("ReadOnly")]
+    ReadOnly,
+    /// One of the three devices failed in the call.
+    #[error("Device")]
+    Device,
+    /// A growth was refused.
+    #[error("NoMemory")]
+    NoMemory,
+}
+
+impl From<DeviceFault> for ParityFault {
+    ghost use Rattle.fec_area.specs.declared.writing.ParityFault.TheVariants.{Device as DeviceFailed};
+
+    ghost from_gives = { λ _ e. e ≡ DeviceFailed };
+
+    fn from(_fault: DeviceFault) -> ParityFault {
+        ParityFault::Device
+    }
+}
+
+impl From<AllocError> for ParityFault {
+    ghost use Rattle.fec_area.specs.declared.writing.ParityFault.TheVariants.{NoMemory};
+
+    ghost from_gives = { λ _ e. e ≡ NoMemory };
+
+    fn from(_error: AllocError) -> ParityFault {
+        ParityFault::NoMemory
+    }
+}
+
+/// Writes the parity of all rounds, one behind the other, from the beginning of a device on.
+///
+/// Each covered block is read once. Nothing is synced.
+pub fn write_parity<D: BlockDev, H: BlockDev, P: BlockDev>(
+    alloc: Global,
+    layout: &Layout,
+    data_dev: &mut D,
+    hash_dev: &mut H,
+    parity_dev: &mut P,
+) -> Result<(), ParityFault>
+    requires { IsLaidOn layout.now (D.state data_dev.old) (H.state hash_dev.old) }
+    ensures read { AreOnlyRead (D.state data_dev.old) (H.state hash_dev.old) (D.state data_dev.new) (H.state hash_dev.new) }
+    ensures written { IsOnlyWritten (P.state parity_dev.old) (parity_sectors layout.now) (P.state parity_dev.new) }
+    ensures ok { OnOk result (IsParityWritten layout.now (D.state data_dev.old) (H.state hash_dev.old) (P.state parity_dev.old) (D.state data_dev.new) (H.state hash_dev.new) (P.state parity_dev.new)) }
+    ensures err { IfErr result (IsParityCause layout.now (D.state data_dev.old) (H.state hash_dev.old) (P.state parity_dev.old) (D.state data_dev.new) (H.state hash_dev.new) (P.state parity_dev.new)) }
+{
+    let needed = layout.parity_sectors();
+    if parity_dev.sectors() < needed {
+        return Err(ParityFault::TooSmall { needed });
+    }
+    if !parity_dev.writable() {
+        return Err(ParityFault::ReadOnly);
+    }
+    let products = parity_products(alloc, layout.roots)?;
+    let mut block = zeros(alloc, layout.block as usize)?;
+    let mut parity = zeros(alloc, layout.round_bytes())?;
+    write_rounds(
+        layout,
+        &products,
+        data_dev,
+        hash_dev,
+        parity_dev,
+        &mut block,
+        &mut parity,
+    )?;
+    Ok(())
+}
+
+/// So many zero bytes.
+pub(crate) fn zeros(alloc: Global, size: usize) -> Result<Vec<u8>, AllocError>
+    ensures { IfOk result (λ v. v.items ≡ replicate size 0) }
+{
+    vec![in alloc; 0u8; size]
+}
+
+// Sums up each round and writes its parity.
+fn write_rounds<D: BlockDev, H: BlockDev, P: BlockDev>(
+    layout: &Layout,
+    products: &[Products],
+    data_dev: &mut D,
+    hash_dev: &mut H,
+    parity_dev: &mut P,
+    block: &mut [u8],
+    parity: &mut [u8],
+) -> Result<(), DeviceFault>
+    requires { CanWriteRounds layout.now (D.state data_dev.old) (H.state hash_dev.old) (P.state parity_dev.old) products.now (length block.old) (length parity.old) }
+    ensures read { AreOnlyRead (D.state data_dev.old) (H.state hash_dev.old) (D.state data_dev.new) (H.state hash_dev.new) }
+    ensures written { IsOnlyWritten (P.state parity_dev.old) (parity_sectors layout.now) (P.state parity_dev.new) }
+    ensures ok { OnOk result (IsParityWritten layout.now (D.state data_dev.old) (H.state hash_dev.old) (P.state parity_dev.old) (D.state data_dev.new) (H.state hash_dev.new) (P.state parity_dev.new)) }
+    ensures err { OnErr result (HasAnyFailed (D.state data_dev.old) (H.state hash_dev.old) (P.state parity_dev.old) (D.state data_dev.new) (H.state hash_dev.new) (P.state parity_dev.new)) }
+{
+    let sectors = (parity.len() / 512) as u64;
+    for round in 0..layout.rounds() {
+        sum_parity(layout, products, data_dev, hash_dev, round, block, parity)?;
+        parity_dev.write(round * sectors, parity)?;
+    }
+    Ok(())
+}

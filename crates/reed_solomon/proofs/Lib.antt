@@ -1,0 +1,7 @@
+pub mod FieldLemmas
+pub mod CodeLemmas
+pub mod RestoringLemmas
+pub mod ValueLemmas
+pub mod EncodingLemmas
+pub mod ColumnLemmas
+pub mod lemmas

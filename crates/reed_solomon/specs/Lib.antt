@@ -1,0 +1,6 @@
+pub mod Field
+pub mod Code
+pub mod Restoring
+pub mod Factors
+pub mod Encoding
+pub mod Products

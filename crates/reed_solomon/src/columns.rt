@@ -1,0 +1,66 @@
+//! Bytes lost at the same places of many codewords, summed up one place after the other.
+
+ghost use Rattle.std.specs.Prelude.{◌≡◌, ℕ, ◌<◌, ◌≤◌, ◌*◌, ◌/◌, ◌%◌, length, slice_index, EachIndex, IfOk, bit_xor};
+ghost use Rattle.reed_solomon.specs.Field.{product};
+ghost use Rattle.reed_solomon.specs.Factors.{AreProducts, AreRows, parity_places};
+
+use crate::products::Products;
+use crate::restoring::factors;
+use std::alloc::{AllocError, Global};
+
+/// The products by which the bytes of codewords sum up to those at the lost places: of place i by the factor for the
+/// k-th of n lost places at i * n + k.
+pub fn restoring_products(alloc: Global, lost: &[usize]) -> Result<Vec<Products>, AllocError>
+    requires in_word { EachIndex lost.now (λ k. slice_index lost.now k < 255) }
+    requires few { length lost.now ≤ 255 }
+    ensures { IfOk result (λ v. AreProducts lost.now v.items) }
+{
+    let rows = factor_rows(alloc, lost)?;
+    let mut products = Vec::new(alloc);
+    for at in 0..255 * lost.len() {
+        let row = at % lost.len();
+        let factor = rows[row * 255 + at / lost.len()];
+        products.push(Products::by(factor))?;
+    }
+    Ok(products)
+}
+
+// The factors of all places for each lost place, one row of 255 behind the other.
+fn factor_rows(alloc: Global, lost: &[usize]) -> Result<Vec<u8>, AllocError>
+    requires { EachIndex lost.now (λ k. slice_index lost.now k < 255) }
+    ensures { IfOk result (λ v. AreRows lost.now v.items (length lost.now)) }
+{
+    let mut rows = Vec::new(alloc);
+    for place in lost {
+        rows.extend_from_slice(&factors(lost, *place))?;
+    }
+    Ok(rows)
+}
+
+/// As `restoring_products`, where the parity of codewords is lost.
+pub fn parity_products(alloc: Global, parity: usize) -> Result<Vec<Products>, AllocError>
+    requires { parity ≤ 24 }
+    ensures { IfOk result (λ v. AreProducts (parity_places parity) v.items) }
+{
+    let mut places = Vec::new(alloc);
+    for place in 255 - parity..255_usize {
+        places.push(place)?;
+    }
+    restoring_products(alloc, &places)
+}
+
+/// Adds to the sums of each codeword the products of its byte: with n products, those of the byte at c to the n sums
+/// from c * n on.
+pub fn add_products(products: &[Products], bytes: &[u8], sums: &mut [u8])
+    requires { length sums.old ≡ length bytes.now * length products.now }
+    ensures { EachIndex sums.new (λ m. slice_index sums.new m ≡ bit_xor (slice_index sums.old m) (product (slice_index products.now (m % length products.now)) (slice_index bytes.now (m / length products.now)))) }
+{
+    let count = products.len();
+    for c in 0..bytes.len() {
+        let byte = bytes[c];
+        let at = c * count;
+        for k in 0..count {
+            sums[at + k] ^= products[k].times(byte);
+        }
+    }
+}

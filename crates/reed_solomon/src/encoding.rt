@@ -1,0 +1,83 @@
+//! The parity of a codeword: what is left of its message's polynomial, divided by the one whose roots a codeword has.
+//! A polynomial of degree 24 at most is an array of its 25 coefficients, the highest first.
+
+ghost use Rattle.std.specs.Prelude.{◌≡◌, ℕ, ◌+◌, ◌<◌, ◌≤◌, ◌↔◌, ◌++◌, IsTrue, length, slice_index, bit_xor};
+ghost use Rattle.reed_solomon.specs.Field.{product};
+ghost use Rattle.reed_solomon.specs.Code.{syndrome, IsCodeword};
+ghost use Rattle.reed_solomon.specs.Encoding.{IsGenerator};
+
+use crate::field::{multiply, power};
+
+/// The product of one polynomial by x, and of the other by `scale`, added up.
+fn shifted_sum(shifted: &[u8; 25], scaled: &[u8; 25], scale: u8) -> [u8; 25]
+    ensures len { length result ≡ 25 }
+    ensures value { (k : ℕ) → k < 25 → slice_index result k ≡ bit_xor (slice_index shifted.now (k + 1)) (product scale (slice_index scaled.now k)) }
+{
+    let mut sum = [0; 25];
+    for k in 0..25_usize {
+        let following = if k < 24 { shifted[k + 1] } else { 0 };
+        sum[k] = following ^ multiply(scale, scaled[k]);
+    }
+    sum
+}
+
+/// The polynomial whose roots are the first `degree` powers of x.
+fn generator(degree: usize) -> [u8; 25]
+    requires { degree ≤ 24 }
+    ensures { IsGenerator degree result }
+{
+    let mut generator = [0; 25];
+    generator[24] = 1;
+    for root in 0..degree {
+        generator = shifted_sum(&generator, &generator, power(root));
+    }
+    generator
+}
+
+/// Writes the parity that makes a codeword of the message.
+pub fn encode(message: &[u8], parity: &mut [u8])
+    requires len { length message.now + length parity.old ≡ 255 }
+    requires some { 0 < length parity.old }
+    requires few { length parity.old ≤ 24 }
+    ensures { IsCodeword (length parity.old) (message.now ++ parity.new) }
+{
+    let divisor = generator(parity.len());
+    let first = 25 - parity.len();
+    let mut rest = [0; 25];
+    for byte in message {
+        let scale = rest[first] ^ *byte;
+        rest[first] = scale;
+        rest = shifted_sum(&rest, &divisor, scale);
+    }
+    for k in 0..parity.len() {
+        parity[k] = rest[first + k];
+    }
+}
+
+/// The value of a word's polynomial at a power of x.
+pub fn syndrome(word: &[u8], root: usize) -> u8
+    requires len { length word.now ≡ 255 }
+    requires root { root < 510 }
+    ensures { result ≡ syndrome word.now root }
+{
+    let x = power(root);
+    let mut value = 0;
+    for byte in word {
+        value = multiply(value, x) ^ *byte;
+    }
+    value
+}
+
+/// Whether a word is a codeword.
+pub fn is_codeword(word: &[u8], parity: usize) -> bool
+    requires len { length word.now ≡ 255 }
+    requires parity { parity ≤ 254 }
+    ensures { IsTrue result ↔ IsCodeword parity word.now }
+{
+    for root in 0..parity {
+        if syndrome(word, root) != 0 {
+            return false;
+        }
+    }
+    true
+}

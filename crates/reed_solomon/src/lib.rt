@@ -1,0 +1,16 @@
+//! Reed-Solomon codes over the field of 256 elements, whose codewords are 255 bytes, for bytes lost at known places.
+#![tactic(auto)]
+
+mod columns;
+mod encoding;
+mod field;
+pub mod laws;
+mod products;
+mod restoring;
+mod tables;
+
+pub use columns::{add_products, parity_products, restoring_products};
+pub use encoding::{encode, is_codeword, syndrome};
+pub use field::{inverse, multiply, power};
+pub use products::Products;
+pub use restoring::{combination, factors, restore};
