@@ -6,6 +6,26 @@ use std::test::Fail;
 /// More than 3 MiB, and no multiple of 64 KiB.
 const SECTORS: u32 = 6147;
 
+// Writes the bytes from that sector on, and says whether they fit and were written.
+fn writes<D: BlockDev>(dev: &mut D, first: u64, bytes: &[u8]) -> bool {
+    let sectors = bytes.len() as u64 / 512;
+    let fits = first <= dev.sectors() && sectors <= dev.sectors() - first;
+    if !fits || !dev.writable() || sectors == 0 || bytes.len() % 512 != 0 {
+        return false;
+    }
+    dev.write(first, bytes).is_ok()
+}
+
+// Reads so many bytes from that sector on, and says whether they were there and were read.
+fn reads<D: BlockDev>(dev: &mut D, first: u64, out: &mut [u8]) -> bool {
+    let sectors = out.len() as u64 / 512;
+    let fits = first <= dev.sectors() && sectors <= dev.sectors() - first;
+    if !fits || sectors == 0 || out.len() % 512 != 0 {
+        return false;
+    }
+    dev.read(first, out).is_ok()
+}
+
 #[test]
 fn one_call_moves_more_than_3_mib(rt: HostRuntime) -> Result<(), Fail> {
     let bytes = MemoryDev::ramp(rt.alloc(), SECTORS, false)?.into_bytes();
@@ -15,9 +35,8 @@ fn one_call_moves_more_than_3_mib(rt: HostRuntime) -> Result<(), Fail> {
     let mut dev = FileDev::open(&rt, "large", true)?;
     assert!(rt; bytes.len() == 6147 * 512 && dev.sectors() == 8192);
     wanted[2560..2560 + 6147 * 512].copy_from_slice(&bytes);
-    assert!(rt; dev.write(5, &bytes).is_ok() && dev.sync().is_ok());
-    assert!(rt; dev.sectors() == 8192);
-    assert!(rt; dev.read(0, &mut back).is_ok() && back.as_slice() == wanted.as_slice());
+    assert!(rt; writes(&mut dev, 5, &bytes) && dev.sync().is_ok());
+    assert!(rt; reads(&mut dev, 0, &mut back) && back.as_slice() == wanted.as_slice());
     assert!(rt; (dev.reads(), dev.writes(), dev.failures()) == (8192, 6147, 0));
     fs::remove_file(&rt, "large")?;
     Ok(())
