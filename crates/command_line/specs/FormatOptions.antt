@@ -36,6 +36,7 @@ pub record OptionTexts : Type 0 where
   pub name : Option (List ℕ)
   pub sector_size : Option (List ℕ)
   pub root : Option (List ℕ)
+  pub map : Option (List ℕ)
   pub all : Bool
   pub stack : Bool
   pub no_superblock : Bool
@@ -65,6 +66,7 @@ option_texts words = record {
   name = text_of words.name;
   sector_size = text_of words.sector_size;
   root = text_of words.root;
+  map = text_of words.map;
   all = words.all;
   stack = words.stack;
   no_superblock = words.no_superblock;

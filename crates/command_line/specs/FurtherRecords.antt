@@ -4,6 +4,7 @@ use Rattle.std.specs.Str.{bytes_eq}
 use Rattle.command_line.specs.FormatOptions.{OptionTexts, text_of}
 use Rattle.command_line.specs.words.Cat.{CatRecord, cat_record, cat_said}
 use Rattle.command_line.specs.words.Copy.{CopyRecord, copy_record, copy_said}
+use Rattle.command_line.specs.words.Exports.{ExportsRecord, exports_record, exports_said}
 use Rattle.command_line.specs.words.Manual.{manual_said}
 use Rattle.command_line.specs.words.Scan.{ScanRecord, scan_record, scan_said}
 use Rattle.command_line.specs.words.Store.{StoreRecord, store_record, store_said}
@@ -17,7 +18,7 @@ use Rattle.command_line.specs.words.TreeFormat.{TreeFormatRecord, tree_format_re
 use Rattle.command_line.specs.words.TreeVerify.{TreeVerifyRecord, tree_verify_record, tree_verify_said}
 use Rattle.command_line.specs.words.TreeTable.{TreeTableRecord, tree_table_record, tree_table_said}
 use Rattle.command_line.specs.declared.further.Further.{Further}
-use Rattle.command_line.specs.declared.further.Further.TheVariants.{Cat, Store, Format, Verify, Dump, Table, Partitions, Diff, Scan, Copy, Manual, Version, FormatTree, VerifyTree, TableTree}
+use Rattle.command_line.specs.declared.further.Further.TheVariants.{Cat, Store, Format, Verify, Dump, Table, Partitions, Diff, Scan, Copy, Exports, Manual, Version, FormatTree, VerifyTree, TableTree}
 
 pub data FurtherRecord : Type 0 where
   cat : CatRecord → FurtherRecord
@@ -30,6 +31,7 @@ pub data FurtherRecord : Type 0 where
   diff : DiffRecord → FurtherRecord
   scan : ScanRecord → FurtherRecord
   copy : CopyRecord → FurtherRecord
+  exports : ExportsRecord → FurtherRecord
   -- a command's name, where one is said
   manual : Option (List ℕ) → FurtherRecord
   version : FurtherRecord
@@ -70,6 +72,7 @@ command_said name texts words =
     else if bytes_eq name (codes "store") then option_map store (store_said texts words)
     else if bytes_eq name (codes "scan") then option_map scan (scan_said texts words)
     else if bytes_eq name (codes "copy") then option_map copy (copy_said texts words)
+    else if bytes_eq name (codes "nbd") then option_map exports (exports_said texts words)
     else image_said name texts words
 
 -- the same, where `--no-superblock` may stand
@@ -88,6 +91,7 @@ further_record (Partitions w) = partitions (partitions_record w)
 further_record (Diff w) = diff (diff_record w)
 further_record (Scan w) = scan (scan_record w)
 further_record (Copy w) = copy (copy_record w)
+further_record (Exports w) = exports (exports_record w)
 further_record (Manual command) = manual (text_of command)
 further_record Version = version
 further_record (FormatTree w) = format_tree (tree_format_record w)

@@ -1,7 +1,8 @@
 -- What the values of options say.
-use Rattle.std.specs.Prelude.{ℕ, Bool, true, false, ◌==◌, ◌&&◌, ◌||◌, ◌%◌, nat_le, List, [], ◌∷◌, Option, Some, None, option_map, if◌then◌else◌}
+use Rattle.std.specs.Prelude.{ℕ, Bool, true, false, ◌==◌, ◌&&◌, ◌||◌, ◌%◌, nat_le, List, [], ◌∷◌, length, codes, Option, Some, None, option_map, if◌then◌else◌}
 use Rattle.std.specs.Option.{option_and_then}
 use Rattle.std.specs.Result.{result_ok}
+use Rattle.std.specs.Str.{bytes_eq}
 use Rattle.hex.specs.Hex.{decode_sized}
 use Rattle.dm_table.specs.Names.{is_device, is_mapped_name}
 use Rattle.dm_table.specs.Numbers.{number, number_if}
@@ -48,6 +49,11 @@ sector_size_of (Some word) = number_if (λ n. n == 512 || n == 4096) (number wor
 unfoldable pub name_of : Option (List ℕ) → Option (Option (List ℕ))
 name_of None = Some None
 name_of (Some word) = if is_mapped_name word then Some (Some word) else None
+
+-- the path of a map file, or no word; a word of no bytes is none, and `-`, the standard input
+unfoldable pub map_of : Option (List ℕ) → Option (Option (List ℕ))
+map_of None = Some None
+map_of (Some word) = if length word == 0 || bytes_eq word (codes "-") then None else Some (Some word)
 
 -- 64 hexadecimal digits as 32 bytes
 unfoldable pub root_of : List ℕ → Option (List ℕ)

@@ -2,6 +2,7 @@ pub mod Cat
 pub mod Copy
 pub mod Diff
 pub mod Dump
+pub mod Exports
 pub mod Format
 pub mod Manual
 pub mod Partitions

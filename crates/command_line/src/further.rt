@@ -9,6 +9,7 @@ use crate::words::cat::{CatWords, cat_of};
 use crate::words::copy::{CopyWords, copy_of};
 use crate::words::diff::{DiffWords, diff_of};
 use crate::words::dump::{DumpWords, dump_of};
+use crate::words::exports::{ExportsWords, exports_of};
 use crate::words::format::{FormatWords, format_of};
 use crate::words::manual::{manual_of, version_of};
 use crate::words::partitions::{PartitionsWords, partitions_of};
@@ -34,6 +35,7 @@ pub enum Further<'a> {
     Diff(DiffWords<'a>),
     Scan(ScanWords<'a>),
     Copy(CopyWords<'a>),
+    Exports(ExportsWords<'a>),
     /// A command's name, where one is said.
     Manual(Option<&'a str>),
     Version,
@@ -94,6 +96,8 @@ fn command_of<'a>(
         scan_of(alloc, options, words)
     } else if name == b"copy".as_slice() {
         copy_of(alloc, options, words)
+    } else if name == b"nbd".as_slice() {
+        exports_of(alloc, options, words)
     } else {
         image_of(name, options, words)
     }

@@ -27,6 +27,7 @@ pub use words::cat::CatWords;
 pub use words::copy::CopyWords;
 pub use words::diff::DiffWords;
 pub use words::dump::DumpWords;
+pub use words::exports::ExportsWords;
 pub use words::format::FormatWords;
 pub use words::partitions::PartitionsWords;
 pub use words::scan::ScanWords;

@@ -19,6 +19,7 @@ pub struct OptionWords<'a> {
     pub name: Option<&'a str>,
     pub sector_size: Option<&'a str>,
     pub root: Option<&'a str>,
+    pub map: Option<&'a str>,
     pub all: bool,
     pub stack: bool,
     pub no_superblock: bool,
@@ -63,6 +64,7 @@ fn has_place_value(options: &OptionWords<'_>) -> bool
         || options.count.is_some()
         || options.hash_offset.is_some()
         || options.sector_size.is_some()
+        || options.map.is_some()
 }
 
 #[tactic(auto, unfolding(crate::specs::FurtherWords::has_image_value))]

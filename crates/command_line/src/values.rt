@@ -1,7 +1,7 @@
 //! What the values of options say.
 ghost use Rattle.std.specs.Prelude.{◌≡◌, map, option_map};
 ghost use Rattle.command_line.specs.FormatOptions.{text_of, texts_of};
-ghost use Rattle.command_line.specs.Values.{cache_of, count_of, device_names, first_of, form_of, form_record, name_of, offset_of, root_alone, root_first, root_of, root_record, runs_of, sector_size_of, two_roots};
+ghost use Rattle.command_line.specs.Values.{cache_of, count_of, device_names, first_of, form_of, form_record, map_of, name_of, offset_of, root_alone, root_first, root_of, root_record, runs_of, sector_size_of, two_roots};
 
 use dm_table::{is_device, is_mapped_name};
 use table_reader::number;
@@ -126,6 +126,20 @@ pub fn name_of<'a>(word: Option<&'a str>) -> Option<Option<&'a str>>
         return Some(Some(word));
     }
     None
+}
+
+/// The path of a map file, where a word says it: no word of no bytes, and not `-`, the standard input.
+#[tactic(auto, unfolding(crate::specs::Values::map_of))]
+pub fn map_of<'a>(word: Option<&'a str>) -> Option<Option<&'a str>>
+    ensures { option_map text_of result ≡ map_of (text_of word.entry) }
+{
+    let Some(word) = word else {
+        return Some(None);
+    };
+    if word.is_empty() || word.as_bytes() == b"-".as_slice() {
+        return None;
+    }
+    Some(Some(word))
 }
 
 /// A root digest of 64 hexadecimal digits.

@@ -3,6 +3,7 @@ pub mod cat;
 pub mod copy;
 pub mod diff;
 pub mod dump;
+pub mod exports;
 pub mod format;
 pub mod manual;
 pub mod partitions;

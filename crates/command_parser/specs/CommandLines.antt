@@ -29,6 +29,7 @@ texts_in rows = record {
   name = first_of (codes "name") rows;
   sector_size = first_of (codes "sector-size") rows;
   root = first_of (codes "root") rows;
+  map = first_of (codes "map") rows;
   all = is_there (codes "all") rows;
   stack = is_there (codes "stack") rows;
   no_superblock = is_there (codes "no-superblock") rows;

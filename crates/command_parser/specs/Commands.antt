@@ -62,9 +62,9 @@ stack_commands more =
     ∷ command (codes "read") (cache ∷ [])
     ∷ command (codes "write") (cache ∷ [])
     ∷ command (codes "session") (cache ∷ [])
-    ∷ command (codes "nbd") (cache ∷ [])
-    ∷ command (codes "scan") (cache ∷ [])
-    ∷ command (codes "copy") (cache ∷ flag (codes "differing") ∷ [])
+    ∷ command (codes "nbd") (cache ∷ flag (codes "all") ∷ [])
+    ∷ command (codes "scan") (cache ∷ value (codes "map") ∷ progress ∷ [])
+    ∷ command (codes "copy") (cache ∷ flag (codes "differing") ∷ value (codes "map") ∷ progress ∷ [])
     ∷ command (codes "cat") (cache ∷ value (codes "first") ∷ value (codes "count") ∷ progress ∷ [])
     ∷ command (codes "store") (cache ∷ value (codes "first") ∷ progress ∷ [])
     ∷ more

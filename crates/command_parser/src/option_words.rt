@@ -26,6 +26,7 @@ pub fn option_words<'a>(found: &ArgMatches<'a>) -> OptionWords<'a>
         name: value(found, "name"),
         sector_size: value(found, "sector-size"),
         root: value(found, "root"),
+        map: value(found, "map"),
         all: is_there(found, "all"),
         stack: is_there(found, "stack"),
         no_superblock: is_there(found, "no-superblock"),

@@ -93,6 +93,12 @@ const ROOT: OptionRow = OptionRow {
     has_value: true,
 };
 
+const MAP: OptionRow = OptionRow {
+    name: "map",
+    others: &[],
+    has_value: true,
+};
+
 // of `diff`, where it says how many runs are printed
 const RUNS: OptionRow = OptionRow {
     name: "blocks",
@@ -199,15 +205,15 @@ pub static COMMANDS: [CommandRow; 17] = [
     },
     CommandRow {
         name: "nbd",
-        options: &[CACHE],
+        options: &[CACHE, ALL],
     },
     CommandRow {
         name: "scan",
-        options: &[CACHE],
+        options: &[CACHE, MAP, PROGRESS],
     },
     CommandRow {
         name: "copy",
-        options: &[CACHE, DIFFERING],
+        options: &[CACHE, DIFFERING, MAP, PROGRESS],
     },
     CommandRow {
         name: "cat",

@@ -10,4 +10,6 @@ any_relations = record {
   takes = λ old path device new. Unit {0};
   takes_part = λ old path part device new. Unit {0};
   grows = λ old path sectors outcome new. Unit {0};
+  measures = λ old path outcome new. Unit {0};
+  replaces = λ old path bytes outcome new. Unit {0};
 }

@@ -5,6 +5,7 @@ use block_device::{BlockDev, FailAt, MemoryDev, OpenFault};
 use device_window::Part;
 use image_files::{FileText, Images, OpenImage, PartFault};
 use memory_images::MemoryImages;
+use text_files::ReplaceFault;
 
 /// The number of the call that fails is counted from the opening of a device; it is 0 where none fails.
 #[derive(Drop)]
@@ -53,6 +54,14 @@ impl Images for FailingImages {
 
     fn grow(&mut self, path: &str, sectors: u64) -> Result<(), OpenFault> {
         self.images.grow(path, sectors)
+    }
+
+    fn has_part_sector(&mut self, path: &str) -> Result<bool, OpenFault> {
+        self.images.has_part_sector(path)
+    }
+
+    fn replace(&mut self, path: &str, bytes: &[u8]) -> Result<(), ReplaceFault> {
+        self.images.replace(path, bytes)
     }
 
     // Its counts are numbers of 64 bits, which its own calls say.

@@ -40,7 +40,6 @@ fn main(rt: HostRuntime) -> ExitCode {
         }
         Err(_) => end(&mut writer, CommandFault::Usage),
     };
-    system.finish();
     ExitCode::from(if writer.flush().is_ok() { status } else { 1 })
 }
 

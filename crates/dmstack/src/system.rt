@@ -21,11 +21,6 @@ impl<'a, R: Clock + Eprint> System<'a, R> {
             line: ProgressLine::new(rt),
         }
     }
-
-    /// Ends the line, where one was begun.
-    pub fn finish(&mut self) {
-        self.line.finish();
-    }
 }
 
 impl<R: RandomSource> Generators for System<'_, R> {

@@ -1,7 +1,7 @@
 //! A page of the manual.
 ghost use Rattle.counted_io.specs.Counted.{Writes};
 
-use crate::pages::PAGES;
+use crate::pages::{FURTHER_PAGES, STACK_PAGES};
 use counted_io::{Counted, WriteFault};
 use std::io::Write;
 
@@ -16,7 +16,23 @@ pub struct Page {
 /// The page of that command, or of the program where none is named.
 pub fn page_of(command: Option<&str>) -> Option<Page> {
     let wanted = command.unwrap_or("").as_bytes();
-    for page in PAGES.iter() {
+    match stack_page(wanted) {
+        Some(page) => Some(page),
+        None => further_page(wanted),
+    }
+}
+
+fn stack_page(wanted: &[u8]) -> Option<Page> {
+    for page in STACK_PAGES.iter() {
+        if page.name.as_bytes() == wanted {
+            return Some(*page);
+        }
+    }
+    None
+}
+
+fn further_page(wanted: &[u8]) -> Option<Page> {
+    for page in FURTHER_PAGES.iter() {
         if page.name.as_bytes() == wanted {
             return Some(*page);
         }

@@ -1,14 +1,12 @@
 //! What is printed of partitions that aren't printed, and the status.
 ghost use Rattle.std.specs.Prelude.{◌≡◌};
 ghost use Rattle.counted_io.specs.Counted.{Writes};
-ghost use Rattle.partition_commands.specs.FaultTexts.{open_text, partitions_status, partitions_text};
+ghost use Rattle.partition_commands.specs.FaultTexts.{partitions_status, partitions_text};
 
 use crate::fault::PartitionsFault;
 use crate::refusal::say_refusal;
-use block_device::OpenFault;
 use counted_io::{Counted, WriteFault};
-use image_files::UnopenedFile;
-use io_fault_text::say_no_memory;
+use io_fault_text::{say_no_memory, say_unopened};
 use std::io::Write;
 
 const REFUSED: u8 = 1;
@@ -33,17 +31,4 @@ pub fn partitions_status(_fault: PartitionsFault<'_>) -> u8
     ensures { result ≡ partitions_status }
 {
     REFUSED
-}
-
-// `refused K NAME PATH`
-fn say_unopened<W: Write>(writer: &mut Counted<W>, file: UnopenedFile<'_>) -> Result<(), WriteFault>
-    ensures { Writes W.contents writer.old writer.new (open_text file.entry) result }
-{
-    let UnopenedFile { fault, path } = file;
-    if fault == OpenFault::NoMemory {
-        return say_no_memory(writer);
-    }
-    let number = fault.number();
-    let name = fault.name();
-    writer.print(format_args!("refused {number} {name} {path}\n"))
 }

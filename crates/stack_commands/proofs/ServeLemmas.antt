@@ -1,10 +1,10 @@
 -- Sessions and services of clients.
-use Rattle.std.proofs.Common.{◌≡◌, ℕ, Bool, refl, subst, inl, List, [], map, Result}
+use Rattle.std.proofs.Common.{◌≡◌, ℕ, Bool, refl, subst, inl, List, [], ◌∷◌, map, Result}
 use Rattle.counted_io.specs.Streams.{Streams}
 use Rattle.command_line.specs.Bindings.{BindingRecord}
 use Rattle.image_files.specs.Opener.{Calls}
-use Rattle.nbd_server.specs.declared.fault.ServiceFault.{ServiceFault}
-use Rattle.nbd_server.specs.Exports.{ExportRecord, IsExport}
+use Rattle.nbd_protocol.specs.declared.fault.ServiceFault.{ServiceFault}
+use Rattle.nbd_protocol.specs.Exports.{ExportRecord, IsExport}
 use Rattle.nbd_server.specs.Service.{IsService}
 use Rattle.request_queue.specs.World.{World}
 use Rattle.stack_engine.specs.Pieces.{stack_over}
@@ -16,7 +16,9 @@ use Rattle.stack_opening.specs.declared.leaves.OpenLeaves.{OpenLeaves}
 use Rattle.stack_opening.specs.declared.stack_file.OpenStack.{OpenStack}
 use Rattle.stack_opening.specs.Bindings.{AreBound}
 use Rattle.stack_opening.specs.Openings.{IsBindingEnd}
-use Rattle.stack_opening.specs.OpenStacks.{OpensStack}
+use Rattle.stack_opening.specs.OpenStacks.{OpensStack, StackWords}
+use Rattle.nbd_protocol.specs.Offers.{AreNames, Offers}
+use Rattle.stack_commands.specs.ManyExports.{ServesExports}
 use Rattle.stack_session.specs.declared.fault.SessionFault.{SessionFault}
 use Rattle.stack_session.specs.QueueSessions.{IsQueueSession}
 use Rattle.stack_commands.specs.Closings.{GivesBack}
@@ -51,7 +53,7 @@ session-served w cache between bindings over queue last old new outcome synced b
 -- a client that was served by a new queue over the stack
 pub client-served : {S D : Type 0} (w : Calls S D) (between : S) (words : DeviceWords) (over : OpenStack D) (stack : StackRecord) (queue last : World) (e : ExportRecord) (old new : Streams)
     (outcome : Result Unit ServiceFault) (synced : Result Unit IoFault) → OpensStack (record w { new = between }) words.words over → IsStackOf w.state over stack → stack.capacity ≡ words.cache → queue ≡ new_world stack
-    → IsExport queue.stack.config e → e.name ≡ words.name → IsService e queue last old new outcome → GivesBack (record w { old = between }) words.words.bindings last.stack.leaves synced
+    → IsExport queue.stack.config e → e.name ≡ words.name → IsService (e ∷ []) queue last old new outcome → GivesBack (record w { old = between }) words.words.bindings last.stack.leaves synced
     → ServesClient w words old new outcome synced
 client-served w between words over stack queue last e old new outcome synced opened made cached is export named service back = record {
   stack = stack;
@@ -62,6 +64,27 @@ client-served w between words over stack queue last e old new outcome synced ope
   cached = cached;
   is_export = subst (λ (q : World). IsExport q.stack.config e) is export;
   named = named;
-  served = subst (λ (q : World). IsService e q last old new outcome) is service;
+  served = subst (λ (q : World). IsService (e ∷ []) q last old new outcome) is service;
+  back = back;
+}
+
+-- a client that was served each device of the stack by a new queue over it
+pub exports-served : {S D : Type 0} (w : Calls S D) (between : S) (words : StackWords) (cache : ℕ) (over : OpenStack D) (stack : StackRecord) (queue last : World) (names : List (List ℕ)) (es : List ExportRecord) (old new : Streams)
+    (outcome : Result Unit ServiceFault) (synced : Result Unit IoFault) → OpensStack (record w { new = between }) words over → IsStackOf w.state over stack → stack.capacity ≡ cache → queue ≡ new_world stack
+    → AreNames queue.stack.config.devices names → Offers queue.stack.config names es → IsService es queue last old new outcome → GivesBack (record w { old = between }) words.bindings last.stack.leaves synced
+    → ServesExports w words cache old new outcome synced
+exports-served w between words cache over stack queue last names es old new outcome synced opened made cached is named offered service back = record {
+  stack = stack;
+  exports = es;
+  last = last;
+  between = between;
+  loaded = record { over = over; opened = opened; made = made };
+  cached = cached;
+  offered = record {
+    names = names;
+    named = subst (λ (q : World). AreNames q.stack.config.devices names) is named;
+    offered = subst (λ (q : World). Offers q.stack.config names es) is offered;
+  };
+  served = subst (λ (q : World). IsService es q last old new outcome) is service;
   back = back;
 }

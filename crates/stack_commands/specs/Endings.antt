@@ -13,15 +13,17 @@ use Rattle.stack_rules.specs.declared.refusal.LoadFault.{LoadFault}
 use Rattle.stack_rules.specs.declared.refusal.LoadFault.TheVariants as load
 use Rattle.stack_meaning.specs.declared.fault.IoFault.TheVariants as io
 use Rattle.stack_commands.specs.declared.fault.CommandFault.{CommandFault}
-use Rattle.stack_commands.specs.declared.fault.CommandFault.TheVariants.{Usage, NoMemory, TooLong, Open, Outside, Leaves, Text, Load, Submit, Io, Verity, Partitions, Trees, Cat, Store, Lost, OutputTooSmall, OutputFailed, Session, Service}
-use Rattle.nbd_server.specs.declared.fault.ServiceFault.TheVariants as service
+use Rattle.stack_commands.specs.declared.fault.CommandFault.TheVariants.{Usage, NoMemory, TooLong, Open, Outside, Leaves, Text, Load, Submit, Io, Verity, Partitions, Trees, Cat, Store, Lost, OutputTooSmall, OutputFailed, Map, Session, Service}
+use Rattle.nbd_protocol.specs.declared.fault.ServiceFault.TheVariants as service
 use Rattle.stack_session.specs.declared.fault.SessionFault.TheVariants.{WriteFault}
 use Rattle.verity_commands.specs.Endings as verity
-use Rattle.verity_commands.specs.Texts.{open_text, verity_text}
+use Rattle.verity_commands.specs.Texts.{verity_text}
+use Rattle.stack_commands.specs.MapTexts.{map_fault_text}
 use Rattle.stack_commands.specs.StreamTexts.{cat_status, cat_text, store_status, store_text}
 use Rattle.partition_commands.specs.FaultTexts.{partitions_status, partitions_text}
 use Rattle.tree_commands.specs.FaultTexts.{tree_status, tree_text}
 use Rattle.stack_rules.specs.FaultKinds.{config_number, config_name}
+use Rattle.io_fault_text.specs.Opening.{open_text}
 use Rattle.io_fault_text.specs.Texts.{io_text, no_memory, refused_text, usage_text}
 use Rattle.stack_session.specs.Texts.{fault_text, refusal_text, submit_text}
 
@@ -86,6 +88,7 @@ ending_text (Store fault) = store_text fault
 ending_text (Lost read lost) = counts_text read lost
 ending_text (OutputTooSmall needed) = too_small_text needed
 ending_text OutputFailed = codes "refused 2 Device\n"
+ending_text (Map fault) = map_fault_text fault
 ending_text (Session fault) = []
 ending_text (Service fault) = []
 

@@ -1,10 +1,11 @@
 -- What the further commands print where they succeed, and how they end early.
 use Rattle.std.specs.Io.KnownBytes.{Appends}
-use Rattle.std.specs.Prelude.{◌≡◌, ◌⊎◌, ◌≢◌, ℕ, Bool, codes, List, Option}
+use Rattle.std.specs.Prelude.{◌≡◌, ◌⊎◌, ◌≢◌, ℕ, Bool, codes, List, None, Ok, Option, Some}
 use Rattle.command_line.specs.FormatOptions.{OptionTexts}
-use Rattle.command_line.specs.FurtherRecords.{FurtherRecord, cat, copy, diff, dump, format, format_tree, manual, partitions, scan, store, table, table_tree, verify, verify_tree, version}
+use Rattle.command_line.specs.FurtherRecords.{FurtherRecord, cat, copy, diff, dump, exports, format, format_tree, manual, partitions, scan, store, table, table_tree, verify, verify_tree, version}
 use Rattle.command_line.specs.words.Cat.{CatRecord}
 use Rattle.command_line.specs.words.Copy.{CopyRecord}
+use Rattle.command_line.specs.words.Exports.{ExportsRecord}
 use Rattle.command_line.specs.words.Scan.{ScanRecord}
 use Rattle.command_line.specs.words.Store.{StoreRecord}
 use Rattle.counted_io.specs.Streams.{Streams}
@@ -14,9 +15,12 @@ use Rattle.partition_commands.specs.Invocations.{IsListingEnd, ListsPartitions}
 use Rattle.tree_commands.specs.Invocations.{DiffsTrees, IsDiffWordsEnd}
 use Rattle.stack_commands.specs.declared.fault.CommandFault.{CommandFault}
 use Rattle.stack_commands.specs.declared.fault.CommandFault.TheVariants.{Partitions, Usage}
-use Rattle.stack_commands.specs.Endings.{IsUnwritten}
+use Rattle.stack_commands.specs.Endings.{IsQuiet, IsUnwritten}
+use Rattle.stack_commands.specs.MappedCopies.{IsMappedCopyEnd, IsMappedScanEnd, PrintsMappedCopy, PrintsMappedScan}
 use Rattle.stack_commands.specs.Recoveries.{CopyWords, IsCopyEnd, IsScanEnd, PrintsCopy, PrintsScan, copy_words}
-use Rattle.stack_commands.specs.StackCommands.{device_on}
+use Rattle.stack_commands.specs.ManyExports.{IsExportsEnd, ServesExports}
+use Rattle.stack_commands.specs.StackCommands.{DeviceWords, FailsToList, IsStackEnd, PrintsDevices, device_on, on}
+use Rattle.stack_commands.specs.StoredFiles.{FileWords, IsFileEnd, PrintsFileStored, file_words}
 use Rattle.stack_commands.specs.Streaming.{IsBytesEnd, IsStoringEnd, PrintsBytes, PrintsStored}
 use Rattle.verity_commands.specs.Placed.{DumpsAt, FormatsAt, IsDumpEnd, IsFormatEnd, IsTableEnd, PrintsEntry}
 use Rattle.verity_commands.specs.Trees.{FormatsTree, IsFormatTreeEnd, IsTableTreeEnd, IsVerifyTreeEnd, PrintsTreeEntry, VerifiesTree}
@@ -37,37 +41,66 @@ CatsSectors w c old new = PrintsBytes w (device_on c.stack c.name c.cache c.bind
 abbrev pub IsCatEnd : {S D : Type 0} → Calls S D → CatRecord → Option (List ℕ) → Option (List ℕ) → Bool → CommandFault → Type 0
 IsCatEnd w c old new failed fault = IsBytesEnd w (device_on c.stack c.name c.cache c.bindings) c.first c.count old new failed fault
 
--- the words are none of the command's, and nothing is opened
-abbrev pub IsRefusedUnread : {S D : Type 0} → Calls S D → CommandFault → Type 0
-IsRefusedUnread w fault = (fault ≡ Usage) × (w.new ≡ w.old)
+-- the source `-` is the input; another one is a file, and nothing is read of the input then
+abbrev pub BySource : StoreRecord → Type 0 → Type 0 → Type 0
+BySource s Input File = ((s.source ≡ codes "-") × Input) ⊎ ((s.source ≢ codes "-") × File)
 
--- the source is `-`, the input
+abbrev pub stored_words : StoreRecord → FileWords
+stored_words s = file_words (device_on s.stack s.name s.cache s.bindings) s.source s.first
+
 abbrev pub StoresSectors : {S D : Type 0} → Calls S D → StoreRecord → Streams → Streams → Type 0
-StoresSectors w s old new = (s.source ≡ codes "-") × PrintsStored w (device_on s.stack s.name s.cache s.bindings) s.first old new
+StoresSectors w s old new = BySource s
+    (PrintsStored w (device_on s.stack s.name s.cache s.bindings) s.first old new)
+    ((new.input ≡ old.input) × PrintsFileStored w (stored_words s) old.output new.output)
 
--- another source is none
 abbrev pub IsStoreEnd : {S D : Type 0} → Calls S D → StoreRecord → Streams → Streams → Bool → CommandFault → Type 0
-IsStoreEnd w s old new failed fault =
-    ((s.source ≢ codes "-") × IsRefusedUnread w fault × (new ≡ old)) ⊎ IsStoringEnd w (device_on s.stack s.name s.cache s.bindings) s.first old new failed fault
+IsStoreEnd w s old new failed fault = BySource s
+    (IsStoringEnd w (device_on s.stack s.name s.cache s.bindings) s.first old new failed fault)
+    ((new.input ≡ old.input) × IsFileEnd w (stored_words s) old.output new.output failed fault)
 
 -- ---- each by its words
 
 -- ---- a device that is gone over
 
+-- with a map file or without one
+abbrev pub ScansBy : {S D : Type 0} → Option (List ℕ) → Calls S D → DeviceWords → Option (List ℕ) → Option (List ℕ) → Type 0
+ScansBy None w words old new = PrintsScan w words old new
+ScansBy (Some map) w words old new = PrintsMappedScan w words map old new
+
 abbrev pub ScansSectors : {S D : Type 0} → Calls S D → ScanRecord → Option (List ℕ) → Option (List ℕ) → Type 0
-ScansSectors w s old new = PrintsScan w (device_on s.stack s.name s.cache s.bindings) old new
+ScansSectors w s old new = ScansBy s.map w (device_on s.stack s.name s.cache s.bindings) old new
+
+abbrev pub IsScanEndBy : {S D : Type 0} → Option (List ℕ) → Calls S D → DeviceWords → Option (List ℕ) → Option (List ℕ) → Bool → CommandFault → Type 0
+IsScanEndBy None w words old new failed fault = IsScanEnd w words old new failed fault
+IsScanEndBy (Some map) w words old new failed fault = IsMappedScanEnd w words map old new failed fault
 
 abbrev pub IsScanWordsEnd : {S D : Type 0} → Calls S D → ScanRecord → Option (List ℕ) → Option (List ℕ) → Bool → CommandFault → Type 0
-IsScanWordsEnd w s old new failed fault = IsScanEnd w (device_on s.stack s.name s.cache s.bindings) old new failed fault
+IsScanWordsEnd w s old new failed fault = IsScanEndBy s.map w (device_on s.stack s.name s.cache s.bindings) old new failed fault
 
 abbrev pub copied : CopyRecord → CopyWords
 copied c = copy_words (device_on c.stack c.name c.cache c.bindings) c.out c.differing
 
+abbrev pub CopiesBy : {S D : Type 0} → Option (List ℕ) → Calls S D → CopyWords → Option (List ℕ) → Option (List ℕ) → Type 0
+CopiesBy None w words old new = PrintsCopy w words old new
+CopiesBy (Some map) w words old new = PrintsMappedCopy w words map old new
+
 abbrev pub CopiesSectors : {S D : Type 0} → Calls S D → CopyRecord → Option (List ℕ) → Option (List ℕ) → Type 0
-CopiesSectors w c old new = PrintsCopy w (copied c) old new
+CopiesSectors w c old new = CopiesBy c.map w (copied c) old new
+
+abbrev pub IsCopyEndBy : {S D : Type 0} → Option (List ℕ) → Calls S D → CopyWords → Option (List ℕ) → Option (List ℕ) → Bool → CommandFault → Type 0
+IsCopyEndBy None w words old new failed fault = IsCopyEnd w words old new failed fault
+IsCopyEndBy (Some map) w words old new failed fault = IsMappedCopyEnd w words map old new failed fault
 
 abbrev pub IsCopyWordsEnd : {S D : Type 0} → Calls S D → CopyRecord → Option (List ℕ) → Option (List ℕ) → Bool → CommandFault → Type 0
-IsCopyWordsEnd w c old new failed fault = IsCopyEnd w (copied c) old new failed fault
+IsCopyWordsEnd w c old new failed fault = IsCopyEndBy c.map w (copied c) old new failed fault
+
+-- ---- a client that is served each device
+
+abbrev pub ServesDevices : {S D : Type 0} → Calls S D → ExportsRecord → Streams → Streams → Type 0
+ServesDevices w e old new = ServesExports w (on e.stack e.bindings) e.cache old new (Ok tt) (Ok tt)
+
+abbrev pub IsExportsWordsEnd : {S D : Type 0} → Calls S D → ExportsRecord → Streams → Streams → Bool → CommandFault → Type 0
+IsExportsWordsEnd w e old new failed fault = IsExportsEnd w (on e.stack e.bindings) e.cache old new failed fault
 
 -- ---- pages of the manual
 
@@ -93,6 +126,7 @@ SucceedsFurther texts (partitions p) u = ListsPartitions u.images p u.old.output
 SucceedsFurther texts (diff d) u = DiffsTrees u.images d u.old.output u.new.output
 SucceedsFurther texts (scan s) u = ScansSectors u.images s u.old.output u.new.output
 SucceedsFurther texts (copy c) u = CopiesSectors u.images c u.old.output u.new.output
+SucceedsFurther texts (exports e) u = ServesDevices u.images e u.old u.new
 SucceedsFurther texts (manual command) u = ShowsPage u
 SucceedsFurther texts version u = ShowsPage u
 SucceedsFurther texts (format_tree f) u = FormatsTree texts u.images u.drawing f u.old.output u.new.output
@@ -111,6 +145,7 @@ FailsFurther texts (partitions p) u failed fault = IsPartitionsEnd (IsListingEnd
 FailsFurther texts (diff d) u failed fault = IsTreesEnd (IsDiffWordsEnd u.images d u.old.output u.new.output failed) fault
 FailsFurther texts (scan s) u failed fault = IsScanWordsEnd u.images s u.old.output u.new.output failed fault
 FailsFurther texts (copy c) u failed fault = IsCopyWordsEnd u.images c u.old.output u.new.output failed fault
+FailsFurther texts (exports e) u failed fault = IsExportsWordsEnd u.images e u.old u.new failed fault
 FailsFurther texts (manual command) u failed fault = IsPageEnd u.old.output u.new.output failed fault × (u.images.new ≡ u.images.old)
 FailsFurther texts version u failed fault = IsPageEnd u.old.output u.new.output failed fault × (u.images.new ≡ u.images.old)
 FailsFurther texts (format_tree f) u failed fault = IsVerityEnd (IsFormatTreeEnd texts u.images u.drawing f u.old.output u.new.output failed) fault

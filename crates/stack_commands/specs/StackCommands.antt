@@ -1,5 +1,5 @@
 -- What the commands on stacks print where they succeed, and how they end early.
-use Rattle.std.specs.Prelude.{◌≡◌, ◌⊎◌, ℕ, Bool, true, List, [], map, Option, Some, Result, Ok, Err}
+use Rattle.std.specs.Prelude.{◌≡◌, ◌⊎◌, ℕ, Bool, true, List, [], ◌∷◌, map, Option, Some, Result, Ok, Err}
 use Rattle.std.specs.Io.KnownBytes.{Appends}
 use Rattle.block_device.specs.Device.{Device}
 use Rattle.image_files.specs.declared.images.FileText.{FileText}
@@ -9,9 +9,9 @@ use Rattle.stack_rules.specs.Records.{LeafRecord}
 use Rattle.stack_engine.specs.Pieces.{stack_over}
 use Rattle.stack_engine.specs.Stacks.{StackRecord}
 use Rattle.stack_meaning.specs.declared.fault.IoFault.{IoFault}
-use Rattle.nbd_server.specs.declared.fault.ServiceFault.{ServiceFault}
-use Rattle.nbd_server.specs.declared.fault.ServiceFault.TheVariants as service_fault
-use Rattle.nbd_server.specs.Exports.{ExportRecord, HasNoExport, IsExport}
+use Rattle.nbd_protocol.specs.declared.fault.ServiceFault.{ServiceFault}
+use Rattle.nbd_protocol.specs.declared.fault.ServiceFault.TheVariants as service_fault
+use Rattle.nbd_protocol.specs.Exports.{ExportRecord, HasNoExport, IsExport}
 use Rattle.nbd_server.specs.Service.{IsService}
 use Rattle.request_queue.specs.declared.fault.SubmitFault.TheVariants.{NoSuchDevice}
 use Rattle.request_queue.specs.declared.reply.Reply.{Reply}
@@ -208,7 +208,7 @@ pub record ServesClient {S D : Type 0} (w : Calls S D) (words : DeviceWords) (ol
   pub cached : stack.capacity ≡ words.cache
   pub is_export : IsExport stack.config export
   pub named : export.name ≡ words.name
-  pub served : IsService export (new_world stack) last old new outcome
+  pub served : IsService (export ∷ []) (new_world stack) last old new outcome
   pub back : GivesBack (record w { old = between }) words.words.bindings last.stack.leaves synced
 
 -- the stack has no device of that name that a client can be told of

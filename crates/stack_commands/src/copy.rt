@@ -15,6 +15,7 @@ use block_device::{BlockDev, SyncDev};
 use counted_io::Counted;
 use differing_device::Differing;
 use image_files::{Images, OpenImage};
+use progress::Progress;
 use stack_config::DevId;
 use stack_engine::Stack;
 use stack_opening::{StackFile, open_with_output};
@@ -31,13 +32,14 @@ pub struct Output<'a> {
 
 /// `copy [--cache N] [--differing] STACK NAME OUT BINDING...`: copies the sectors that can be had of a device of a stack file
 /// over the bindings to an image, which is synced and given back before the counts are printed.
-pub fn copy_device<'a, I: Images, W: Write>(
+pub fn copy_device<'a, I: Images, W: Write, P: Progress>(
     alloc: Global,
     images: &mut I,
     file: StackFile<'a, '_>,
     device: NamedDevice<'a>,
     output: Output<'a>,
     writer: &mut Counted<W>,
+    progress: &mut P,
 ) -> Result<(), CommandFault<'a>>
     ensures ok { OnOk result (PrintsCopy (calls I.relations I.Dev.state images.old images.new) (copy_words (device_words (stack_words file.entry) device.entry.name.now device.entry.cache) output.entry.path.now output.entry.differing) (W.contents writer.old.inner) (W.contents writer.new.inner)) }
     ensures err { IfErr result (IsCopyEnd (calls I.relations I.Dev.state images.old images.new) (copy_words (device_words (stack_words file.entry) device.entry.name.now device.entry.cache) output.entry.path.now output.entry.differing) (W.contents writer.old.inner) (W.contents writer.new.inner) writer.new.failed) }
@@ -53,7 +55,7 @@ pub fn copy_device<'a, I: Images, W: Write>(
     if image.sectors() < needed {
         return Err(CommandFault::OutputTooSmall { needed });
     }
-    let (image, outcome) = copy_to(&mut stack, device, image, differing, writer);
+    let (image, outcome) = copy_to(&mut stack, device, image, differing, writer, progress);
     images.close(path, image);
     match outcome {
         Ok(counts) => tell_counts(counts, writer),
@@ -62,12 +64,13 @@ pub fn copy_device<'a, I: Images, W: Write>(
 }
 
 // Goes over the device, and copies what is had to an image, which is handed back.
-fn copy_to<'a, D: BlockDev + Drop, O: SyncDev + Drop, W: Write>(
+fn copy_to<'a, D: BlockDev + Drop, O: SyncDev + Drop, W: Write, P: Progress>(
     stack: &mut Stack<D>,
     device: DevId,
     image: O,
     differing: bool,
     writer: &mut Counted<W>,
+    progress: &mut P,
 ) -> (O, Result<Counts, CommandFault<'a>>)
     requires device { device.0 < length stack.old.config.devices }
     requires room { size stack.old.config (mapped device.0) ≤ (O.state image).size }
@@ -77,20 +80,21 @@ fn copy_to<'a, D: BlockDev + Drop, O: SyncDev + Drop, W: Write>(
 {
     if differing {
         let mut compared = Differing::new(image);
-        let outcome = copy_compared(stack, device, &mut compared, writer);
+        let outcome = copy_compared(stack, device, &mut compared, writer, progress);
         return (compared.inner, outcome);
     }
     let mut plain = image;
-    let outcome = copy_sectors(stack, device, &mut plain, writer);
+    let outcome = copy_sectors(stack, device, &mut plain, writer, progress);
     (plain, outcome)
 }
 
 // The same to a device of which only what differs is written.
-fn copy_compared<'a, D: BlockDev + Drop, O: SyncDev + Drop, W: Write>(
+fn copy_compared<'a, D: BlockDev + Drop, O: SyncDev + Drop, W: Write, P: Progress>(
     stack: &mut Stack<D>,
     device: DevId,
     out: &mut Differing<O>,
     writer: &mut Counted<W>,
+    progress: &mut P,
 ) -> Result<Counts, CommandFault<'a>>
     requires device { device.0 < length stack.old.config.devices }
     requires room { size stack.old.config (mapped device.0) ≤ (O.state out.old.inner).size }
@@ -99,7 +103,7 @@ fn copy_compared<'a, D: BlockDev + Drop, O: SyncDev + Drop, W: Write>(
     ensures medium { IfOk result (λ counts. (O.state out.new.inner).dirty ≡ false) }
     ensures err { IfErr result (IsRecoverEnd device.0 (sides stack.old (⟦<Differing<O> as BlockDev>⟧.state out.old) (W.contents writer.old.inner)) (sides stack.new (⟦<Differing<O> as BlockDev>⟧.state out.new) (W.contents writer.new.inner)) writer.new.failed) }
 {
-    let found = recover_device(stack, device, out, writer)?;
+    let found = recover_device(stack, device, out, writer, progress)?;
     let kept = out.sync();
     match kept {
         Ok(()) => Ok(found),
@@ -108,11 +112,12 @@ fn copy_compared<'a, D: BlockDev + Drop, O: SyncDev + Drop, W: Write>(
 }
 
 // Goes over the device, copies what is had to another one, and has that put on the medium.
-fn copy_sectors<'a, D: BlockDev + Drop, O: SyncDev, W: Write>(
+fn copy_sectors<'a, D: BlockDev + Drop, O: SyncDev, W: Write, P: Progress>(
     stack: &mut Stack<D>,
     device: DevId,
     out: &mut O,
     writer: &mut Counted<W>,
+    progress: &mut P,
 ) -> Result<Counts, CommandFault<'a>>
     requires device { device.0 < length stack.old.config.devices }
     requires room { size stack.old.config (mapped device.0) ≤ (O.state out.old).size }
@@ -120,7 +125,7 @@ fn copy_sectors<'a, D: BlockDev + Drop, O: SyncDev, W: Write>(
     ensures ok { IfOk result (λ counts. (image : Device) × Recovers device.0 (sides stack.old (O.state out.old) (W.contents writer.old.inner)) counts (sides stack.new image (W.contents writer.new.inner)) × (O.state out.new ≡ synced image)) }
     ensures err { IfErr result (IsRecoverEnd device.0 (sides stack.old (O.state out.old) (W.contents writer.old.inner)) (sides stack.new (O.state out.new) (W.contents writer.new.inner)) writer.new.failed) }
 {
-    let counts = recover_device(stack, device, out, writer)?;
+    let counts = recover_device(stack, device, out, writer, progress)?;
     match out.sync() {
         Ok(()) => Ok(counts),
         Err(_) => Err(CommandFault::OutputFailed),

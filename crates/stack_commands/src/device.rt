@@ -11,11 +11,12 @@ use crate::ending::say_counts;
 use crate::fault::CommandFault;
 use block_device::BlockDev;
 use counted_io::Counted;
+use progress::Progress;
 use request_queue::SubmitFault;
 use stack_config::DevId;
 use stack_engine::Stack;
 use stack_opening::OpenStack;
-use stack_recovery::{Counts, RecoveryFault, recover};
+use stack_recovery::{Counts, RecoveryFault, recover_with};
 use stack_session::SessionFault;
 use std::alloc::Global;
 use std::io::Write;
@@ -61,11 +62,12 @@ pub fn load_device<'a, D: BlockDev + Drop>(
 }
 
 /// Goes over the device, and copies what is had to another one.
-pub fn recover_device<'a, D: BlockDev + Drop, O: BlockDev, W: Write>(
+pub fn recover_device<'a, D: BlockDev + Drop, O: BlockDev, W: Write, P: Progress>(
     stack: &mut Stack<D>,
     device: DevId,
     out: &mut O,
     writer: &mut Counted<W>,
+    progress: &mut P,
 ) -> Result<Counts, CommandFault<'a>>
     requires device { device.0 < length stack.old.config.devices }
     requires room { size stack.old.config (mapped device.0) ≤ (O.state out.old).size }
@@ -73,7 +75,7 @@ pub fn recover_device<'a, D: BlockDev + Drop, O: BlockDev, W: Write>(
     ensures ok { IfOk result (λ counts. Recovers device.0 (sides stack.old (O.state out.old) (W.contents writer.old.inner)) counts (sides stack.new (O.state out.new) (W.contents writer.new.inner))) }
     ensures err { IfErr result (IsRecoverEnd device.0 (sides stack.old (O.state out.old) (W.contents writer.old.inner)) (sides stack.new (O.state out.new) (W.contents writer.new.inner)) writer.new.failed) }
 {
-    match recover(stack, device, out, writer) {
+    match recover_with(stack, device, out, writer, progress) {
         Ok(counts) => Ok(counts),
         Err(RecoveryFault::NoMemory) => Err(CommandFault::NoMemory),
         Err(RecoveryFault::Output) => Err(CommandFault::OutputFailed),

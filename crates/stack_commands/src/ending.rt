@@ -4,10 +4,11 @@ ghost use Rattle.counted_io.specs.Counted.{Writes};
 ghost use Rattle.stack_commands.specs.Endings.{IsEnd, config_text, counts_text, ending_status, ending_text, outside_text, too_small_text};
 
 use crate::fault::CommandFault;
+use crate::map_texts::say_map_fault;
 use crate::stream_status::{cat_status, store_status};
 use crate::stream_texts::{say_cat_fault, say_store_fault};
 use counted_io::{Counted, WriteFault};
-use io_fault_text::{say_io_fault, say_no_memory, say_refused, say_usage};
+use io_fault_text::{say_io_fault, say_no_memory, say_refused, say_unopened, say_usage};
 use nbd_server::ServiceFault;
 use partition_commands::{partitions_status, say_partitions_fault};
 use stack_engine::IoFault;
@@ -15,7 +16,7 @@ use stack_loader::ConfigFault;
 use stack_session::{say_refusal, say_submit_fault, say_text_fault};
 use std::io::Write;
 use tree_commands::{say_tree_fault, tree_status};
-use verity_commands::{say_unopened, say_verity_fault, verity_status};
+use verity_commands::{say_verity_fault, verity_status};
 
 const REFUSED: u8 = 1;
 
@@ -84,6 +85,7 @@ fn say_fault<W: Write>(writer: &mut Counted<W>, fault: CommandFault<'_>) -> Resu
         CommandFault::Lost { read, lost } => say_counts(writer, read, lost),
         CommandFault::OutputTooSmall { needed } => say_too_small(writer, needed),
         CommandFault::OutputFailed => writer.put(b"refused 2 Device\n"),
+        CommandFault::Map(fault) => say_map_fault(writer, fault),
         CommandFault::Session(_) => Ok(()),
         CommandFault::Service(_) => Ok(()),
     }

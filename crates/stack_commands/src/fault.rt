@@ -4,6 +4,7 @@ ghost use Rattle.stack_commands.specs.declared.fault.CommandFault.TheVariants as
 ghost use Rattle.stack_session.specs.declared.fault.SessionFault.TheVariants as session_fault;
 ghost use Rattle.stack_commands.specs.Endings.{load_ending, opening_ending, text_ending, words_ending};
 
+use crate::by_map::UnkeptMap;
 use command_line::WordsFault;
 use counted_io::WriteFault;
 use dm_table::{ParseFault, TextFault};
@@ -59,6 +60,8 @@ pub enum CommandFault<'a> {
     OutputTooSmall { needed: u64 },
     /// The image to which a device is copied failed.
     OutputFailed,
+    /// A map file isn't read, or what stands by it isn't all gone over.
+    Map(UnkeptMap<'a>),
     /// The session failed, or a line can't be written.
     Session(SessionFault),
     /// The service of a client ended early.

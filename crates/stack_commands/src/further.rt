@@ -6,22 +6,29 @@ ghost use Rattle.command_line.specs.FormatOptions.{option_texts};
 ghost use Rattle.command_line.specs.FurtherRecords.{further_record};
 ghost use Rattle.command_line.specs.words.Cat.{cat_record};
 ghost use Rattle.command_line.specs.words.Copy.{copy_record};
+ghost use Rattle.command_line.specs.words.Exports.{exports_record};
 ghost use Rattle.command_line.specs.words.Scan.{scan_record};
 ghost use Rattle.command_line.specs.words.Store.{store_record};
 ghost use Rattle.image_commands.specs.Drawing.{drawing};
 ghost use Rattle.image_files.specs.Opener.{calls};
-ghost use Rattle.stack_commands.specs.Further.{CatsSectors, CopiesSectors, FailsFurther, IsCatEnd, IsCopyWordsEnd, IsPageEnd, IsScanWordsEnd, IsStoreEnd, ScansSectors, StoresSectors, SucceedsFurther};
+ghost use Rattle.stack_commands.specs.Further.{CatsSectors, CopiesSectors, FailsFurther, IsCatEnd, IsCopyWordsEnd, IsExportsWordsEnd, IsPageEnd, IsScanWordsEnd, IsStoreEnd, ScansSectors, ServesDevices, StoresSectors, SucceedsFurther};
 ghost use Rattle.stack_commands.specs.Uses.{uses};
 
 use crate::cat::{Wanted, cat_device};
 use crate::copy::{Output, copy_device};
 use crate::device::NamedDevice;
 use crate::fault::CommandFault;
+use crate::mapped_copy::copy_by_map;
+use crate::mapped_scan::scan_by_map;
+use crate::nbd::serve_exports;
 use crate::scan::scan_device;
 use crate::store::{Target, store_device};
+use crate::store_file::store_file;
 use crate::verify::check_image;
 use crate::words::stack_file;
-use command_line::{CatWords, CopyWords, Further, OptionWords, ScanWords, StoreWords};
+use command_line::{
+    CatWords, CopyWords, ExportsWords, Further, OptionWords, ScanWords, StoreWords,
+};
 use counted_io::Counted;
 use image_commands::Generators;
 use image_files::Images;
@@ -76,8 +83,9 @@ pub fn invoke_further<'a, I: Images, G: Generators + Progress, S: Read, W: Write
         Further::TableTree(words) => {
             Ok(invoke_table_tree(alloc, images, &words, &options, writer)?)
         }
-        Further::Scan(words) => invoke_scan(alloc, images, words, writer),
-        Further::Copy(words) => invoke_copy(alloc, images, words, writer),
+        Further::Scan(words) => invoke_scan(alloc, images, words, writer, generators),
+        Further::Copy(words) => invoke_copy(alloc, images, words, writer, generators),
+        Further::Exports(words) => invoke_exports(alloc, images, words, reader, writer),
         Further::Manual(command) => show_page(command, writer),
         Further::Version => Ok(print_version(writer)?),
     }
@@ -129,7 +137,7 @@ fn invoke_cat<'a, I: Images, W: Write, P: Progress>(
     cat_device(alloc, images, file, wanted, writer, progress)
 }
 
-// SOURCE is `-`, the input.
+// SOURCE is `-`, the input, or a file.
 fn invoke_store<'a, I: Images, S: Read, W: Write, P: Progress>(
     alloc: Global,
     images: &mut I,
@@ -150,22 +158,24 @@ fn invoke_store<'a, I: Images, S: Read, W: Write, P: Progress>(
         bindings,
         progress: is_shown,
     } = words;
-    if source != "-" {
-        return Err(CommandFault::Usage);
-    }
     if is_shown {
         progress.begin();
     }
     let target = Target { name, first, cache };
     let file = stack_file(stack, &bindings);
-    store_device(alloc, images, file, target, reader, writer, progress)
+    if source == "-" {
+        store_device(alloc, images, file, target, reader, writer, progress)
+    } else {
+        store_file(alloc, images, file, target, source, writer, progress)
+    }
 }
 
-fn invoke_scan<'a, I: Images, W: Write>(
+fn invoke_scan<'a, I: Images, W: Write, P: Progress>(
     alloc: Global,
     images: &mut I,
     words: ScanWords<'a>,
     writer: &mut Counted<W>,
+    progress: &mut P,
 ) -> Result<(), CommandFault<'a>>
     ensures ok { OnOk result (ScansSectors (calls I.relations I.Dev.state images.old images.new) (scan_record words.entry) (W.contents writer.old.inner) (W.contents writer.new.inner)) }
     ensures err { IfErr result (IsScanWordsEnd (calls I.relations I.Dev.state images.old images.new) (scan_record words.entry) (W.contents writer.old.inner) (W.contents writer.new.inner) writer.new.failed) }
@@ -175,16 +185,26 @@ fn invoke_scan<'a, I: Images, W: Write>(
         stack,
         name,
         bindings,
+        map,
+        progress: is_shown,
     } = words;
+    if is_shown {
+        progress.begin();
+    }
     let file = stack_file(stack, &bindings);
-    scan_device(alloc, images, file, NamedDevice { name, cache }, writer)
+    let device = NamedDevice { name, cache };
+    match map {
+        None => scan_device(alloc, images, file, device, writer, progress),
+        Some(map) => scan_by_map(alloc, images, file, device, map, writer, progress),
+    }
 }
 
-fn invoke_copy<'a, I: Images, W: Write>(
+fn invoke_copy<'a, I: Images, W: Write, P: Progress>(
     alloc: Global,
     images: &mut I,
     words: CopyWords<'a>,
     writer: &mut Counted<W>,
+    progress: &mut P,
 ) -> Result<(), CommandFault<'a>>
     ensures ok { OnOk result (CopiesSectors (calls I.relations I.Dev.state images.old images.new) (copy_record words.entry) (W.contents writer.old.inner) (W.contents writer.new.inner)) }
     ensures err { IfErr result (IsCopyWordsEnd (calls I.relations I.Dev.state images.old images.new) (copy_record words.entry) (W.contents writer.old.inner) (W.contents writer.new.inner) writer.new.failed) }
@@ -196,18 +216,46 @@ fn invoke_copy<'a, I: Images, W: Write>(
         name,
         out,
         bindings,
+        map,
+        progress: is_shown,
     } = words;
+    if is_shown {
+        progress.begin();
+    }
     let file = stack_file(stack, &bindings);
+    let device = NamedDevice { name, cache };
     let output = Output {
         path: out,
         differing,
     };
-    copy_device(
+    match map {
+        None => copy_device(alloc, images, file, device, output, writer, progress),
+        Some(map) => copy_by_map(alloc, images, file, device, output, map, writer, progress),
+    }
+}
+
+fn invoke_exports<'a, I: Images, S: Read, W: Write>(
+    alloc: Global,
+    images: &mut I,
+    words: ExportsWords<'a>,
+    reader: &mut Counted<S>,
+    writer: &mut Counted<W>,
+) -> Result<(), CommandFault<'a>>
+    ensures ok { OnOk result (ServesDevices (calls I.relations I.Dev.state images.old images.new) (exports_record words.entry) (streams (S.remaining reader.old.inner) (W.contents writer.old.inner)) (streams (S.remaining reader.new.inner) (W.contents writer.new.inner))) }
+    ensures err { IfErr result (IsExportsWordsEnd (calls I.relations I.Dev.state images.old images.new) (exports_record words.entry) (streams (S.remaining reader.old.inner) (W.contents writer.old.inner)) (streams (S.remaining reader.new.inner) (W.contents writer.new.inner)) writer.new.failed) }
+{
+    let ExportsWords {
+        cache,
+        stack,
+        bindings,
+    } = words;
+    serve_exports(
         alloc,
         images,
-        file,
-        NamedDevice { name, cache },
-        output,
+        cache,
+        stack,
+        bindings.as_slice(),
+        reader,
         writer,
     )
 }

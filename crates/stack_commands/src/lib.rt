@@ -1,6 +1,7 @@
 //! The commands of the program: words and a reader in, a written text and a status out.
 #![tactic(auto)]
 
+mod by_map;
 mod cat;
 mod closing;
 mod configuration;
@@ -10,6 +11,9 @@ mod ending;
 mod fault;
 mod further;
 mod load;
+mod map_texts;
+mod mapped_copy;
+mod mapped_scan;
 mod nbd;
 mod program;
 mod read;
@@ -17,6 +21,7 @@ mod request;
 mod scan;
 mod serve;
 mod store;
+mod store_file;
 mod stream_status;
 mod stream_texts;
 mod verify;

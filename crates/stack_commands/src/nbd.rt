@@ -1,4 +1,4 @@
-//! The command `nbd`: serves a device to a client of the NBD protocol.
+//! The command `nbd`: serves a device, or each device, of a stack to a client of the NBD protocol.
 ghost use Rattle.std.specs.Prelude.{◌≡◌, ◌≤◌, ◌^◌, length, map, Ok, OnOk, IfOk, IfErr};
 ghost use Rattle.counted_io.specs.Streams.{streams};
 ghost use Rattle.command_line.specs.Bindings.{binding_record};
@@ -7,7 +7,8 @@ ghost use Rattle.stack_meaning.specs.Leaves.{ServeLeaves};
 ghost use Rattle.stack_engine.specs.Stacks.{StackRecord};
 ghost use Rattle.stack_commands.specs.StacksOfTexts.{FailsToLoad, IsStackOf};
 ghost use Rattle.stack_commands.specs.Requests.{new_world};
-ghost use Rattle.stack_commands.specs.StackCommands.{IsClientEnd, ServesClient, device_on};
+ghost use Rattle.stack_commands.specs.StackCommands.{IsClientEnd, ServesClient, device_on, on};
+ghost use Rattle.stack_commands.specs.ManyExports.{IsExportsEnd, ServesExports};
 
 use crate::closing::sync_and_close;
 use crate::configuration::load_stack;
@@ -16,7 +17,8 @@ use block_device::BlockDev;
 use command_line::{Binding, ServedDevice};
 use counted_io::Counted;
 use image_files::Images;
-use nbd_server::{Export, serve};
+use nbd_protocol::{Export, exports_of, names_of};
+use nbd_server::serve;
 use request_queue::{Queue, SubmitFault};
 use stack_opening::{OpenStack, StackFile, open_stack};
 use std::alloc::Global;
@@ -44,7 +46,38 @@ pub fn serve_client<'a, I: Images, R: Read, W: Write>(
     let Some(export) = Export::of(queue.stack().config(), device.name.as_bytes()) else {
         return Err(CommandFault::Submit(SubmitFault::NoSuchDevice));
     };
-    let outcome = serve(alloc, &mut queue, &export, reader, writer);
+    let outcome = serve(alloc, &mut queue, &[export], reader, writer);
+    let synced = sync_and_close(images, bindings, queue.into_stack());
+    outcome?;
+    Ok(synced?)
+}
+
+/// `nbd --all [--cache N] STACK BINDING...`: each device of a stack file over the bindings, under its name; the images are
+/// synced and given back at the end.
+pub fn serve_exports<'a, I: Images, R: Read, W: Write>(
+    alloc: Global,
+    images: &mut I,
+    cache: u32,
+    stack: &'a str,
+    bindings: &[Binding<'a>],
+    reader: &mut Counted<R>,
+    writer: &mut Counted<W>,
+) -> Result<(), CommandFault<'a>>
+    ensures ok { OnOk result (ServesExports (calls I.relations I.Dev.state images.old images.new) (on stack.now (map binding_record bindings.now)) cache (streams (R.remaining reader.old.inner) (W.contents writer.old.inner)) (streams (R.remaining reader.new.inner) (W.contents writer.new.inner)) (Ok tt) (Ok tt)) }
+    ensures err { IfErr result (IsExportsEnd (calls I.relations I.Dev.state images.old images.new) (on stack.now (map binding_record bindings.now)) cache (streams (R.remaining reader.old.inner) (W.contents writer.old.inner)) (streams (R.remaining reader.new.inner) (W.contents writer.new.inner)) writer.new.failed) }
+{
+    let file = StackFile {
+        path: stack,
+        bindings,
+    };
+    let over = open_stack(alloc, images, file)?;
+    let mut queue = queue_over(alloc, over, cache)?;
+    let config = queue.stack().config();
+    let names = names_of(alloc, config)?;
+    let listed = names.as_slice();
+    let exports = exports_of(alloc, config, listed)?;
+    let offered = exports.as_slice();
+    let outcome = serve(alloc, &mut queue, offered, reader, writer);
     let synced = sync_and_close(images, bindings, queue.into_stack());
     outcome?;
     Ok(synced?)

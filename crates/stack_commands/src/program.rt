@@ -167,7 +167,7 @@ fn invoke<'a, I: Images, G: Generators + Progress, S: Read, W: Write>(
                 name,
                 cache: CACHED_BLOCKS,
             };
-            scan_device(alloc, images, file, device, writer)
+            scan_device(alloc, images, file, device, writer, generators)
         }
         Invocation::Copy {
             stack,
@@ -184,7 +184,7 @@ fn invoke<'a, I: Images, G: Generators + Progress, S: Read, W: Write>(
                 path: out,
                 differing: false,
             };
-            copy_device(alloc, images, file, device, output, writer)
+            copy_device(alloc, images, file, device, output, writer, generators)
         }
         Invocation::Nbd { device, bindings } => {
             serve_client(alloc, images, device, bindings.as_slice(), reader, writer)

@@ -1,9 +1,6 @@
 -- What is printed of commands on hash trees that end early, and their status.
 use Rattle.std.specs.Prelude.{ℕ, List, [], ◌++◌, codes, decimal}
-use Rattle.block_device.specs.declared.open_fault.OpenFault.{OpenFault}
-use Rattle.block_device.specs.declared.open_fault.OpenFault.TheVariants as opening
-use Rattle.block_device.specs.OpenFault.{open_number, open_name}
-use Rattle.image_files.specs.declared.opening.UnopenedFile.{UnopenedFile}
+use Rattle.io_fault_text.specs.Opening.{open_text}
 use Rattle.io_fault_text.specs.Texts.{kind_then, no_memory}
 use Rattle.tree_commands.specs.declared.fault.TreeFault.{TreeFault}
 use Rattle.tree_commands.specs.declared.fault.TreeFault.TheVariants as trees
@@ -18,14 +15,6 @@ use Rattle.tree_survey.specs.declared.fault.SurveyFault.TheVariants as survey
 use Rattle.verity_format.specs.declared.verifying.VerifyFault.{VerifyFault}
 use Rattle.verity_format.specs.declared.verifying.VerifyFault.TheVariants as verify
 use Rattle.verity_format.specs.FaultNames.{verify_number, verify_name}
-
--- a file that isn't opened, with its path
-abbrev pub unopened_text : OpenFault → List ℕ → List ℕ
-unopened_text opening.NoMemory path = no_memory
-unopened_text fault path = codes "refused " ++ kind_then (open_number fault) (open_name fault) (codes " " ++ (path ++ codes "\n"))
-
-abbrev pub open_text : UnopenedFile → List ℕ
-open_text file = unopened_text file.fault file.path.now
 
 -- ---- trees that aren't compared
 

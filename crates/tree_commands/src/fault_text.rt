@@ -2,13 +2,11 @@
 //! that aren't good.
 ghost use Rattle.std.specs.Prelude.{◌≡◌};
 ghost use Rattle.counted_io.specs.Counted.{Writes};
-ghost use Rattle.tree_commands.specs.FaultTexts.{difference_text, hash_image_text, image_text, open_text, survey_text, tree_status, tree_text, unlike_text, which_name};
+ghost use Rattle.tree_commands.specs.FaultTexts.{difference_text, hash_image_text, image_text, survey_text, tree_status, tree_text, unlike_text, which_name};
 
 use crate::fault::TreeFault;
-use block_device::OpenFault;
 use counted_io::{Counted, WriteFault};
-use image_files::UnopenedFile;
-use io_fault_text::say_no_memory;
+use io_fault_text::{say_no_memory, say_unopened};
 use std::io::Write;
 use tree_difference::{DifferenceFault, Unlike, Which};
 use tree_survey::SurveyFault;
@@ -45,19 +43,6 @@ pub fn tree_status(fault: TreeFault<'_>) -> u8
             FAULT,
         _ => REFUSED,
     }
-}
-
-// `refused K NAME PATH`
-fn say_unopened<W: Write>(writer: &mut Counted<W>, file: UnopenedFile<'_>) -> Result<(), WriteFault>
-    ensures { Writes W.contents writer.old writer.new (open_text file.entry) result }
-{
-    let UnopenedFile { fault, path } = file;
-    if fault == OpenFault::NoMemory {
-        return say_no_memory(writer);
-    }
-    let number = fault.number();
-    let name = fault.name();
-    writer.print(format_args!("refused {number} {name} {path}\n"))
 }
 
 fn say_difference_fault<W: Write>(

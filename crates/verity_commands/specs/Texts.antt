@@ -1,11 +1,7 @@
--- The texts of files that aren't opened, and of refusals and differences of verity images.
+-- The texts of refusals and differences of verity images.
 use Rattle.std.specs.Prelude.{ℕ, List, [], ◌++◌, codes, decimal}
-use Rattle.block_device.specs.declared.open_fault.OpenFault.{OpenFault}
-use Rattle.block_device.specs.declared.open_fault.OpenFault.TheVariants as opening
-use Rattle.block_device.specs.OpenFault.{open_number, open_name}
 use Rattle.image_commands.specs.declared.fault.ImageFault.{ImageFault}
 use Rattle.image_commands.specs.declared.fault.ImageFault.TheVariants as image
-use Rattle.image_files.specs.declared.opening.UnopenedFile.{UnopenedFile}
 use Rattle.verity_format.specs.declared.formatting.FormatFault.{FormatFault}
 use Rattle.verity_format.specs.declared.formatting.FormatFault.TheVariants as format
 use Rattle.verity_format.specs.declared.verifying.VerifyFault.{VerifyFault}
@@ -13,17 +9,10 @@ use Rattle.verity_format.specs.declared.verifying.VerifyFault.TheVariants as ver
 use Rattle.verity_format.specs.declared.verifying.Verdict.{Verdict}
 use Rattle.verity_format.specs.declared.verifying.Verdict.TheVariants as verdict
 use Rattle.verity_format.specs.FaultNames.{format_number, format_name, verify_number, verify_name}
+use Rattle.io_fault_text.specs.Opening.{open_text}
 use Rattle.io_fault_text.specs.Texts.{kind_then, no_memory, refused_text, usage_text}
 use Rattle.verity_commands.specs.declared.fault.VerityFault.{VerityFault}
 use Rattle.verity_commands.specs.declared.fault.VerityFault.TheVariants as verity
-
--- a file that isn't opened, with its path
-abbrev pub refused_file_text : OpenFault → List ℕ → List ℕ
-refused_file_text opening.NoMemory path = no_memory
-refused_file_text fault path = codes "refused " ++ kind_then (open_number fault) (open_name fault) (codes " " ++ (path ++ codes "\n"))
-
-abbrev pub open_text : UnopenedFile → List ℕ
-open_text file = refused_file_text file.fault file.path.now
 
 -- an image that isn't made, and what it needs
 abbrev pub format_text : FormatFault → List ℕ

@@ -15,5 +15,5 @@ pub use images::invoke_on_images;
 pub use placed::{invoke_dump, invoke_format, invoke_table, invoke_verify};
 pub use places::{root_in, sector_at};
 pub use status::verity_status;
-pub use texts::{say_image_fault, say_unopened, say_verity_fault};
+pub use texts::{say_image_fault, say_verity_fault};
 pub use trees::{invoke_format_tree, invoke_table_tree, invoke_verify_tree};

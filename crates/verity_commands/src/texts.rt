@@ -1,14 +1,12 @@
-//! What is printed of commands on verity images that end early, and of files that aren't opened.
+//! What is printed of commands on verity images that end early.
 ghost use Rattle.std.specs.Prelude.{◌≡◌};
 ghost use Rattle.counted_io.specs.Counted.{Writes};
-ghost use Rattle.verity_commands.specs.Texts.{format_text, image_text, open_text, verdict_text, verify_text, verity_text};
+ghost use Rattle.verity_commands.specs.Texts.{format_text, image_text, verdict_text, verify_text, verity_text};
 
 use crate::fault::VerityFault;
-use block_device::OpenFault;
 use counted_io::{Counted, WriteFault};
 use image_commands::ImageFault;
-use image_files::UnopenedFile;
-use io_fault_text::{say_no_memory, say_refused, say_usage};
+use io_fault_text::{say_no_memory, say_refused, say_unopened, say_usage};
 use std::io::Write;
 use verity_format::{FormatFault, Verdict, VerifyFault};
 
@@ -23,22 +21,6 @@ pub fn say_verity_fault<W: Write>(
         VerityFault::Usage => say_usage(writer),
         VerityFault::Image(fault) => say_image_fault(writer, fault),
     }
-}
-
-/// `refused K NAME PATH`
-pub fn say_unopened<W: Write>(
-    writer: &mut Counted<W>,
-    file: UnopenedFile<'_>,
-) -> Result<(), WriteFault>
-    ensures { Writes W.contents writer.old writer.new (open_text file.entry) result }
-{
-    let UnopenedFile { fault, path } = file;
-    if fault == OpenFault::NoMemory {
-        return say_no_memory(writer);
-    }
-    let number = fault.number();
-    let name = fault.name();
-    writer.print(format_args!("refused {number} {name} {path}\n"))
 }
 
 /// One line, or none where that can't be written.

@@ -1,9 +1,9 @@
--- What `copy [--cache N] [--differing] STACK NAME OUT BINDING...` says.
+-- What `copy [--cache N] [--differing] [--map FILE] [--progress] STACK NAME OUT BINDING...` says.
 use Rattle.std.specs.Prelude.{Bool, List, None, Option, Some, map, ℕ, ◌∷◌}
 use Rattle.command_line.specs.Bindings.{BindingRecord, binding_record}
 use Rattle.command_line.specs.BindingWords.{bindings_of}
-use Rattle.command_line.specs.FormatOptions.{OptionTexts}
-use Rattle.command_line.specs.Values.{cache_of, when}
+use Rattle.command_line.specs.FormatOptions.{OptionTexts, text_of}
+use Rattle.command_line.specs.Values.{cache_of, map_of, when}
 use Rattle.command_line.specs.declared.words.copy.CopyWords.{CopyWords}
 
 pub record CopyRecord : Type 0 where
@@ -13,10 +13,13 @@ pub record CopyRecord : Type 0 where
   pub name : List ℕ
   pub out : List ℕ
   pub bindings : List BindingRecord
+  pub map : Option (List ℕ)
+  pub progress : Bool
 
 unfoldable pub copy_said : OptionTexts → List (List ℕ) → Option CopyRecord
 copy_said texts (stack ∷ name ∷ out ∷ words) =
     when (cache_of texts.cache) (λ cache.
+    when (map_of texts.map) (λ path.
     when (bindings_of words) (λ bindings. Some (record {
       cache = cache;
       differing = texts.differing;
@@ -24,7 +27,9 @@ copy_said texts (stack ∷ name ∷ out ∷ words) =
       name = name;
       out = out;
       bindings = bindings;
-    })))
+      map = path;
+      progress = texts.progress;
+    }))))
 copy_said texts words = None
 
 -- what the program's own value says
@@ -36,4 +41,6 @@ copy_record w = record {
   name = w.name.now;
   out = w.out.now;
   bindings = map binding_record w.bindings.items;
+  map = text_of w.map;
+  progress = w.progress;
 }

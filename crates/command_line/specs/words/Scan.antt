@@ -1,9 +1,9 @@
--- What `scan [--cache N] STACK NAME BINDING...` says.
-use Rattle.std.specs.Prelude.{List, None, Option, Some, map, ℕ, ◌∷◌}
+-- What `scan [--cache N] [--map FILE] [--progress] STACK NAME BINDING...` says.
+use Rattle.std.specs.Prelude.{Bool, List, None, Option, Some, map, ℕ, ◌∷◌}
 use Rattle.command_line.specs.Bindings.{BindingRecord, binding_record}
 use Rattle.command_line.specs.BindingWords.{bindings_of}
-use Rattle.command_line.specs.FormatOptions.{OptionTexts}
-use Rattle.command_line.specs.Values.{cache_of, when}
+use Rattle.command_line.specs.FormatOptions.{OptionTexts, text_of}
+use Rattle.command_line.specs.Values.{cache_of, map_of, when}
 use Rattle.command_line.specs.declared.words.scan.ScanWords.{ScanWords}
 
 pub record ScanRecord : Type 0 where
@@ -11,16 +11,21 @@ pub record ScanRecord : Type 0 where
   pub stack : List ℕ
   pub name : List ℕ
   pub bindings : List BindingRecord
+  pub map : Option (List ℕ)
+  pub progress : Bool
 
 unfoldable pub scan_said : OptionTexts → List (List ℕ) → Option ScanRecord
 scan_said texts (stack ∷ name ∷ words) =
     when (cache_of texts.cache) (λ cache.
+    when (map_of texts.map) (λ path.
     when (bindings_of words) (λ bindings. Some (record {
       cache = cache;
       stack = stack;
       name = name;
       bindings = bindings;
-    })))
+      map = path;
+      progress = texts.progress;
+    }))))
 scan_said texts words = None
 
 -- what the program's own value says
@@ -30,4 +35,6 @@ scan_record w = record {
   stack = w.stack.now;
   name = w.name.now;
   bindings = map binding_record w.bindings.items;
+  map = text_of w.map;
+  progress = w.progress;
 }

@@ -1,4 +1,4 @@
-//! `copy [--cache N] [--differing] STACK NAME OUT BINDING...`
+//! `copy [--cache N] [--differing] [--map FILE] [--progress] STACK NAME OUT BINDING...`
 ghost use Rattle.std.specs.Prelude.{option_map};
 ghost use Rattle.command_line.specs.FurtherRecords.{copy};
 ghost use Rattle.command_line.specs.Reading.{Reads};
@@ -10,10 +10,11 @@ use crate::bindings::Binding;
 use crate::fault::WordsFault;
 use crate::further::Further;
 use crate::option_words::OptionWords;
-use crate::values::cache_of;
+use crate::values::{cache_of, map_of};
 use std::alloc::Global;
 
-/// What can be had of a device is copied: with `differing` only what isn't there yet.
+/// What can be had of a device is copied: with `differing` only what isn't there yet, where a map is kept but for what
+/// that says was had.
 #[derive(Drop)]
 pub struct CopyWords<'a> {
     pub cache: u32,
@@ -22,9 +23,11 @@ pub struct CopyWords<'a> {
     pub name: &'a str,
     pub out: &'a str,
     pub bindings: Vec<Binding<'a>>,
+    pub map: Option<&'a str>,
+    pub progress: bool,
 }
 
-/// `[--cache N] [--differing] STACK NAME OUT BINDING...`
+/// `[--cache N] [--differing] [--map FILE] [--progress] STACK NAME OUT BINDING...`
 #[tactic(auto, unfolding(crate::specs::words::Copy::copy_said))]
 pub fn copy_of<'a>(
     alloc: Global,
@@ -39,6 +42,9 @@ pub fn copy_of<'a>(
     let Some(cache) = cache_of(options.cache) else {
         return Err(WordsFault::Usage);
     };
+    let Some(map) = map_of(options.map) else {
+        return Err(WordsFault::Usage);
+    };
     match bindings_of(alloc, rest) {
         Ok(bindings) => Ok(Further::Copy(CopyWords {
             cache,
@@ -47,6 +53,8 @@ pub fn copy_of<'a>(
             name,
             out,
             bindings,
+            map,
+            progress: options.progress,
         })),
         Err(fault) => Err(fault),
     }

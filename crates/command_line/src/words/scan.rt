@@ -1,4 +1,4 @@
-//! `scan [--cache N] STACK NAME BINDING...`
+//! `scan [--cache N] [--map FILE] [--progress] STACK NAME BINDING...`
 ghost use Rattle.std.specs.Prelude.{option_map};
 ghost use Rattle.command_line.specs.FurtherRecords.{scan};
 ghost use Rattle.command_line.specs.Reading.{Reads};
@@ -10,19 +10,21 @@ use crate::bindings::Binding;
 use crate::fault::WordsFault;
 use crate::further::Further;
 use crate::option_words::OptionWords;
-use crate::values::cache_of;
+use crate::values::{cache_of, map_of};
 use std::alloc::Global;
 
-/// A device is gone over.
+/// A device is gone over, where a map is kept but for what that says was had.
 #[derive(Drop)]
 pub struct ScanWords<'a> {
     pub cache: u32,
     pub stack: &'a str,
     pub name: &'a str,
     pub bindings: Vec<Binding<'a>>,
+    pub map: Option<&'a str>,
+    pub progress: bool,
 }
 
-/// `[--cache N] STACK NAME BINDING...`
+/// `[--cache N] [--map FILE] [--progress] STACK NAME BINDING...`
 #[tactic(auto, unfolding(crate::specs::words::Scan::scan_said))]
 pub fn scan_of<'a>(
     alloc: Global,
@@ -37,12 +39,17 @@ pub fn scan_of<'a>(
     let Some(cache) = cache_of(options.cache) else {
         return Err(WordsFault::Usage);
     };
+    let Some(map) = map_of(options.map) else {
+        return Err(WordsFault::Usage);
+    };
     match bindings_of(alloc, rest) {
         Ok(bindings) => Ok(Further::Scan(ScanWords {
             cache,
             stack,
             name,
             bindings,
+            map,
+            progress: options.progress,
         })),
         Err(fault) => Err(fault),
     }

@@ -26,8 +26,8 @@ pub struct StoreWords<'a> {
     pub progress: bool,
 }
 
-// Whether it is the standard input.
-fn is_input(word: &str) -> bool
+/// Whether it is the standard input.
+pub(crate) fn is_input(word: &str) -> bool
     ensures { result ≡ bytes_eq word.now (codes "-") }
 {
     word.as_bytes() == b"-".as_slice()

@@ -4,9 +4,10 @@ use Rattle.stack_commands.specs.declared.fault.CommandFault.TheVariants.{Io, Ser
 use Rattle.stack_rules.specs.Records.{Configuration}
 use Rattle.stack_engine.specs.Stacks.{StackRecord}
 use Rattle.request_queue.specs.World.{World}
-use Rattle.nbd_server.specs.Exports.{HasNoExport, IsExport, export_record}
+use Rattle.nbd_protocol.specs.Exports.{HasNoExport, IsExport, export_record}
 use Rattle.stack_commands.specs.Endings.{opening_ending}
 use Rattle.stack_commands.proofs.OpeningLemmas.{err-from}
+use Rattle.nbd_protocol.proofs.lemmas.ExportLemmas.{only-export}
 use Rattle.stack_commands.proofs.ServeLemmas.{client-served}
 use Rattle.stack_commands.proofs.nbd.serve_client.Goals as goal
 
@@ -62,3 +63,9 @@ returns-clause-ok g c =
     let named = ap (λ (b : Bor (List ℕ)). b.now) c.in-Some.ensures.some.1 ∙ c.as_bytes.ensures.value in
     client-served _ c.open_stack.new.images _ c.in_ok-over.over made.0 c.in_ok-queue.queue c.serve-outcome.new.queue e _ _ _ _
     c.in_ok-over.ensures.ok made.1 made.2 made.3 (subst (λ (x : Configuration). IsExport x e) at c.in-Some.ensures.some.0) named c.in_ok-outcome.ensures.service (rw c.into_stack.ensures at c.in_ok-synced.ensures)
+
+pub serve-outcome-requires : goal.serve-outcome-requires
+serve-outcome-requires g c =
+    let e = export_record c.in-Some.export in
+    let at = c.config.ensures.value ∙ ap (λ (v : StackRecord). v.config) c.stack.ensures in
+    only-export _ c.in-Some.export (subst (λ (x : Configuration). IsExport x e) at c.in-Some.ensures.some.0)

@@ -1,0 +1,25 @@
+//! Writes which file isn't opened, and why.
+ghost use Rattle.counted_io.specs.Counted.{Writes};
+ghost use Rattle.io_fault_text.specs.Opening.{open_text};
+
+use crate::say::say_no_memory;
+use block_device::OpenFault;
+use counted_io::{Counted, WriteFault};
+use image_files::UnopenedFile;
+use std::io::Write;
+
+/// `refused K NAME PATH`, or `no memory`.
+pub fn say_unopened<W: Write>(
+    writer: &mut Counted<W>,
+    file: UnopenedFile<'_>,
+) -> Result<(), WriteFault>
+    ensures { Writes W.contents writer.old writer.new (open_text file.entry) result }
+{
+    let UnopenedFile { fault, path } = file;
+    if fault == OpenFault::NoMemory {
+        return say_no_memory(writer);
+    }
+    let number = fault.number();
+    let name = fault.name();
+    writer.print(format_args!("refused {number} {name} {path}\n"))
+}

@@ -1,0 +1,51 @@
+-- `nbd --all`: each device of a stack is an export under its name.
+use Rattle.std.specs.Prelude.{◌≡◌, ◌⊎◌, ℕ, Bool, true, List, Result, Ok, Err}
+use Rattle.counted_io.specs.Streams.{Streams}
+use Rattle.image_files.specs.Opener.{Calls}
+use Rattle.nbd_protocol.specs.Exports.{ExportRecord}
+use Rattle.nbd_protocol.specs.Offers.{AreNames, Offers}
+use Rattle.nbd_protocol.specs.declared.fault.ServiceFault.{ServiceFault}
+use Rattle.nbd_protocol.specs.declared.fault.ServiceFault.TheVariants as service_fault
+use Rattle.nbd_server.specs.Service.{IsService}
+use Rattle.request_queue.specs.World.{World}
+use Rattle.stack_engine.specs.Stacks.{StackRecord}
+use Rattle.stack_meaning.specs.declared.fault.IoFault.{IoFault}
+use Rattle.stack_opening.specs.OpenStacks.{StackWords}
+use Rattle.stack_commands.specs.declared.fault.CommandFault.{CommandFault}
+use Rattle.stack_commands.specs.declared.fault.CommandFault.TheVariants.{Service}
+use Rattle.stack_commands.specs.Closings.{GivesBack}
+use Rattle.stack_commands.specs.Requests.{new_world}
+use Rattle.stack_commands.specs.StackCommands.{IsStackEnd, IsSyncEnd, Loads}
+use Rattle.stack_commands.specs.StacksOfTexts.{FailsToLoad}
+
+-- the exports of a stack are its devices under their names, in their order
+pub record AreOffered (stack : StackRecord) (exports : List ExportRecord) : Type 0 where
+  pub names : List (List ℕ)
+  pub named : AreNames stack.config.devices names
+  pub offered : Offers stack.config names exports
+
+-- The service of a client, over each device of the stack. What then stood in the images was given back, synced or not.
+pub record ServesExports {S D : Type 0} (w : Calls S D) (words : StackWords) (cache : ℕ) (old new : Streams) (outcome : Result Unit ServiceFault) (synced : Result Unit IoFault) : Type 0 where
+  pub stack : StackRecord
+  pub exports : List ExportRecord
+  pub last : World
+  pub between : S
+  pub loaded : Loads (record w { new = between }) words stack
+  pub cached : stack.capacity ≡ cache
+  pub offered : AreOffered stack exports
+  pub served : IsService exports (new_world stack) last old new outcome
+  pub back : GivesBack (record w { old = between }) words.bindings last.stack.leaves synced
+
+-- the service itself ended early, as by a failure of the writer
+pub record FailsToServeExports {S D : Type 0} (w : Calls S D) (words : StackWords) (cache : ℕ) (old new : Streams) (failed : Bool) (fault : CommandFault) : Type 0 where
+  pub service : ServiceFault
+  pub synced : Result Unit IoFault
+  pub served : ServesExports w words cache old new (Err service) synced
+  pub is : fault ≡ Service service
+  pub written : service ≡ service_fault.WriteFault → failed ≡ true
+
+-- The service ends early: nothing was served; or by its own fault; or all was served, and then an image isn't synced.
+abbrev pub IsExportsEnd : {S D : Type 0} → Calls S D → StackWords → ℕ → Streams → Streams → Bool → CommandFault → Type 0
+IsExportsEnd w words cache old new failed fault =
+    ((new ≡ old) × IsStackEnd w words FailsToLoad fault)
+    ⊎ (FailsToServeExports w words cache old new failed fault ⊎ IsSyncEnd (ServesExports w words cache old new (Ok tt)) fault)

@@ -1,0 +1,114 @@
+-- What `scan` and `copy` do with a map file, and how they end early.
+use Rattle.std.specs.Prelude.{◌≡◌, ◌⊎◌, ℕ, Bool, List, Option}
+use Rattle.block_device.specs.Device.{Device}
+use Rattle.image_files.specs.declared.images.OpenImage.{OpenImage}
+use Rattle.image_files.specs.Opener.{Calls}
+use Rattle.rescue_files.specs.declared.fault.RescueFault.{RescueFault}
+use Rattle.stack_engine.specs.Stacks.{StackRecord}
+use Rattle.stack_recovery.specs.declared.recovery.Counts.{Counts}
+use Rattle.stack_recovery.specs.Recoveries.{Sides, sides}
+use Rattle.stack_commands.specs.declared.fault.CommandFault.{CommandFault}
+use Rattle.stack_commands.specs.ByMap.{IsMapEnd, IsRescued, IsUnrescued, Moving, moving}
+use Rattle.stack_commands.specs.Recoveries.{CopyWords, FailsToFind, Finds, FindsOutput, IsSeenAs, IsUncopied, Place}
+use Rattle.stack_commands.specs.Recovering.{IsCountsEnd, TellsCounts}
+use Rattle.stack_commands.specs.StackCommands.{DeviceWords, IsStackEnd}
+
+-- ---- `scan --map`
+
+-- the device was gone over by its map
+pub record ScansByMap {S D : Type 0} (w : Calls S D) (words : DeviceWords) (map : List ℕ) (old : Option (List ℕ)) (counts : Counts) (printed : Option (List ℕ)) : Type 0 where
+  pub at : Place
+  pub out : Device
+  pub left : Sides
+  pub between : S
+  pub found : Finds (record w { new = between }) words at
+  pub rescued : IsRescued (record w { old = between }) map at.d (moving (sides at.stack out old) left) counts
+  pub same : left.printed ≡ printed
+
+-- no sector is lost, and the counts were printed
+pub record PrintsMappedScan {S D : Type 0} (w : Calls S D) (words : DeviceWords) (map : List ℕ) (old new : Option (List ℕ)) : Type 0 where
+  pub counts : Counts
+  pub printed : Option (List ℕ)
+  pub scanned : ScansByMap w words map old counts printed
+  pub told : TellsCounts counts printed new
+
+-- the map isn't read, or the going over ended early
+pub record CutsScan {S D : Type 0} (w : Calls S D) (words : DeviceWords) (map : List ℕ) (old new : Option (List ℕ)) (failed : Bool) (fault : CommandFault) : Type 0 where
+  pub at : Place
+  pub out : Device
+  pub left : Sides
+  pub between : S
+  pub found : Finds (record w { new = between }) words at
+  pub fails : IsMapEnd map (IsUnrescued (record w { old = between }) map at.d (moving (sides at.stack out old) left) failed) fault
+  pub same : left.printed ≡ new
+
+-- sectors are lost, or the counts can't be written
+pub record LosesByMap {S D : Type 0} (w : Calls S D) (words : DeviceWords) (map : List ℕ) (old new : Option (List ℕ)) (failed : Bool) (fault : CommandFault) : Type 0 where
+  pub counts : Counts
+  pub printed : Option (List ℕ)
+  pub scanned : ScansByMap w words map old counts printed
+  pub ends : IsCountsEnd counts printed new failed fault
+
+abbrev pub IsMappedScanEnd : {S D : Type 0} → Calls S D → DeviceWords → List ℕ → Option (List ℕ) → Option (List ℕ) → Bool → CommandFault → Type 0
+IsMappedScanEnd w words map old new failed fault =
+    ((new ≡ old) × IsStackEnd w words.words (FailsToFind w.state words.name) fault)
+    ⊎ (CutsScan w words map old new failed fault ⊎ LosesByMap w words map old new failed fault)
+
+-- ---- `copy --map`
+
+-- A device was gone over by its map to a device that OUT is seen as: of the sides those of OUT itself are told.
+pub record CopiesByMap {S D : Type 0} (is_differing : Bool) (w : Calls S D) (map : List ℕ) (d : ℕ) (m : Moving) (counts : Counts) : Type 0 where
+  pub seen : Device
+  pub left : Device
+  pub begun : IsSeenAs is_differing m.old.out seen
+  pub rescued : IsRescued w map d (moving (record m.old { out = seen }) (record m.new { out = left })) counts
+  pub ended : IsSeenAs is_differing m.new.out left
+
+-- the map isn't read, or the going over ended early
+pub record CutsCopying {S D : Type 0} (is_differing : Bool) (w : Calls S D) (map : List ℕ) (d : ℕ) (m : Moving) (failed : Bool) (fault : RescueFault) : Type 0 where
+  pub seen : Device
+  pub left : Device
+  pub begun : IsSeenAs is_differing m.old.out seen
+  pub fails : IsUnrescued w map d (moving (record m.old { out = seen }) (record m.new { out = left })) failed fault
+  pub ended : IsSeenAs is_differing m.new.out left
+
+-- what was had went to OUT's image, which was given back
+pub record MapCopies {S D : Type 0} (w : Calls S D) (words : CopyWords) (map : List ℕ) (old : Option (List ℕ)) (counts : Counts) (printed : Option (List ℕ)) : Type 0 where
+  pub at : Place
+  pub image : OpenImage D
+  pub image' : D
+  pub left : StackRecord
+  pub between : S
+  pub behind : S
+  pub found : FindsOutput (record w { new = between }) words at image
+  pub copied : CopiesByMap words.differing (record w { old = between; new = behind }) map at.d (moving (sides at.stack (w.state image.device) old) (sides left (w.state image') printed)) counts
+  pub back : w.relations.takes behind words.out image' w.new
+
+pub record PrintsMappedCopy {S D : Type 0} (w : Calls S D) (words : CopyWords) (map : List ℕ) (old new : Option (List ℕ)) : Type 0 where
+  pub counts : Counts
+  pub printed : Option (List ℕ)
+  pub copied : MapCopies w words map old counts printed
+  pub told : TellsCounts counts printed new
+
+-- it ended early, and what then stood in the image was given back
+pub record CutsCopy {S D : Type 0} (w : Calls S D) (words : CopyWords) (map : List ℕ) (old new : Option (List ℕ)) (failed : Bool) (fault : CommandFault) : Type 0 where
+  pub at : Place
+  pub image : OpenImage D
+  pub image' : D
+  pub left : StackRecord
+  pub between : S
+  pub behind : S
+  pub found : FindsOutput (record w { new = between }) words at image
+  pub fails : IsMapEnd map (CutsCopying words.differing (record w { old = between; new = behind }) map at.d (moving (sides at.stack (w.state image.device) old) (sides left (w.state image') new)) failed) fault
+  pub back : w.relations.takes behind words.out image' w.new
+
+-- sectors are lost, or the counts can't be written
+pub record LosesInMapCopy {S D : Type 0} (w : Calls S D) (words : CopyWords) (map : List ℕ) (old new : Option (List ℕ)) (failed : Bool) (fault : CommandFault) : Type 0 where
+  pub counts : Counts
+  pub printed : Option (List ℕ)
+  pub copied : MapCopies w words map old counts printed
+  pub ends : IsCountsEnd counts printed new failed fault
+
+abbrev pub IsMappedCopyEnd : {S D : Type 0} → Calls S D → CopyWords → List ℕ → Option (List ℕ) → Option (List ℕ) → Bool → CommandFault → Type 0
+IsMappedCopyEnd w words map old new failed fault =
+    ((new ≡ old) × IsUncopied w words fault) ⊎ (CutsCopy w words map old new failed fault ⊎ LosesInMapCopy w words map old new failed fault)

@@ -1,0 +1,101 @@
+//! The command `copy` with a map file.
+ghost use Rattle.std.specs.Prelude.{◌≤◌, ◌<◌, length, IsTrue, OnOk, IfOk, IfErr};
+ghost use Rattle.image_files.specs.Opener.{calls};
+ghost use Rattle.stack_rules.specs.Names.{mapped, size};
+ghost use Rattle.stack_recovery.specs.Recoveries.{sides};
+ghost use Rattle.stack_opening.specs.OpenStacks.{stack_words};
+ghost use Rattle.stack_commands.specs.ByMap.{IsMapEnd, moving};
+ghost use Rattle.stack_commands.specs.MappedCopies.{CopiesByMap, CutsCopying, IsMappedCopyEnd, PrintsMappedCopy};
+ghost use Rattle.stack_commands.specs.Recoveries.{copy_words};
+ghost use Rattle.stack_commands.specs.StackCommands.{device_words};
+
+use crate::by_map::rescue_by_map;
+use crate::copy::Output;
+use crate::device::{NamedDevice, load_device, tell_counts};
+use crate::fault::CommandFault;
+use block_device::{BlockDev, SyncDev};
+use counted_io::Counted;
+use differing_device::Differing;
+use image_files::{Images, OpenImage};
+use progress::Progress;
+use stack_config::DevId;
+use stack_engine::Stack;
+use stack_opening::{StackFile, open_with_output};
+use stack_recovery::Counts;
+use std::alloc::Global;
+use std::io::Write;
+
+/// `copy --map FILE [--cache N] [--differing] STACK NAME OUT BINDING...`: copies the sectors of a device of a stack file over the
+/// bindings that weren't had, as the map file says, as far as they can be had, to an image, and keeps the map.
+pub fn copy_by_map<'a, I: Images, W: Write, P: Progress>(
+    alloc: Global,
+    images: &mut I,
+    file: StackFile<'a, '_>,
+    device: NamedDevice<'a>,
+    output: Output<'a>,
+    map: &'a str,
+    writer: &mut Counted<W>,
+    progress: &mut P,
+) -> Result<(), CommandFault<'a>>
+    ensures ok { OnOk result (PrintsMappedCopy (calls I.relations I.Dev.state images.old images.new) (copy_words (device_words (stack_words file.entry) device.entry.name.now device.entry.cache) output.entry.path.now output.entry.differing) map.now (W.contents writer.old.inner) (W.contents writer.new.inner)) }
+    ensures err { IfErr result (IsMappedCopyEnd (calls I.relations I.Dev.state images.old images.new) (copy_words (device_words (stack_words file.entry) device.entry.name.now device.entry.cache) output.entry.path.now output.entry.differing) map.now (W.contents writer.old.inner) (W.contents writer.new.inner) writer.new.failed) }
+{
+    let Output { path, differing } = output;
+    let (over, image) = open_with_output(alloc, images, file, path)?;
+    let OpenImage {
+        device: image,
+        id: _,
+    } = image;
+    let (mut stack, device) = load_device(alloc, over, device.name, device.cache)?;
+    let needed = stack.config().sectors(device);
+    if image.sectors() < needed {
+        return Err(CommandFault::OutputTooSmall { needed });
+    }
+    let (image, outcome) = copy_in_turns(
+        alloc, images, &mut stack, device, image, differing, map, writer, progress,
+    );
+    images.close(path, image);
+    match outcome {
+        Ok(counts) => tell_counts(counts, writer),
+        Err(fault) => Err(fault),
+    }
+}
+
+// Goes over the device by its map, and copies what is had to an image, which is handed back.
+fn copy_in_turns<'a, I: Images, D: BlockDev, O: SyncDev + Drop, W: Write, P: Progress>(
+    alloc: Global,
+    images: &mut I,
+    stack: &mut Stack<D>,
+    device: DevId,
+    image: O,
+    differing: bool,
+    map: &'a str,
+    writer: &mut Counted<W>,
+    progress: &mut P,
+) -> (O, Result<Counts, CommandFault<'a>>)
+    requires device { device.0 < length stack.old.config.devices }
+    requires room { size stack.old.config (mapped device.0) ≤ (O.state image).size }
+    requires allowed { IsTrue (O.state image).may_write }
+    ensures ok { IfOk result.1 (CopiesByMap differing (calls I.relations I.Dev.state images.old images.new) map.now device.0 (moving (sides stack.old (O.state image) (W.contents writer.old.inner)) (sides stack.new (O.state result.0) (W.contents writer.new.inner)))) }
+    ensures err { IfErr result.1 (IsMapEnd map.now (CutsCopying differing (calls I.relations I.Dev.state images.old images.new) map.now device.0 (moving (sides stack.old (O.state image) (W.contents writer.old.inner)) (sides stack.new (O.state result.0) (W.contents writer.new.inner))) writer.new.failed)) }
+{
+    if differing {
+        let mut compared = Differing::new(image);
+        let outcome = rescue_by_map(
+            alloc,
+            images,
+            stack,
+            device,
+            &mut compared,
+            map,
+            writer,
+            progress,
+        );
+        return (compared.inner, outcome);
+    }
+    let mut plain = image;
+    let outcome = rescue_by_map(
+        alloc, images, stack, device, &mut plain, map, writer, progress,
+    );
+    (plain, outcome)
+}
