@@ -1,10 +1,11 @@
 #!/usr/bin/env bash
-# Measures digests beside the kit's `sha2`, scans of `verity` and `crypt` lines beside `verify` and beside the digests and the
-# cipher alone, and `format` and `verify` beside veritysetup, where it is installed. Not a part of the gate.
+# Measures digests beside the kit's `sha2`, reads of verified volumes and their service to clients (benchmark_reads.py), and
+# `format` and `verify` beside veritysetup, where it is installed. Not a part of the gate.
 #
 # benchmark_verity.sh [MIB [RUNS]]: beside veritysetup an image of MIB mebibytes (512) in blocks of 4,096 bytes, RUNS times each in
-# turn (9); scans are of 256 MiB, five times. A ratio is the other's time divided by ours: more than 1 is faster. Other programs
-# disturb the least processor time least, and wall time most. Both our builds are measured: the kit's default, and the one for AVX2 where the machine has it.
+# turn (9); what is read is 256 MiB, five times. A ratio is the other's time divided by ours: more than 1 is faster. Other programs
+# disturb the least processor time least, and wall time most. Both our builds are measured: the kit's default, and the one for AVX2
+# where the machine has it.
 set -eu
 mib=${1:-512}
 runs=${2:-9}
@@ -64,32 +65,13 @@ ratio() {
         'BEGIN { printf "%s %.2f (%d and %d ms)", name, theirs / ours, ours, theirs }'
 }
 
-# An image of 256 MiB in memory, as where files of this folder are: in /dev/shm by TMPDIR=/dev/shm.
-head -c $((256 << 20)) /dev/urandom > data
-sectors=$((256 << 11))
-truncate -s 40M tree-4096 tree-512
-for size in 4096 512; do
-    root=$(./dmstack-default format --data-block $size --hash-block $size --salt "$(printf '%064d' 7)" data tree-$size | sed -n 's/^root //p')
-    echo "$root" > root-$size
-    (printf 'v,,,ro,' && ./dmstack-default table tree-$size "$root" DATA HASH) > verity-$size.stack
-done
-printf 'c,,,ro,0 %d crypt aes-xts-plain64 %0128d 0 DATA 0' $sectors 7 > crypt.stack
-printf 'u,,,ro,0 %d crypt aes-xts-plain64 %0128d 0 DATA 0 1 sector_size:4096' $sectors 7 > units.stack
-printf 'l,,,ro,0 %d linear DATA 0' $sectors > linear.stack
+programs=()
 for build in "${builds[@]}"; do
     "./bench-$build" digest | sed "s/^/beside the kit's sha2, 64 MiB, $build build: /"
     "./bench-$build" xts | sed "s/^/the cipher alone, $build build: /"
-    for _ in $(seq 5); do
-        for size in 4096 512; do
-            measure "verify-$size-$build" "./dmstack-$build" verify data tree-$size "$(cat root-$size)"
-            measure "scan-$size-$build" "./dmstack-$build" scan verity-$size.stack v DATA=ro:data HASH=ro:tree-$size
-        done
-        for it in crypt units linear; do measure "scan-$it-$build" "./dmstack-$build" scan $it.stack ${it:0:1} DATA=ro:data; done
-    done
-    for it in scan-4096 verify-4096 scan-512 verify-512 scan-crypt scan-units scan-linear; do
-        echo "$it of 256 MiB, $build build: least processor time $(at "$it-$build" 1 0) ms"
-    done
+    programs+=("$build=./dmstack-$build,./bench-$build")
 done
+"$top/scripts/benchmark_reads.py" "${programs[@]}"
 
 setup=$(PATH=$PATH:/usr/sbin command -v veritysetup) || { echo 'veritysetup is not installed'; exit; }
 others=(veritysetup)

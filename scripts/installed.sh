@@ -40,8 +40,8 @@ works() {
 DESTDIR=$room/root holds 'it installs' "$top/install" "$@" /opt
 holds 'the program runs' works "$room/root/opt/bin/dmstack"
 holds 'the page is there' gzip -t "$room/root/opt/share/man/man1/dmstack.1.gz"
-holds 'documents are there' test -s "$room/root/opt/share/doc/dmstack/docs/STACKS.md"
-holds 'a command is completed' completes verify ver
+holds 'documents are there' test -s "$room/root/opt/share/doc/dmstack/docs/REMOTE.md"
+holds 'a command is completed' completes verify veri
 holds 'an option is completed' completes --salt format --sa
 holds 'a second folder is refused' eval "! '$top/install' $* /a /b"
 if command -v dpkg-deb > /dev/null; then

@@ -1,9 +1,10 @@
 #!/usr/bin/env python3
-"""Checks the manual page against the command line that clap is told of, and the page's own form.
+"""Checks the manual page, and the completion for bash, against the command line that clap is told of, and the page's own form.
 
 manual.py [PAGE [GRAMMAR]]: the commands of the page are the headings of its section COMMANDS. Their names and options,
-and the options that its section OPTIONS explains, must be those of the grammar's source. Where man or mandoc is
-installed, it must read the page without a warning.
+and the options that its section OPTIONS explains, must be those of the grammar's source; so must those that
+scripts/completion.py completes, and which of them have a value. Where man or mandoc is installed, it must read the page
+without a warning.
 """
 
 import re
@@ -11,6 +12,9 @@ import shutil
 import subprocess
 import sys
 from pathlib import Path
+
+sys.dont_write_bytecode = True
+import completion
 
 TOP = Path(__file__).resolve().parent.parent
 
@@ -22,6 +26,21 @@ def grammar_of(source):
     for name, options in re.findall(r'CommandRow \{\s*name: "([^"]+)",\s*options: &\[([^\]]*)\]', source):
         commands[name] = {names[it] for it in re.findall(r"\w+", options)}
     return commands
+
+
+def valued_of(source):
+    """The options of the grammar behind which a value stands."""
+    return set(re.findall(r'OptionRow \{\n\s*name: "([^"]+)",[^}]*has_value: true', source))
+
+
+def completed_wrong(commands, valued, page):
+    """What the completion says otherwise than the grammar."""
+    told = completion.commands_of(page)
+    for name in sorted(commands.keys() | told.keys()):
+        wanted = {f"--{option}": option in valued for option in commands.get(name, ())}
+        given = {option: bool(value) for option, value in told.get(name, ())}
+        if name not in commands or given != wanted:
+            yield f"{name}: the grammar has {wanted}, the completion {given}"
 
 
 def section_of(page, title):
@@ -68,6 +87,7 @@ def main():
     explained = {name.replace("\\-", "-") for name in explained}
     if explained != set().union(*wanted.values()):
         wrong.append(f"OPTIONS explains {sorted(explained)}")
+    wrong += completed_wrong(wanted, valued_of(grammar.read_text()), text)
     wrong += warnings_of(str(page))
     for line in wrong:
         print(f"manual: {line}")

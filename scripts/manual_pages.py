@@ -13,6 +13,7 @@ from pathlib import Path
 TOP = Path(__file__).resolve().parent.parent
 PAGES = TOP / "crates/manual_pages/src/pages.rt"
 WIDTH = 78
+ON_STACKS = ("", "load", "read", "write", "session", "nbd", "scan", "copy", "cat", "store")
 HEAD = """//! The texts of the pages, which scripts/manual_pages.py makes from man/dmstack.1.
 
 use crate::page::Page;
@@ -97,12 +98,19 @@ def pages_of(page, readme):
 
 
 def source_of(pages):
+    """In two lists, since what is proved of a function grows with the texts that it goes over."""
     pages = [*pages]
-    text = HEAD + f"/// All pages.\npub static PAGES: [Page; {len(pages)}] = [\n"
-    for name, usage, lines in pages:
+    made = [static_of("STACK_PAGES", "The program's page, and those of the commands on stacks.", [it for it in pages if it[0] in ON_STACKS])]
+    made.append(static_of("FURTHER_PAGES", "The other pages.", [it for it in pages if it[0] not in ON_STACKS]))
+    return HEAD + "\n".join(made)
+
+
+def static_of(name, what, pages):
+    text = f"/// {what}\npub static {name}: [Page; {len(pages)}] = [\n"
+    for command, usage, lines in pages:
         body = "\n".join(lines) + "\n"
         body = body.replace("\\", "\\\\").replace('"', '\\"')
-        text += f'    Page {{\n        name: "{name}",\n        usage: "{usage}",\n        text: "{body}",\n    }},\n'
+        text += f'    Page {{\n        name: "{command}",\n        usage: "{usage}",\n        text: "{body}",\n    }},\n'
     return text + "];\n"
 
 
@@ -110,7 +118,7 @@ def main():
     made = source_of(pages_of((TOP / "man/dmstack.1").read_text(), (TOP / "README.md").read_text()))
     if sys.argv[1:] == ["--check"]:
         stands = PAGES.read_text() == made
-        print(f"manual_pages: {made.count('Page {') - 1} pages, {'as the manual page has them' if stands else 'not as the manual page has them: run scripts/manual_pages.py'}")
+        print(f"manual_pages: {made.count('    Page {')} pages, {'as the manual page has them' if stands else 'not as the manual page has them: run scripts/manual_pages.py'}")
         sys.exit(not stands)
     print(made, end="")
 

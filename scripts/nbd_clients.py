@@ -3,9 +3,10 @@
 
 nbd_clients.py [PROGRAM]: copies devices out with nbdcopy and qemu-img and compares them, copies an image in through a
 `crypt` line and reads it back by another stack, writes bytes and zeros with qemu-io across the ends of sectors, with FUA
-too, reads a verity volume with one changed block, and prints the speed over each kind of line beside nbdkit's and
-beside `scan`'s. What isn't installed is named and left out (Debian: libnbd-bin, python3-libnbd, qemu-utils, socat, nbdkit).
+too, reads a verity volume with one changed block, copies each device of a stack out by its name, and prints the speed over
+each kind of line, over four connections and over one, beside nbdkit's and beside `scan`'s. What isn't installed is named and left out (Debian: libnbd-bin, python3-libnbd, qemu-utils, socat, nbdkit).
 """
+import json
 import os
 import random
 import shlex
@@ -93,6 +94,27 @@ def whole(label, words, wanted):
             say(f"{label}: qemu-img", done.returncode == 0 and open("converted", "rb").read() == wanted, done.stderr.decode())
 
 
+def each_of_all(data, bindings):
+    """Each device of a stack is listed in its order and copied out by its name; another name is none."""
+    size = len(data) // 512
+    open("both", "w").write(open("verity").read() + f";l,,,rw,0 {size // 2} linear D 0;z,,,ro,0 {size} zero")
+    wanted = {"v": data, "l": data[: len(data) // 2], "z": bytes(len(data))}
+    with Served([PROGRAM, "nbd", "--all", os.path.abspath("both"), *bindings]) as uri:
+        socket = uri.split("=")[1]
+        if shutil.which("nbdinfo"):
+            told = json.loads(run("nbdinfo", "--list", "--json", uri).stdout or "{}")
+            names = [it["export-name"] for it in told.get("exports", [])]
+            say("all: nbdinfo --list", names == list(wanted), str(names))
+            say("all: another name", run("nbdinfo", f"nbd+unix:///other?socket={socket}").returncode != 0)
+        if shutil.which("nbdcopy"):
+            for name, content in wanted.items():
+                done = run("nbdcopy", f"nbd+unix:///{name}?socket={socket}", "copied")
+                say(f"all: nbdcopy of {name}", done.returncode == 0 and open("copied", "rb").read() == content, done.stderr.decode())
+        if shutil.which("qemu-img"):
+            done = run("qemu-img", "convert", "-f", "raw", "-O", "raw", f"nbd:unix:{socket}:exportname=v", "converted")
+            say("all: qemu-img", done.returncode == 0 and open("converted", "rb").read() == data, done.stderr.decode())
+
+
 def copied_in(data):
     """An image is copied in through a `crypt` line, changed across sectors' ends, and read back by another stack."""
     key = "".join(f"{k:02x}" for k in range(64))
@@ -123,11 +145,11 @@ def copied_in(data):
         say("copy in: read back by another stack", done.returncode == 0 and open("back", "rb").read() == bytes(wanted), done.stderr.decode())
 
 
-def nbdcopy_seconds(words):
-    """How long nbdcopy takes to read a whole service."""
+def nbdcopy_seconds(words, connections=4):
+    """How long nbdcopy takes to read a whole service, where that offers several connections over as many."""
     with Served(words) as uri:
         start = time.monotonic()
-        done = run("nbdcopy", uri, "null:")
+        done = run("nbdcopy", f"--connections={connections}", uri, "null:")
         taken = time.monotonic() - start
     say("speed: nbdcopy", done.returncode == 0, done.stderr.decode())
     return taken
@@ -155,17 +177,18 @@ def speed():
     for place, (name, line) in enumerate(lines.items()):
         open(f"fast{place}", "w").write(f"f,,,ro,0 {sectors} {line}")
         services[name] = words_for(f"fast{place}", "f", data)
-    copied, scanned = {name: [] for name in services}, {name: [] for name in services}
+    copied, scanned, alone = ({name: [] for name in services} for _ in range(3))
     for _ in range(5):
         for name, words in services.items():
             copied[name].append(nbdcopy_seconds(words))
+            alone[name].append(nbdcopy_seconds(words, 1))
             if name != "nbdkit":
                 scanned[name].append(scan_seconds(words))
     least = min(copied["nbdkit"])
     for name in services:
         taken = min(copied[name])
         beneath = f"; scan's time is {min(scanned[name]) / taken:.2f} of it" if scanned[name] else ""
-        print(f"256 MiB, {name}: {taken:.2f} s, {256 / taken:.0f} MiB/s; nbdkit's time is {least / taken:.2f} of it{beneath}")
+        print(f"256 MiB, {name}: {taken:.2f} s, {256 / taken:.0f} MiB/s, over one connection {min(alone[name]):.2f} s; nbdkit's time is {least / taken:.2f} of it{beneath}")
 
 
 def changed_block(data):
@@ -208,6 +231,7 @@ def main():
     if shutil.which("socat"):
         whole("linear", words_for("linear", "l", verity[0]), data)
         whole("verity", words_for("verity", "v", *verity), data)
+        each_of_all(data, ["D=rw:" + os.path.abspath("data"), verity[1]])
         copied_in(data)
     else:
         print("socat isn't installed")

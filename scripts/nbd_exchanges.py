@@ -125,9 +125,11 @@ class Runner:
         self.program, self.passed, self.failed = program, 0, 0
 
     def run(self, label, name, sent, wanted, status=0, after=None):
+        """The device of that name is served, or each one where there is none."""
         open("F", "wb").write(exports()["file"].content)
         open("stack", "w").write(STACK)
-        words = [self.program, "nbd", "stack", name, "R=ramp:8", "Z=zero:4", "F=rw:F"]
+        named = ["--all", "stack"] if name is None else ["stack", name]
+        words = [self.program, "nbd", *named, "R=ramp:8", "Z=zero:4", "F=rw:F"]
         done = subprocess.run(words, input=sent, capture_output=True, timeout=60)
         problems = []
         if done.stdout != wanted:
@@ -198,6 +200,36 @@ def handshakes(runner):
         runner.run(f"option magic at {k}", "low", flags(3) + bytes(wrong), GREETING, status=4)
     kept = exports()["kept"]
     runner.run("read only", "kept", flags(3) + option(GO, asks(b"kept", 3)), GREETING + kept.told(GO, True))
+
+
+def many_exports(runner):
+    """Each device is an export: LIST names them in the order of the stack, and a client is served the one that it names."""
+    found = exports()
+    listed = b"".join(option_reply(LIST, SERVER, struct.pack(">I", len(name)) + name.encode()) for name in found)
+    listed += option_reply(LIST, ACK)
+    runner.run("list of all", None, flags(3) + option(LIST) + option(LIST, b"x") + option(ABORT), GREETING + listed + option_reply(LIST, INVALID) + option_reply(ABORT, ACK))
+    for name, e in found.items():
+        sent, wanted = begun(e)
+        asked, told = request(READ, 0, 700) + request(READ, 4000, 96) + request(READ, 4000, 97), e.read(0, 700) + e.read(4000, 96) + e.read(4000, 97)
+        runner.run(f"EXPORT_NAME of {name} among all", None, sent + asked, wanted + told)
+        for number in (INFO, GO):
+            opened = option(number, asks(name.encode(), 3)) + (asked if number == GO else option(LIST))
+            runner.run(f"{number} of {name} among all", None, flags(3) + opened, GREETING + e.told(number, True) + (told if number == GO else listed))
+    # the empty name is that of an only export
+    for name in (b"", b"lo", b"loww", b"low\0", b"File", b"R", b"n" * 4097):
+        for number in (INFO, GO):
+            runner.run(f"{number} of {name[:8]} among all", None, flags(3) + option(number, asks(name)) + option(LIST), GREETING + option_reply(number, UNKNOWN) + listed)
+        runner.run(f"EXPORT_NAME of {name[:8]} among all", None, flags(3) + option(EXPORT_NAME, name), GREETING, status=4)
+    runner.run("a name of 65,537 bytes among all", None, flags(3) + option(EXPORT_NAME, bytes(65537)), GREETING, status=4)
+    e = found["file"]
+    sent, wanted = flags(3) + option(INFO, asks(b"low")) + option(GO, asks(b"file")), GREETING + found["low"].told(INFO) + e.told(GO)
+    for offset, length in ((0, 5), (509, 6), (2048, 2048)):
+        data = bytes((3 * offset + k) % 256 for k in range(length))
+        sent += request(WRITE, offset, length, data=data) + request(READ, 0, 4096)
+        wanted += e.write(offset, data) + e.read(0, 4096)
+    runner.run("a write to one of all", None, sent + request(FLUSH) + request(DISC), wanted + reply(), after=bytes(e.content))
+    asked, told = begun(found["kept"])
+    runner.run("a write to one of all that is ro", None, asked + request(WRITE, 0, 1, data=b"x"), told + reply(EPERM))
 
 
 def transmissions(runner):
@@ -472,7 +504,7 @@ def main():
     runner = Runner(os.path.abspath(given) if os.path.exists(given) else given)
     with tempfile.TemporaryDirectory() as room:
         os.chdir(room)
-        for part in (handshakes, transmissions, writes, zeroes, long_runs, crypt, cuts, failures, refusals):
+        for part in (handshakes, many_exports, transmissions, writes, zeroes, long_runs, crypt, cuts, failures, refusals):
             part(runner)
     print(f"exchanges: {runner.passed} passed, {runner.failed} failed")
     return 1 if runner.failed or not runner.passed else 0

@@ -17,7 +17,8 @@ MOST_OF_A_TEXT = 1024 * 1024
 TARGETS = ("linear", "striped", "zero", "error", "crypt", "verity", "zero_blocks", "sector_size",
            "unstriped")
 # Options and forms of words that a program may not have yet; without them they are wrong words.
-FORMS = ("all", "grow", "json", "map", "differing", "progress", "pass-cache", "parts", "input-stack", "store-file")
+FORMS = ("all", "grow", "json", "map", "differing", "progress", "pass-cache", "parts", "input-stack", "store-file",
+         "exports")
 # Commands whose STACK may be `-`, standard input; where that is the client's or the bytes', `-` is a wrong word.
 STACK_FROM_INPUT = ("load", "read", "write", "scan", "copy", "cat", "store")
 
@@ -108,6 +109,12 @@ def run_write(options, words, files, _given, features):
     return Session(stack, features).run(name, first, count, data), DONE
 
 
+def check_map(options):
+    """The path of a map isn't the standard input's, and not empty."""
+    if options.get(b"map") in (b"", b"-"):
+        raise Usage
+
+
 def gone_over(options, name, stack, out, files):
     """What `scan` and `copy` print, the statuses, and the map that is left in its file."""
     device = looked_up(stack.configuration, name)
@@ -117,17 +124,19 @@ def gone_over(options, name, stack, out, files):
         lines, had = with_map(stack, device, out, options[b"map"], files)
     else:
         lines, had = recovered(stack, device, out)
-    return lines, DONE if all(had) else FAULT
+    return lines, REFUSED if had is None else DONE if all(had) else FAULT
 
 
 def run_scan(options, words, files, _given, features):
     (path, name), rest, _, _ = read_on_stack(options, words, 2)
+    check_map(options)
     stack = loaded(stack_text(path, files), rest, files, features)
     return gone_over(options, name, stack, None, files)
 
 
 def run_copy(options, words, files, _given, features):
     (path, name, out_path), rest, _, _ = read_on_stack(options, words, 3)
+    check_map(options)
     text = stack_text(path, files)
     out = files.image(out_path, True)
     stack = loaded(text, rest, files, features)
@@ -160,8 +169,6 @@ def check_store(device, first, length):
         raise Refused("ReadOnly", SUBMISSION_RULES)
     check_range(device, first, 0)
     if length is not None:
-        if length % SECTOR:
-            raise Refused("Length", SUBMISSION_RULES)
         check_range(device, first, length // SECTOR)
 
 
@@ -173,9 +180,11 @@ def run_store(options, words, files, given, features):
     is_file = source != b"-" and "store-file" in features["forms"]
     if source != b"-" and not is_file:
         raise Usage
-    data = bytes(files.content(source)) if is_file else given
+    data = bytes(files.image(source, False)) if is_file else given
     stack = loaded(text, rest, files, features)
     device = looked_up(stack.configuration, name)
+    if is_file and len(data) % SECTOR:
+        raise Refused("Length", SUBMISSION_RULES)
     check_store(device, first, len(data) if is_file else None)
     room = device.sectors - first
     count = min(len(data) // SECTOR, room)
@@ -204,12 +213,16 @@ def stored(stack, device, first, data):
 
 def run_nbd(options, words, files, given, features):
     read_cache(options)
-    (path, name), rest = at_least(words, 2)
+    (path, *name), rest = at_least(words, 1 if b"all" in options else 2)
     rest = bindings(rest)
     if path == b"-" and "input-stack" in features["forms"]:
         raise Usage
     stack = loaded(stack_text(path, files), rest, files, features)
-    return Service(stack, looked_up(stack.configuration, name)).serve(given)
+    if not name:
+        # the sizes of all others have no 64 bits
+        devices = [device for device in stack.configuration.devices.values() if device.sectors < 2**55]
+        return Service(stack, devices).serve(given)
+    return Service(stack, [looked_up(stack.configuration, name[0])]).serve(given)
 
 
 def run_session(options, words, files, given, features):
@@ -236,6 +249,8 @@ def forms_of(command, options, words):
     found = {name.decode() for name in options if name.decode() in FORMS}
     if command in ("scan", "copy") and b"cache" in options:
         found.add("pass-cache")
+    if command == "nbd" and b"all" in options:
+        found.add("exports")
     if any(word.partition(b"=")[2].partition(b":")[0].startswith((b"ro@", b"rw@")) for word in words):
         found.add("parts")
     return found

@@ -273,6 +273,8 @@ LATER = [
      '        if BLOCK_SIZE in facts:\n', '        for _ in range(facts.count(BLOCK_SIZE)):\n'),
     ("nbd-command", "bytes behind what is asked for", "nbd.py",
      'len(data) != 6 + size + 2 * count', 'len(data) < 6 + size + 2 * count'),
+    ("nbd-command", "the first export whatever the name is", "nbd.py",
+     'if device.name == name), None)', 'if name), None)'),
     ("nbd-command", "DISC with a flag refused", "nbd.py",
      '        if command == DISCONNECT:', '        if command == DISCONNECT and not flags:'),
 ]

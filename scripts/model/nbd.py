@@ -58,11 +58,10 @@ class Replies:
 
 
 class Service:
-    """Serves a device of a stack as a run of bytes."""
+    """Serves devices of a stack, each as a run of bytes: the client says which by its name."""
 
-    def __init__(self, stack, device):
-        self.stack, self.device = stack, device
-        self.size = device.sectors * SECTOR
+    def __init__(self, stack, devices):
+        self.stack, self.devices = stack, devices
         self.replies = Replies()
 
     def serve(self, given):
@@ -124,24 +123,34 @@ class Service:
         self.replies.add("option %d with reply %d" % (option, kind), head + data)
         return False
 
-    def is_named(self, name):
-        return name in (b"", self.device.name)
+    def named(self, name):
+        """The device that a client names; an only one has no name too."""
+        if name == b"" and len(self.devices) == 1:
+            return self.devices[0]
+        return next((device for device in self.devices if device.name == name), None)
 
-    def fields(self):
+    def fields(self, device):
         flags = HAS_FLAGS | SEND_FLUSH | SEND_FUA | SEND_CACHE
-        flags |= SEND_TRIM | SEND_WRITE_ZEROES if self.device.writable else READ_ONLY | CAN_MULTI_CONN
-        return struct.pack(">QH", self.size, flags)
+        flags |= SEND_TRIM | SEND_WRITE_ZEROES if device.writable else READ_ONLY | CAN_MULTI_CONN
+        return struct.pack(">QH", device.sectors * SECTOR, flags)
+
+    def begin_with(self, device):
+        """The transmission begins, over that device."""
+        self.device, self.size = device, device.sectors * SECTOR
+        return True
 
     def export_name(self, name):
-        if not self.is_named(name):
+        device = self.named(name)
+        if device is None:
             raise Ended(BROKEN)
-        self.replies.add("EXPORT_NAME", self.fields() + (b"" if self.no_zeroes else bytes(124)))
-        return True
+        self.replies.add("EXPORT_NAME", self.fields(device) + (b"" if self.no_zeroes else bytes(124)))
+        return self.begin_with(device)
 
     def list(self, data):
         if data:
             return self.tell(LIST, INVALID)
-        self.tell(LIST, SERVER, struct.pack(">I", len(self.device.name)) + self.device.name)
+        for device in self.devices:
+            self.tell(LIST, SERVER, struct.pack(">I", len(device.name)) + device.name)
         return self.tell(LIST, ACK)
 
     def info(self, option, data):
@@ -149,14 +158,15 @@ class Service:
         if asked is None:
             return self.tell(option, INVALID)
         name, facts = asked
-        if not self.is_named(name):
+        device = self.named(name)
+        if device is None:
             return self.tell(option, UNKNOWN)
-        self.tell(option, INFORMATION, struct.pack(">H", EXPORT) + self.fields())
+        self.tell(option, INFORMATION, struct.pack(">H", EXPORT) + self.fields(device))
         if BLOCK_SIZE in facts:
             sizes = struct.pack(">HIII", BLOCK_SIZE, 1, 4096, MOST_OF_A_REQUEST)
             self.tell(option, INFORMATION, sizes)
         self.tell(option, ACK)
-        return option == GO
+        return option == GO and self.begin_with(device)
 
     # The transmission
 

@@ -65,6 +65,8 @@ class Services(Recoveries):
         device = self.pick(devices[-1:] * 2 + devices) if devices and self.chance(0.97) else None
         name = device.name if device else self.pick([b"none", b"D", b"", PREFIX + b"a"])
         messages = tuple(self.exchange(session, device)) if device else (Octets(b"\0\0\0\3"),)
+        if self.has("forms", "exports") and self.chance(0.3):
+            return Run([b"nbd", b"--all"] + self.cache() + [stack] + words, messages=messages)
         return Run([b"nbd"] + self.cache() + [stack, name] + words, messages=messages)
 
     def exchange(self, session, device):

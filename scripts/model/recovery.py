@@ -1,12 +1,15 @@
 """Going over a whole device: which sectors can be had, which are lost, and what a copy has then."""
 
 from configuration import Refused
-from files import Stop
+from files import LONGEST_NAME, Stop
 from rescue_map import FAULTS, MapFault, marks_of, text_of
 from session import SUBMISSION_RULES
 from stack import SECTOR, Fault
 
+BESIDE = b".dmstack-new"
 OUT_RULES = ["TooSmall", "Device"]
+LEAST_TURN = 131072
+MOST_TURNS = 256
 
 
 def looked_up(configuration, name):
@@ -28,10 +31,11 @@ def answers(stack, device, marks):
             yield None, fault.text
 
 
-def recovered(stack, device, out, marks=()):
+def recovered(stack, device, out, marks=(), turn=0):
     """The lines for the longest runs of one fault, the sums, and of each sector whether it is had, now or before.
 
-    What can be had is put into `out`, where there is one; what is lost stays as it was there."""
+    What can be had is put into `out`, where there is one; what is lost stays as it was there. With a map no run goes on
+    where a turn of so many sectors ends."""
     runs, had = [], []
     for at, (data, fault) in enumerate(answers(stack, device, marks)):
         had.append(fault is None)
@@ -40,7 +44,7 @@ def recovered(stack, device, out, marks=()):
                 out[at * SECTOR:(at + 1) * SECTOR] = data
         elif fault is None:
             continue
-        elif runs and runs[-1][2] == fault and sum(runs[-1][:2]) == at:
+        elif runs and runs[-1][2] == fault and sum(runs[-1][:2]) == at and not (turn and at % turn == 0):
             runs[-1][1] += 1
         else:
             runs.append([at, 1, fault])
@@ -50,7 +54,8 @@ def recovered(stack, device, out, marks=()):
 
 
 def with_map(stack, device, out, path, files):
-    """The same where a map says what was had before: that isn't read again, and the map is as it is then."""
+    """The same where a map says what was had before: that isn't read again, and the map is as it is then. Where all were
+    had its file stays as it is."""
     try:
         marks = marks_of(bytes(files.content(path)), device.sectors)
     except MapFault as fault:
@@ -59,8 +64,13 @@ def with_map(stack, device, out, path, files):
         if not stop.line.startswith(b"refused 1 "):
             raise
         marks = ()
-    lines, had = recovered(stack, device, out, marks)
-    files.nodes[path.removeprefix(b"./")] = bytearray(text_of(had))
+    turn = max(LEAST_TURN, device.sectors // MOST_TURNS)
+    lines, had = recovered(stack, device, out, marks, turn)
+    if not marks or not all(marks):
+        name = path.removeprefix(b"./")
+        if b"/" in name or len(name + BESIDE) > LONGEST_NAME:
+            return lines[:-1] + [b"refused 31 MapWrite"], None
+        files.nodes[name] = bytearray(text_of(had))
     return lines, had
 
 

@@ -13,16 +13,16 @@ TREE = (b"data-block", b"hash-block", b"blocks", b"salt")
 # The options of each command, and those of them without a value.
 OPTIONS = {
     "format": (*TREE, b"uuid", b"hash-offset", b"no-superblock", b"grow"),
-    "verify": (*TREE, b"hash-offset", b"root-hash-file", b"no-superblock", b"all", b"json"),
-    "dump": (b"hash-offset", b"json"),
+    "verify": (*TREE, b"hash-offset", b"root-hash-file", b"no-superblock", b"all"),
+    "dump": (b"hash-offset",),
     "table": (*TREE, b"hash-offset", b"root-hash-file", b"name", b"no-superblock"),
-    "load": (), "read": (b"cache",), "write": (b"cache",), "session": (b"cache",), "nbd": (b"cache",),
-    "scan": (b"cache", b"map"), "copy": (b"cache", b"map", b"differing"),
+    "load": (), "read": (b"cache",), "write": (b"cache",), "session": (b"cache",), "nbd": (b"cache", b"all"),
+    "scan": (b"cache", b"map", b"progress"), "copy": (b"cache", b"map", b"differing", b"progress"),
     "cat": (b"cache", b"first", b"count", b"progress"), "store": (b"cache", b"first", b"progress"),
-    "partitions": (b"sector-size", b"stack", b"root", b"json"), "diff": (b"blocks", b"json"),
+    "partitions": (b"sector-size", b"stack", b"root"), "diff": (b"blocks",),
     "manual": (), "version": (),
 }
-FLAGS = (b"all", b"stack", b"no-superblock", b"grow", b"json", b"differing", b"progress")
+FLAGS = (b"all", b"stack", b"no-superblock", b"grow", b"differing", b"progress")
 # veritysetup's names of options that have another here; `diff` counts runs by its --blocks, and has none.
 OTHER_NAMES = {b"data-block-size": b"data-block", b"hash-block-size": b"hash-block",
                b"data-blocks": b"blocks"}
@@ -187,7 +187,7 @@ def read_format(options, words):
 def read_verify(options, words):
     """DATA, HASH, the root, the sizes, and the place."""
     check_tree_values(options, (b"salt",))
-    if b"json" in options and b"all" not in options or b"no-superblock" in options and b"all" in options:
+    if b"no-superblock" in options and b"all" in options:
         raise Usage
     (data_path, hash_path), rest = at_least(words, 2)
     root, rest = said_root(options, rest)
@@ -218,7 +218,7 @@ def read_on_stack(options, words, positional):
 
 
 def read_partitions(options, words):
-    if sum(name in options for name in (b"root", b"stack", b"json")) > 1:
+    if sum(name in options for name in (b"root", b"stack")) > 1:
         raise Usage
     size = the_number(options.get(b"sector-size", b"512"))
     if size not in (512, 4096):
