@@ -63,6 +63,14 @@ cmp part <(tail -c +2049 whole | head -c 1024)
 echo "two sectors: $(wc -l < logs/access) requests"
 hide
 
+# read_volume WHEN: what comes out is a beginning of what was formatted, and all of it where the status is 0.
+read_volume() {
+    status=0
+    "$program" cat stack root DISK=ro:mnt/nbd > out 2> errors || status=$?
+    cmp -s out <(head -c "$(wc -c < out)" whole) || { echo "$1: other bytes came out"; exit 1; }
+    [ $status != 0 ] || cmp -s out whole || { echo "$1: status 0, and not all came out"; exit 1; }
+}
+
 # Each sector that the volume stands on is changed in turn: what comes out is a beginning of what was formatted.
 cases=0
 refused=0
@@ -70,11 +78,8 @@ for sector in $(seq 40 55); do
     cp store/system.img kept
     printf '\252' | dd of=store/system.img bs=1 seek=$((sector * 512 + 100)) conv=notrunc status=none
     show
-    status=0
-    "$program" cat stack root DISK=ro:mnt/nbd > out 2> errors || status=$?
-    cmp -s out <(head -c "$(wc -c < out)" whole) || { echo "sector $sector changed: other bytes came out"; exit 1; }
+    read_volume "sector $sector changed"
     [ $status = 0 ] || refused=$((refused + 1))
-    [ $status != 0 ] || cmp -s out whole || { echo "sector $sector changed: status 0, and not all came out"; exit 1; }
     hide
     cp kept store/system.img
     cases=$((cases + 1))
@@ -94,11 +99,8 @@ for seed in $(seq 40); do
         sleep 0.1
     done
     show
-    status=0
-    "$program" cat stack root DISK=ro:mnt/nbd > out 2> errors || status=$?
-    cmp -s out <(head -c "$(wc -c < out)" whole) || { echo "seed $seed: other bytes came out"; exit 1; }
+    read_volume "seed $seed"
     [ $status = 0 ] || lies=$((lies + 1))
-    [ $status != 0 ] || cmp -s out whole || { echo "seed $seed: status 0, and not all came out"; exit 1; }
     # A stack of what it says is another one, with fewer blocks maybe: still what comes out was formatted.
     if "$program" partitions --root $root mnt/nbd > other 2> errors; then
         "$program" cat other root DISK=ro:mnt/nbd > out 2> errors || :

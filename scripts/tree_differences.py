@@ -1,10 +1,12 @@
 #!/usr/bin/env python3
-"""tree_differences.py COUNT SEED COMMAND ..: random pairs of hash images, compared by `COMMAND .. HASH1 ROOT1 HASH2 ROOT2 [MOST]`.
+"""tree_differences.py COUNT SEED COMMAND ..: random pairs of hash images, compared by `COMMAND .. [--blocks N] HASH1 ROOT1 HASH2 ROOT2`,
+as `dmstack diff`.
 
 The images are made by the model (scripts/model/verity.py) over data of one block to three levels of hash blocks, of all block
 sizes, with contents that are equal here and there, and of equal or different lengths. What the command prints must be what a
 comparison of the data says: a line for each longest run, the totals, and status 3 where the two differ. Then hash blocks are
-changed one at a time: the command ends with that block's tree, level and number where it reads it, and else prints the same.
+changed one at a time: the command ends with that block's tree, level and number, and status 3, where it reads it, and else prints
+the same.
 A last line `reads N N`, where the command prints one, is compared with the hash blocks that differ.
 """
 import os
@@ -14,24 +16,12 @@ import sys
 import tempfile
 
 sys.path.insert(0, os.path.join(os.path.dirname(os.path.realpath(__file__)), "model"))
+from differences import longest_runs  # noqa: E402
 from verity import Superblock, grown  # noqa: E402
 
 # (data block, hash block, most blocks)
 SHAPES = [(512, 512, 5), (512, 512, 40), (512, 512, 300), (4096, 512, 40), (1024, 1024, 40), (512, 4096, 300), (2048, 2048, 70)]
 SHAPES += [(4096, 4096, 140), (512, 512, 700)]
-
-
-def runs(kinds):
-    """The longest runs of kinds that are not None, as (kind, first, count)."""
-    found = []
-    for at, kind in enumerate(kinds):
-        if kind is None:
-            continue
-        if found and found[-1][0] == kind and found[-1][1] + found[-1][2] == at:
-            found[-1][2] += 1
-        else:
-            found.append([kind, at, 1])
-    return found
 
 
 class Image:
@@ -62,7 +52,7 @@ def said(first, second, most):
     both = min(len(first.blocks), len(second.blocks))
     kinds = ["changed" if first.blocks[at] != second.blocks[at] else None for at in range(both)]
     kinds += ["removed"] * (len(first.blocks) - both) + ["added"] * (len(second.blocks) - both)
-    lines = [f"{kind} {at} {count}" for kind, at, count in runs(kinds)]
+    lines = [f"{kind} {at} {count}" for kind, at, count in longest_runs(kinds)]
     if most is not None and len(lines) > most:
         lines = lines[:most] + ["more"]
     changed = kinds.count("changed")
@@ -93,7 +83,8 @@ class Trial:
         for path, image in zip(paths, images):
             with open(path, "wb") as out:
                 out.write(image)
-        words = [paths[0], roots[0].hex(), paths[1], roots[1].hex(), "-" if most is None else str(most)]
+        options = [] if most is None else ["--blocks", str(most)]
+        words = [*options, paths[0], roots[0].hex(), paths[1], roots[1].hex()]
         ran = subprocess.run(self.command + words, capture_output=True, text=True)
         self.runs += 1
         lines = ran.stdout.splitlines()
@@ -128,7 +119,7 @@ class Trial:
 
     def try_pair(self):
         first, second = self.pair()
-        most = self.dice.choice([None, None, 0, 1, 2, 5])
+        most = self.dice.choice([None, None, 1, 2, 5])
         lines, status = said(first, second, most)
         roots = (first.root, second.root)
         got, code, reads = self.ask((first.image, second.image), roots, most)
@@ -155,7 +146,7 @@ class Trial:
         got, code, _ = self.ask(images, (first.root, second.root), most)
         is_read = (level, index) in differ or (level >= levels and index == 0)
         if is_read:
-            self.equal("changed block", (got[-1:], code), ([f"hash {('First', 'Second')[which]} {level} {index}"], 1))
+            self.equal("changed block", (got[-1:], code), ([f"fault hash {('first', 'second')[which]} {level} {index}"], 3))
         else:
             self.equal("changed block that isn't read", (got, code), (lines, status))
 
