@@ -3,8 +3,8 @@
 
 nbd_clients.py [PROGRAM]: copies devices out with nbdcopy and qemu-img and compares them, copies an image in through a
 `crypt` line and reads it back by another stack, writes bytes and zeros with qemu-io across the ends of sectors, with FUA
-too, reads a verity volume with one changed block, copies each device of a stack out by its name, and prints the speed over
-each kind of line, over four connections and over one, beside nbdkit's and beside `scan`'s. What isn't installed is named and left out (Debian: libnbd-bin, python3-libnbd, qemu-utils, socat, nbdkit).
+too, reads a verity volume with one changed block, copies each device of a stack out by its name, looks at the map of a
+sparse stack and that copies of it stay sparse, and prints the speed over each kind of line, over four connections and over one, beside nbdkit's and beside `scan`'s. What isn't installed is named and left out (Debian: libnbd-bin, python3-libnbd, qemu-utils, socat, nbdkit).
 """
 import json
 import os
@@ -113,6 +113,29 @@ def each_of_all(data, bindings):
         if shutil.which("qemu-img"):
             done = run("qemu-img", "convert", "-f", "raw", "-O", "raw", f"nbd:unix:{socket}:exportname=v", "converted")
             say("all: qemu-img", done.returncode == 0 and open("converted", "rb").read() == data, done.stderr.decode())
+
+
+def sparse():
+    """A stack with holes: its map is told, and copies of it have holes there."""
+    data = random.Random(9).randbytes(2 << 20)
+    open("part", "wb").write(data)
+    open("holes", "w").write("s,,,ro,0 2048 linear D 0,2048 100000 zero,102048 2048 linear D 2048,104096 26976 zero")
+    wanted = data[: 1 << 20] + bytes(100000 * 512) + data[1 << 20 :] + bytes(26976 * 512)
+    extents = [[0, 2048, 0], [2048, 100000, 3], [102048, 2048, 0], [104096, 26976, 3]]
+    with Served(words_for("holes", "s", "D=ro:" + os.path.abspath("part"))) as uri:
+        if shutil.which("nbdinfo"):
+            told = json.loads(run("nbdinfo", "--map", "--json", uri).stdout or "[]")
+            found = [[it["offset"] // 512, it["length"] // 512, it["type"]] for it in told]
+            say("sparse: nbdinfo --map", found == extents, str(found))
+            told = json.loads(run("nbdinfo", "--json", uri).stdout or "{}")
+            say("sparse: nbdinfo", told.get("protocol") is not None and "base:allocation" in told["exports"][0].get("contexts", []), str(told))
+        copies = [("nbdcopy", ["nbdcopy", uri, "thin"]), ("qemu-img", ["qemu-img", "convert", "-f", "raw", "-O", "raw", "nbd:unix:" + uri.split("=")[1], "thin"])]
+        for client, words in copies:
+            if shutil.which(client):
+                done = run(*words)
+                say(f"sparse: {client}", done.returncode == 0 and open("thin", "rb").read() == wanted, done.stderr.decode())
+                say(f"sparse: {client} leaves holes", os.stat("thin").st_blocks * 512 <= len(data) + 65536, str(os.stat("thin").st_blocks))
+                os.remove("thin")
 
 
 def copied_in(data):
@@ -233,6 +256,7 @@ def main():
         whole("verity", words_for("verity", "v", *verity), data)
         each_of_all(data, ["D=rw:" + os.path.abspath("data"), verity[1]])
         copied_in(data)
+        sparse()
     else:
         print("socat isn't installed")
     changed_block(data)

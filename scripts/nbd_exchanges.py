@@ -18,11 +18,13 @@ sys.path.insert(0, os.path.join(os.path.dirname(os.path.realpath(__file__)), "mo
 from cipher import xts_encrypt  # noqa: E402
 
 MAGIC, OPTION_MAGIC, REPLY_MAGIC = b"NBDMAGIC", b"IHAVEOPT", 0x3E889045565A9
-REQUEST, SIMPLE_REPLY = 0x25609513, 0x67446698
-EXPORT_NAME, ABORT, LIST, STARTTLS, INFO, GO, STRUCTURED, META, EXTENDED = 1, 2, 3, 5, 6, 7, 8, 10, 11
-ACK, SERVER, REP_INFO = 1, 2, 3
+REQUEST, SIMPLE_REPLY, CHUNK = 0x25609513, 0x67446698, 0x668E33EF
+EXPORT_NAME, ABORT, LIST, STARTTLS, INFO, GO, STRUCTURED, LIST_META, SET_META, EXTENDED = 1, 2, 3, 5, 6, 7, 8, 9, 10, 11
+ACK, SERVER, REP_INFO, REP_META = 1, 2, 3, 4
 UNSUPPORTED, INVALID, UNKNOWN, TOO_BIG = (2**31 + n for n in (1, 3, 6, 9))
-READ, WRITE, DISC, FLUSH, TRIM, CACHE, ZEROES = 0, 1, 2, 3, 4, 5, 6
+READ, WRITE, DISC, FLUSH, TRIM, CACHE, ZEROES, STATUS = 0, 1, 2, 3, 4, 5, 6, 7
+NONE, OFFSET_DATA, BLOCK_STATUS, ERROR = 0, 1, 5, 0x8001
+HOLE_AND_ZERO = 3
 EPERM, EIO, ENOMEM, EINVAL, ENOSPC = 1, 5, 12, 22, 28
 MOST = 32 << 20
 
@@ -53,17 +55,37 @@ def reply(error=0, data=b"", cookie=0x1122334455667788):
     return struct.pack(">IIQ", SIMPLE_REPLY, error, cookie) + data
 
 
+def chunk(kind, data=b"", cookie=0x1122334455667788, done=1):
+    return struct.pack(">IHHQI", CHUNK, done, kind, cookie, len(data)) + data
+
+
+def failed(error, cookie=0x1122334455667788):
+    """The chunk of a request that fails, with no text."""
+    return chunk(ERROR, struct.pack(">IH", error, 0), cookie)
+
+
+def queries(name, *wanted):
+    asked = b"".join(struct.pack(">I", len(one)) + one for one in wanted)
+    return struct.pack(">I", len(name)) + name + struct.pack(">I", len(wanted)) + asked
+
+
+def context(number, identity):
+    return option_reply(number, REP_META, struct.pack(">I", identity) + b"base:allocation")
+
+
 class Export:
     """A device of a stack, as bytes: those that can't be read are None."""
 
-    def __init__(self, name, content, writable=False, lost=()):
+    def __init__(self, name, content, writable=False, lost=(), zeros=()):
         self.name, self.content, self.writable, self.lost = name, bytearray(content), writable, lost
+        self.zeros = zeros
 
-    def bits(self):
-        return FLAGS | SEND_TRIM | SEND_WRITE_ZEROES if self.writable else FLAGS | READ_ONLY | CAN_MULTI_CONN
+    def bits(self, structured=False):
+        own = SEND_TRIM | SEND_WRITE_ZEROES if self.writable else READ_ONLY | CAN_MULTI_CONN
+        return FLAGS | own | (SEND_DF if structured else 0)
 
-    def told(self, number, sizes=False):
-        out = option_reply(number, REP_INFO, struct.pack(">HQH", 0, len(self.content), self.bits()))
+    def told(self, number, sizes=False, structured=False):
+        out = option_reply(number, REP_INFO, struct.pack(">HQH", 0, len(self.content), self.bits(structured)))
         if sizes:
             out += option_reply(number, REP_INFO, struct.pack(">HIII", 3, 1, 4096, MOST))
         return out + option_reply(number, ACK)
@@ -78,6 +100,30 @@ class Export:
         if self.fails(offset, length):
             return reply(EIO)
         return reply(data=bytes(self.content[offset : offset + length]))
+
+    def chunks(self, offset, length, cookie=0x1122334455667788):
+        """The same in chunks."""
+        answer = self.read(offset, length)
+        error, = struct.unpack(">I", answer[4:8])
+        if error:
+            return failed(error, cookie)
+        if not length:
+            return chunk(NONE, cookie=cookie)
+        return chunk(OFFSET_DATA, struct.pack(">Q", offset) + answer[16:], cookie)
+
+    def status(self, offset, length, one=False):
+        """The extents of some bytes: those of zero lines are holes, by ranges of sectors."""
+        if not length or offset + length > len(self.content):
+            return failed(EINVAL)
+        extents = []
+        for at in range(offset, offset + length):
+            zeros = any(low <= at // SECTOR < high for low, high in self.zeros)
+            if extents and extents[-1][1] == zeros:
+                extents[-1][0] += 1
+            else:
+                extents.append([1, zeros])
+        told = b"".join(struct.pack(">II", count, HOLE_AND_ZERO if zeros else 0) for count, zeros in extents[:1 if one else None])
+        return chunk(BLOCK_STATUS, struct.pack(">I", 1) + told)
 
     def write(self, offset, data):
         if not self.writable:
@@ -95,7 +141,7 @@ class Export:
         return reply(EINVAL) if offset + length > len(self.content) else reply()
 
 
-READ_ONLY, SEND_TRIM, SEND_WRITE_ZEROES, CAN_MULTI_CONN = 1 << 1, 1 << 5, 1 << 6, 1 << 8
+READ_ONLY, SEND_TRIM, SEND_WRITE_ZEROES, SEND_DF, CAN_MULTI_CONN = 1 << 1, 1 << 5, 1 << 6, 1 << 7, 1 << 8
 # HAS_FLAGS, SEND_FLUSH, SEND_FUA and SEND_CACHE
 FLAGS = 1 | 1 << 2 | 1 << 3 | 1 << 10
 FUA, NO_HOLE, DF, REQ_ONE, FAST_ZERO = (1 << bit for bit in range(5))
@@ -111,12 +157,15 @@ def exports():
         "kept": Export("kept", RAMP),
         "holed": Export("holed", RAMP[: 2 * SECTOR] + bytes(SECTOR) + RAMP[3 * SECTOR :], writable=True, lost=[(2, 3)]),
         "file": Export("file", bytes((7 * k + 3) % 251 for k in range(8 * SECTOR)), writable=True),
+        "sparse": Export("sparse", RAMP[: 2 * SECTOR] + bytes(5 * SECTOR) + RAMP[: 3 * SECTOR] + bytes(SECTOR), zeros=[(2, 7), (10, 11)]),
+        "over": Export("over", (RAMP[: 2 * SECTOR] + bytes(5 * SECTOR))[SECTOR:] + bytes(4 * SECTOR), zeros=[(1, 6)]),
     }
 
 
 STACK = (
     "low,,,rw,0 8 linear R 0;kept,,,ro,0 8 linear R 0;"
-    "holed,,,rw,0 2 linear R 0,2 1 error,3 5 linear R 3;file,,,rw,0 8 linear F 0"
+    "holed,,,rw,0 2 linear R 0,2 1 error,3 5 linear R 3;file,,,rw,0 8 linear F 0;"
+    "sparse,,,ro,0 2 linear R 0,2 4 zero,6 1 zero,7 3 linear R 0,10 1 zero;over,,,ro,0 6 linear /dev/mapper/sparse 1,6 4 linear Z 0"
 )
 
 
@@ -157,6 +206,16 @@ def begun(export, bits=3):
     return flags(bits) + option(EXPORT_NAME, export.name.encode()), GREETING + fields
 
 
+def begun_in_chunks(export, status=False):
+    """The same by GO, where chunks were asked for, and the status of blocks."""
+    name = export.name.encode()
+    sent, wanted = flags(3) + option(STRUCTURED), GREETING + option_reply(STRUCTURED, ACK)
+    if status:
+        sent += option(SET_META, queries(name, b"base:allocation"))
+        wanted += context(SET_META, 1) + option_reply(SET_META, ACK)
+    return sent + option(GO, asks(name)), wanted + export.told(GO, structured=True)
+
+
 def handshakes(runner):
     """Options, one after another and each wrong in turn."""
     e = exports()["low"]
@@ -173,7 +232,7 @@ def handshakes(runner):
     listed = option_reply(LIST, SERVER, struct.pack(">I", 3) + b"low") + option_reply(LIST, ACK)
     runner.run("list", "low", flags(3) + option(LIST) + option(ABORT), GREETING + listed + option_reply(ABORT, ACK))
     runner.run("list with data", "low", flags(3) + option(LIST, b"x") + option(LIST), GREETING + option_reply(LIST, INVALID) + listed)
-    for number in (0, 4, STARTTLS, STRUCTURED, 9, META, EXTENDED, 12, 0x7FFFFFFF, 0xFFFFFFFF):
+    for number in (0, 4, STARTTLS, EXTENDED, 12, 0x7FFFFFFF, 0xFFFFFFFF):
         for data in (b"", b"whatever"):
             runner.run(f"option {number}", "low", flags(3) + option(number, data) + option(LIST), GREETING + option_reply(number, UNSUPPORTED) + listed)
     for number in (INFO, GO):
@@ -257,7 +316,7 @@ def transmissions(runner):
                     asked += request(kind, offset, length) + request(READ, 0, 512)
                     told += e.hint(kind, offset, length) + e.read(0, 512)
             runner.run(f"hints {kind} of {name}", name, asked, told, after=bytes(exports()["file"].content))
-        for kind in (7, 8, 100, 65535):
+        for kind in (STATUS, 8, 100, 65535):
             asked, told = begun(e)
             runner.run(f"kind {kind}", name, asked + request(kind, 0, 512) + request(READ, 1, 2), told + reply(EINVAL) + e.read(1, 2))
         for k in range(4):
@@ -275,6 +334,140 @@ def transmissions(runner):
             sent += request(READ, offset, length)
             wanted += e.read(offset, length)
     runner.run("reads of holed", "holed", sent, wanted)
+
+
+def chunks(runner):
+    """Structured replies: how they are agreed on, and each READ in chunks, with each field wrong in turn."""
+    listed = option_reply(LIST, SERVER, struct.pack(">I", 3) + b"low") + option_reply(LIST, ACK)
+    e = exports()["low"]
+    opened, told = option(GO, asks(b"low", 3)), e.told(GO, True)
+    for data in (b"x", bytes(8)):
+        sent = flags(3) + option(STRUCTURED, data) + option(LIST) + opened + request(READ, 0, 8) + request(READ, 0, 8, bits=DF)
+        runner.run("structured with data", "low", sent, GREETING + option_reply(STRUCTURED, INVALID) + listed + told + e.read(0, 8) + reply(EINVAL))
+    for again in (1, 2, 3):
+        sent = flags(3) + again * option(STRUCTURED) + opened + request(READ, 0, 8)
+        runner.run(f"structured, {again} times", "low", sent, GREETING + again * option_reply(STRUCTURED, ACK) + e.told(GO, True, True) + e.chunks(0, 8))
+    for bits in (1, 3):
+        fields = struct.pack(">QH", len(e.content), e.bits(True)) + (b"" if bits & 2 else bytes(124))
+        sent = flags(bits) + option(STRUCTURED) + option(EXPORT_NAME, b"low") + request(READ, 5, 600)
+        runner.run("structured before EXPORT_NAME", "low", sent, GREETING + option_reply(STRUCTURED, ACK) + fields + e.chunks(5, 600))
+    for name in ("low", "kept", "file"):
+        e = exports()[name]
+        size = len(e.content)
+        sent, wanted = begun_in_chunks(e)
+        for offset in (0, 1, 511, 512, 513, 1023, size - 513, size - 512, size - 1, size, size + 1, 1 << 40, 2**63, 2**64 - 1):
+            for length in (0, 1, 2, 511, 512, 513, 1024, 1025, size, MOST + 1, 2**32 - 1):
+                sent += request(READ, offset, length, offset ^ length)
+                wanted += e.chunks(offset, length, offset ^ length)
+        runner.run(f"reads of {name} in chunks", name, sent + request(DISC), wanted)
+        for bits in (0, FUA, NO_HOLE, DF, FUA | DF, NO_HOLE | DF, REQ_ONE, REQ_ONE | DF, FAST_ZERO, 0x8000, 0x8004):
+            asked, found = begun_in_chunks(e)
+            asked += request(READ, 0, 700, bits=bits) + request(CACHE, 0, 512, bits=bits) + request(FLUSH, bits=bits)
+            found += e.chunks(0, 700) if bits & ~(FUA | DF) == 0 else failed(EINVAL)
+            found += 2 * (reply() if bits & ~FUA == 0 else reply(EINVAL))
+            runner.run(f"flag {bits} in chunks", name, asked + request(READ, 0, 512), found + e.chunks(0, 512))
+        asked, found = begun_in_chunks(e)
+        for kind in (STATUS, 8, 65535):
+            asked += request(kind, 0, 512)
+            found += failed(EINVAL) if kind == STATUS else reply(EINVAL)
+        asked += request(WRITE, 510, 4, data=b"four") + request(ZEROES, 0, 2) + request(TRIM, 0, 2) + request(READ, 508, 8)
+        found += e.write(510, b"four") + e.write(0, bytes(2)) + e.hint(TRIM, 0, 2) + e.chunks(508, 8)
+        runner.run(f"others of {name} beside chunks", name, asked, found)
+    e = exports()["holed"]
+    sent, wanted = begun_in_chunks(e)
+    for offset in (0, 1023, 1024, 1500, 1535, 1536, 2000):
+        for length in (1, 2, 512, 513, 1024):
+            sent += request(READ, offset, length) + request(READ, offset, length, bits=DF)
+            wanted += 2 * e.chunks(offset, length)
+    runner.run("reads of holed in chunks", "holed", sent, wanted)
+
+
+def contexts(runner):
+    """Metadata contexts: what is queried, each length wrong in turn, and what a SET leaves selected."""
+    e = exports()["sparse"]
+    agreed, told = flags(3) + option(STRUCTURED), GREETING + option_reply(STRUCTURED, ACK)
+    opened, begins = option(GO, asks(b"sparse")), e.told(GO, structured=True)
+    for number in (LIST_META, SET_META):
+        whole = queries(b"sparse", b"base:allocation")
+        for data in (b"", whole):
+            runner.run(f"{number} without chunks", "sparse", flags(3) + option(number, data) + option(ABORT), GREETING + option_reply(number, INVALID) + option_reply(ABORT, ACK))
+        rows = [((), False), ((b"base:allocation",), True), ((b"base:",), False), ((b"base:allocatio",), False), ((b"base:allocation2",), False)]
+        rows += [((b"qemu:dirty-bitmap:x", b"base:allocation"), True), ((b"base:allocation", b"other"), True), ((b"",), False), ((b"base",), False), ((b"Base:allocation",), False)]
+        rows += [((b"base:allocation",) * 3, True), ((b"x",) * 40, False), ((b"x",) * 40 + (b"base:allocation",), True)]
+        for wanted, named in rows:
+            if number == LIST_META:
+                named = named or wanted in ((), (b"base:",))
+            for name in (b"sparse", b""):
+                answer = (context(number, 0 if number == LIST_META else 1) if named else b"") + option_reply(number, ACK)
+                chosen = named and number == SET_META
+                after = e.status(0, 5632) if chosen else failed(EINVAL)
+                runner.run(f"{number} of {wanted[:2]}", "sparse", agreed + option(number, queries(name, *wanted)) + opened + request(STATUS, 0, 5632), told + answer + begins + after)
+        for name in (b"spars", b"sparse2", b"low", b"\0"):
+            runner.run(f"{number} for {name}", "sparse", agreed + option(number, queries(name, b"base:allocation")) + option(ABORT), told + option_reply(number, UNKNOWN) + option_reply(ABORT, ACK))
+        whole = queries(b"sparse", b"base:allocation", b"x:y")
+        bad = [whole[:k] for k in range(len(whole))] + [whole + b"\0", whole + bytes(4)]
+        bad += [struct.pack(">I", n) + whole[4:] for n in (0, 5, 7, len(whole), 2**32 - 1)]
+        bad += [whole[:10] + struct.pack(">I", n) + whole[14:] for n in (0, 1, 3, 2**32 - 1)]
+        bad += [whole[:14] + struct.pack(">I", n) + whole[18:] for n in (0, 14, 16, 22, 23, 2**32 - 1)]
+        for data in bad:
+            runner.run(f"{number} with {data.hex()}", "sparse", agreed + option(number, data) + option(ABORT), told + option_reply(number, INVALID) + option_reply(ABORT, ACK))
+    good, chosen = option(SET_META, queries(b"sparse", b"base:allocation")), context(SET_META, 1) + option_reply(SET_META, ACK)
+    asked = request(STATUS, 0, 5632)
+    # the last SET counts, one that fails too; nothing else unselects
+    unselects = [
+        (option(SET_META, queries(b"sparse")), option_reply(SET_META, ACK)),
+        (option(SET_META, queries(b"sparse", b"base:")), option_reply(SET_META, ACK)),
+        (option(SET_META, b"x"), option_reply(SET_META, INVALID)),
+        (option(SET_META, queries(b"none", b"base:allocation")), option_reply(SET_META, UNKNOWN)),
+        (option(SET_META, bytes(65537)), option_reply(SET_META, TOO_BIG)),
+    ]
+    for message, answer in unselects:
+        runner.run("unselected", "sparse", agreed + good + message + opened + asked, told + chosen + answer + begins + failed(EINVAL))
+        runner.run("selected again", "sparse", agreed + message + good + opened + asked, told + answer + chosen + begins + e.status(0, 5632))
+    keeps = [
+        (option(LIST_META, queries(b"sparse")), context(LIST_META, 0) + option_reply(LIST_META, ACK)),
+        (option(LIST_META, bytes(65537)), option_reply(LIST_META, TOO_BIG)),
+        (option(STRUCTURED), option_reply(STRUCTURED, ACK)),
+        (option(STRUCTURED, b"x"), option_reply(STRUCTURED, INVALID)),
+        (option(99, bytes(65537)), option_reply(99, TOO_BIG)),
+        (option(INFO, asks(b"sparse")), e.told(INFO, structured=True)),
+    ]
+    for message, answer in keeps:
+        runner.run("still selected", "sparse", agreed + good + message + opened + asked, told + chosen + answer + begins + e.status(0, 5632))
+    low = exports()["low"]
+    both = agreed + option(SET_META, queries(b"low", b"base:allocation"))
+    runner.run("selected of another export", None, both + opened + asked, told + chosen + begins + failed(EINVAL))
+    runner.run("selected of this one", None, both + option(GO, asks(b"low")) + request(STATUS, 0, 4096), told + chosen + low.told(GO, structured=True) + low.status(0, 4096))
+
+
+def statuses(runner):
+    """The status of blocks: at the ends of extents and within them, each field wrong in turn."""
+    for name in ("low", "file", "holed", "sparse", "over"):
+        e = exports()[name]
+        size = len(e.content)
+        sent, wanted = begun_in_chunks(e, True)
+        for offset in sorted({0, 1, 511, 512, 513, 1023, 1024, 1025, 3583, 3584, 3585, 5119, 5120, size - 1, size, size + 1, 2**63, 2**64 - 1}):
+            for length in (0, 1, 2, 511, 512, 513, 1024, 2560, 2561, size - offset, size - offset + 1, size, 2**32 - 1):
+                if 0 <= length < 2**32:
+                    sent += request(STATUS, offset, length) + request(STATUS, offset, length, bits=REQ_ONE)
+                    wanted += e.status(offset, length) + e.status(offset, length, True)
+        runner.run(f"status of {name}", name, sent + request(READ, 0, 8), wanted + e.chunks(0, 8))
+        for bits in (0, FUA, NO_HOLE, DF, REQ_ONE, FUA | REQ_ONE, DF | REQ_ONE, FAST_ZERO, 0x8000, 0x8008):
+            asked, told = begun_in_chunks(e, True)
+            told += e.status(0, size, bool(bits & REQ_ONE)) if bits & ~(FUA | REQ_ONE) == 0 else failed(EINVAL)
+            runner.run(f"status with flag {bits}", name, asked + request(STATUS, 0, size, bits=bits), told)
+    # many extents: a reply has at most 1,024, of at most 4,097 runs each
+    open("many", "w").write("z,,,ro,0 1500 zero;m,,,ro,0 3000 striped 2 1 R 0 /dev/mapper/z 0")
+    many = Export("m", bytes(3000 * SECTOR))
+    sent, wanted = begun_in_chunks(many, True)
+    for offset, length, count in ((0, 3000 * SECTOR, 1024), (700, 1024 * SECTOR, 1024), (SECTOR, 5 * SECTOR - 1, 5)):
+        sent += request(STATUS, offset, length)
+        ends = [min(offset + length, (offset // SECTOR + k + 1) * SECTOR) for k in range(count)]
+        begins = [offset, *ends[:-1]]
+        told = b"".join(struct.pack(">II", end - at, HOLE_AND_ZERO if at // SECTOR % 2 else 0) for at, end in zip(begins, ends))
+        wanted += chunk(BLOCK_STATUS, struct.pack(">I", 1) + told)
+    served = subprocess.run([runner.program, "nbd", "many", "m", "R=ramp:1500"], input=sent, capture_output=True, timeout=60)
+    runner.count("many extents", served.stdout == wanted and served.returncode == 0 and not served.stderr)
 
 
 def writes(runner):
@@ -434,13 +627,31 @@ def cuts(runner):
         sent, wanted = sent + message, wanted + answer
     runner.run("not cut", "file", sent, wanted, after=bytes(e.content))
     runner.run("not cut, and ended", "file", sent + request(DISC), wanted, after=bytes(e.content))
+    e = exports()["sparse"]
+    messages = [
+        (flags(3) + option(STRUCTURED), option_reply(STRUCTURED, ACK)),
+        (option(LIST_META, queries(b"sparse", b"base:")), context(LIST_META, 0) + option_reply(LIST_META, ACK)),
+        (option(SET_META, queries(b"sparse", b"base:allocation")), context(SET_META, 1) + option_reply(SET_META, ACK)),
+        (option(GO, asks(b"sparse")), e.told(GO, structured=True)),
+        (request(READ, 510, 4, bits=DF), e.chunks(510, 4)),
+        (request(STATUS, 510, 3000), e.status(510, 3000)),
+        (request(STATUS, 510, 3000, bits=REQ_ONE), e.status(510, 3000, True)),
+    ]
+    sent, wanted = b"", GREETING
+    for place, (message, answer) in enumerate(messages):
+        for cut in range(4 if place == 0 else 0, len(message)):
+            runner.run(f"cut at {cut} of message {place} in chunks", "sparse", sent + message[:cut], wanted, status=0 if cut == (4 if place == 0 else 0) else 4)
+        sent, wanted = sent + message, wanted + answer
+    runner.run("not cut, in chunks", "sparse", sent + request(DISC), wanted)
 
 
-def talks(failing=None, error=EIO):
+def talks(chunked, failing=None, error=EIO):
     """What is written in an exchange over the file, where the request of that number fails and does nothing."""
     e = exports()["file"]
     asked = [("write", 509, b"across"), ("flush",), ("read", 508, 8), ("write", 1024, bytes(range(256)) * 4), ("flush",), ("zeroes", 1536, 512), ("read", 0, 4096)]
-    sent, wanted = begun(e)
+    if chunked:
+        asked.append(("status", 5, 4000))
+    sent, wanted = begun_in_chunks(e, True) if chunked else begun(e)
     for number, (kind, *rest) in enumerate(asked):
         if kind == "write":
             sent += request(WRITE, rest[0], len(rest[1]), data=rest[1])
@@ -451,6 +662,12 @@ def talks(failing=None, error=EIO):
         elif kind == "flush":
             sent += request(FLUSH)
             answer = reply(error) if number == failing else reply()
+        elif kind == "status":
+            sent += request(STATUS, *rest)
+            answer = failed(error) if number == failing else e.status(*rest)
+        elif chunked:
+            sent += request(READ, *rest)
+            answer = failed(error) if number == failing else e.chunks(*rest)
         else:
             sent += request(READ, *rest)
             answer = reply(error) if number == failing else e.read(*rest)
@@ -460,12 +677,17 @@ def talks(failing=None, error=EIO):
 
 
 def failures(runner):
+    for chunked in (False, True):
+        failures_of(runner, chunked)
+
+
+def failures_of(runner, chunked):
     """Each call of the system, and each allocation, fails in turn: the request that met it says so, and the others nothing."""
     library = os.path.join(os.getcwd(), "fail.so")
     sources = [os.path.join(os.path.dirname(os.path.realpath(__file__)), it) for it in ("fail_calls.c", "refuse_alloc.c")]
     subprocess.run(["cc", "-shared", "-fPIC", "-O2", "-o", library, *sources, "-ldl"], check=True)
     open("stack", "w").write(STACK)
-    sent, plain, after, kinds = talks()
+    sent, plain, after, kinds = talks(chunked)
     for kind in ("device", "memory", "input", "output"):
         for number in range(1, 10000):
             open("F", "wb").write(exports()["file"].content)
@@ -481,11 +703,11 @@ def failures(runner):
             found = done.stdout, done.returncode, open("F", "rb").read()
             if kind == "device":
                 synced = met.startswith("sync")
-                ends = [(told, 0, left) for _, told, left, _ in (talks(k) for k, it in enumerate(kinds) if (it == "flush") == synced)]
+                ends = [(told, 0, left) for _, told, left, _ in (talks(chunked, k) for k, it in enumerate(kinds) if (it == "flush") == synced)]
                 # the sync at the end: the file is the third binding
                 good = found in ends or synced and found == (plain + b"fault 3 Device 3\n", 3, after)
             elif kind == "memory":
-                ends = [(told, 0, left) for _, told, left, _ in (talks(), *(talks(k, ENOMEM) for k in range(len(kinds))))]
+                ends = [(told, 0, left) for _, told, left, _ in (talks(chunked), *(talks(chunked, k, ENOMEM) for k in range(len(kinds))))]
                 good = found in ends or found[:2] in ((b"no memory\n", 1), (GREETING, 1))
             else:
                 good = done.returncode == 1 and plain.startswith(done.stdout)
@@ -504,7 +726,7 @@ def main():
     runner = Runner(os.path.abspath(given) if os.path.exists(given) else given)
     with tempfile.TemporaryDirectory() as room:
         os.chdir(room)
-        for part in (handshakes, many_exports, transmissions, writes, zeroes, long_runs, crypt, cuts, failures, refusals):
+        for part in (handshakes, many_exports, transmissions, chunks, contexts, statuses, writes, zeroes, long_runs, crypt, cuts, failures, refusals):
             part(runner)
     print(f"exchanges: {runner.passed} passed, {runner.failed} failed")
     return 1 if runner.failed or not runner.passed else 0

@@ -4,8 +4,10 @@ import struct
 from dataclasses import dataclass, replace
 
 OPTION_MAGIC, REQUEST_MAGIC = b"IHAVEOPT", 0x25609513
-OPTIONS = {1: "EXPORT_NAME", 2: "ABORT", 3: "LIST", 6: "INFO", 7: "GO"}
-COMMANDS = {0: "READ", 1: "WRITE", 2: "DISC", 3: "FLUSH", 4: "TRIM", 5: "CACHE", 6: "WRITE_ZEROES"}
+OPTIONS = {1: "EXPORT_NAME", 2: "ABORT", 3: "LIST", 6: "INFO", 7: "GO", 8: "STRUCTURED_REPLY", 9: "LIST_META_CONTEXT",
+           10: "SET_META_CONTEXT"}
+COMMANDS = {0: "READ", 1: "WRITE", 2: "DISC", 3: "FLUSH", 4: "TRIM", 5: "CACHE", 6: "WRITE_ZEROES",
+            7: "BLOCK_STATUS"}
 
 
 def smaller_numbers(value):
@@ -84,3 +86,9 @@ class Request:
 def information(name, facts):
     """The data of INFO and GO."""
     return struct.pack(">I", len(name)) + name + struct.pack(">H%dH" % len(facts), len(facts), *facts)
+
+
+def queries(name, wanted):
+    """The data of LIST_META_CONTEXT and SET_META_CONTEXT: of that export, what is queried."""
+    asked = b"".join(struct.pack(">I", len(one)) + one for one in wanted)
+    return struct.pack(">I", len(name)) + name + struct.pack(">I", len(wanted)) + asked

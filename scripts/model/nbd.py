@@ -5,16 +5,22 @@ import struct
 from stack import SECTOR, Fault
 
 OLD_MAGIC, OPTION_MAGIC, OPTION_REPLY_MAGIC = b"NBDMAGIC", b"IHAVEOPT", 0x3E889045565A9
-REQUEST_MAGIC, SIMPLE_REPLY_MAGIC = 0x25609513, 0x67446698
+REQUEST_MAGIC, SIMPLE_REPLY_MAGIC, CHUNK_MAGIC = 0x25609513, 0x67446698, 0x668E33EF
 FIXED_NEWSTYLE, NO_ZEROES = 1, 2
 EXPORT_NAME, ABORT, LIST, INFO, GO = 1, 2, 3, 6, 7
-ACK, SERVER, INFORMATION = 1, 2, 3
+STRUCTURED_REPLY, LIST_META_CONTEXT, SET_META_CONTEXT = 8, 9, 10
+ACK, SERVER, INFORMATION, META_CONTEXT = 1, 2, 3, 4
 UNSUPPORTED, INVALID, UNKNOWN, TOO_BIG = (2**31 + kind for kind in (1, 3, 6, 9))
 EXPORT, BLOCK_SIZE = 0, 3
 HAS_FLAGS, READ_ONLY, SEND_FLUSH, SEND_FUA, SEND_TRIM, SEND_WRITE_ZEROES = 1, 2, 4, 8, 32, 64
-CAN_MULTI_CONN, SEND_CACHE = 256, 1024
-READ, WRITE, DISCONNECT, FLUSH, TRIM, CACHE, WRITE_ZEROES = range(7)
-FUA, NO_HOLE = 1, 2
+SEND_DF, CAN_MULTI_CONN, SEND_CACHE = 128, 256, 1024
+READ, WRITE, DISCONNECT, FLUSH, TRIM, CACHE, WRITE_ZEROES, BLOCK_STATUS = range(8)
+FUA, NO_HOLE, DF, REQ_ONE = 1, 2, 4, 8
+# The types of chunks, and the flag of the last one.
+NONE, OFFSET_DATA, STATUS, ERROR, LAST = 0, 1, 5, 0x8001, 1
+CONTEXT, CONTEXT_NAME, NAMESPACE = 1, b"base:allocation", b"base:"
+HOLE_OF_ZEROS = 3
+MOST_EXTENTS, MOST_JOINED = 1024, 4096
 EPERM, EIO, EINVAL, ENOSPC = 1, 5, 22, 28
 MOST_OF_AN_OPTION, MOST_OF_A_REQUEST = 65536, 32 * 1024 * 1024
 DONE, BROKEN = 0, 4
@@ -69,7 +75,7 @@ class Service:
         self.given, self.at = given, 0
         self.replies.add("the greeting", OLD_MAGIC + OPTION_MAGIC + struct.pack(">H", FIXED_NEWSTYLE | NO_ZEROES))
         try:
-            self.no_zeroes = self.client_flags()
+            self.no_zeroes, self.structured, self.selected = self.client_flags(), False, None
             while not self.option():
                 pass
             while True:
@@ -110,12 +116,19 @@ class Service:
         if option == ABORT:
             self.tell(option, ACK)
             raise Ended(DONE)
+        if option == SET_META_CONTEXT:
+            self.selected = None
         if length > MOST_OF_AN_OPTION:
             return self.tell(option, TOO_BIG)
         if option == LIST:
             return self.list(data)
         if option in (INFO, GO):
             return self.info(option, data)
+        if option == STRUCTURED_REPLY:
+            self.structured |= not data
+            return self.tell(option, INVALID if data else ACK)
+        if option in (LIST_META_CONTEXT, SET_META_CONTEXT):
+            return self.contexts(option, data)
         return self.tell(option, UNSUPPORTED)
 
     def tell(self, option, kind, data=b""):
@@ -132,6 +145,7 @@ class Service:
     def fields(self, device):
         flags = HAS_FLAGS | SEND_FLUSH | SEND_FUA | SEND_CACHE
         flags |= SEND_TRIM | SEND_WRITE_ZEROES if device.writable else READ_ONLY | CAN_MULTI_CONN
+        flags |= SEND_DF if self.structured else 0
         return struct.pack(">QH", device.sectors * SECTOR, flags)
 
     def begin_with(self, device):
@@ -168,6 +182,22 @@ class Service:
         self.tell(option, ACK)
         return option == GO and self.begin_with(device)
 
+    def contexts(self, option, data):
+        """The only context, where it is named: by its name, and in a LIST by its namespace or by no query."""
+        asked = queried(data) if self.structured else None
+        if asked is None:
+            return self.tell(option, INVALID)
+        name, queries = asked
+        device = self.named(name)
+        if device is None:
+            return self.tell(option, UNKNOWN)
+        listing = option == LIST_META_CONTEXT
+        if CONTEXT_NAME in queries or listing and (NAMESPACE in queries or not queries):
+            self.tell(option, META_CONTEXT, struct.pack(">I", 0 if listing else CONTEXT) + CONTEXT_NAME)
+            if not listing:
+                self.selected = device
+        return self.tell(option, ACK)
+
     # The transmission
 
     def request(self):
@@ -181,18 +211,35 @@ class Service:
         data = self.take(length) if command == WRITE else b""
         try:
             self.check(flags, command, offset, length)
-            error, answer = 0, self.done(command, offset, length, data)
+            error, answer = 0, self.done(command, flags, offset, length, data)
         except Refused as refused:
             error, answer = refused.error, b""
         except Fault:
             error, answer = EIO, b""
         asked = "command %d at %d of %d bytes" % (command, offset, length)
-        self.replies.add(asked, struct.pack(">IIQ", SIMPLE_REPLY_MAGIC, error, cookie) + answer)
+        if self.structured and command in (READ, BLOCK_STATUS):
+            kind, told = self.chunk(command, offset, error, answer)
+            octets = struct.pack(">IHHQI", CHUNK_MAGIC, LAST, kind, cookie, len(told)) + told
+        else:
+            octets = struct.pack(">IIQ", SIMPLE_REPLY_MAGIC, error, cookie) + answer
+        self.replies.add(asked, octets)
+
+    def chunk(self, command, offset, error, answer):
+        """The type and the payload of the only chunk of a reply."""
+        if error:
+            return ERROR, struct.pack(">IH", error, 0)
+        if command == BLOCK_STATUS:
+            return STATUS, struct.pack(">I", CONTEXT) + answer
+        return (OFFSET_DATA, struct.pack(">Q", offset) + answer) if answer else (NONE, b"")
+
+    def may_tell_status(self):
+        return self.selected is self.device
 
     def check(self, flags, command, offset, length):
         """The first fault of a request, in the documents' order."""
-        offered = FUA | NO_HOLE if command == WRITE_ZEROES else FUA
-        if flags & ~offered or command not in (READ, WRITE, FLUSH, TRIM, CACHE, WRITE_ZEROES):
+        known = [READ, WRITE, FLUSH, TRIM, CACHE, WRITE_ZEROES] + [BLOCK_STATUS] * self.may_tell_status()
+        own = {WRITE_ZEROES: NO_HOLE, READ: DF if self.structured else 0, BLOCK_STATUS: REQ_ONE}
+        if flags & ~(FUA | own.get(command, 0)) or command not in known or command == BLOCK_STATUS and not length:
             raise Refused(EINVAL)
         if command == FLUSH:
             if offset or length:
@@ -205,10 +252,12 @@ class Service:
         if offset + length > self.size:
             raise Refused(ENOSPC if command in (WRITE, WRITE_ZEROES) else EINVAL)
 
-    def done(self, command, offset, length, data):
+    def done(self, command, flags, offset, length, data):
         """The bytes that a request gives."""
         if command == READ:
             return self.read(offset, length)
+        if command == BLOCK_STATUS:
+            return self.status(offset, length, 1 if flags & REQ_ONE else MOST_EXTENTS)
         if command == WRITE and data:
             self.write(offset, data)
         if command == WRITE_ZEROES and length:
@@ -219,6 +268,24 @@ class Service:
         first, before = divmod(offset, SECTOR)
         sectors = self.stack.read_run(self.device, first, -(-(before + length) // SECTOR))
         return sectors[before:before + length]
+
+    def status(self, offset, length, most):
+        """Extents from the first byte on: where each ends, and whether its lines make it zeros."""
+        extents, at, joined = [], offset // SECTOR, 0
+        sectors = -(-(offset % SECTOR + length) // SECTOR)
+        for zeros, count in self.stack.zero_runs(self.device, at, sectors):
+            at += count
+            if extents and extents[-1][1] == zeros and joined < MOST_JOINED:
+                extents[-1] = at, zeros
+                joined += 1
+            elif len(extents) == most:
+                break
+            else:
+                extents.append((at, zeros))
+                joined = 0
+        ends = [min(at * SECTOR, offset + length) for at, _ in extents]
+        begins = [offset] + ends[:-1]
+        return b"".join(struct.pack(">II", end - begin, HOLE_OF_ZEROS if zeros else 0) for begin, end, (_, zeros) in zip(begins, ends, extents))
 
     def write(self, offset, data):
         """Puts whole sectors: what stands around the bytes is read first."""
@@ -243,3 +310,25 @@ def asked_for(data):
     if len(data) != 6 + size + 2 * count:
         return None
     return data[4:4 + size], struct.unpack(">%dH" % count, data[6 + size:])
+
+
+def queried(data):
+    """The name and the queries of LIST_META_CONTEXT and SET_META_CONTEXT, or None where their length is wrong."""
+    def string():
+        nonlocal data
+        if len(data) < 4 or len(data) < 4 + int.from_bytes(data[:4], "big"):
+            raise ValueError
+        size = 4 + int.from_bytes(data[:4], "big")
+        found, data = data[4:size], data[size:]
+        return found
+    try:
+        name = string()
+        if len(data) < 4:
+            return None
+        count, data = int.from_bytes(data[:4], "big"), data[4:]
+        found = []
+        while len(found) < count:
+            found.append(string())
+    except ValueError:
+        return None
+    return None if data else (name, found)

@@ -1,15 +1,16 @@
 """Random exchanges with `nbd`: a handshake, then requests at the edges of sectors, lines and the device, some with a fault."""
 
-from messages import Octets, Option, Request, information
+from messages import Octets, Option, Request, information, queries
 from random_parts import Run
 from random_recovery import Recoveries
 from tables import PREFIX
 
 SECTOR = 512
-EXPORT_NAME, ABORT, LIST, INFO, GO = 1, 2, 3, 6, 7
-READ, WRITE, DISC, FLUSH, TRIM, CACHE, WRITE_ZEROES = range(7)
+EXPORT_NAME, ABORT, LIST, INFO, GO, STRUCTURED_REPLY, LIST_META_CONTEXT, SET_META_CONTEXT = 1, 2, 3, 6, 7, 8, 9, 10
+READ, WRITE, DISC, FLUSH, TRIM, CACHE, WRITE_ZEROES, BLOCK_STATUS = range(8)
 OTHER_OPTIONS = [0, 4, 5, 8, 9, 10, 11, 12, 2**31, 2**32 - 1]
 OTHER_COMMANDS = [7, 8, 9, 255, 256, 65535]
+QUERIES = [b"base:allocation", b"base:allocation", b"base:", b"base:allocations", b"", b"qemu:x"]
 MEBIBYTE = 1024 * 1024
 MOST = 32 * MEBIBYTE
 STEPS = [-513, -512, -511, -2, -1, 0, 0, 0, 0, 1, 2, 511, 512, 513]
@@ -77,6 +78,8 @@ class Services(Recoveries):
         messages = [Octets(flags.to_bytes(4, "big"))]
         for _ in range(self.pick([0, 0, 0, 1, 2, 4])):
             messages.append(self.option(device))
+        if self.chance(0.5):
+            messages += self.chunks_asked_for(device)
         if self.chance(0.95):
             name = self.pick([device.name, device.name, b""])
             begin = Option(EXPORT_NAME, name) if self.chance(0.5) else Option(GO, information(name, self.facts()))
@@ -85,6 +88,25 @@ class Services(Recoveries):
         return self.ended(messages)
 
     # The handshake
+
+    def chunks_asked_for(self, device):
+        """Structured replies, mostly with the context of the device, in their order or not."""
+        found = [Option(STRUCTURED_REPLY, self.pick([b"", b"", b"", b"", b"x"]))]
+        for _ in range(self.pick([0, 1, 1, 2])):
+            wanted = [self.pick(QUERIES) for _ in range(self.pick([0, 1, 1, 1, 2, 5]))]
+            name = self.pick([device.name] * 4 + [b"", self.other_name(device)])
+            data = queries(name, wanted)
+            if self.chance(0.15):
+                data = self.spoiled_queries(data, len(name))
+            found.append(Option(self.pick([LIST_META_CONTEXT, SET_META_CONTEXT, SET_META_CONTEXT]), data))
+        return found if self.chance(0.9) else found[::-1]
+
+    def spoiled_queries(self, data, size):
+        """The data of a query with a length that isn't what they say."""
+        at = self.pick([0, 4 + size, min(8 + size, len(data) - 4)])
+        number = int.from_bytes(data[at:at + 4], "big")
+        other = self.pick([max(number - 1, 0), number + 1, number + 2, len(data), 2**31, 2**32 - 1])
+        return self.pick([data[:self.random.randrange(len(data))], data + b"x", data[:at] + other.to_bytes(4, "big") + data[at + 4:]])
 
     def option(self, device):
         draw = self.random.random()
@@ -170,6 +192,10 @@ class Services(Recoveries):
         fua = self.pick([0, 0, 0, 1])
         if self.chance(0.1):
             return Request(self.pick([TRIM, CACHE]), offset, length, cookie=self.cookie(), flags=fua)
+        if self.chance(0.15):
+            return Request(BLOCK_STATUS, offset, self.pick([length, max(size - offset, 0)]) % 2**32, cookie=self.cookie(), flags=fua + self.pick([0, 8]))
+        if self.chance(0.05):
+            return Request(READ, offset, length, cookie=self.cookie(), flags=fua + 4)
         if self.chance(share * 0.3):
             return Request(WRITE_ZEROES, offset, length, cookie=self.cookie(), flags=fua + self.pick([0, 2]))
         if self.chance(share):

@@ -150,6 +150,18 @@ class Stack:
             yield lower(device), offset + row * target.chunk + inside, part
             at, count = at + part, count - part
 
+    def zero_runs(self, lower, first, count):
+        """Whether the lines alone make sectors zeros, run by run."""
+        if isinstance(lower, Leaf):
+            yield False, count
+            return
+        for target, at, part in self.runs(lower, first, count):
+            if isinstance(target, (Linear, Striped, Unstriped)):
+                for run in self.lower_runs(target, at, part):
+                    yield from self.zero_runs(*run)
+            else:
+                yield isinstance(target, Zero), part
+
     def read_run(self, lower, first, count):
         if isinstance(lower, Leaf):
             self.moved.reads += count

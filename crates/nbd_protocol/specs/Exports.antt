@@ -84,6 +84,9 @@ send_trim = 32
 abbrev pub send_write_zeroes : ℕ
 send_write_zeroes = 64
 
+abbrev pub send_df : ℕ
+send_df = 128
+
 abbrev pub can_multi_conn : ℕ
 can_multi_conn = 256
 
@@ -94,6 +97,10 @@ send_cache = 1024
 abbrev pub flags_of_each : ℕ
 flags_of_each = has_flags + send_flush + send_fua + send_cache
 
+-- what only a client is told of it that asked for structured replies: it may ask for one chunk
+abbrev pub flag_of_chunks : Bool → ℕ
+flag_of_chunks structured = if structured then send_df else 0
+
 -- What a client is told of it. Several connections see the same bytes where none of them writes.
-abbrev pub transmission_flags : ExportRecord → ℕ
-transmission_flags e = flags_of_each + (if e.writable then send_trim + send_write_zeroes else read_only + can_multi_conn)
+abbrev pub transmission_flags : ExportRecord → Bool → ℕ
+transmission_flags e structured = flags_of_each + (if e.writable then send_trim + send_write_zeroes else read_only + can_multi_conn) + flag_of_chunks structured

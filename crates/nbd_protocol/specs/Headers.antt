@@ -1,12 +1,13 @@
 -- Requests of the transmission phase: 28 bytes each.
-use Rattle.std.specs.Prelude.{◌≤◌, ℕ, ◌+◌, ◌%◌, ◌==◌, ◌&&◌, Bool, not, nat_lt, List, Result, Ok, Err, if◌then◌else◌}
+use Rattle.std.specs.Prelude.{◌<◌, ◌≤◌, ℕ, ◌+◌, ◌*◌, ◌%◌, ◌==◌, ◌&&◌, ◌||◌, Bool, not, nat_le, nat_lt, List, Result, Ok, Err, if◌then◌else◌}
 use Rattle.stack_meaning.specs.declared.fault.IoFault.{IoFault}
 use Rattle.stack_meaning.specs.declared.fault.IoFault.TheVariants as io
 use Rattle.nbd_protocol.specs.Numbers.{number16, number32, number64}
 use Rattle.nbd_protocol.specs.Exports.{ExportRecord}
+use Rattle.nbd_protocol.specs.declared.phase.Agreement.{Agreement}
 use Rattle.nbd_protocol.specs.declared.header.Header.{Header}
 use Rattle.nbd_protocol.specs.declared.header.Command.{Command}
-use Rattle.nbd_protocol.specs.declared.header.Command.TheVariants.{Read, Write, Zero, Hint, Flush}
+use Rattle.nbd_protocol.specs.declared.header.Command.TheVariants.{Read, Write, Zero, Hint, Flush, Status}
 use Rattle.nbd_protocol.specs.declared.request_error.RequestError.{RequestError}
 use Rattle.nbd_protocol.specs.declared.request_error.RequestError.TheVariants.{NotPermitted, InputOutput, NoMemory, Invalid, NoSpace}
 
@@ -27,9 +28,14 @@ header_of bytes = record {
   length = number32 bytes 24;
 }
 
--- its flags are of those that are offered: FUA, which is 1, and of WRITE_ZEROES also NO_HOLE, which is 2
-abbrev pub has_offered : Header → Bool
-has_offered h = nat_lt h.flags (if h.kind == 6 then 4 else 2)
+-- The flag that a request may have beside FUA, which is 1: NO_HOLE of WRITE_ZEROES, DF of a READ that is answered by
+-- chunks, and REQ_ONE of BLOCK_STATUS. FUA itself where it has no other.
+abbrev pub own_flag : Agreement → Header → ℕ
+own_flag a h = if h.kind == 6 then 2 else if (h.kind == 0) && a.structured then 4 else if (h.kind == 7) && a.status then 8 else 1
+
+-- its flags are of these two
+abbrev pub has_offered : Agreement → Header → Bool
+has_offered a h = nat_lt (h.flags % own_flag a h) 2 && nat_lt h.flags (2 * own_flag a h)
 
 -- what it writes is to be on the media before its reply
 abbrev pub has_fua : Header → Bool
@@ -65,29 +71,42 @@ trim_command e h = changing e h Invalid Hint
 abbrev pub cache_command : ExportRecord → Header → Result Command RequestError
 cache_command e h = if nat_lt e.size (h.offset + h.length) then Err Invalid else Ok Hint
 
--- the bytes that are asked for end within the export
+-- a BLOCK_STATUS of some bytes that the export has; REQ_ONE asks for one extent
+abbrev pub status_command : ExportRecord → Header → Result Command RequestError
+status_command e h =
+    if h.length == 0 then Err Invalid
+    else if nat_lt e.size (h.offset + h.length) then Err Invalid
+    else Ok (Status h.offset h.length (nat_le 8 h.flags))
+
+-- the bytes that are asked for end within the export, and those of a read are few
 abbrev pub IsWithin : ExportRecord → Command → Type 0
-IsWithin e (Read offset length) = offset + length ≤ e.size
+IsWithin e (Read offset length) = (offset + length ≤ e.size) × (length ≤ most_length)
 IsWithin e (Write offset length fua) = offset + length ≤ e.size
 IsWithin e (Zero offset length fua) = offset + length ≤ e.size
 IsWithin e Hint = Unit {0}
 IsWithin e Flush = Unit {0}
+IsWithin e (Status offset length one) = (offset + length ≤ e.size) × (0 < length)
 
 -- a FLUSH, whose place and length are nothing
 abbrev pub flush_command : Header → Result Command RequestError
 flush_command h = if (h.offset == 0) && (h.length == 0) then Ok Flush else Err Invalid
 
 -- what a request asks for, or its first fault
-unfoldable pub command_of : ExportRecord → Header → Result Command RequestError
-command_of e h =
-    if not (has_offered h) then Err Invalid
+unfoldable pub command_of : ExportRecord → Agreement → Header → Result Command RequestError
+command_of e a h =
+    if not (has_offered a h) then Err Invalid
     else if h.kind == 0 then read_command e h
     else if h.kind == 1 then write_command e h
     else if h.kind == 3 then flush_command h
     else if h.kind == 4 then trim_command e h
     else if h.kind == 5 then cache_command e h
     else if h.kind == 6 then zero_command e h
+    else if (h.kind == 7) && a.status then status_command e h
     else Err Invalid
+
+-- it is answered by chunks: a READ or a BLOCK_STATUS, where the client asked for structured replies
+abbrev pub is_chunked : Agreement → Header → Bool
+is_chunked a h = a.structured && ((h.kind == 0) || (h.kind == 7))
 
 -- how many bytes follow it: those of a write
 abbrev pub payload_len : Header → ℕ

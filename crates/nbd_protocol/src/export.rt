@@ -20,6 +20,8 @@ const SEND_TRIM: u16 = 32;
 
 const SEND_WRITE_ZEROES: u16 = 64;
 
+const SEND_DF: u16 = 128;
+
 const CAN_MULTI_CONN: u16 = 256;
 
 const SEND_CACHE: u16 = 1024;
@@ -54,14 +56,15 @@ impl<'a> Export<'a> {
 
     /// What a client is told of it. Each connection is a service with a cache of its own, so that several are offered
     /// only where none of them writes.
-    pub fn flags(&self) -> u16
-        ensures { result ≡ transmission_flags (export_record self.now) }
+    pub fn flags(&self, structured: bool) -> u16
+        ensures { result ≡ transmission_flags (export_record self.now) structured }
     {
         let each = HAS_FLAGS + SEND_FLUSH + SEND_FUA + SEND_CACHE;
+        let chunks = if structured { SEND_DF } else { 0 };
         if self.writable {
-            each + SEND_TRIM + SEND_WRITE_ZEROES
+            each + SEND_TRIM + SEND_WRITE_ZEROES + chunks
         } else {
-            each + READ_ONLY + CAN_MULTI_CONN
+            each + READ_ONLY + CAN_MULTI_CONN + chunks
         }
     }
 }

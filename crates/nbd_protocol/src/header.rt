@@ -1,10 +1,11 @@
 //! Requests of the transmission phase.
-ghost use Rattle.std.specs.Prelude.{◌≡◌, ◌≤◌, ◌+◌, IfOk, length, nat_lt};
+ghost use Rattle.std.specs.Prelude.{◌≡◌, ◌<◌, ◌≤◌, ◌+◌, IfOk, length, nat_lt};
 ghost use Rattle.nbd_protocol.specs.Exports.{export_record};
-ghost use Rattle.nbd_protocol.specs.Headers.{IsWithin, cache_command, changing, command_of, flush_command, has_fua, has_offered, header_of, payload_len, read_command, trim_command, write_command, zero_command};
+ghost use Rattle.nbd_protocol.specs.Headers.{IsWithin, cache_command, changing, command_of, flush_command, has_fua, has_offered, header_of, is_chunked, own_flag, payload_len, read_command, status_command, trim_command, write_command, zero_command};
 
 use crate::export::Export;
 use crate::numbers::{number16, number32, number64};
+use crate::phase::Agreement;
 use crate::request_error::RequestError;
 
 /// The most bytes that are read or written at once.
@@ -21,6 +22,18 @@ const TRIM: u16 = 4;
 const CACHE: u16 = 5;
 
 const WRITE_ZEROES: u16 = 6;
+
+/// The kind of the request for the status of bytes.
+pub const BLOCK_STATUS: u16 = 7;
+
+// The flags of a request.
+const FUA: u16 = 1;
+
+const NO_HOLE: u16 = 2;
+
+const DONT_FRAGMENT: u16 = 4;
+
+const REQUEST_ONE: u16 = 8;
 
 /// The kind of the request by which a client ends the service.
 pub const DISCONNECT: u16 = 2;
@@ -48,6 +61,8 @@ pub enum Command {
     Hint,
     /// All that was written is put on the media.
     Flush,
+    /// The status of bytes is told, of one extent alone if it says so.
+    Status { offset: u64, length: u32, one: bool },
 }
 
 impl Header {
@@ -72,14 +87,33 @@ impl Header {
         if self.kind == WRITE { self.length } else { 0 }
     }
 
-    // Whether its flags are of those that are offered: FUA, and of WRITE_ZEROES also NO_HOLE.
-    fn has_offered(self) -> bool
-        ensures { result ≡ has_offered self }
+    /// Whether it is answered by chunks.
+    pub fn is_chunked(self, agreed: Agreement) -> bool
+        ensures { result ≡ is_chunked agreed self }
     {
-        if self.kind == WRITE_ZEROES {
-            return self.flags < 4;
+        agreed.structured && (self.kind == READ || self.kind == BLOCK_STATUS)
+    }
+
+    // The flag that it may have beside FUA.
+    fn own_flag(self, agreed: Agreement) -> u16
+        ensures value { result ≡ own_flag agreed self }
+        ensures some { 0 < result }
+        ensures small { result ≤ 8 }
+    {
+        match self.kind {
+            READ if agreed.structured => DONT_FRAGMENT,
+            BLOCK_STATUS if agreed.status => REQUEST_ONE,
+            WRITE_ZEROES => NO_HOLE,
+            _ => FUA,
         }
-        self.flags < 2
+    }
+
+    // Whether its flags are of those that are offered.
+    fn has_offered(self, agreed: Agreement) -> bool
+        ensures { result ≡ has_offered agreed self }
+    {
+        let own = self.own_flag(agreed);
+        self.flags % own < 2 && self.flags < 2 * own
     }
 
     // Whether what it writes is to be on the media before its reply.
@@ -91,11 +125,11 @@ impl Header {
 
     /// What it asks for, or its first fault.
     #[tactic(auto, unfolding(crate::specs::Headers::command_of))]
-    pub fn command(self, export: &Export<'_>) -> Result<Command, RequestError>
-        ensures value { result ≡ command_of (export_record export.now) self }
+    pub fn command(self, export: &Export<'_>, agreed: Agreement) -> Result<Command, RequestError>
+        ensures value { result ≡ command_of (export_record export.now) agreed self }
         ensures within { IfOk result (IsWithin (export_record export.now)) }
     {
-        if !self.has_offered() {
+        if !self.has_offered(agreed) {
             return Err(RequestError::Invalid);
         }
         match self.kind {
@@ -105,6 +139,7 @@ impl Header {
             TRIM => self.trim_command(export),
             CACHE => self.cache_command(export),
             WRITE_ZEROES => self.zero_command(export),
+            BLOCK_STATUS if agreed.status => self.status_command(export),
             _ => Err(RequestError::Invalid),
         }
     }
@@ -171,6 +206,23 @@ impl Header {
             return Err(RequestError::Invalid);
         }
         Ok(Command::Hint)
+    }
+
+    // A BLOCK_STATUS of some bytes that the export has.
+    fn status_command(self, export: &Export<'_>) -> Result<Command, RequestError>
+        ensures value { result ≡ status_command (export_record export.now) self }
+        ensures within { IfOk result (IsWithin (export_record export.now)) }
+    {
+        let Header { offset, length, .. } = self;
+        if length == 0 || ends_past(export.size, offset, length) {
+            return Err(RequestError::Invalid);
+        }
+        let one = self.flags >= REQUEST_ONE;
+        Ok(Command::Status {
+            offset,
+            length,
+            one,
+        })
     }
 
     // A request that changes bytes of the export; past its end it has that error.

@@ -1,6 +1,7 @@
 //! The messages of the NBD protocol: what a client asks for, and what it is told before its requests.
 #![tactic(auto)]
 
+mod contexts;
 mod export;
 mod exports;
 mod fault;
@@ -16,11 +17,11 @@ mod request_error;
 pub use export::Export;
 pub use exports::{asked, export_at};
 pub use fault::ServiceFault;
-pub use header::{Command, DISCONNECT, Header};
+pub use header::{BLOCK_STATUS, Command, DISCONNECT, Header};
 pub use intake::{fill, fill_part, skip, take_sectors, zeros};
-pub use numbers::{number32, put32, put64};
+pub use numbers::{number32, put16, put32, put64};
 pub use offers::{exports_of, names_of};
-pub use option::{ABORT, EXPORT_NAME, names_export, phase_after, say_answer};
+pub use option::{ABORT, EXPORT_NAME, names_export, phase_after, say_answer, terms_after_long};
 pub use option_reply::{Refusal, acknowledge, refuse};
-pub use phase::Phase;
+pub use phase::{Agreement, Phase, Terms};
 pub use request_error::RequestError;

@@ -2,11 +2,13 @@
 ghost use Rattle.std.specs.Prelude.{◌≡◌, flat_map};
 ghost use Rattle.counted_io.specs.Counted.{Writes};
 ghost use Rattle.nbd_protocol.specs.Exports.{HaveShortNames, HasShortName, export_record, export_records};
-ghost use Rattle.nbd_protocol.specs.Handshake.{acknowledged, export_fields, export_info, list_reply, many_zeros, name_field, refused, reply_head, reply_magic, server_reply, size_info, told, wanted_sizes, wants_sizes};
+ghost use Rattle.nbd_protocol.specs.OptionReplies.{acknowledged, refused, reply_head, reply_magic};
+ghost use Rattle.nbd_protocol.specs.Handshake.{export_fields, export_info, list_reply, many_zeros, name_field, server_reply, size_info, told, wanted_sizes, wants_sizes};
 
 use crate::export::Export;
 use crate::header::MOST_LENGTH;
 use crate::numbers::{put16, put32, put64};
+use crate::phase::Terms;
 use counted_io::{Counted, WriteFault};
 use std::io::Write;
 
@@ -30,15 +32,15 @@ pub enum Refusal {
     TooBig,
 }
 
-#[tactic(auto, unfolding(crate::specs::Handshake::reply_magic))]
+#[tactic(auto, unfolding(crate::specs::OptionReplies::reply_magic))]
 fn put_magic<W: Write>(writer: &mut Counted<W>) -> Result<(), WriteFault>
     ensures { Writes W.contents writer.old writer.new reply_magic result }
 {
     writer.put(&MAGIC)
 }
 
-// A reply before its data.
-fn say_head<W: Write>(
+/// A reply before its data.
+pub(crate) fn say_head<W: Write>(
     writer: &mut Counted<W>,
     option: u32,
     kind: u32,
@@ -86,25 +88,29 @@ fn put_zeros<W: Write>(writer: &mut Counted<W>) -> Result<(), WriteFault>
 pub(crate) fn say_export<W: Write>(
     writer: &mut Counted<W>,
     export: &Export<'_>,
-    no_zeroes: bool,
+    terms: Terms,
 ) -> Result<(), WriteFault>
-    ensures { Writes W.contents writer.old writer.new (export_fields (export_record export.now) no_zeroes) result }
+    ensures { Writes W.contents writer.old writer.new (export_fields (export_record export.now) terms) result }
 {
     put64(writer, export.size)?;
-    put16(writer, export.flags())?;
-    if no_zeroes {
+    put16(writer, export.flags(terms.structured))?;
+    if terms.no_zeroes {
         return Ok(());
     }
     put_zeros(writer)
 }
 
 // The export's size and flags.
-fn say_export_info<W: Write>(writer: &mut Counted<W>, export: &Export<'_>) -> Result<(), WriteFault>
-    ensures { Writes W.contents writer.old writer.new (export_info (export_record export.now)) result }
+fn say_export_info<W: Write>(
+    writer: &mut Counted<W>,
+    export: &Export<'_>,
+    terms: Terms,
+) -> Result<(), WriteFault>
+    ensures { Writes W.contents writer.old writer.new (export_info (export_record export.now) terms) result }
 {
     put16(writer, 0)?;
     put64(writer, export.size)?;
-    put16(writer, export.flags())
+    put16(writer, export.flags(terms.structured))
 }
 
 // The least, the best and the greatest block of a request.
@@ -136,13 +142,14 @@ fn say_wanted<W: Write>(
 pub(crate) fn say_told<W: Write>(
     writer: &mut Counted<W>,
     export: &Export<'_>,
+    terms: Terms,
     option: u32,
     wanted: &[u8],
 ) -> Result<(), WriteFault>
-    ensures { Writes W.contents writer.old writer.new (told (export_record export.now) option wanted.now) result }
+    ensures { Writes W.contents writer.old writer.new (told (export_record export.now) terms option wanted.now) result }
 {
     say_head(writer, option, INFO, 12)?;
-    say_export_info(writer, export)?;
+    say_export_info(writer, export, terms)?;
     say_wanted(writer, option, wanted)?;
     acknowledge(writer, option)
 }

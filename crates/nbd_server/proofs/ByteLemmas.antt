@@ -1,19 +1,23 @@
 -- Bytes of the export and the sectors that they touch.
-use Rattle.std.proofs.Common.{◌≡◌, ◌<◌, ℕ, ◌+◌, ◌-◌, ◌*◌, ◌/◌, ◌%◌, ◌==◌, List, [], ◌∷◌, ◌++◌, length, take, drop, replicate, refl, ap, sym, ◌∙◌, subst, append-nil, append_assoc, arith, inl, inr, Result, Ok, Err}
-use Rattle.std.specs.Prelude.{◌&&◌, Bool, true, false, not, nat_lt, IfErr, OnOk, if◌then◌else◌}
-use Rattle.std.proofs.lemmas.List.{length-append, length-drop, length-replicate, length-take-le, drop_all}
+use Rattle.std.proofs.Common.{◌≡◌, ◌<◌, ◌≤◌, ℕ, ◌+◌, ◌-◌, ◌*◌, ◌/◌, ◌%◌, ◌^◌, ◌==◌, List, [], ◌∷◌, ◌++◌, length, take, drop, replicate, refl, ap, sym, ◌∙◌, subst, append-nil, append_assoc, arith, inl, inr, Result, Ok, Err}
+use Rattle.std.specs.Prelude.{◌&&◌, Bool, true, false, not, nat_le, nat_lt, IfErr, IfOk, OnOk, if◌then◌else◌}
+use Rattle.std.proofs.lemmas.List.{length-append, length-drop, length-replicate, length-take, length-take-le, drop_all}
 use Rattle.std.proofs.Math.Seq.{take-append-add}
 use borrow.Rule.Slice.PartMut.{put_mid, post_of}
 use Rattle.request_queue.specs.World.{World}
+use Rattle.nbd_protocol.specs.declared.phase.Agreement.{Agreement}
 use Rattle.nbd_protocol.specs.declared.header.Header.{Header}
 use Rattle.nbd_protocol.specs.declared.header.Command.{Command}
-use Rattle.nbd_protocol.specs.declared.header.Command.TheVariants.{Read, Write, Zero, Hint, Flush}
+use Rattle.nbd_protocol.specs.declared.header.Command.TheVariants.{Read, Write, Zero, Hint, Flush, Status}
 use Rattle.nbd_protocol.specs.declared.request_error.RequestError.{RequestError}
+use Rattle.nbd_server.specs.declared.reply.Data.{Data}
 use Rattle.nbd_protocol.specs.declared.request_error.RequestError.TheVariants.{NotPermitted, Invalid, NoSpace}
 use Rattle.nbd_protocol.specs.Exports.{ExportRecord}
-use Rattle.nbd_protocol.specs.Headers.{cache_command, command_of, flush_command, has_fua, has_offered, payload_len, most_length, read_command, trim_command, write_command, zero_command}
+use Rattle.nbd_protocol.specs.Headers.{cache_command, command_of, flush_command, has_fua, has_offered, payload_len, most_length, read_command, status_command, trim_command, write_command, zero_command}
 use Rattle.nbd_server.specs.Sectors.{IsStored, FailsToStore}
-use Rattle.nbd_server.specs.Transmission.{RequestOutcome, FailsToReadEnds, Flushes, IsFramed, ReadsBytes, ReadsEnds, Serves, ServesCommand, Settles, Stays, WritesBytes, WritesGiven, WritesSome, room_behind, touched, written}
+use Rattle.nbd_server.specs.Replies.{RequestOutcome}
+use Rattle.nbd_server.specs.Status.{touched}
+use Rattle.nbd_server.specs.Transmission.{FailsToReadEnds, Flushes, IsFramed, IsInside, IsPart, IsSendable, data_of, ReadsBytes, ReadsEnds, Serves, ServesCommand, Settles, Stays, WritesBytes, WritesGiven, WritesSome, room_behind, written}
 
 -- ---- what stands around some bytes
 
@@ -88,18 +92,27 @@ module _ (offset length : ℕ) (fua : Bool) where
   zero-no-write : (a b : Bool) (o l : ℕ) (f : Bool) → (if a then Err NotPermitted else if b then Err NoSpace else Ok (Zero o l f)) ≡ Ok (Write offset length fua) → ⊥
   zero-no-write a b o l f h = let clash : Zero o l f ≡ Write offset length fua = changing-write a b NoSpace (Zero o l f) h in cc
 
+  status-no-write : (a b : Bool) (o l : ℕ) (one : Bool) → (if a then Err Invalid else if b then Err Invalid else Ok (Status o l one)) ≡ Ok (Write offset length fua) → ⊥
+  status-no-write true b o l one h = let clash : Err Invalid ≡ Ok (Write offset length fua) = h in cc
+  status-no-write false true o l one h = let clash : Err Invalid ≡ Ok (Write offset length fua) = h in cc
+  status-no-write false false o l one h = let clash : Ok (Status o l one) ≡ Ok (Write offset length fua) = h in cc
+
   write-length : (a b c : Bool) (o l : ℕ) (f : Bool) → (if a then Err Invalid else if b then Err NotPermitted else if c then Err NoSpace else Ok (Write o l f)) ≡ Ok (Write offset length fua) → l ≡ length
   write-length true b c o l f h = let clash : Err Invalid ≡ Ok (Write offset length fua) = h in cc
   write-length false b c o l f h = let same : Write o l f ≡ Write offset length fua = changing-write b c NoSpace (Write o l f) h in cc
 
-  others-no-write : (a b c d : Bool) (flushes trims caches zeroes : Result Command RequestError) → (flushes ≡ Ok (Write offset length fua) → ⊥) → (trims ≡ Ok (Write offset length fua) → ⊥)
-      → (caches ≡ Ok (Write offset length fua) → ⊥) → (zeroes ≡ Ok (Write offset length fua) → ⊥)
-      → (if a then flushes else if b then trims else if c then caches else if d then zeroes else Err Invalid) ≡ Ok (Write offset length fua) → ⊥
-  others-no-write true b c d flushes trims caches zeroes p q r s h = p h
-  others-no-write false true c d flushes trims caches zeroes p q r s h = q h
-  others-no-write false false true d flushes trims caches zeroes p q r s h = r h
-  others-no-write false false false true flushes trims caches zeroes p q r s h = s h
-  others-no-write false false false false flushes trims caches zeroes p q r s h = let clash : Err Invalid ≡ Ok (Write offset length fua) = h in cc
+  last-no-write : (b : Bool) (statuses : Result Command RequestError) → (statuses ≡ Ok (Write offset length fua) → ⊥) → (if b then statuses else Err Invalid) ≡ Ok (Write offset length fua) → ⊥
+  last-no-write true statuses t h = t h
+  last-no-write false statuses t h = let clash : Err Invalid ≡ Ok (Write offset length fua) = h in cc
+
+  others-no-write : (a b c d : Bool) (flushes trims caches zeroes more : Result Command RequestError) → (flushes ≡ Ok (Write offset length fua) → ⊥) → (trims ≡ Ok (Write offset length fua) → ⊥)
+      → (caches ≡ Ok (Write offset length fua) → ⊥) → (zeroes ≡ Ok (Write offset length fua) → ⊥) → (more ≡ Ok (Write offset length fua) → ⊥)
+      → (if a then flushes else if b then trims else if c then caches else if d then zeroes else more) ≡ Ok (Write offset length fua) → ⊥
+  others-no-write true b c d flushes trims caches zeroes more p q r s t h = p h
+  others-no-write false true c d flushes trims caches zeroes more p q r s t h = q h
+  others-no-write false false true d flushes trims caches zeroes more p q r s t h = r h
+  others-no-write false false false true flushes trims caches zeroes more p q r s t h = s h
+  others-no-write false false false false flushes trims caches zeroes more p q r s t h = t h
 
   payload-cases : (a z b : Bool) (reads writes others : Result Command RequestError) (n : ℕ) → (reads ≡ Ok (Write offset length fua) → ⊥) → (others ≡ Ok (Write offset length fua) → ⊥)
       → (writes ≡ Ok (Write offset length fua) → n ≡ length) → (if a then Err Invalid else if z then reads else if b then writes else others) ≡ Ok (Write offset length fua) → (if b then n else 0) ≡ length
@@ -109,20 +122,22 @@ module _ (offset length : ℕ) (fua : Bool) where
   payload-cases false false false reads writes others n none more some h = absurd (more h)
 
   -- a write has the bytes that it writes behind it
-  pub write-payload : (e : ExportRecord) (h : Header) → command_of e h ≡ Ok (Write offset length fua) → payload_len h ≡ length
+  pub write-payload : (e : ExportRecord) (a : Agreement) (h : Header) → command_of e a h ≡ Ok (Write offset length fua) → payload_len h ≡ length
   unfolding command_of
-  write-payload e h is =
+  write-payload e a h is =
       let past = nat_lt e.size (h.offset + h.length) in
-      payload-cases (not (has_offered h)) (h.kind == 0) (h.kind == 1) (read_command e h) (write_command e h)
-      (if h.kind == 3 then flush_command h else if h.kind == 4 then trim_command e h else if h.kind == 5 then cache_command e h else if h.kind == 6 then zero_command e h else Err Invalid) h.length
+      let last = if (h.kind == 7) && a.status then status_command e h else Err Invalid in
+      payload-cases (not (has_offered a h)) (h.kind == 0) (h.kind == 1) (read_command e h) (write_command e h)
+      (if h.kind == 3 then flush_command h else if h.kind == 4 then trim_command e h else if h.kind == 5 then cache_command e h else if h.kind == 6 then zero_command e h else last) h.length
       (read-no-write (nat_lt most_length h.length) past h.offset h.length)
-      (others-no-write (h.kind == 3) (h.kind == 4) (h.kind == 5) (h.kind == 6) (flush_command h) (trim_command e h) (cache_command e h) (zero_command e h)
-      (flush-no-write ((h.offset == 0) && (h.length == 0))) (trim-no-write (not e.writable) past) (cache-no-write past) (zero-no-write (not e.writable) past h.offset h.length (has_fua h)))
+      (others-no-write (h.kind == 3) (h.kind == 4) (h.kind == 5) (h.kind == 6) (flush_command h) (trim_command e h) (cache_command e h) (zero_command e h) last
+      (flush-no-write ((h.offset == 0) && (h.length == 0))) (trim-no-write (not e.writable) past) (cache-no-write past) (zero-no-write (not e.writable) past h.offset h.length (has_fua h))
+      (last-no-write ((h.kind == 7) && a.status) (status_command e h) (status-no-write (h.length == 0) past h.offset h.length (nat_le 8 h.flags))))
       (write-length (nat_lt most_length h.length) (not e.writable) past h.offset h.length (has_fua h)) is
 
-pub served-write : (e : ExportRecord) (w w' : World) (h : Header) (offset length : ℕ) (fua : Bool) (payload : List ℕ) (outcome : RequestOutcome) → command_of e h ≡ Ok (Write offset length fua)
-    → Settles fua (WritesGiven e w offset payload) outcome w' → Serves e w h payload outcome w'
-served-write e w w' h offset length fua payload outcome command p = subst (λ c. ServesCommand e w c payload outcome w') (sym command) p
+pub served-write : (e : ExportRecord) (a : Agreement) (w w' : World) (h : Header) (offset length : ℕ) (fua : Bool) (payload : List ℕ) (outcome : RequestOutcome) → command_of e a h ≡ Ok (Write offset length fua)
+    → Settles fua (WritesGiven e w offset payload) outcome w' → Serves e a w h payload outcome w'
+served-write e a w w' h offset length fua payload outcome command p = subst (λ c. ServesCommand e w c payload outcome w') (sym command) p
 
 -- ---- with FUA
 
@@ -158,3 +173,14 @@ module _ (e : ExportRecord) (w mid w' : World) (offset len : ℕ) (some : 0 < le
       let framed : IsFramed e w offset (replicate len 0) sectors mid =
       record { before = before; behind = behind; ends = subst (λ n. ReadsEnds e w offset n before behind mid) (sym (length-replicate {A = ℕ} len 0)) p; sectors_are = refl } in
       some-written e w offset (replicate len 0) (written result) w' zeros-some (writes-ended e w mid w' offset (replicate len 0) sectors result framed ok err)
+
+-- ---- what can be sent
+
+-- as many bytes as were asked for
+pub sendable : (len : ℕ) (outcome : Result Data RequestError) → IsInside outcome → IfOk outcome (λ d. d.length ≡ len) → len ≤ most_length → IsSendable outcome
+sendable len (Ok d) inside size few = record { inside = inside; few = omega (arith, size, few) }
+sendable len (Err error) inside size few = tt
+
+-- their chunk has a length that fits
+pub fits-chunk : (d : Data) → IsPart d → 8 + length (data_of d) < 2 ^ 32
+fits-chunk d p = omega (arith, length-take d.length (drop d.start d.bytes.items), p.few)

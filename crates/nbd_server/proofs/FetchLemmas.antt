@@ -28,7 +28,8 @@ use Rattle.nbd_protocol.specs.Exports.{ExportRecord}
 use Rattle.nbd_server.specs.Premises.{AreBytesOf, AreSectorsOf}
 use Rattle.nbd_protocol.specs.Headers.{error_of}
 use Rattle.nbd_server.specs.Sectors.{IsFetched, FailsToFetch}
-use Rattle.nbd_server.specs.Transmission.{room_behind, touched}
+use Rattle.nbd_server.specs.Status.{touched}
+use Rattle.nbd_server.specs.Transmission.{room_behind}
 
 -- ---- which sectors a request is for
 

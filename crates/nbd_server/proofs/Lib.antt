@@ -1,6 +1,7 @@
 pub mod ByteLemmas
 pub mod FetchLemmas
 pub mod ServiceLemmas
+pub mod StatusLemmas
 pub mod StoreLemmas
 pub mod MessageLemmas
 pub mod RunLemmas

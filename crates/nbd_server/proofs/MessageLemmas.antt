@@ -1,6 +1,6 @@
 -- Messages as they are taken and answered.
 use Rattle.std.proofs.Common.{◌≡◌, ◌≢◌, ◌<◌, ◌≤◌, ℕ, List, [], ◌∷◌, ◌++◌, length, refl, ap, sym, ◌∙◌, subst, append-nil, inl, inr, Option, Some, None, Ok, Err, arith}
-use Rattle.std.specs.Prelude.{◌⊎◌, ◌||◌, ◌&&◌, All, Bool, true, false, is_some, not, position, take, codes, ◌==◌, if◌then◌else◌}
+use Rattle.std.specs.Prelude.{◌⊎◌, ◌||◌, ◌&&◌, All, Bool, true, false, is_some, not, take, codes, ◌==◌, if◌then◌else◌}
 use Rattle.std.specs.Io.KnownBytes.{Appends, Consumes, Keeps}
 use Rattle.std.specs.Str.{bytes_eq}
 use Rattle.std.proofs.KnownBytes.{Appends-nil, Appends-kept, Consumes-trans, Keeps-refl}
@@ -12,6 +12,8 @@ use Rattle.request_queue.specs.World.{World}
 use Rattle.counted_io.specs.Streams.{Streams, streams}
 use Rattle.nbd_protocol.specs.declared.fault.ServiceFault.{ServiceFault}
 use Rattle.nbd_protocol.specs.declared.fault.ServiceFault.TheVariants as fault
+use Rattle.nbd_protocol.specs.declared.phase.Terms.{Terms}
+use Rattle.nbd_protocol.specs.declared.phase.Agreement.{Agreement}
 use Rattle.nbd_protocol.specs.declared.phase.Phase.{Phase}
 use Rattle.nbd_protocol.specs.declared.phase.Phase.TheVariants.{Greeted, Haggling, Serving, Over}
 use Rattle.nbd_protocol.specs.declared.header.Header.{Header}
@@ -21,7 +23,8 @@ use Rattle.nbd_protocol.specs.Handshake.{answer_to, answer_to_long, most_data, n
 use Rattle.nbd_protocol.specs.Headers.{header_of, payload_len, request_magic}
 use Rattle.nbd_server.specs.Causes.{Breaks, IsCut, IsCutWithin, IsNaming}
 use Rattle.nbd_protocol.specs.Streaming.{IsShort, Spoken, Stops, TakesInto}
-use Rattle.nbd_server.specs.Transmission.{RequestOutcome, Serves, simple_reply}
+use Rattle.nbd_server.specs.Replies.{RequestOutcome, reply_to}
+use Rattle.nbd_server.specs.Transmission.{Serves}
 use Rattle.nbd_server.specs.Service.{Answers, AnswersOption, IsTooLong, IsAnswered, IsUnnamed, IsUnread, TakesOption, TakesRequest, Turns}
 
 -- what came of a message that the service ends in
@@ -124,31 +127,31 @@ long-name es name short longer = go ((length name == 0) && (length es == 1)) ref
     go false is = apart (place_of es name) refl
 
 -- what is replied to an option whose data are too long
-pub too-long : (no_zeroes : Bool) (option count : ℕ) → most_data < count → option ≢ 1 → IsTooLong no_zeroes option count (answer_to_long option) (phase_after_long no_zeroes option)
-too-long no_zeroes option count long other = record { long = long; other = other; reply_is = refl; next_is = refl }
+pub too-long : (terms : Terms) (option count : ℕ) → most_data < count → option ≢ 1 → IsTooLong terms option count (answer_to_long option) (phase_after_long terms option)
+too-long terms option count long other = record { long = long; other = other; reply_is = refl; next_is = refl }
 
 -- and to one whose data are there
-pub is-answered : (es : List ExportRecord) (no_zeroes : Bool) (option : ℕ) (content : List ℕ) → length content ≤ most_data → names_export es option content ≡ true
-    → IsAnswered es no_zeroes option content (answer_to es no_zeroes option content) (phase_after es no_zeroes option content)
-is-answered es no_zeroes option content short named = record { short = short; named = named; reply_is = refl; next_is = refl }
+pub is-answered : (es : List ExportRecord) (terms : Terms) (option : ℕ) (content : List ℕ) → length content ≤ most_data → names_export es option content ≡ true
+    → IsAnswered es terms option content (answer_to es terms option content) (phase_after es terms option content)
+is-answered es terms option content short named = record { short = short; named = named; reply_is = refl; next_is = refl }
 
-module _ (es : List ExportRecord) (no_zeroes : Bool) (w : World) (input mid input' : Option (List ℕ)) (header : List ℕ) (first : Consumes input mid header) (size : length header ≡ 16) where
-  pub option-unlike : (output : Option (List ℕ)) → take 8 header ≢ codes "IHAVEOPT" → Turns es (Haggling no_zeroes) w w (streams input output) (streams mid output) (Err fault.Magic)
-  option-unlike output other = turns-fault es (Haggling no_zeroes) w w (streams input output) (streams mid output) fault.Magic refl header first (Keeps-refl output) (size, other)
+module _ (es : List ExportRecord) (terms : Terms) (w : World) (input mid input' : Option (List ℕ)) (header : List ℕ) (first : Consumes input mid header) (size : length header ≡ 16) where
+  pub option-unlike : (output : Option (List ℕ)) → take 8 header ≢ codes "IHAVEOPT" → Turns es (Haggling terms) w w (streams input output) (streams mid output) (Err fault.Magic)
+  option-unlike output other = turns-fault es (Haggling terms) w w (streams input output) (streams mid output) fault.Magic refl header first (Keeps-refl output) (size, other)
 
   module _ (magic : take 8 header ≡ codes "IHAVEOPT") (output output' : Option (List ℕ)) where
     -- the client was lost in an option's data, or the reader failed there
-    pub option-lost : (x : ServiceFault) → IsShort (number32 header 12) mid input' x → Turns es (Haggling no_zeroes) w w (streams input output) (streams input' output) (Err x)
+    pub option-lost : (x : ServiceFault) → IsShort (number32 header 12) mid input' x → Turns es (Haggling terms) w w (streams input output) (streams input' output) (Err x)
     option-lost x s =
-        let cut : IsCut (Haggling no_zeroes) (header ++ s.part) = inr (record { header = header; part = s.part; rest_is = refl; is_header = record { size = size; magic = magic }; few = s.few }) in
-        turns-fault es (Haggling no_zeroes) w w (streams input output) (streams input' output) x refl (header ++ s.part) (Consumes-trans input mid input' header s.part first s.consumed) (Keeps-refl output)
-        (cut-breaks es (Haggling no_zeroes) (header ++ s.part) input' x s.cause (λ lost. cut) (inr cut))
+        let cut : IsCut (Haggling terms) (header ++ s.part) = inr (record { header = header; part = s.part; rest_is = refl; is_header = record { size = size; magic = magic }; few = s.few }) in
+        turns-fault es (Haggling terms) w w (streams input output) (streams input' output) x refl (header ++ s.part) (Consumes-trans input mid input' header s.part first s.consumed) (Keeps-refl output)
+        (cut-breaks es (Haggling terms) (header ++ s.part) input' x s.cause (λ lost. cut) (inr cut))
 
-    option-takes : (content : List ℕ) → length content ≡ number32 header 12 → (next : Phase) (reply : List ℕ) → AnswersOption es no_zeroes (number32 header 8) content reply next → TakesOption es no_zeroes (header ++ content) reply next
+    option-takes : (content : List ℕ) → length content ≡ number32 header 12 → (next : Phase) (reply : List ℕ) → AnswersOption es terms (number32 header 8) content reply next → TakesOption es terms (header ++ content) reply next
     option-takes content count next reply answered = record { header = header; content = content; message_is = refl; size = size; magic = magic; count = count; answered = answered }
 
-    option-answered : (content : List ℕ) → Consumes mid input' content → length content ≡ number32 header 12 → (next : Phase) (reply : List ℕ) → AnswersOption es no_zeroes (number32 header 8) content reply next → Appends output output' reply
-        → Turns es (Haggling no_zeroes) w w (streams input output) (streams input' output') (Ok (Some next))
+    option-answered : (content : List ℕ) → Consumes mid input' content → length content ≡ number32 header 12 → (next : Phase) (reply : List ℕ) → AnswersOption es terms (number32 header 8) content reply next → Appends output output' reply
+        → Turns es (Haggling terms) w w (streams input output) (streams input' output') (Ok (Some next))
     option-answered content c count next reply answered a = record {
       taken = header ++ content;
       written = reply;
@@ -159,13 +162,13 @@ module _ (es : List ExportRecord) (no_zeroes : Bool) (w : World) (input mid inpu
 
     -- it has no reply, or the writer failed in that
     pub option-ends : (content : List ℕ) → Consumes mid input' content → length content ≡ number32 header 12 → (Is : List ℕ → Phase → Type 0) (Ends : ServiceFault → Type 0) (x : ServiceFault)
-        → ((reply : List ℕ) (next : Phase) → Is reply next → AnswersOption es no_zeroes (number32 header 8) content reply next) → (Ends x → Breaks es (Haggling no_zeroes) (header ++ content) input' x)
-        → Answers Is Ends output output' (Err x) → Turns es (Haggling no_zeroes) w w (streams input output) (streams input' output') (Err x)
-    option-ends content c count Is Ends fault.Lost answers breaks k = turns-fault es (Haggling no_zeroes) w w (streams input output) (streams input' output') fault.Lost refl (header ++ content) (Consumes-trans input mid input' header content first c) k.0 (breaks k.1)
-    option-ends content c count Is Ends fault.Magic answers breaks k = turns-fault es (Haggling no_zeroes) w w (streams input output) (streams input' output') fault.Magic refl (header ++ content) (Consumes-trans input mid input' header content first c) k.0 (breaks k.1)
-    option-ends content c count Is Ends fault.Flags answers breaks k = turns-fault es (Haggling no_zeroes) w w (streams input output) (streams input' output') fault.Flags refl (header ++ content) (Consumes-trans input mid input' header content first c) k.0 (breaks k.1)
-    option-ends content c count Is Ends fault.NoSuchExport answers breaks k = turns-fault es (Haggling no_zeroes) w w (streams input output) (streams input' output') fault.NoSuchExport refl (header ++ content) (Consumes-trans input mid input' header content first c) k.0 (breaks k.1)
-    option-ends content c count Is Ends fault.ReadFault answers breaks k = turns-fault es (Haggling no_zeroes) w w (streams input output) (streams input' output') fault.ReadFault refl (header ++ content) (Consumes-trans input mid input' header content first c) k.0 (breaks k.1)
+        → ((reply : List ℕ) (next : Phase) → Is reply next → AnswersOption es terms (number32 header 8) content reply next) → (Ends x → Breaks es (Haggling terms) (header ++ content) input' x)
+        → Answers Is Ends output output' (Err x) → Turns es (Haggling terms) w w (streams input output) (streams input' output') (Err x)
+    option-ends content c count Is Ends fault.Lost answers breaks k = turns-fault es (Haggling terms) w w (streams input output) (streams input' output') fault.Lost refl (header ++ content) (Consumes-trans input mid input' header content first c) k.0 (breaks k.1)
+    option-ends content c count Is Ends fault.Magic answers breaks k = turns-fault es (Haggling terms) w w (streams input output) (streams input' output') fault.Magic refl (header ++ content) (Consumes-trans input mid input' header content first c) k.0 (breaks k.1)
+    option-ends content c count Is Ends fault.Flags answers breaks k = turns-fault es (Haggling terms) w w (streams input output) (streams input' output') fault.Flags refl (header ++ content) (Consumes-trans input mid input' header content first c) k.0 (breaks k.1)
+    option-ends content c count Is Ends fault.NoSuchExport answers breaks k = turns-fault es (Haggling terms) w w (streams input output) (streams input' output') fault.NoSuchExport refl (header ++ content) (Consumes-trans input mid input' header content first c) k.0 (breaks k.1)
+    option-ends content c count Is Ends fault.ReadFault answers breaks k = turns-fault es (Haggling terms) w w (streams input output) (streams input' output') fault.ReadFault refl (header ++ content) (Consumes-trans input mid input' header content first c) k.0 (breaks k.1)
     option-ends content c count Is Ends fault.WriteFault answers breaks k = record {
       message = header ++ content;
       reply = k.0;
@@ -179,46 +182,46 @@ module _ (es : List ExportRecord) (no_zeroes : Bool) (w : World) (input mid inpu
 
     -- a name that is another's
     pub unnamed-breaks : (content : List ℕ) → length content ≡ number32 header 12 → (option : ℕ) → option ≡ number32 header 8 → (x : ServiceFault) → IsUnnamed es option content x
-        → Breaks es (Haggling no_zeroes) (header ++ content) input' x
-    unnamed-breaks content count option is x p = subst (Breaks es (Haggling no_zeroes) (header ++ content) input') (sym p.0) (content, naming content count (sym is ∙ p.1), p.2)
+        → Breaks es (Haggling terms) (header ++ content) input' x
+    unnamed-breaks content count option is x p = subst (Breaks es (Haggling terms) (header ++ content) input') (sym p.0) (content, naming content count (sym is ∙ p.1), p.2)
 
     -- a name that is too long
     pub unread-breaks : All HasShortName es → (content : List ℕ) → length content ≡ number32 header 12 → (option n : ℕ) → option ≡ number32 header 8 → n ≡ number32 header 12 → (x : ServiceFault) → IsUnread option n x
-        → Breaks es (Haggling no_zeroes) (header ++ content) input' x
+        → Breaks es (Haggling terms) (header ++ content) input' x
     unread-breaks short content count option n is same x p =
-        subst (Breaks es (Haggling no_zeroes) (header ++ content) input') (sym p.0) (content, naming content count (sym is ∙ p.1), long-name es content short (omega (arith, p.2, count, same)))
+        subst (Breaks es (Haggling terms) (header ++ content) input') (sym p.0) (content, naming content count (sym is ∙ p.1), long-name es content short (omega (arith, p.2, count, same)))
 
     -- an option whose data are there
-    pub option-told : (content : List ℕ) → TakesInto (Some content) (number32 header 12) mid input' → (next : Phase) (Ends : ServiceFault → Type 0) → Answers (IsAnswered es no_zeroes (number32 header 8) content) Ends output output' (Ok next)
-        → Turns es (Haggling no_zeroes) w w (streams input output) (streams input' output') (Ok (Some next))
+    pub option-told : (content : List ℕ) → TakesInto (Some content) (number32 header 12) mid input' → (next : Phase) (Ends : ServiceFault → Type 0) → Answers (IsAnswered es terms (number32 header 8) content) Ends output output' (Ok next)
+        → Turns es (Haggling terms) w w (streams input output) (streams input' output') (Ok (Some next))
     option-told content t next Ends a =
         option-answered content (subst (λ l. Consumes mid input' l) (sym t.kept) t.takes.consumed) (ap length t.kept ∙ t.takes.count) next a.0 (inl a.1) a.2
 
     -- one whose data are too long
-    pub option-refused : TakesInto None (number32 header 12) mid input' → (next : Phase) (Ends : ServiceFault → Type 0) → Answers (IsTooLong no_zeroes (number32 header 8) (number32 header 12)) Ends output output' (Ok next)
-        → Turns es (Haggling no_zeroes) w w (streams input output) (streams input' output') (Ok (Some next))
+    pub option-refused : TakesInto None (number32 header 12) mid input' → (next : Phase) (Ends : ServiceFault → Type 0) → Answers (IsTooLong terms (number32 header 8) (number32 header 12)) Ends output output' (Ok next)
+        → Turns es (Haggling terms) w w (streams input output) (streams input' output') (Ok (Some next))
     option-refused t next Ends a =
-        let room = subst (λ n. IsTooLong no_zeroes (number32 header 8) n a.0 next) (sym t.takes.count) a.1 in
+        let room = subst (λ n. IsTooLong terms (number32 header 8) n a.0 next) (sym t.takes.count) a.1 in
         option-answered t.takes.bytes t.takes.consumed t.takes.count next a.0 (inr room) a.2
 
 -- ---- requests
 
-pub request-unlike : (es : List ExportRecord) (place : ℕ) (w : World) (input input' output : Option (List ℕ)) (header : List ℕ) → Consumes input input' header → length header ≡ 28 → number32 header 0 ≢ request_magic
-    → Turns es (Serving place) w w (streams input output) (streams input' output) (Err fault.Magic)
-request-unlike es place w input input' output header c size other = turns-fault es (Serving place) w w (streams input output) (streams input' output) fault.Magic refl header c (Keeps-refl output) (size, other)
+pub request-unlike : (es : List ExportRecord) (agreed : Agreement) (w : World) (input input' output : Option (List ℕ)) (header : List ℕ) → Consumes input input' header → length header ≡ 28 → number32 header 0 ≢ request_magic
+    → Turns es (Serving agreed) w w (streams input output) (streams input' output) (Err fault.Magic)
+request-unlike es agreed w input input' output header c size other = turns-fault es (Serving agreed) w w (streams input output) (streams input' output) fault.Magic refl header c (Keeps-refl output) (size, other)
 
-module _ (es : List ExportRecord) (place : ℕ) (e : ExportRecord) (at : export_at es place ≡ e) (w w' : World) (input mid input' : Option (List ℕ)) (header : List ℕ) (first : Consumes input mid header) (size : length header ≡ 28) (magic : number32 header 0 ≡ request_magic) where
+module _ (es : List ExportRecord) (agreed : Agreement) (e : ExportRecord) (at : export_at es agreed.place ≡ e) (w w' : World) (input mid input' : Option (List ℕ)) (header : List ℕ) (first : Consumes input mid header) (size : length header ≡ 28) (magic : number32 header 0 ≡ request_magic) where
   -- the client was lost in the bytes of a write, or the reader failed there
-  pub request-lost : (output : Option (List ℕ)) (x : ServiceFault) → IsShort (payload_len (header_of header)) mid input' x × (w' ≡ w) → Turns es (Serving place) w w' (streams input output) (streams input' output) (Err x)
+  pub request-lost : (output : Option (List ℕ)) (x : ServiceFault) → IsShort (payload_len (header_of header)) mid input' x × (w' ≡ w) → Turns es (Serving agreed) w w' (streams input output) (streams input' output) (Err x)
   request-lost output x p =
-      let cut : IsCut (Serving place) (header ++ p.0.part) = inr (record { header = header; part = p.0.part; rest_is = refl; is_header = record { size = size; magic = magic }; few = p.0.few }) in
-      turns-fault es (Serving place) w w' (streams input output) (streams input' output) x p.1 (header ++ p.0.part) (Consumes-trans input mid input' header p.0.part first p.0.consumed) (Keeps-refl output)
-      (cut-breaks es (Serving place) (header ++ p.0.part) input' x p.0.cause (λ lost. cut) (inr cut))
+      let cut : IsCut (Serving agreed) (header ++ p.0.part) = inr (record { header = header; part = p.0.part; rest_is = refl; is_header = record { size = size; magic = magic }; few = p.0.few }) in
+      turns-fault es (Serving agreed) w w' (streams input output) (streams input' output) x p.1 (header ++ p.0.part) (Consumes-trans input mid input' header p.0.part first p.0.consumed) (Keeps-refl output)
+      (cut-breaks es (Serving agreed) (header ++ p.0.part) input' x p.0.cause (λ lost. cut) (inr cut))
 
   -- it was taken and served
-  request-takes : (outcome : RequestOutcome) → (header_of header).kind ≢ 2 → (payload : List ℕ) → length payload ≡ payload_len (header_of header) → Serves e w (header_of header) payload outcome w'
-      → TakesRequest (export_at es place) place w (header ++ payload) (simple_reply (header_of header).cookie outcome) (Serving place) w'
-  request-takes outcome other payload count serves = subst (λ x. TakesRequest x place w (header ++ payload) (simple_reply (header_of header).cookie outcome) (Serving place) w') (sym at) (record {
+  request-takes : (outcome : RequestOutcome) → (header_of header).kind ≢ 2 → (payload : List ℕ) → length payload ≡ payload_len (header_of header) → Serves e agreed w (header_of header) payload outcome w'
+      → TakesRequest (export_at es agreed.place) agreed w (header ++ payload) (reply_to agreed (header_of header) outcome) (Serving agreed) w'
+  request-takes outcome other payload count serves = subst (λ x. TakesRequest x agreed w (header ++ payload) (reply_to agreed (header_of header) outcome) (Serving agreed) w') (sym at) (record {
     header = header;
     payload = payload;
     message_is = refl;
@@ -229,11 +232,11 @@ module _ (es : List ExportRecord) (place : ℕ) (e : ExportRecord) (at : export_
   })
 
   pub request-served : (output output' : Option (List ℕ)) (outcome : RequestOutcome) → (header_of header).kind ≢ 2
-      → (payload : List ℕ) × (length payload ≡ payload_len (header_of header)) × Consumes mid input' payload × Serves e w (header_of header) payload outcome w'
-      → Appends output output' (simple_reply (header_of header).cookie outcome) → Turns es (Serving place) w w' (streams input output) (streams input' output') (Ok (Some (Serving place)))
+      → (payload : List ℕ) × (length payload ≡ payload_len (header_of header)) × Consumes mid input' payload × Serves e agreed w (header_of header) payload outcome w'
+      → Appends output output' (reply_to agreed (header_of header) outcome) → Turns es (Serving agreed) w w' (streams input output) (streams input' output') (Ok (Some (Serving agreed)))
   request-served output output' outcome other p a = record {
     taken = header ++ p.0;
-    written = simple_reply (header_of header).cookie outcome;
+    written = reply_to agreed (header_of header) outcome;
     consumed = Consumes-trans input mid input' header p.0 first p.2;
     appended = a;
     holds = request-takes outcome other p.0 p.1 p.3;
@@ -241,12 +244,12 @@ module _ (es : List ExportRecord) (place : ℕ) (e : ExportRecord) (at : export_
 
   -- and the writer failed in its reply
   pub request-unanswered : (output output' : Option (List ℕ)) (outcome : RequestOutcome) → (header_of header).kind ≢ 2
-      → (payload : List ℕ) × (length payload ≡ payload_len (header_of header)) × Consumes mid input' payload × Serves e w (header_of header) payload outcome w'
-      → Turns es (Serving place) w w' (streams input output) (streams input' output') (Err fault.WriteFault)
+      → (payload : List ℕ) × (length payload ≡ payload_len (header_of header)) × Consumes mid input' payload × Serves e agreed w (header_of header) payload outcome w'
+      → Turns es (Serving agreed) w w' (streams input output) (streams input' output') (Err fault.WriteFault)
   request-unanswered output output' outcome other p = record {
     message = header ++ p.0;
-    reply = simple_reply (header_of header).cookie outcome;
-    next = Serving place;
+    reply = reply_to agreed (header_of header) outcome;
+    next = Serving agreed;
     consumed = Consumes-trans input mid input' header p.0 first p.2;
     takes = request-takes outcome other p.0 p.1 p.3;
   }
@@ -254,9 +257,9 @@ module _ (es : List ExportRecord) (place : ℕ) (e : ExportRecord) (at : export_
 last-payload : (h : Header) → h.kind ≡ 2 → 0 ≡ payload_len h
 last-payload h kind = sym (ap (λ (k : ℕ). if k == 1 then h.length else 0) kind)
 
-pub request-last : (es : List ExportRecord) (place : ℕ) (w : World) (input input' output : Option (List ℕ)) (header : List ℕ) → Consumes input input' header → length header ≡ 28 → number32 header 0 ≡ request_magic → (header_of header).kind ≡ 2
-    → Turns es (Serving place) w w (streams input output) (streams input' output) (Ok (Some Over))
-request-last es place w input input' output header c size magic kind = record {
+pub request-last : (es : List ExportRecord) (agreed : Agreement) (w : World) (input input' output : Option (List ℕ)) (header : List ℕ) → Consumes input input' header → length header ≡ 28 → number32 header 0 ≡ request_magic → (header_of header).kind ≡ 2
+    → Turns es (Serving agreed) w w (streams input output) (streams input' output) (Ok (Some Over))
+request-last es agreed w input input' output header c size magic kind = record {
   taken = header;
   written = [];
   consumed = c;

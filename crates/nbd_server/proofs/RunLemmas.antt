@@ -6,13 +6,15 @@ use Rattle.request_queue.specs.Runs.{IsLed}
 use Rattle.request_queue.specs.World.{World, sync}
 use Rattle.request_queue.proofs.lemmas.LedLemmas.{led-none, led-one, led-then}
 use Rattle.nbd_protocol.specs.declared.header.Command.{Command}
-use Rattle.nbd_protocol.specs.declared.header.Command.TheVariants.{Read, Write, Zero, Hint, Flush}
+use Rattle.nbd_protocol.specs.declared.header.Command.TheVariants.{Read, Write, Zero, Hint, Flush, Status}
+use Rattle.nbd_protocol.specs.declared.phase.Agreement.{Agreement}
 use Rattle.nbd_protocol.specs.declared.phase.Phase.{Phase}
 use Rattle.nbd_protocol.specs.declared.phase.Phase.TheVariants.{Greeted, Haggling, Serving, Over}
 use Rattle.nbd_protocol.specs.declared.request_error.RequestError.{RequestError}
 use Rattle.nbd_protocol.specs.Exports.{ExportRecord, export_at}
 use Rattle.nbd_protocol.specs.Headers.{command_of, header_of}
-use Rattle.nbd_server.specs.Transmission.{RequestOutcome, FailsToReadEnds, Flushes, IsFramed, ReadsBytes, ServesCommand, Settles, WritesBytes, WritesGiven, WritesSome, room_behind}
+use Rattle.nbd_server.specs.Replies.{RequestOutcome}
+use Rattle.nbd_server.specs.Transmission.{FailsToReadEnds, Flushes, IsFramed, ReadsBytes, ServesCommand, Settles, WritesBytes, WritesGiven, WritesSome, room_behind}
 use Rattle.nbd_server.specs.Service.{Conversation, begins, goes_on, IsLast, IsServed, TakesMessage}
 
 stays-led : (w w' : World) → w' ≡ w → IsLed EachPart w w'
@@ -65,15 +67,17 @@ command-led e w (Ok (Write offset length fua)) payload outcome w' p = settle-led
 command-led e w (Ok (Zero offset length fua)) payload outcome w' p = settle-led w fua (WritesSome e w offset (replicate length 0)) (λ o v q. write-led e w offset (replicate length 0) o v q) outcome w' p
 command-led e w (Ok Hint) payload outcome w' p = stays-led w w' p.1
 command-led e w (Ok Flush) payload outcome w' p = flush-led w outcome w' p
+command-led e w (Ok (Status offset length one)) payload (Ok content) w' p = stays-led w w' p.1
+command-led e w (Ok (Status offset length one)) payload (Err error) w' p = stays-led w w' p.1
 
-request-led : (e : ExportRecord) (place : ℕ) (w : World) (header payload reply : List ℕ) (next : Phase) (w' : World) → IsLast w header reply next w' ⊎ ((header_of header).kind ≢ 2) × IsServed e place w header payload reply next w' → IsLed EachPart w w'
-request-led e place w header payload reply next w' (inl x) = stays-led w w' x.same
-request-led e place w header payload reply next w' (inr x) = command-led e w (command_of e (header_of header)) payload x.1.outcome w' x.1.serves
+request-led : (e : ExportRecord) (agreed : Agreement) (w : World) (header payload reply : List ℕ) (next : Phase) (w' : World) → IsLast w header reply next w' ⊎ ((header_of header).kind ≢ 2) × IsServed e agreed w header payload reply next w' → IsLed EachPart w w'
+request-led e agreed w header payload reply next w' (inl x) = stays-led w w' x.same
+request-led e agreed w header payload reply next w' (inr x) = command-led e w (command_of e agreed (header_of header)) payload x.1.outcome w' x.1.serves
 
 message-led : (es : List ExportRecord) (phase : Phase) (w : World) (message reply : List ℕ) (next : Phase) (w' : World) → TakesMessage es phase w message reply next w' → IsLed EachPart w w'
 message-led es Greeted w message reply next w' p = stays-led w w' p.1
-message-led es (Haggling no_zeroes) w message reply next w' p = stays-led w w' p.1
-message-led es (Serving place) w message reply next w' p = request-led (export_at es place) place w p.header p.payload reply next w' p.answered
+message-led es (Haggling terms) w message reply next w' p = stays-led w w' p.1
+message-led es (Serving agreed) w message reply next w' p = request-led (export_at es agreed.place) agreed w p.header p.payload reply next w' p.answered
 message-led es Over w message reply next w' p = absurd p
 
 -- messages one after another are a run of the queue

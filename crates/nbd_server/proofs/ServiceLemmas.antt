@@ -9,18 +9,22 @@ use Rattle.request_queue.specs.World.{World}
 use Rattle.counted_io.specs.Streams.{Streams, streams}
 use Rattle.nbd_protocol.specs.declared.fault.ServiceFault.{ServiceFault}
 use Rattle.nbd_protocol.specs.declared.fault.ServiceFault.TheVariants as fault
+use Rattle.nbd_protocol.specs.declared.phase.Terms.{Terms}
+use Rattle.nbd_protocol.specs.declared.phase.Agreement.{Agreement}
 use Rattle.nbd_protocol.specs.declared.phase.Phase.{Phase}
 use Rattle.nbd_protocol.specs.declared.phase.Phase.TheVariants.{Greeted, Haggling, Serving, Over}
 use Rattle.nbd_protocol.specs.declared.header.Command.{Command}
-use Rattle.nbd_protocol.specs.declared.header.Command.TheVariants.{Read, Write, Zero, Hint, Flush}
+use Rattle.nbd_protocol.specs.declared.header.Command.TheVariants.{Read, Write, Zero, Hint, Flush, Status}
 use Rattle.nbd_protocol.specs.declared.request_error.RequestError.{RequestError}
 use Rattle.nbd_protocol.specs.Exports.{AreExports, ExportRecord, asked, export_at, export_records}
 use Rattle.nbd_protocol.specs.declared.export.Export.{Export}
 use Rattle.nbd_protocol.specs.Numbers.{number32}
 use Rattle.nbd_protocol.specs.Headers.{command_of, header_of}
 use Rattle.nbd_server.specs.Sectors.{FailsToFetch, EndsIn, HasNoBuffer, EndsPut, StopsPut}
-use Rattle.nbd_server.specs.Transmission.{RequestOutcome, FailsToReadEnds, Flushes, IsFramed, ReadsBytes, ServesCommand, Settles, WritesBytes, WritesGiven, WritesSome, room_behind, touched}
-use Rattle.nbd_protocol.specs.Handshake.{greeting, is_info, name_in, phase_after, serving_at}
+use Rattle.nbd_server.specs.Replies.{RequestOutcome}
+use Rattle.nbd_server.specs.Status.{touched}
+use Rattle.nbd_server.specs.Transmission.{FailsToReadEnds, Flushes, IsFramed, ReadsBytes, ServesCommand, Settles, WritesBytes, WritesGiven, WritesSome, room_behind}
+use Rattle.nbd_protocol.specs.Handshake.{greeting, is_info, name_in, phase_after, serving_at, terms_after, terms_after_long}
 use Rattle.nbd_protocol.proofs.lemmas.ExportLemmas.{asked-inside}
 use Rattle.nbd_server.specs.Premises.{IsPlaced}
 use Rattle.nbd_server.specs.Causes.{Breaks}
@@ -222,15 +226,17 @@ command-config e w (Ok (Write offset length fua)) payload outcome w' p = settle-
 command-config e w (Ok (Zero offset length fua)) payload outcome w' p = settle-config w fua (WritesSome e w offset (replicate length 0)) (λ o v q. write-config e w offset (replicate length 0) o v q) outcome w' p
 command-config e w (Ok Hint) payload outcome w' p = same-config w w' p.1
 command-config e w (Ok Flush) payload outcome w' p = flush-config w outcome w' p
+command-config e w (Ok (Status offset length one)) payload (Ok content) w' p = same-config w w' p.1
+command-config e w (Ok (Status offset length one)) payload (Err error) w' p = same-config w w' p.1
 
-request-config : (e : ExportRecord) (place : ℕ) (w : World) (header payload reply : List ℕ) (next : Phase) (w' : World) → IsLast w header reply next w' ⊎ ((header_of header).kind ≢ 2) × IsServed e place w header payload reply next w' → w'.stack.config ≡ w.stack.config
-request-config e place w header payload reply next w' (inl x) = same-config w w' x.same
-request-config e place w header payload reply next w' (inr x) = command-config e w (command_of e (header_of header)) payload x.1.outcome w' x.1.serves
+request-config : (e : ExportRecord) (agreed : Agreement) (w : World) (header payload reply : List ℕ) (next : Phase) (w' : World) → IsLast w header reply next w' ⊎ ((header_of header).kind ≢ 2) × IsServed e agreed w header payload reply next w' → w'.stack.config ≡ w.stack.config
+request-config e agreed w header payload reply next w' (inl x) = same-config w w' x.same
+request-config e agreed w header payload reply next w' (inr x) = command-config e w (command_of e agreed (header_of header)) payload x.1.outcome w' x.1.serves
 
 pub message-config : (es : List ExportRecord) (phase : Phase) (w : World) (message reply : List ℕ) (next : Phase) (w' : World) → TakesMessage es phase w message reply next w' → w'.stack.config ≡ w.stack.config
 message-config es Greeted w message reply next w' p = same-config w w' p.1
-message-config es (Haggling no_zeroes) w message reply next w' p = same-config w w' p.1
-message-config es (Serving place) w message reply next w' p = request-config (export_at es place) place w p.header p.payload reply next w' p.answered
+message-config es (Haggling terms) w message reply next w' p = same-config w w' p.1
+message-config es (Serving agreed) w message reply next w' p = request-config (export_at es agreed.place) agreed w p.header p.payload reply next w' p.answered
 message-config es Over w message reply next w' p = absurd p
 
 pub exports-kept : (exports : List Export) (phase : Phase) (w w' : World) (old new : Streams) (next : Phase) → AreExports w.stack.config exports → Turns (export_records exports) phase w w' old new (Ok (Some next))
@@ -240,37 +246,37 @@ exports-kept exports phase w w' old new next x t = subst (λ c. AreExports c exp
 -- ---- the export that is served is one of them
 
 module _ (es : List ExportRecord) where
-  serving-placed : (no_zeroes : Bool) (name : List ℕ) (found : Option ℕ) → asked es name ≡ found → IsPlaced es (serving_at no_zeroes found)
-  serving-placed no_zeroes name (Some place) is = asked-inside es name place is
-  serving-placed no_zeroes name None is = tt
+  serving-placed : (terms : Terms) (name : List ℕ) (found : Option ℕ) → asked es name ≡ found → IsPlaced es (serving_at terms found)
+  serving-placed terms name (Some place) is = asked-inside es name place is
+  serving-placed terms name None is = tt
 
-  after-placed : (no_zeroes : Bool) (option : ℕ) (content : List ℕ) → IsPlaced es (phase_after es no_zeroes option content)
+  after-placed : (terms : Terms) (option : ℕ) (content : List ℕ) → IsPlaced es (phase_after es terms option content)
   unfolding phase_after
-  after-placed no_zeroes option content = go (option == 1) (option == 2) ((option == 7) && is_info content)
+  after-placed terms option content = go (option == 1) (option == 2) ((option == 7) && is_info content)
     where
-      go : (named ended goes : Bool) → IsPlaced es (if named then serving_at no_zeroes (asked es content) else if ended then Over else if goes then serving_at no_zeroes (asked es (name_in content)) else Haggling no_zeroes)
-      go true ended goes = serving-placed no_zeroes content (asked es content) refl
+      go : (named ended goes : Bool) → IsPlaced es (if named then serving_at terms (asked es content) else if ended then Over else if goes then serving_at terms (asked es (name_in content)) else Haggling (terms_after es terms option content))
+      go true ended goes = serving-placed terms content (asked es content) refl
       go false true goes = tt
-      go false false true = serving-placed no_zeroes (name_in content) (asked es (name_in content)) refl
+      go false false true = serving-placed terms (name_in content) (asked es (name_in content)) refl
       go false false false = tt
 
-  long-placed : (no_zeroes ended : Bool) → IsPlaced es (if ended then Over else Haggling no_zeroes)
-  long-placed no_zeroes true = tt
-  long-placed no_zeroes false = tt
+  long-placed : (after : Terms) (ended : Bool) → IsPlaced es (if ended then Over else Haggling after)
+  long-placed after true = tt
+  long-placed after false = tt
 
-  option-placed : (no_zeroes : Bool) (option : ℕ) (content reply : List ℕ) (next : Phase) → AnswersOption es no_zeroes option content reply next → IsPlaced es next
-  option-placed no_zeroes option content reply next (inl a) = subst (IsPlaced es) (sym a.next_is) (after-placed no_zeroes option content)
-  option-placed no_zeroes option content reply next (inr a) = subst (IsPlaced es) (sym a.next_is) (long-placed no_zeroes (option == 2))
+  option-placed : (terms : Terms) (option : ℕ) (content reply : List ℕ) (next : Phase) → AnswersOption es terms option content reply next → IsPlaced es next
+  option-placed terms option content reply next (inl a) = subst (IsPlaced es) (sym a.next_is) (after-placed terms option content)
+  option-placed terms option content reply next (inr a) = subst (IsPlaced es) (sym a.next_is) (long-placed (terms_after_long terms option) (option == 2))
 
-  request-placed : (e : ExportRecord) (place : ℕ) (w : World) (header payload reply : List ℕ) (next : Phase) (w' : World) → place < length es
-      → IsLast w header reply next w' ⊎ ((header_of header).kind ≢ 2) × IsServed e place w header payload reply next w' → IsPlaced es next
-  request-placed e place w header payload reply next w' inside (inl x) = subst (IsPlaced es) (sym x.next_is) tt
-  request-placed e place w header payload reply next w' inside (inr x) = subst (IsPlaced es) (sym x.1.next_is) inside
+  request-placed : (e : ExportRecord) (agreed : Agreement) (w : World) (header payload reply : List ℕ) (next : Phase) (w' : World) → agreed.place < length es
+      → IsLast w header reply next w' ⊎ ((header_of header).kind ≢ 2) × IsServed e agreed w header payload reply next w' → IsPlaced es next
+  request-placed e agreed w header payload reply next w' inside (inl x) = subst (IsPlaced es) (sym x.next_is) tt
+  request-placed e agreed w header payload reply next w' inside (inr x) = subst (IsPlaced es) (sym x.1.next_is) inside
 
   message-placed : (phase : Phase) (w : World) (message reply : List ℕ) (next : Phase) (w' : World) → IsPlaced es phase → TakesMessage es phase w message reply next w' → IsPlaced es next
   message-placed Greeted w message reply next w' placed p = subst (IsPlaced es) (sym p.0.next_is) tt
-  message-placed (Haggling no_zeroes) w message reply next w' placed p = option-placed no_zeroes (number32 p.0.header 8) p.0.content reply next p.0.answered
-  message-placed (Serving place) w message reply next w' placed p = request-placed (export_at es place) place w p.header p.payload reply next w' placed p.answered
+  message-placed (Haggling terms) w message reply next w' placed p = option-placed terms (number32 p.0.header 8) p.0.content reply next p.0.answered
+  message-placed (Serving agreed) w message reply next w' placed p = request-placed (export_at es agreed.place) agreed w p.header p.payload reply next w' placed p.answered
   message-placed Over w message reply next w' placed p = absurd p
 
   pub placed-next : (phase : Phase) (w w' : World) (old new : Streams) (next : Phase) → IsPlaced es phase → Turns es phase w w' old new (Ok (Some next)) → IsPlaced es next

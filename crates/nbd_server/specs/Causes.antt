@@ -42,8 +42,8 @@ pub record IsCutBehind (IsHeader : List ℕ → Type 0) (count : List ℕ → �
 -- a message of the client began and didn't end
 abbrev pub IsCut : Phase → List ℕ → Type 0
 IsCut Greeted rest = IsCutWithin 4 rest
-IsCut (Haggling no_zeroes) rest = IsCutWithin 16 rest ⊎ IsCutBehind IsOptionHeader data_len rest
-IsCut (Serving place) rest = IsCutWithin 28 rest ⊎ IsCutBehind IsRequestHeader request_payload_len rest
+IsCut (Haggling terms) rest = IsCutWithin 16 rest ⊎ IsCutBehind IsOptionHeader data_len rest
+IsCut (Serving agreed) rest = IsCutWithin 28 rest ⊎ IsCutBehind IsRequestHeader request_payload_len rest
 IsCut Over rest = ⊥
 
 -- ---- messages that a service doesn't go on from
@@ -51,8 +51,8 @@ IsCut Over rest = ⊥
 -- a whole header, of another magic number
 abbrev pub HasOtherMagic : Phase → List ℕ → Type 0
 HasOtherMagic Greeted rest = ⊥
-HasOtherMagic (Haggling no_zeroes) rest = (length rest ≡ 16) × (take 8 rest ≢ codes "IHAVEOPT")
-HasOtherMagic (Serving place) rest = (length rest ≡ 28) × (number32 rest 0 ≢ request_magic)
+HasOtherMagic (Haggling terms) rest = (length rest ≡ 16) × (take 8 rest ≢ codes "IHAVEOPT")
+HasOtherMagic (Serving agreed) rest = (length rest ≡ 28) × (number32 rest 0 ≢ request_magic)
 HasOtherMagic Over rest = ⊥
 
 -- the client's flags, of others than the two that were offered
@@ -70,7 +70,7 @@ pub record IsNaming (rest name : List ℕ) : Type 0 where
 
 -- it names no export that is there
 abbrev pub NamesOther : List ExportRecord → Phase → List ℕ → Type 0
-NamesOther es (Haggling no_zeroes) rest = (name : List ℕ) × IsNaming rest name × (asked es name ≡ None)
+NamesOther es (Haggling terms) rest = (name : List ℕ) × IsNaming rest name × (asked es name ≡ None)
 NamesOther es phase rest = ⊥
 
 -- Why the service ends in that phase, where this came of a message and that is left of the input. `HasRead` says of

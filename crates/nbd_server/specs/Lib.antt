@@ -1,4 +1,6 @@
 pub mod Sectors
+pub mod Replies
+pub mod Status
 pub mod Transmission
 pub mod Causes
 pub mod Service

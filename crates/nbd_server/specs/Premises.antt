@@ -11,7 +11,7 @@ use Rattle.nbd_protocol.specs.declared.phase.Phase.TheVariants.{Over, Serving}
 
 -- the export that is served is one of them
 abbrev pub IsPlaced : List ExportRecord → Phase → Type 0
-IsPlaced es (Serving place) = place < length es
+IsPlaced es (Serving agreed) = agreed.place < length es
 IsPlaced es phase = Unit {0}
 
 -- a message of the exports' client may still come

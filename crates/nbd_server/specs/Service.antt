@@ -1,5 +1,5 @@
 -- The service of a client: its messages one after another, and what is replied to each.
-use Rattle.std.specs.Prelude.{◌≡◌, ◌≢◌, ◌⊎◌, ℕ, ◌<◌, ◌≤◌, nat_le, Bool, true, List, [], ◌++◌, length, take, codes, Option, Some, None, Result, Ok, Err}
+use Rattle.std.specs.Prelude.{◌≡◌, ◌≢◌, ◌⊎◌, ℕ, ◌<◌, ◌≤◌, nat_le, true, false, List, [], ◌++◌, length, take, codes, Option, Some, None, Result, Ok, Err}
 use Rattle.std.specs.Io.KnownBytes.{Appends, Consumes, IsAtEnd, Keeps}
 use Rattle.request_queue.specs.Parts.{EachPart}
 use Rattle.request_queue.specs.Runs.{IsLed}
@@ -11,9 +11,12 @@ use Rattle.nbd_protocol.specs.Handshake.{greeting, answer_to, answer_to_long, ph
 use Rattle.nbd_protocol.specs.Headers.{header_of, payload_len, request_magic}
 use Rattle.nbd_server.specs.Causes.{Breaks}
 use Rattle.nbd_protocol.specs.Streaming.{Spoken}
-use Rattle.nbd_server.specs.Transmission.{RequestOutcome, Serves, simple_reply}
+use Rattle.nbd_server.specs.Replies.{RequestOutcome, reply_to}
+use Rattle.nbd_server.specs.Transmission.{Serves}
 use Rattle.nbd_protocol.specs.declared.fault.ServiceFault.{ServiceFault}
 use Rattle.nbd_protocol.specs.declared.fault.ServiceFault.TheVariants.{NoSuchExport, WriteFault}
+use Rattle.nbd_protocol.specs.declared.phase.Terms.{Terms}
+use Rattle.nbd_protocol.specs.declared.phase.Agreement.{Agreement}
 use Rattle.nbd_protocol.specs.declared.phase.Phase.{Phase}
 use Rattle.nbd_protocol.specs.declared.phase.Phase.TheVariants.{Greeted, Haggling, Serving, Over}
 
@@ -21,42 +24,42 @@ use Rattle.nbd_protocol.specs.declared.phase.Phase.TheVariants.{Greeted, Hagglin
 pub record TakesFlags (message reply : List ℕ) (next : Phase) : Type 0 where
   pub size : length message ≡ 4
   pub offered : number32 message 0 < 4
-  pub next_is : next ≡ Haggling (nat_le 2 (number32 message 0))
+  pub next_is : next ≡ Haggling (record { no_zeroes = nat_le 2 (number32 message 0); structured = false; status = None })
   pub silent : reply ≡ []
 
 -- an option that is answered by its number and its data
-pub record IsAnswered (es : List ExportRecord) (no_zeroes : Bool) (option : ℕ) (content reply : List ℕ) (next : Phase) : Type 0 where
+pub record IsAnswered (es : List ExportRecord) (terms : Terms) (option : ℕ) (content reply : List ℕ) (next : Phase) : Type 0 where
   pub short : length content ≤ most_data
   pub named : names_export es option content ≡ true
-  pub reply_is : reply ≡ answer_to es no_zeroes option content
-  pub next_is : next ≡ phase_after es no_zeroes option content
+  pub reply_is : reply ≡ answer_to es terms option content
+  pub next_is : next ≡ phase_after es terms option content
 
 -- an option whose data, so many bytes, are too long
-pub record IsTooLong (no_zeroes : Bool) (option count : ℕ) (reply : List ℕ) (next : Phase) : Type 0 where
+pub record IsTooLong (terms : Terms) (option count : ℕ) (reply : List ℕ) (next : Phase) : Type 0 where
   pub long : most_data < count
   pub other : option ≢ 1
   pub reply_is : reply ≡ answer_to_long option
-  pub next_is : next ≡ phase_after_long no_zeroes option
+  pub next_is : next ≡ phase_after_long terms option
 
-abbrev pub AnswersOption : List ExportRecord → Bool → ℕ → List ℕ → List ℕ → Phase → Type 0
-AnswersOption es no_zeroes option content reply next = IsAnswered es no_zeroes option content reply next ⊎ IsTooLong no_zeroes option (length content) reply next
+abbrev pub AnswersOption : List ExportRecord → Terms → ℕ → List ℕ → List ℕ → Phase → Type 0
+AnswersOption es terms option content reply next = IsAnswered es terms option content reply next ⊎ IsTooLong terms option (length content) reply next
 
 -- An option: its magic, its number, the length of its data, and the data.
-pub record TakesOption (es : List ExportRecord) (no_zeroes : Bool) (message reply : List ℕ) (next : Phase) : Type 0 where
+pub record TakesOption (es : List ExportRecord) (terms : Terms) (message reply : List ℕ) (next : Phase) : Type 0 where
   pub header : List ℕ
   pub content : List ℕ
   pub message_is : message ≡ header ++ content
   pub size : length header ≡ 16
   pub magic : take 8 header ≡ codes "IHAVEOPT"
   pub count : length content ≡ number32 header 12
-  pub answered : AnswersOption es no_zeroes (number32 header 8) content reply next
+  pub answered : AnswersOption es terms (number32 header 8) content reply next
 
--- a request to the export at that place that isn't the last: it is served, and has a simple reply
-pub record IsServed (e : ExportRecord) (place : ℕ) (w : World) (header payload reply : List ℕ) (next : Phase) (w' : World) : Type 0 where
+-- a request that isn't the last: it is served, and has the reply that was agreed on
+pub record IsServed (e : ExportRecord) (agreed : Agreement) (w : World) (header payload reply : List ℕ) (next : Phase) (w' : World) : Type 0 where
   pub outcome : RequestOutcome
-  pub serves : Serves e w (header_of header) payload outcome w'
-  pub reply_is : reply ≡ simple_reply (header_of header).cookie outcome
-  pub next_is : next ≡ Serving place
+  pub serves : Serves e agreed w (header_of header) payload outcome w'
+  pub reply_is : reply ≡ reply_to agreed (header_of header) outcome
+  pub next_is : next ≡ Serving agreed
 
 -- the request by which the client ends the service: it has no reply
 pub record IsLast (w : World) (header reply : List ℕ) (next : Phase) (w' : World) : Type 0 where
@@ -66,20 +69,20 @@ pub record IsLast (w : World) (header reply : List ℕ) (next : Phase) (w' : Wor
   pub same : w' ≡ w
 
 -- A request: 28 bytes, and those of a write.
-pub record TakesRequest (e : ExportRecord) (place : ℕ) (w : World) (message reply : List ℕ) (next : Phase) (w' : World) : Type 0 where
+pub record TakesRequest (e : ExportRecord) (agreed : Agreement) (w : World) (message reply : List ℕ) (next : Phase) (w' : World) : Type 0 where
   pub header : List ℕ
   pub payload : List ℕ
   pub message_is : message ≡ header ++ payload
   pub size : length header ≡ 28
   pub magic : number32 header 0 ≡ request_magic
   pub count : length payload ≡ payload_len (header_of header)
-  pub answered : IsLast w header reply next w' ⊎ ((header_of header).kind ≢ 2) × IsServed e place w header payload reply next w'
+  pub answered : IsLast w header reply next w' ⊎ ((header_of header).kind ≢ 2) × IsServed e agreed w header payload reply next w'
 
 -- One message of the client, by what it may say: from one world of the queue to the next.
 abbrev pub TakesMessage : List ExportRecord → Phase → World → List ℕ → List ℕ → Phase → World → Type 0
 TakesMessage es Greeted w message reply next w' = TakesFlags message reply next × (w' ≡ w)
-TakesMessage es (Haggling no_zeroes) w message reply next w' = TakesOption es no_zeroes message reply next × (w' ≡ w)
-TakesMessage es (Serving place) w message reply next w' = TakesRequest (export_at es place) place w message reply next w'
+TakesMessage es (Haggling terms) w message reply next w' = TakesOption es terms message reply next × (w' ≡ w)
+TakesMessage es (Serving agreed) w message reply next w' = TakesRequest (export_at es agreed.place) agreed w message reply next w'
 TakesMessage es Over w message reply next w' = ⊥
 
 -- Messages one after another, what they are in all, and all that is replied.

@@ -4,33 +4,22 @@ use Rattle.std.specs.Io.KnownBytes.{Consumes}
 use Rattle.stack_meaning.specs.declared.fault.IoFault.{IoFault}
 use Rattle.request_queue.specs.Parts.{EachPart}
 use Rattle.request_queue.specs.World.{World, Step, sync}
-use Rattle.nbd_protocol.specs.Numbers.{bytes32, bytes64}
 use Rattle.nbd_protocol.specs.Exports.{ExportRecord}
-use Rattle.nbd_protocol.specs.Headers.{command_of, error_number, payload_len}
+use Rattle.nbd_protocol.specs.Headers.{command_of, most_length, payload_len}
+use Rattle.nbd_protocol.specs.declared.phase.Agreement.{Agreement}
+use Rattle.nbd_server.specs.Replies.{RequestOutcome}
+use Rattle.nbd_server.specs.Status.{HasStatus, touched}
 use Rattle.nbd_server.specs.Sectors.{IsFetched, FailsToFetch, IsStored, FailsToStore}
 use Rattle.nbd_protocol.specs.declared.header.Header.{Header}
 use Rattle.nbd_protocol.specs.declared.header.Command.{Command}
-use Rattle.nbd_protocol.specs.declared.header.Command.TheVariants.{Read, Write, Zero, Hint, Flush}
+use Rattle.nbd_protocol.specs.declared.header.Command.TheVariants.{Read, Write, Zero, Hint, Flush, Status}
 use Rattle.nbd_server.specs.declared.reply.Data.{Data}
 use Rattle.nbd_protocol.specs.declared.request_error.RequestError.{RequestError}
 use Rattle.nbd_protocol.specs.declared.request_error.RequestError.TheVariants.{NoMemory, InputOutput}
 
--- the bytes that a request gives, or why it fails
-abbrev pub RequestOutcome : Type 0
-RequestOutcome = Result (List ℕ) RequestError
-
--- a simple reply, under the request's cookie
-abbrev pub simple_reply : ℕ → RequestOutcome → List ℕ
-simple_reply cookie (Ok content) = bytes32 0x67446698 ++ (bytes32 0 ++ (bytes64 cookie ++ content))
-simple_reply cookie (Err error) = bytes32 0x67446698 ++ (bytes32 (error_number error) ++ bytes64 cookie)
-
 -- answered, and nothing happened
 abbrev pub Stays : World → RequestOutcome → World → Type 0
 Stays w outcome w' = (outcome ≡ Ok []) × (w' ≡ w)
-
--- how many sectors some bytes touch
-abbrev pub touched : ℕ → ℕ → ℕ
-touched offset length = (offset % 512 + length + 511) / 512
 
 -- bytes of the export were read: a part of the sectors that they touch
 abbrev pub ReadsBytes : ExportRecord → World → ℕ → ℕ → RequestOutcome → World → Type 0
@@ -99,6 +88,11 @@ Refuses w error outcome w' = (outcome ≡ Err error) × (w' ≡ w)
 abbrev pub WritesGiven : ExportRecord → World → ℕ → List ℕ → RequestOutcome → World → Type 0
 WritesGiven e w offset bytes outcome w' = Refuses w NoMemory outcome w' ⊎ WritesSome e w offset bytes outcome w'
 
+-- the status of bytes is told, of which nothing is read, or memory ran out
+abbrev pub TellsStatus : ExportRecord → World → ℕ → ℕ → Bool → RequestOutcome → World → Type 0
+TellsStatus e w offset length one (Ok content) w' = HasStatus w.stack.config e offset length one content × (w' ≡ w)
+TellsStatus e w offset length one (Err error) w' = (error ≡ NoMemory) × (w' ≡ w)
+
 -- How a request ends that asks for this, or has that fault. WRITE_ZEROES is a write of as many zeros.
 abbrev pub ServesCommand : ExportRecord → World → Result Command RequestError → List ℕ → RequestOutcome → World → Type 0
 ServesCommand e w (Err error) payload outcome w' = Refuses w error outcome w'
@@ -107,10 +101,11 @@ ServesCommand e w (Ok (Write offset length fua)) payload outcome w' = Settles fu
 ServesCommand e w (Ok (Zero offset length fua)) payload outcome w' = Settles fua (WritesSome e w offset (replicate length 0)) outcome w'
 ServesCommand e w (Ok Hint) payload outcome w' = Stays w outcome w'
 ServesCommand e w (Ok Flush) payload outcome w' = Flushes w outcome w'
+ServesCommand e w (Ok (Status offset length one)) payload outcome w' = TellsStatus e w offset length one outcome w'
 
 -- how a request ends
-abbrev pub Serves : ExportRecord → World → Header → List ℕ → RequestOutcome → World → Type 0
-Serves e w h payload outcome w' = ServesCommand e w (command_of e h) payload outcome w'
+abbrev pub Serves : ExportRecord → Agreement → World → Header → List ℕ → RequestOutcome → World → Type 0
+Serves e a w h payload outcome w' = ServesCommand e w (command_of e a h) payload outcome w'
 
 -- the part of the bytes that is meant
 abbrev pub data_of : Data → List ℕ
@@ -129,10 +124,18 @@ written (Err error) = Err error
 abbrev pub IsInside : Result Data RequestError → Type 0
 IsInside outcome = IfOk outcome (λ d. d.start + d.length ≤ length d.bytes.items)
 
+-- it does, and is at most what a request may ask for
+pub record IsPart (d : Data) : Type 0 where
+  pub inside : d.start + d.length ≤ length d.bytes.items
+  pub few : d.length ≤ most_length
+
+abbrev pub IsSendable : Result Data RequestError → Type 0
+IsSendable outcome = IfOk outcome IsPart
+
 -- the bytes that follow a request were taken, and it was served
-pub record IsServed (e : ExportRecord) (w : World) (h : Header) (old new : Option (List ℕ)) (outcome : Result Data RequestError) (w' : World) : Type 0 where
+pub record IsServed (e : ExportRecord) (a : Agreement) (w : World) (h : Header) (old new : Option (List ℕ)) (outcome : Result Data RequestError) (w' : World) : Type 0 where
   pub payload : List ℕ
   pub size : length payload ≡ payload_len h
   pub consumed : Consumes old new payload
-  pub serves : Serves e w h payload (outcome_of outcome) w'
-  pub inside : IsInside outcome
+  pub serves : Serves e a w h payload (outcome_of outcome) w'
+  pub inside : IsSendable outcome

@@ -2,7 +2,8 @@
 ghost use Rattle.std.specs.Prelude.{◌≡◌, ◌<◌, ◌≤◌, ◌+◌, ◌*◌, ◌%◌, ◌^◌, drop, length, replicate, take, Ok, IfErr, IfOk};
 ghost use Rattle.nbd_protocol.specs.Exports.{export_record};
 ghost use Rattle.nbd_server.specs.Premises.{AreBytesOf, HaveSizes};
-ghost use Rattle.nbd_server.specs.Transmission.{FailsToReadEnds, IsInside, ReadsBytes, ReadsEnds, WritesBytes, WritesSome, data_of, outcome_of, touched, written};
+ghost use Rattle.nbd_server.specs.Status.{touched};
+ghost use Rattle.nbd_server.specs.Transmission.{FailsToReadEnds, IsInside, ReadsBytes, ReadsEnds, WritesBytes, WritesSome, data_of, outcome_of, written};
 
 use crate::fetch::fetch;
 use crate::reply::Data;

@@ -9,8 +9,8 @@ ghost use Rattle.nbd_protocol.specs.declared.phase.Phase.TheVariants.{Greeted, H
 
 use counted_io::Counted;
 use nbd_protocol::{
-    ABORT, EXPORT_NAME, Export, Phase, Refusal, ServiceFault, acknowledge, fill, fill_part,
-    names_export, number32, phase_after, refuse, say_answer, skip,
+    ABORT, EXPORT_NAME, Export, Phase, Refusal, ServiceFault, Terms, acknowledge, fill, fill_part,
+    names_export, number32, phase_after, refuse, say_answer, skip, terms_after_long,
 };
 use std::io::{Read, Write};
 
@@ -32,7 +32,11 @@ pub(crate) fn take_flags<R: Read>(reader: &mut Counted<R>) -> Result<Option<Phas
         return Err(ServiceFault::Flags);
     }
     Ok(Some(Phase::Haggling {
-        no_zeroes: flags >= 2,
+        terms: Terms {
+            no_zeroes: flags >= 2,
+            structured: false,
+            status: None,
+        },
     }))
 }
 
@@ -63,13 +67,13 @@ fn take_content<R: Read>(
 
 // Answers an option whose data are too long.
 fn refuse_content<W: Write>(
-    no_zeroes: bool,
+    terms: Terms,
     option: u32,
     count: u32,
     writer: &mut Counted<W>,
 ) -> Result<Phase, ServiceFault>
     requires { MOST_DATA < count }
-    ensures answer { Answers (IsTooLong no_zeroes option count) (IsUnread option count) (W.contents writer.old.inner) (W.contents writer.new.inner) result }
+    ensures answer { Answers (IsTooLong terms option count) (IsUnread option count) (W.contents writer.old.inner) (W.contents writer.new.inner) result }
     ensures writer { HasWritten writer.old writer.new (fault_of result) }
 {
     if option == EXPORT_NAME {
@@ -80,38 +84,40 @@ fn refuse_content<W: Write>(
         return Ok(Phase::Over);
     }
     refuse(writer, option, Refusal::TooBig)?;
-    Ok(Phase::Haggling { no_zeroes })
+    Ok(Phase::Haggling {
+        terms: terms_after_long(terms, option),
+    })
 }
 
 // Replies to an option. `NoSuchExport`: it has no reply.
 fn answer_option<W: Write>(
     exports: &[Export<'_>],
-    no_zeroes: bool,
+    terms: Terms,
     option: u32,
     content: &[u8],
     writer: &mut Counted<W>,
 ) -> Result<Phase, ServiceFault>
     requires names { HaveShortNames exports.now }
     requires short { length content.now ≤ MOST_DATA }
-    ensures answer { Answers (IsAnswered (export_records exports.now) no_zeroes option content.now) (IsUnnamed (export_records exports.now) option content.now) (W.contents writer.old.inner) (W.contents writer.new.inner) result }
+    ensures answer { Answers (IsAnswered (export_records exports.now) terms option content.now) (IsUnnamed (export_records exports.now) option content.now) (W.contents writer.old.inner) (W.contents writer.new.inner) result }
     ensures writer { HasWritten writer.old writer.new (fault_of result) }
 {
     if !names_export(exports, option, content) {
         return Err(ServiceFault::NoSuchExport);
     }
-    say_answer(writer, exports, no_zeroes, option, content)?;
-    Ok(phase_after(exports, no_zeroes, option, content))
+    say_answer(writer, exports, terms, option, content)?;
+    Ok(phase_after(exports, terms, option, content))
 }
 
 /// Takes an option, and replies to it.
 pub(crate) fn take_option<R: Read, W: Write>(
     exports: &[Export<'_>],
-    no_zeroes: bool,
+    terms: Terms,
     reader: &mut Counted<R>,
     writer: &mut Counted<W>,
 ) -> Result<Option<Phase>, ServiceFault>
     requires { HaveShortNames exports.now }
-    ensures turn { (w : World) → Turns (export_records exports.now) (Haggling no_zeroes) w w
+    ensures turn { (w : World) → Turns (export_records exports.now) (Haggling terms) w w
         (streams (R.remaining reader.old.inner) (W.contents writer.old.inner)) (streams (R.remaining reader.new.inner) (W.contents writer.new.inner)) result }
     ensures reader { HasRead 1 reader.old reader.new (fault_of result) }
     ensures writer { HasWritten writer.old writer.new (fault_of result) }
@@ -127,8 +133,8 @@ pub(crate) fn take_option<R: Read, W: Write>(
     let count = number32(&header, 12);
     let mut room = [0u8; MOST_DATA];
     if !take_content(reader, &mut room, count)? {
-        return Ok(Some(refuse_content(no_zeroes, option, count, writer)?));
+        return Ok(Some(refuse_content(terms, option, count, writer)?));
     }
     let content = &room[..count as usize];
-    Ok(Some(answer_option(exports, no_zeroes, option, content, writer)?))
+    Ok(Some(answer_option(exports, terms, option, content, writer)?))
 }

@@ -6,6 +6,7 @@ mod fetch;
 mod haggling;
 mod reply;
 mod service;
+mod status;
 mod store;
 mod transmission;
 mod zeros;

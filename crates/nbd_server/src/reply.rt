@@ -1,11 +1,14 @@
 //! Replies to requests.
-ghost use Rattle.std.specs.Prelude.{◌≡◌, ◌≤◌, ◌+◌, [], ◌++◌, length};
+ghost use Rattle.std.specs.Prelude.{◌≡◌, ◌<◌, ◌≤◌, ◌+◌, ◌^◌, [], ◌++◌, length};
 ghost use Rattle.counted_io.specs.Counted.{Writes};
+ghost use Rattle.nbd_protocol.specs.Headers.{most_length};
 ghost use Rattle.nbd_protocol.specs.Numbers.{bytes32, bytes64};
-ghost use Rattle.nbd_server.specs.Transmission.{IsInside, data_of, outcome_of, simple_reply};
+ghost use Rattle.nbd_server.specs.Replies.{chunked_reply, content_chunk, read_chunk, reply_to, simple_reply};
+ghost use Rattle.nbd_server.specs.Transmission.{IsPart, IsSendable, data_of, outcome_of};
 
 use counted_io::{Counted, WriteFault};
-use nbd_protocol::{RequestError, put32, put64};
+use nbd_chunks::{say_data, say_error, say_none, say_status};
+use nbd_protocol::{Agreement, BLOCK_STATUS, Header, RequestError, put32, put64};
 use std::alloc::Global;
 use std::io::Write;
 
@@ -23,12 +26,26 @@ impl Data {
     /// No bytes.
     pub(crate) fn none(alloc: Global) -> Data
         ensures value { data_of result ≡ [] }
-        ensures inside { result.start + result.length ≤ length result.bytes.items }
+        ensures inside { IsPart result }
     {
         Data {
             bytes: Vec::new(alloc),
             start: 0,
             length: 0,
+        }
+    }
+
+    /// All of these bytes.
+    pub(crate) fn all(bytes: Vec<u8>) -> Data
+        requires { length bytes.items ≤ most_length }
+        ensures value { data_of result ≡ bytes.items }
+        ensures inside { IsPart result }
+    {
+        let length = bytes.len();
+        Data {
+            bytes,
+            start: 0,
+            length,
         }
     }
 
@@ -50,13 +67,13 @@ fn say_head<W: Write>(writer: &mut Counted<W>, error: u32, cookie: u64) -> Resul
     put64(writer, cookie)
 }
 
-/// Writes the simple reply to the request with that cookie.
-pub(crate) fn say_reply<W: Write>(
+// Writes the simple reply to the request with that cookie.
+fn say_simple<W: Write>(
     writer: &mut Counted<W>,
     cookie: u64,
     outcome: Result<Data, RequestError>,
 ) -> Result<(), WriteFault>
-    requires { IsInside outcome }
+    requires { IsSendable outcome }
     ensures { Writes W.contents writer.old writer.new (simple_reply cookie (outcome_of outcome)) result }
 {
     match outcome {
@@ -66,4 +83,65 @@ pub(crate) fn say_reply<W: Write>(
         }
         Err(error) => say_head(writer, error.number(), cookie),
     }
+}
+
+// The bytes of a READ.
+fn say_read<W: Write>(
+    writer: &mut Counted<W>,
+    header: Header,
+    bytes: &[u8],
+) -> Result<(), WriteFault>
+    requires { 8 + length bytes.now < 2 ^ 32 }
+    ensures { Writes W.contents writer.old writer.new (read_chunk header bytes.now) result }
+{
+    if bytes.is_empty() {
+        return say_none(writer, header.cookie);
+    }
+    say_data(writer, true, header.cookie, header.offset, bytes)
+}
+
+// What a READ or a BLOCK_STATUS gives.
+fn say_content<W: Write>(
+    writer: &mut Counted<W>,
+    header: Header,
+    bytes: &[u8],
+) -> Result<(), WriteFault>
+    requires { 8 + length bytes.now < 2 ^ 32 }
+    ensures { Writes W.contents writer.old writer.new (content_chunk header bytes.now) result }
+{
+    if header.kind == BLOCK_STATUS {
+        return say_status(writer, header.cookie, bytes);
+    }
+    say_read(writer, header, bytes)
+}
+
+// A reply in chunks.
+fn say_chunks<W: Write>(
+    writer: &mut Counted<W>,
+    header: Header,
+    outcome: Result<Data, RequestError>,
+) -> Result<(), WriteFault>
+    requires { IsSendable outcome }
+    ensures { Writes W.contents writer.old writer.new (chunked_reply header (outcome_of outcome)) result }
+{
+    match outcome {
+        Ok(data) => say_content(writer, header, data.part()),
+        Err(error) => say_error(writer, header.cookie, error),
+    }
+}
+
+/// Writes the reply to a request that was agreed on.
+pub(crate) fn say_reply<W: Write>(
+    writer: &mut Counted<W>,
+    agreed: Agreement,
+    header: Header,
+    outcome: Result<Data, RequestError>,
+) -> Result<(), WriteFault>
+    requires { IsSendable outcome }
+    ensures { Writes W.contents writer.old writer.new (reply_to agreed header (outcome_of outcome)) result }
+{
+    if header.is_chunked(agreed) {
+        return say_chunks(writer, header, outcome);
+    }
+    say_simple(writer, header.cookie, outcome)
 }

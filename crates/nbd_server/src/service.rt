@@ -35,10 +35,10 @@ fn take_message<D: SyncDev, R: Read, W: Write>(
 {
     match phase {
         Phase::Greeted => take_flags(reader),
-        Phase::Haggling { no_zeroes } => take_option(exports, no_zeroes, reader, writer),
-        Phase::Serving { place } => {
-            let export = export_at(exports, place);
-            take_request(alloc, queue, export, place, reader, writer)
+        Phase::Haggling { terms } => take_option(exports, terms, reader, writer),
+        Phase::Serving { agreed } => {
+            let export = export_at(exports, agreed.place);
+            take_request(alloc, queue, export, agreed, reader, writer)
         }
         Phase::Over => unreachable!(),
     }

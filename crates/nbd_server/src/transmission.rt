@@ -1,28 +1,45 @@
 //! The requests of the transmission phase.
-ghost use Rattle.std.specs.Prelude.{◌≡◌, ◌<◌, ◌+◌, ◌^◌, ℕ, List, length, replicate, IfOk, IfErr};
+ghost use Rattle.std.specs.Prelude.{◌≡◌, ◌<◌, ◌≤◌, ◌+◌, ◌^◌, ℕ, List, length, replicate, IfOk, IfErr};
 ghost use Rattle.std.specs.Io.KnownBytes.{Consumes};
 ghost use Rattle.counted_io.specs.Streams.{streams};
 ghost use Rattle.nbd_protocol.specs.Exports.{ExportRecord, IsExport, export_at, export_record};
-ghost use Rattle.nbd_protocol.specs.Headers.{payload_len};
+ghost use Rattle.nbd_protocol.specs.Headers.{most_length, payload_len};
 ghost use Rattle.nbd_server.specs.Premises.{AreBytesOf};
 ghost use Rattle.nbd_server.specs.Service.{Turns};
 ghost use Rattle.nbd_protocol.specs.Streaming.{HasRead, HasWritten, IsShort, fault_of};
-ghost use Rattle.nbd_server.specs.Transmission.{Flushes, IsInside, IsServed, Settles, Stays, WritesGiven, WritesSome, outcome_of, written};
+ghost use Rattle.nbd_server.specs.Transmission.{Flushes, IsSendable, IsServed, ReadsBytes, Settles, Stays, TellsStatus, WritesGiven, WritesSome, outcome_of, written};
 ghost use Rattle.nbd_protocol.specs.declared.phase.Phase.TheVariants.{Serving};
 
 use crate::byte_range::{read_bytes, touched, write_bytes, write_zeros};
 use crate::reply::{Data, say_reply};
+use crate::status::status_of;
 use block_device::{BlockDev, SyncDev};
 use counted_io::Counted;
 use nbd_protocol::{
-    Command, DISCONNECT, Export, Header, Phase, RequestError, ServiceFault, fill, number32, skip,
-    take_sectors,
+    Agreement, Command, DISCONNECT, Export, Header, Phase, RequestError, ServiceFault, fill,
+    number32, skip, take_sectors,
 };
 use request_queue::Queue;
 use std::alloc::Global;
 use std::io::{Read, Write};
 
 const MAGIC: u32 = 0x2560_9513;
+
+// Reads bytes, as many as one reply may have.
+fn read<D: BlockDev>(
+    alloc: Global,
+    queue: &mut Queue<D>,
+    export: &Export<'_>,
+    offset: u64,
+    len: u32,
+) -> Result<Data, RequestError>
+    requires bytes { AreBytesOf queue.old.stack.config (export_record export.now) offset len }
+    requires few { len ≤ most_length }
+    ensures value { ReadsBytes (export_record export.now) queue.old offset len (outcome_of result) queue.new }
+    ensures inside { IsSendable result }
+{
+    read_bytes(alloc, queue, export, offset, len)
+}
 
 // Takes the bytes of a write, and writes them.
 fn take_write<D: BlockDev, R: Read>(
@@ -53,7 +70,7 @@ fn take_write<D: BlockDev, R: Read>(
 // Has all that was written put on the media.
 fn flush<D: SyncDev>(alloc: Global, queue: &mut Queue<D>) -> Result<Data, RequestError>
     ensures value { Flushes queue.old (outcome_of result) queue.new }
-    ensures inside { IsInside result }
+    ensures inside { IsSendable result }
 {
     match queue.sync() {
         Ok(()) => Ok(Data::none(alloc)),
@@ -64,7 +81,7 @@ fn flush<D: SyncDev>(alloc: Global, queue: &mut Queue<D>) -> Result<Data, Reques
 // Ends what was done: with FUA by having it put on the media.
 fn settle<D: SyncDev>(alloc: Global, queue: &mut Queue<D>, fua: bool) -> Result<Data, RequestError>
     ensures value { Settles fua (Stays queue.old) (outcome_of result) queue.new }
-    ensures inside { IsInside result }
+    ensures inside { IsSendable result }
 {
     if fua {
         return flush(alloc, queue);
@@ -83,10 +100,29 @@ fn zero<D: SyncDev>(
 ) -> Result<Data, RequestError>
     requires { AreBytesOf queue.old.stack.config (export_record export.now) offset len }
     ensures value { Settles fua (WritesSome (export_record export.now) queue.old offset (replicate len 0)) (outcome_of result) queue.new }
-    ensures inside { IsInside result }
+    ensures inside { IsSendable result }
 {
     write_zeros(alloc, queue, export, offset, len)?;
     settle(alloc, queue, fua)
+}
+
+// Tells the status of bytes.
+fn tell_status<D: SyncDev>(
+    alloc: Global,
+    queue: &Queue<D>,
+    export: &Export<'_>,
+    offset: u64,
+    len: u32,
+    one: bool,
+) -> Result<Data, RequestError>
+    requires bytes { AreBytesOf queue.now.stack.config (export_record export.now) offset len }
+    requires some { 0 < len }
+    ensures value { TellsStatus (export_record export.now) queue.now offset len one (outcome_of result) queue.now }
+    ensures inside { IsSendable result }
+{
+    let config = queue.stack().config();
+    let told = status_of(alloc, config, export, offset, len, one)?;
+    Ok(Data::all(told))
 }
 
 // Serves a request, of which the bytes of a write are still to come.
@@ -94,27 +130,38 @@ fn serve_request<D: SyncDev, R: Read>(
     alloc: Global,
     queue: &mut Queue<D>,
     export: &Export<'_>,
+    agreed: Agreement,
     header: Header,
     reader: &mut Counted<R>,
 ) -> Result<Result<Data, RequestError>, ServiceFault>
     requires { IsExport queue.old.stack.config (export_record export.now) }
-    ensures ok { IfOk result (λ outcome. IsServed (export_record export.now) queue.old header (R.remaining reader.old.inner) (R.remaining reader.new.inner) outcome queue.new) }
+    ensures ok { IfOk result (λ outcome. IsServed (export_record export.now) agreed queue.old header (R.remaining reader.old.inner) (R.remaining reader.new.inner) outcome queue.new) }
     ensures err { IfErr result (λ fault. IsShort (payload_len header) (R.remaining reader.old.inner) (R.remaining reader.new.inner) fault × (queue.new ≡ queue.old)) }
     ensures reader { HasRead 0 reader.old reader.new (fault_of result) }
 {
     // Bytes follow a write alone.
-    match header.command(export) {
+    match header.command(export, agreed) {
         Err(error) => {
             skip(reader, header.payload_len())?;
             Ok(Err(error))
         }
         Ok(Command::Read { offset, length }) => {
             skip(reader, header.payload_len())?;
-            Ok(read_bytes(alloc, queue, export, offset, length))
+            Ok(read(alloc, queue, export, offset, length))
         }
         Ok(Command::Flush) => {
             skip(reader, header.payload_len())?;
             Ok(flush(alloc, queue))
+        }
+        Ok(
+            Command::Status {
+                offset,
+                length,
+                one,
+            },
+        ) => {
+            skip(reader, header.payload_len())?;
+            Ok(tell_status(alloc, queue, export, offset, length, one))
         }
         Ok(Command::Hint) => {
             skip(reader, header.payload_len())?;
@@ -143,17 +190,17 @@ fn serve_request<D: SyncDev, R: Read>(
     }
 }
 
-/// Takes a request to the export at that place, and replies to it.
+/// Takes a request, and replies to it.
 pub(crate) fn take_request<D: SyncDev, R: Read, W: Write>(
     alloc: Global,
     queue: &mut Queue<D>,
     export: &Export<'_>,
-    place: usize,
+    agreed: Agreement,
     reader: &mut Counted<R>,
     writer: &mut Counted<W>,
 ) -> Result<Option<Phase>, ServiceFault>
     requires { IsExport queue.old.stack.config (export_record export.now) }
-    ensures turn { (es : List ExportRecord) → export_at es place ≡ export_record export.now → Turns es (Serving place) queue.old queue.new
+    ensures turn { (es : List ExportRecord) → export_at es agreed.place ≡ export_record export.now → Turns es (Serving agreed) queue.old queue.new
         (streams (R.remaining reader.old.inner) (W.contents writer.old.inner)) (streams (R.remaining reader.new.inner) (W.contents writer.new.inner)) result }
     ensures reader { HasRead 1 reader.old reader.new (fault_of result) }
     ensures writer { HasWritten writer.old writer.new (fault_of result) }
@@ -169,7 +216,7 @@ pub(crate) fn take_request<D: SyncDev, R: Read, W: Write>(
     if header.kind == DISCONNECT {
         return Ok(Some(Phase::Over));
     }
-    let outcome = serve_request(alloc, queue, export, header, reader)?;
-    say_reply(writer, header.cookie, outcome)?;
-    Ok(Some(Phase::Serving { place }))
+    let outcome = serve_request(alloc, queue, export, agreed, header, reader)?;
+    say_reply(writer, agreed, header, outcome)?;
+    Ok(Some(Phase::Serving { agreed }))
 }

@@ -5,6 +5,8 @@ pub mod PathLemmas
 pub mod TouchedLemmas
 pub mod BlocksLemmas
 pub mod NextBlockLemmas
+pub mod SpentLemmas
+pub mod UncutLemmas
 pub mod KeepingLemmas
 pub mod BytesLemmas
 pub mod StackLemmas

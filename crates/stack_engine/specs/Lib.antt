@@ -1,6 +1,7 @@
 pub mod Stacks
 pub mod Premises
 pub mod Keeping
+pub mod Uncut
 pub mod Pieces
 pub mod Bytes
 pub mod WritePieces

@@ -7,6 +7,7 @@ ghost use Rattle.stack_meaning.specs.Reading.{IsPlain, buffer_answer};
 ghost use Rattle.stack_lines.specs.declared.source.Source.TheVariants.{Below};
 ghost use Rattle.stack_lines.specs.Sources.{source_place, source_said};
 ghost use Rattle.stack_lines.specs.Caches.{KeepsCache};
+ghost use Rattle.stack_lines.specs.Budgets.{ReadsAtMost, budget, source_budget};
 ghost use Rattle.stack_lines.specs.Touches.{TouchesOnly, leaves_of, source_leaves};
 ghost use Rattle.stack_engine.specs.Bytes.{FindsBytes};
 ghost use Rattle.stack_engine.specs.Premises.{CanRead};
@@ -33,6 +34,7 @@ fn run_bytes<D: BlockDev>(
     ensures cached { KeepsCache config.now (map D.state reader.new.devices.items) reader.old.cache reader.new.cache }
     ensures plain { IsPlain (source_said config.now source) 0 (length out.old / 512) (map D.state reader.old.devices.items) (map D.state reader.new.devices.items) result }
     ensures touches { TouchesOnly (source_leaves config.now source) (map D.state reader.old.devices.items) (map D.state reader.new.devices.items) result }
+    ensures spent { ReadsAtMost (source_budget config.now source (length out.old / 512)) (map D.state reader.old.devices.items) (map D.state reader.new.devices.items) }
 {
     let mut dropped = Vec::new(reader.alloc);
     match source {
@@ -62,6 +64,7 @@ pub(crate) fn device_bytes<D: BlockDev>(
     ensures cached { KeepsCache config.now (map D.state reader.new.devices.items) reader.old.cache reader.new.cache }
     ensures plain { IsPlain (said_at config.now (mapped d.0)) first (length out.old / 512) (map D.state reader.old.devices.items) (map D.state reader.new.devices.items) result }
     ensures touches { TouchesOnly (leaves_of config.now (mapped d.0)) (map D.state reader.old.devices.items) (map D.state reader.new.devices.items) result }
+    ensures spent { ReadsAtMost (budget config.now (mapped d.0) first (length out.old / 512)) (map D.state reader.old.devices.items) (map D.state reader.new.devices.items) }
 {
     let none = Vec::new(reader.alloc);
     let mut at = 0;

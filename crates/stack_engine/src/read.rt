@@ -12,6 +12,7 @@ ghost use Rattle.stack_meaning.specs.Meaning.{said_at};
 ghost use Rattle.stack_meaning.specs.Reading.{Gets, Reads, IsPlain, buffer_answer};
 ghost use Rattle.stack_lines.specs.Sources.{ReadsSource, source_said};
 ghost use Rattle.stack_lines.specs.Extents.{LiesInside};
+ghost use Rattle.stack_lines.specs.Budgets.{ReadsAtMost, budget, source_budget};
 ghost use Rattle.stack_lines.specs.Touches.{TouchesOnly, leaves_of, source_leaves};
 ghost use Rattle.stack_lines.specs.Walks.{HasDataBlock, block_in, checked_expected, data_expected, GetsChain, IsWalked};
 ghost use Rattle.stack_lines.specs.Caches.{IsCached, KeepsCache, IsPlaceOf};
@@ -77,6 +78,7 @@ fn read_lower<D: BlockDev>(
     ensures cached { KeepsCache config.now (map D.state reader.new.devices.items) reader.old.cache reader.new.cache }
     ensures plain { IsPlain (said_at config.now lower) first (length out.old / 512) (map D.state reader.old.devices.items) (map D.state reader.new.devices.items) result }
     ensures touches { TouchesOnly (leaves_of config.now lower) (map D.state reader.old.devices.items) (map D.state reader.new.devices.items) result }
+    ensures spent { ReadsAtMost (budget config.now lower first (length out.old / 512)) (map D.state reader.old.devices.items) (map D.state reader.new.devices.items) }
 {
     match lower {
         Lower::Leaf(leaf) => read_leaf(config, reader.devices.as_mut_slice(), leaf, first, out),
@@ -100,6 +102,7 @@ pub(crate) fn read_run<D: BlockDev>(
     ensures cached { KeepsCache config.now (map D.state reader.new.devices.items) reader.old.cache reader.new.cache }
     ensures plain { IsPlain (source_said config.now source) 0 (length out.old / 512) (map D.state reader.old.devices.items) (map D.state reader.new.devices.items) result }
     ensures touches { TouchesOnly (source_leaves config.now source) (map D.state reader.old.devices.items) (map D.state reader.new.devices.items) result }
+    ensures spent { ReadsAtMost (source_budget config.now source (length out.old / 512)) (map D.state reader.old.devices.items) (map D.state reader.new.devices.items) }
 {
     match source {
         Source::Below { lower, first } => read_lower(config, reader, lower, first, out, found),
@@ -131,6 +134,7 @@ pub(crate) fn read_units<D: BlockDev>(
     ensures cached { KeepsCache config.now (map D.state reader.new.devices.items) reader.old.cache reader.new.cache }
     ensures plain { IsPlain (source_said config.now (Source.Units part)) 0 (length out.old / 512) (map D.state reader.old.devices.items) (map D.state reader.new.devices.items) result }
     ensures touches { TouchesOnly (leaves_of config.now (mapped part.device.0)) (map D.state reader.old.devices.items) (map D.state reader.new.devices.items) result }
+    ensures spent { ReadsAtMost (source_budget config.now (Source.Units part) (length out.old / 512)) (map D.state reader.old.devices.items) (map D.state reader.new.devices.items) }
 {
     let crypt = crypt_at(config, part.device, part.line);
     let unit = unit_at(config, part, crypt);
@@ -159,6 +163,7 @@ fn read_unit_part<D: BlockDev>(
     ensures cached { KeepsCache config.now (map D.state reader.new.devices.items) reader.old.cache reader.new.cache }
     ensures plain { IsPlain (source_said config.now (Source.UnitPart part)) 0 (length out.old / 512) (map D.state reader.old.devices.items) (map D.state reader.new.devices.items) result }
     ensures touches { TouchesOnly (leaves_of config.now (mapped part.device.0)) (map D.state reader.old.devices.items) (map D.state reader.new.devices.items) result }
+    ensures spent { ReadsAtMost (source_budget config.now (Source.UnitPart part) (length out.old / 512)) (map D.state reader.old.devices.items) (map D.state reader.new.devices.items) }
 {
     let whole = whole_unit(config, part);
     let mut room = [0u8; MOST];
@@ -189,6 +194,7 @@ fn read_block<D: BlockDev>(
     ensures cached { KeepsCache config.now (map D.state reader.new.devices.items) reader.old.cache reader.new.cache }
     ensures plain { IsPlain (source_said config.now (Source.Block part)) 0 (length out.old / 512) (map D.state reader.old.devices.items) (map D.state reader.new.devices.items) result }
     ensures touches { TouchesOnly (leaves_of config.now (mapped part.device.0)) (map D.state reader.old.devices.items) (map D.state reader.new.devices.items) result }
+    ensures spent { ReadsAtMost (source_budget config.now (Source.Block part) (length out.old / 512)) (map D.state reader.old.devices.items) (map D.state reader.new.devices.items) }
 {
     let verity = verity_at(config, part.device, part.line);
     let sectors = u64::from(verity.data_block / 512);
@@ -241,6 +247,7 @@ pub(crate) fn read_blocks<D: BlockDev>(
     ensures cached { KeepsCache config.now (map D.state reader.new.devices.items) reader.old.cache reader.new.cache }
     ensures plain { IsPlain (source_said config.now (Source.Blocks part)) 0 (length out.old / 512) (map D.state reader.old.devices.items) (map D.state reader.new.devices.items) result }
     ensures touches { TouchesOnly (leaves_of config.now (mapped part.device.0)) (map D.state reader.old.devices.items) (map D.state reader.new.devices.items) result }
+    ensures spent { ReadsAtMost (source_budget config.now (Source.Blocks part) (length out.old / 512)) (map D.state reader.old.devices.items) (map D.state reader.new.devices.items) }
 {
     let verity = verity_at(config, part.device, part.line);
     let tree = tree_at(config, part.device, part.line, verity);
@@ -558,6 +565,7 @@ pub(crate) fn read_device<D: BlockDev>(
     ensures cached { KeepsCache config.now (map D.state reader.new.devices.items) reader.old.cache reader.new.cache }
     ensures plain { IsPlain (said_at config.now (mapped d.0)) first (length out.old / 512) (map D.state reader.old.devices.items) (map D.state reader.new.devices.items) result }
     ensures touches { TouchesOnly (leaves_of config.now (mapped d.0)) (map D.state reader.old.devices.items) (map D.state reader.new.devices.items) result }
+    ensures spent { ReadsAtMost (budget config.now (mapped d.0) first (length out.old / 512)) (map D.state reader.old.devices.items) (map D.state reader.new.devices.items) }
 {
     let mut at = 0;
     while at < out.len() {

@@ -9,12 +9,15 @@ ghost use Rattle.stack_meaning.specs.Leaves.{ServeLeaves, AreSteady, reads_of, w
 ghost use Rattle.stack_engine.specs.Bytes.{AnyBytes, SteadyBytes};
 ghost use Rattle.stack_engine.specs.Pieces.{AnyPiece, SteadyPiece, stack_over};
 ghost use Rattle.stack_engine.specs.Stacks.{StackRecord, IsSound};
+ghost use Rattle.stack_meaning.specs.Changes.{NoneRead};
 ghost use Rattle.stack_meaning.specs.Meaning.{said_at};
 ghost use Rattle.stack_meaning.specs.Reading.{MeetVerity, buffer_answer};
 ghost use Rattle.stack_meaning.specs.Stops.{ReadStops};
 ghost use Rattle.stack_engine.specs.Syncs.{FailsToSync, NeverFail};
 ghost use Rattle.stack_engine.specs.WritePieces.{ArePiece, AnyWrite, SteadyWrite};
+ghost use Rattle.stack_lines.specs.Budgets.{ReadsAtMost, budget};
 ghost use Rattle.stack_lines.specs.Touches.{leaves_of};
+ghost use Rattle.stack_engine.specs.Uncut.{CutsNone};
 ghost use Rattle.stack_lines.specs.Writing.{SomeEncrypt};
 
 use crate::answer::Answer;
@@ -96,7 +99,8 @@ impl<D: BlockDev> Stack<D> {
 
     /// The `n` sectors of a device from `first` on, and the chains of the verity lines on their way. They lie
     /// inside the device, and are 1 to 128. `exact` in `steady` is what the stack means; `any` holds whatever the
-    /// leaves answer. Where no `verity` line is on the way, nothing behind the first fault is asked for (`stops`).
+    /// leaves answer. Where no `verity` line is on the way, nothing behind the first fault is asked for (`stops`). At most
+    /// what the units and the data blocks that it touches cost is read, each of them once (`spent`).
     pub fn read_piece(&mut self, d: DevId, first: u64, n: u32) -> Result<Answer, IoFault>
         requires some { 1 ≤ n }
         requires most { n ≤ 128 }
@@ -104,6 +108,7 @@ impl<D: BlockDev> Stack<D> {
         ensures any { AnyPiece self.old d.0 first n result self.new }
         ensures steady { AreSteady (leaves_of self.old.config (mapped d.0)) self.old.leaves → SteadyPiece self.old d.0 first n result self.new }
         ensures stops { (MeetVerity (said_at self.old.config (mapped d.0)) first n → ⊥) → ReadStops (said_at self.old.config (mapped d.0)) first n self.old.leaves self.new.leaves result }
+        ensures spent { ReadsAtMost (budget self.old.config (mapped d.0) first n) self.old.leaves self.new.leaves }
     {
         let mut bytes = match zero_sectors(self.reader.alloc, n) {
             Ok(bytes) => bytes,
@@ -133,6 +138,7 @@ impl<D: BlockDev> Stack<D> {
         ensures steady { AreSteady (leaves_of self.old.config (mapped d.0)) self.old.leaves → SteadyBytes self.old d.0 first (length out.old / 512) (buffer_answer result out.new) self.new }
         ensures memory { result ≡ Err IoFault.NoMemory → MeetVerity (said_at self.old.config (mapped d.0)) first (length out.old / 512) }
         ensures stops { (MeetVerity (said_at self.old.config (mapped d.0)) first (length out.old / 512) → ⊥) → ReadStops (said_at self.old.config (mapped d.0)) first (length out.old / 512) self.old.leaves self.new.leaves result }
+        ensures spent { ReadsAtMost (budget self.old.config (mapped d.0) first (length out.old / 512)) self.old.leaves self.new.leaves }
     {
         device_bytes(&self.config, &mut self.reader, d, first, out)
     }
@@ -141,6 +147,7 @@ impl<D: BlockDev> Stack<D> {
     /// `any` says that nothing behind it was asked for, `behind` in `steady` that what stands before it is put. They lie
     /// inside the device, which may be written. `exact` in `steady` is what the stack means; `any` holds whatever the
     /// leaves answer. It takes memory only where a `crypt` line is on the way, once and before the first access.
+    /// Where it cuts no unit of a `crypt` line, nothing is read (`uncut`).
     pub fn write_piece(&mut self, d: DevId, first: u64, bytes: &[u8]) -> Result<(), IoFault>
         requires piece { ArePiece bytes.now }
         requires inside { first + length bytes.now / 512 ≤ size self.old.config (mapped d.0) }
@@ -148,6 +155,7 @@ impl<D: BlockDev> Stack<D> {
         ensures any { AnyWrite self.old d.0 first bytes.now result self.new }
         ensures steady { AreSteady (leaves_of self.old.config (mapped d.0)) self.old.leaves → SteadyWrite self.old d.0 first bytes.now result self.new }
         ensures memory { result ≡ Err IoFault.NoMemory → SomeEncrypt (said_at self.old.config (mapped d.0)) first (length bytes.now / 512) }
+        ensures uncut { CutsNone self.old.config (mapped d.0) first (length bytes.now / 512) → NoneRead self.old.leaves self.new.leaves }
     {
         let mut buffer = match bytes_to_encrypt(self.reader.alloc, &self.config, d, first, bytes) {
             Ok(buffer) => buffer,

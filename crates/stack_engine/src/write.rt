@@ -1,11 +1,13 @@
 //! Writes through the lines of a stack, down to its leaves.
-ghost use Rattle.std.specs.Prelude.{◌≡◌, ◌≤◌, ◌-◌, ◌⊎◌, ◌++◌, [], IsTrue, map, take, drop};
+ghost use Rattle.std.specs.Prelude.{◌≡◌, ◌≤◌, ◌-◌, ◌/◌, ◌⊎◌, ◌++◌, [], IsTrue, length, map, take, drop};
 ghost use Rattle.stack_rules.specs.Names.{mapped, may_write};
 ghost use Rattle.stack_lines.specs.declared.source.Source.TheVariants.{Below};
+ghost use Rattle.stack_meaning.specs.Changes.{NoneRead};
 ghost use Rattle.stack_meaning.specs.Meaning.{said_at};
 ghost use Rattle.stack_lines.specs.Sources.{source_said};
 ghost use Rattle.stack_lines.specs.Writing.{AreHeld, sectors_in, destination_of, Writes, source_destination};
 ghost use Rattle.stack_lines.specs.Caches.{KeepsCache};
+ghost use Rattle.stack_engine.specs.Uncut.{CutsNone, SourceCutsNone};
 ghost use Rattle.stack_engine.specs.Stacks.{IsSound};
 ghost use Rattle.stack_engine.specs.Premises.{FitsIn, CanWrite};
 
@@ -87,6 +89,7 @@ fn write_lower<D: BlockDev>(
     requires bytes { AreHeld (said_at config.now lower) first plain.now buffer.old }
     ensures writes { Writes (destination_of config.now lower) first (sectors_in (plain.now ++ buffer.old))
         (map D.state reader.old.devices.items) (map D.state reader.new.devices.items) result }
+    ensures uncut { CutsNone config.now lower first (length (plain.now ++ buffer.old) / 512) → NoneRead (map D.state reader.old.devices.items) (map D.state reader.new.devices.items) }
     ensures cached { KeepsCache config.now (map D.state reader.new.devices.items) reader.old.cache reader.new.cache }
 {
     match lower {
@@ -108,6 +111,7 @@ fn write_run<D: BlockDev>(
     requires bytes { AreHeld (source_said config.now source) 0 plain.now buffer.old }
     ensures writes { Writes (source_destination config.now source) 0 (sectors_in (plain.now ++ buffer.old))
         (map D.state reader.old.devices.items) (map D.state reader.new.devices.items) result }
+    ensures uncut { SourceCutsNone config.now source (length (plain.now ++ buffer.old) / 512) → NoneRead (map D.state reader.old.devices.items) (map D.state reader.new.devices.items) }
     ensures cached { KeepsCache config.now (map D.state reader.new.devices.items) reader.old.cache reader.new.cache }
 {
     match source {
@@ -132,6 +136,7 @@ fn write_units<D: BlockDev>(
     requires { CanWrite config.now (map D.state reader.old.devices.items) reader.old.cache (Source.Units part) units.old }
     ensures writes { Writes (source_destination config.now (Source.Units part)) 0 (sectors_in units.old)
         (map D.state reader.old.devices.items) (map D.state reader.new.devices.items) result }
+    ensures uncut { SourceCutsNone config.now (Source.Units part) (length units.old / 512) → NoneRead (map D.state reader.old.devices.items) (map D.state reader.new.devices.items) }
     ensures cached { KeepsCache config.now (map D.state reader.new.devices.items) reader.old.cache reader.new.cache }
 {
     let crypt = crypt_at(config, part.device, part.line);
@@ -200,6 +205,7 @@ pub(crate) fn write_device<D: BlockDev>(
     requires bytes { AreHeld (said_at config.now (mapped d.0)) first plain.now buffer.old }
     ensures writes { Writes (destination_of config.now (mapped d.0)) first (sectors_in (plain.now ++ buffer.old))
         (map D.state reader.old.devices.items) (map D.state reader.new.devices.items) result }
+    ensures uncut { CutsNone config.now (mapped d.0) first (length (plain.now ++ buffer.old) / 512) → NoneRead (map D.state reader.old.devices.items) (map D.state reader.new.devices.items) }
     ensures cached { KeepsCache config.now (map D.state reader.new.devices.items) reader.old.cache reader.new.cache }
 {
     let room = buffer.len();

@@ -8,3 +8,4 @@ pub mod Writing
 pub mod Cuts
 pub mod AtOnce
 pub mod Touches
+pub mod Budgets

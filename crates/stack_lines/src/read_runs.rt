@@ -4,7 +4,8 @@ ghost use Rattle.stack_rules.specs.Names.{mapped, size};
 ghost use Rattle.stack_rules.specs.Rules.{IsLoaded};
 ghost use Rattle.stack_rules.specs.Trees.{block_sectors};
 ghost use Rattle.stack_lines.specs.AtOnce.{AreBefore, CanGo, GoAtOnce};
-ghost use Rattle.stack_lines.specs.Sources.{AreBlocks, IsServed};
+ghost use Rattle.stack_meaning.specs.Puts.{in_one_run};
+ghost use Rattle.stack_lines.specs.Sources.{AreBlocks, EndsRun, IsServed};
 ghost use Rattle.dm_table.specs.declared.verity.Verity.{Verity};
 ghost use Rattle.stack_lines.specs.Walks.{HasVerity, IsOnVerity};
 
@@ -72,6 +73,7 @@ pub fn run_to_read(config: &Config, d: DevId, sector: u64, most: u64, found: &[F
     ensures served { IsServed config.now d.0 sector result.count result.source }
     ensures some { 0 < result.count }
     ensures most { result.count ≤ most }
+    ensures ends { EndsRun (in_one_run config.now d.0) sector most result.count }
     ensures can_go { CanGo config.now result.source result.count found.now }
 {
     let run = run_at(config, d, sector, most);

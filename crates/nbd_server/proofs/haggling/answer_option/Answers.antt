@@ -26,4 +26,4 @@ returns-clause-writer g c = written-ok c.in_ok-say_answer.ensures.kept
 pub returns-in_err-say_answer-clause-answer : goal.returns-in_err-say_answer-clause-answer
 returns-in_err-say_answer-clause-answer g c =
     let p = err_from_is_err_and c.from_residual.result c.from_residual.ensures.1 in
-    rw (p.1, p.2) (_, _, is-answered (export_records c.args.exports.now) c.args.no_zeroes c.args.option c.args.content.now c.requires.short (sym c.names_export.ensures ∙ c.if-not-names_export.false))
+    rw (p.1, p.2) (_, _, is-answered (export_records c.args.exports.now) c.args.terms c.args.option c.args.content.now c.requires.short (sym c.names_export.ensures ∙ c.if-not-names_export.false))

@@ -27,9 +27,9 @@ returns-clause-writer g c = written-ok c.in_ok-refuse.ensures.kept
 pub returns-in_err-acknowledge-clause-answer : goal.returns-in_err-acknowledge-clause-answer
 returns-in_err-acknowledge-clause-answer g c =
     let p = err_from_is_err_and c.from_residual.result c.from_residual.ensures.1 in
-    rw (p.1, p.2) (_, _, too-long c.args.no_zeroes c.args.option c.args.count c.requires c.if-option-eq-EXPORT_NAME.false)
+    rw (p.1, p.2) (_, _, too-long c.args.terms c.args.option c.args.count c.requires c.if-option-eq-EXPORT_NAME.false)
 
 pub returns-in_err-refuse-clause-answer : goal.returns-in_err-refuse-clause-answer
 returns-in_err-refuse-clause-answer g c =
     let p = err_from_is_err_and c.from_residual-in_err-refuse.result c.from_residual-in_err-refuse.ensures.1 in
-    rw (p.1, p.2) (_, _, too-long c.args.no_zeroes c.args.option c.args.count c.requires c.if-option-eq-EXPORT_NAME.false)
+    rw (p.1, p.2) (_, _, too-long c.args.terms c.args.option c.args.count c.requires c.if-option-eq-EXPORT_NAME.false)

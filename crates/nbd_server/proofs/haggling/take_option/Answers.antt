@@ -22,7 +22,7 @@ returns-in_err-fill-clause-turn g c = λ w.
     let output = g.W.Write.contents c.args.writer.now.inner in
     let header = c.fill.new.buffer in
     let p = err_from_is_err_and c.from_residual.result c.from_residual.ensures.1 in
-    rw (p.1, p.2) (header-cut (export_records c.args.exports.now) (Haggling c.args.no_zeroes) 16 (λ rest cut. inl cut) w input mid output c.in_err-fill.field-0.0 (length header) (omega (arith, c.fill.auto.buffer)) c.in_err-fill.ensures.filled)
+    rw (p.1, p.2) (header-cut (export_records c.args.exports.now) (Haggling c.args.terms) 16 (λ rest cut. inl cut) w input mid output c.in_err-fill.field-0.0 (length header) (omega (arith, c.fill.auto.buffer)) c.in_err-fill.ensures.filled)
 
 pub returns-in_err-fill-clause-reader : goal.returns-in_err-fill-clause-reader
 returns-in_err-fill-clause-reader g c =
@@ -44,7 +44,7 @@ returns-then-ne-clause-turn g c = λ w.
     let first = subst (λ b. Fills input mid header (Ok b)) c.if-not-branch.false c.in_ok-fill.ensures.filled in
     let size : length header ≡ 16 = omega (arith, c.fill.auto.buffer) in
     let other : take 8 header ≢ codes "IHAVEOPT" = grind (arith, common_steps) in
-    option-unlike (export_records c.args.exports.now) c.args.no_zeroes w input mid mid header first size output other
+    option-unlike (export_records c.args.exports.now) c.args.terms w input mid mid header first size output other
 
 pub returns-then-ne-clause-reader : goal.returns-then-ne-clause-reader
 returns-then-ne-clause-reader g c = read-other fault.Magic c.in_ok-fill.ensures.reader (λ is. (cc))
@@ -65,7 +65,7 @@ returns-in_err-take_content-clause-turn g c = λ w.
     let size : length header ≡ 16 = omega (arith, c.fill.auto.buffer) in
     let magic : take 8 header ≡ codes "IHAVEOPT" = grind (arith, common_steps) in
     let p = err_from_is_err_and c.from_residual-in_err-take_content.result c.from_residual-in_err-take_content.ensures.1 in
-    rw (p.1, p.2) (option-lost (export_records c.args.exports.now) c.args.no_zeroes w input mid input' header first size magic output output c.in_err-take_content.field-0.0 (rw c.number32-count.ensures at c.in_err-take_content.ensures.err))
+    rw (p.1, p.2) (option-lost (export_records c.args.exports.now) c.args.terms w input mid input' header first size magic output output c.in_err-take_content.field-0.0 (rw c.number32-count.ensures at c.in_err-take_content.ensures.err))
 
 pub returns-in_err-take_content-clause-reader : goal.returns-in_err-take_content-clause-reader
 returns-in_err-take_content-clause-reader g c =
@@ -94,18 +94,18 @@ returns-in_err-refuse_content-clause-turn g c = λ w.
     rw c.number32-count.ensures at (subst (λ (b : Bool). TakesInto (content_in b c.number32-count.result c.take_content.new.room) c.number32-count.result mid input') c.if-not-branch-2.true c.in_ok-take_content.ensures.ok) in
     let x = c.in_err-refuse_content.field-0.0 in
     let p = err_from_is_err_and c.from_residual-in_err-refuse_content.result c.from_residual-in_err-refuse_content.ensures.1 in
-    rw (p.1, p.2) (option-ends (export_records c.args.exports.now) c.args.no_zeroes w input mid input' header first size magic output (g.W.Write.contents c.refuse_content.new.writer.inner) into.takes.bytes into.takes.consumed into.takes.count
-    (IsTooLong c.args.no_zeroes c.number32-option.result c.number32-count.result) (IsUnread c.number32-option.result c.number32-count.result) x
-    (λ reply next q. inr (subst (λ (n : ℕ). IsTooLong c.args.no_zeroes (number32 header 8) n reply next) (c.number32-count.ensures ∙ sym into.takes.count)
-    (subst (λ (n : ℕ). IsTooLong c.args.no_zeroes n c.number32-count.result reply next) c.number32-option.ensures q)))
-    (unread-breaks (export_records c.args.exports.now) c.args.no_zeroes w input mid input' header first size magic output (g.W.Write.contents c.refuse_content.new.writer.inner) (All-map HasShortName export_record c.args.exports.now c.requires) into.takes.bytes into.takes.count
+    rw (p.1, p.2) (option-ends (export_records c.args.exports.now) c.args.terms w input mid input' header first size magic output (g.W.Write.contents c.refuse_content.new.writer.inner) into.takes.bytes into.takes.consumed into.takes.count
+    (IsTooLong c.args.terms c.number32-option.result c.number32-count.result) (IsUnread c.number32-option.result c.number32-count.result) x
+    (λ reply next q. inr (subst (λ (n : ℕ). IsTooLong c.args.terms (number32 header 8) n reply next) (c.number32-count.ensures ∙ sym into.takes.count)
+    (subst (λ (n : ℕ). IsTooLong c.args.terms n c.number32-count.result reply next) c.number32-option.ensures q)))
+    (unread-breaks (export_records c.args.exports.now) c.args.terms w input mid input' header first size magic output (g.W.Write.contents c.refuse_content.new.writer.inner) (All-map HasShortName export_record c.args.exports.now c.requires) into.takes.bytes into.takes.count
     c.number32-option.result c.number32-count.result c.number32-option.ensures c.number32-count.ensures x) c.in_err-refuse_content.ensures.answer)
 
 pub returns-in_err-refuse_content-clause-reader : goal.returns-in_err-refuse_content-clause-reader
 returns-in_err-refuse_content-clause-reader g c =
     let x = c.in_err-refuse_content.field-0.0 in
     let p = err_from_is_err_and c.from_residual-in_err-refuse_content.result c.from_residual-in_err-refuse_content.ensures.1 in
-    rw (p.1, p.2) (read-other x (read-then c.in_ok-fill.ensures.reader c.in_ok-take_content.ensures.reader) (unread-writing (IsTooLong c.args.no_zeroes c.number32-option.result c.number32-count.result) c.number32-option.result c.number32-count.result
+    rw (p.1, p.2) (read-other x (read-then c.in_ok-fill.ensures.reader c.in_ok-take_content.ensures.reader) (unread-writing (IsTooLong c.args.terms c.number32-option.result c.number32-count.result) c.number32-option.result c.number32-count.result
     (g.W.Write.contents c.args.writer.now.inner) (g.W.Write.contents c.refuse_content.new.writer.inner) x c.in_err-refuse_content.ensures.answer))
 
 pub returns-in_err-refuse_content-clause-writer : goal.returns-in_err-refuse_content-clause-writer
@@ -125,7 +125,7 @@ returns-then-not-branch-2-clause-turn g c = λ w.
     let magic : take 8 header ≡ codes "IHAVEOPT" = grind (arith, common_steps) in
     let into : TakesInto None (number32 header 12) mid input' =
     rw c.number32-count.ensures at (subst (λ (b : Bool). TakesInto (content_in b c.number32-count.result c.take_content.new.room) c.number32-count.result mid input') c.if-not-branch-2.true c.in_ok-take_content.ensures.ok) in
-    option-refused (export_records c.args.exports.now) c.args.no_zeroes w input mid input' header first size magic output (g.W.Write.contents c.refuse_content.new.writer.inner) into _ (IsUnread (number32 header 8) (number32 header 12)) (rw (c.number32-option.ensures, c.number32-count.ensures) at c.in_ok-refuse_content.ensures.answer)
+    option-refused (export_records c.args.exports.now) c.args.terms w input mid input' header first size magic output (g.W.Write.contents c.refuse_content.new.writer.inner) into _ (IsUnread (number32 header 8) (number32 header 12)) (rw (c.number32-option.ensures, c.number32-count.ensures) at c.in_ok-refuse_content.ensures.answer)
 
 pub returns-then-not-branch-2-clause-reader : goal.returns-then-not-branch-2-clause-reader
 returns-then-not-branch-2-clause-reader g c = read-then c.in_ok-fill.ensures.reader c.in_ok-take_content.ensures.reader
@@ -149,10 +149,10 @@ returns-in_err-answer_option-clause-turn g c = λ w.
     let x = c.in_err-answer_option.field-0.0 in
     let count : length content ≡ number32 header 12 = ap length into.kept ∙ into.takes.count in
     let p = err_from_is_err_and c.from_residual-in_err-answer_option.result c.from_residual-in_err-answer_option.ensures.1 in
-    rw (p.1, p.2) (option-ends (export_records c.args.exports.now) c.args.no_zeroes w input mid input' header first size magic output (g.W.Write.contents c.answer_option.new.writer.inner) content (subst (λ l. Consumes mid input' l) (sym into.kept) into.takes.consumed) count
-    (IsAnswered (export_records c.args.exports.now) c.args.no_zeroes c.number32-option.result content) (IsUnnamed (export_records c.args.exports.now) c.number32-option.result content) x
-    (λ reply next q. inl (subst (λ (n : ℕ). IsAnswered (export_records c.args.exports.now) c.args.no_zeroes n content reply next) c.number32-option.ensures q))
-    (λ q. unnamed-breaks (export_records c.args.exports.now) c.args.no_zeroes w input mid input' header first size magic output (g.W.Write.contents c.answer_option.new.writer.inner) content count c.number32-option.result c.number32-option.ensures x q)
+    rw (p.1, p.2) (option-ends (export_records c.args.exports.now) c.args.terms w input mid input' header first size magic output (g.W.Write.contents c.answer_option.new.writer.inner) content (subst (λ l. Consumes mid input' l) (sym into.kept) into.takes.consumed) count
+    (IsAnswered (export_records c.args.exports.now) c.args.terms c.number32-option.result content) (IsUnnamed (export_records c.args.exports.now) c.number32-option.result content) x
+    (λ reply next q. inl (subst (λ (n : ℕ). IsAnswered (export_records c.args.exports.now) c.args.terms n content reply next) c.number32-option.ensures q))
+    (λ q. unnamed-breaks (export_records c.args.exports.now) c.args.terms w input mid input' header first size magic output (g.W.Write.contents c.answer_option.new.writer.inner) content count c.number32-option.result c.number32-option.ensures x q)
     c.in_err-answer_option.ensures.answer)
 
 pub returns-in_err-answer_option-clause-reader : goal.returns-in_err-answer_option-clause-reader
@@ -160,7 +160,7 @@ returns-in_err-answer_option-clause-reader g c =
     let x = c.in_err-answer_option.field-0.0 in
     let content = take c.number32-count.result c.take_content.new.room in
     let p = err_from_is_err_and c.from_residual-in_err-answer_option.result c.from_residual-in_err-answer_option.ensures.1 in
-    rw (p.1, p.2) (read-other x (read-then c.in_ok-fill.ensures.reader c.in_ok-take_content.ensures.reader) (unnamed-writing (IsAnswered (export_records c.args.exports.now) c.args.no_zeroes c.number32-option.result content) (export_records c.args.exports.now) c.number32-option.result content
+    rw (p.1, p.2) (read-other x (read-then c.in_ok-fill.ensures.reader c.in_ok-take_content.ensures.reader) (unnamed-writing (IsAnswered (export_records c.args.exports.now) c.args.terms c.number32-option.result content) (export_records c.args.exports.now) c.number32-option.result content
     (g.W.Write.contents c.args.writer.now.inner) (g.W.Write.contents c.answer_option.new.writer.inner) x c.in_err-answer_option.ensures.answer))
 
 pub returns-in_err-answer_option-clause-writer : goal.returns-in_err-answer_option-clause-writer
@@ -182,7 +182,7 @@ returns-clause-turn g c = λ w.
     let into : TakesInto (Some content) (number32 header 12) mid input' =
     subst (λ (n : ℕ). TakesInto (Some content) n mid input') c.number32-count.ensures
     (subst (λ (b : Bool). TakesInto (content_in b c.number32-count.result c.take_content.new.room) c.number32-count.result mid input') c.if-not-branch-2.false c.in_ok-take_content.ensures.ok) in
-    option-told (export_records c.args.exports.now) c.args.no_zeroes w input mid input' header first size magic output (g.W.Write.contents c.answer_option.new.writer.inner) content into _ (IsUnnamed (export_records c.args.exports.now) (number32 header 8) content) (rw c.number32-option.ensures at c.in_ok-answer_option.ensures.answer)
+    option-told (export_records c.args.exports.now) c.args.terms w input mid input' header first size magic output (g.W.Write.contents c.answer_option.new.writer.inner) content into _ (IsUnnamed (export_records c.args.exports.now) (number32 header 8) content) (rw c.number32-option.ensures at c.in_ok-answer_option.ensures.answer)
 
 pub returns-clause-reader : goal.returns-clause-reader
 returns-clause-reader g c = read-then c.in_ok-fill.ensures.reader c.in_ok-take_content.ensures.reader

@@ -19,13 +19,13 @@ pub take_option-requires : goal.take_option-requires
 take_option-requires g c = exports-short c.args.queue.now.stack.config c.args.exports.now c.requires.exports_are
 
 pub export_at-export-requires : goal.export_at-export-requires
-export_at-export-requires g c = placed-inside c.args.exports.now c.in-Serving.place (subst (IsPlaced (export_records c.args.exports.now)) c.in-Serving.is c.requires.placed)
+export_at-export-requires g c = placed-inside c.args.exports.now c.in-Serving.agreed.place (subst (IsPlaced (export_records c.args.exports.now)) c.in-Serving.is c.requires.placed)
 
 pub take_request-requires : goal.take_request-requires
 take_request-requires g c =
     let config = c.args.queue.now.stack.config in
     let exports = c.args.exports.now in
-    subst (IsExport config) (sym c.export_at-export.ensures) (placed-export config exports c.in-Serving.place c.requires.exports_are (subst (IsPlaced (export_records exports)) c.in-Serving.is c.requires.placed))
+    subst (IsExport config) (sym c.export_at-export.ensures) (placed-export config exports c.in-Serving.agreed.place c.requires.exports_are (subst (IsPlaced (export_records exports)) c.in-Serving.is c.requires.placed))
 
 pub returns-in-Serving-clause-turn : goal.returns-in-Serving-clause-turn
 returns-in-Serving-clause-turn g c = rw c.in-Serving.is (c.take_request.ensures.turn (export_records c.args.exports.now) (sym c.export_at-export.ensures))

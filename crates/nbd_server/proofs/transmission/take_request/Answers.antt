@@ -19,7 +19,7 @@ returns-in_err-fill-clause-turn g c = λ es at.
     let input = g.R.Read.remaining c.args.reader.now.inner in
     let mid = g.R.Read.remaining c.fill.new.reader.inner in
     let p = err_from_is_err_and c.from_residual.result c.from_residual.ensures.1 in
-    rw (p.1, p.2) (header-cut es (Serving c.args.place) 28 (λ rest cut. inl cut) c.args.queue.now input mid (g.W.Write.contents c.args.writer.now.inner) c.in_err-fill.field-0.0 (length c.fill.new.buffer)
+    rw (p.1, p.2) (header-cut es (Serving c.args.agreed) 28 (λ rest cut. inl cut) c.args.queue.now input mid (g.W.Write.contents c.args.writer.now.inner) c.in_err-fill.field-0.0 (length c.fill.new.buffer)
     (omega (arith, c.fill.auto.buffer)) c.in_err-fill.ensures.filled)
 
 pub returns-in_err-fill-clause-reader : goal.returns-in_err-fill-clause-reader
@@ -41,7 +41,7 @@ returns-then-number32-ne-MAGIC-clause-turn g c = λ es at.
     let first = subst (λ b. Fills input mid bytes (Ok b)) c.if-not-branch.false c.in_ok-fill.ensures.filled in
     let size : length bytes ≡ 28 = omega (arith, c.fill.auto.buffer) in
     let other : number32 bytes 0 ≢ request_magic = λ is. c.if-number32-ne-MAGIC.true (c.number32.ensures ∙ is) in
-    request-unlike es c.args.place c.args.queue.now input mid (g.W.Write.contents c.args.writer.now.inner) bytes first size other
+    request-unlike es c.args.agreed c.args.queue.now input mid (g.W.Write.contents c.args.writer.now.inner) bytes first size other
 
 pub returns-then-number32-ne-MAGIC-clause-reader : goal.returns-then-number32-ne-MAGIC-clause-reader
 returns-then-number32-ne-MAGIC-clause-reader g c = read-other fault.Magic c.in_ok-fill.ensures.reader (λ is. (cc))
@@ -60,7 +60,7 @@ returns-then-header-eq-DISCONNECT-clause-turn g c = λ es at.
     let size : length bytes ≡ 28 = omega (arith, c.fill.auto.buffer) in
     let magic : number32 bytes 0 ≡ request_magic = omega (arith, c.number32.ensures, c.if-number32-ne-MAGIC.false) in
     let kind : (header_of bytes).kind ≡ 2 = sym (ap (λ (h : Header). h.kind) c.of-header.ensures) ∙ c.if-header-eq-DISCONNECT.true in
-    request-last es c.args.place c.args.queue.now input mid (g.W.Write.contents c.args.writer.now.inner) bytes first size magic kind
+    request-last es c.args.agreed c.args.queue.now input mid (g.W.Write.contents c.args.writer.now.inner) bytes first size magic kind
 
 pub returns-in_err-outcome-clause-turn : goal.returns-in_err-outcome-clause-turn
 returns-in_err-outcome-clause-turn g c = λ es at.
@@ -72,7 +72,7 @@ returns-in_err-outcome-clause-turn g c = λ es at.
     let size : length bytes ≡ 28 = omega (arith, c.fill.auto.buffer) in
     let magic : number32 bytes 0 ≡ request_magic = omega (arith, c.number32.ensures, c.if-number32-ne-MAGIC.false) in
     let p = err_from_is_err_and c.from_residual-in_err-outcome.result c.from_residual-in_err-outcome.ensures.1 in
-    rw (p.1, p.2) (request-lost es c.args.place (export_record c.args.export.now) at c.args.queue.now c.serve_request.new.queue input mid input' bytes first size magic (g.W.Write.contents c.args.writer.now.inner) c.in_err-outcome.field-0.0 (rw c.of-header.ensures at c.in_err-outcome.ensures.err))
+    rw (p.1, p.2) (request-lost es c.args.agreed (export_record c.args.export.now) at c.args.queue.now c.serve_request.new.queue input mid input' bytes first size magic (g.W.Write.contents c.args.writer.now.inner) c.in_err-outcome.field-0.0 (rw c.of-header.ensures at c.in_err-outcome.ensures.err))
 
 pub returns-in_err-outcome-clause-reader : goal.returns-in_err-outcome-clause-reader
 returns-in_err-outcome-clause-reader g c =
@@ -98,7 +98,7 @@ returns-in_err-say_reply-clause-turn g c = λ es at.
     let magic : number32 bytes 0 ≡ request_magic = omega (arith, c.number32.ensures, c.if-number32-ne-MAGIC.false) in
     let other : (header_of bytes).kind ≢ 2 = λ is. c.if-header-eq-DISCONNECT.false (ap (λ (h : Header). h.kind) c.of-header.ensures ∙ is) in
     let p = err_from_is_err_and c.from_residual-in_err-say_reply.result c.from_residual-in_err-say_reply.ensures.1 in
-    rw (p.1, p.2) (request-unanswered es c.args.place (export_record c.args.export.now) at c.args.queue.now c.serve_request.new.queue input mid input' bytes first size magic
+    rw (p.1, p.2) (request-unanswered es c.args.agreed (export_record c.args.export.now) at c.args.queue.now c.serve_request.new.queue input mid input' bytes first size magic
     (g.W.Write.contents c.args.writer.now.inner) (g.W.Write.contents c.say_reply.new.writer.inner) (outcome_of c.in_ok-outcome.outcome) other
     (let p = rw c.of-header.ensures at c.in_ok-outcome.ensures.ok in (p.payload, p.size, p.consumed, p.serves)))
 
@@ -122,7 +122,7 @@ returns-clause-turn g c = λ es at.
     let size : length bytes ≡ 28 = omega (arith, c.fill.auto.buffer) in
     let magic : number32 bytes 0 ≡ request_magic = omega (arith, c.number32.ensures, c.if-number32-ne-MAGIC.false) in
     let other : (header_of bytes).kind ≢ 2 = λ is. c.if-header-eq-DISCONNECT.false (ap (λ (h : Header). h.kind) c.of-header.ensures ∙ is) in
-    request-served es c.args.place (export_record c.args.export.now) at c.args.queue.now c.serve_request.new.queue input mid input' bytes first size magic
+    request-served es c.args.agreed (export_record c.args.export.now) at c.args.queue.now c.serve_request.new.queue input mid input' bytes first size magic
     (g.W.Write.contents c.args.writer.now.inner) (g.W.Write.contents c.say_reply.new.writer.inner) (outcome_of c.in_ok-outcome.outcome) other
     (let p = rw c.of-header.ensures at c.in_ok-outcome.ensures.ok in (p.payload, p.size, p.consumed, p.serves)) (rw c.of-header.ensures at c.in_ok-say_reply.ensures.ok)
 

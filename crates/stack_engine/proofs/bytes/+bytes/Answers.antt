@@ -1,4 +1,4 @@
-use Rattle.std.proofs.Common.{◌≡◌, ◌≤◌, ◌+◌, ◌/◌, ◌*◌, ◌-◌, length, take, drop, map, ℕ, List, [], ◌++◌, Result, Ok, Err, sym, ap, ◌∙◌, subst, arith}
+use Rattle.std.proofs.Common.{◌≡◌, ◌≤◌, ◌+◌, ◌/◌, ◌*◌, ◌-◌, length, take, drop, map, ℕ, List, [], ◌++◌, Result, Ok, Err, inl, refl, sym, ap, ◌∙◌, subst, arith}
 use Rattle.std.proofs.lemmas.List.{length-take, length-append}
 use Rattle.std.proofs.lemmas.List.Elements.{All-nil}
 use Rattle.std.proofs.lemmas.Slice.{take-put_mid}
@@ -22,7 +22,12 @@ use Rattle.stack_engine.proofs.StackLemmas.{stack-later}
 use Rattle.stack_engine.proofs.BytesLemmas.{found-bytes, dropped-bytes, below-bytes, bytes_ok, bytes_err, same_bytes}
 use Rattle.stack_meaning.proofs.lemmas.LoadedLemmas.{size-small}
 use Rattle.stack_lines.proofs.lemmas.SourceLemmas.{served-depth, served-holds, device_plain, below_plain}
-use Rattle.stack_lines.proofs.lemmas.TouchLemmas.{device-touched}
+use Rattle.stack_lines.proofs.lemmas.TouchLemmas.{touches-none, device-touched}
+use Rattle.stack_lines.specs.Touches.{leaves_of}
+use Rattle.stack_lines.specs.Budgets.{ReadsAtMost, budget, source_budget}
+use Rattle.stack_meaning.proofs.lemmas.LeafListLemmas.{AreRead-none}
+use Rattle.stack_meaning.proofs.lemmas.PlainLemmas.{plain-none}
+use Rattle.stack_engine.proofs.SpentLemmas.{IsCutBehind, spent-all, spent-run, cut-behind}
 use Rattle.stack_engine.proofs.bytes.+bytes.Goals as goal
 
 pub device_bytes-overflow_add-first : goal.device_bytes-overflow_add-first
@@ -73,6 +78,12 @@ device_bytes-loop-at-preserved g t c =
     let mid = map state c.loop-at.reader.devices.items in
     let new = map state c.run_bytes.new.reader.devices.items in
     let more = subst (λ (n : ℕ). FindsBytes (source_place config source) config 0 n mid new (Ok c.run_bytes.new.out)) number c.in-Ok.ensures.reads in
+    let ends_at : at / 512 + count ≡ end / 512 = omega (arith, c.loop-at.invariant.whole) in
+    let all : ℕ = length c.args.out.now / 512 in
+    let before = map state c.args.reader.now.devices.items in
+    let spent_before = map state c.loop-at.reader.devices.items in
+    let spent_now = map state c.run_bytes.new.reader.devices.items in
+    let spent_more = subst (λ (k : ℕ). ReadsAtMost (source_budget config source k) spent_before spent_now) number c.in-Ok.ensures.spent in
     record {
       whole = omega (arith, c.loop-at.invariant.whole);
       within = omega (arith, length-take end (put_mid at (end - at) out c.run_bytes.new.out), ap length front, length-append (take at out) c.run_bytes.new.out, length-take at out, c.run_bytes.auto.out, len, c.loop-at.invariant.within);
@@ -83,6 +94,10 @@ device_bytes-loop-at-preserved g t c =
           (device_plain config c.args.d.0 c.args.first (at / 512) count (at / 512 + count) source c.requires.stack.sound.loaded (omega arith) c.run_to_read-run.ensures.served c.loop-at.invariant.plain
           (subst (λ (n : ℕ). IsPlain (source_said config source) 0 n mid new (Ok tt)) number c.in-Ok.ensures.plain));
       touches = device-touched config c.args.d.0 (c.args.first + at / 512) count source c.requires.stack.sound.loaded c.run_to_read-run.ensures.some c.run_to_read-run.ensures.served c.loop-at.invariant.touches c.in-Ok.ensures.touches;
+      spent = subst (λ (k : ℕ). ReadsAtMost (budget config (mapped c.args.d.0) c.args.first k) before spent_now) ends_at
+          (spent-run config c.args.d.0 c.args.first (at / 512) all c.requires.stack.sound.loaded c.loop-at.invariant.cut before spent_before c.loop-at.invariant.spent count source spent_now c.run_to_read-run.ensures.some (omega (arith, fits, c.loop-at.auto.out)) c.run_to_read-run.ensures.served spent_more);
+      cut = subst (λ (k : ℕ). IsCutBehind config c.args.d.0 c.args.first k all) ends_at
+          (cut-behind config c.args.d.0 c.args.first (at / 512) count ((length out - at) / 512) all (omega (arith, c.loop-at.invariant.whole, fits, c.loop-at.auto.out)) c.run_to_read-run.ensures.some c.run_to_read-run.ensures.ends);
     }
 
 pub device_bytes-returns-in-Err-clause-reads : goal.device_bytes-returns-in-Err-clause-reads
@@ -163,3 +178,63 @@ run_bytes-returns-in-Below-Device-default-clause-touches g t c =
     let lower : arm.lower ≡ mapped arm.d.0 = rw arm.is at arm.lower-is in
     let is : c.args.source ≡ Below (mapped arm.d.0) arm.first = arm.is ∙ ap (λ (x : Lower). Below x arm.first) lower in
     rw is c.device_bytes.ensures.touches
+
+-- ---- budgets
+
+pub device_bytes-loop-at-init : goal.device_bytes-loop-at-init
+device_bytes-loop-at-init g t c =
+    let config = c.args.config.now in
+    let old = map g.D.BlockDev.state c.args.reader.now.devices.items in
+    record {
+      whole = refl;
+      within = omega arith;
+      so_far = record {
+        chains = [];
+        got = record { moved = AreRead-none _ old; may = record { len = refl; sectors = λ j h. absurd (omega (arith, h)) }; exact = λ steady. refl };
+        used = All-nil _;
+        kept = All-nil _;
+      };
+      cached = record { capacity = refl; sound = c.requires.stack.cached };
+      plain = plain-none (said_at config (mapped c.args.d.0)) c.args.first 0 old (Ok tt) (λ e. cc) tt;
+      touches = touches-none (leaves_of config (mapped c.args.d.0)) old (Ok tt) tt;
+      spent = omega arith;
+      cut = inl refl;
+    }
+
+pub device_bytes-returns-in-Err-clause-spent : goal.device_bytes-returns-in-Err-clause-spent
+device_bytes-returns-in-Err-clause-spent g t c =
+    let config = c.args.config.now in
+    let at = c.loop-at.at in
+    let run = c.run_to_read-run in
+    let source = run.result.source in
+    let count = run.result.count in
+    let all : ℕ = length c.args.out.now / 512 in
+    let fits : at + count * 512 ≤ length c.loop-at.out = omega (arith, run.ensures.most, c.loop-at-test.true) in
+    let len = run_length c.loop-at.out at count fits in
+    let number : length (take (at + count * 512 - at) (drop at c.loop-at.out)) / 512 ≡ count = omega (arith, len) in
+    let old = map g.D.BlockDev.state c.args.reader.now.devices.items in
+    let mid = map g.D.BlockDev.state c.loop-at.reader.devices.items in
+    let new = map g.D.BlockDev.state c.run_bytes.new.reader.devices.items in
+    let more = subst (λ (k : ℕ). ReadsAtMost (source_budget config source k) mid new) number c.in-Err.ensures.spent in
+    let one = spent-run config c.args.d.0 c.args.first (at / 512) all c.requires.stack.sound.loaded c.loop-at.invariant.cut old mid c.loop-at.invariant.spent count source new run.ensures.some (omega (arith, fits, c.loop-at.auto.out)) run.ensures.served more in
+    let behind = cut-behind config c.args.d.0 c.args.first (at / 512) count ((length c.loop-at.out - at) / 512) all (omega (arith, c.loop-at.invariant.whole, fits, c.loop-at.auto.out)) run.ensures.some run.ensures.ends in
+    spent-all config c.args.d.0 c.args.first (at / 512 + count) all c.requires.stack.sound.loaded behind old new one (omega (arith, fits, c.loop-at.auto.out))
+
+pub device_bytes-returns-clause-spent : goal.device_bytes-returns-clause-spent
+device_bytes-returns-clause-spent g t c =
+    let config = c.args.config.now in
+    let all : ℕ = length c.args.out.now / 512 in
+    spent-all config c.args.d.0 c.args.first (c.loop-at.at / 512) all c.requires.stack.sound.loaded c.loop-at.invariant.cut (map g.D.BlockDev.state c.args.reader.now.devices.items) (map g.D.BlockDev.state c.loop-at.reader.devices.items) c.loop-at.invariant.spent (omega (arith, c.loop-at.invariant.within, c.loop-at.auto.out))
+
+pub run_bytes-returns-in-Below-Device-default-clause-spent : goal.run_bytes-returns-in-Below-Device-default-clause-spent
+run_bytes-returns-in-Below-Device-default-clause-spent g t c =
+    let arm = c.in-Below-Device-default in
+    let lower : arm.lower ≡ mapped arm.d.0 = rw arm.is at arm.lower-is in
+    let is : c.args.source ≡ Below (mapped arm.d.0) arm.first = arm.is ∙ ap (λ (x : Lower). Below x arm.first) lower in
+    rw is c.device_bytes.ensures.spent
+
+pub run_bytes-returns-in-Blocks-clause-spent : goal.run_bytes-returns-in-Blocks-clause-spent
+run_bytes-returns-in-Blocks-clause-spent g t c = rw c.in-Blocks.is c.read_blocks.ensures.spent
+
+pub run_bytes-returns-clause-spent : goal.run_bytes-returns-clause-spent
+run_bytes-returns-clause-spent g t c = c.read_run.ensures.spent

@@ -7,7 +7,9 @@ use Rattle.stack_meaning.specs.Reading.{IsPlain}
 use Rattle.stack_lines.specs.Sources.{source_depth}
 use Rattle.stack_lines.specs.Caches.{KeepsCache}
 use Rattle.stack_lines.specs.Touches.{TouchesOnly, leaves_of}
+use Rattle.stack_lines.specs.Budgets.{ReadsAtMost, budget}
 use Rattle.stack_engine.specs.Bytes.{FindsBytes}
+use Rattle.stack_engine.proofs.SpentLemmas.{IsCutBehind}
 use Rattle.stack_engine.proofs.bytes.+bytes.Given as goal
 
 abbrev pub decreases-device_bytes : goal.decreases-device_bytes
@@ -26,6 +28,8 @@ invariant-device_bytes-loop-at g l = record {
   cached : KeepsCache l.config (map g.D.BlockDev.state l.reader.devices.items) l.fn.reader.cache l.reader.cache;
   plain : IsPlain (said_at l.config (mapped l.d.0)) l.first (l.at / 512) (map g.D.BlockDev.state l.fn.reader.devices.items) (map g.D.BlockDev.state l.reader.devices.items) (Ok tt);
   touches : TouchesOnly {A = Unit {0}} (leaves_of l.config (mapped l.d.0)) (map g.D.BlockDev.state l.fn.reader.devices.items) (map g.D.BlockDev.state l.reader.devices.items) (Ok tt);
+  spent : ReadsAtMost (budget l.config (mapped l.d.0) l.first (l.at / 512)) (map g.D.BlockDev.state l.fn.reader.devices.items) (map g.D.BlockDev.state l.reader.devices.items);
+  cut : IsCutBehind l.config l.d.0 l.first (l.at / 512) (length l.fn.out / 512);
 }
 
 abbrev pub decreases-device_bytes-loop-at : goal.decreases-device_bytes-loop-at

@@ -12,7 +12,7 @@ use borrow.Rule.Slice.PartMut.{put_mid, same_len_mid}
 use Rattle.tree_shape.specs.Digests.{digest, digest_in}
 use Rattle.tree_shape.specs.Shape.{ShapeRecord, slot, ancestor, levels}
 use Rattle.stack_rules.specs.Names.{mapped}
-use Rattle.stack_rules.specs.Descend.{depth}
+use Rattle.stack_rules.specs.Descend.{depth, read_cost}
 use Rattle.hash_tree.specs.Tree.{cut}
 use Rattle.stack_rules.specs.Trees.{tree_of, block_sectors, zero_block}
 use Rattle.stack_rules.specs.declared.lower.DevId.{DevId}
@@ -62,6 +62,12 @@ use Rattle.stack_engine.proofs.NextBlockLemmas.{sub-same, AreReadAhead, way-whol
 use Rattle.stack_engine.specs.Keeping.{AreHandedOut}
 use Rattle.stack_engine.proofs.KeepingLemmas.{kept-reads, none-out, one-out, gets-none}
 use Rattle.stack_lines.specs.Touches.{NamesOneOf, TouchesOnly, leaves_of}
+use Rattle.stack_lines.specs.Budgets.{ReadsAtMost, budget, source_budget}
+use Rattle.stack_meaning.specs.Leaves.{AreRead}
+use Rattle.stack_meaning.proofs.lemmas.FoundLemmas.{Grown-none}
+use Rattle.stack_meaning.proofs.lemmas.LeafListLemmas.{AreRead-none}
+use Rattle.stack_meaning.proofs.lemmas.PlainLemmas.{plain-none}
+use Rattle.stack_engine.proofs.SpentLemmas.{IsCutBehind, spent-all, spent-run, cut-behind, leaf-spent, units-spent, unit-spent, block-spent, had-spent, way-spent, row-spent}
 use Rattle.stack_lines.proofs.lemmas.TouchLemmas.{touches-none, touches-then, touches-as, touches-up, crypt-within, data-within, device-touched}
 use Rattle.stack_engine.proofs.TouchedLemmas.{extent-touched, same-within, hash-touched, hash-within-device, data-touched}
 use Rattle.stack_engine.proofs.read.+read.Goals as goal
@@ -111,6 +117,12 @@ read_device-loop-at-preserved g t c =
     let front : take end (put_mid at (end - at) out c.read_run.new.out) ≡ take at out ++ c.read_run.new.out = take-put_mid at (end - at) out c.read_run.new.out end (omega (arith, c.read_run.auto.out, len)) c.loop-at.invariant.within in
     let did : Read = record { old = map state c.loop-at.reader.devices.items; new = map state c.read_run.new.reader.devices.items; before = c.loop-at.found.items; after = c.read_run.new.found.items } in
     let more = subst (λ (n : ℕ). ReadsSource config source n did (Ok c.read_run.new.out)) number c.in-Ok.ensures.reads in
+    let ends_at : at / 512 + count ≡ end / 512 = omega (arith, c.loop-at.invariant.whole) in
+    let all : ℕ = length c.args.out.now / 512 in
+    let before = map state c.args.reader.now.devices.items in
+    let spent_before = map state c.loop-at.reader.devices.items in
+    let spent_now = map state c.read_run.new.reader.devices.items in
+    let spent_more = subst (λ (k : ℕ). ReadsAtMost (source_budget config source k) spent_before spent_now) number c.in-Ok.ensures.spent in
     record {
       whole = omega (arith, c.loop-at.invariant.whole);
       within = omega (arith, length-take end (put_mid at (end - at) out c.read_run.new.out), ap length front, length-append (take at out) c.read_run.new.out, length-take at out, c.read_run.auto.out, len, c.loop-at.invariant.within);
@@ -121,6 +133,10 @@ read_device-loop-at-preserved g t c =
           (device_plain config c.args.d.0 c.args.first (at / 512) count (at / 512 + count) source c.requires.stack.sound.loaded (omega arith) c.run_to_read-run.ensures.served c.loop-at.invariant.plain
           (subst (λ (n : ℕ). IsPlain (source_said config source) 0 n (map state c.loop-at.reader.devices.items) (map state c.read_run.new.reader.devices.items) (Ok tt)) number c.in-Ok.ensures.plain));
       touches = device-touched config c.args.d.0 (c.args.first + at / 512) count source c.requires.stack.sound.loaded c.run_to_read-run.ensures.some c.run_to_read-run.ensures.served c.loop-at.invariant.touches c.in-Ok.ensures.touches;
+      spent = subst (λ (k : ℕ). ReadsAtMost (budget config (mapped c.args.d.0) c.args.first k) before spent_now) ends_at
+          (spent-run config c.args.d.0 c.args.first (at / 512) all c.requires.stack.sound.loaded c.loop-at.invariant.cut before spent_before c.loop-at.invariant.spent count source spent_now c.run_to_read-run.ensures.some (omega (arith, fits, c.loop-at.auto.out)) c.run_to_read-run.ensures.served spent_more);
+      cut = subst (λ (k : ℕ). IsCutBehind config c.args.d.0 c.args.first k all) ends_at
+          (cut-behind config c.args.d.0 c.args.first (at / 512) count ((length out - at) / 512) all (omega (arith, c.loop-at.invariant.whole, fits, c.loop-at.auto.out)) c.run_to_read-run.ensures.some c.run_to_read-run.ensures.ends);
     }
 
 pub read_device-returns-in-Err-clause-reads : goal.read_device-returns-in-Err-clause-reads
@@ -2014,3 +2030,275 @@ read_blocks-returns-in-Err-keep-clause-touches g t c =
 
 pub read_blocks-returns-clause-touches : goal.read_blocks-returns-clause-touches
 read_blocks-returns-clause-touches g t c = c.checks.invariant.touches
+
+-- ---- budgets
+
+pub read_device-loop-at-init : goal.read_device-loop-at-init
+read_device-loop-at-init g t c =
+    let config = c.args.config.now in
+    let place = place_of config (mapped c.args.d.0) in
+    let old = map g.D.BlockDev.state c.args.reader.now.devices.items in
+    let found = c.args.found.now.items in
+    record {
+      whole = refl;
+      within = omega arith;
+      so_far = record {
+        got = record { moved = AreRead-none _ old; may = record { len = refl; sectors = λ j h. absurd (omega (arith, h)) }; exact = λ steady. refl };
+        grown = Grown-none _ c.args.first 0 found;
+        kept = c.requires.kept;
+      };
+      cached = record { capacity = refl; sound = c.requires.stack.cached };
+      plain = plain-none (said_at config (mapped c.args.d.0)) c.args.first 0 old (Ok tt) (λ e. cc) tt;
+      touches = touches-none (leaves_of config (mapped c.args.d.0)) old (Ok tt) tt;
+      spent = omega arith;
+      cut = inl refl;
+    }
+
+pub read_device-returns-in-Err-clause-spent : goal.read_device-returns-in-Err-clause-spent
+read_device-returns-in-Err-clause-spent g t c =
+    let config = c.args.config.now in
+    let at = c.loop-at.at in
+    let run = c.run_to_read-run in
+    let source = run.result.source in
+    let count = run.result.count in
+    let all : ℕ = length c.args.out.now / 512 in
+    let fits : at + count * 512 ≤ length c.loop-at.out = omega (arith, run.ensures.most, c.loop-at-test.true) in
+    let len = run_length c.loop-at.out at count fits in
+    let number : length (take (at + count * 512 - at) (drop at c.loop-at.out)) / 512 ≡ count = omega (arith, len) in
+    let old = map g.D.BlockDev.state c.args.reader.now.devices.items in
+    let mid = map g.D.BlockDev.state c.loop-at.reader.devices.items in
+    let new = map g.D.BlockDev.state c.read_run.new.reader.devices.items in
+    let more = subst (λ (k : ℕ). ReadsAtMost (source_budget config source k) mid new) number c.in-Err.ensures.spent in
+    let one = spent-run config c.args.d.0 c.args.first (at / 512) all c.requires.stack.sound.loaded c.loop-at.invariant.cut old mid c.loop-at.invariant.spent count source new run.ensures.some (omega (arith, fits, c.loop-at.auto.out)) run.ensures.served more in
+    let behind = cut-behind config c.args.d.0 c.args.first (at / 512) count ((length c.loop-at.out - at) / 512) all (omega (arith, c.loop-at.invariant.whole, fits, c.loop-at.auto.out)) run.ensures.some run.ensures.ends in
+    spent-all config c.args.d.0 c.args.first (at / 512 + count) all c.requires.stack.sound.loaded behind old new one (omega (arith, fits, c.loop-at.auto.out))
+
+pub read_device-returns-clause-spent : goal.read_device-returns-clause-spent
+read_device-returns-clause-spent g t c =
+    let config = c.args.config.now in
+    let all : ℕ = length c.args.out.now / 512 in
+    spent-all config c.args.d.0 c.args.first (c.loop-at.at / 512) all c.requires.stack.sound.loaded c.loop-at.invariant.cut (map g.D.BlockDev.state c.args.reader.now.devices.items) (map g.D.BlockDev.state c.loop-at.reader.devices.items) c.loop-at.invariant.spent (omega (arith, c.loop-at.invariant.within, c.loop-at.auto.out))
+
+pub read_lower-returns-in-Leaf-clause-spent : goal.read_lower-returns-in-Leaf-clause-spent
+read_lower-returns-in-Leaf-clause-spent g t c =
+    let config = c.args.config.now in
+    let state = g.D.BlockDev.state in
+    let n : ℕ = length c.args.out.now / 512 in
+    let devices = c.args.reader.now.devices in
+    let answer : Result (List ℕ) IoFault = buffer_answer c.read_leaf.result c.read_leaf.new.out in
+    let stands : (with_items devices c.read_leaf.new.devices).items ≡ c.read_leaf.new.devices =
+    with_items_is devices c.read_leaf.new.devices (c.read_leaf.auto.devices ∙ ap (λ l. length l) c.as_mut_slice.ensures.value ∙ sym devices.ok.0) in
+    let one = subst (λ ds. Gets (run_expected (place_of config (Leaf c.in-Leaf.leaf)) [] c.args.first n) (map state ds) (map state c.read_leaf.new.devices) answer) c.as_mut_slice.ensures.value (c.read_leaf.ensures.got []) in
+    subst (λ ds. ReadsAtMost (budget config c.args.lower c.args.first n) (map state devices.items) (map state ds)) (sym stands)
+    (subst (λ (x : Lower). ReadsAtMost (budget config x c.args.first n) (map state devices.items) (map state c.read_leaf.new.devices)) (sym c.in-Leaf.is) (leaf-spent config c.in-Leaf.leaf c.args.first n one.moved))
+
+pub read_lower-returns-in-Device-clause-spent : goal.read_lower-returns-in-Device-clause-spent
+read_lower-returns-in-Device-clause-spent g t c = rw c.in-Device.is c.read_device.ensures.spent
+
+pub read_run-returns-in-Below-clause-spent : goal.read_run-returns-in-Below-clause-spent
+read_run-returns-in-Below-clause-spent g t c = rw c.in-Below.is c.read_lower.ensures.spent
+
+pub read_run-returns-in-Units-clause-spent : goal.read_run-returns-in-Units-clause-spent
+read_run-returns-in-Units-clause-spent g t c = rw c.in-Units.is c.read_units.ensures.spent
+
+pub read_run-returns-in-UnitPart-clause-spent : goal.read_run-returns-in-UnitPart-clause-spent
+read_run-returns-in-UnitPart-clause-spent g t c = rw c.in-UnitPart.is c.read_unit_part.ensures.spent
+
+pub read_run-returns-in-Block-clause-spent : goal.read_run-returns-in-Block-clause-spent
+read_run-returns-in-Block-clause-spent g t c = rw c.in-Block.is c.read_block.ensures.spent
+
+pub read_run-returns-in-Blocks-clause-spent : goal.read_run-returns-in-Blocks-clause-spent
+read_run-returns-in-Blocks-clause-spent g t c = rw c.in-Blocks.is c.read_blocks.ensures.spent
+
+pub read_run-returns-in-Zeros-clause-spent : goal.read_run-returns-in-Zeros-clause-spent
+read_run-returns-in-Zeros-clause-spent g t c = omega arith
+
+pub read_run-returns-in-Fails-clause-spent : goal.read_run-returns-in-Fails-clause-spent
+read_run-returns-in-Fails-clause-spent g t c = omega arith
+
+pub read_units-returns-in-Ok-clause-spent : goal.read_units-returns-in-Ok-clause-spent
+read_units-returns-in-Ok-clause-spent g t c =
+    let unit = c.unit_at-unit in
+    units-spent c.args.config.now c.args.part (length c.args.out.now / 512) c.crypt_at-crypt.result.now unit.result.lower c.requires.stack.sound.loaded c.crypt_at-crypt.ensures c.requires.fits.holds unit.ensures.lower c.in-Ok.ensures.reads.got.moved
+
+pub read_units-returns-in-Err-clause-spent : goal.read_units-returns-in-Err-clause-spent
+read_units-returns-in-Err-clause-spent g t c =
+    let unit = c.unit_at-unit in
+    units-spent c.args.config.now c.args.part (length c.args.out.now / 512) c.crypt_at-crypt.result.now unit.result.lower c.requires.stack.sound.loaded c.crypt_at-crypt.ensures c.requires.fits.holds unit.ensures.lower c.in-Err.ensures.reads.got.moved
+
+pub read_unit_part-returns-in-Ok-clause-spent : goal.read_unit_part-returns-in-Ok-clause-spent
+read_unit_part-returns-in-Ok-clause-spent g t c =
+    let config = c.args.config.now in
+    let state = g.D.BlockDev.state in
+    let n : ℕ = length c.args.out.now / 512 in
+    let whole = c.whole_unit-whole in
+    let count = room_sectors c.as_mut_slice-all.result.now whole.result.sectors (ap (λ (l : List ℕ). length l) c.as_mut_slice-all.ensures.value) whole.ensures.few in
+    unit-spent config c.args.part whole.result n c.requires.stack.sound.loaded whole.ensures.whole c.requires.fits.holds (omega (arith, c.requires.fits.sectors.some, c.requires.fits.sectors.whole)) (map state c.args.reader.now.devices.items) (map state c.read_units.new.reader.devices.items)
+    (subst (λ (k : ℕ). ReadsAtMost (source_budget config (Units whole.result.from) k) (map state c.args.reader.now.devices.items) (map state c.read_units.new.reader.devices.items)) count c.in-Ok.ensures.spent)
+
+pub read_unit_part-returns-in-Err-clause-spent : goal.read_unit_part-returns-in-Err-clause-spent
+read_unit_part-returns-in-Err-clause-spent g t c =
+    let config = c.args.config.now in
+    let state = g.D.BlockDev.state in
+    let n : ℕ = length c.args.out.now / 512 in
+    let whole = c.whole_unit-whole in
+    let count = room_sectors c.as_mut_slice-all.result.now whole.result.sectors (ap (λ (l : List ℕ). length l) c.as_mut_slice-all.ensures.value) whole.ensures.few in
+    unit-spent config c.args.part whole.result n c.requires.stack.sound.loaded whole.ensures.whole c.requires.fits.holds (omega (arith, c.requires.fits.sectors.some, c.requires.fits.sectors.whole)) (map state c.args.reader.now.devices.items) (map state c.read_units.new.reader.devices.items)
+    (subst (λ (k : ℕ). ReadsAtMost (source_budget config (Units whole.result.from) k) (map state c.args.reader.now.devices.items) (map state c.read_units.new.reader.devices.items)) count c.in-Err.ensures.spent)
+
+pub read_block-returns-in-Some-clause-spent : goal.read_block-returns-in-Some-clause-spent
+read_block-returns-in-Some-clause-spent g t c = omega arith
+
+pub read_block-returns-in-Err-clause-spent : goal.read_block-returns-in-Err-clause-spent
+read_block-returns-in-Err-clause-spent g t c =
+    let v = c.verity_at-verity.result.now in
+    let p = c.args.part in
+    let n : ℕ = length c.args.out.now / 512 in
+    let within = part-within c.args.config.now p.device.0 p.line p.first n v c.requires.stack.sound.loaded c.verity_at-verity.ensures c.requires.fits.holds in
+    block-spent c.args.config.now v p n (p.first / c.from-sectors.result) c.verity_at-verity.ensures (omega (arith, c.requires.fits.sectors.some, c.requires.fits.sectors.whole)) within c.in-Err.ensures.reads.moved
+
+pub read_block-returns-after-push-clause-spent : goal.read_block-returns-after-push-clause-spent
+read_block-returns-after-push-clause-spent g t c =
+    let v = c.verity_at-verity.result.now in
+    let p = c.args.part in
+    let n : ℕ = length c.args.out.now / 512 in
+    let within = part-within c.args.config.now p.device.0 p.line p.first n v c.requires.stack.sound.loaded c.verity_at-verity.ensures c.requires.fits.holds in
+    block-spent c.args.config.now v p n (p.first / c.from-sectors.result) c.verity_at-verity.ensures (omega (arith, c.requires.fits.sectors.some, c.requires.fits.sectors.whole)) within c.in-Ok.ensures.reads.moved
+
+pub read_blocks-returns-in-Err-clause-spent : goal.read_blocks-returns-in-Err-clause-spent
+read_blocks-returns-in-Err-clause-spent g t c =
+    let config = c.args.config.now in
+    let p = c.args.part in
+    let n : ℕ = length c.args.out.now / 512 in
+    let v = c.verity_at-verity.result.now in
+    let tree = c.tree_at-tree.result in
+    let found = c.args.found.now.items in
+    let loaded = c.requires.stack.sound.loaded in
+    let line = c.verity_at-verity.ensures in
+    let is = c.tree_at-tree.ensures.tree.on_data in
+    let at = blocks-at config v p n found tree.data loaded (omega (arith, c.requires.fits.sectors.some, c.requires.fits.sectors.whole)) line c.requires.fits.holds c.requires.can_go is in
+    let m : ℕ = n / block_sectors v in
+    let whole_out : length c.args.out.now ≡ 512 * n = omega (arith, c.requires.fits.sectors.whole) in
+    let many_are : length c.args.out.now / v.data_block ≡ m = digest-count config v p n tree.data found loaded line is at c.args.out.now whole_out in
+    let inv = c.checks.invariant in
+    let j : ℕ = c.checks.at in
+    let r : ℕ = c.checks.read in
+    let read : r ≤ m = omega (arith, inv.most, many_are) in
+    way-spent config v p n m line at.aligned at.size.some at.count r j read (omega (arith, c.checks-test.true, many_are)) inv.had.moved c.in-Err.ensures.moved
+
+pub read_blocks-returns-in-Err-read_beneath-clause-spent : goal.read_blocks-returns-in-Err-read_beneath-clause-spent
+read_blocks-returns-in-Err-read_beneath-clause-spent g t c =
+    let config = c.args.config.now in
+    let p = c.args.part in
+    let n : ℕ = length c.args.out.now / 512 in
+    let v = c.verity_at-verity.result.now in
+    let tree = c.tree_at-tree.result in
+    let found = c.args.found.now.items in
+    let loaded = c.requires.stack.sound.loaded in
+    let line = c.verity_at-verity.ensures in
+    let is = c.tree_at-tree.ensures.tree.on_data in
+    let at = blocks-at config v p n found tree.data loaded (omega (arith, c.requires.fits.sectors.some, c.requires.fits.sectors.whole)) line c.requires.fits.holds c.requires.can_go is in
+    let m : ℕ = n / block_sectors v in
+    let whole_out : length c.args.out.now ≡ 512 * n = omega (arith, c.requires.fits.sectors.whole) in
+    let many_are : length c.args.out.now / v.data_block ≡ m = digest-count config v p n tree.data found loaded line is at c.args.out.now whole_out in
+    let inv = c.checks.invariant in
+    let j : ℕ = c.checks.at in
+    let r : ℕ = c.checks.read in
+    let read : r ≤ m = omega (arith, inv.most, many_are) in
+    let len : length c.checks.out ≡ 512 * n = omega (arith, inv.size, whole_out) in
+    let many : ℕ = c.row_len-many.result in
+    let most : j + many ≤ m = omega (arith, c.row_len-many.ensures.most, many_are) in
+    let end_row = blocks-end config v p n tree.data found loaded line is at c.checks.out (j + many) len most in
+    let row_end : j * v.data_block + many * v.data_block ≤ length c.checks.out = omega (arith, end_row, add-mul j many v.data_block) in
+    let wide = block-begin config v p n tree.data found loaded line is at many in
+    let part_len = length-take-le (j * v.data_block + many * v.data_block - j * v.data_block) (drop (j * v.data_block) c.checks.out) (omega (arith, row_end, length-drop (j * v.data_block) c.checks.out)) in
+    let row_sectors : length (take (j * v.data_block + many * v.data_block - j * v.data_block) (drop (j * v.data_block) c.checks.out)) / 512 ≡ many * block_sectors v = omega (arith, part_len, wide) in
+    let walk = map g.D.BlockDev.state c.walk_path.new.reader.devices.items in
+    let new = map g.D.BlockDev.state c.read_beneath.new.reader.devices.items in
+    let got = subst (λ (k : ℕ). AreRead walk (k * read_cost config tree.data) new) row_sectors c.in-Err-read_beneath.ensures.reads.got.moved in
+    row-spent config v p n m line at.aligned at.size.some at.count r j many tree.data is read (omega (arith, c.checks-test.true, many_are)) most c.row_len-many.ensures.fresh inv.had.moved c.in-Ok.ensures.moved got
+
+pub read_blocks-returns-then-not-settle-clause-spent : goal.read_blocks-returns-then-not-settle-clause-spent
+read_blocks-returns-then-not-settle-clause-spent g t c =
+    let config = c.args.config.now in
+    let p = c.args.part in
+    let n : ℕ = length c.args.out.now / 512 in
+    let v = c.verity_at-verity.result.now in
+    let tree = c.tree_at-tree.result in
+    let found = c.args.found.now.items in
+    let loaded = c.requires.stack.sound.loaded in
+    let line = c.verity_at-verity.ensures in
+    let is = c.tree_at-tree.ensures.tree.on_data in
+    let at = blocks-at config v p n found tree.data loaded (omega (arith, c.requires.fits.sectors.some, c.requires.fits.sectors.whole)) line c.requires.fits.holds c.requires.can_go is in
+    let m : ℕ = n / block_sectors v in
+    let whole_out : length c.args.out.now ≡ 512 * n = omega (arith, c.requires.fits.sectors.whole) in
+    let many_are : length c.args.out.now / v.data_block ≡ m = digest-count config v p n tree.data found loaded line is at c.args.out.now whole_out in
+    let inv = c.checks.invariant in
+    let j : ℕ = c.checks.at in
+    let r : ℕ = c.checks.read in
+    let read : r ≤ m = omega (arith, inv.most, many_are) in
+    let len : length c.checks.out ≡ 512 * n = omega (arith, inv.size, whole_out) in
+    let many : ℕ = c.row_len-many.result in
+    let most : j + many ≤ m = omega (arith, c.row_len-many.ensures.most, many_are) in
+    let end_row = blocks-end config v p n tree.data found loaded line is at c.checks.out (j + many) len most in
+    let row_end : j * v.data_block + many * v.data_block ≤ length c.checks.out = omega (arith, end_row, add-mul j many v.data_block) in
+    let wide = block-begin config v p n tree.data found loaded line is at many in
+    let part_len = length-take-le (j * v.data_block + many * v.data_block - j * v.data_block) (drop (j * v.data_block) c.checks.out) (omega (arith, row_end, length-drop (j * v.data_block) c.checks.out)) in
+    let row_sectors : length (take (j * v.data_block + many * v.data_block - j * v.data_block) (drop (j * v.data_block) c.checks.out)) / 512 ≡ many * block_sectors v = omega (arith, part_len, wide) in
+    let walk = map g.D.BlockDev.state c.walk_path.new.reader.devices.items in
+    let new = map g.D.BlockDev.state c.read_beneath.new.reader.devices.items in
+    let got = subst (λ (k : ℕ). AreRead walk (k * read_cost config tree.data) new) row_sectors c.in-Ok-read_beneath.ensures.reads.got.moved in
+    row-spent config v p n m line at.aligned at.size.some at.count r j many tree.data is read (omega (arith, c.checks-test.true, many_are)) most c.row_len-many.ensures.fresh inv.had.moved c.in-Ok.ensures.moved got
+
+pub read_blocks-returns-in-Err-keep-clause-spent : goal.read_blocks-returns-in-Err-keep-clause-spent
+read_blocks-returns-in-Err-keep-clause-spent g t c =
+    let config = c.args.config.now in
+    let p = c.args.part in
+    let n : ℕ = length c.args.out.now / 512 in
+    let v = c.verity_at-verity.result.now in
+    let tree = c.tree_at-tree.result in
+    let found = c.args.found.now.items in
+    let loaded = c.requires.stack.sound.loaded in
+    let line = c.verity_at-verity.ensures in
+    let is = c.tree_at-tree.ensures.tree.on_data in
+    let at = blocks-at config v p n found tree.data loaded (omega (arith, c.requires.fits.sectors.some, c.requires.fits.sectors.whole)) line c.requires.fits.holds c.requires.can_go is in
+    let m : ℕ = n / block_sectors v in
+    let whole_out : length c.args.out.now ≡ 512 * n = omega (arith, c.requires.fits.sectors.whole) in
+    let many_are : length c.args.out.now / v.data_block ≡ m = digest-count config v p n tree.data found loaded line is at c.args.out.now whole_out in
+    let inv = c.checks.invariant in
+    let j : ℕ = c.checks.at in
+    let r : ℕ = c.checks.read in
+    let read : r ≤ m = omega (arith, inv.most, many_are) in
+    let len : length c.checks.out ≡ 512 * n = omega (arith, inv.size, whole_out) in
+    let many : ℕ = c.row_len-many.result in
+    let most : j + many ≤ m = omega (arith, c.row_len-many.ensures.most, many_are) in
+    let end_row = blocks-end config v p n tree.data found loaded line is at c.checks.out (j + many) len most in
+    let row_end : j * v.data_block + many * v.data_block ≤ length c.checks.out = omega (arith, end_row, add-mul j many v.data_block) in
+    let wide = block-begin config v p n tree.data found loaded line is at many in
+    let part_len = length-take-le (j * v.data_block + many * v.data_block - j * v.data_block) (drop (j * v.data_block) c.checks.out) (omega (arith, row_end, length-drop (j * v.data_block) c.checks.out)) in
+    let row_sectors : length (take (j * v.data_block + many * v.data_block - j * v.data_block) (drop (j * v.data_block) c.checks.out)) / 512 ≡ many * block_sectors v = omega (arith, part_len, wide) in
+    let walk = map g.D.BlockDev.state c.walk_path.new.reader.devices.items in
+    let new = map g.D.BlockDev.state c.read_beneath.new.reader.devices.items in
+    let got = subst (λ (k : ℕ). AreRead walk (k * read_cost config tree.data) new) row_sectors c.in-Ok-read_beneath.ensures.reads.got.moved in
+    row-spent config v p n m line at.aligned at.size.some at.count r j many tree.data is read (omega (arith, c.checks-test.true, many_are)) most c.row_len-many.ensures.fresh inv.had.moved c.in-Ok.ensures.moved got
+
+pub read_blocks-returns-clause-spent : goal.read_blocks-returns-clause-spent
+read_blocks-returns-clause-spent g t c =
+    let config = c.args.config.now in
+    let p = c.args.part in
+    let n : ℕ = length c.args.out.now / 512 in
+    let v = c.verity_at-verity.result.now in
+    let tree = c.tree_at-tree.result in
+    let found = c.args.found.now.items in
+    let loaded = c.requires.stack.sound.loaded in
+    let line = c.verity_at-verity.ensures in
+    let is = c.tree_at-tree.ensures.tree.on_data in
+    let at = blocks-at config v p n found tree.data loaded (omega (arith, c.requires.fits.sectors.some, c.requires.fits.sectors.whole)) line c.requires.fits.holds c.requires.can_go is in
+    let m : ℕ = n / block_sectors v in
+    let whole_out : length c.args.out.now ≡ 512 * n = omega (arith, c.requires.fits.sectors.whole) in
+    let many_are : length c.args.out.now / v.data_block ≡ m = digest-count config v p n tree.data found loaded line is at c.args.out.now whole_out in
+    let inv = c.checks.invariant in
+    let j : ℕ = c.checks.at in
+    let r : ℕ = c.checks.read in
+    let read : r ≤ m = omega (arith, inv.most, many_are) in
+    had-spent config v p n m line at.aligned at.size.some at.count r j read (omega (arith, inv.within, many_are)) inv.had.moved

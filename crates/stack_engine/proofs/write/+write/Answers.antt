@@ -1,5 +1,5 @@
 use Rattle.std.proofs.Common.{◌≡◌, inl, ◌≤◌, ◌+◌, ◌/◌, ◌*◌, ◌-◌, ◌%◌, length, take, drop, map, ℕ, List, ◌++◌, Ok, Err, refl, sym, ap, ◌∙◌, subst, arith, rules}
-use Rattle.std.proofs.lemmas.List.{length-take, take_all}
+use Rattle.std.proofs.lemmas.List.{length-take, length-drop, take_all}
 use Rattle.stack_rules.specs.Names.{mapped}
 use Rattle.stack_rules.specs.declared.lower.Lower.{Lower}
 use Rattle.stack_lines.specs.declared.source.Source.{Source}
@@ -11,6 +11,9 @@ use Rattle.stack_lines.specs.Sources.{SourceHolds, AreUnits, source_said, source
 use Rattle.stack_meaning.specs.Meaning.{said_at}
 use Rattle.stack_lines.specs.Writing.{AreHeld, sectors_in, destination_of, Writes, source_destination}
 use Rattle.stack_engine.specs.Premises.{FitsIn, CanWrite}
+use Rattle.stack_engine.proofs.SpentLemmas.{IsCutBehind, cut-behind}
+use Rattle.stack_engine.proofs.UncutLemmas.{device-uncut, leaf-plain, units-plain-below, unread-then}
+use Rattle.stack_engine.specs.Uncut.{SourceCutsNone}
 use Rattle.stack_engine.proofs.StackLemmas.{stack-later}
 use Rattle.stack_meaning.proofs.lemmas.LoadedLemmas.{size-small}
 use Rattle.stack_lines.proofs.lemmas.SourceLemmas.{served-depth, served-holds}
@@ -53,6 +56,8 @@ write_device-loop-at-init g t c =
       rest = refl;
       so_far = subst (λ (l : List (List ℕ)). Writes to c.args.first l leaves leaves (Ok tt)) (sym sectors_in-none) (write_none to c.args.first leaves (put-none c.args.config.now (mapped c.args.d.0) c.args.first));
       ends = inl (inl refl);
+      uncut = λ cuts. refl;
+      cut = inl refl;
       cached = record { capacity = refl; sound = c.requires.can.stack.cached };
     }
 
@@ -118,8 +123,14 @@ write_device-loop-at-preserved g t c =
     (ends_before bytes at count fits config c.args.d.0 c.args.first c.run_at-run.ensures.some c.loop-at.invariant.ends)
     (run_served bytes at count fits config c.args.d.0 c.args.first source c.run_at-run.ensures.served) c.loop-at.invariant.so_far
     (subst (λ (b : List ℕ). Writes (source_destination config source) 0 (sectors_in b) (map state c.loop-at.reader.devices.items) (map state c.write_run.new.reader.devices.items) (Ok tt)) same c.in-Ok.ensures.writes) in
+    let ends_at : at / 512 + count ≡ (at + count * 512) / 512 = omega (arith, c.loop-at.invariant.whole) in
+    let number : count ≡ length (part ++ room) / 512 = omega (arith, len, ap (λ (l : List ℕ). length l) same) in
     record {
       whole = omega (arith, c.loop-at.invariant.whole);
+      uncut = λ cuts. unread-then (map g.D.BlockDev.state c.args.reader.now.devices.items) (map g.D.BlockDev.state c.loop-at.reader.devices.items) (map g.D.BlockDev.state c.write_run.new.reader.devices.items) (c.loop-at.invariant.uncut cuts) (c.in-Ok.ensures.uncut (subst (SourceCutsNone config source) number
+          (device-uncut config c.args.d.0 c.args.first (at / 512) count ((length c.held-len.result.now - at) / 512) (length bytes / 512) source c.requires.can.stack.sound.loaded c.run_at-run.ensures.some (omega (arith, fits)) (omega (arith, c.loop-at.invariant.whole, fits, ap (λ (l : List ℕ). length l) c.held-len.ensures)) c.loop-at.invariant.cut c.run_at-run.ensures.longest c.run_at-run.ensures.served cuts)));
+      cut = subst (λ (k : ℕ). IsCutBehind config c.args.d.0 c.args.first k (length bytes / 512)) ends_at
+          (cut-behind config c.args.d.0 c.args.first (at / 512) count ((length c.held-len.result.now - at) / 512) (length bytes / 512) (omega (arith, c.loop-at.invariant.whole, fits, ap (λ (l : List ℕ). length l) c.held-len.ensures)) c.run_at-run.ensures.some c.run_at-run.ensures.longest);
       within = fits;
       rest = cut-rest cut c.write_run.new.buffer c.write_run.auto.buffer;
       so_far = subst (λ (b : List ℕ). Writes (destination_of config (mapped c.args.d.0)) c.args.first (sectors_in b) (map state c.args.reader.now.devices.items) (map state c.write_run.new.reader.devices.items) (Ok tt)) (with_run bytes at count fits) all;
@@ -367,6 +378,7 @@ write_units-loop-at-init g t c =
     let leaves = map g.D.BlockDev.state c.args.reader.now.devices.items in
     record {
       even = omega arith;
+      uncut = λ cuts. refl;
       within = omega arith;
       rest = refl;
       so_far = subst (λ (l : List (List ℕ)). Writes to 0 l leaves leaves (Ok tt)) (sym sectors_in-none) (write_none to 0 leaves (λ images. units-none c.args.config.now c.args.part images));
@@ -397,6 +409,8 @@ write_units-loop-at-preserved g t c =
     let all = units-more config p bytes n crypt c.requires.stack.sound.loaded has c.requires.fits.holds lower unit.ensures.lower long (at / size) step.fits so_far wrote in
     record {
       even = ap (λ (k : ℕ). k % size) step.end_is ∙ step.even;
+      uncut = λ cuts. unread-then (map g.D.BlockDev.state c.args.reader.now.devices.items) (map g.D.BlockDev.state c.loop-at.reader.devices.items) (map g.D.BlockDev.state c.write_lower-in-loop-at.new.reader.devices.items) (c.loop-at.invariant.uncut cuts) (c.in-Ok.ensures.writes.unread (units-plain-below config p n crypt lower (unit.result.first + at / 512) has unit.ensures.lower cuts (at / 512) (length (sectors_in (take (c.min-end.result - at) (drop at now)))) (omega (arith, unit.ensures.first))
+          (omega (arith, long, c.min-end.ensures, c.loop-at.auto.units, c.encrypt.auto.units, length-sectors_in (take (c.min-end.result - at) (drop at now)), length-take (c.min-end.result - at) (drop at now), length-drop at now))));
       within = omega (arith, c.min-end.ensures, c.encrypt.auto.units);
       rest = drop-put_mid at (c.min-end.result - at) now c.write_lower-in-loop-at.new.buffer c.min-end.result (omega (arith, step.end_is)) (omega (arith, c.loop-at-test.true, c.loop-at.auto.units))
           (c.write_lower-in-loop-at.auto.buffer ∙ step-width step now (omega (arith, long, c.loop-at.auto.units, c.encrypt.auto.units)) ∙ (omega (arith, step.end_is)))
@@ -543,3 +557,78 @@ write_unit_part-returns-clause-writes g t c =
 
 pub write_unit_part-returns-clause-cached : goal.write_unit_part-returns-clause-cached
 write_unit_part-returns-clause-cached g t c = record { capacity = c.write_units.ensures.cached.capacity ∙ c.in-Ok.ensures.cached.capacity; sound = c.write_units.ensures.cached.sound }
+
+-- ---- units that are written whole
+
+pub write_lower-returns-in-Leaf-clause-uncut : goal.write_lower-returns-in-Leaf-clause-uncut
+write_lower-returns-in-Leaf-clause-uncut g t c = λ cuts. c.write_leaf.ensures.writes.unread (leaf-plain c.args.config.now c.in-Leaf.leaf c.args.first _)
+
+pub write_lower-returns-in-Device-clause-uncut : goal.write_lower-returns-in-Device-clause-uncut
+write_lower-returns-in-Device-clause-uncut g t c = rw c.in-Device.is c.write_device.ensures.uncut
+
+pub write_run-returns-in-Below-clause-uncut : goal.write_run-returns-in-Below-clause-uncut
+write_run-returns-in-Below-clause-uncut g t c = rw c.in-Below.is c.write_lower.ensures.uncut
+
+pub write_run-returns-in-Units-clause-uncut : goal.write_run-returns-in-Units-clause-uncut
+write_run-returns-in-Units-clause-uncut g t c =
+    let run = c.in-Units in
+    let none = none-of_units c.args.config.now run.part c.args.source c.args.plain.now c.args.buffer.now c.requires.can.fits c.requires.bytes run.is in
+    rw (run.is, none) c.write_units.ensures.uncut
+
+pub write_run-returns-in-UnitPart-clause-uncut : goal.write_run-returns-in-UnitPart-clause-uncut
+write_run-returns-in-UnitPart-clause-uncut g t c =
+    λ cuts. absurd (subst (λ (s : Source). SourceCutsNone c.args.config.now s (length (c.args.plain.now ++ c.args.buffer.now) / 512)) c.in-UnitPart.is cuts)
+
+pub write_run-returns-in-Zeros-clause-uncut : goal.write_run-returns-in-Zeros-clause-uncut
+write_run-returns-in-Zeros-clause-uncut g t c = λ cuts. refl
+
+pub write_run-returns-in-Fails-clause-uncut : goal.write_run-returns-in-Fails-clause-uncut
+write_run-returns-in-Fails-clause-uncut g t c = λ cuts. refl
+
+pub write_units-returns-then-lower_cuts-clause-uncut : goal.write_units-returns-then-lower_cuts-clause-uncut
+write_units-returns-then-lower_cuts-clause-uncut g t c =
+    let unit = c.unit_at-unit in
+    λ cuts. c.write_lower.ensures.writes.unread
+    (units-plain-below c.args.config.now c.args.part (length c.args.units.now / 512) c.crypt_at-crypt.result.now unit.result.lower unit.result.first c.crypt_at-crypt.ensures unit.ensures.lower cuts 0 (length (sectors_in c.encrypt.new.units)) (omega (arith, unit.ensures.first))
+    (omega (arith, length-sectors_in c.encrypt.new.units, c.encrypt.auto.units)))
+
+pub write_units-returns-in-Err-clause-uncut : goal.write_units-returns-in-Err-clause-uncut
+write_units-returns-in-Err-clause-uncut g t c =
+    let config = c.args.config.now in
+    let p = c.args.part in
+    let bytes = c.args.units.now in
+    let n : ℕ = length bytes / 512 in
+    let crypt = c.crypt_at-crypt.result.now in
+    let has = c.crypt_at-crypt.ensures in
+    let unit = c.unit_at-unit in
+    let lower = unit.result.lower in
+    let at = c.loop-at.at in
+    let now = c.loop-at.units in
+    let long : length bytes ≡ 512 * n = omega (arith, c.requires.fits.sectors.whole) in
+    λ cuts. unread-then (map g.D.BlockDev.state c.args.reader.now.devices.items) (map g.D.BlockDev.state c.loop-at.reader.devices.items) (map g.D.BlockDev.state c.write_lower-in-loop-at.new.reader.devices.items) (c.loop-at.invariant.uncut cuts) (c.in-Err.ensures.writes.unread (units-plain-below config p n crypt lower (unit.result.first + at / 512) has unit.ensures.lower cuts (at / 512) (length (sectors_in (take (c.min-end.result - at) (drop at now)))) (omega (arith, unit.ensures.first))
+    (omega (arith, long, c.min-end.ensures, c.loop-at.auto.units, c.encrypt.auto.units, length-sectors_in (take (c.min-end.result - at) (drop at now)), length-take (c.min-end.result - at) (drop at now), length-drop at now))))
+
+pub write_units-returns-clause-uncut : goal.write_units-returns-clause-uncut
+write_units-returns-clause-uncut g t c = c.loop-at.invariant.uncut
+
+pub write_device-returns-in-Err-clause-uncut : goal.write_device-returns-in-Err-clause-uncut
+write_device-returns-in-Err-clause-uncut g t c =
+    let config = c.args.config.now in
+    let plain = c.args.plain.now in
+    let buffer = c.args.buffer.now in
+    let bytes = plain ++ buffer in
+    let at = c.loop-at.at in
+    let source = c.run_at-run.result.source in
+    let count = c.run_at-run.result.count in
+    let part = c.between-part.result.now in
+    let room = take (c.min-to.result - c.min-from.result) (drop c.min-from.result c.loop-at.buffer) in
+    let fits : at + count * 512 ≤ length bytes = omega (arith, c.run_at-run.ensures.most, c.loop-at-test.true, ap (λ (l : List ℕ). length l) c.held-len.ensures) in
+    let len = run_length bytes at count fits in
+    let cut : IsCut plain buffer c.loop-at.buffer part at (at + count * 512) c.min-from.result c.min-to.result =
+    record { part_is = c.between-part.ensures; from_is = c.min-from.ensures; to_is = c.min-to.ensures; same_len = c.loop-at.auto.buffer; same_rest = c.loop-at.invariant.rest; order = omega arith } in
+    let same : part ++ room ≡ take (at + count * 512 - at) (drop at bytes) = cut-bytes cut (one-none (said_at config (mapped c.args.d.0)) c.args.first plain buffer c.requires.bytes) in
+    let number : count ≡ length (part ++ room) / 512 = omega (arith, len, ap (λ (l : List ℕ). length l) same) in
+    λ cuts. unread-then (map g.D.BlockDev.state c.args.reader.now.devices.items) (map g.D.BlockDev.state c.loop-at.reader.devices.items) (map g.D.BlockDev.state c.write_run.new.reader.devices.items) (c.loop-at.invariant.uncut cuts) (c.in-Err.ensures.uncut (subst (SourceCutsNone config source) number (device-uncut config c.args.d.0 c.args.first (at / 512) count ((length c.held-len.result.now - at) / 512) (length bytes / 512) source c.requires.can.stack.sound.loaded c.run_at-run.ensures.some (omega (arith, fits)) (omega (arith, c.loop-at.invariant.whole, fits, ap (λ (l : List ℕ). length l) c.held-len.ensures)) c.loop-at.invariant.cut c.run_at-run.ensures.longest c.run_at-run.ensures.served cuts)))
+
+pub write_device-returns-clause-uncut : goal.write_device-returns-clause-uncut
+write_device-returns-clause-uncut g t c = c.loop-at.invariant.uncut

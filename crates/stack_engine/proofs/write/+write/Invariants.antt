@@ -6,6 +6,9 @@ use Rattle.stack_lines.specs.declared.source.Source.TheVariants.{Units}
 use Rattle.stack_lines.proofs.lemmas.WriteSourceLemmas.{EndsBefore}
 use Rattle.stack_lines.specs.Sources.{source_depth}
 use Rattle.stack_lines.specs.Caches.{KeepsCache}
+use Rattle.stack_engine.specs.Uncut.{CutsNone, SourceCutsNone}
+use Rattle.stack_meaning.specs.Changes.{NoneRead}
+use Rattle.stack_engine.proofs.SpentLemmas.{IsCutBehind}
 use Rattle.stack_engine.proofs.write.+write.Given as goal
 
 -- 8 times the depth and a rank, of which 0 to 4 are left for the steps of a target
@@ -26,6 +29,8 @@ invariant-write_device-loop-at g l = record {
   within : l.at ≤ length (l.plain ++ l.fn.buffer);
   rest : drop l.at l.buffer ≡ drop l.at l.fn.buffer;
   so_far : Writes (destination_of l.config (mapped l.d.0)) l.first (sectors_in (take l.at (l.plain ++ l.fn.buffer))) (map g.D.BlockDev.state l.fn.reader.devices.items) (map g.D.BlockDev.state l.reader.devices.items) (Ok tt);
+  uncut : CutsNone l.config (mapped l.d.0) l.first (length (l.plain ++ l.fn.buffer) / 512) → NoneRead (map g.D.BlockDev.state l.fn.reader.devices.items) (map g.D.BlockDev.state l.reader.devices.items);
+  cut : IsCutBehind l.config l.d.0 l.first (l.at / 512) (length (l.plain ++ l.fn.buffer) / 512);
   ends : EndsBefore l.config l.d.0 (l.first + l.at / 512) (take l.at (l.plain ++ l.fn.buffer)) ⊎ (l.at ≡ length (l.plain ++ l.fn.buffer));
   cached : KeepsCache l.config (map g.D.BlockDev.state l.reader.devices.items) l.fn.reader.cache l.reader.cache;
 }
@@ -45,6 +50,7 @@ invariant-write_units-loop-at g l = record {
   even : l.at % l.size ≡ 0;
   within : l.at ≤ length l.fn.units;
   rest : drop l.at l.units ≡ drop l.at l.initial.units;
+  uncut : SourceCutsNone l.config (Units l.fn.part) (length l.fn.units / 512) → NoneRead (map g.D.BlockDev.state l.fn.reader.devices.items) (map g.D.BlockDev.state l.reader.devices.items);
   so_far : Writes (source_destination l.config (Units l.fn.part)) 0 (sectors_in (take l.at l.fn.units)) (map g.D.BlockDev.state l.fn.reader.devices.items) (map g.D.BlockDev.state l.reader.devices.items) (Ok tt);
   cached : KeepsCache l.config (map g.D.BlockDev.state l.reader.devices.items) l.fn.reader.cache l.reader.cache;
 }

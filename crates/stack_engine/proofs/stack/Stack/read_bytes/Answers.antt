@@ -3,6 +3,7 @@ use Rattle.stack_meaning.specs.declared.fault.IoFault.{IoFault}
 use Rattle.stack_meaning.specs.Leaves.{AreSteady}
 use Rattle.stack_rules.specs.Names.{mapped}
 use Rattle.stack_lines.specs.Touches.{leaves_of}
+use Rattle.stack_lines.specs.Budgets.{ReadsAtMost, budget}
 use Rattle.stack_meaning.specs.Meaning.{said_at}
 use Rattle.stack_meaning.specs.Reading.{MeetVerity, buffer_answer}
 use Rattle.stack_meaning.specs.Stops.{ReadStops}
@@ -38,3 +39,8 @@ returns-clause-stops g c =
     let new = map g.D.BlockDev.state c.device_bytes.new.reader.devices.items in
     subst (λ (w : StackRecord). (MeetVerity (said_at w.config (mapped c.args.d.0)) c.args.first n → ⊥) → ReadStops (said_at w.config (mapped c.args.d.0)) c.args.first n w.leaves new c.device_bytes.result) c.self.view_is
     c.device_bytes.ensures.plain.stops
+
+pub returns-clause-spent : goal.returns-clause-spent
+returns-clause-spent g c =
+    subst (λ (w : StackRecord). ReadsAtMost (budget w.config (mapped c.args.d.0) c.args.first (length c.args.out.now / 512)) w.leaves (map g.D.BlockDev.state c.device_bytes.new.reader.devices.items)) c.self.view_is
+    c.device_bytes.ensures.spent

@@ -8,6 +8,7 @@ use Rattle.stack_meaning.specs.Meaning.{Said, said_at}
 use Rattle.stack_meaning.specs.Reading.{Gets, Reads, MeetVerity, IsPlain, buffer_answer}
 use Rattle.stack_meaning.specs.Stops.{ReadStops}
 use Rattle.stack_lines.specs.Touches.{NamesOneOf, leaves_of}
+use Rattle.stack_lines.specs.Budgets.{ReadsAtMost, budget}
 use Rattle.stack_lines.proofs.lemmas.TouchLemmas.{touches-as}
 use Rattle.stack_engine.specs.Stacks.{StackRecord, AnswerRecord}
 use Rattle.stack_engine.specs.Pieces.{EachPiece, stack_over}
@@ -90,3 +91,12 @@ returns-clause-stops g c =
 
 pub returns-in-Err-clause-stops : goal.returns-in-Err-clause-stops
 returns-in-Err-clause-stops g c = λ none counted. record { before = 0; failed = c.args.n; some = omega (arith, c.requires.some); inside = omega arith; by = tt; leaf = λ i d out. refl }
+
+pub returns-clause-spent : goal.returns-clause-spent
+returns-clause-spent g c =
+    let new = map g.D.BlockDev.state c.read_device.new.reader.devices.items in
+    let spent = subst (λ (n : ℕ). ReadsAtMost (budget c.self.inside.config (mapped c.args.d.0) c.args.first n) (map g.D.BlockDev.state c.self.inside.reader.devices.items) new) (count g c) c.read_device.ensures.spent in
+    subst (λ (w : StackRecord). ReadsAtMost (budget w.config (mapped c.args.d.0) c.args.first c.args.n) w.leaves new) c.self.view_is spent
+
+pub returns-in-Err-clause-spent : goal.returns-in-Err-clause-spent
+returns-in-Err-clause-spent g c = omega arith

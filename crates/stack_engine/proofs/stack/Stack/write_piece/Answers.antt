@@ -1,8 +1,10 @@
-use Rattle.std.proofs.Common.{◌≡◌, ℕ, ◌-◌, List, ◌++◌, length, take, drop, map, refl, ap, ◌∙◌, subst, arith}
+use Rattle.std.proofs.Common.{◌≡◌, ℕ, ◌-◌, ◌/◌, List, ◌++◌, length, take, drop, map, refl, ap, ◌∙◌, subst, arith}
 use Rattle.std.proofs.lemmas.List.{take_all, length-drop}
 use Rattle.stack_rules.specs.Names.{mapped}
 use Rattle.stack_engine.specs.Stacks.{StackRecord}
 use Rattle.stack_engine.specs.Pieces.{stack_over}
+use Rattle.stack_meaning.specs.Changes.{NoneRead}
+use Rattle.stack_engine.specs.Uncut.{CutsNone}
 use Rattle.stack_lines.specs.Writing.{sectors_in, destination_of, Writes}
 use Rattle.stack_engine.specs.WritePieces.{EachWrite}
 use Rattle.stack_engine.proofs.lemmas.WritePieceLemmas.{each-write, none-written, write-sound}
@@ -52,3 +54,15 @@ returns-in-Err-clause-any g c = (none-written c.args.self.now c.args.d.0 c.args.
 
 pub returns-in-Err-clause-steady : goal.returns-in-Err-clause-steady
 returns-in-Err-clause-steady g c = (none-written c.args.self.now c.args.d.0 c.args.first c.args.bytes.now (omega (arith, c.requires.piece.sectors.some, c.requires.piece.sectors.whole))).steady
+
+-- where no unit is cut
+
+pub returns-clause-uncut : goal.returns-clause-uncut
+returns-clause-uncut g c =
+    let state = g.D.BlockDev.state in
+    let new = map state c.write_device.new.reader.devices.items in
+    let own = subst (λ (b : List ℕ). CutsNone c.self.inside.config (mapped c.args.d.0) c.args.first (length b / 512) → NoneRead (map state c.self.inside.reader.devices.items) new) (bytes_of g c) c.write_device.ensures.uncut in
+    subst (λ (w : StackRecord). CutsNone w.config (mapped c.args.d.0) c.args.first (length c.args.bytes.now / 512) → NoneRead w.leaves new) c.self.view_is own
+
+pub returns-in-Err-clause-uncut : goal.returns-in-Err-clause-uncut
+returns-in-Err-clause-uncut g c = λ cuts. refl

@@ -1,0 +1,33 @@
+-- The chunks of a structured reply (in the protocol's document "Structured reply chunk message" and "Structured reply
+-- types").
+use Rattle.std.specs.Prelude.{ℕ, ◌+◌, Bool, true, List, ◌++◌, length, if◌then◌else◌}
+use Rattle.nbd_protocol.specs.Headers.{error_number}
+use Rattle.nbd_protocol.specs.Numbers.{bytes16, bytes32, bytes64}
+use Rattle.nbd_protocol.specs.declared.request_error.RequestError.{RequestError}
+
+abbrev pub chunk_magic : ℕ
+chunk_magic = 0x668e33ef
+
+-- the flag of the last chunk of a reply
+abbrev pub flag_of_last : Bool → ℕ
+flag_of_last done = if done then 1 else 0
+
+-- a chunk of that type under that cookie, before its payload, of which there are so many bytes
+abbrev pub chunk_head : Bool → ℕ → ℕ → ℕ → List ℕ
+chunk_head done kind cookie count = bytes32 chunk_magic ++ (bytes16 (flag_of_last done) ++ (bytes16 kind ++ (bytes64 cookie ++ bytes32 count)))
+
+-- NONE, the last of a reply
+abbrev pub none_chunk : ℕ → List ℕ
+none_chunk cookie = chunk_head true 0 cookie 0
+
+-- OFFSET_DATA: bytes of the export from a place on
+abbrev pub data_chunk : Bool → ℕ → ℕ → List ℕ → List ℕ
+data_chunk done cookie offset content = chunk_head done 1 cookie (8 + length content) ++ (bytes64 offset ++ content)
+
+-- BLOCK_STATUS of the only context, the last of a reply: what is told of extents
+abbrev pub status_chunk : ℕ → List ℕ → List ℕ
+status_chunk cookie told = chunk_head true 5 cookie (4 + length told) ++ (bytes32 1 ++ told)
+
+-- ERROR, the last of a reply, with no text
+abbrev pub error_chunk : ℕ → RequestError → List ℕ
+error_chunk cookie error = chunk_head true 0x8001 cookie 6 ++ (bytes32 (error_number error) ++ bytes16 0)

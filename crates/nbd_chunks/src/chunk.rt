@@ -1,0 +1,99 @@
+//! The chunks of a structured reply.
+ghost use Rattle.std.specs.Prelude.{◌≡◌, ◌<◌, ◌+◌, ◌^◌, length};
+ghost use Rattle.counted_io.specs.Counted.{Writes};
+ghost use Rattle.nbd_chunks.specs.Chunks.{chunk_head, data_chunk, error_chunk, flag_of_last, none_chunk, status_chunk};
+
+use counted_io::{Counted, WriteFault};
+use nbd_protocol::{RequestError, put16, put32, put64};
+use std::io::Write;
+
+const MAGIC: u32 = 0x668e_33ef;
+
+// The number of the only context.
+const CONTEXT: u32 = 1;
+
+// The flag of the last chunk.
+const DONE: u16 = 1;
+
+// The types of chunks.
+const NONE: u16 = 0;
+
+const OFFSET_DATA: u16 = 1;
+
+const BLOCK_STATUS: u16 = 5;
+
+const ERROR: u16 = 0x8001;
+
+// The flag of the last chunk.
+fn flag_of_last(done: bool) -> u16
+    ensures { result ≡ flag_of_last done }
+{
+    if done { DONE } else { 0 }
+}
+
+// A chunk of that type, before its payload.
+fn say_head<W: Write>(
+    writer: &mut Counted<W>,
+    done: bool,
+    kind: u16,
+    cookie: u64,
+    count: u32,
+) -> Result<(), WriteFault>
+    ensures { Writes W.contents writer.old writer.new (chunk_head done kind cookie count) result }
+{
+    put32(writer, MAGIC)?;
+    put16(writer, flag_of_last(done))?;
+    put16(writer, kind)?;
+    put64(writer, cookie)?;
+    put32(writer, count)
+}
+
+/// The last chunk of a reply, which says nothing else.
+pub fn say_none<W: Write>(writer: &mut Counted<W>, cookie: u64) -> Result<(), WriteFault>
+    ensures { Writes W.contents writer.old writer.new (none_chunk cookie) result }
+{
+    say_head(writer, true, NONE, cookie, 0)
+}
+
+/// Bytes of the export from a place on, in the last chunk of a reply if it is `done`.
+pub fn say_data<W: Write>(
+    writer: &mut Counted<W>,
+    done: bool,
+    cookie: u64,
+    offset: u64,
+    bytes: &[u8],
+) -> Result<(), WriteFault>
+    requires { 8 + length bytes.now < 2 ^ 32 }
+    ensures { Writes W.contents writer.old writer.new (data_chunk done cookie offset bytes.now) result }
+{
+    say_head(writer, done, OFFSET_DATA, cookie, 8 + bytes.len() as u32)?;
+    put64(writer, offset)?;
+    writer.put(bytes)
+}
+
+/// What is told of extents by the only context, in the last chunk of a reply.
+pub fn say_status<W: Write>(
+    writer: &mut Counted<W>,
+    cookie: u64,
+    told: &[u8],
+) -> Result<(), WriteFault>
+    requires { 4 + length told.now < 2 ^ 32 }
+    ensures { Writes W.contents writer.old writer.new (status_chunk cookie told.now) result }
+{
+    say_head(writer, true, BLOCK_STATUS, cookie, 4 + told.len() as u32)?;
+    put32(writer, CONTEXT)?;
+    writer.put(told)
+}
+
+/// The last chunk of a reply, which says why the request fails.
+pub fn say_error<W: Write>(
+    writer: &mut Counted<W>,
+    cookie: u64,
+    error: RequestError,
+) -> Result<(), WriteFault>
+    ensures { Writes W.contents writer.old writer.new (error_chunk cookie error) result }
+{
+    say_head(writer, true, ERROR, cookie, 6)?;
+    put32(writer, error.number())?;
+    put16(writer, 0)
+}

@@ -1,0 +1,71 @@
+-- What is told of extents, one after another.
+use Rattle.std.proofs.Common.{◌≡◌, ◌<◌, ◌≤◌, ℕ, ◌+◌, ◌-◌, ◌*◌, ◌/◌, ◌%◌, List, [], ◌++◌, length, min, refl, sym, subst, arith}
+use Rattle.std.specs.Prelude.{Bool, IsTrue, false, true}
+use Rattle.std.proofs.lemmas.List.{length-append}
+use Rattle.stack_rules.specs.Names.{mapped}
+use Rattle.stack_rules.specs.Records.{Configuration}
+use Rattle.stack_meaning.specs.Meaning.{said_at}
+use Rattle.stack_extents.specs.declared.extent.Extent.{Extent}
+use Rattle.stack_extents.specs.Extents.{IsExtent}
+use Rattle.nbd_protocol.specs.Exports.{ExportRecord}
+use Rattle.nbd_protocol.specs.Numbers.{bytes32}
+use Rattle.nbd_server.specs.declared.status.BlockStatus.{BlockStatus}
+use Rattle.nbd_server.specs.Premises.{AreBytesOf}
+use Rattle.nbd_server.specs.Status.{HasStatus, IsStatus, Tells, tells_none, tells_more, descriptor, status_flags, touched}
+
+-- the part of an extent that was asked for
+pub status-is : (c : Configuration) (e : ExportRecord) (at left count : ℕ) (extent : Extent) → 0 < left → IsExtent (said_at c (mapped e.device)) (at / 512) (touched at left) extent
+    → count ≡ min (512 * extent.count - at % 512) left → IsStatus c e at left (record { count = count; zeros = extent.zeros })
+status-is c e at left count extent some p is = record {
+  some = omega (arith, p.some, is, some);
+  few = omega (arith, is);
+  zeros = λ sure j below. p.zeros sure j (omega (arith, below, is, p.some));
+}
+
+bytes-four : (n : ℕ) → length (bytes32 n) ≡ 4
+unfolding bytes32
+bytes-four n = refl
+
+pub descriptor-length : (s : BlockStatus) → length (descriptor s) ≡ 8
+descriptor-length s = omega (arith, length-append (bytes32 s.count) (bytes32 (status_flags s.zeros)), bytes-four s.count, bytes-four (status_flags s.zeros))
+
+-- n extents were told
+pub record Underway (c : Configuration) (e : ExportRecord) (offset count n done : ℕ) (told : List ℕ) : Type 0 where
+  pub tells : Tells c e offset count done told
+  pub some : 0 < done
+  pub few : done ≤ count
+  pub size : length told ≡ 8 * n
+
+pub told-first : (c : Configuration) (e : ExportRecord) (offset count : ℕ) (s : BlockStatus) → IsStatus c e offset count s → Underway c e offset count 1 s.count (descriptor s)
+told-first c e offset count s p =
+    let at : offset + 0 ≡ offset = omega arith in
+    let all : count - 0 ≡ count = omega arith in
+    let sum : 0 + s.count ≡ s.count = omega arith in
+    record {
+      tells = subst (λ (n : ℕ). Tells c e offset count n (descriptor s)) sum (tells_more {told = []} s tells_none (omega arith) (subst (λ (n : ℕ). IsStatus c e n (count - 0) s) (sym at) (subst (λ (n : ℕ). IsStatus c e offset n s) (sym all) p)));
+      some = p.some;
+      few = p.few;
+      size = descriptor-length s;
+    }
+
+pub told-next : (c : Configuration) (e : ExportRecord) (offset count n done : ℕ) (told : List ℕ) (s : BlockStatus) → Underway c e offset count n done told → IsStatus c e (offset + done) (count - done) s
+    → Underway c e offset count (n + 1) (done + s.count) (told ++ descriptor s)
+told-next c e offset count n done told s p q = record {
+  tells = tells_more s p.tells p.few q;
+  some = omega (arith, p.some);
+  few = omega (arith, p.few, q.few);
+  size = omega (arith, length-append told (descriptor s), descriptor-length s, p.size);
+}
+
+not-true : IsTrue false → ⊥
+not-true sure = let clash : false ≡ true = sure in cc
+
+pub told-all : (c : Configuration) (e : ExportRecord) (offset count n done : ℕ) (told : List ℕ) → n ≤ 1024 → Underway c e offset count n done told → HasStatus c e offset count false told
+told-all c e offset count n done told few p = record { done = done; tells = p.tells; some = p.some; few = p.few; small = omega (arith, p.size, few); single = λ one. absurd (not-true one) }
+
+pub told-one : (c : Configuration) (e : ExportRecord) (offset count done : ℕ) (told : List ℕ) (one : Bool) → Underway c e offset count 1 done told → HasStatus c e offset count one told
+told-one c e offset count done told one p = record { done = done; tells = p.tells; some = p.some; few = p.few; small = omega (arith, p.size); single = λ is. omega (arith, p.size) }
+
+-- the bytes behind those that were told
+pub rest-of : (c : Configuration) (e : ExportRecord) (offset count done : ℕ) → AreBytesOf c e offset count → done ≤ count → AreBytesOf c e (offset + done) (count - done)
+rest-of c e offset count done p few = record { export = p.export; within = omega (arith, p.within, few) }
