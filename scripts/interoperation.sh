@@ -4,7 +4,8 @@
 # interoperation.sh [STEP]: every pair of block sizes, every STEP-th number of data blocks from 1 to 300 (7 if none is
 # given), and salts of 0, 1, 32 and 256 bytes in turn. Each image is formatted by both: roots and hash images must be equal,
 # each must verify the other's, `dump` must tell the same fields, and `table` the line that a kernel takes. The same is
-# compared of trees without a superblock.
+# compared of trees without a superblock, and, where data and hash blocks have one size, the parity with 2 to 24 bytes in a
+# codeword over a hash image that goes on behind its tree.
 set -eu
 step=${1:-7}
 PATH=$PATH:/usr/sbin
@@ -73,11 +74,32 @@ compare_bare() {
     cases=$((cases + 1))
 }
 
+# The parity of an image: compare_parity BLOCK BLOCK BLOCKS SALT ROOTS
+compare_parity() {
+    local root
+    cp junk theirs
+    cp junk ours
+    rm -f their_parity our_parity
+    : > their_parity
+    root=$(veritysetup format --data-block-size="$1" --hash-block-size="$2" --data-blocks="$3" --salt="$4" --uuid=$uuid \
+        --fec-device=their_parity --fec-roots="$5" data theirs | sed -n 's/^Root hash: *\t*//p')
+    [ "$("$program" format --grow --fec our_parity --fec-roots "$5" --data-block "$1" --hash-block "$2" --blocks "$3" --salt="$4" \
+        --uuid $uuid data ours | head -n 1)" = "root $root" ] || fail "$1" "$2" "$3" "$4" 'another root of an image with parity'
+    # veritysetup leaves what stands behind the superblock in its block
+    cmp -s -i "$1" theirs ours || fail "$1" "$2" "$3" "$4" 'another tree with parity'
+    cmp -s their_parity our_parity || fail "$1" "$2" "$3" "$4" "another parity, of $5 bytes in a codeword"
+    [ "$("$program" verify --fec their_parity --fec-roots "$5" data theirs "$root" | tail -n 1)" = 'parity ok' ] ||
+        fail "$1" "$2" "$3" "$4" "their parity of $5 bytes in a codeword is not verified"
+    cases=$((cases + 1))
+}
+
 for data_block in 512 1024 2048 4096; do
     for hash_block in 512 1024 2048 4096; do
         for blocks in $(seq 1 "$step" 300); do
             compare $data_block $hash_block "$blocks" "${salts[blocks / step % 4]}"
             compare_bare $data_block $hash_block "$blocks" "${salts[blocks / step % 4]}" $((blocks % 5))
+            [ $data_block != $hash_block ] ||
+                compare_parity $data_block $hash_block "$blocks" "${salts[blocks / step % 4]}" $((2 + blocks % 23))
         done
     done
 done

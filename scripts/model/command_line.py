@@ -4,8 +4,8 @@ from configuration import Configuration, Leaf, Refused, check_leaves
 from files import WHOLE, Files, Stop
 from images import Drawn, run_diff, run_dump, run_format, run_partitions, run_table, run_verify
 from nbd import Service
-from recovery import check_size, looked_up, recovered, with_map
-from replies import Octets
+from recovery import check_size, facts_of as lost_facts, lines_of, looked_up, recovered, with_map
+from replies import Json, Octets
 from session import MOST_SECTORS, SUBMISSION_RULES, Session, Usage, check_request, costs
 from stack import SECTOR, Fault, FileImage, MemoryImage, Stack
 from tables import TextFault, read_stack
@@ -73,16 +73,24 @@ def loaded(text, bound_words, files, features):
     return stack
 
 
-def run_load(_options, words, files, _given, features):
+def run_load(options, words, files, _given, features):
     (path,), rest = at_least(words, 1)
     rest = bindings(rest)
     stack = loaded(stack_text(path, files), rest, files, features)
     configuration = stack.configuration
+    if b"json" in options:
+        return [Json({"devices": [facts_of(configuration, it) for it in configuration.devices.values()]})], DONE
     lines = []
     for device in configuration.devices.values():
         flag = "rw" if device.writable else "ro"
         lines.append(device.name + (" %s %s" % (costs(configuration, device), flag)).encode())
     return lines, DONE
+
+
+def facts_of(configuration, device):
+    return {"name": device.name.decode(), "sectors": device.sectors, "depth": configuration.depth(device),
+            "read": configuration.read_cost(device), "write": configuration.write_cost(device),
+            "writable": device.writable}
 
 
 def run_read(options, words, files, _given, features):
@@ -120,11 +128,16 @@ def gone_over(options, name, stack, out, files):
     device = looked_up(stack.configuration, name)
     if out is not None:
         check_size(device, out)
+    unwritten = None
     if b"map" in options:
-        lines, had = with_map(stack, device, out, options[b"map"], files)
+        runs, had, unwritten = with_map(stack, device, out, options[b"map"], files)
     else:
-        lines, had = recovered(stack, device, out)
-    return lines, REFUSED if had is None else DONE if all(had) else FAULT
+        runs, had = recovered(stack, device, out)
+    if unwritten:
+        # an object comes at the end, and what ends it alone
+        return ([] if b"json" in options else lines_of(runs, had)[:-1]) + [unwritten], REFUSED
+    lines = [Json(lost_facts(runs, had))] if b"json" in options else lines_of(runs, had)
+    return lines, DONE if all(had) else FAULT
 
 
 def run_scan(options, words, files, _given, features):

@@ -4,7 +4,7 @@ from uuid import UUID
 
 from differences import Stored, compared, longest_runs, run_lines, unlike
 from files import WHOLE, Stop
-from partitions import lines_of, root_lines, stack_lines, table_of
+from partitions import lines_of, root_lines, stack_lines, table_facts, table_of
 from replies import Json
 from stack import SECTOR
 from tables import digits_of
@@ -141,8 +141,9 @@ def run_diff(options, words, files, _given, _features):
         raise Stop(refusal.encode())
     lines, kinds, fault = compared(first, second, most)
     differ = fault is not None or any(kind is not None for kind in kinds)
-    if b"json" in options and fault is None:
-        return [Json(difference_facts(kinds, most))], FAULT if differ else DONE
+    if b"json" in options:
+        # the object comes at the end, and a fault alone
+        return [fault.encode()] if fault else [Json(difference_facts(kinds, most))], FAULT if differ else DONE
     return [line.encode() for line in lines], FAULT if differ else DONE
 
 
@@ -161,6 +162,8 @@ def run_partitions(options, words, files, _given, _features):
         lines = root_lines(image, partitions, size, root)
     elif b"stack" in options:
         lines = stack_lines(partitions, size)
+    elif b"json" in options:
+        lines = [Json(table_facts(partitions, copies))]
     else:
         lines = lines_of(partitions, copies)
     return lines, DONE

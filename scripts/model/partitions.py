@@ -119,6 +119,17 @@ def lines_of(partitions, copies):
     return [line.encode() for line in lines]
 
 
+def table_facts(partitions, copies):
+    """The same as JSON."""
+    good, _, fault = copies.partition(", ")
+    _, _, fault = fault.partition(" ")
+    name, _, number = fault.partition(" ")
+    wrong = {"name": name, "partition": int(number) if number else None} if name else None
+    rows = [{"number": it.number, "first": it.first, "sectors": it.count, "type": str(it.kind),
+             "type_name": KINDS.get(str(it.kind), "-"), "uuid": str(it.uuid), "label": it.label} for it in partitions]
+    return {"copies": good, "fault": wrong, "partitions": rows}
+
+
 def name_of(partitions, one):
     label = one.label.encode()
     others = [it for it in partitions if it is not one]

@@ -44,7 +44,8 @@ class Maker(Services, Images, Disks):
         for _ in range(self.pick([1, 2, 3])):
             draw = self.random.random()
             if draw < 0.3:
-                runs.append(Run([b"load", stack] + words))
+                form = [b"--json"] if self.has("forms", "json") and self.chance(0.3) else []
+                runs.append(Run([b"load"] + form + [stack] + words))
             elif draw < 0.65 or not self.has("commands", "write"):
                 _, rest = self.request(session)
                 rest = (rest.split(b" ") + [b"0"] * 3)[:3]

@@ -108,6 +108,8 @@ class Disks(Trees):
         elif form == 2:
             word = root or self.random.randbytes(32)
             words += [b"--root", word.hex().encode()]
+        elif self.has("forms", "json") and self.chance(0.5):
+            words.append(b"--json")
         if self.chance(0.03):
             words.append(b"--stack")
         return Run([b"partitions"] + words + [self.pick([b"disk"] * 15 + [b"missing", b"."])])

@@ -32,7 +32,7 @@ def answers(stack, device, marks):
 
 
 def recovered(stack, device, out, marks=(), turn=0):
-    """The lines for the longest runs of one fault, the sums, and of each sector whether it is had, now or before.
+    """The longest runs of one fault, and of each sector whether it is had, now or before.
 
     What can be had is put into `out`, where there is one; what is lost stays as it was there. With a map no run goes on
     where a turn of so many sectors ends."""
@@ -48,14 +48,29 @@ def recovered(stack, device, out, marks=(), turn=0):
             runs[-1][1] += 1
         else:
             runs.append([at, 1, fault])
+    return runs, had
+
+
+def lines_of(runs, had):
+    """A line for each run, and the sums."""
     lines = [b"lost %d %d %s" % (first, count, fault.removeprefix("fault ").encode())
              for first, count, fault in runs]
-    return lines + [b"read %d lost %d" % (sum(had), device.sectors - sum(had))], had
+    return lines + [b"read %d lost %d" % (sum(had), len(had) - sum(had))]
+
+
+def facts_of(runs, had):
+    """The same as JSON."""
+    return {"lost": len(had) - sum(had), "read": sum(had), "runs": [run_facts(*run) for run in runs]}
+
+
+def run_facts(first, count, fault):
+    _, _, name, *leaf = fault.split(" ")
+    return {"first": first, "count": count, "fault": name, **({"leaf": int(leaf[0])} if leaf else {})}
 
 
 def with_map(stack, device, out, path, files):
     """The same where a map says what was had before: that isn't read again, and the map is as it is then. Where all were
-    had its file stays as it is."""
+    had its file stays as it is. Where the map isn't written, its refusal is told too."""
     try:
         marks = marks_of(bytes(files.content(path)), device.sectors)
     except MapFault as fault:
@@ -65,13 +80,13 @@ def with_map(stack, device, out, path, files):
             raise
         marks = ()
     turn = max(LEAST_TURN, device.sectors // MOST_TURNS)
-    lines, had = recovered(stack, device, out, marks, turn)
+    runs, had = recovered(stack, device, out, marks, turn)
     if not marks or not all(marks):
         name = path.removeprefix(b"./")
         if b"/" in name or len(name + BESIDE) > LONGEST_NAME:
-            return lines[:-1] + [b"refused 31 MapWrite"], None
+            return runs, had, b"refused 31 MapWrite"
         files.nodes[name] = bytearray(text_of(had))
-    return lines, had
+    return runs, had, None
 
 
 def check_size(device, out):

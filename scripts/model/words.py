@@ -12,20 +12,21 @@ END_OF_PARTS = 2**55
 TREE = (b"data-block", b"hash-block", b"blocks", b"salt")
 # The options of each command, and those of them without a value.
 OPTIONS = {
-    "format": (*TREE, b"uuid", b"hash-offset", b"no-superblock", b"grow"),
-    "verify": (*TREE, b"hash-offset", b"root-hash-file", b"no-superblock", b"all"),
-    "dump": (b"hash-offset",),
+    "format": (*TREE, b"uuid", b"hash-offset", b"no-superblock", b"grow", b"progress", b"fec", b"fec-roots"),
+    "verify": (*TREE, b"hash-offset", b"root-hash-file", b"no-superblock", b"all", b"json", b"progress",
+               b"fec", b"fec-roots"),
+    "dump": (b"hash-offset", b"json"),
     "table": (*TREE, b"hash-offset", b"root-hash-file", b"name", b"no-superblock"),
-    "load": (), "read": (b"cache",), "write": (b"cache",), "session": (b"cache",), "nbd": (b"cache", b"all"),
-    "scan": (b"cache", b"map", b"progress"), "copy": (b"cache", b"map", b"differing", b"progress"),
+    "load": (b"json",), "read": (b"cache",), "write": (b"cache",), "session": (b"cache",), "nbd": (b"cache", b"all"),
+    "scan": (b"cache", b"map", b"progress", b"json"), "copy": (b"cache", b"map", b"differing", b"progress"),
     "cat": (b"cache", b"first", b"count", b"progress"), "store": (b"cache", b"first", b"progress"),
-    "partitions": (b"sector-size", b"stack", b"root"), "diff": (b"blocks",),
+    "partitions": (b"sector-size", b"stack", b"root", b"json"), "diff": (b"blocks", b"json"),
     "manual": (), "version": (),
 }
-FLAGS = (b"all", b"stack", b"no-superblock", b"grow", b"differing", b"progress")
+FLAGS = (b"all", b"stack", b"no-superblock", b"grow", b"json", b"differing", b"progress")
 # veritysetup's names of options that have another here; `diff` counts runs by its --blocks, and has none.
 OTHER_NAMES = {b"data-block-size": b"data-block", b"hash-block-size": b"hash-block",
-               b"data-blocks": b"blocks"}
+               b"data-blocks": b"blocks", b"fec-device": b"fec"}
 UUID = re.compile(rb"[0-9a-f]{8}(-[0-9a-f]{4}){3}-[0-9a-f]{12}", re.IGNORECASE)
 
 
@@ -176,22 +177,38 @@ def check_tree_values(options, wanted):
         raise Usage
 
 
+def read_fec(options):
+    """The path of the parity's file and how many bytes of it a codeword has, or None."""
+    if b"fec" not in options:
+        if b"fec-roots" in options:
+            raise Usage
+        return None
+    if b"no-superblock" in options or b"all" in options:
+        raise Usage
+    roots = the_number(options.get(b"fec-roots", b"2"), 25)
+    if roots < 2:
+        raise Usage
+    return options[b"fec"], roots
+
+
 def read_format(options, words):
     """DATA, HASH, the sizes, the identifier or None, and the place."""
     if b"no-superblock" in options and b"uuid" in options:
         raise Usage
     uuid = uuid_of(options[b"uuid"]) if b"uuid" in options else None
+    read_fec(options)
     return *exactly(words, 2), read_sizes(options), uuid, read_offset(options)
 
 
 def read_verify(options, words):
     """DATA, HASH, the root, the sizes, and the place."""
     check_tree_values(options, (b"salt",))
-    if b"no-superblock" in options and b"all" in options:
+    if b"json" in options and b"all" not in options or b"no-superblock" in options and b"all" in options:
         raise Usage
     (data_path, hash_path), rest = at_least(words, 2)
     root, rest = said_root(options, rest)
     exactly(rest, 0)
+    read_fec(options)
     return data_path, hash_path, root, read_sizes(options), read_offset(options)
 
 
@@ -218,7 +235,7 @@ def read_on_stack(options, words, positional):
 
 
 def read_partitions(options, words):
-    if sum(name in options for name in (b"root", b"stack")) > 1:
+    if sum(name in options for name in (b"root", b"stack", b"json")) > 1:
         raise Usage
     size = the_number(options.get(b"sector-size", b"512"))
     if size not in (512, 4096):

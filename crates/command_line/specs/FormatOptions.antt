@@ -37,12 +37,15 @@ pub record OptionTexts : Type 0 where
   pub sector_size : Option (List ℕ)
   pub root : Option (List ℕ)
   pub map : Option (List ℕ)
+  pub fec : Option (List ℕ)
+  pub fec_roots : Option (List ℕ)
   pub all : Bool
   pub stack : Bool
   pub no_superblock : Bool
   pub grow : Bool
   pub differing : Bool
   pub progress : Bool
+  pub json : Bool
 
 -- what the program's own value says
 abbrev pub text_of : Option (Bor (List ℕ)) → Option (List ℕ)
@@ -67,12 +70,15 @@ option_texts words = record {
   sector_size = text_of words.sector_size;
   root = text_of words.root;
   map = text_of words.map;
+  fec = text_of words.fec;
+  fec_roots = text_of words.fec_roots;
   all = words.all;
   stack = words.stack;
   no_superblock = words.no_superblock;
   grow = words.grow;
   differing = words.differing;
   progress = words.progress;
+  json = words.json;
 }
 
 -- each value is the one that its text says; where there is no text, it is 4,096 for a block size, and none for the others

@@ -5,9 +5,13 @@ use Rattle.command_line.specs.FormatOptions.{OptionTexts, text_of}
 use Rattle.command_line.specs.words.Cat.{CatRecord, cat_record, cat_said}
 use Rattle.command_line.specs.words.Copy.{CopyRecord, copy_record, copy_said}
 use Rattle.command_line.specs.words.Exports.{ExportsRecord, exports_record, exports_said}
+use Rattle.command_line.specs.words.Load.{LoadRecord, load_record, load_said}
 use Rattle.command_line.specs.words.Manual.{manual_said}
 use Rattle.command_line.specs.words.Scan.{ScanRecord, scan_record, scan_said}
 use Rattle.command_line.specs.words.Store.{StoreRecord, store_record, store_said}
+use Rattle.command_line.specs.FurtherWords.{has_fec_value}
+use Rattle.command_line.specs.words.FecFormat.{FecFormatRecord, fec_format_record, fec_format_said}
+use Rattle.command_line.specs.words.FecVerify.{FecVerifyRecord, fec_verify_record, fec_verify_said}
 use Rattle.command_line.specs.words.Format.{FormatRecord, format_record, format_said}
 use Rattle.command_line.specs.words.Verify.{VerifyRecord, verify_record, verify_said}
 use Rattle.command_line.specs.words.Dump.{DumpRecord, dump_record, dump_said}
@@ -18,9 +22,10 @@ use Rattle.command_line.specs.words.TreeFormat.{TreeFormatRecord, tree_format_re
 use Rattle.command_line.specs.words.TreeVerify.{TreeVerifyRecord, tree_verify_record, tree_verify_said}
 use Rattle.command_line.specs.words.TreeTable.{TreeTableRecord, tree_table_record, tree_table_said}
 use Rattle.command_line.specs.declared.further.Further.{Further}
-use Rattle.command_line.specs.declared.further.Further.TheVariants.{Cat, Store, Format, Verify, Dump, Table, Partitions, Diff, Scan, Copy, Exports, Manual, Version, FormatTree, VerifyTree, TableTree}
+use Rattle.command_line.specs.declared.further.Further.TheVariants.{Load, Cat, Store, Format, Verify, Dump, Table, Partitions, Diff, Scan, Copy, Exports, Manual, Version, FormatTree, VerifyTree, TableTree, FormatFec, VerifyFec}
 
 pub data FurtherRecord : Type 0 where
+  load : LoadRecord → FurtherRecord
   cat : CatRecord → FurtherRecord
   store : StoreRecord → FurtherRecord
   format : FormatRecord → FurtherRecord
@@ -38,6 +43,8 @@ pub data FurtherRecord : Type 0 where
   format_tree : TreeFormatRecord → FurtherRecord
   verify_tree : TreeVerifyRecord → FurtherRecord
   table_tree : TreeTableRecord → FurtherRecord
+  format_fec : FecFormatRecord → FurtherRecord
+  verify_fec : FecVerifyRecord → FurtherRecord
 
 -- the commands on trees without a superblock
 abbrev pub tree_said : List ℕ → OptionTexts → List (List ℕ) → Option FurtherRecord
@@ -45,6 +52,14 @@ tree_said name texts words =
     if bytes_eq name (codes "format") then option_map format_tree (tree_format_said texts words)
     else if bytes_eq name (codes "verify") then option_map verify_tree (tree_verify_said texts words)
     else if bytes_eq name (codes "table") then option_map table_tree (tree_table_said texts words)
+    else None
+
+-- the commands on images with parity, which have a superblock
+abbrev pub fec_said : List ℕ → OptionTexts → List (List ℕ) → Option FurtherRecord
+fec_said name texts words =
+    if texts.no_superblock then None
+    else if bytes_eq name (codes "format") then option_map format_fec (fec_format_said texts words)
+    else if bytes_eq name (codes "verify") then option_map verify_fec (fec_verify_said texts words)
     else None
 
 -- no word stands behind `version`
@@ -68,19 +83,23 @@ image_said name texts words =
 -- by a command's name, the values of its options, and its positional words
 abbrev pub command_said : List ℕ → OptionTexts → List (List ℕ) → Option FurtherRecord
 command_said name texts words =
-    if bytes_eq name (codes "cat") then option_map cat (cat_said texts words)
+    if bytes_eq name (codes "load") then option_map load (load_said texts words)
+    else if bytes_eq name (codes "cat") then option_map cat (cat_said texts words)
     else if bytes_eq name (codes "store") then option_map store (store_said texts words)
     else if bytes_eq name (codes "scan") then option_map scan (scan_said texts words)
     else if bytes_eq name (codes "copy") then option_map copy (copy_said texts words)
     else if bytes_eq name (codes "nbd") then option_map exports (exports_said texts words)
     else image_said name texts words
 
--- the same, where `--no-superblock` may stand
+-- the same, where `--fec` or `--no-superblock` may stand
 abbrev pub further_said : List ℕ → OptionTexts → List (List ℕ) → Option FurtherRecord
-further_said name texts words = if texts.no_superblock then tree_said name texts words else command_said name texts words
+further_said name texts words =
+    if has_fec_value texts then fec_said name texts words
+    else if texts.no_superblock then tree_said name texts words else command_said name texts words
 
 -- what the program's own value says
 abbrev pub further_record : Further → FurtherRecord
+further_record (Load w) = load (load_record w)
 further_record (Cat w) = cat (cat_record w)
 further_record (Store w) = store (store_record w)
 further_record (Format w) = format (format_record w)
@@ -97,3 +116,5 @@ further_record Version = version
 further_record (FormatTree w) = format_tree (tree_format_record w)
 further_record (VerifyTree w) = verify_tree (tree_verify_record w)
 further_record (TableTree w) = table_tree (tree_table_record w)
+further_record (FormatFec w) = format_fec (fec_format_record w)
+further_record (VerifyFec w) = verify_fec (fec_verify_record w)

@@ -10,13 +10,17 @@ has_place_value texts = is_some texts.first || is_some texts.count || is_some te
 unfoldable pub has_image_value : OptionTexts → Bool
 has_image_value texts = is_some texts.root_hash_file || is_some texts.name || is_some texts.root
 
+-- one that says something of parity
+unfoldable pub has_fec_value : OptionTexts → Bool
+has_fec_value texts = is_some texts.fec || is_some texts.fec_roots
+
 -- an option without a value
 unfoldable pub has_further_flag : OptionTexts → Bool
 has_further_flag texts = texts.all || texts.stack || texts.no_superblock || texts.grow
 
 -- one that says how something is done or told
 unfoldable pub has_manner : OptionTexts → Bool
-has_manner texts = texts.differing || texts.progress
+has_manner texts = texts.differing || texts.progress || texts.json
 
 -- a number of cached blocks beside a command that goes over a device
 unfoldable pub is_cached_pass : List ℕ → OptionTexts → Bool
@@ -39,5 +43,5 @@ is_new name =
 -- such a command, or an option that the command hasn't there
 unfoldable pub is_further : List ℕ → OptionTexts → Bool
 is_further name texts =
-    has_place_value texts || has_image_value texts || has_further_flag texts || has_manner texts || is_new name
+    has_place_value texts || has_image_value texts || has_fec_value texts || has_further_flag texts || has_manner texts || is_new name
     || is_beside_format name texts || is_cached_pass name texts

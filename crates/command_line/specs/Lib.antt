@@ -1,6 +1,7 @@
 pub mod Cuts
 pub mod Bindings
 pub mod BindingWords
+pub mod FecFiles
 pub mod FormatOptions
 pub mod FurtherWords
 pub mod Values

@@ -7,7 +7,7 @@ use Rattle.hex.specs.Hex.{decode_sized}
 use Rattle.dm_table.specs.Names.{is_device, is_mapped_name}
 use Rattle.dm_table.specs.Numbers.{number, number_if}
 use Rattle.command_line.specs.declared.values.PartitionForm.{PartitionForm}
-use Rattle.command_line.specs.declared.values.PartitionForm.TheVariants.{Lines, Stack, Root}
+use Rattle.command_line.specs.declared.values.PartitionForm.TheVariants.{Lines, Object, Stack, Root}
 use Rattle.command_line.specs.declared.values.RootWord.{RootWord}
 use Rattle.command_line.specs.declared.values.RootWord.TheVariants.{Digest, File}
 
@@ -90,18 +90,20 @@ unfoldable pub device_names : List (List ℕ) → Option (List ℕ × List ℕ)
 device_names (image_name ∷ hash_name ∷ []) = if is_device image_name && is_device hash_name then Some (image_name, hash_name) else None
 device_names words = None
 
--- how partitions are printed: a line each, as a stack text, or as the stack text of the partitions of a root
+-- how partitions are printed: a line each, as a JSON object, as a stack text, or as the stack text of the partitions of a root
 pub data FormRecord : Type 0 where
   lines : FormRecord
+  object : FormRecord
   stack : FormRecord
   root : List ℕ → FormRecord
 
--- at most one of `--root ROOT` and `--stack` stands there
-unfoldable pub form_of : Option (List ℕ) → Bool → Option FormRecord
-form_of None false = Some lines
-form_of None true = Some stack
-form_of (Some word) false = option_map root (root_of word)
-form_of (Some word) true = None
+-- at most one of `--root ROOT`, `--stack` and `--json` stands there
+unfoldable pub form_of : Option (List ℕ) → Bool → Bool → Option FormRecord
+form_of None false false = Some lines
+form_of None false true = Some object
+form_of None true false = Some stack
+form_of (Some word) false false = option_map root (root_of word)
+form_of word is_stack is_object = None
 
 -- what the program's own values say
 abbrev pub root_record : RootWord → RootRecord
@@ -110,5 +112,6 @@ root_record (File path) = root_file path.now
 
 abbrev pub form_record : PartitionForm → FormRecord
 form_record Lines = lines
+form_record Object = object
 form_record Stack = stack
 form_record (Root bytes) = root bytes

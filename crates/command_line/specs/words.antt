@@ -3,7 +3,10 @@ pub mod Copy
 pub mod Diff
 pub mod Dump
 pub mod Exports
+pub mod FecFormat
+pub mod FecVerify
 pub mod Format
+pub mod Load
 pub mod Manual
 pub mod Partitions
 pub mod Scan

@@ -1,16 +1,19 @@
 //! The commands that take more than the first version's.
 ghost use Rattle.command_line.specs.FormatOptions.{option_texts, texts_of};
-ghost use Rattle.command_line.specs.FurtherRecords.{command_said, further_said, image_said, tree_said};
+ghost use Rattle.command_line.specs.FurtherRecords.{command_said, fec_said, further_said, image_said, tree_said};
 ghost use Rattle.command_line.specs.Reading.{Reads};
 
 use crate::fault::WordsFault;
-use crate::option_words::OptionWords;
+use crate::option_words::{OptionWords, has_fec_value};
 use crate::words::cat::{CatWords, cat_of};
 use crate::words::copy::{CopyWords, copy_of};
 use crate::words::diff::{DiffWords, diff_of};
 use crate::words::dump::{DumpWords, dump_of};
 use crate::words::exports::{ExportsWords, exports_of};
+use crate::words::fec_format::{FecFormatWords, fec_format_of};
+use crate::words::fec_verify::{FecVerifyWords, fec_verify_of};
 use crate::words::format::{FormatWords, format_of};
+use crate::words::load::{LoadWords, load_of};
 use crate::words::manual::{manual_of, version_of};
 use crate::words::partitions::{PartitionsWords, partitions_of};
 use crate::words::scan::{ScanWords, scan_of};
@@ -25,6 +28,7 @@ use std::alloc::Global;
 /// A command with the values of its options and its positional words.
 #[derive(Drop)]
 pub enum Further<'a> {
+    Load(LoadWords<'a>),
     Cat(CatWords<'a>),
     Store(StoreWords<'a>),
     Format(FormatWords<'a>),
@@ -42,9 +46,11 @@ pub enum Further<'a> {
     FormatTree(TreeFormatWords<'a>),
     VerifyTree(TreeVerifyWords<'a>),
     TableTree(TreeTableWords<'a>),
+    FormatFec(FecFormatWords<'a>),
+    VerifyFec(FecVerifyWords<'a>),
 }
 
-/// The command of that name; with `--no-superblock` one on a tree that has none.
+/// The command of that name; with `--fec` one on parity, and with `--no-superblock` one on a tree that has none.
 pub fn further_of<'a>(
     alloc: Global,
     name: &[u8],
@@ -53,10 +59,31 @@ pub fn further_of<'a>(
 ) -> Result<Further<'a>, WordsFault>
     ensures { Reads (further_said name.now (option_texts options.now) (texts_of words.now)) result }
 {
-    if options.no_superblock {
+    if has_fec_value(options) {
+        fec_of(name, options, words)
+    } else if options.no_superblock {
         tree_of(name, options, words)
     } else {
         command_of(alloc, name, options, words)
+    }
+}
+
+// The command of that name on an image with parity, which has a superblock.
+fn fec_of<'a>(
+    name: &[u8],
+    options: &OptionWords<'a>,
+    words: &[&'a str],
+) -> Result<Further<'a>, WordsFault>
+    ensures { Reads (fec_said name.now (option_texts options.now) (texts_of words.now)) result }
+{
+    if options.no_superblock {
+        Err(WordsFault::Usage)
+    } else if name == b"format".as_slice() {
+        fec_format_of(options, words)
+    } else if name == b"verify".as_slice() {
+        fec_verify_of(options, words)
+    } else {
+        Err(WordsFault::Usage)
     }
 }
 
@@ -88,7 +115,9 @@ fn command_of<'a>(
 ) -> Result<Further<'a>, WordsFault>
     ensures { Reads (command_said name.now (option_texts options.now) (texts_of words.now)) result }
 {
-    if name == b"cat".as_slice() {
+    if name == b"load".as_slice() {
+        load_of(alloc, options, words)
+    } else if name == b"cat".as_slice() {
         cat_of(alloc, options, words)
     } else if name == b"store".as_slice() {
         store_of(alloc, options, words)

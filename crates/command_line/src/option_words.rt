@@ -1,7 +1,7 @@
 //! The options of a command line, as words.
 ghost use Rattle.std.specs.Prelude.{◌≡◌};
 ghost use Rattle.command_line.specs.FormatOptions.{option_texts};
-ghost use Rattle.command_line.specs.FurtherWords.{has_further_flag, has_image_value, has_manner, has_place_value, has_tree_value, is_beside_format, is_cached_pass, is_further, is_new};
+ghost use Rattle.command_line.specs.FurtherWords.{has_fec_value, has_further_flag, has_image_value, has_manner, has_place_value, has_tree_value, is_beside_format, is_cached_pass, is_further, is_new};
 
 /// The values of the options, as they stand in the words, and which of those without a value stand there.
 #[derive(Clone, Copy)]
@@ -20,12 +20,15 @@ pub struct OptionWords<'a> {
     pub sector_size: Option<&'a str>,
     pub root: Option<&'a str>,
     pub map: Option<&'a str>,
+    pub fec: Option<&'a str>,
+    pub fec_roots: Option<&'a str>,
     pub all: bool,
     pub stack: bool,
     pub no_superblock: bool,
     pub grow: bool,
     pub differing: bool,
     pub progress: bool,
+    pub json: bool,
 }
 
 /// Whether a command isn't one of the first version, or has an option that it didn't have there.
@@ -35,6 +38,7 @@ pub fn is_further(name: &[u8], options: &OptionWords<'_>) -> bool
 {
     has_place_value(options)
         || has_image_value(options)
+        || has_fec_value(options)
         || has_further_flag(options)
         || has_manner(options)
         || is_new(name)
@@ -74,6 +78,14 @@ fn has_image_value(options: &OptionWords<'_>) -> bool
     options.root_hash_file.is_some() || options.name.is_some() || options.root.is_some()
 }
 
+/// Whether an option stands there that says something of parity.
+#[tactic(auto, unfolding(crate::specs::FurtherWords::has_fec_value))]
+pub fn has_fec_value(options: &OptionWords<'_>) -> bool
+    ensures { result ≡ has_fec_value (option_texts options.now) }
+{
+    options.fec.is_some() || options.fec_roots.is_some()
+}
+
 // Whether an option without a value stands there.
 #[tactic(auto, unfolding(crate::specs::FurtherWords::has_further_flag))]
 fn has_further_flag(options: &OptionWords<'_>) -> bool
@@ -87,7 +99,7 @@ fn has_further_flag(options: &OptionWords<'_>) -> bool
 fn has_manner(options: &OptionWords<'_>) -> bool
     ensures { result ≡ has_manner (option_texts options.now) }
 {
-    options.differing || options.progress
+    options.differing || options.progress || options.json
 }
 
 // Whether a number of cached blocks stands beside a command that goes over a device.

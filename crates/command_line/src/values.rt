@@ -22,11 +22,12 @@ pub enum RootWord<'a> {
     File(&'a str),
 }
 
-/// How partitions are printed: a line each, as a stack text, or as the stack text of the partitions that belong to a
+/// How partitions are printed: a line each, as a JSON object, as a stack text, or as the stack text of the partitions that belong to a
 /// root.
 #[derive(Clone, Copy)]
 pub enum PartitionForm {
     Lines,
+    Object,
     Stack,
     Root(Digest),
 }
@@ -206,25 +207,19 @@ pub fn device_names<'a>(words: &[&'a str]) -> Option<(&'a str, &'a str)>
     None
 }
 
-/// How partitions are printed, by `--root ROOT` and `--stack`, of which at most one stands there.
+/// How partitions are printed, by `--root ROOT`, `--stack` and `--json`, of which at most one stands there.
 #[tactic(auto, unfolding(crate::specs::Values::form_of))]
-pub fn form_of(root: Option<&str>, stack: bool) -> Option<PartitionForm>
-    ensures { option_map form_record result ≡ form_of (text_of root.entry) stack }
+pub fn form_of(root: Option<&str>, stack: bool, json: bool) -> Option<PartitionForm>
+    ensures { option_map form_record result ≡ form_of (text_of root.entry) stack json }
 {
-    match root {
-        None => {
-            if stack {
-                Some(PartitionForm::Stack)
-            } else {
-                Some(PartitionForm::Lines)
-            }
-        }
-        Some(word) => {
-            if stack {
-                return None;
-            }
+    match (root, stack, json) {
+        (None, false, false) => Some(PartitionForm::Lines),
+        (None, false, true) => Some(PartitionForm::Object),
+        (None, true, false) => Some(PartitionForm::Stack),
+        (Some(word), false, false) => {
             let root = root_of(word)?;
             Some(PartitionForm::Root(root))
         }
+        _ => None,
     }
 }

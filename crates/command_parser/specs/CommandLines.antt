@@ -30,12 +30,15 @@ texts_in rows = record {
   sector_size = first_of (codes "sector-size") rows;
   root = first_of (codes "root") rows;
   map = first_of (codes "map") rows;
+  fec = first_of (codes "fec") rows;
+  fec_roots = first_of (codes "fec-roots") rows;
   all = is_there (codes "all") rows;
   stack = is_there (codes "stack") rows;
   no_superblock = is_there (codes "no-superblock") rows;
   grow = is_there (codes "grow") rows;
   differing = is_there (codes "differing") rows;
   progress = is_there (codes "progress") rows;
+  json = is_there (codes "json") rows;
 }
 
 -- the positional words

@@ -28,11 +28,18 @@ cache = value (codes "cache")
 abbrev pub progress : OptionText
 progress = flag (codes "progress")
 
+abbrev pub json : OptionText
+json = flag (codes "json")
+
 abbrev pub offset : OptionText
 offset = value (codes "hash-offset")
 
 abbrev pub root_file : OptionText
 root_file = value (codes "root-hash-file")
+
+-- parity: its file, and how many bytes of it a codeword has
+abbrev pub fec_options : List OptionText → List OptionText
+fec_options more = value_or (codes "fec") (codes "fec-device") ∷ value (codes "fec-roots") ∷ more
 
 abbrev pub bare : OptionText
 bare = flag (codes "no-superblock")
@@ -49,21 +56,21 @@ command name options = record { name = name; options = options }
 -- the commands on images
 abbrev pub image_commands : List CommandText → List CommandText
 image_commands more =
-    command (codes "format") (tree_options (value (codes "uuid") ∷ offset ∷ bare ∷ flag (codes "grow") ∷ []))
-    ∷ command (codes "verify") (tree_options (offset ∷ root_file ∷ bare ∷ flag (codes "all") ∷ []))
-    ∷ command (codes "dump") (offset ∷ [])
+    command (codes "format") (tree_options (value (codes "uuid") ∷ offset ∷ bare ∷ flag (codes "grow") ∷ progress ∷ fec_options []))
+    ∷ command (codes "verify") (tree_options (offset ∷ root_file ∷ bare ∷ flag (codes "all") ∷ json ∷ progress ∷ fec_options []))
+    ∷ command (codes "dump") (offset ∷ json ∷ [])
     ∷ command (codes "table") (tree_options (offset ∷ root_file ∷ value (codes "name") ∷ bare ∷ []))
     ∷ more
 
 -- the commands on stacks
 abbrev pub stack_commands : List CommandText → List CommandText
 stack_commands more =
-    command (codes "load") []
+    command (codes "load") (json ∷ [])
     ∷ command (codes "read") (cache ∷ [])
     ∷ command (codes "write") (cache ∷ [])
     ∷ command (codes "session") (cache ∷ [])
     ∷ command (codes "nbd") (cache ∷ flag (codes "all") ∷ [])
-    ∷ command (codes "scan") (cache ∷ value (codes "map") ∷ progress ∷ [])
+    ∷ command (codes "scan") (cache ∷ value (codes "map") ∷ progress ∷ json ∷ [])
     ∷ command (codes "copy") (cache ∷ flag (codes "differing") ∷ value (codes "map") ∷ progress ∷ [])
     ∷ command (codes "cat") (cache ∷ value (codes "first") ∷ value (codes "count") ∷ progress ∷ [])
     ∷ command (codes "store") (cache ∷ value (codes "first") ∷ progress ∷ [])
@@ -73,6 +80,6 @@ stack_commands more =
 unfoldable pub commands : List CommandText
 commands =
     image_commands (stack_commands
-    (command (codes "partitions") (value (codes "sector-size") ∷ flag (codes "stack") ∷ value (codes "root") ∷ [])
-    ∷ command (codes "diff") (value (codes "blocks") ∷ [])
+    (command (codes "partitions") (value (codes "sector-size") ∷ flag (codes "stack") ∷ value (codes "root") ∷ json ∷ [])
+    ∷ command (codes "diff") (value (codes "blocks") ∷ json ∷ [])
     ∷ command (codes "manual") [] ∷ command (codes "version") [] ∷ []))

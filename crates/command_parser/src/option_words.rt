@@ -27,12 +27,15 @@ pub fn option_words<'a>(found: &ArgMatches<'a>) -> OptionWords<'a>
         sector_size: value(found, "sector-size"),
         root: value(found, "root"),
         map: value(found, "map"),
+        fec: value(found, "fec"),
+        fec_roots: value(found, "fec-roots"),
         all: is_there(found, "all"),
         stack: is_there(found, "stack"),
         no_superblock: is_there(found, "no-superblock"),
         grow: is_there(found, "grow"),
         differing: is_there(found, "differing"),
         progress: is_there(found, "progress"),
+        json: is_there(found, "json"),
     }
 }
 

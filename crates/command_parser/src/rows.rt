@@ -99,6 +99,18 @@ const MAP: OptionRow = OptionRow {
     has_value: true,
 };
 
+const FEC: OptionRow = OptionRow {
+    name: "fec",
+    others: &["fec-device"],
+    has_value: true,
+};
+
+const FEC_ROOTS: OptionRow = OptionRow {
+    name: "fec-roots",
+    others: &[],
+    has_value: true,
+};
+
 // of `diff`, where it says how many runs are printed
 const RUNS: OptionRow = OptionRow {
     name: "blocks",
@@ -142,6 +154,12 @@ const PROGRESS: OptionRow = OptionRow {
     has_value: false,
 };
 
+const JSON: OptionRow = OptionRow {
+    name: "json",
+    others: &[],
+    has_value: false,
+};
+
 /// All commands.
 pub static COMMANDS: [CommandRow; 17] = [
     CommandRow {
@@ -155,6 +173,9 @@ pub static COMMANDS: [CommandRow; 17] = [
             HASH_OFFSET,
             NO_SUPERBLOCK,
             GROW,
+            PROGRESS,
+            FEC,
+            FEC_ROOTS,
         ],
     },
     CommandRow {
@@ -168,11 +189,15 @@ pub static COMMANDS: [CommandRow; 17] = [
             ROOT_HASH_FILE,
             NO_SUPERBLOCK,
             ALL,
+            JSON,
+            PROGRESS,
+            FEC,
+            FEC_ROOTS,
         ],
     },
     CommandRow {
         name: "dump",
-        options: &[HASH_OFFSET],
+        options: &[HASH_OFFSET, JSON],
     },
     CommandRow {
         name: "table",
@@ -189,7 +214,7 @@ pub static COMMANDS: [CommandRow; 17] = [
     },
     CommandRow {
         name: "load",
-        options: &[],
+        options: &[JSON],
     },
     CommandRow {
         name: "read",
@@ -209,7 +234,7 @@ pub static COMMANDS: [CommandRow; 17] = [
     },
     CommandRow {
         name: "scan",
-        options: &[CACHE, MAP, PROGRESS],
+        options: &[CACHE, MAP, PROGRESS, JSON],
     },
     CommandRow {
         name: "copy",
@@ -225,11 +250,11 @@ pub static COMMANDS: [CommandRow; 17] = [
     },
     CommandRow {
         name: "partitions",
-        options: &[SECTOR_SIZE, STACK, ROOT],
+        options: &[SECTOR_SIZE, STACK, ROOT, JSON],
     },
     CommandRow {
         name: "diff",
-        options: &[RUNS],
+        options: &[RUNS, JSON],
     },
     CommandRow {
         name: "manual",

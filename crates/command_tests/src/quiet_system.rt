@@ -2,9 +2,10 @@
 ghost use Rattle.std.specs.Prelude.{◌≡◌};
 
 use image_commands::{Generators, NoRandomBytes, SystemGenerators};
-use progress::Progress;
+use progress::{NoProgress, Progress};
 use rand::rngs::StdRng;
 use std::random::RandomSource;
+use watched_device::Watchers;
 
 #[derive(Drop)]
 pub struct QuietSystem<'a, R> {
@@ -25,4 +26,12 @@ impl<R> Progress for QuietSystem<'_, R> {
     fn begin(&mut self) {}
 
     fn tell(&mut self, _done: u64, _all: Option<u64>) {}
+}
+
+impl<R> Watchers for QuietSystem<'_, R> {
+    type Watcher = NoProgress;
+
+    fn watcher(&self) -> NoProgress {
+        NoProgress
+    }
 }

@@ -6,10 +6,12 @@ use progress::{Progress, ProgressLine};
 use rand::rngs::StdRng;
 use std::random::RandomSource;
 use std::rt::Clock;
+use watched_device::Watchers;
 
 /// Generators that are seeded by the system, and a line on standard error.
 #[derive(Drop)]
 pub struct System<'a, R> {
+    rt: &'a R,
     generators: SystemGenerators<'a, R>,
     line: ProgressLine<'a, R>,
 }
@@ -17,6 +19,7 @@ pub struct System<'a, R> {
 impl<'a, R: Clock + Eprint> System<'a, R> {
     pub fn new(rt: &'a R) -> System<'a, R> {
         System {
+            rt,
             generators: SystemGenerators::new(rt),
             line: ProgressLine::new(rt),
         }
@@ -40,5 +43,13 @@ impl<R: Clock + Eprint> Progress for System<'_, R> {
 
     fn tell(&mut self, done: u64, all: Option<u64>) {
         self.line.tell(done, all);
+    }
+}
+
+impl<'a, R: Clock + Eprint> Watchers for System<'a, R> {
+    type Watcher = ProgressLine<'a, R>;
+
+    fn watcher(&self) -> ProgressLine<'a, R> {
+        ProgressLine::new(self.rt)
     }
 }

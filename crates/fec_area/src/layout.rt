@@ -1,7 +1,8 @@
 //! Which blocks parity covers, and how the codewords lie across them.
-ghost use Rattle.std.specs.Prelude.{◌≡◌, ◌≢◌, ◌<◌, ◌≤◌, ◌^◌, IfNone, IfSome};
-ghost use Rattle.fec_area.specs.Layouts.{IsLayout, IsLayoutOf, covered_blocks, parity_sectors, round_bytes, rounds};
+ghost use Rattle.std.specs.Prelude.{◌≡◌, ◌≢◌, ◌<◌, ◌≤◌, ◌^◌, IfNone, IfSome, IsTrue};
+ghost use Rattle.fec_area.specs.Layouts.{IsLaidOn, IsLayout, IsLayoutOf, covered_blocks, parity_sectors, round_bytes, rounds};
 
+use block_device::BlockDev;
 use tree_shape::Shape;
 
 /// What parity covers: the data blocks, and then those of the hash device from one on.
@@ -43,6 +44,21 @@ impl Layout {
             hash_blocks: all - hash_first,
             roots,
         })
+    }
+
+    /// Whether the covered blocks lie on the two devices.
+    pub fn is_laid_on<D: BlockDev, H: BlockDev>(&self, data_dev: &D, hash_dev: &H) -> bool
+        requires { IsLayout self.now }
+        ensures { IsTrue result → IsLaidOn self.now (D.state data_dev.now) (H.state hash_dev.now) }
+    {
+        let sectors = u64::from(self.block / 512);
+        let data = self.data_blocks * sectors;
+        let end = self.hash_first + self.hash_blocks;
+        let hash = end * sectors;
+        if data > data_dev.sectors() {
+            return false;
+        }
+        hash <= hash_dev.sectors()
     }
 
     /// How many blocks are covered.

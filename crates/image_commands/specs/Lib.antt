@@ -9,6 +9,7 @@ pub mod PlacedLines
 pub mod Places
 pub mod RootFiles
 pub mod SuperblockTexts
+pub mod SuperblockJson
 pub mod TreePlaces
 pub mod TreeFormats
 pub mod TreeImages

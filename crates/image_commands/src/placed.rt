@@ -6,55 +6,60 @@ ghost use Rattle.image_commands.specs.Endings.{IsQuiet};
 ghost use Rattle.image_commands.specs.PlacedImages.{IsMatchingEnd, IsPlacedImageEnd, IsPlacedMatchesEnd, IsPlacedSuperEnd, MatchesPlaced, PrintsPlacedMatches, PrintsPlacedSuper, SaysPlaced};
 ghost use Rattle.image_commands.specs.PlacedLines.{entry_head, placed_line};
 ghost use Rattle.image_commands.specs.Places.{is_aligned, two_places};
-ghost use Rattle.image_commands.specs.SuperblockTexts.{superblock_text};
+ghost use Rattle.image_commands.specs.SuperblockJson.{dump_text};
 
 use crate::fault::ImageFault;
-use crate::paths::{ImagePaths, TwoImages, open_two};
+use crate::paths::{ImagePaths, open_two};
 use crate::placed_line::say_placed_line;
 use crate::places::{Bounds, HashPlace, ImagePlaces, data_end, is_aligned};
-use crate::superblock_text::say_superblock;
+use crate::superblock_json::say_dump;
 use crate::table::LineWords;
 use crate::verify::compare;
+use crate::watching::{WatchedPlaces, watch};
 use block_device::BlockDev;
 use counted_io::{Counted, WriteFault};
 use device_window::Window;
-use image_files::{Images, OpenImage, open_image};
+use image_files::{Images, open_image};
 use std::alloc::Global;
 use std::io::Write;
 use std::marker::Brand;
 use tree_shape::Digest;
 use verity_format::{Superblock, read_superblock};
+use watched_device::{Watchers, bytes_before};
 
-/// `dump --hash-offset BYTES HASH`: the fields of the superblock at that place.
+/// `dump [--hash-offset BYTES] [--json] HASH`: the fields of the superblock at that place, as a JSON object or a line each.
 #[tactic(auto, using(crate::proofs::lemmas::EndingLemmas::quiet))]
 pub fn dump_placed<'a, I: Images, W: Write>(
+    alloc: Global,
     images: &mut I,
     place: HashPlace<'a>,
+    json: bool,
     writer: &mut Counted<W>,
 ) -> Result<(), ImageFault<'a>>
-    ensures ok { OnOk result (PrintsPlacedSuper (calls I.relations I.Dev.state images.old images.new) place.entry.path.now place.entry.first (λ s. true) superblock_text (W.contents writer.old.inner) (W.contents writer.new.inner)) }
+    ensures ok { OnOk result (PrintsPlacedSuper (calls I.relations I.Dev.state images.old images.new) place.entry.path.now place.entry.first (λ s. true) (dump_text json) (W.contents writer.old.inner) (W.contents writer.new.inner)) }
     ensures err { IfErr result (IsPlacedImageEnd (calls I.relations I.Dev.state images.old images.new) place.entry.path.now place.entry.first writer.new.failed) }
     ensures quiet { IfErr result (λ fault. IsQuiet fault (W.contents writer.old.inner) (W.contents writer.new.inner)) }
 {
     let HashPlace { path, first } = place;
     let image = open_image(images, path, false)?;
-    dump_behind(image.device, first, writer)
+    dump_behind(alloc, image.device, first, json, writer)
 }
 
 #[tactic(auto, using(crate::proofs::lemmas::EndingLemmas::quiet))]
 fn dump_behind<'a, H: BlockDev + Drop, W: Write>(
+    alloc: Global,
     hash_dev: H,
     first: u64,
+    json: bool,
     writer: &mut Counted<W>,
 ) -> Result<(), ImageFault<'a>>
-    ensures ok { OnOk result (SaysPlaced (H.state hash_dev) first (λ s. true) superblock_text (W.contents writer.old.inner) (W.contents writer.new.inner)) }
+    ensures ok { OnOk result (SaysPlaced (H.state hash_dev) first (λ s. true) (dump_text json) (W.contents writer.old.inner) (W.contents writer.new.inner)) }
     ensures err { IfErr result (IsPlacedSuperEnd (H.state hash_dev) first writer.new.failed) }
     ensures quiet { IfErr result (λ fault. IsQuiet fault (W.contents writer.old.inner) (W.contents writer.new.inner)) }
 {
     let mut window = Window::<H, Brand>::behind(hash_dev, first);
     let superblock = read_superblock(&mut window)?;
-    say_superblock(writer, &superblock)?;
-    Ok(())
+    say_dump(alloc, writer, &superblock, json)
 }
 
 /// `table --hash-offset BYTES [--name NAME] HASH ROOT DATANAME HASHNAME`: the table line, its tree counted from the
@@ -130,17 +135,19 @@ pub(crate) fn say_head<W: Write>(
 /// `verify --hash-offset BYTES DATA HASH ROOT`: as `verify_images`, of the hash image that begins at that sector of HASH.
 /// Where both are one file, the data are what lies before.
 #[tactic(auto, using(crate::proofs::lemmas::EndingLemmas::quiet))]
-pub fn verify_placed<'a, I: Images, W: Write>(
+pub fn verify_placed<'a, I: Images, S: Watchers, W: Write>(
     alloc: Global,
     images: &mut I,
-    places: ImagePlaces<'a>,
+    watchers: &S,
+    watched: WatchedPlaces<'a>,
     root: &Digest,
     writer: &mut Counted<W>,
 ) -> Result<(), ImageFault<'a>>
-    ensures ok { OnOk result (PrintsPlacedMatches (calls I.relations I.Dev.state images.old images.new) (two_places places.entry) root.now (W.contents writer.old.inner) (W.contents writer.new.inner)) }
-    ensures err { IfErr result (IsPlacedMatchesEnd (calls I.relations I.Dev.state images.old images.new) (two_places places.entry) root.now writer.new.failed) }
+    ensures ok { OnOk result (PrintsPlacedMatches (calls I.relations I.Dev.state images.old images.new) (two_places watched.entry.places) root.now (W.contents writer.old.inner) (W.contents writer.new.inner)) }
+    ensures err { IfErr result (IsPlacedMatchesEnd (calls I.relations I.Dev.state images.old images.new) (two_places watched.entry.places) root.now writer.new.failed) }
     ensures quiet { IfErr result (λ fault. IsQuiet fault (W.contents writer.old.inner) (W.contents writer.new.inner)) }
 {
+    let WatchedPlaces { places, progress } = watched;
     let ImagePlaces {
         data,
         hash,
@@ -148,16 +155,8 @@ pub fn verify_placed<'a, I: Images, W: Write>(
     } = places;
     let two = open_two(images, ImagePaths { data, hash }, false)?;
     let end = data_end(&two, first);
-    let TwoImages {
-        data: OpenImage {
-            device: data_dev,
-            id: _,
-        },
-        hash: OpenImage {
-            device: hash_dev,
-            id: _,
-        },
-    } = two;
+    let all = bytes_before(&two.data.device, end);
+    let (data_dev, hash_dev) = watch(two, watchers, progress, all);
     compare_behind(
         alloc,
         data_dev,

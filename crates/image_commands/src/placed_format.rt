@@ -10,34 +10,36 @@ ghost use Rattle.image_commands.specs.Places.{two_places};
 
 use crate::fault::ImageFault;
 use crate::format::{MadeImage, given_or_drawn, make, say_made};
-use crate::paths::TwoImages;
-use crate::places::{Bounds, ImagePlaces, data_end, is_aligned, open_placed};
+use crate::places::{Bounds, data_end, is_aligned, open_placed};
 use crate::random::Generators;
+use crate::watching::{WatchedPlaces, bytes_of_blocks, watch};
 use block_device::{BlockDev, SyncDev};
 use command_line::ImageOptions;
 use counted_io::Counted;
 use device_window::{Beside, Window};
-use image_files::{Images, OpenImage};
+use image_files::Images;
 use std::alloc::Global;
 use std::io::Write;
 use std::marker::Brand;
 use verity_format::{FormatFault, FormatOptions};
+use watched_device::{Watchers, bytes_before};
 
 /// `format --hash-offset BYTES [OPTIONS] DATA HASH`: as `format_images`, of the hash image that begins at that sector of
 /// HASH. Both may be one file; the data are then what lies before.
 #[tactic(auto, using(crate::proofs::lemmas::EndingLemmas::quiet))]
-pub fn format_placed<'a, I: Images, G: Generators, W: Write>(
+pub fn format_placed<'a, I: Images, G: Generators + Watchers, W: Write>(
     alloc: Global,
     images: &mut I,
     generators: &mut G,
     options: ImageOptions,
-    places: ImagePlaces<'a>,
+    watched: WatchedPlaces<'a>,
     writer: &mut Counted<W>,
 ) -> Result<(), ImageFault<'a>>
-    ensures ok { OnOk result (PrintsPlaced (calls I.relations I.Dev.state images.old images.new) (drawing G.gives G.Generator.stream generators.old generators.new) options (two_places places.entry) (W.contents writer.old.inner) (W.contents writer.new.inner)) }
-    ensures err { IfErr result (IsFormatPlacedEnd (calls I.relations I.Dev.state images.old images.new) (drawing G.gives G.Generator.stream generators.old generators.new) options (two_places places.entry) writer.new.failed) }
+    ensures ok { OnOk result (PrintsPlaced (calls I.relations I.Dev.state images.old images.new) (drawing G.gives G.Generator.stream generators.old generators.new) options (two_places watched.entry.places) (W.contents writer.old.inner) (W.contents writer.new.inner)) }
+    ensures err { IfErr result (IsFormatPlacedEnd (calls I.relations I.Dev.state images.old images.new) (drawing G.gives G.Generator.stream generators.old generators.new) options (two_places watched.entry.places) writer.new.failed) }
     ensures quiet { IfErr result (λ fault. IsQuiet fault (W.contents writer.old.inner) (W.contents writer.new.inner)) }
 {
+    let WatchedPlaces { places, progress } = watched;
     let first = places.hash_first;
     let hash = places.hash;
     if !is_aligned(first, options.hash_block) {
@@ -45,17 +47,9 @@ pub fn format_placed<'a, I: Images, G: Generators, W: Write>(
     }
     let two = open_placed(images, places)?;
     let end = data_end(&two, first);
-    let TwoImages {
-        data: OpenImage {
-            device: data_dev,
-            id: _,
-        },
-        hash: OpenImage {
-            device: hash_dev,
-            id: _,
-        },
-    } = two;
     let options = given_or_drawn(generators, options)?;
+    let all = bytes_of_blocks(&options, bytes_before(&two.data.device, end));
+    let (data_dev, hash_dev) = watch(two, generators, progress, all);
     let (hash_dev, made) = make_behind(alloc, data_dev, hash_dev, Bounds { end, first }, options);
     let made = made?;
     images.close(hash, hash_dev);

@@ -11,38 +11,40 @@ ghost use Rattle.image_commands.specs.TreePlaces.{tree_part};
 
 use crate::fault::ImageFault;
 use crate::format::{MadeImage, given_or_drawn};
-use crate::paths::TwoImages;
-use crate::places::{Bounds, ImagePlaces, data_end, is_aligned, open_placed};
+use crate::places::{Bounds, data_end, is_aligned, open_placed};
 use crate::random::Generators;
 use crate::superblock_text::{say_blocks, say_root, say_salt};
 use crate::tree_place::{tree_of, tree_part, unnamed};
+use crate::watching::{WatchedPlaces, bytes_of_blocks, watch};
 use bare_tree::format_bare;
 use block_device::{BlockDev, SyncDev};
 use command_line::ImageOptions;
 use counted_io::{Counted, WriteFault};
 use device_window::{Beside, Window};
-use image_files::{Images, OpenImage};
+use image_files::Images;
 use std::alloc::Global;
 use std::io::Write;
 use std::marker::{Brand, PhantomData};
 use tree_shape::Digest;
 use verity_format::{FormatFault, FormatOptions, Superblock};
+use watched_device::{Watchers, bytes_before};
 
 /// `format --no-superblock [--hash-offset BYTES] [OPTIONS] DATA HASH`: writes the tree alone at that sector of HASH, and
 /// its root, salt and number of blocks to the writer. Both may be one file; the data are then what lies before.
 #[tactic(auto, using(crate::proofs::lemmas::EndingLemmas::quiet))]
-pub fn format_tree<'a, I: Images, G: Generators, W: Write>(
+pub fn format_tree<'a, I: Images, G: Generators + Watchers, W: Write>(
     alloc: Global,
     images: &mut I,
     generators: &mut G,
     options: ImageOptions,
-    places: ImagePlaces<'a>,
+    watched: WatchedPlaces<'a>,
     writer: &mut Counted<W>,
 ) -> Result<(), ImageFault<'a>>
-    ensures ok { OnOk result (PrintsTree (calls I.relations I.Dev.state images.old images.new) (drawing G.gives G.Generator.stream generators.old generators.new) options (two_places places.entry) (W.contents writer.old.inner) (W.contents writer.new.inner)) }
-    ensures err { IfErr result (IsFormatTreeEnd (calls I.relations I.Dev.state images.old images.new) (drawing G.gives G.Generator.stream generators.old generators.new) options (two_places places.entry) writer.new.failed) }
+    ensures ok { OnOk result (PrintsTree (calls I.relations I.Dev.state images.old images.new) (drawing G.gives G.Generator.stream generators.old generators.new) options (two_places watched.entry.places) (W.contents writer.old.inner) (W.contents writer.new.inner)) }
+    ensures err { IfErr result (IsFormatTreeEnd (calls I.relations I.Dev.state images.old images.new) (drawing G.gives G.Generator.stream generators.old generators.new) options (two_places watched.entry.places) writer.new.failed) }
     ensures quiet { IfErr result (λ fault. IsQuiet fault (W.contents writer.old.inner) (W.contents writer.new.inner)) }
 {
+    let WatchedPlaces { places, progress } = watched;
     let first = places.hash_first;
     let hash = places.hash;
     if !is_aligned(first, options.hash_block) {
@@ -50,17 +52,9 @@ pub fn format_tree<'a, I: Images, G: Generators, W: Write>(
     }
     let two = open_placed(images, places)?;
     let end = data_end(&two, first);
-    let TwoImages {
-        data: OpenImage {
-            device: data_dev,
-            id: _,
-        },
-        hash: OpenImage {
-            device: hash_dev,
-            id: _,
-        },
-    } = two;
     let options = given_or_drawn(generators, unnamed(options))?;
+    let all = bytes_of_blocks(&options, bytes_before(&two.data.device, end));
+    let (data_dev, hash_dev) = watch(two, generators, progress, all);
     let (hash_dev, made) = make_at(alloc, data_dev, hash_dev, Bounds { end, first }, options);
     let made = made?;
     images.close(hash, hash_dev);

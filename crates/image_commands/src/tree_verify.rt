@@ -7,78 +7,82 @@ ghost use Rattle.image_commands.specs.TreeFormats.{tree_with};
 ghost use Rattle.image_commands.specs.TreeImages.{IsTreeComparisonEnd, IsTreeMatchesEnd, MatchesTree, PrintsTreeMatches};
 
 use crate::fault::ImageFault;
-use crate::paths::{ImagePaths, TwoImages, open_two};
+use crate::paths::{ImagePaths, open_two};
 use crate::places::{Bounds, ImagePlaces, data_end, is_aligned};
 use crate::tree_place::{tree_of, tree_part};
+use crate::watching::{WatchedPlaces, bytes_of_blocks, watch};
 use bare_tree::verify_bare;
 use block_device::BlockDev;
 use counted_io::Counted;
 use device_window::Window;
-use image_files::{Images, OpenImage};
+use image_files::Images;
 use std::alloc::Global;
 use std::io::Write;
 use std::marker::{Brand, PhantomData};
 use tree_shape::Digest;
 use verity_format::{FormatOptions, Superblock, Verdict};
+use watched_device::{Watchers, bytes_before};
+
+/// What a tree is to be: its options and its root.
+#[derive(Clone, Copy)]
+pub struct ExpectedTree {
+    pub options: FormatOptions,
+    pub root: Digest,
+}
 
 /// `verify --no-superblock [--hash-offset BYTES] [OPTIONS] DATA HASH ROOT`: `matches` where the tree of those options over
 /// the data stands at that sector of HASH, under that root; a difference is the fault `Differs`, whose block is counted
 /// from the tree's first one. Where both are one file, the data are what lies before.
 #[tactic(auto, using(crate::proofs::lemmas::EndingLemmas::quiet))]
-pub fn verify_tree<'a, I: Images, W: Write>(
+pub fn verify_tree<'a, I: Images, S: Watchers, W: Write>(
     alloc: Global,
     images: &mut I,
-    places: ImagePlaces<'a>,
-    options: FormatOptions,
-    root: &Digest,
+    watchers: &S,
+    watched: WatchedPlaces<'a>,
+    expected: &ExpectedTree,
     writer: &mut Counted<W>,
 ) -> Result<(), ImageFault<'a>>
-    ensures ok { OnOk result (PrintsTreeMatches (calls I.relations I.Dev.state images.old images.new) (two_places places.entry) options root.now (W.contents writer.old.inner) (W.contents writer.new.inner)) }
-    ensures err { IfErr result (IsTreeMatchesEnd (calls I.relations I.Dev.state images.old images.new) (two_places places.entry) options root.now writer.new.failed) }
+    ensures ok { OnOk result (PrintsTreeMatches (calls I.relations I.Dev.state images.old images.new) (two_places watched.entry.places) expected.now.options expected.now.root (W.contents writer.old.inner) (W.contents writer.new.inner)) }
+    ensures err { IfErr result (IsTreeMatchesEnd (calls I.relations I.Dev.state images.old images.new) (two_places watched.entry.places) expected.now.options expected.now.root writer.new.failed) }
     ensures quiet { IfErr result (λ fault. IsQuiet fault (W.contents writer.old.inner) (W.contents writer.new.inner)) }
 {
+    let WatchedPlaces { places, progress } = watched;
     let ImagePlaces {
         data,
         hash,
         hash_first: first,
     } = places;
+    let options = expected.options;
     if !is_aligned(first, options.hash_block) {
         return Err(ImageFault::Unaligned);
     }
     let two = open_two(images, ImagePaths { data, hash }, false)?;
     let end = data_end(&two, first);
-    let TwoImages {
-        data: OpenImage {
-            device: data_dev,
-            id: _,
-        },
-        hash: OpenImage {
-            device: hash_dev,
-            id: _,
-        },
-    } = two;
+    let bytes = bytes_before(&two.data.device, end);
+    let all = bytes_of_blocks(&options, bytes);
+    let (data_dev, hash_dev) = watch(two, watchers, progress, all);
     compare_at(
         alloc,
         (data_dev, hash_dev),
         Bounds { end, first },
         options,
-        root,
+        &expected.root,
         writer,
     )
 }
 
 // Compares what lies before one sector of the data device with what lies behind one of the hash device.
 #[tactic(auto, using(crate::proofs::lemmas::EndingLemmas::quiet))]
-fn compare_at<'a, D: BlockDev + Drop, W: Write>(
+fn compare_at<'a, D: BlockDev + Drop, H: BlockDev + Drop, W: Write>(
     alloc: Global,
-    devices: (D, D),
+    devices: (D, H),
     bounds: Bounds,
     options: FormatOptions,
     root: &Digest,
     writer: &mut Counted<W>,
 ) -> Result<(), ImageFault<'a>>
-    ensures ok { let data_dev = before (D.state devices.0) bounds.end in OnOk result (MatchesTree (tree_with options data_dev) data_dev (D.state devices.1) bounds.first root.now (W.contents writer.old.inner) (W.contents writer.new.inner)) }
-    ensures err { let data_dev = before (D.state devices.0) bounds.end in IfErr result (IsTreeComparisonEnd (tree_with options data_dev) data_dev (D.state devices.1) bounds.first root.now writer.new.failed) }
+    ensures ok { let data_dev = before (D.state devices.0) bounds.end in OnOk result (MatchesTree (tree_with options data_dev) data_dev (H.state devices.1) bounds.first root.now (W.contents writer.old.inner) (W.contents writer.new.inner)) }
+    ensures err { let data_dev = before (D.state devices.0) bounds.end in IfErr result (IsTreeComparisonEnd (tree_with options data_dev) data_dev (H.state devices.1) bounds.first root.now writer.new.failed) }
     ensures quiet { IfErr result (λ fault. IsQuiet fault (W.contents writer.old.inner) (W.contents writer.new.inner)) }
 {
     let (data_dev, hash_dev) = devices;

@@ -1,2 +1,3 @@
 mod EndingLemmas
 mod LabelLemmas
+mod ObjectLemmas

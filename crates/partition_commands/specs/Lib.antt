@@ -5,6 +5,7 @@ pub mod Kinds
 pub mod Labels
 pub mod Lines
 pub mod Names
+pub mod Objects
 pub mod Parts
 pub mod Prints
 pub mod RefusalNames

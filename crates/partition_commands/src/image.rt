@@ -1,12 +1,14 @@
-//! The commands `partitions` and `partitions --stack`, of an image.
+//! The commands `partitions`, `partitions --json` and `partitions --stack`, of an image.
 ghost use Rattle.std.specs.Prelude.{IfErr, OnOk};
 ghost use Rattle.std.specs.Io.KnownBytes.{Appends};
 ghost use Rattle.image_files.specs.Opener.{calls};
 ghost use Rattle.partition_commands.specs.Commands.{IsImageEnd, IsSayFault, IsTableEnd, PrintsOfImage, PrintsPartitions};
 ghost use Rattle.partition_commands.specs.Lines.{table_text};
+ghost use Rattle.partition_commands.specs.Objects.{table_line};
 ghost use Rattle.partition_commands.specs.Stacks.{partition_entry, stack_text};
 
 use crate::entries::say_linear_entry;
+use crate::object::table_line;
 use crate::{PartitionsFault, PrintFault, part_of, partition_name, print_partitions};
 use block_device::BlockDev;
 use counted_io::Counted;
@@ -46,6 +48,37 @@ fn list_partitions<'a, D: BlockDev, W: Write>(
         Err(PrintFault::Table(fault)) => Err(PartitionsFault::from(fault)),
         Err(PrintFault::Write) => Err(PartitionsFault::Write),
     }
+}
+
+/// `partitions --json IMAGE`: the same as a JSON object on one line.
+pub fn object_of_image<'a, I: Images, W: Write>(
+    alloc: Global,
+    images: &mut I,
+    path: &'a str,
+    size: SectorSize,
+    writer: &mut Counted<W>,
+) -> Result<(), PartitionsFault<'a>>
+    ensures ok { OnOk result (PrintsOfImage (calls I.relations I.Dev.state images.old images.new) path.now size table_line (W.contents writer.old.inner) (W.contents writer.new.inner)) }
+    ensures err { IfErr result (IsImageEnd (calls I.relations I.Dev.state images.old images.new) path.now (λ old new. IsTableEnd old new size writer.new.failed)) }
+{
+    let mut image = open_image(images, path, false)?;
+    list_object(alloc, &mut image.device, size, writer)
+}
+
+// The same of a device.
+fn list_object<'a, D: BlockDev, W: Write>(
+    alloc: Global,
+    device: &mut D,
+    size: SectorSize,
+    writer: &mut Counted<W>,
+) -> Result<(), PartitionsFault<'a>>
+    ensures ok { OnOk result (PrintsPartitions (D.state device.old) (D.state device.new) size table_line (W.contents writer.old.inner) (W.contents writer.new.inner)) }
+    ensures err { IfErr result (IsTableEnd (D.state device.old) (D.state device.new) size writer.new.failed) }
+{
+    let table = read_table(alloc, device, size)?;
+    let line = table_line(alloc, &table)?;
+    writer.put(line.as_bytes())?;
+    Ok(())
 }
 
 /// `partitions --stack IMAGE`: the text of a stack with a read-only device for each partition, over the leaf DISK.

@@ -5,7 +5,7 @@ ghost use Rattle.image_files.specs.Opener.{calls};
 ghost use Rattle.partition_commands.specs.Invocations.{IsListingEnd, ListsPartitions, size_of};
 
 use crate::fault::PartitionsFault;
-use crate::image::{partitions_of_image, stack_of_image};
+use crate::image::{object_of_image, partitions_of_image, stack_of_image};
 use crate::root_stack::root_stack_of_image;
 use command_line::{PartitionForm, PartitionsWords};
 use counted_io::Counted;
@@ -27,7 +27,7 @@ fn size_of(bytes: u32) -> SectorSize
     }
 }
 
-/// `partitions [--sector-size 512|4096] [--stack | --root ROOT] IMAGE`
+/// `partitions [--sector-size 512|4096] [--json | --stack | --root ROOT] IMAGE`
 pub fn invoke_partitions<'a, I: Images, W: Write>(
     alloc: Global,
     images: &mut I,
@@ -45,6 +45,7 @@ pub fn invoke_partitions<'a, I: Images, W: Write>(
     let size = size_of(sector_size);
     match form {
         PartitionForm::Lines => partitions_of_image(alloc, images, image, size, writer),
+        PartitionForm::Object => object_of_image(alloc, images, image, size, writer),
         PartitionForm::Stack => stack_of_image(alloc, images, image, size, writer),
         PartitionForm::Root(root) => {
             root_stack_of_image(alloc, images, image, size, &root, writer)

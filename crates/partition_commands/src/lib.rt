@@ -10,6 +10,7 @@ mod kinds;
 mod label;
 mod line;
 mod names;
+mod object;
 mod parts;
 mod print;
 mod refusal;
@@ -18,7 +19,7 @@ mod root_stack;
 
 pub use fault::{PartitionsFault, PrintFault};
 pub use fault_text::{partitions_status, say_partitions_fault};
-pub use image::{partitions_of_image, stack_of_image};
+pub use image::{object_of_image, partitions_of_image, stack_of_image};
 pub use invoke::invoke_partitions;
 pub use kinds::kind_name;
 pub use label::label_text;

@@ -9,15 +9,13 @@ ghost use Rattle.rescue_files.specs.Turns.{IsSpan, IsTurnsEnd, IsUnwritten, Resc
 use crate::fault::RescueFault;
 use crate::map_file::MapFile;
 use block_device::{BlockDev, SyncDev};
-use counted_io::Counted;
 use image_files::Images;
 use progress::Progress;
 use rescue_map::{Map, Span, Totals, is_had, print_map, splice, totals_of};
 use stack_config::DevId;
 use stack_engine::Stack;
-use stack_recovery::rescue;
+use stack_recovery::{Listing, rescue};
 use std::alloc::{AllocError, Global};
-use std::io::Write;
 
 const LEAST_TURN: u64 = 131_072;
 
@@ -77,14 +75,14 @@ struct NextTurn<'a> {
 }
 
 // Asks the sectors, and puts the map that says what was had in the place of the one before.
-fn take_turn<I: Images, D: BlockDev, O: SyncDev, W: Write, P: Progress>(
+fn take_turn<I: Images, D: BlockDev, O: SyncDev, L: Listing, P: Progress>(
     alloc: Global,
     images: &mut I,
     stack: &mut Stack<D>,
     d: DevId,
     out: &mut O,
     turn: NextTurn<'_>,
-    writer: &mut Counted<W>,
+    listing: &mut L,
     progress: &mut P,
 ) -> Result<Map, RescueFault>
     requires device { d.0 < length stack.old.config.devices }
@@ -94,11 +92,11 @@ fn take_turn<I: Images, D: BlockDev, O: SyncDev, W: Write, P: Progress>(
     requires wanted { marks turn.wanted.now ≡ asked turn.span turn.sectors turn.map.now }
     requires room { size stack.old.config (mapped d.0) ≤ (O.state out.old).size }
     requires allowed { IsTrue (O.state out.old).may_write }
-    ensures ok { IfOk result (λ map. Turn (kept I.relations.replaces turn.entry.path.now d.0 turn.entry.sectors) (progressed images.old (sides stack.old (O.state out.old) (W.contents writer.old.inner)) turn.entry.map.now turn.entry.span.first) (progressed images.new (sides stack.new (O.state out.new) (W.contents writer.new.inner)) map (turn.entry.span.first + turn.entry.span.count))) }
+    ensures ok { IfOk result (λ map. Turn (kept I.relations.replaces turn.entry.path.now d.0 turn.entry.sectors) (progressed images.old (sides stack.old (O.state out.old) (L.told listing.old)) turn.entry.map.now turn.entry.span.first) (progressed images.new (sides stack.new (O.state out.new) (L.told listing.new)) map (turn.entry.span.first + turn.entry.span.count))) }
     ensures sectors { IfOk result (λ map. length (marks map) ≡ turn.entry.sectors) }
-    ensures err { IfErr result (StopsIn (kept I.relations.replaces turn.entry.path.now d.0 turn.entry.sectors) (progressed images.old (sides stack.old (O.state out.old) (W.contents writer.old.inner)) turn.entry.map.now turn.entry.span.first) images.new (sides stack.new (O.state out.new) (W.contents writer.new.inner)) writer.new.failed) }
+    ensures err { IfErr result (StopsIn (kept I.relations.replaces turn.entry.path.now d.0 turn.entry.sectors) (progressed images.old (sides stack.old (O.state out.old) (L.told listing.old)) turn.entry.map.now turn.entry.span.first) images.new (sides stack.new (O.state out.new) (L.told listing.new)) (L.failed listing.new)) }
 {
-    let rescued = rescue(alloc, stack, d, out, turn.wanted, writer, progress)?;
+    let rescued = rescue(alloc, stack, d, out, turn.wanted, listing, progress)?;
     out.sync()?;
     let map = splice(alloc, turn.map, &rescued.map, turn.span, turn.sectors)?;
     let tried = tried_before(turn.sectors, turn.span.first + turn.span.count);
@@ -107,29 +105,29 @@ fn take_turn<I: Images, D: BlockDev, O: SyncDev, W: Write, P: Progress>(
 }
 
 /// Reads each sector of a mapped device that wasn't had, as a map says, in turns of 64 MiB or of a 256th of the device. In
-/// each turn the longest runs of sectors that are lost by one fault are printed; what is had is put where it stands on
+/// each turn the longest runs of sectors that are lost by one fault are told; what is had is put where it stands on
 /// another device, which has room for all, and on its medium; and then the map, with what was had and what is lost, is put
 /// in the place of the one before. So a cut loses one turn.
 ///
 /// # Errors
 ///
 /// The map that then stands is that of the turns before.
-pub fn rescue_in_turns<I: Images, D: BlockDev, O: SyncDev, W: Write, P: Progress>(
+pub fn rescue_in_turns<I: Images, D: BlockDev, O: SyncDev, L: Listing, P: Progress>(
     alloc: Global,
     images: &mut I,
     stack: &mut Stack<D>,
     d: DevId,
     out: &mut O,
     file: MapFile<'_>,
-    writer: &mut Counted<W>,
+    listing: &mut L,
     progress: &mut P,
 ) -> Result<Totals, RescueFault>
     requires device { d.0 < length stack.old.config.devices }
     requires fits { length (marks file.map) ≡ size stack.old.config (mapped d.0) }
     requires room { size stack.old.config (mapped d.0) ≤ (O.state out.old).size }
     requires allowed { IsTrue (O.state out.old).may_write }
-    ensures ok { IfOk result (RescuesInTurns (kept I.relations.replaces file.entry.path.now d.0 (size stack.old.config (mapped d.0))) (progressed images.old (sides stack.old (O.state out.old) (W.contents writer.old.inner)) file.entry.map 0) images.new (sides stack.new (O.state out.new) (W.contents writer.new.inner))) }
-    ensures err { IfErr result (IsTurnsEnd (kept I.relations.replaces file.entry.path.now d.0 (size stack.old.config (mapped d.0))) (progressed images.old (sides stack.old (O.state out.old) (W.contents writer.old.inner)) file.entry.map 0) images.new (sides stack.new (O.state out.new) (W.contents writer.new.inner)) writer.new.failed) }
+    ensures ok { IfOk result (RescuesInTurns (kept I.relations.replaces file.entry.path.now d.0 (size stack.old.config (mapped d.0))) (progressed images.old (sides stack.old (O.state out.old) (L.told listing.old)) file.entry.map 0) images.new (sides stack.new (O.state out.new) (L.told listing.new))) }
+    ensures err { IfErr result (IsTurnsEnd (kept I.relations.replaces file.entry.path.now d.0 (size stack.old.config (mapped d.0))) (progressed images.old (sides stack.old (O.state out.old) (L.told listing.old)) file.entry.map 0) images.new (sides stack.new (O.state out.new) (L.told listing.new)) (L.failed listing.new)) }
 {
     let sectors = stack.config().sectors(d);
     let MapFile { path, mut map } = file;
@@ -148,7 +146,7 @@ pub fn rescue_in_turns<I: Images, D: BlockDev, O: SyncDev, W: Write, P: Progress
                 map: &map,
                 wanted: &wanted,
             };
-            map = take_turn(alloc, images, stack, d, out, turn, writer, progress)?;
+            map = take_turn(alloc, images, stack, d, out, turn, listing, progress)?;
             at += count;
         }
     }

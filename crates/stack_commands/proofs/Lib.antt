@@ -1,6 +1,7 @@
 pub mod ClosingLemmas
 pub mod ConfigurationLemmas
 pub mod EndingLemmas
+pub mod KeptLemmas
 pub mod OpeningLemmas
 pub mod RecoveryLemmas
 pub mod ServeLemmas

@@ -29,7 +29,7 @@ put_on stack cache source put bindings = put_words (on stack bindings) cache sou
 
 -- what each command prints where it succeeds; the texts are the values of `format`'s options
 abbrev pub Succeeds : {S D T G : Type 0} → OptionTexts → InvocationRecord → Uses S D T G → Type 0
-Succeeds texts (load stack bindings) u = PrintsDevices u.images (on stack bindings) u.old.output u.new.output
+Succeeds texts (load stack bindings) u = PrintsDevices false u.images (on stack bindings) u.old.output u.new.output
 Succeeds texts (read cache stack name first count bindings) u = PrintsReply u.images (on stack bindings) cache (a_read name first count) u.old.output u.new.output
 Succeeds texts (write cache stack name first source bindings) u = PrintsWritten u.images (put_on stack cache source (a_write name first) bindings) u.old.output u.new.output
 Succeeds texts (session cache bindings) u = Serves u.images cache bindings u.old u.new (Ok tt) (Ok tt)

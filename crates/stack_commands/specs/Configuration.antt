@@ -1,5 +1,5 @@
 -- The configuration that a stack file makes of leaves, and what `load` prints of it.
-use Rattle.std.specs.Prelude.{ℕ, zero, suc, List, [], ◌++◌, length, codes, decimal, Option, Some, None, Result, Ok, Err, if◌then◌else◌}
+use Rattle.std.specs.Prelude.{ℕ, zero, suc, Bool, true, false, List, [], ◌++◌, length, codes, decimal, Option, Some, None, Result, Ok, Err, if◌then◌else◌}
 use Rattle.dm_table.specs.declared.stack.Entry.{Entry}
 use Rattle.dm_table.specs.declared.fault.TextFault.{TextFault}
 use Rattle.dm_table.specs.StackText.{stack_of}
@@ -10,6 +10,8 @@ use Rattle.stack_rules.specs.Leaves.{first_fault}
 use Rattle.stack_rules.specs.Names.{mapped, name_of, size, may_write}
 use Rattle.stack_rules.specs.Descend.{depth, read_cost, write_cost}
 use Rattle.stack_rules.specs.Rules.{first_refusal, after_load}
+use Rattle.reply_json.specs.Lines.{json_line}
+use Rattle.stack_json.specs.Devices.{load_json}
 use Rattle.stack_commands.specs.declared.fault.CommandFault.{CommandFault}
 use Rattle.stack_commands.specs.declared.fault.CommandFault.TheVariants.{Leaves, Text, Load}
 
@@ -54,3 +56,8 @@ device_lines c (suc n) = device_lines c n ++ device_line c n
 -- a line for each device
 abbrev pub devices_text : Configuration → List ℕ
 devices_text c = device_lines c (length c.devices)
+
+-- as an object, or a line each
+abbrev pub load_text : Bool → Configuration → List ℕ
+load_text true c = json_line (load_json c)
+load_text false c = devices_text c

@@ -13,13 +13,14 @@ use Rattle.stack_rules.specs.declared.refusal.LoadFault.{LoadFault}
 use Rattle.stack_rules.specs.declared.refusal.LoadFault.TheVariants as load
 use Rattle.stack_meaning.specs.declared.fault.IoFault.TheVariants as io
 use Rattle.stack_commands.specs.declared.fault.CommandFault.{CommandFault}
-use Rattle.stack_commands.specs.declared.fault.CommandFault.TheVariants.{Usage, NoMemory, TooLong, Open, Outside, Leaves, Text, Load, Submit, Io, Verity, Partitions, Trees, Cat, Store, Lost, OutputTooSmall, OutputFailed, Map, Session, Service}
+use Rattle.stack_commands.specs.declared.fault.CommandFault.TheVariants.{Usage, NoMemory, TooLong, Open, Outside, Leaves, Text, Load, Submit, Io, Verity, Fec, Partitions, Trees, Cat, Store, Lost, LostAsSaid, OutputTooSmall, OutputFailed, Map, Session, Service}
 use Rattle.nbd_protocol.specs.declared.fault.ServiceFault.TheVariants as service
 use Rattle.stack_session.specs.declared.fault.SessionFault.TheVariants.{WriteFault}
 use Rattle.verity_commands.specs.Endings as verity
 use Rattle.verity_commands.specs.Texts.{verity_text}
 use Rattle.stack_commands.specs.MapTexts.{map_fault_text}
 use Rattle.stack_commands.specs.StreamTexts.{cat_status, cat_text, store_status, store_text}
+use Rattle.fec_commands.specs.FaultTexts.{fec_status, fec_text}
 use Rattle.partition_commands.specs.FaultTexts.{partitions_status, partitions_text}
 use Rattle.tree_commands.specs.FaultTexts.{tree_status, tree_text}
 use Rattle.stack_rules.specs.FaultKinds.{config_number, config_name}
@@ -68,7 +69,7 @@ counts_text read lost = codes "read " ++ (decimal read ++ (codes " lost " ++ (de
 abbrev pub too_small_text : ℕ → List ℕ
 too_small_text needed = codes "refused 1 TooSmall needed " ++ (decimal needed ++ codes "\n")
 
--- what is printed of it; the own faults of a session and of the service of a client print nothing
+-- what is printed of it; the own faults of a session and of the service of a client print nothing, nor what an object said
 abbrev pub ending_text : CommandFault → List ℕ
 ending_text Usage = usage_text
 ending_text NoMemory = no_memory
@@ -81,11 +82,13 @@ ending_text (Load refusal) = refusal_text refusal
 ending_text (Submit fault) = submit_text fault
 ending_text (Io fault) = io_text fault
 ending_text (Verity fault) = verity_text fault
+ending_text (Fec fault) = fec_text fault
 ending_text (Partitions fault) = partitions_text fault
 ending_text (Trees fault) = tree_text fault
 ending_text (Cat fault) = cat_text fault
 ending_text (Store fault) = store_text fault
 ending_text (Lost read lost) = counts_text read lost
+ending_text LostAsSaid = []
 ending_text (OutputTooSmall needed) = too_small_text needed
 ending_text OutputFailed = codes "refused 2 Device\n"
 ending_text (Map fault) = map_fault_text fault
@@ -99,11 +102,13 @@ ending_status Usage = 2
 ending_status (Io io.NoMemory) = 1
 ending_status (Io fault) = 3
 ending_status (Verity fault) = verity.verity_status fault
+ending_status (Fec fault) = fec_status fault
 ending_status (Partitions fault) = partitions_status
 ending_status (Trees fault) = tree_status fault
 ending_status (Cat fault) = cat_status fault
 ending_status (Store fault) = store_status fault
 ending_status (Lost read lost) = 3
+ending_status LostAsSaid = 3
 ending_status (Service service.Lost) = 4
 ending_status (Service service.Magic) = 4
 ending_status (Service service.Flags) = 4

@@ -1,23 +1,27 @@
 -- What the further commands print where they succeed, and how they end early.
 use Rattle.std.specs.Io.KnownBytes.{Appends}
-use Rattle.std.specs.Prelude.{◌≡◌, ◌⊎◌, ◌≢◌, ℕ, Bool, codes, List, None, Ok, Option, Some}
+use Rattle.std.specs.Prelude.{◌≡◌, ◌⊎◌, ◌≢◌, ℕ, Bool, true, false, codes, List, None, Ok, Option, Some}
 use Rattle.command_line.specs.FormatOptions.{OptionTexts}
-use Rattle.command_line.specs.FurtherRecords.{FurtherRecord, cat, copy, diff, dump, exports, format, format_tree, manual, partitions, scan, store, table, table_tree, verify, verify_tree, version}
+use Rattle.command_line.specs.FurtherRecords.{FurtherRecord, cat, copy, diff, dump, exports, format, format_fec, format_tree, load, manual, partitions, scan, store, table, table_tree, verify, verify_fec, verify_tree, version}
 use Rattle.command_line.specs.words.Cat.{CatRecord}
 use Rattle.command_line.specs.words.Copy.{CopyRecord}
 use Rattle.command_line.specs.words.Exports.{ExportsRecord}
+use Rattle.command_line.specs.words.Load.{LoadRecord}
 use Rattle.command_line.specs.words.Scan.{ScanRecord}
 use Rattle.command_line.specs.words.Store.{StoreRecord}
 use Rattle.counted_io.specs.Streams.{Streams}
 use Rattle.image_files.specs.Opener.{Calls}
+use Rattle.fec_commands.specs.declared.fault.FecFault.{FecFault}
+use Rattle.fec_commands.specs.Commands.{FormatsFec, IsFormatFecEnd, IsVerifyFecEnd, VerifiesFec}
 use Rattle.partition_commands.specs.declared.fault.PartitionsFault.{PartitionsFault}
 use Rattle.partition_commands.specs.Invocations.{IsListingEnd, ListsPartitions}
 use Rattle.tree_commands.specs.Invocations.{DiffsTrees, IsDiffWordsEnd}
 use Rattle.stack_commands.specs.declared.fault.CommandFault.{CommandFault}
-use Rattle.stack_commands.specs.declared.fault.CommandFault.TheVariants.{Partitions, Usage}
+use Rattle.stack_commands.specs.declared.fault.CommandFault.TheVariants.{Fec, Partitions, Usage}
 use Rattle.stack_commands.specs.Endings.{IsQuiet, IsUnwritten}
-use Rattle.stack_commands.specs.MappedCopies.{IsMappedCopyEnd, IsMappedScanEnd, PrintsMappedCopy, PrintsMappedScan}
-use Rattle.stack_commands.specs.Recoveries.{CopyWords, IsCopyEnd, IsScanEnd, PrintsCopy, PrintsScan, copy_words}
+use Rattle.stack_commands.specs.MappedCopies.{IsMappedCopyEnd, IsMappedScanEnd, PrintsMappedCopy, PrintsMappedScan, ScansByMap}
+use Rattle.stack_commands.specs.Recoveries.{CopyWords, IsCopyEnd, IsScanEnd, PrintsCopy, PrintsScan, Scans, copy_words}
+use Rattle.stack_commands.specs.ScanObjects.{IsMappedObjectEnd, IsScanObjectEnd, PrintsScanObject}
 use Rattle.stack_commands.specs.ManyExports.{IsExportsEnd, ServesExports}
 use Rattle.stack_commands.specs.StackCommands.{DeviceWords, FailsToList, IsStackEnd, PrintsDevices, device_on, on}
 use Rattle.stack_commands.specs.StoredFiles.{FileWords, IsFileEnd, PrintsFileStored, file_words}
@@ -32,6 +36,20 @@ use Rattle.stack_commands.specs.Verifying.{ChecksImage, IsCheckEnd}
 abbrev pub IsPartitionsEnd : (PartitionsFault → Type 0) → CommandFault → Type 0
 IsPartitionsEnd Ends (Partitions fault) = Ends fault
 IsPartitionsEnd Ends fault = ⊥
+
+-- ---- images with parity
+
+abbrev pub IsFecEnd : (FecFault → Type 0) → CommandFault → Type 0
+IsFecEnd Ends (Fec fault) = Ends fault
+IsFecEnd Ends fault = ⊥
+
+-- ---- the devices of a stack
+
+abbrev pub ListsDevices : {S D : Type 0} → Calls S D → LoadRecord → Option (List ℕ) → Option (List ℕ) → Type 0
+ListsDevices w l old new = PrintsDevices l.json w (on l.stack l.bindings) old new
+
+abbrev pub IsLoadWordsEnd : {S D : Type 0} → Calls S D → LoadRecord → Option (List ℕ) → Option (List ℕ) → Bool → CommandFault → Type 0
+IsLoadWordsEnd w l old new failed fault = IsStackEnd w (on l.stack l.bindings) (FailsToList failed) fault × IsQuiet fault old new
 
 -- ---- bytes of a device
 
@@ -62,20 +80,24 @@ IsStoreEnd w s old new failed fault = BySource s
 
 -- ---- a device that is gone over
 
--- with a map file or without one
-abbrev pub ScansBy : {S D : Type 0} → Option (List ℕ) → Calls S D → DeviceWords → Option (List ℕ) → Option (List ℕ) → Type 0
-ScansBy None w words old new = PrintsScan w words old new
-ScansBy (Some map) w words old new = PrintsMappedScan w words map old new
+-- with a map file or without one, as an object or as lines
+abbrev pub ScansBy : {S D : Type 0} → Option (List ℕ) → Bool → Calls S D → DeviceWords → Option (List ℕ) → Option (List ℕ) → Type 0
+ScansBy None false w words old new = PrintsScan w words old new
+ScansBy (Some map) false w words old new = PrintsMappedScan w words map old new
+ScansBy None true w words old new = PrintsScanObject (Scans w words) old new
+ScansBy (Some map) true w words old new = PrintsScanObject (ScansByMap w words map) old new
 
 abbrev pub ScansSectors : {S D : Type 0} → Calls S D → ScanRecord → Option (List ℕ) → Option (List ℕ) → Type 0
-ScansSectors w s old new = ScansBy s.map w (device_on s.stack s.name s.cache s.bindings) old new
+ScansSectors w s old new = ScansBy s.map s.json w (device_on s.stack s.name s.cache s.bindings) old new
 
-abbrev pub IsScanEndBy : {S D : Type 0} → Option (List ℕ) → Calls S D → DeviceWords → Option (List ℕ) → Option (List ℕ) → Bool → CommandFault → Type 0
-IsScanEndBy None w words old new failed fault = IsScanEnd w words old new failed fault
-IsScanEndBy (Some map) w words old new failed fault = IsMappedScanEnd w words map old new failed fault
+abbrev pub IsScanEndBy : {S D : Type 0} → Option (List ℕ) → Bool → Calls S D → DeviceWords → Option (List ℕ) → Option (List ℕ) → Bool → CommandFault → Type 0
+IsScanEndBy None false w words old new failed fault = IsScanEnd w words old new failed fault
+IsScanEndBy (Some map) false w words old new failed fault = IsMappedScanEnd w words map old new failed fault
+IsScanEndBy None true w words old new failed fault = IsScanObjectEnd w words old new failed fault
+IsScanEndBy (Some map) true w words old new failed fault = IsMappedObjectEnd w words map old new failed fault
 
 abbrev pub IsScanWordsEnd : {S D : Type 0} → Calls S D → ScanRecord → Option (List ℕ) → Option (List ℕ) → Bool → CommandFault → Type 0
-IsScanWordsEnd w s old new failed fault = IsScanEndBy s.map w (device_on s.stack s.name s.cache s.bindings) old new failed fault
+IsScanWordsEnd w s old new failed fault = IsScanEndBy s.map s.json w (device_on s.stack s.name s.cache s.bindings) old new failed fault
 
 abbrev pub copied : CopyRecord → CopyWords
 copied c = copy_words (device_on c.stack c.name c.cache c.bindings) c.out c.differing
@@ -116,6 +138,7 @@ IsPageEnd old new failed fault = ((fault ≡ Usage) × (new ≡ old)) ⊎ IsUnwr
 
 -- what each prints where it succeeds; the texts are the values of `format`'s options
 abbrev pub SucceedsFurther : {S D T G : Type 0} → OptionTexts → FurtherRecord → Uses S D T G → Type 0
+SucceedsFurther texts (load l) u = ListsDevices u.images l u.old.output u.new.output
 SucceedsFurther texts (cat c) u = CatsSectors u.images c u.old.output u.new.output
 SucceedsFurther texts (store s) u = StoresSectors u.images s u.old u.new
 SucceedsFurther texts (format f) u = FormatsAt texts u.images u.drawing f u.old.output u.new.output
@@ -132,9 +155,12 @@ SucceedsFurther texts version u = ShowsPage u
 SucceedsFurther texts (format_tree f) u = FormatsTree texts u.images u.drawing f u.old.output u.new.output
 SucceedsFurther texts (verify_tree v) u = VerifiesTree texts u.images v u.old.output u.new.output
 SucceedsFurther texts (table_tree t) u = PrintsTreeEntry texts u.images t u.old.output u.new.output
+SucceedsFurther texts (format_fec f) u = FormatsFec texts u.images u.drawing f u.old.output u.new.output
+SucceedsFurther texts (verify_fec v) u = VerifiesFec u.images v u.old.output u.new.output
 
 -- how each ends early, where the last but one says whether the writer failed
 abbrev pub FailsFurther : {S D T G : Type 0} → OptionTexts → FurtherRecord → Uses S D T G → Bool → CommandFault → Type 0
+FailsFurther texts (load l) u failed fault = IsLoadWordsEnd u.images l u.old.output u.new.output failed fault
 FailsFurther texts (cat c) u failed fault = IsCatEnd u.images c u.old.output u.new.output failed fault
 FailsFurther texts (store s) u failed fault = IsStoreEnd u.images s u.old u.new failed fault
 FailsFurther texts (format f) u failed fault = IsVerityEnd (IsFormatEnd texts u.images u.drawing f u.old.output u.new.output failed) fault
@@ -151,3 +177,5 @@ FailsFurther texts version u failed fault = IsPageEnd u.old.output u.new.output 
 FailsFurther texts (format_tree f) u failed fault = IsVerityEnd (IsFormatTreeEnd texts u.images u.drawing f u.old.output u.new.output failed) fault
 FailsFurther texts (verify_tree v) u failed fault = IsVerityEnd (IsVerifyTreeEnd texts u.images v u.old.output u.new.output failed) fault
 FailsFurther texts (table_tree t) u failed fault = IsVerityEnd (IsTableTreeEnd texts u.images t u.old.output u.new.output failed) fault
+FailsFurther texts (format_fec f) u failed fault = IsFecEnd (IsFormatFecEnd texts u.images u.drawing f u.old.output u.new.output failed) fault
+FailsFurther texts (verify_fec v) u failed fault = IsFecEnd (IsVerifyFecEnd u.images v u.old.output u.new.output failed) fault

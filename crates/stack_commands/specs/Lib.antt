@@ -10,6 +10,7 @@ pub mod MappedCopies
 pub mod Recoveries
 pub mod Recovering
 pub mod Requests
+pub mod ScanObjects
 pub mod StackCommands
 pub mod StacksOfTexts
 pub mod StoredFiles

@@ -30,7 +30,7 @@ use Rattle.stack_opening.specs.declared.stack_file.OpenStack.{OpenStack}
 use Rattle.command_line.specs.Bindings.{BindingRecord}
 use Rattle.stack_opening.specs.Bindings.{AreBound}
 use Rattle.stack_commands.specs.Closings.{GivesBack, IsGivenBack}
-use Rattle.stack_commands.specs.Configuration.{devices_text, leaves_alone}
+use Rattle.stack_commands.specs.Configuration.{leaves_alone, load_text}
 use Rattle.stack_commands.specs.Endings.{IsOpeningEnd, IsUnwritten}
 use Rattle.stack_opening.specs.Openings.{IsBindingEnd}
 use Rattle.stack_opening.specs.OpenStacks.{FailsToOpen, FailsToOpenSource, OpensSource, OpensStack, StackWords}
@@ -49,10 +49,10 @@ pub record Loads {S D : Type 0} (w : Calls S D) (words : StackWords) (stack : St
   pub made : IsStackOf w.state over stack
 
 -- `load`: a line for each mapped device
-pub record PrintsDevices {S D : Type 0} (w : Calls S D) (words : StackWords) (old new : Option (List ℕ)) : Type 0 where
+pub record PrintsDevices {S D : Type 0} (json : Bool) (w : Calls S D) (words : StackWords) (old new : Option (List ℕ)) : Type 0 where
   pub stack : StackRecord
   pub loaded : Loads w words stack
-  pub printed : Appends old new (devices_text stack.config)
+  pub printed : Appends old new (load_text json stack.config)
 
 -- `read`: what a request for sectors gave, the first of a new queue over the stack, which keeps so many hash blocks
 pub record PrintsReply {S D : Type 0} (w : Calls S D) (words : StackWords) (cache : ℕ) (request : RequestRecord) (old new : Option (List ℕ)) : Type 0 where

@@ -7,16 +7,14 @@ ghost use Rattle.stack_commands.specs.ByMap.{IsMapEnd, IsRescued, IsUnrescued, c
 
 use crate::fault::CommandFault;
 use block_device::{BlockDev, SyncDev};
-use counted_io::Counted;
 use image_files::Images;
 use progress::Progress;
 use rescue_files::{MapFile, RescueFault, read_map, rescue_in_turns};
 use rescue_map::Totals;
 use stack_config::DevId;
 use stack_engine::Stack;
-use stack_recovery::Counts;
+use stack_recovery::{Counts, Listing};
 use std::alloc::Global;
-use std::io::Write;
 
 /// Why a device isn't gone over to its end by the map file under this path.
 #[derive(Clone, Copy, Debug, PartialEq, Eq)]
@@ -27,21 +25,21 @@ pub struct UnkeptMap<'a> {
 
 /// Goes over the sectors of the device that weren't had, as the map file under a path says, and keeps it; what is had is
 /// copied to another device.
-pub fn rescue_by_map<'a, I: Images, D: BlockDev, O: SyncDev, W: Write, P: Progress>(
+pub fn rescue_by_map<'a, I: Images, D: BlockDev, O: SyncDev, L: Listing, P: Progress>(
     alloc: Global,
     images: &mut I,
     stack: &mut Stack<D>,
     device: DevId,
     out: &mut O,
     path: &'a str,
-    writer: &mut Counted<W>,
+    listing: &mut L,
     progress: &mut P,
 ) -> Result<Counts, CommandFault<'a>>
     requires device { device.0 < length stack.old.config.devices }
     requires room { size stack.old.config (mapped device.0) ≤ (O.state out.old).size }
     requires allowed { IsTrue (O.state out.old).may_write }
-    ensures ok { IfOk result (IsRescued (calls I.relations I.Dev.state images.old images.new) path.now device.0 (moving (sides stack.old (O.state out.old) (W.contents writer.old.inner)) (sides stack.new (O.state out.new) (W.contents writer.new.inner)))) }
-    ensures err { IfErr result (IsMapEnd path.now (IsUnrescued (calls I.relations I.Dev.state images.old images.new) path.now device.0 (moving (sides stack.old (O.state out.old) (W.contents writer.old.inner)) (sides stack.new (O.state out.new) (W.contents writer.new.inner))) writer.new.failed)) }
+    ensures ok { IfOk result (IsRescued (calls I.relations I.Dev.state images.old images.new) path.now device.0 (moving (sides stack.old (O.state out.old) (L.told listing.old)) (sides stack.new (O.state out.new) (L.told listing.new)))) }
+    ensures err { IfErr result (IsMapEnd path.now (IsUnrescued (calls I.relations I.Dev.state images.old images.new) path.now device.0 (moving (sides stack.old (O.state out.old) (L.told listing.old)) (sides stack.new (O.state out.new) (L.told listing.new))) (L.failed listing.new))) }
 {
     // How many sectors a device can have is learned from a call.
     let _most = out.sectors();
@@ -51,7 +49,7 @@ pub fn rescue_by_map<'a, I: Images, D: BlockDev, O: SyncDev, W: Write, P: Progre
         Err(fault) => return Err(CommandFault::Map(UnkeptMap { path, fault })),
     };
     let file = MapFile { path, map };
-    match rescue_in_turns(alloc, images, stack, device, out, file, writer, progress) {
+    match rescue_in_turns(alloc, images, stack, device, out, file, listing, progress) {
         Ok(totals) => Ok(counts_of(totals)),
         Err(fault) => Err(CommandFault::Map(UnkeptMap { path, fault })),
     }

@@ -16,7 +16,7 @@ use request_queue::SubmitFault;
 use stack_config::DevId;
 use stack_engine::Stack;
 use stack_opening::OpenStack;
-use stack_recovery::{Counts, RecoveryFault, recover_with};
+use stack_recovery::{Counts, Listing, RecoveryFault, recover_with};
 use stack_session::SessionFault;
 use std::alloc::Global;
 use std::io::Write;
@@ -62,20 +62,20 @@ pub fn load_device<'a, D: BlockDev + Drop>(
 }
 
 /// Goes over the device, and copies what is had to another one.
-pub fn recover_device<'a, D: BlockDev + Drop, O: BlockDev, W: Write, P: Progress>(
+pub fn recover_device<'a, D: BlockDev + Drop, O: BlockDev, L: Listing, P: Progress>(
     stack: &mut Stack<D>,
     device: DevId,
     out: &mut O,
-    writer: &mut Counted<W>,
+    listing: &mut L,
     progress: &mut P,
 ) -> Result<Counts, CommandFault<'a>>
     requires device { device.0 < length stack.old.config.devices }
     requires room { size stack.old.config (mapped device.0) ≤ (O.state out.old).size }
     requires allowed { IsTrue (O.state out.old).may_write }
-    ensures ok { IfOk result (λ counts. Recovers device.0 (sides stack.old (O.state out.old) (W.contents writer.old.inner)) counts (sides stack.new (O.state out.new) (W.contents writer.new.inner))) }
-    ensures err { IfErr result (IsRecoverEnd device.0 (sides stack.old (O.state out.old) (W.contents writer.old.inner)) (sides stack.new (O.state out.new) (W.contents writer.new.inner)) writer.new.failed) }
+    ensures ok { IfOk result (λ counts. Recovers device.0 (sides stack.old (O.state out.old) (L.told listing.old)) counts (sides stack.new (O.state out.new) (L.told listing.new))) }
+    ensures err { IfErr result (IsRecoverEnd device.0 (sides stack.old (O.state out.old) (L.told listing.old)) (sides stack.new (O.state out.new) (L.told listing.new)) (L.failed listing.new)) }
 {
-    match recover_with(stack, device, out, writer, progress) {
+    match recover_with(stack, device, out, listing, progress) {
         Ok(counts) => Ok(counts),
         Err(RecoveryFault::NoMemory) => Err(CommandFault::NoMemory),
         Err(RecoveryFault::Output) => Err(CommandFault::OutputFailed),

@@ -8,6 +8,7 @@ use crate::map_texts::say_map_fault;
 use crate::stream_status::{cat_status, store_status};
 use crate::stream_texts::{say_cat_fault, say_store_fault};
 use counted_io::{Counted, WriteFault};
+use fec_commands::{fec_status, say_fec_fault};
 use io_fault_text::{say_io_fault, say_no_memory, say_refused, say_unopened, say_usage};
 use nbd_server::ServiceFault;
 use partition_commands::{partitions_status, say_partitions_fault};
@@ -47,11 +48,13 @@ fn status_of(fault: CommandFault<'_>) -> u8
         CommandFault::Io(IoFault::NoMemory) => REFUSED,
         CommandFault::Io(_) => FAULT,
         CommandFault::Verity(fault) => verity_status(fault),
+        CommandFault::Fec(fault) => fec_status(fault),
         CommandFault::Partitions(fault) => partitions_status(fault),
         CommandFault::Trees(fault) => tree_status(fault),
         CommandFault::Cat(fault) => cat_status(fault),
         CommandFault::Store(fault) => store_status(fault),
         CommandFault::Lost { .. } => FAULT,
+        CommandFault::LostAsSaid => FAULT,
         CommandFault::Service(
             ServiceFault::Lost
             | ServiceFault::Magic
@@ -78,11 +81,13 @@ fn say_fault<W: Write>(writer: &mut Counted<W>, fault: CommandFault<'_>) -> Resu
         CommandFault::Submit(fault) => say_submit_fault(writer, fault),
         CommandFault::Io(fault) => say_io_fault(writer, fault),
         CommandFault::Verity(fault) => say_verity_fault(writer, fault),
+        CommandFault::Fec(fault) => say_fec_fault(writer, fault),
         CommandFault::Partitions(fault) => say_partitions_fault(writer, fault),
         CommandFault::Trees(fault) => say_tree_fault(writer, fault),
         CommandFault::Cat(fault) => say_cat_fault(writer, fault),
         CommandFault::Store(fault) => say_store_fault(writer, fault),
         CommandFault::Lost { read, lost } => say_counts(writer, read, lost),
+        CommandFault::LostAsSaid => Ok(()),
         CommandFault::OutputTooSmall { needed } => say_too_small(writer, needed),
         CommandFault::OutputFailed => writer.put(b"refused 2 Device\n"),
         CommandFault::Map(fault) => say_map_fault(writer, fault),

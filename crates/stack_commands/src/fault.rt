@@ -8,6 +8,7 @@ use crate::by_map::UnkeptMap;
 use command_line::WordsFault;
 use counted_io::WriteFault;
 use dm_table::{ParseFault, TextFault};
+use fec_commands::FecFault;
 use image_files::UnopenedFile;
 use nbd_server::ServiceFault;
 use partition_commands::PartitionsFault;
@@ -46,6 +47,8 @@ pub enum CommandFault<'a> {
     Io(IoFault),
     /// A command on verity images ended early.
     Verity(VerityFault<'a>),
+    /// A command on an image with parity ended early.
+    Fec(FecFault<'a>),
     /// A command on the partitions of an image ended early.
     Partitions(PartitionsFault<'a>),
     /// A command on hash trees ended early.
@@ -56,6 +59,8 @@ pub enum CommandFault<'a> {
     Store(StoreFault),
     /// So many sectors of a device were had, and so many are lost.
     Lost { read: u64, lost: u64 },
+    /// Sectors of a device are lost, as an object said.
+    LostAsSaid,
     /// The image to which a device is copied has fewer sectors than the device.
     OutputTooSmall { needed: u64 },
     /// The image to which a device is copied failed.
@@ -151,6 +156,14 @@ impl<'a> From<VerityFault<'a>> for CommandFault<'a> {
 
     fn from(fault: VerityFault<'a>) -> Self {
         CommandFault::Verity(fault)
+    }
+}
+
+impl<'a> From<FecFault<'a>> for CommandFault<'a> {
+    ghost from_gives = { λ fault given. given ≡ command_fault.Fec fault };
+
+    fn from(fault: FecFault<'a>) -> Self {
+        CommandFault::Fec(fault)
     }
 }
 

@@ -7,29 +7,33 @@ ghost use Rattle.command_line.specs.FurtherRecords.{further_record};
 ghost use Rattle.command_line.specs.words.Cat.{cat_record};
 ghost use Rattle.command_line.specs.words.Copy.{copy_record};
 ghost use Rattle.command_line.specs.words.Exports.{exports_record};
+ghost use Rattle.command_line.specs.words.Load.{load_record};
 ghost use Rattle.command_line.specs.words.Scan.{scan_record};
 ghost use Rattle.command_line.specs.words.Store.{store_record};
 ghost use Rattle.image_commands.specs.Drawing.{drawing};
 ghost use Rattle.image_files.specs.Opener.{calls};
-ghost use Rattle.stack_commands.specs.Further.{CatsSectors, CopiesSectors, FailsFurther, IsCatEnd, IsCopyWordsEnd, IsExportsWordsEnd, IsPageEnd, IsScanWordsEnd, IsStoreEnd, ScansSectors, ServesDevices, StoresSectors, SucceedsFurther};
+ghost use Rattle.stack_commands.specs.Further.{CatsSectors, CopiesSectors, FailsFurther, IsCatEnd, IsCopyWordsEnd, IsExportsWordsEnd, IsLoadWordsEnd, IsPageEnd, IsScanWordsEnd, IsStoreEnd, ListsDevices, ScansSectors, ServesDevices, StoresSectors, SucceedsFurther};
 ghost use Rattle.stack_commands.specs.Uses.{uses};
 
 use crate::cat::{Wanted, cat_device};
 use crate::copy::{Output, copy_device};
 use crate::device::NamedDevice;
 use crate::fault::CommandFault;
+use crate::load::load_stack_file;
 use crate::mapped_copy::copy_by_map;
 use crate::mapped_scan::scan_by_map;
 use crate::nbd::serve_exports;
 use crate::scan::scan_device;
+use crate::scan_object::{scan_to_object, scan_to_object_by_map};
 use crate::store::{Target, store_device};
 use crate::store_file::store_file;
 use crate::verify::check_image;
 use crate::words::stack_file;
 use command_line::{
-    CatWords, CopyWords, ExportsWords, Further, OptionWords, ScanWords, StoreWords,
+    CatWords, CopyWords, ExportsWords, Further, LoadWords, OptionWords, ScanWords, StoreWords,
 };
 use counted_io::Counted;
+use fec_commands::{invoke_format_fec, invoke_verify_fec};
 use image_commands::Generators;
 use image_files::Images;
 use manual_pages::{page_of, print_page, print_version};
@@ -42,6 +46,7 @@ use verity_commands::{
     invoke_dump, invoke_format, invoke_format_tree, invoke_table, invoke_table_tree,
     invoke_verify_tree,
 };
+use watched_device::Watchers;
 
 /// A further command, and the values of its options.
 #[derive(Drop)]
@@ -51,7 +56,7 @@ pub struct FurtherLine<'a> {
 }
 
 /// Runs a further command.
-pub fn invoke_further<'a, I: Images, G: Generators + Progress, S: Read, W: Write>(
+pub fn invoke_further<'a, I: Images, G: Generators + Progress + Watchers, S: Read, W: Write>(
     alloc: Global,
     images: &mut I,
     generators: &mut G,
@@ -64,13 +69,14 @@ pub fn invoke_further<'a, I: Images, G: Generators + Progress, S: Read, W: Write
 {
     let FurtherLine { further, options } = line;
     match further {
+        Further::Load(words) => invoke_load(alloc, images, words, writer),
         Further::Cat(words) => invoke_cat(alloc, images, words, writer, generators),
         Further::Store(words) => invoke_store(alloc, images, words, reader, writer, generators),
         Further::Format(words) => {
             Ok(invoke_format(alloc, images, generators, &words, &options, writer)?)
         }
-        Further::Verify(words) => check_image(alloc, images, &words, writer),
-        Further::Dump(words) => Ok(invoke_dump(images, &words, writer)?),
+        Further::Verify(words) => check_image(alloc, images, generators, &words, writer),
+        Further::Dump(words) => Ok(invoke_dump(alloc, images, &words, writer)?),
         Further::Table(words) => Ok(invoke_table(images, &words, writer)?),
         Further::Partitions(words) => Ok(invoke_partitions(alloc, images, words, writer)?),
         Further::Diff(words) => Ok(invoke_diff(alloc, images, words, writer)?),
@@ -78,10 +84,16 @@ pub fn invoke_further<'a, I: Images, G: Generators + Progress, S: Read, W: Write
             Ok(invoke_format_tree(alloc, images, generators, &words, &options, writer)?)
         }
         Further::VerifyTree(words) => {
-            Ok(invoke_verify_tree(alloc, images, &words, &options, writer)?)
+            Ok(invoke_verify_tree(alloc, images, generators, &words, &options, writer)?)
         }
         Further::TableTree(words) => {
             Ok(invoke_table_tree(alloc, images, &words, &options, writer)?)
+        }
+        Further::FormatFec(words) => {
+            Ok(invoke_format_fec(alloc, images, generators, &words, &options, writer)?)
+        }
+        Further::VerifyFec(words) => {
+            Ok(invoke_verify_fec(alloc, images, generators, &words, writer)?)
         }
         Further::Scan(words) => invoke_scan(alloc, images, words, writer, generators),
         Further::Copy(words) => invoke_copy(alloc, images, words, writer, generators),
@@ -103,6 +115,24 @@ fn show_page<'a, W: Write>(
         Some(page) => Ok(print_page(writer, page)?),
         None => Err(CommandFault::Usage),
     }
+}
+
+fn invoke_load<'a, I: Images, W: Write>(
+    alloc: Global,
+    images: &mut I,
+    words: LoadWords<'a>,
+    writer: &mut Counted<W>,
+) -> Result<(), CommandFault<'a>>
+    ensures ok { OnOk result (ListsDevices (calls I.relations I.Dev.state images.old images.new) (load_record words.entry) (W.contents writer.old.inner) (W.contents writer.new.inner)) }
+    ensures err { IfErr result (IsLoadWordsEnd (calls I.relations I.Dev.state images.old images.new) (load_record words.entry) (W.contents writer.old.inner) (W.contents writer.new.inner) writer.new.failed) }
+{
+    let LoadWords {
+        stack,
+        bindings,
+        json,
+    } = words;
+    let file = stack_file(stack, &bindings);
+    load_stack_file(alloc, images, file, json, writer)
 }
 
 fn invoke_cat<'a, I: Images, W: Write, P: Progress>(
@@ -187,12 +217,21 @@ fn invoke_scan<'a, I: Images, W: Write, P: Progress>(
         bindings,
         map,
         progress: is_shown,
+        json,
     } = words;
     if is_shown {
         progress.begin();
     }
     let file = stack_file(stack, &bindings);
     let device = NamedDevice { name, cache };
+    if json {
+        return match map {
+            None => scan_to_object(alloc, images, file, device, writer, progress),
+            Some(map) => {
+                scan_to_object_by_map(alloc, images, file, device, map, writer, progress)
+            }
+        };
+    }
     match map {
         None => scan_device(alloc, images, file, device, writer, progress),
         Some(map) => scan_by_map(alloc, images, file, device, map, writer, progress),

@@ -19,6 +19,7 @@ mod program;
 mod read;
 mod request;
 mod scan;
+mod scan_object;
 mod serve;
 mod store;
 mod store_file;

@@ -4,7 +4,7 @@ ghost use Rattle.std.specs.Io.KnownBytes.{Appends};
 ghost use Rattle.counted_io.specs.Counted.{Writes};
 ghost use Rattle.image_files.specs.Opener.{calls};
 ghost use Rattle.stack_rules.specs.Records.{Configuration};
-ghost use Rattle.stack_commands.specs.Configuration.{configuration_of, device_facts, device_line, devices_text};
+ghost use Rattle.stack_commands.specs.Configuration.{configuration_of, device_facts, device_line, devices_text, load_text};
 ghost use Rattle.stack_commands.specs.Endings.{IsQuiet, IsUnwritten};
 ghost use Rattle.stack_opening.specs.OpenStacks.{stack_words};
 ghost use Rattle.stack_commands.specs.StackCommands.{FailsToList, IsStackEnd, PrintsDevices};
@@ -15,19 +15,21 @@ use block_device::BlockDev;
 use counted_io::{Counted, WriteFault};
 use image_files::Images;
 use stack_config::{Config, DevId, Leaf};
+use stack_json::devices_line;
 use stack_opening::{OpenStack, StackFile, open_stack};
 use std::alloc::Global;
 use std::io::Write;
 
-/// `load STACK BINDING...`: the devices of a stack file over the bindings.
+/// `load [--json] STACK BINDING...`: the devices of a stack file over the bindings, as a JSON object or a line each.
 #[tactic(auto, using(crate::proofs::EndingLemmas::quiet))]
 pub fn load_stack_file<'a, I: Images, W: Write>(
     alloc: Global,
     images: &mut I,
     file: StackFile<'a, '_>,
+    json: bool,
     writer: &mut Counted<W>,
 ) -> Result<(), CommandFault<'a>>
-    ensures ok { OnOk result (PrintsDevices (calls I.relations I.Dev.state images.old images.new) (stack_words file.entry) (W.contents writer.old.inner) (W.contents writer.new.inner)) }
+    ensures ok { OnOk result (PrintsDevices json (calls I.relations I.Dev.state images.old images.new) (stack_words file.entry) (W.contents writer.old.inner) (W.contents writer.new.inner)) }
     ensures err { IfErr result (IsStackEnd (calls I.relations I.Dev.state images.old images.new) (stack_words file.entry) (FailsToList writer.new.failed)) }
     ensures quiet { IfErr result (λ fault. IsQuiet fault (W.contents writer.old.inner) (W.contents writer.new.inner)) }
 {
@@ -36,27 +38,49 @@ pub fn load_stack_file<'a, I: Images, W: Write>(
         leaves,
         devices: _devices,
     } = open_stack(alloc, images, file)?;
-    load(alloc, leaves, text.bytes.as_slice(), writer)
+    load(alloc, leaves, text.bytes.as_slice(), json, writer)
 }
 
-// Loads a text over the leaves, and writes a line for each mapped device.
+// Loads a text over the leaves, and says what its mapped devices are.
 #[tactic(auto, using(crate::proofs::EndingLemmas::quiet))]
 fn load<'a, W: Write>(
     alloc: Global,
     leaves: Vec<Leaf>,
     text: &[u8],
+    json: bool,
     writer: &mut Counted<W>,
 ) -> Result<(), CommandFault<'a>>
     requires { length text.now ≤ 2 ^ 20 }
     ensures ok { OnOk result ((c : Configuration) × (configuration_of leaves.items text.now ≡ Ok c)
-        × Appends (W.contents writer.old.inner) (W.contents writer.new.inner) (devices_text c)) }
+        × Appends (W.contents writer.old.inner) (W.contents writer.new.inner) (load_text json c)) }
     ensures err { IfErr result (λ fault. ((configuration_of leaves.items text.now ≡ Err fault) ⊎ (fault ≡ CommandFault.NoMemory)) ⊎ IsUnwritten writer.new.failed fault) }
     ensures quiet { IfErr result (λ fault. IsQuiet fault (W.contents writer.old.inner) (W.contents writer.new.inner)) }
 {
     match configuration_of(alloc, leaves, text) {
-        Ok(config) => Ok(say_devices(&config, writer)?),
+        Ok(config) => say_configuration(alloc, &config, json, writer),
         Err(fault) => Err(fault),
     }
+}
+
+// Its mapped devices, as an object on one line or a line each.
+#[tactic(auto, using(crate::proofs::EndingLemmas::quiet))]
+fn say_configuration<'a, W: Write>(
+    alloc: Global,
+    config: &Config,
+    json: bool,
+    writer: &mut Counted<W>,
+) -> Result<(), CommandFault<'a>>
+    ensures ok { OnOk result (Appends (W.contents writer.old.inner) (W.contents writer.new.inner) (load_text json config.now)) }
+    ensures err { IfErr result (λ fault. (fault ≡ CommandFault.NoMemory) ⊎ IsUnwritten writer.new.failed fault) }
+    ensures quiet { IfErr result (λ fault. IsQuiet fault (W.contents writer.old.inner) (W.contents writer.new.inner)) }
+{
+    if json {
+        let line = devices_line(alloc, config)?;
+        writer.put(line.as_bytes())?;
+        return Ok(());
+    }
+    say_devices(config, writer)?;
+    Ok(())
 }
 
 // A line for each mapped device.

@@ -30,6 +30,7 @@ use progress::Progress;
 use std::alloc::Global;
 use std::io::{Read, Write};
 use verity_commands::{VerityFault, invoke_on_images};
+use watched_device::Watchers;
 
 const DONE: u8 = 0;
 
@@ -38,7 +39,7 @@ const DONE: u8 = 0;
 ///
 /// All that is opened is opened by `images`. Why `cat` ends early goes to `errors`, since its bytes go to the writer;
 /// so does what is said of words that are no command, beside `usage`.
-pub fn command<I: Images, G: Generators + Progress, S: Read, W: Write, E: Write>(
+pub fn command<I: Images, G: Generators + Progress + Watchers, S: Read, W: Write, E: Write>(
     alloc: Global,
     images: &mut I,
     generators: &mut G,
@@ -96,7 +97,7 @@ fn is_cat(words: &[String]) -> bool
 }
 
 // Files are opened in the order of the words, once all words are read.
-fn run<'a, I: Images, G: Generators + Progress, S: Read, W: Write>(
+fn run<'a, I: Images, G: Generators + Progress + Watchers, S: Read, W: Write>(
     alloc: Global,
     images: &mut I,
     generators: &mut G,
@@ -114,7 +115,7 @@ fn run<'a, I: Images, G: Generators + Progress, S: Read, W: Write>(
 }
 
 // Runs a command; the options are those of `format`.
-fn invoke<'a, I: Images, G: Generators + Progress, S: Read, W: Write>(
+fn invoke<'a, I: Images, G: Generators + Progress + Watchers, S: Read, W: Write>(
     alloc: Global,
     images: &mut I,
     generators: &mut G,
@@ -134,7 +135,7 @@ fn invoke<'a, I: Images, G: Generators + Progress, S: Read, W: Write>(
     match invocation {
         Invocation::Load { stack, bindings } => {
             let file = stack_file(stack, &bindings);
-            load_stack_file(alloc, images, file, writer)
+            load_stack_file(alloc, images, file, false, writer)
         }
         Invocation::Read {
             cache,

@@ -12,11 +12,13 @@ use std::alloc::Global;
 use std::io::Write;
 use tree_commands::invoke_survey;
 use verity_commands::{VerityFault, invoke_verify, root_in};
+use watched_device::Watchers;
 
-/// `verify [--all] [--hash-offset BYTES] [--root-hash-file FILE] DATA HASH [ROOT]`
-pub fn check_image<'a, I: Images, W: Write>(
+/// `verify [--all] [--progress] [--hash-offset BYTES] [--root-hash-file FILE] DATA HASH [ROOT]`
+pub fn check_image<'a, I: Images, S: Watchers, W: Write>(
     alloc: Global,
     images: &mut I,
+    watchers: &S,
     words: &VerifyWords<'a>,
     writer: &mut Counted<W>,
 ) -> Result<(), CommandFault<'a>>
@@ -24,16 +26,17 @@ pub fn check_image<'a, I: Images, W: Write>(
     ensures err { IfErr result (IsCheckEnd (calls I.relations I.Dev.state images.old images.new) (verify_record words.now) (W.contents writer.old.inner) (W.contents writer.new.inner) writer.new.failed) }
 {
     if words.all {
-        go_over_image(alloc, images, words, writer)
+        go_over_image(alloc, images, watchers, words, writer)
     } else {
-        Ok(invoke_verify(alloc, images, words, writer)?)
+        Ok(invoke_verify(alloc, images, watchers, words, writer)?)
     }
 }
 
 // With `--all`: the root is known before an image is opened.
-fn go_over_image<'a, I: Images, W: Write>(
+fn go_over_image<'a, I: Images, S: Watchers, W: Write>(
     alloc: Global,
     images: &mut I,
+    watchers: &S,
     words: &VerifyWords<'a>,
     writer: &mut Counted<W>,
 ) -> Result<(), CommandFault<'a>>
@@ -44,5 +47,5 @@ fn go_over_image<'a, I: Images, W: Write>(
         Ok(root) => root,
         Err(fault) => return Err(CommandFault::Verity(VerityFault::Image(fault))),
     };
-    Ok(invoke_survey(alloc, images, words, &root, writer)?)
+    Ok(invoke_survey(alloc, images, watchers, words, &root, writer)?)
 }

@@ -1,5 +1,5 @@
 -- Lines that are written one after another.
-use Rattle.std.proofs.Common.{◌≡◌, ℕ, List, [], ◌++◌, Option, Some, None, Result, Ok, Err, sym, ap, ◌∙◌, subst}
+use Rattle.std.proofs.Common.{◌≡◌, ℕ, List, [], ◌∷◌, ◌++◌, Option, Some, None, Result, Ok, Err, sym, ap, ◌∙◌, subst}
 use Rattle.std.specs.Prelude.{IfErr, IfOk, IsErrAnd}
 use Rattle.std.specs.Io.KnownBytes.{Appends}
 use Rattle.std.proofs.lemmas.List.{append-nil, append_assoc}
@@ -21,6 +21,10 @@ writes-then (Some a) (Some b) (Some c) xs ys p q = q ∙ ap (λ (l : List ℕ). 
 
 pub runs-then : (a b c : Option (List ℕ)) (runs more : List LostRun) → Appends a b (runs_text runs) → Appends b c (runs_text more) → Appends a c (runs_text (runs ++ more))
 runs-then a b c runs more p q = rw (flat_map-append run_text runs more) (writes-then a b c (runs_text runs) (runs_text more) p q)
+
+-- the text of one run more
+pub runs_text_last : (runs : List LostRun) (run : LostRun) → runs_text (runs ++ run ∷ []) ≡ runs_text runs ++ run_text run
+runs_text_last runs run = flat_map-append run_text runs (run ∷ []) ∙ ap (λ (l : List ℕ). runs_text runs ++ l) (append-nil (run_text run))
 
 -- what holds of a fault holds of the result that hands it on
 pub err-from : {T : Type 0} (r : Result T RecoveryFault) (P : RecoveryFault → Type 0) (fault : RecoveryFault) → IsErrAnd r (λ e. e ≡ fault) → P fault → IfErr r P

@@ -1,6 +1,7 @@
 pub mod Alike
 pub mod Copies
 pub mod Laws
+pub mod Listings
 pub mod LostRuns
 pub mod Pieces
 pub mod Recoveries

@@ -4,6 +4,7 @@
 mod discard;
 mod fault;
 pub mod laws;
+mod listing;
 mod lost_run;
 mod notes;
 mod pace;
@@ -14,6 +15,7 @@ mod tally;
 
 pub use discard::Discard;
 pub use fault::RecoveryFault;
+pub use listing::{KeptRuns, Listing};
 pub use lost_run::{LostRun, is_same};
 pub use pace::Pace;
 pub use piece::{Piece, piece_at};

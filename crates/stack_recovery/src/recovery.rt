@@ -6,18 +6,17 @@ ghost use Rattle.rescue_map.specs.Aheads.{marks_ahead};
 ghost use Rattle.stack_recovery.specs.Recoveries.{GoesOver, IsNoted, IsRecoveryEnd, IsRescueEnd, Recovers, sides};
 
 use crate::fault::RecoveryFault;
+use crate::listing::Listing;
 use crate::lost_run::{LostRun, is_same};
 use crate::notes::note;
 use crate::pace::Pace;
 use crate::piece::piece_at;
 use crate::tally::Tally;
 use block_device::BlockDev;
-use counted_io::Counted;
 use progress::{NoProgress, Progress};
 use rescue_map::{Ahead, Map};
 use stack_config::DevId;
 use stack_engine::{IoFault, Stack};
-use std::io::Write;
 
 /// How many sectors were had, and how many are lost.
 #[derive(Clone, Copy, Debug, PartialEq, Eq)]
@@ -29,50 +28,50 @@ pub struct Counts {
 /// The bytes of the longest piece.
 const ROOM: usize = 65536;
 
-/// Reads each sector of a mapped device, by the longest pieces, and prints a line for each longest run of sectors that
+/// Reads each sector of a mapped device, by the longest pieces, and tells each longest run of sectors that
 /// are lost by one fault. Each sector that is had is put where it stands on another device, which has room for all; what
 /// is lost is left there as it was.
-pub fn recover<D: BlockDev, O: BlockDev, W: Write>(
+pub fn recover<D: BlockDev, O: BlockDev, L: Listing>(
     stack: &mut Stack<D>,
     d: DevId,
     out: &mut O,
-    writer: &mut Counted<W>,
+    listing: &mut L,
 ) -> Result<Counts, RecoveryFault>
     requires device { d.0 < length stack.old.config.devices }
     requires room { size stack.old.config (mapped d.0) ≤ (O.state out.old).size }
     requires allowed { IsTrue (O.state out.old).may_write }
-    ensures ok { IfOk result (λ counts. Recovers d.0 (sides stack.old (O.state out.old) (W.contents writer.old.inner)) counts (sides stack.new (O.state out.new) (W.contents writer.new.inner))) }
-    ensures err { IfErr result (IsRecoveryEnd d.0 (sides stack.old (O.state out.old) (W.contents writer.old.inner)) (sides stack.new (O.state out.new) (W.contents writer.new.inner)) writer.new.failed) }
+    ensures ok { IfOk result (λ counts. Recovers d.0 (sides stack.old (O.state out.old) (L.told listing.old)) counts (sides stack.new (O.state out.new) (L.told listing.new))) }
+    ensures err { IfErr result (IsRecoveryEnd d.0 (sides stack.old (O.state out.old) (L.told listing.old)) (sides stack.new (O.state out.new) (L.told listing.new)) (L.failed listing.new)) }
 {
-    recover_with(stack, d, out, writer, &mut NoProgress)
+    recover_with(stack, d, out, listing, &mut NoProgress)
 }
 
 /// The same, and tells how far it has come.
-pub fn recover_with<D: BlockDev, O: BlockDev, W: Write, P: Progress>(
+pub fn recover_with<D: BlockDev, O: BlockDev, L: Listing, P: Progress>(
     stack: &mut Stack<D>,
     d: DevId,
     out: &mut O,
-    writer: &mut Counted<W>,
+    listing: &mut L,
     progress: &mut P,
 ) -> Result<Counts, RecoveryFault>
     requires device { d.0 < length stack.old.config.devices }
     requires room { size stack.old.config (mapped d.0) ≤ (O.state out.old).size }
     requires allowed { IsTrue (O.state out.old).may_write }
-    ensures ok { IfOk result (λ counts. Recovers d.0 (sides stack.old (O.state out.old) (W.contents writer.old.inner)) counts (sides stack.new (O.state out.new) (W.contents writer.new.inner))) }
-    ensures err { IfErr result (IsRecoveryEnd d.0 (sides stack.old (O.state out.old) (W.contents writer.old.inner)) (sides stack.new (O.state out.new) (W.contents writer.new.inner)) writer.new.failed) }
+    ensures ok { IfOk result (λ counts. Recovers d.0 (sides stack.old (O.state out.old) (L.told listing.old)) counts (sides stack.new (O.state out.new) (L.told listing.new))) }
+    ensures err { IfErr result (IsRecoveryEnd d.0 (sides stack.old (O.state out.old) (L.told listing.old)) (sides stack.new (O.state out.new) (L.told listing.new)) (L.failed listing.new)) }
 {
     let ahead = Ahead::unread(stack.config().sectors(d));
-    go_over(stack, d, out, ahead, &mut None, writer, progress)
+    go_over(stack, d, out, ahead, &mut None, listing, progress)
 }
 
 /// Goes over all sectors, of which those that were had before aren't asked; the map that is made begins empty.
-pub(crate) fn go_over<D: BlockDev, O: BlockDev, W: Write, P: Progress>(
+pub(crate) fn go_over<D: BlockDev, O: BlockDev, L: Listing, P: Progress>(
     stack: &mut Stack<D>,
     d: DevId,
     out: &mut O,
     ahead: Ahead<'_>,
     noted: &mut Option<Map>,
-    writer: &mut Counted<W>,
+    listing: &mut L,
     progress: &mut P,
 ) -> Result<Counts, RecoveryFault>
     requires device { d.0 < length stack.old.config.devices }
@@ -80,8 +79,8 @@ pub(crate) fn go_over<D: BlockDev, O: BlockDev, W: Write, P: Progress>(
     requires room { size stack.old.config (mapped d.0) ≤ (O.state out.old).size }
     requires allowed { IsTrue (O.state out.old).may_write }
     requires begun { IsNoted noted.old [] }
-    ensures ok { IfOk result (λ counts. GoesOver (marks_ahead ahead.entry) d.0 (sides stack.old (O.state out.old) (W.contents writer.old.inner)) counts noted.new (sides stack.new (O.state out.new) (W.contents writer.new.inner))) }
-    ensures err { IfErr result (IsRescueEnd (marks_ahead ahead.entry) d.0 (sides stack.old (O.state out.old) (W.contents writer.old.inner)) (sides stack.new (O.state out.new) (W.contents writer.new.inner)) writer.new.failed) }
+    ensures ok { IfOk result (λ counts. GoesOver (marks_ahead ahead.entry) d.0 (sides stack.old (O.state out.old) (L.told listing.old)) counts noted.new (sides stack.new (O.state out.new) (L.told listing.new))) }
+    ensures err { IfErr result (IsRescueEnd (marks_ahead ahead.entry) d.0 (sides stack.old (O.state out.old) (L.told listing.old)) (sides stack.new (O.state out.new) (L.told listing.new)) (L.failed listing.new)) }
     ensures noted { OnOk result (is_some noted.new ≡ is_some noted.old) }
 {
     let mut room = [0u8; ROOM];
@@ -91,20 +90,20 @@ pub(crate) fn go_over<D: BlockDev, O: BlockDev, W: Write, P: Progress>(
         out,
         ahead,
         noted,
-        writer,
+        listing,
         progress,
         room.as_mut_slice(),
     )
 }
 
 /// The same, each piece by that buffer.
-fn go_over_by<D: BlockDev, O: BlockDev, W: Write, P: Progress>(
+fn go_over_by<D: BlockDev, O: BlockDev, L: Listing, P: Progress>(
     stack: &mut Stack<D>,
     d: DevId,
     out: &mut O,
     mut ahead: Ahead<'_>,
     noted: &mut Option<Map>,
-    writer: &mut Counted<W>,
+    listing: &mut L,
     progress: &mut P,
     room: &mut [u8],
 ) -> Result<Counts, RecoveryFault>
@@ -114,8 +113,8 @@ fn go_over_by<D: BlockDev, O: BlockDev, W: Write, P: Progress>(
     requires allowed { IsTrue (O.state out.old).may_write }
     requires begun { IsNoted noted.old [] }
     requires buffer { length room.old ≡ 65536 }
-    ensures ok { IfOk result (λ counts. GoesOver (marks_ahead ahead.entry) d.0 (sides stack.old (O.state out.old) (W.contents writer.old.inner)) counts noted.new (sides stack.new (O.state out.new) (W.contents writer.new.inner))) }
-    ensures err { IfErr result (IsRescueEnd (marks_ahead ahead.entry) d.0 (sides stack.old (O.state out.old) (W.contents writer.old.inner)) (sides stack.new (O.state out.new) (W.contents writer.new.inner)) writer.new.failed) }
+    ensures ok { IfOk result (λ counts. GoesOver (marks_ahead ahead.entry) d.0 (sides stack.old (O.state out.old) (L.told listing.old)) counts noted.new (sides stack.new (O.state out.new) (L.told listing.new))) }
+    ensures err { IfErr result (IsRescueEnd (marks_ahead ahead.entry) d.0 (sides stack.old (O.state out.old) (L.told listing.old)) (sides stack.new (O.state out.new) (L.told listing.new)) (L.failed listing.new)) }
     ensures noted { OnOk result (is_some noted.new ≡ is_some noted.old) }
 {
     // How many sectors a device can have is learned from a call.
@@ -128,7 +127,7 @@ fn go_over_by<D: BlockDev, O: BlockDev, W: Write, P: Progress>(
         let run = ahead.next_run();
         if run.had {
             note(noted, run.count, true)?;
-            tally.close(writer)?;
+            tally.close(listing)?;
             ahead.pass(run.count);
             at += run.count;
         } else {
@@ -140,7 +139,7 @@ fn go_over_by<D: BlockDev, O: BlockDev, W: Write, P: Progress>(
                 Ok(()) => {
                     note(noted, count, true)?;
                     out.write(at, bytes)?;
-                    tally.close(writer)?;
+                    tally.close(listing)?;
                     ahead.pass(count);
                     at += count;
                     pace = pace.after_bytes(piece.count, at);
@@ -152,7 +151,7 @@ fn go_over_by<D: BlockDev, O: BlockDev, W: Write, P: Progress>(
                     if piece.alike {
                         note(noted, count, false)?;
                         tally.lose(
-                            writer,
+                            listing,
                             LostRun {
                                 first: at,
                                 count,
@@ -169,7 +168,7 @@ fn go_over_by<D: BlockDev, O: BlockDev, W: Write, P: Progress>(
             }
         }
     }
-    tally.close(writer)?;
+    tally.close(listing)?;
     Ok(Counts {
         read: sectors - tally.lost,
         lost: tally.lost,

@@ -5,15 +5,14 @@ ghost use Rattle.rescue_map.specs.Maps.{marks};
 ghost use Rattle.stack_recovery.specs.Recoveries.{IsRescueEnd, Rescues, sides};
 
 use crate::fault::RecoveryFault;
+use crate::listing::Listing;
 use crate::recovery::{Counts, go_over};
 use block_device::BlockDev;
-use counted_io::Counted;
 use progress::Progress;
 use rescue_map::{Ahead, Map};
 use stack_config::DevId;
 use stack_engine::Stack;
 use std::alloc::Global;
-use std::io::Write;
 
 /// How many sectors are had, before or now, and how many are lost; and which.
 #[derive(Drop)]
@@ -23,25 +22,25 @@ pub struct Rescued {
 }
 
 /// As `recover`, but sectors that were had before, as the map says, aren't asked again, nor written.
-pub fn rescue<D: BlockDev, O: BlockDev, W: Write, P: Progress>(
+pub fn rescue<D: BlockDev, O: BlockDev, L: Listing, P: Progress>(
     alloc: Global,
     stack: &mut Stack<D>,
     d: DevId,
     out: &mut O,
     map: &Map,
-    writer: &mut Counted<W>,
+    listing: &mut L,
     progress: &mut P,
 ) -> Result<Rescued, RecoveryFault>
     requires device { d.0 < length stack.old.config.devices }
     requires fits { length (marks map.now) ≡ size stack.old.config (mapped d.0) }
     requires room { size stack.old.config (mapped d.0) ≤ (O.state out.old).size }
     requires allowed { IsTrue (O.state out.old).may_write }
-    ensures ok { IfOk result (λ rescued. Rescues (marks map.now) d.0 (sides stack.old (O.state out.old) (W.contents writer.old.inner)) rescued (sides stack.new (O.state out.new) (W.contents writer.new.inner))) }
-    ensures err { IfErr result (IsRescueEnd (marks map.now) d.0 (sides stack.old (O.state out.old) (W.contents writer.old.inner)) (sides stack.new (O.state out.new) (W.contents writer.new.inner)) writer.new.failed) }
+    ensures ok { IfOk result (λ rescued. Rescues (marks map.now) d.0 (sides stack.old (O.state out.old) (L.told listing.old)) rescued (sides stack.new (O.state out.new) (L.told listing.new))) }
+    ensures err { IfErr result (IsRescueEnd (marks map.now) d.0 (sides stack.old (O.state out.old) (L.told listing.old)) (sides stack.new (O.state out.new) (L.told listing.new)) (L.failed listing.new)) }
 {
     let mut noted = Some(Map::new(alloc));
     let ahead = Ahead::of_map(map);
-    let counts = go_over(stack, d, out, ahead, &mut noted, writer, progress)?;
+    let counts = go_over(stack, d, out, ahead, &mut noted, listing, progress)?;
     match noted {
         Some(map) => Ok(Rescued { counts, map }),
         None => Err(RecoveryFault::NoMemory),

@@ -1,12 +1,12 @@
 //! The lost sectors of a device, while it is gone over.
 ghost use Rattle.std.specs.Prelude.{◌≡◌, ◌+◌, ◌<◌, ◌≤◌, ◌^◌, None, Some, OnOk};
-ghost use Rattle.counted_io.specs.Counted.{Writes};
+ghost use Rattle.stack_recovery.specs.Listings.{Tells};
 ghost use Rattle.stack_recovery.specs.Tallies.{EndsAt, closed_by, joined, listed, opened_by};
 ghost use Rattle.stack_recovery.specs.Texts.{runs_text};
 
-use crate::lost_run::{LostRun, is_same, say_run};
-use counted_io::{Counted, WriteFault};
-use std::io::Write;
+use crate::listing::Listing;
+use crate::lost_run::{LostRun, is_same};
+use counted_io::WriteFault;
 
 /// The lost run that may still grow, and how many sectors are lost.
 #[derive(Clone, Copy)]
@@ -42,17 +42,17 @@ impl Tally {
         }
     }
 
-    /// Prints the run that may still grow, since it doesn't.
+    /// Tells the run that may still grow, since it doesn't.
     #[tactic(auto, using(crate::proofs::WritingLemmas::writes_nothing))]
-    pub(crate) fn close<W: Write>(&mut self, writer: &mut Counted<W>) -> Result<(), WriteFault>
-        ensures text { Writes W.contents writer.old writer.new (runs_text (listed self.old.last)) result }
+    pub(crate) fn close<L: Listing>(&mut self, listing: &mut L) -> Result<(), WriteFault>
+        ensures text { Tells L.told L.failed listing.old listing.new (runs_text (listed self.old.last)) result }
         ensures last { OnOk result (self.new.last ≡ None) }
         ensures lost { self.new.lost ≡ self.old.lost }
     {
         match self.last {
             None => Ok(()),
             Some(run) => {
-                say_run(writer, run)?;
+                listing.tell(run)?;
                 self.last = None;
                 Ok(())
             }
@@ -61,22 +61,22 @@ impl Tally {
 
     /// Adds a run that begins where the sectors so far end.
     #[tactic(auto, using(crate::proofs::WritingLemmas::writes_nothing))]
-    pub(crate) fn lose<W: Write>(
+    pub(crate) fn lose<L: Listing>(
         &mut self,
-        writer: &mut Counted<W>,
+        listing: &mut L,
         run: LostRun,
     ) -> Result<(), WriteFault>
         requires ends { EndsAt self.old.last run.first }
         requires lost { self.old.lost ≤ run.first }
         requires room { run.first + run.count < 2 ^ 64 }
-        ensures text { Writes W.contents writer.old writer.new (runs_text (closed_by self.old.last run)) result }
+        ensures text { Tells L.told L.failed listing.old listing.new (runs_text (closed_by self.old.last run)) result }
         ensures last { OnOk result (self.new.last ≡ Some (opened_by self.old.last run)) }
         ensures lost { OnOk result (self.new.lost ≡ self.old.lost + run.count) }
     {
         match joined(self.last, run) {
             Some(both) => self.last = Some(both),
             None => {
-                self.close(writer)?;
+                self.close(listing)?;
                 self.last = Some(run);
             }
         }

@@ -1,1 +1,3 @@
 pub mod OpeningLemmas
+pub mod KeptLemmas
+pub mod ObjectLemmas

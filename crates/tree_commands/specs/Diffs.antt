@@ -1,14 +1,21 @@
 -- What `diff` prints, and how it ends.
-use Rattle.std.specs.Prelude.{◌≡◌, ◌⊎◌, ◌==◌, ◌&&◌, ℕ, Bool, true, false, List, ◌++◌, codes, decimal, Option}
+use Rattle.std.specs.Prelude.{◌≡◌, ◌⊎◌, ◌==◌, ◌&&◌, ℕ, Bool, true, false, List, [], ◌++◌, codes, decimal, Option, Some, None}
 use Rattle.std.specs.Io.KnownBytes.{Appends}
+use Rattle.block_device.specs.Device.{Device}
 use Rattle.image_files.specs.Opener.{Calls}
+use Rattle.reply_json.specs.Lines.{json_line}
+use Rattle.tree_runs.specs.declared.line.Line.{Line}
+use Rattle.tree_runs.specs.Lines.{lines_text}
 use Rattle.tree_difference.specs.declared.difference.Roots.{Roots}
+use Rattle.tree_difference.specs.declared.fault.DifferenceFault.{DifferenceFault}
+use Rattle.tree_difference.specs.declared.fault.DifferenceFault.TheVariants as difference_fault
 use Rattle.tree_difference.specs.declared.difference.Totals.{Totals}
 use Rattle.tree_difference.specs.Comparisons.{World, world}
 use Rattle.tree_difference.specs.Differences.{IsDifference, IsDifferenceCause}
 use Rattle.tree_commands.specs.declared.fault.TreeFault.{TreeFault}
 use Rattle.tree_commands.specs.declared.fault.TreeFault.TheVariants.{Open, Trees, Differs, Write}
 use Rattle.tree_commands.specs.declared.paths.TwoHashes.{TwoHashes}
+use Rattle.tree_commands.specs.Objects.{difference_json}
 use Rattle.tree_commands.specs.Openings.{BothPaths, FailsToOpenBoth, OpensBoth}
 
 -- `same N changed N removed N added N`
@@ -27,15 +34,43 @@ pub record Says (w : World) (roots : Roots) (most : Option ℕ) (same : Bool) : 
   pub printed_are : Appends between w.printed' (totals_text totals)
   pub is : is_unchanged totals ≡ same
 
-abbrev pub SaysSame : World → Roots → Option ℕ → Type 0
-SaysSame w roots most = Says w roots most true
+-- the same, where one object was printed: of the lines and totals that are printed else
+pub record SaysObject (w : World) (roots : Roots) (most : Option ℕ) (same : Bool) : Type 0 where
+  pub totals : Totals
+  pub lines : List Line
+  pub difference : IsDifference (record w { printed = Some []; printed' = Some (lines_text lines) }) roots most totals
+  pub printed_are : Appends w.printed w.printed' (json_line (difference_json lines totals))
+  pub is : is_unchanged totals ≡ same
+
+-- as an object, or as lines
+abbrev pub SaysDifference : Bool → World → Roots → Option ℕ → Bool → Type 0
+SaysDifference true w roots most same = SaysObject w roots most same
+SaysDifference false w roots most same = Says w roots most same
+
+-- a line that isn't kept in memory is want of it
+abbrev pub unkept : DifferenceFault → DifferenceFault
+unkept difference_fault.Write = difference_fault.NoMemory
+unkept difference_fault.NoMemory = difference_fault.NoMemory
+unkept (difference_fault.Image which fault) = difference_fault.Image which fault
+unkept (difference_fault.Unlike field) = difference_fault.Unlike field
+unkept (difference_fault.Hash which level number) = difference_fault.Hash which level number
+
+-- why two images aren't compared, where lines are kept in memory
+abbrev pub IsTreesCause : Device → Device → Device → Device → Roots → DifferenceFault → Type 0
+IsTreesCause first second first' second' roots difference_fault.NoMemory = Unit {0}
+IsTreesCause first second first' second' roots fault = IsDifferenceCause (world first second first' second' None None) roots false fault
+
+-- the same; nothing was printed before where it would be an object
+abbrev pub IsUncompared : Bool → World → Roots → Bool → DifferenceFault → Type 0
+IsUncompared true w roots failed fault = IsTreesCause w.first w.second w.first' w.second' roots fault × (w.printed' ≡ w.printed)
+IsUncompared false w roots failed fault = IsDifferenceCause w roots failed fault
 
 -- they differ, or why they aren't compared, or a line can't be written
-abbrev pub IsDiffEnd : World → Roots → Option ℕ → Bool → TreeFault → Type 0
-IsDiffEnd w roots most failed Differs = Says w roots most false
-IsDiffEnd w roots most failed (Trees fault) = IsDifferenceCause w roots failed fault
-IsDiffEnd w roots most failed Write = failed ≡ true
-IsDiffEnd w roots most failed fault = ⊥
+abbrev pub IsDiffEnd : Bool → World → Roots → Option ℕ → Bool → TreeFault → Type 0
+IsDiffEnd json w roots most failed Differs = SaysDifference json w roots most false
+IsDiffEnd json w roots most failed (Trees fault) = IsUncompared json w roots failed fault
+IsDiffEnd json w roots most failed Write = failed ≡ true
+IsDiffEnd json w roots most failed fault = ⊥
 
 -- of two images that were opened
 pub record OfBoth {S D : Type 0} (w : Calls S D) (paths : BothPaths) (old new : Option (List ℕ)) (P : World → Type 0) : Type 0 where
@@ -45,8 +80,8 @@ pub record OfBoth {S D : Type 0} (w : Calls S D) (paths : BothPaths) (old new : 
   pub opened : OpensBoth w paths two
   pub holds : P (world (w.state two.first.device) (w.state two.second.device) (w.state first') (w.state second') old new)
 
-abbrev pub PrintsSame : {S D : Type 0} → Calls S D → BothPaths → Roots → Option ℕ → Option (List ℕ) → Option (List ℕ) → Type 0
-PrintsSame w paths roots most old new = OfBoth w paths old new (λ i. SaysSame i roots most)
+abbrev pub PrintsSame : {S D : Type 0} → Bool → Calls S D → BothPaths → Roots → Option ℕ → Option (List ℕ) → Option (List ℕ) → Type 0
+PrintsSame json w paths roots most old new = OfBoth w paths old new (λ i. SaysDifference json i roots most true)
 
 -- one of the two isn't opened
 abbrev pub IsUnopened : {S D : Type 0} → Calls S D → BothPaths → TreeFault → Type 0
@@ -54,5 +89,5 @@ IsUnopened w paths (Open file) = FailsToOpenBoth w paths file
 IsUnopened w paths fault = ⊥
 
 -- that, or the comparison ends
-abbrev pub IsDiffFilesEnd : {S D : Type 0} → Calls S D → BothPaths → Roots → Option ℕ → Option (List ℕ) → Option (List ℕ) → Bool → TreeFault → Type 0
-IsDiffFilesEnd w paths roots most old new failed fault = IsUnopened w paths fault ⊎ OfBoth w paths old new (λ i. IsDiffEnd i roots most failed fault)
+abbrev pub IsDiffFilesEnd : {S D : Type 0} → Bool → Calls S D → BothPaths → Roots → Option ℕ → Option (List ℕ) → Option (List ℕ) → Bool → TreeFault → Type 0
+IsDiffFilesEnd json w paths roots most old new failed fault = IsUnopened w paths fault ⊎ OfBoth w paths old new (λ i. IsDiffEnd json i roots most failed fault)

@@ -18,10 +18,10 @@ abbrev pub diff_roots : DiffRecord → Roots
 diff_roots d = record { first = d.old_root; second = d.new_root }
 
 abbrev pub DiffsTrees : {S D : Type 0} → Calls S D → DiffRecord → Option (List ℕ) → Option (List ℕ) → Type 0
-DiffsTrees w d old new = PrintsSame w (diff_paths d) (diff_roots d) d.blocks old new
+DiffsTrees w d old new = PrintsSame d.json w (diff_paths d) (diff_roots d) d.blocks old new
 
 abbrev pub IsDiffWordsEnd : {S D : Type 0} → Calls S D → DiffRecord → Option (List ℕ) → Option (List ℕ) → Bool → TreeFault → Type 0
-IsDiffWordsEnd w d old new failed fault = IsDiffFilesEnd w (diff_paths d) (diff_roots d) d.blocks old new failed fault
+IsDiffWordsEnd w d old new failed fault = IsDiffFilesEnd d.json w (diff_paths d) (diff_roots d) d.blocks old new failed fault
 
 -- ---- `verify --all`
 
@@ -29,7 +29,7 @@ abbrev pub survey_at : VerifyRecord → Places
 survey_at v = record { paths = record { first_path = v.data_path; second_path = v.hash_path }; first = v.hash_offset / 512 }
 
 abbrev pub SurveysAt : {S D : Type 0} → Calls S D → VerifyRecord → List ℕ → Option (List ℕ) → Option (List ℕ) → Type 0
-SurveysAt w v root old new = PrintsGood w (survey_at v) root old new
+SurveysAt w v root old new = PrintsGood v.json w (survey_at v) root old new
 
 abbrev pub IsSurveyWordsEnd : {S D : Type 0} → Calls S D → VerifyRecord → List ℕ → Option (List ℕ) → Option (List ℕ) → Bool → TreeFault → Type 0
-IsSurveyWordsEnd w v root old new failed fault = IsSurveyFilesEnd w (survey_at v) root old new failed fault
+IsSurveyWordsEnd w v root old new failed fault = IsSurveyFilesEnd v.json w (survey_at v) root old new failed fault

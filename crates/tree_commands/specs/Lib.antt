@@ -1,4 +1,5 @@
 pub mod Openings
+pub mod Objects
 pub mod Diffs
 pub mod FaultTexts
 pub mod Invocations

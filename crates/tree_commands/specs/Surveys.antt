@@ -1,24 +1,31 @@
 -- What `verify --all` prints, and how it ends.
-use Rattle.std.specs.Prelude.{◌≡◌, ◌⊎◌, ℕ, ◌-◌, ◌/◌, ◌%◌, ◌^◌, ◌==◌, ◌&&◌, nat_lt, Bool, true, false, List, ◌++◌, codes, decimal, Option, if◌then◌else◌}
+use Rattle.std.specs.Prelude.{◌≡◌, ◌⊎◌, ℕ, ◌-◌, ◌/◌, ◌%◌, ◌^◌, ◌==◌, ◌&&◌, nat_lt, Bool, true, false, List, [], ◌++◌, codes, decimal, Option, Some, if◌then◌else◌}
 use Rattle.std.specs.Io.KnownBytes.{Appends}
 use Rattle.block_device.specs.Device.{Device}
 use Rattle.device_window.specs.Parts.{part_before, part_behind}
 use Rattle.device_window.specs.Windows.{windowed}
 use Rattle.image_files.specs.OneFile.{is_one_file}
 use Rattle.image_files.specs.Opener.{Calls}
+use Rattle.reply_json.specs.Lines.{json_line}
 use Rattle.verity_format.specs.Blocks.{IsOnlyRead}
+use Rattle.verity_format.specs.declared.verifying.VerifyFault.TheVariants as verify
 use Rattle.verity_format.specs.Superblock.{SuperRecord}
 use Rattle.verity_format.specs.Verifying.{IsReadCause, IsReadFrom}
+use Rattle.tree_runs.specs.declared.line.Line.{Line}
+use Rattle.tree_runs.specs.Lines.{lines_text}
 use Rattle.tree_survey.specs.declared.counts.Totals.{Totals}
+use Rattle.tree_survey.specs.declared.fault.SurveyFault.{SurveyFault}
 use Rattle.tree_survey.specs.declared.fault.SurveyFault.TheVariants.{Image}
+use Rattle.tree_survey.specs.declared.fault.SurveyFault.TheVariants as survey_fault
 use Rattle.tree_survey.specs.declared.survey.Survey.{Survey as Found}
 use Rattle.tree_survey.specs.Causes.{IsSurveyCause}
 use Rattle.tree_survey.specs.Passes.{IsSurvey, Pass, pass}
 use Rattle.tree_commands.specs.declared.fault.TreeFault.{TreeFault}
 use Rattle.tree_commands.specs.declared.fault.TreeFault.TheVariants.{Damaged, Survey, Unaligned, Write}
 use Rattle.tree_commands.specs.declared.paths.TwoHashes.{TwoHashes}
-use Rattle.tree_commands.specs.declared.survey.SurveyPlaces.{SurveyPlaces}
+use Rattle.tree_commands.specs.declared.survey.SurveyOrder.{SurveyOrder}
 use Rattle.tree_commands.specs.Diffs.{IsUnopened}
+use Rattle.tree_commands.specs.Objects.{survey_json}
 use Rattle.tree_commands.specs.Openings.{BothPaths, OpensBoth}
 
 -- `good N changed N unknown N`
@@ -37,12 +44,40 @@ pub record SaysSurvey (w : Pass) (root : List ℕ) (good : Bool) : Type 0 where
   pub printed_are : Appends between w.printed' (totals_text found.totals)
   pub is : is_all_good found ≡ good
 
+-- the same, where one object was printed: of the lines and totals that are printed else
+pub record SaysObject (w : Pass) (root : List ℕ) (good : Bool) : Type 0 where
+  pub found : Found
+  pub lines : List Line
+  pub survey : IsSurvey (record w { printed = Some []; printed' = Some (lines_text lines) }) root found
+  pub printed_are : Appends w.printed w.printed' (json_line (survey_json lines found.totals))
+  pub is : is_all_good found ≡ good
+
+-- as an object, or as lines
+abbrev pub SaysFound : Bool → Pass → List ℕ → Bool → Type 0
+SaysFound true w root good = SaysObject w root good
+SaysFound false w root good = SaysSurvey w root good
+
+-- a line that isn't kept in memory is want of it
+abbrev pub unkept : SurveyFault → SurveyFault
+unkept survey_fault.Write = Image verify.NoMemory
+unkept (Image fault) = Image fault
+
+-- why an image isn't gone over, where lines are kept in memory
+abbrev pub IsKeptCause : Device → Device → Device → Device → SurveyFault → Type 0
+IsKeptCause data_dev hash_dev data_dev' hash_dev' (Image verify.NoMemory) = Unit {0}
+IsKeptCause data_dev hash_dev data_dev' hash_dev' fault = IsSurveyCause data_dev hash_dev data_dev' hash_dev' false fault
+
+-- the same; nothing was printed before where it would be an object
+abbrev pub IsUnseen : Bool → Pass → Bool → SurveyFault → Type 0
+IsUnseen true w failed fault = IsKeptCause w.data_dev w.hash_dev w.data_dev' w.hash_dev' fault × (w.printed' ≡ w.printed)
+IsUnseen false w failed fault = IsSurveyCause w.data_dev w.hash_dev w.data_dev' w.hash_dev' failed fault
+
 -- a part of it isn't good, or why the image isn't gone over, or a line can't be written
-abbrev pub IsSurveyEnd : Pass → List ℕ → Bool → TreeFault → Type 0
-IsSurveyEnd w root failed Damaged = SaysSurvey w root false
-IsSurveyEnd w root failed (Survey fault) = IsSurveyCause w.data_dev w.hash_dev w.data_dev' w.hash_dev' failed fault
-IsSurveyEnd w root failed Write = failed ≡ true
-IsSurveyEnd w root failed fault = ⊥
+abbrev pub IsSurveyEnd : Bool → Pass → List ℕ → Bool → TreeFault → Type 0
+IsSurveyEnd json w root failed Damaged = SaysFound json w root false
+IsSurveyEnd json w root failed (Survey fault) = IsUnseen json w failed fault
+IsSurveyEnd json w root failed Write = failed ≡ true
+IsSurveyEnd json w root failed fault = ⊥
 
 -- ---- a place for the hash image in its file
 
@@ -62,12 +97,12 @@ abbrev pub before : Device → ℕ → Device
 before device end = windowed device (part_before device end)
 
 -- the superblock was read once before
-pub record SurveysPlaced (data_dev hash_dev : Device) (end first : ℕ) (root : List ℕ) (old new : Option (List ℕ)) : Type 0 where
+pub record SurveysPlaced (json : Bool) (data_dev hash_dev : Device) (end first : ℕ) (root : List ℕ) (old new : Option (List ℕ)) : Type 0 where
   pub read_dev : Device
   pub data_dev' : Device
   pub hash_dev' : Device
   pub first_read : IsOnlyRead (behind hash_dev first) read_dev
-  pub says : SaysSurvey (pass (before data_dev end) read_dev data_dev' hash_dev' old new) root true
+  pub says : SaysFound json (pass (before data_dev end) read_dev data_dev' hash_dev' old new) root true
 
 -- there is no superblock behind that sector
 abbrev pub IsSuperEnd : Device → Device → TreeFault → Type 0
@@ -82,16 +117,16 @@ pub record IsUnaligned (hash_dev : Device) (first : ℕ) (fault : TreeFault) : T
   pub unaligned : is_aligned first super.hash_block ≡ false
   pub is : fault ≡ Unaligned
 
-pub record EndsPlaced (data_dev hash_dev : Device) (end first : ℕ) (root : List ℕ) (old new : Option (List ℕ)) (failed : Bool) (fault : TreeFault) : Type 0 where
+pub record EndsPlaced (json : Bool) (data_dev hash_dev : Device) (end first : ℕ) (root : List ℕ) (old new : Option (List ℕ)) (failed : Bool) (fault : TreeFault) : Type 0 where
   pub read_dev : Device
   pub data_dev' : Device
   pub hash_dev' : Device
   pub first_read : IsOnlyRead (behind hash_dev first) read_dev
-  pub ends : IsSurveyEnd (pass (before data_dev end) read_dev data_dev' hash_dev' old new) root failed fault
+  pub ends : IsSurveyEnd json (pass (before data_dev end) read_dev data_dev' hash_dev' old new) root failed fault
 
-abbrev pub IsPlacedEnd : Device → Device → ℕ → ℕ → List ℕ → Option (List ℕ) → Option (List ℕ) → Bool → TreeFault → Type 0
-IsPlacedEnd data_dev hash_dev end first root old new failed fault =
-    ((hash_dev' : Device) × IsSuperEnd (behind hash_dev first) hash_dev' fault) ⊎ (IsUnaligned hash_dev first fault ⊎ EndsPlaced data_dev hash_dev end first root old new failed fault)
+abbrev pub IsPlacedEnd : Bool → Device → Device → ℕ → ℕ → List ℕ → Option (List ℕ) → Option (List ℕ) → Bool → TreeFault → Type 0
+IsPlacedEnd json data_dev hash_dev end first root old new failed fault =
+    ((hash_dev' : Device) × IsSuperEnd (behind hash_dev first) hash_dev' fault) ⊎ (IsUnaligned hash_dev first fault ⊎ EndsPlaced json data_dev hash_dev end first root old new failed fault)
 
 -- ---- of images that were opened
 
@@ -99,19 +134,19 @@ pub record Places : Type 0 where
   pub paths : BothPaths
   pub first : ℕ
 
-abbrev pub survey_places : SurveyPlaces → Places
+abbrev pub survey_places : SurveyOrder → Places
 survey_places p = record { paths = record { first_path = p.data.now; second_path = p.hash.now }; first = p.hash_first }
 
-pub record PrintsGood {S D : Type 0} (w : Calls S D) (places : Places) (root : List ℕ) (old new : Option (List ℕ)) : Type 0 where
+pub record PrintsGood {S D : Type 0} (json : Bool) (w : Calls S D) (places : Places) (root : List ℕ) (old new : Option (List ℕ)) : Type 0 where
   pub two : TwoHashes D
   pub opened : OpensBoth w places.paths two
-  pub surveys : SurveysPlaced (w.state two.first.device) (w.state two.second.device) (data_end two places.first) places.first root old new
+  pub surveys : SurveysPlaced json (w.state two.first.device) (w.state two.second.device) (data_end two places.first) places.first root old new
 
-pub record EndsSurvey {S D : Type 0} (w : Calls S D) (places : Places) (root : List ℕ) (old new : Option (List ℕ)) (failed : Bool) (fault : TreeFault) : Type 0 where
+pub record EndsSurvey {S D : Type 0} (json : Bool) (w : Calls S D) (places : Places) (root : List ℕ) (old new : Option (List ℕ)) (failed : Bool) (fault : TreeFault) : Type 0 where
   pub two : TwoHashes D
   pub opened : OpensBoth w places.paths two
-  pub ends : IsPlacedEnd (w.state two.first.device) (w.state two.second.device) (data_end two places.first) places.first root old new failed fault
+  pub ends : IsPlacedEnd json (w.state two.first.device) (w.state two.second.device) (data_end two places.first) places.first root old new failed fault
 
 -- one of the two isn't opened, or it ends so
-abbrev pub IsSurveyFilesEnd : {S D : Type 0} → Calls S D → Places → List ℕ → Option (List ℕ) → Option (List ℕ) → Bool → TreeFault → Type 0
-IsSurveyFilesEnd w places root old new failed fault = IsUnopened w places.paths fault ⊎ EndsSurvey w places root old new failed fault
+abbrev pub IsSurveyFilesEnd : {S D : Type 0} → Bool → Calls S D → Places → List ℕ → Option (List ℕ) → Option (List ℕ) → Bool → TreeFault → Type 0
+IsSurveyFilesEnd json w places root old new failed fault = IsUnopened w places.paths fault ⊎ EndsSurvey json w places root old new failed fault

@@ -1,11 +1,12 @@
 //! The command `diff`: which data blocks of two images differ, by their hash trees.
-ghost use Rattle.std.specs.Prelude.{◌≡◌, OnOk, IfErr};
+ghost use Rattle.std.specs.Prelude.{◌≡◌, true, false, OnOk, IfErr};
 ghost use Rattle.counted_io.specs.Counted.{Writes};
 ghost use Rattle.image_files.specs.Opener.{calls};
 ghost use Rattle.tree_difference.specs.Comparisons.{world};
-ghost use Rattle.tree_commands.specs.Diffs.{IsDiffEnd, IsDiffFilesEnd, PrintsSame, SaysSame, is_unchanged, totals_text};
+ghost use Rattle.tree_commands.specs.Diffs.{IsDiffEnd, IsDiffFilesEnd, PrintsSame, Says, SaysDifference, is_unchanged, totals_text};
 ghost use Rattle.tree_commands.specs.Openings.{both_paths};
 
+use crate::diff_object::diff_object;
 use crate::fault::TreeFault;
 use crate::paths::{HashPaths, open_both};
 use block_device::BlockDev;
@@ -15,7 +16,8 @@ use std::alloc::Global;
 use std::io::Write;
 use tree_difference::{Roots, Totals, compare_trees};
 
-/// `diff [--blocks N] HASH1 ROOT1 HASH2 ROOT2`: a line for each longest run of data blocks that differ, and the totals.
+/// `diff [--blocks N] [--json] HASH1 ROOT1 HASH2 ROOT2`: a line for each longest run of data blocks that differ, and the
+/// totals; or one JSON object of both.
 /// Where the two aren't the same, that is the fault `Differs`.
 pub fn diff_images<'a, I: Images, W: Write>(
     alloc: Global,
@@ -23,10 +25,11 @@ pub fn diff_images<'a, I: Images, W: Write>(
     paths: HashPaths<'a>,
     roots: Roots,
     most: Option<u64>,
+    json: bool,
     writer: &mut Counted<W>,
 ) -> Result<(), TreeFault<'a>>
-    ensures ok { OnOk result (PrintsSame (calls I.relations I.Dev.state images.old images.new) (both_paths paths.entry) roots most (W.contents writer.old.inner) (W.contents writer.new.inner)) }
-    ensures err { IfErr result (IsDiffFilesEnd (calls I.relations I.Dev.state images.old images.new) (both_paths paths.entry) roots most (W.contents writer.old.inner) (W.contents writer.new.inner) writer.new.failed) }
+    ensures ok { OnOk result (PrintsSame json (calls I.relations I.Dev.state images.old images.new) (both_paths paths.entry) roots most (W.contents writer.old.inner) (W.contents writer.new.inner)) }
+    ensures err { IfErr result (IsDiffFilesEnd json (calls I.relations I.Dev.state images.old images.new) (both_paths paths.entry) roots most (W.contents writer.old.inner) (W.contents writer.new.inner) writer.new.failed) }
 {
     let mut two = open_both(images, paths)?;
     diff(
@@ -35,6 +38,7 @@ pub fn diff_images<'a, I: Images, W: Write>(
         &mut two.second.device,
         roots,
         most,
+        json,
         writer,
     )
 }
@@ -46,10 +50,28 @@ fn diff<'a, D: BlockDev, E: BlockDev, W: Write>(
     second: &mut E,
     roots: Roots,
     most: Option<u64>,
+    json: bool,
     writer: &mut Counted<W>,
 ) -> Result<(), TreeFault<'a>>
-    ensures ok { OnOk result (SaysSame (world (D.state first.old) (E.state second.old) (D.state first.new) (E.state second.new) (W.contents writer.old.inner) (W.contents writer.new.inner)) roots most) }
-    ensures err { IfErr result (IsDiffEnd (world (D.state first.old) (E.state second.old) (D.state first.new) (E.state second.new) (W.contents writer.old.inner) (W.contents writer.new.inner)) roots most writer.new.failed) }
+    ensures ok { OnOk result (SaysDifference json (world (D.state first.old) (E.state second.old) (D.state first.new) (E.state second.new) (W.contents writer.old.inner) (W.contents writer.new.inner)) roots most true) }
+    ensures err { IfErr result (IsDiffEnd json (world (D.state first.old) (E.state second.old) (D.state first.new) (E.state second.new) (W.contents writer.old.inner) (W.contents writer.new.inner)) roots most writer.new.failed) }
+{
+    if json {
+        return diff_object(alloc, first, second, roots, most, writer);
+    }
+    diff_lines(alloc, first, second, roots, most, writer)
+}
+
+fn diff_lines<'a, D: BlockDev, E: BlockDev, W: Write>(
+    alloc: Global,
+    first: &mut D,
+    second: &mut E,
+    roots: Roots,
+    most: Option<u64>,
+    writer: &mut Counted<W>,
+) -> Result<(), TreeFault<'a>>
+    ensures ok { OnOk result (Says (world (D.state first.old) (E.state second.old) (D.state first.new) (E.state second.new) (W.contents writer.old.inner) (W.contents writer.new.inner)) roots most true) }
+    ensures err { IfErr result (IsDiffEnd false (world (D.state first.old) (E.state second.old) (D.state first.new) (E.state second.new) (W.contents writer.old.inner) (W.contents writer.new.inner)) roots most writer.new.failed) }
 {
     let totals = compare_trees(alloc, first, second, roots, most, writer)?;
     say_totals(writer, totals)?;
@@ -59,7 +81,8 @@ fn diff<'a, D: BlockDev, E: BlockDev, W: Write>(
     Ok(())
 }
 
-fn is_unchanged(totals: Totals) -> bool
+/// Whether no block is changed, removed or added.
+pub(crate) fn is_unchanged(totals: Totals) -> bool
     ensures { result ≡ is_unchanged totals }
 {
     totals.changed == 0 && totals.removed == 0 && totals.added == 0

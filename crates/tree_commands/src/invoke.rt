@@ -8,7 +8,7 @@ ghost use Rattle.tree_commands.specs.Invocations.{DiffsTrees, IsDiffWordsEnd, Is
 use crate::diff::diff_images;
 use crate::fault::TreeFault;
 use crate::paths::HashPaths;
-use crate::survey::{SurveyPlaces, survey_images};
+use crate::survey::{SurveyOrder, survey_images};
 use command_line::{DiffWords, VerifyWords};
 use counted_io::Counted;
 use image_files::Images;
@@ -16,13 +16,15 @@ use std::alloc::Global;
 use std::io::Write;
 use tree_difference::Roots;
 use tree_shape::Digest;
+use watched_device::Watchers;
 
 const SECTOR: u64 = 512;
 
-/// `verify --all [--hash-offset BYTES] DATA HASH ROOT`, with the root digest that the words name.
-pub fn invoke_survey<'a, I: Images, W: Write>(
+/// `verify --all [--json] [--progress] [--hash-offset BYTES] DATA HASH ROOT`, with the root digest that the words name.
+pub fn invoke_survey<'a, I: Images, S: Watchers, W: Write>(
     alloc: Global,
     images: &mut I,
+    watchers: &S,
     words: &VerifyWords<'a>,
     root: &Digest,
     writer: &mut Counted<W>,
@@ -30,15 +32,17 @@ pub fn invoke_survey<'a, I: Images, W: Write>(
     ensures ok { OnOk result (SurveysAt (calls I.relations I.Dev.state images.old images.new) (verify_record words.now) root.now (W.contents writer.old.inner) (W.contents writer.new.inner)) }
     ensures err { IfErr result (IsSurveyWordsEnd (calls I.relations I.Dev.state images.old images.new) (verify_record words.now) root.now (W.contents writer.old.inner) (W.contents writer.new.inner) writer.new.failed) }
 {
-    let places = SurveyPlaces {
+    let order = SurveyOrder {
         data: words.data_path,
         hash: words.hash_path,
         hash_first: words.hash_offset / SECTOR,
+        json: words.json,
+        progress: words.progress,
     };
-    survey_images(alloc, images, places, root, writer)
+    survey_images(alloc, images, watchers, order, root, writer)
 }
 
-/// `diff [--blocks N] HASH1 ROOT1 HASH2 ROOT2`
+/// `diff [--blocks N] [--json] HASH1 ROOT1 HASH2 ROOT2`
 pub fn invoke_diff<'a, I: Images, W: Write>(
     alloc: Global,
     images: &mut I,
@@ -54,6 +58,7 @@ pub fn invoke_diff<'a, I: Images, W: Write>(
         new_path,
         new_root,
         blocks,
+        json,
     } = words;
     let paths = HashPaths {
         first: old_path,
@@ -63,5 +68,5 @@ pub fn invoke_diff<'a, I: Images, W: Write>(
         first: old_root,
         second: new_root,
     };
-    diff_images(alloc, images, paths, roots, blocks, writer)
+    diff_images(alloc, images, paths, roots, blocks, json, writer)
 }

@@ -1,12 +1,13 @@
 //! The command `verify --all`: which data blocks of an image are good, and which hash blocks aren't.
-ghost use Rattle.std.specs.Prelude.{◌≡◌, ◌&&◌, nat_lt, true, OnOk, IfErr};
+ghost use Rattle.std.specs.Prelude.{◌≡◌, ◌&&◌, nat_lt, true, false, OnOk, IfErr};
 ghost use Rattle.counted_io.specs.Counted.{Writes};
 ghost use Rattle.image_files.specs.Opener.{calls};
 ghost use Rattle.tree_survey.specs.Passes.{pass};
-ghost use Rattle.tree_commands.specs.Surveys.{IsPlacedEnd, IsSurveyEnd, IsSurveyFilesEnd, PrintsGood, SaysSurvey, SurveysPlaced, data_end, is_aligned, is_all_good, survey_places, totals_text};
+ghost use Rattle.tree_commands.specs.Surveys.{IsPlacedEnd, IsSurveyEnd, IsSurveyFilesEnd, PrintsGood, SaysFound, SaysSurvey, SurveysPlaced, data_end, is_aligned, is_all_good, survey_places, totals_text};
 
 use crate::fault::TreeFault;
 use crate::paths::{HashPaths, TwoHashes, open_both};
+use crate::survey_object::survey_object;
 use block_device::BlockDev;
 use counted_io::{Counted, WriteFault};
 use device_window::Window;
@@ -17,14 +18,18 @@ use std::marker::Brand;
 use tree_shape::Digest;
 use tree_survey::{Survey, Totals, survey_image};
 use verity_format::read_superblock;
+use watched_device::{Watched, Watchers, bytes_before, watcher_of};
 
-/// The paths of a data image and of its hash image, and the sector of 512 bytes of the hash image's file where the hash
-/// image begins.
+/// What is gone over: the paths of a data image and of its hash image, and the sector of 512 bytes of the hash image's
+/// file where the hash image begins. What was found is one JSON object or lines, and it may be shown how much of the data
+/// was read.
 #[derive(Clone, Copy, Debug, PartialEq, Eq)]
-pub struct SurveyPlaces<'a> {
+pub struct SurveyOrder<'a> {
     pub data: &'a str,
     pub hash: &'a str,
     pub hash_first: u64,
+    pub json: bool,
+    pub progress: bool,
 }
 
 // The sector where the data end, and the one where the hash image begins.
@@ -34,30 +39,55 @@ struct Bounds {
     first: u64,
 }
 
-/// `verify --all [--hash-offset BYTES] DATA HASH ROOT`: a line for each longest run of data blocks that aren't good, one for
-/// each hash block that isn't, and the totals. Where one isn't good, that is the fault `Damaged`. Where both are one file,
-/// the data are what lies before the hash image.
-pub fn survey_images<'a, I: Images, W: Write>(
+/// `verify --all [--json] [--progress] [--hash-offset BYTES] DATA HASH ROOT`: a line for each longest run of data blocks
+/// that aren't good, one for each hash block that isn't, and the totals; or one JSON object of all of them. Where one isn't
+/// good, that is the fault `Damaged`. Where both are one file, the data are what lies before the hash image.
+pub fn survey_images<'a, I: Images, S: Watchers, W: Write>(
     alloc: Global,
     images: &mut I,
-    places: SurveyPlaces<'a>,
+    watchers: &S,
+    order: SurveyOrder<'a>,
     root: &Digest,
     writer: &mut Counted<W>,
 ) -> Result<(), TreeFault<'a>>
-    ensures ok { OnOk result (PrintsGood (calls I.relations I.Dev.state images.old images.new) (survey_places places.entry) root.now (W.contents writer.old.inner) (W.contents writer.new.inner)) }
-    ensures err { IfErr result (IsSurveyFilesEnd (calls I.relations I.Dev.state images.old images.new) (survey_places places.entry) root.now (W.contents writer.old.inner) (W.contents writer.new.inner) writer.new.failed) }
+    ensures ok { OnOk result (PrintsGood order.entry.json (calls I.relations I.Dev.state images.old images.new) (survey_places order.entry) root.now (W.contents writer.old.inner) (W.contents writer.new.inner)) }
+    ensures err { IfErr result (IsSurveyFilesEnd order.entry.json (calls I.relations I.Dev.state images.old images.new) (survey_places order.entry) root.now (W.contents writer.old.inner) (W.contents writer.new.inner) writer.new.failed) }
 {
-    let SurveyPlaces {
+    let SurveyOrder {
         data,
         hash,
         hash_first: first,
-    } = places;
+        json,
+        progress,
+    } = order;
     let paths = HashPaths {
         first: data,
         second: hash,
     };
     let two = open_both(images, paths)?;
     let end = data_end(&two, first);
+    let (data_dev, hash_dev) = watch(two, watchers, progress, end);
+    survey_behind(
+        alloc,
+        data_dev,
+        hash_dev,
+        Bounds { end, first },
+        root,
+        json,
+        writer,
+    )
+}
+
+// The data device, of whose reads someone is told, and the hash device.
+fn watch<D: BlockDev + Drop, S: Watchers>(
+    two: TwoHashes<D>,
+    watchers: &S,
+    progress: bool,
+    end: u64,
+) -> (Watched<D, S::Watcher>, D)
+    ensures data { result.0.inner ≡ two.first.device }
+    ensures hash { result.1 ≡ two.second.device }
+{
     let TwoHashes {
         first: OpenImage {
             device: data_dev,
@@ -68,14 +98,9 @@ pub fn survey_images<'a, I: Images, W: Write>(
             id: _,
         },
     } = two;
-    survey_behind(
-        alloc,
-        data_dev,
-        hash_dev,
-        Bounds { end, first },
-        root,
-        writer,
-    )
+    let all = bytes_before(&data_dev, end);
+    let watcher = watcher_of(watchers, progress);
+    (Watched::new(data_dev, watcher, all), hash_dev)
 }
 
 // The sector where the data end: in one file before the hash image, else at the end of theirs.
@@ -105,10 +130,11 @@ fn survey_behind<'a, D: BlockDev + Drop, H: BlockDev + Drop, W: Write>(
     hash_dev: H,
     bounds: Bounds,
     root: &Digest,
+    json: bool,
     writer: &mut Counted<W>,
 ) -> Result<(), TreeFault<'a>>
-    ensures ok { OnOk result (SurveysPlaced (D.state data_dev) (H.state hash_dev) bounds.end bounds.first root.now (W.contents writer.old.inner) (W.contents writer.new.inner)) }
-    ensures err { IfErr result (IsPlacedEnd (D.state data_dev) (H.state hash_dev) bounds.end bounds.first root.now (W.contents writer.old.inner) (W.contents writer.new.inner) writer.new.failed) }
+    ensures ok { OnOk result (SurveysPlaced json (D.state data_dev) (H.state hash_dev) bounds.end bounds.first root.now (W.contents writer.old.inner) (W.contents writer.new.inner)) }
+    ensures err { IfErr result (IsPlacedEnd json (D.state data_dev) (H.state hash_dev) bounds.end bounds.first root.now (W.contents writer.old.inner) (W.contents writer.new.inner) writer.new.failed) }
 {
     let mut before = Window::<D, Brand>::before(data_dev, bounds.end);
     let mut behind = Window::<H, Brand>::behind(hash_dev, bounds.first);
@@ -116,11 +142,29 @@ fn survey_behind<'a, D: BlockDev + Drop, H: BlockDev + Drop, W: Write>(
     if !is_aligned(bounds.first, superblock.hash_block()) {
         return Err(TreeFault::Unaligned);
     }
-    say_survey(alloc, &mut before, &mut behind, root, writer)
+    say_survey(alloc, &mut before, &mut behind, root, json, writer)
 }
 
-// Goes over the two devices, and prints the totals.
+// Goes over the two devices, and prints what was found.
 fn say_survey<'a, D: BlockDev, H: BlockDev, W: Write>(
+    alloc: Global,
+    data_dev: &mut D,
+    hash_dev: &mut H,
+    root: &Digest,
+    json: bool,
+    writer: &mut Counted<W>,
+) -> Result<(), TreeFault<'a>>
+    ensures ok { OnOk result (SaysFound json (pass (D.state data_dev.old) (H.state hash_dev.old) (D.state data_dev.new) (H.state hash_dev.new) (W.contents writer.old.inner) (W.contents writer.new.inner)) root.now true) }
+    ensures err { IfErr result (IsSurveyEnd json (pass (D.state data_dev.old) (H.state hash_dev.old) (D.state data_dev.new) (H.state hash_dev.new) (W.contents writer.old.inner) (W.contents writer.new.inner)) root.now writer.new.failed) }
+{
+    if json {
+        return survey_object(alloc, data_dev, hash_dev, root, writer);
+    }
+    survey_lines(alloc, data_dev, hash_dev, root, writer)
+}
+
+// A line each, and the totals.
+fn survey_lines<'a, D: BlockDev, H: BlockDev, W: Write>(
     alloc: Global,
     data_dev: &mut D,
     hash_dev: &mut H,
@@ -128,7 +172,7 @@ fn say_survey<'a, D: BlockDev, H: BlockDev, W: Write>(
     writer: &mut Counted<W>,
 ) -> Result<(), TreeFault<'a>>
     ensures ok { OnOk result (SaysSurvey (pass (D.state data_dev.old) (H.state hash_dev.old) (D.state data_dev.new) (H.state hash_dev.new) (W.contents writer.old.inner) (W.contents writer.new.inner)) root.now true) }
-    ensures err { IfErr result (IsSurveyEnd (pass (D.state data_dev.old) (H.state hash_dev.old) (D.state data_dev.new) (H.state hash_dev.new) (W.contents writer.old.inner) (W.contents writer.new.inner)) root.now writer.new.failed) }
+    ensures err { IfErr result (IsSurveyEnd false (pass (D.state data_dev.old) (H.state hash_dev.old) (D.state data_dev.new) (H.state hash_dev.new) (W.contents writer.old.inner) (W.contents writer.new.inner)) root.now writer.new.failed) }
 {
     let found = survey_image(alloc, data_dev, hash_dev, root, writer)?;
     say_totals(writer, found.totals)?;
@@ -138,7 +182,8 @@ fn say_survey<'a, D: BlockDev, H: BlockDev, W: Write>(
     Ok(())
 }
 
-fn is_all_good(found: Survey) -> bool
+/// Whether all data blocks and all hash blocks are good.
+pub(crate) fn is_all_good(found: Survey) -> bool
     ensures { result ≡ is_all_good found }
 {
     found.totals.changed == 0 && found.totals.unknown == 0 && found.whole_tree

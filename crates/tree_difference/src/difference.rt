@@ -1,7 +1,7 @@
 //! Two trees compared from their roots down.
 ghost use Rattle.std.specs.Prelude.{◌≡◌, ◌≤◌, ◌<◌, ◌+◌, ◌-◌, ◌^◌, OnOk, IfOk, IfErr, IfSome};
-ghost use Rattle.counted_io.specs.Counted.{Writes};
 ghost use Rattle.tree_runs.specs.Limits.{lines_of};
+ghost use Rattle.tree_runs.specs.Listings.{Tells};
 ghost use Rattle.tree_runs.specs.Tallies.{EndsAt};
 ghost use Rattle.tree_difference.specs.Causes.{IsWalkCause};
 ghost use Rattle.tree_difference.specs.Comparisons.{Compares, Reads, world};
@@ -14,11 +14,10 @@ use crate::reading::read_down;
 use crate::superblocks::{check_alike, superblock_of};
 use crate::walk::Walk;
 use block_device::BlockDev;
-use counted_io::{Counted, WriteFault};
+use counted_io::WriteFault;
 use std::alloc::{AllocError, Global};
-use std::io::Write;
 use tree_path::{TreePath, span, top_at};
-use tree_runs::{Kind, Run, Tally};
+use tree_runs::{Kind, Listing, Run, Tally};
 use tree_shape::Digest;
 use verity_format::Superblock;
 
@@ -39,19 +38,19 @@ pub struct Totals {
     pub added: u64,
 }
 
-/// Compares the trees of two hash images from their roots down, and prints a line for each longest run of data blocks
+/// Compares the trees of two hash images from their roots down, and tells a line for each longest run of data blocks
 /// that differ, in rising order: at most so many lines, and then `more`. A subtree is gone into only where its digests
 /// differ, and each hash block is checked against the digest above it.
-pub fn compare_trees<D: BlockDev, E: BlockDev, W: Write>(
+pub fn compare_trees<D: BlockDev, E: BlockDev, L: Listing>(
     alloc: Global,
     first: &mut D,
     second: &mut E,
     roots: Roots,
     most: Option<u64>,
-    writer: &mut Counted<W>,
+    listing: &mut L,
 ) -> Result<Totals, DifferenceFault>
-    ensures ok { IfOk result (IsDifference (world (D.state first.old) (E.state second.old) (D.state first.new) (E.state second.new) (W.contents writer.old.inner) (W.contents writer.new.inner)) roots most) }
-    ensures err { IfErr result (IsDifferenceCause (world (D.state first.old) (E.state second.old) (D.state first.new) (E.state second.new) (W.contents writer.old.inner) (W.contents writer.new.inner)) roots writer.new.failed) }
+    ensures ok { IfOk result (IsDifference (world (D.state first.old) (E.state second.old) (D.state first.new) (E.state second.new) (L.told listing.old) (L.told listing.new)) roots most) }
+    ensures err { IfErr result (IsDifferenceCause (world (D.state first.old) (E.state second.old) (D.state first.new) (E.state second.new) (L.told listing.old) (L.told listing.new)) roots (L.failed listing.new)) }
 {
     let one = superblock_of(first, Which::First)?;
     let two = superblock_of(second, Which::Second)?;
@@ -61,7 +60,7 @@ pub fn compare_trees<D: BlockDev, E: BlockDev, W: Write>(
     }
     let mut walk = begin(alloc, &one, &two, roots)?;
     align(&mut walk, first, second)?;
-    compare(&mut walk, first, second, most, writer)
+    compare(&mut walk, first, second, most, listing)
 }
 
 // The paths of two trees, with nothing read.
@@ -104,17 +103,17 @@ fn align<D: BlockDev, E: BlockDev>(
 }
 
 // Compares the trees from the levels that both have on down.
-fn compare<D: BlockDev, E: BlockDev, W: Write>(
+fn compare<D: BlockDev, E: BlockDev, L: Listing>(
     walk: &mut Walk,
     first: &mut D,
     second: &mut E,
     most: Option<u64>,
-    writer: &mut Counted<W>,
+    listing: &mut L,
 ) -> Result<Totals, DifferenceFault>
     requires { CanCompare walk.old (D.state first.old) (E.state second.old) }
-    ensures ok { IfOk result (Compares (trees_in walk.old) (world (D.state first.old) (E.state second.old) (D.state first.new) (E.state second.new) (W.contents writer.old.inner) (W.contents writer.new.inner)) most) }
-    ensures reads { OnOk result (Reads (trees_in walk.old) (world (D.state first.old) (E.state second.old) (D.state first.new) (E.state second.new) (W.contents writer.old.inner) (W.contents writer.new.inner)) 0 0) }
-    ensures err { IfErr result (IsComparisonCause walk.old (world (D.state first.old) (E.state second.old) (D.state first.new) (E.state second.new) (W.contents writer.old.inner) (W.contents writer.new.inner)) writer.new.failed) }
+    ensures ok { IfOk result (Compares (trees_in walk.old) (world (D.state first.old) (E.state second.old) (D.state first.new) (E.state second.new) (L.told listing.old) (L.told listing.new)) most) }
+    ensures reads { OnOk result (Reads (trees_in walk.old) (world (D.state first.old) (E.state second.old) (D.state first.new) (E.state second.new) (L.told listing.old) (L.told listing.new)) 0 0) }
+    ensures err { IfErr result (IsComparisonCause walk.old (world (D.state first.old) (E.state second.old) (D.state first.new) (E.state second.new) (L.told listing.old) (L.told listing.new)) (L.failed listing.new)) }
 {
     let mut tally = Tally::new(most);
     let mut changed = 0;
@@ -127,37 +126,33 @@ fn compare<D: BlockDev, E: BlockDev, W: Write>(
         let stop = walk.descend(first, second, at, top)?;
         let count = span(&shape, stop.level, blocks - at);
         if stop.same {
-            tally.close(writer)?;
+            tally.close(listing)?;
         } else {
             let run = Run {
                 first: at,
                 count,
                 kind: Kind::Changed,
             };
-            tally.add(writer, run)?;
+            tally.add(listing, run)?;
             changed += count;
         }
         at += count;
     }
-    finish(walk, &mut tally, writer)?;
+    finish(walk, &mut tally, listing)?;
     Ok(totals_after(walk, changed))
 }
 
-// Prints the last run, and the data blocks that one of the two trees alone has.
-fn finish<W: Write>(
-    walk: &Walk,
-    tally: &mut Tally,
-    writer: &mut Counted<W>,
-) -> Result<(), WriteFault>
+// Tells the last run, and the data blocks that one of the two trees alone has.
+fn finish<L: Listing>(walk: &Walk, tally: &mut Tally, listing: &mut L) -> Result<(), WriteFault>
     requires { EndsAt tally.old.last walk.now.blocks }
-    ensures { Writes W.contents writer.old writer.new (lines_of tally.old.limit (last_runs tally.old.last (rest_of walk.now))) result }
+    ensures { Tells L.told L.failed listing.old listing.new (lines_of tally.old.limit (last_runs tally.old.last (rest_of walk.now))) result }
 {
     match rest(walk) {
         Some(run) => {
-            tally.add(writer, run)?;
-            tally.close(writer)
+            tally.add(listing, run)?;
+            tally.close(listing)
         }
-        None => tally.close(writer),
+        None => tally.close(listing),
     }
 }
 

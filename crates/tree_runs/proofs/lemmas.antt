@@ -1,3 +1,4 @@
 -- What callers may cite.
 pub mod ListingLemmas
 pub mod RunLemmas
+pub mod ObjectLemmas

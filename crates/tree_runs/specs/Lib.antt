@@ -2,3 +2,6 @@ pub mod Limits
 pub mod Runs
 pub mod Tallies
 pub mod Texts
+pub mod Lines
+pub mod Listings
+pub mod Objects

@@ -19,6 +19,10 @@ run_text run = kind_name run.kind ++ (codes " " ++ (decimal run.first ++ (codes 
 abbrev pub runs_text : List Run → List ℕ
 runs_text runs = flat_map run_text runs
 
+-- `hash LEVEL INDEX`
+unfoldable pub hash_text : ℕ → ℕ → List ℕ
+hash_text level number = codes "hash " ++ (decimal level ++ (codes " " ++ (decimal number ++ codes "\n")))
+
 unfoldable pub more_text : List ℕ
 more_text = codes "more\n"
 

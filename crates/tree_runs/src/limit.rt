@@ -1,12 +1,12 @@
 //! How many lines are printed.
 ghost use Rattle.std.specs.Prelude.{◌≡◌, OnOk};
-ghost use Rattle.counted_io.specs.Counted.{Writes};
 ghost use Rattle.tree_runs.specs.Limits.{line_of, begun, limit_next};
-ghost use Rattle.tree_runs.specs.Texts.{more_text};
+ghost use Rattle.tree_runs.specs.Listings.{Tells};
 
-use crate::run::{Run, say_run};
-use counted_io::{Counted, WriteFault};
-use std::io::Write;
+use crate::line::Line;
+use crate::listing::Listing;
+use crate::run::Run;
+use counted_io::WriteFault;
 
 /// How many lines may still be printed, without a number all, and whether `more` was printed.
 #[derive(Clone, Copy, Debug, PartialEq, Eq)]
@@ -26,37 +26,26 @@ impl Limit {
         }
     }
 
-    /// Prints a run's line, or `more` once where no line is left.
+    /// Tells a run's line, or `more` once where no line is left.
     #[tactic(auto, using(crate::proofs::WritingLemmas::writes_nothing))]
-    pub(crate) fn say<W: Write>(
-        &mut self,
-        writer: &mut Counted<W>,
-        run: Run,
-    ) -> Result<(), WriteFault>
-        ensures text { Writes W.contents writer.old writer.new (line_of self.old run) result }
+    pub(crate) fn say<L: Listing>(&mut self, listing: &mut L, run: Run) -> Result<(), WriteFault>
+        ensures text { Tells L.told L.failed listing.old listing.new (line_of self.old run) result }
         ensures next { OnOk result (self.new ≡ limit_next self.old) }
     {
         match self.left {
-            None => say_run(writer, run),
+            None => listing.tell(Line::Run(run)),
             Some(0) => {
                 if !self.told {
-                    say_more(writer)?;
+                    listing.tell(Line::More)?;
                     self.told = true;
                 }
                 Ok(())
             }
             Some(left) => {
-                say_run(writer, run)?;
+                listing.tell(Line::Run(run))?;
                 self.left = Some(left - 1);
                 Ok(())
             }
         }
     }
-}
-
-#[tactic(auto, unfolding(crate::specs::Texts::more_text))]
-fn say_more<W: Write>(writer: &mut Counted<W>) -> Result<(), WriteFault>
-    ensures { Writes W.contents writer.old writer.new more_text result }
-{
-    writer.put(b"more\n")
 }

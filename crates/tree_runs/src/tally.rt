@@ -1,13 +1,13 @@
 //! The run that may still grow, while blocks are gone over.
 ghost use Rattle.std.specs.Prelude.{◌≡◌, ◌+◌, ◌<◌, ◌^◌, None, Some, OnOk};
-ghost use Rattle.counted_io.specs.Counted.{Writes};
 ghost use Rattle.tree_runs.specs.Limits.{begun, limit_after, lines_of};
+ghost use Rattle.tree_runs.specs.Listings.{Tells};
 ghost use Rattle.tree_runs.specs.Tallies.{EndsAt, closed_by, joined, listed, opened_by};
 
 use crate::limit::Limit;
+use crate::listing::Listing;
 use crate::run::Run;
-use counted_io::{Counted, WriteFault};
-use std::io::Write;
+use counted_io::WriteFault;
 
 /// The run that may still grow, and how many lines may still be printed.
 #[derive(Clone, Copy, Debug, PartialEq, Eq)]
@@ -44,17 +44,17 @@ impl Tally {
         }
     }
 
-    /// Prints the run that may still grow, since it doesn't.
+    /// Tells the run that may still grow, since it doesn't.
     #[tactic(auto, using(crate::proofs::WritingLemmas::writes_nothing))]
-    pub fn close<W: Write>(&mut self, writer: &mut Counted<W>) -> Result<(), WriteFault>
-        ensures text { Writes W.contents writer.old writer.new (lines_of self.old.limit (listed self.old.last)) result }
+    pub fn close<L: Listing>(&mut self, listing: &mut L) -> Result<(), WriteFault>
+        ensures text { Tells L.told L.failed listing.old listing.new (lines_of self.old.limit (listed self.old.last)) result }
         ensures last { OnOk result (self.new.last ≡ None) }
         ensures limit { OnOk result (self.new.limit ≡ limit_after self.old.limit (listed self.old.last)) }
     {
         match self.last {
             None => Ok(()),
             Some(run) => {
-                self.limit.say(writer, run)?;
+                self.limit.say(listing, run)?;
                 self.last = None;
                 Ok(())
             }
@@ -63,17 +63,17 @@ impl Tally {
 
     /// Adds a run that begins where the blocks so far end.
     #[tactic(auto, using(crate::proofs::WritingLemmas::writes_nothing))]
-    pub fn add<W: Write>(&mut self, writer: &mut Counted<W>, run: Run) -> Result<(), WriteFault>
+    pub fn add<L: Listing>(&mut self, listing: &mut L, run: Run) -> Result<(), WriteFault>
         requires ends { EndsAt self.old.last run.first }
         requires room { run.first + run.count < 2 ^ 64 }
-        ensures text { Writes W.contents writer.old writer.new (lines_of self.old.limit (closed_by self.old.last run)) result }
+        ensures text { Tells L.told L.failed listing.old listing.new (lines_of self.old.limit (closed_by self.old.last run)) result }
         ensures last { OnOk result (self.new.last ≡ Some (opened_by self.old.last run)) }
         ensures limit { OnOk result (self.new.limit ≡ limit_after self.old.limit (closed_by self.old.last run)) }
     {
         match joined(self.last, run) {
             Some(both) => self.last = Some(both),
             None => {
-                self.close(writer)?;
+                self.close(listing)?;
                 self.last = Some(run);
             }
         }

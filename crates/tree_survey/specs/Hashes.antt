@@ -1,5 +1,5 @@
 -- Hash blocks whose digests don't stand above them.
-use Rattle.std.specs.Prelude.{◌≡◌, ℕ, zero, suc, ◌+◌, ◌-◌, ◌*◌, ◌^◌, ◌<◌, ◌≤◌, Bool, true, false, IsTrue, List, [], ◌∷◌, ◌++◌, codes, decimal, Option}
+use Rattle.std.specs.Prelude.{◌≡◌, ℕ, zero, suc, ◌+◌, ◌-◌, ◌*◌, ◌^◌, ◌<◌, ◌≤◌, Bool, true, false, IsTrue, List, [], ◌∷◌, ◌++◌, Option}
 use Rattle.std.specs.List.{flat_map}
 use Rattle.std.specs.Str.{bytes_eq}
 use Rattle.std.specs.Io.KnownBytes.{Appends}
@@ -8,6 +8,7 @@ use Rattle.tree_shape.specs.Digests.{digest}
 use Rattle.tree_shape.specs.Shape.{ShapeRecord, IsShape, level_blocks, levels, per_block}
 use Rattle.verity_format.specs.Image.{tree_sectors}
 use Rattle.tree_path.specs.Path.{PathRecord, IsPathOf, block_of, stored_block, stored_digest}
+use Rattle.tree_runs.specs.Texts.{hash_text}
 use Rattle.tree_survey.specs.Surveys.{Tree}
 
 -- a hash block by its level, counted from the data up, and its number within that
@@ -16,8 +17,8 @@ pub record HashBlock : Type 0 where
   pub number : ℕ
 
 -- `hash LEVEL INDEX`
-unfoldable pub hash_line : HashBlock → List ℕ
-hash_line b = codes "hash " ++ (decimal b.level ++ (codes " " ++ (decimal b.number ++ codes "\n")))
+abbrev pub hash_line : HashBlock → List ℕ
+hash_line b = hash_text b.level b.number
 
 abbrev pub hash_lines : List HashBlock → List ℕ
 hash_lines blocks = flat_map hash_line blocks

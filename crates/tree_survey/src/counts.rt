@@ -1,13 +1,12 @@
 //! Runs and counts of data blocks, one block after another.
 ghost use Rattle.std.specs.Prelude.{◌≡◌, ◌^◌, ◌<◌, None, OnOk};
-ghost use Rattle.counted_io.specs.Counted.{Writes};
 ghost use Rattle.tree_runs.specs.Limits.{begun, limit_after, lines_of};
+ghost use Rattle.tree_runs.specs.Listings.{Tells};
 ghost use Rattle.tree_runs.specs.Tallies.{EndsAt};
 ghost use Rattle.tree_survey.specs.Counts.{AreFew, IsAdded, closed_at, counted, opened_at};
 
-use counted_io::{Counted, WriteFault};
-use std::io::Write;
-use tree_runs::{Kind, Run, Tally};
+use counted_io::WriteFault;
+use tree_runs::{Kind, Listing, Run, Tally};
 
 /// How many data blocks are good, how many changed, and of how many nothing is known.
 #[derive(Clone, Copy, Debug, PartialEq, Eq)]
@@ -39,41 +38,41 @@ impl Counts {
         }
     }
 
-    /// Adds the next data block, and prints the run that it ends.
-    pub(crate) fn add<W: Write>(
+    /// Adds the next data block, and tells the run that it ends.
+    pub(crate) fn add<L: Listing>(
         &mut self,
-        writer: &mut Counted<W>,
+        listing: &mut L,
         index: u64,
         state: Option<Kind>,
     ) -> Result<(), WriteFault>
         requires ends { EndsAt self.old.tally.last index }
         requires inside { index < 2 ^ 54 }
         requires few { AreFew self.old.totals }
-        ensures text { Writes W.contents writer.old writer.new (lines_of self.old.tally.limit (closed_at self.old.tally.last index state)) result }
+        ensures text { Tells L.told L.failed listing.old listing.new (lines_of self.old.tally.limit (closed_at self.old.tally.last index state)) result }
         ensures added { OnOk result (IsAdded self.old self.new index state) }
     {
-        tally_next(&mut self.tally, writer, index, state)?;
+        tally_next(&mut self.tally, listing, index, state)?;
         self.totals = counted(self.totals, state);
         Ok(())
     }
 }
 
-fn tally_next<W: Write>(
+fn tally_next<L: Listing>(
     tally: &mut Tally,
-    writer: &mut Counted<W>,
+    listing: &mut L,
     index: u64,
     state: Option<Kind>,
 ) -> Result<(), WriteFault>
     requires ends { EndsAt tally.old.last index }
     requires inside { index < 2 ^ 54 }
-    ensures text { Writes W.contents writer.old writer.new (lines_of tally.old.limit (closed_at tally.old.last index state)) result }
+    ensures text { Tells L.told L.failed listing.old listing.new (lines_of tally.old.limit (closed_at tally.old.last index state)) result }
     ensures last { OnOk result (tally.new.last ≡ opened_at tally.old.last index state) }
     ensures limit { OnOk result (tally.new.limit ≡ limit_after tally.old.limit (closed_at tally.old.last index state)) }
 {
     match state {
-        None => tally.close(writer),
+        None => tally.close(listing),
         Some(kind) => tally.add(
-            writer,
+            listing,
             Run {
                 first: index,
                 count: 1,

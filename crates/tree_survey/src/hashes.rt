@@ -1,38 +1,38 @@
 //! The hash blocks of a tree, compared with the digests that stand above them.
 ghost use Rattle.std.specs.Prelude.{◌≡◌, ◌&&◌, ◌<◌, ◌≤◌, OnOk, OnErr, IfOk, IfErr};
 ghost use Rattle.block_device.specs.Device.{HasFailed};
-ghost use Rattle.counted_io.specs.Counted.{Writes};
 ghost use Rattle.tree_shape.specs.Shape.{levels};
 ghost use Rattle.verity_format.specs.Blocks.{IsOnlyRead};
 ghost use Rattle.verity_format.specs.Image.{tree_sectors};
+ghost use Rattle.tree_runs.specs.Listings.{Tells};
 ghost use Rattle.tree_survey.specs.Causes.{IsHashCause};
 ghost use Rattle.tree_survey.specs.Hashes.{CanCompare, IsAbove, IsCompared, SaysLevel, SaysTree, hash_line};
 
 use crate::fault::SurveyFault;
 use block_device::{BlockDev, DeviceFault};
-use counted_io::{Counted, WriteFault};
-use std::io::Write;
+use counted_io::WriteFault;
 use tree_path::{TreePath, span};
+use tree_runs::{Line, Listing};
 use tree_shape::Shape;
 
-/// Prints a line for each hash block whose digest doesn't stand above it, in the order in which they lie on the device, the
+/// Tells a line for each hash block whose digest doesn't stand above it, in the order in which they lie on the device, the
 /// top level first, and tells whether there was none.
-pub(crate) fn say_hashes<H: BlockDev, W: Write>(
+pub(crate) fn say_hashes<H: BlockDev, L: Listing>(
     path: &mut TreePath,
     shape: &Shape,
     device: &mut H,
-    writer: &mut Counted<W>,
+    listing: &mut L,
 ) -> Result<bool, SurveyFault>
     requires { CanCompare path.old shape.now (H.state device.old) }
     ensures read { IsOnlyRead (H.state device.old) (H.state device.new) }
-    ensures ok { IfOk result (SaysTree path.old (H.state device.old) (W.contents writer.old.inner) (W.contents writer.new.inner)) }
-    ensures err { IfErr result (IsHashCause (H.state device.old) (H.state device.new) writer.new.failed) }
+    ensures ok { IfOk result (SaysTree path.old (H.state device.old) (L.told listing.old) (L.told listing.new)) }
+    ensures err { IfErr result (IsHashCause (H.state device.old) (H.state device.new) (L.failed listing.new)) }
 {
     let mut level = shape.levels();
     let mut whole = true;
     'levels: while level > 0 {
         level -= 1;
-        let good = say_level(path, shape, device, level, writer)?;
+        let good = say_level(path, shape, device, level, listing)?;
         whole = both(whole, good);
     }
     Ok(whole)
@@ -45,25 +45,25 @@ fn both(a: bool, b: bool) -> bool
 }
 
 // The same of the hash blocks of a level.
-fn say_level<H: BlockDev, W: Write>(
+fn say_level<H: BlockDev, L: Listing>(
     path: &mut TreePath,
     shape: &Shape,
     device: &mut H,
     level: u32,
-    writer: &mut Counted<W>,
+    listing: &mut L,
 ) -> Result<bool, SurveyFault>
     requires can { CanCompare path.old shape.now (H.state device.old) }
     requires level { level < levels path.old.shape }
     requires few { level < 14 }
     ensures read { IsOnlyRead (H.state device.old) (H.state device.new) }
-    ensures ok { IfOk result (SaysLevel path.old path.new (H.state device.old) (H.state device.new) level (W.contents writer.old.inner) (W.contents writer.new.inner)) }
-    ensures err { IfErr result (IsHashCause (H.state device.old) (H.state device.new) writer.new.failed) }
+    ensures ok { IfOk result (SaysLevel path.old path.new (H.state device.old) (H.state device.new) level (L.told listing.old) (L.told listing.new)) }
+    ensures err { IfErr result (IsHashCause (H.state device.old) (H.state device.new) (L.failed listing.new)) }
 {
     let width = span(shape, level + 1, shape.blocks());
     let mut whole = true;
     'numbers: for number in 0..shape.level_blocks(level) {
         if !is_good(path, device, level, number * width)? {
-            say_hash(writer, level, number)?;
+            say_hash(listing, level, number)?;
             whole = false;
         }
     }
@@ -116,9 +116,8 @@ fn read_above<H: BlockDev>(
 }
 
 // `hash LEVEL INDEX`
-#[tactic(auto, unfolding(crate::specs::Hashes::hash_line))]
-fn say_hash<W: Write>(writer: &mut Counted<W>, level: u32, number: u64) -> Result<(), WriteFault>
-    ensures { Writes W.contents writer.old writer.new (hash_line (record { level = level; number = number })) result }
+fn say_hash<L: Listing>(listing: &mut L, level: u32, number: u64) -> Result<(), WriteFault>
+    ensures { Tells L.told L.failed listing.old listing.new (hash_line (record { level = level; number = number })) result }
 {
-    writer.print(format_args!("hash {level} {number}\n"))
+    listing.tell(Line::Hash { level, number })
 }

@@ -10,10 +10,9 @@ use crate::hashes::say_hashes;
 use crate::pieces::{PIECE, read_piece, zeros};
 use crate::sight::Sight;
 use block_device::BlockDev;
-use counted_io::Counted;
 use std::alloc::Global;
-use std::io::Write;
 use tree_path::TreePath;
+use tree_runs::Listing;
 use tree_shape::{Digest, Salt};
 use verity_format::{Superblock, VerifyFault, data_sectors, read_superblock, tree_sectors};
 
@@ -24,29 +23,29 @@ pub struct Survey {
     pub whole_tree: bool,
 }
 
-/// Goes over an image: prints a line for each longest run of data blocks that aren't good, in rising order, and then one
+/// Goes over an image: tells a line for each longest run of data blocks that aren't good, in rising order, and then one
 /// for each hash block whose digest doesn't stand above it, in the order in which they lie on the hash device.
 ///
 /// Each data block is read once, in large pieces.
-pub fn survey_image<D: BlockDev, H: BlockDev, W: Write>(
+pub fn survey_image<D: BlockDev, H: BlockDev, L: Listing>(
     alloc: Global,
     data_dev: &mut D,
     hash_dev: &mut H,
     root: &Digest,
-    writer: &mut Counted<W>,
+    listing: &mut L,
 ) -> Result<Survey, SurveyFault>
     ensures data { IsOnlyRead (D.state data_dev.old) (D.state data_dev.new) }
     ensures hash { IsOnlyRead (H.state hash_dev.old) (H.state hash_dev.new) }
-    ensures ok { IfOk result (IsSurvey (pass (D.state data_dev.old) (H.state hash_dev.old) (D.state data_dev.new) (H.state hash_dev.new) (W.contents writer.old.inner) (W.contents writer.new.inner)) root.now) }
-    ensures err { IfErr result (IsSurveyCause (D.state data_dev.old) (H.state hash_dev.old) (D.state data_dev.new) (H.state hash_dev.new) writer.new.failed) }
+    ensures ok { IfOk result (IsSurvey (pass (D.state data_dev.old) (H.state hash_dev.old) (D.state data_dev.new) (H.state hash_dev.new) (L.told listing.old) (L.told listing.new)) root.now) }
+    ensures err { IfErr result (IsSurveyCause (D.state data_dev.old) (H.state hash_dev.old) (D.state data_dev.new) (H.state hash_dev.new) (L.failed listing.new)) }
 {
     let superblock = superblock_of(data_dev, hash_dev)?;
     let shape = superblock.shape();
     let salt = superblock.salt();
     let path = TreePath::new(alloc, shape, salt, *root)?;
     let mut sight = Sight::new(path, shape);
-    let totals = survey_data(alloc, &mut sight, &salt, data_dev, hash_dev, writer)?;
-    let whole_tree = say_hashes(&mut sight.path, &shape, hash_dev, writer)?;
+    let totals = survey_data(alloc, &mut sight, &salt, data_dev, hash_dev, listing)?;
+    let whole_tree = say_hashes(&mut sight.path, &shape, hash_dev, listing)?;
     Ok(Survey { totals, whole_tree })
 }
 
@@ -72,20 +71,20 @@ fn superblock_of<D: BlockDev, H: BlockDev>(
 }
 
 // Goes over the data blocks, from the first on.
-fn survey_data<D: BlockDev, H: BlockDev, W: Write>(
+fn survey_data<D: BlockDev, H: BlockDev, L: Listing>(
     alloc: Global,
     sight: &mut Sight,
     salt: &Salt,
     data_dev: &mut D,
     hash_dev: &mut H,
-    writer: &mut Counted<W>,
+    listing: &mut L,
 ) -> Result<Totals, SurveyFault>
     requires { CanPass sight.old salt.now (D.state data_dev.old) (H.state hash_dev.old) }
     ensures data { IsOnlyRead (D.state data_dev.old) (D.state data_dev.new) }
     ensures hash { IsOnlyRead (H.state hash_dev.old) (H.state hash_dev.new) }
     ensures passed { OnOk result (HasPassed sight.old sight.new (H.state hash_dev.old) (H.state hash_dev.new)) }
-    ensures ok { IfOk result (Surveys (tree_in sight.old) (pass (D.state data_dev.old) (H.state hash_dev.old) (D.state data_dev.new) (H.state hash_dev.new) (W.contents writer.old.inner) (W.contents writer.new.inner))) }
-    ensures err { IfErr result (IsPassCause (D.state data_dev.old) (H.state hash_dev.old) (D.state data_dev.new) (H.state hash_dev.new) writer.new.failed) }
+    ensures ok { IfOk result (Surveys (tree_in sight.old) (pass (D.state data_dev.old) (H.state hash_dev.old) (D.state data_dev.new) (H.state hash_dev.new) (L.told listing.old) (L.told listing.new))) }
+    ensures err { IfErr result (IsPassCause (D.state data_dev.old) (H.state hash_dev.old) (D.state data_dev.new) (H.state hash_dev.new) (L.failed listing.new)) }
 {
     let mut memory = zeros(alloc, PIECE)?;
     let piece = memory.as_mut_slice();
@@ -97,10 +96,10 @@ fn survey_data<D: BlockDev, H: BlockDev, W: Write>(
         'run: for k in 0..digests.len() {
             let index = at + k as u64;
             sight.go_to(hash_dev, index)?;
-            counts.add(writer, index, sight.state(index, &digests[k]))?;
+            counts.add(listing, index, sight.state(index, &digests[k]))?;
         }
         at += digests.len() as u64;
     }
-    counts.tally.close(writer)?;
+    counts.tally.close(listing)?;
     Ok(counts.totals)
 }

@@ -15,7 +15,7 @@ use Rattle.image_commands.specs.PlacedFormats.{IsFormatPlacedEnd, PrintsPlaced}
 use Rattle.image_commands.specs.PlacedImages.{IsPlacedImageEnd, IsPlacedMatchesEnd, PrintsPlacedMatches, PrintsPlacedSuper}
 use Rattle.image_commands.specs.PlacedLines.{entry_head, placed_line}
 use Rattle.image_commands.specs.Places.{TwoPlaces, is_aligned}
-use Rattle.image_commands.specs.SuperblockTexts.{superblock_text}
+use Rattle.image_commands.specs.SuperblockJson.{dump_text}
 use Rattle.image_files.specs.Opener.{Calls}
 use Rattle.verity_commands.specs.declared.fault.VerityFault.{VerityFault}
 use Rattle.verity_commands.specs.declared.fault.VerityFault.TheVariants.{Usage}
@@ -97,7 +97,7 @@ IsVerifyEnd w v old new failed fault =
     ((v.all ≡ true) × IsRefusedUnread w fault × (new ≡ old)) ⊎ (IsImageEnd (IsVerifiedEnd w v failed) fault × IsQuiet fault old new)
 
 abbrev pub DumpsAt : {S D : Type 0} → Calls S D → DumpRecord → Option (List ℕ) → Option (List ℕ) → Type 0
-DumpsAt w d old new = PrintsPlacedSuper w d.hash_path (d.hash_offset / 512) (λ s. true) superblock_text old new
+DumpsAt w d old new = PrintsPlacedSuper w d.hash_path (d.hash_offset / 512) (λ s. true) (dump_text d.json) old new
 
 abbrev pub IsDumpEnd : {S D : Type 0} → Calls S D → DumpRecord → Option (List ℕ) → Option (List ℕ) → Bool → VerityFault → Type 0
 IsDumpEnd w d old new failed fault = IsImageEnd (IsPlacedImageEnd w d.hash_path (d.hash_offset / 512) failed) fault × IsQuiet fault old new

@@ -15,11 +15,14 @@ ghost use Rattle.verity_commands.specs.Trees.{IsMakingEnd, MakesTreeAt};
 use block_device::BlockDev;
 use command_line::ImageOptions;
 use counted_io::Counted;
-use image_commands::{Generators, ImageFault, ImagePlaces, format_placed, format_tree};
+use image_commands::{
+    Generators, ImageFault, ImagePlaces, WatchedPlaces, format_placed, format_tree,
+};
 use image_files::{Images, UnopenedFile};
 use std::alloc::Global;
 use std::io::Write;
 use verity_format::FormatFault;
+use watched_device::Watchers;
 
 // The file under a path has at least so many sectors from then on.
 fn make_room<'a, I: Images>(
@@ -54,77 +57,87 @@ fn room_for(tried: &Result<(), ImageFault<'_>>, first: u64) -> Option<u64>
 }
 
 // Formats the hash image as it is.
-fn try_format<'a, I: Images, G: Generators, W: Write>(
+fn try_format<'a, I: Images, G: Generators + Watchers, W: Write>(
     alloc: Global,
     images: &mut I,
     generators: &mut G,
     options: &ImageOptions,
-    places: &ImagePlaces<'a>,
+    watched: &WatchedPlaces<'a>,
     writer: &mut Counted<W>,
 ) -> Result<(), ImageFault<'a>>
-    ensures ok { OnOk result (PrintsPlaced (calls I.relations I.Dev.state images.old images.new) (drawing G.gives G.Generator.stream generators.old generators.new) options.now (two_places places.now) (W.contents writer.old.inner) (W.contents writer.new.inner)) }
-    ensures err { IfErr result (IsFormatPlacedEnd (calls I.relations I.Dev.state images.old images.new) (drawing G.gives G.Generator.stream generators.old generators.new) options.now (two_places places.now) writer.new.failed) }
+    ensures ok { OnOk result (PrintsPlaced (calls I.relations I.Dev.state images.old images.new) (drawing G.gives G.Generator.stream generators.old generators.new) options.now (two_places watched.now.places) (W.contents writer.old.inner) (W.contents writer.new.inner)) }
+    ensures err { IfErr result (IsFormatPlacedEnd (calls I.relations I.Dev.state images.old images.new) (drawing G.gives G.Generator.stream generators.old generators.new) options.now (two_places watched.now.places) writer.new.failed) }
     ensures quiet { IfErr result (λ fault. IsQuiet fault (W.contents writer.old.inner) (W.contents writer.new.inner)) }
 {
-    format_placed(alloc, images, generators, *options, *places, writer)
+    format_placed(alloc, images, generators, *options, *watched, writer)
 }
 
 /// Formats the hash image once its file has the sectors that are needed.
-pub fn format_growing<'a, I: Images, G: Generators, W: Write>(
+pub fn format_growing<'a, I: Images, G: Generators + Watchers, W: Write>(
     alloc: Global,
     images: &mut I,
     generators: &mut G,
     options: &ImageOptions,
-    places: &ImagePlaces<'a>,
+    watched: &WatchedPlaces<'a>,
     writer: &mut Counted<W>,
 ) -> Result<(), ImageFault<'a>>
-    ensures ok { OnOk result (FormatsPlaced true (calls I.relations I.Dev.state images.old images.new) (drawing G.gives G.Generator.stream generators.old generators.new) options.now (two_places places.now) (W.contents writer.old.inner) (W.contents writer.new.inner)) }
-    ensures err { IfErr result (IsFormattingEnd true (calls I.relations I.Dev.state images.old images.new) (drawing G.gives G.Generator.stream generators.old generators.new) options.now (two_places places.now) writer.new.failed) }
+    ensures ok { OnOk result (FormatsPlaced true (calls I.relations I.Dev.state images.old images.new) (drawing G.gives G.Generator.stream generators.old generators.new) options.now (two_places watched.now.places) (W.contents writer.old.inner) (W.contents writer.new.inner)) }
+    ensures err { IfErr result (IsFormattingEnd true (calls I.relations I.Dev.state images.old images.new) (drawing G.gives G.Generator.stream generators.old generators.new) options.now (two_places watched.now.places) writer.new.failed) }
     ensures quiet { IfErr result (λ fault. IsQuiet fault (W.contents writer.old.inner) (W.contents writer.new.inner)) }
 {
-    make_room(images, places.hash, 0)?;
-    let tried = try_format(alloc, images, generators, options, places, writer);
-    let Some(sectors) = room_for(&tried, places.hash_first) else {
+    let ImagePlaces {
+        data: _,
+        hash,
+        hash_first,
+    } = watched.places;
+    make_room(images, hash, 0)?;
+    let tried = try_format(alloc, images, generators, options, watched, writer);
+    let Some(sectors) = room_for(&tried, hash_first) else {
         return tried;
     };
-    make_room(images, places.hash, sectors)?;
-    try_format(alloc, images, generators, options, places, writer)
+    make_room(images, hash, sectors)?;
+    try_format(alloc, images, generators, options, watched, writer)
 }
 
 // Makes the tree in a file as it is.
-fn try_tree<'a, I: Images, G: Generators, W: Write>(
+fn try_tree<'a, I: Images, G: Generators + Watchers, W: Write>(
     alloc: Global,
     images: &mut I,
     generators: &mut G,
     options: &ImageOptions,
-    places: &ImagePlaces<'a>,
+    watched: &WatchedPlaces<'a>,
     writer: &mut Counted<W>,
 ) -> Result<(), ImageFault<'a>>
-    ensures ok { OnOk result (PrintsTree (calls I.relations I.Dev.state images.old images.new) (drawing G.gives G.Generator.stream generators.old generators.new) options.now (two_places places.now) (W.contents writer.old.inner) (W.contents writer.new.inner)) }
-    ensures err { IfErr result (IsFormatTreeEnd (calls I.relations I.Dev.state images.old images.new) (drawing G.gives G.Generator.stream generators.old generators.new) options.now (two_places places.now) writer.new.failed) }
+    ensures ok { OnOk result (PrintsTree (calls I.relations I.Dev.state images.old images.new) (drawing G.gives G.Generator.stream generators.old generators.new) options.now (two_places watched.now.places) (W.contents writer.old.inner) (W.contents writer.new.inner)) }
+    ensures err { IfErr result (IsFormatTreeEnd (calls I.relations I.Dev.state images.old images.new) (drawing G.gives G.Generator.stream generators.old generators.new) options.now (two_places watched.now.places) writer.new.failed) }
     ensures quiet { IfErr result (λ fault. IsQuiet fault (W.contents writer.old.inner) (W.contents writer.new.inner)) }
 {
-    format_tree(alloc, images, generators, *options, *places, writer)
+    format_tree(alloc, images, generators, *options, *watched, writer)
 }
 
 /// Makes the tree without a superblock once its file has the sectors that are needed.
-pub fn format_tree_growing<'a, I: Images, G: Generators, W: Write>(
+pub fn format_tree_growing<'a, I: Images, G: Generators + Watchers, W: Write>(
     alloc: Global,
     images: &mut I,
     generators: &mut G,
     options: &ImageOptions,
-    places: &ImagePlaces<'a>,
+    watched: &WatchedPlaces<'a>,
     writer: &mut Counted<W>,
 ) -> Result<(), ImageFault<'a>>
-    ensures ok { OnOk result (MakesTreeAt true (calls I.relations I.Dev.state images.old images.new) (drawing G.gives G.Generator.stream generators.old generators.new) options.now (two_places places.now) (W.contents writer.old.inner) (W.contents writer.new.inner)) }
-    ensures err { IfErr result (IsMakingEnd true (calls I.relations I.Dev.state images.old images.new) (drawing G.gives G.Generator.stream generators.old generators.new) options.now (two_places places.now) writer.new.failed) }
+    ensures ok { OnOk result (MakesTreeAt true (calls I.relations I.Dev.state images.old images.new) (drawing G.gives G.Generator.stream generators.old generators.new) options.now (two_places watched.now.places) (W.contents writer.old.inner) (W.contents writer.new.inner)) }
+    ensures err { IfErr result (IsMakingEnd true (calls I.relations I.Dev.state images.old images.new) (drawing G.gives G.Generator.stream generators.old generators.new) options.now (two_places watched.now.places) writer.new.failed) }
     ensures quiet { IfErr result (λ fault. IsQuiet fault (W.contents writer.old.inner) (W.contents writer.new.inner)) }
 {
-    make_room(images, places.hash, 0)?;
-    let tried = try_tree(alloc, images, generators, options, places, writer);
-    let Some(sectors) = room_for(&tried, places.hash_first) else {
+    let ImagePlaces {
+        data: _,
+        hash,
+        hash_first,
+    } = watched.places;
+    make_room(images, hash, 0)?;
+    let tried = try_tree(alloc, images, generators, options, watched, writer);
+    let Some(sectors) = room_for(&tried, hash_first) else {
         return tried;
     };
-    make_room(images, places.hash, sectors)?;
-    try_tree(alloc, images, generators, options, places, writer)
+    make_room(images, hash, sectors)?;
+    try_tree(alloc, images, generators, options, watched, writer)
 }

@@ -15,15 +15,16 @@ use crate::places::{root_in, sector_at};
 use command_line::{DumpWords, FormatWords, OptionWords, TableWords, VerifyWords, options_of};
 use counted_io::Counted;
 use image_commands::{
-    Generators, HashPlace, ImagePlaces, LineWords, dump_placed, format_placed, table_placed,
-    verify_placed,
+    Generators, HashPlace, ImagePlaces, LineWords, WatchedPlaces, dump_placed, format_placed,
+    table_placed, verify_placed,
 };
 use image_files::Images;
 use std::alloc::Global;
 use std::io::Write;
+use watched_device::Watchers;
 
-/// `format [--grow] --hash-offset BYTES [OPTION..] DATA HASH`
-pub fn invoke_format<'a, I: Images, G: Generators, W: Write>(
+/// `format [--grow] [--progress] [--hash-offset BYTES] [OPTION..] DATA HASH`
+pub fn invoke_format<'a, I: Images, G: Generators + Watchers, W: Write>(
     alloc: Global,
     images: &mut I,
     generators: &mut G,
@@ -41,16 +42,19 @@ pub fn invoke_format<'a, I: Images, G: Generators, W: Write>(
         hash: words.hash_path,
         hash_first,
     };
+    let progress = words.progress;
+    let watched = WatchedPlaces { places, progress };
     if words.grow {
-        return Ok(format_growing(alloc, images, generators, &options, &places, writer)?);
+        return Ok(format_growing(alloc, images, generators, &options, &watched, writer)?);
     }
-    Ok(format_placed(alloc, images, generators, options, places, writer)?)
+    Ok(format_placed(alloc, images, generators, options, watched, writer)?)
 }
 
-/// `verify [--hash-offset BYTES] [--root-hash-file FILE] DATA HASH [ROOT]`
-pub fn invoke_verify<'a, I: Images, W: Write>(
+/// `verify [--progress] [--hash-offset BYTES] [--root-hash-file FILE] DATA HASH [ROOT]`
+pub fn invoke_verify<'a, I: Images, S: Watchers, W: Write>(
     alloc: Global,
     images: &mut I,
+    watchers: &S,
     words: &VerifyWords<'a>,
     writer: &mut Counted<W>,
 ) -> Result<(), VerityFault<'a>>
@@ -67,11 +71,14 @@ pub fn invoke_verify<'a, I: Images, W: Write>(
         hash: words.hash_path,
         hash_first,
     };
-    Ok(verify_placed(alloc, images, places, &root, writer)?)
+    let progress = words.progress;
+    let watched = WatchedPlaces { places, progress };
+    Ok(verify_placed(alloc, images, watchers, watched, &root, writer)?)
 }
 
-/// `dump --hash-offset BYTES HASH`
+/// `dump [--hash-offset BYTES] [--json] HASH`
 pub fn invoke_dump<'a, I: Images, W: Write>(
+    alloc: Global,
     images: &mut I,
     words: &DumpWords<'a>,
     writer: &mut Counted<W>,
@@ -83,7 +90,7 @@ pub fn invoke_dump<'a, I: Images, W: Write>(
         path: words.hash_path,
         first: sector_at(words.hash_offset),
     };
-    Ok(dump_placed(images, place, writer)?)
+    Ok(dump_placed(alloc, images, place, words.json, writer)?)
 }
 
 /// `table [--hash-offset BYTES] [--name NAME] [--root-hash-file FILE] HASH [ROOT] DATANAME HASHNAME`

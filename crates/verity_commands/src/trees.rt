@@ -15,15 +15,17 @@ use crate::places::{root_in, sector_at};
 use command_line::{OptionWords, TreeFormatWords, TreeTableWords, TreeVerifyWords, options_of};
 use counted_io::Counted;
 use image_commands::{
-    Generators, ImagePlaces, LineWords, format_tree, given_options, print_tree_line, verify_tree,
+    ExpectedTree, Generators, ImagePlaces, LineWords, WatchedPlaces, format_tree, given_options,
+    print_tree_line, verify_tree,
 };
 use image_files::Images;
 use std::alloc::Global;
 use std::io::Write;
 use verity_format::FormatOptions;
+use watched_device::Watchers;
 
-/// `format --no-superblock [--grow] [OPTION..] DATA HASH`
-pub fn invoke_format_tree<'a, I: Images, G: Generators, W: Write>(
+/// `format --no-superblock [--grow] [--progress] [OPTION..] DATA HASH`
+pub fn invoke_format_tree<'a, I: Images, G: Generators + Watchers, W: Write>(
     alloc: Global,
     images: &mut I,
     generators: &mut G,
@@ -41,16 +43,19 @@ pub fn invoke_format_tree<'a, I: Images, G: Generators, W: Write>(
         hash: words.hash_path,
         hash_first,
     };
+    let progress = words.progress;
+    let watched = WatchedPlaces { places, progress };
     if words.grow {
-        return Ok(format_tree_growing(alloc, images, generators, &options, &places, writer)?);
+        return Ok(format_tree_growing(alloc, images, generators, &options, &watched, writer)?);
     }
-    Ok(format_tree(alloc, images, generators, options, places, writer)?)
+    Ok(format_tree(alloc, images, generators, options, watched, writer)?)
 }
 
-/// `verify --no-superblock [OPTION..] DATA HASH [ROOT]`
-pub fn invoke_verify_tree<'a, I: Images, W: Write>(
+/// `verify --no-superblock [--progress] [OPTION..] DATA HASH [ROOT]`
+pub fn invoke_verify_tree<'a, I: Images, S: Watchers, W: Write>(
     alloc: Global,
     images: &mut I,
+    watchers: &S,
     words: &TreeVerifyWords<'a>,
     options: &OptionWords<'a>,
     writer: &mut Counted<W>,
@@ -58,15 +63,18 @@ pub fn invoke_verify_tree<'a, I: Images, W: Write>(
     ensures ok { OnOk result (VerifiesTree (option_texts options.now) (calls I.relations I.Dev.state images.old images.new) (tree_verify_record words.now) (W.contents writer.old.inner) (W.contents writer.new.inner)) }
     ensures err { IfErr result (IsVerifyTreeEnd (option_texts options.now) (calls I.relations I.Dev.state images.old images.new) (tree_verify_record words.now) (W.contents writer.old.inner) (W.contents writer.new.inner) writer.new.failed) }
 {
-    let given = tree_options(alloc, options)?;
+    let options = tree_options(alloc, options)?;
     let root = root_in(images, &words.root)?;
+    let expected = ExpectedTree { options, root };
     let hash_first = sector_at(words.hash_offset);
     let places = ImagePlaces {
         data: words.data_path,
         hash: words.hash_path,
         hash_first,
     };
-    Ok(verify_tree(alloc, images, places, given, &root, writer)?)
+    let progress = words.progress;
+    let watched = WatchedPlaces { places, progress };
+    Ok(verify_tree(alloc, images, watchers, watched, &expected, writer)?)
 }
 
 /// `table --no-superblock [OPTION..] HASH [ROOT] DATANAME HASHNAME`

@@ -1,4 +1,4 @@
--- What `diff [--blocks N] HASH1 ROOT1 HASH2 ROOT2` says.
+-- What `diff [--blocks N] [--json] HASH1 ROOT1 HASH2 ROOT2` says.
 use Rattle.std.specs.Prelude.{Bool, List, None, Option, Some, [], ℕ, ◌∷◌}
 use Rattle.command_line.specs.FormatOptions.{OptionTexts}
 use Rattle.command_line.specs.Values.{runs_of, two_roots, when}
@@ -10,6 +10,7 @@ pub record DiffRecord : Type 0 where
   pub new_path : List ℕ
   pub new_root : List ℕ
   pub blocks : Option ℕ
+  pub json : Bool
 
 -- the path and the root of one tree, and those of the other
 unfoldable pub two_trees : List (List ℕ) → Option (List ℕ × List ℕ × List ℕ × List ℕ)
@@ -27,6 +28,7 @@ diff_said texts words =
       new_path = trees.2;
       new_root = trees.3;
       blocks = blocks;
+      json = texts.json;
     })))
 
 -- what the program's own value says
@@ -37,4 +39,5 @@ diff_record w = record {
   new_path = w.new_path.now;
   new_root = w.new_root;
   blocks = w.blocks;
+  json = w.json;
 }

@@ -1,4 +1,4 @@
--- What `dump [--hash-offset BYTES] HASH` says.
+-- What `dump [--hash-offset BYTES] [--json] HASH` says.
 use Rattle.std.specs.Prelude.{Bool, List, None, Option, Some, [], ℕ, ◌∷◌}
 use Rattle.command_line.specs.FormatOptions.{OptionTexts}
 use Rattle.command_line.specs.Values.{offset_of, when}
@@ -7,6 +7,7 @@ use Rattle.command_line.specs.declared.words.dump.DumpWords.{DumpWords}
 pub record DumpRecord : Type 0 where
   pub hash_path : List ℕ
   pub hash_offset : ℕ
+  pub json : Bool
 
 unfoldable pub dump_said : OptionTexts → List (List ℕ) → Option DumpRecord
 dump_said texts (hash_path ∷ []) =
@@ -14,6 +15,7 @@ dump_said texts (hash_path ∷ []) =
     Some (record {
       hash_path = hash_path;
       hash_offset = hash_offset;
+      json = texts.json;
     }))
 dump_said texts words = None
 
@@ -22,4 +24,5 @@ abbrev pub dump_record : DumpWords → DumpRecord
 dump_record w = record {
   hash_path = w.hash_path.now;
   hash_offset = w.hash_offset;
+  json = w.json;
 }

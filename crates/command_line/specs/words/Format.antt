@@ -9,6 +9,7 @@ pub record FormatRecord : Type 0 where
   pub hash_path : List ℕ
   pub hash_offset : ℕ
   pub grow : Bool
+  pub progress : Bool
 
 unfoldable pub format_said : OptionTexts → List (List ℕ) → Option FormatRecord
 format_said texts (data_path ∷ hash_path ∷ []) =
@@ -18,6 +19,7 @@ format_said texts (data_path ∷ hash_path ∷ []) =
       hash_path = hash_path;
       hash_offset = hash_offset;
       grow = texts.grow;
+      progress = texts.progress;
     }))
 format_said texts words = None
 
@@ -28,4 +30,5 @@ format_record w = record {
   hash_path = w.hash_path.now;
   hash_offset = w.hash_offset;
   grow = w.grow;
+  progress = w.progress;
 }

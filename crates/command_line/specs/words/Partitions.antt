@@ -1,4 +1,4 @@
--- What `partitions [--sector-size 512|4096] [--stack | --root ROOT] IMAGE` says.
+-- What `partitions [--sector-size 512|4096] [--json | --stack | --root ROOT] IMAGE` says.
 use Rattle.std.specs.Prelude.{List, None, Option, Some, [], ℕ, ◌∷◌}
 use Rattle.command_line.specs.FormatOptions.{OptionTexts}
 use Rattle.command_line.specs.Values.{FormRecord, form_of, form_record, sector_size_of, when}
@@ -12,7 +12,7 @@ pub record PartitionsRecord : Type 0 where
 unfoldable pub partitions_said : OptionTexts → List (List ℕ) → Option PartitionsRecord
 partitions_said texts (image ∷ []) =
     when (sector_size_of texts.sector_size) (λ sector_size.
-    when (form_of texts.root texts.stack) (λ form.
+    when (form_of texts.root texts.stack texts.json) (λ form.
     Some (record {
       image = image;
       sector_size = sector_size;

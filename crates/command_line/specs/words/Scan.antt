@@ -1,4 +1,4 @@
--- What `scan [--cache N] [--map FILE] [--progress] STACK NAME BINDING...` says.
+-- What `scan [--cache N] [--map FILE] [--progress] [--json] STACK NAME BINDING...` says.
 use Rattle.std.specs.Prelude.{Bool, List, None, Option, Some, map, ℕ, ◌∷◌}
 use Rattle.command_line.specs.Bindings.{BindingRecord, binding_record}
 use Rattle.command_line.specs.BindingWords.{bindings_of}
@@ -13,6 +13,7 @@ pub record ScanRecord : Type 0 where
   pub bindings : List BindingRecord
   pub map : Option (List ℕ)
   pub progress : Bool
+  pub json : Bool
 
 unfoldable pub scan_said : OptionTexts → List (List ℕ) → Option ScanRecord
 scan_said texts (stack ∷ name ∷ words) =
@@ -25,6 +26,7 @@ scan_said texts (stack ∷ name ∷ words) =
       bindings = bindings;
       map = path;
       progress = texts.progress;
+      json = texts.json;
     }))))
 scan_said texts words = None
 
@@ -37,4 +39,5 @@ scan_record w = record {
   bindings = map binding_record w.bindings.items;
   map = text_of w.map;
   progress = w.progress;
+  json = w.json;
 }

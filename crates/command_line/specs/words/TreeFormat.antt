@@ -9,6 +9,7 @@ pub record TreeFormatRecord : Type 0 where
   pub hash_path : List ℕ
   pub hash_offset : ℕ
   pub grow : Bool
+  pub progress : Bool
 
 -- without an identifier, which stands in a superblock alone
 unfoldable pub tree_format_said : OptionTexts → List (List ℕ) → Option TreeFormatRecord
@@ -20,6 +21,7 @@ tree_format_said texts (data_path ∷ hash_path ∷ []) =
       hash_path = hash_path;
       hash_offset = hash_offset;
       grow = texts.grow;
+      progress = texts.progress;
     }))
 tree_format_said texts words = None
 
@@ -30,4 +32,5 @@ tree_format_record w = record {
   hash_path = w.hash_path.now;
   hash_offset = w.hash_offset;
   grow = w.grow;
+  progress = w.progress;
 }

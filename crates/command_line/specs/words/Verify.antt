@@ -1,5 +1,5 @@
--- What `verify [--all] [--hash-offset BYTES] [--root-hash-file FILE] DATA HASH [ROOT]` says.
-use Rattle.std.specs.Prelude.{Bool, List, None, Option, Some, ℕ, ◌∷◌, if◌then◌else◌}
+-- What `verify [--all [--json]] [--hash-offset BYTES] [--root-hash-file FILE] [--progress] DATA HASH [ROOT]` says.
+use Rattle.std.specs.Prelude.{Bool, List, None, Option, Some, ℕ, ◌∷◌, ◌||◌, ◌&&◌, not, if◌then◌else◌}
 use Rattle.command_line.specs.FormatOptions.{OptionTexts}
 use Rattle.command_line.specs.FurtherWords.{has_tree_value}
 use Rattle.command_line.specs.Values.{RootRecord, offset_of, root_alone, root_record, when}
@@ -11,10 +11,12 @@ pub record VerifyRecord : Type 0 where
   pub root : RootRecord
   pub hash_offset : ℕ
   pub all : Bool
+  pub json : Bool
+  pub progress : Bool
 
 unfoldable pub verify_said : OptionTexts → List (List ℕ) → Option VerifyRecord
 verify_said texts (data_path ∷ hash_path ∷ words) =
-    if has_tree_value texts then None else
+    if has_tree_value texts || (texts.json && not texts.all) then None else
     when (offset_of texts.hash_offset) (λ hash_offset.
     when (root_alone texts.root_hash_file words) (λ root.
     Some (record {
@@ -23,6 +25,8 @@ verify_said texts (data_path ∷ hash_path ∷ words) =
       root = root;
       hash_offset = hash_offset;
       all = texts.all;
+      json = texts.json;
+      progress = texts.progress;
     })))
 verify_said texts words = None
 
@@ -34,4 +38,6 @@ verify_record w = record {
   root = root_record w.root;
   hash_offset = w.hash_offset;
   all = w.all;
+  json = w.json;
+  progress = w.progress;
 }

@@ -1,4 +1,4 @@
-//! `diff [--blocks N] HASH1 ROOT1 HASH2 ROOT2`
+//! `diff [--blocks N] [--json] HASH1 ROOT1 HASH2 ROOT2`
 ghost use Rattle.std.specs.Prelude.{◌≡◌, option_map};
 ghost use Rattle.command_line.specs.FurtherRecords.{diff};
 ghost use Rattle.command_line.specs.Reading.{Reads};
@@ -19,9 +19,10 @@ pub struct DiffWords<'a> {
     pub new_path: &'a str,
     pub new_root: Digest,
     pub blocks: Option<u64>,
+    pub json: bool,
 }
 
-/// `[--blocks N] HASH1 ROOT1 HASH2 ROOT2`
+/// `[--blocks N] [--json] HASH1 ROOT1 HASH2 ROOT2`
 #[tactic(auto, unfolding(crate::specs::words::Diff::diff_said))]
 pub fn diff_of<'a>(options: &OptionWords<'a>, words: &[&'a str]) -> Result<Further<'a>, WordsFault>
     ensures { Reads (option_map diff (diff_said (option_texts options.now) (texts_of words.now))) result }
@@ -38,6 +39,7 @@ pub fn diff_of<'a>(options: &OptionWords<'a>, words: &[&'a str]) -> Result<Furth
         new_path,
         new_root,
         blocks,
+        json: options.json,
     }))
 }
 

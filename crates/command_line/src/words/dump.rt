@@ -1,4 +1,4 @@
-//! `dump [--hash-offset BYTES] HASH`
+//! `dump [--hash-offset BYTES] [--json] HASH`
 ghost use Rattle.std.specs.Prelude.{option_map};
 ghost use Rattle.command_line.specs.FurtherRecords.{dump};
 ghost use Rattle.command_line.specs.Reading.{Reads};
@@ -15,9 +15,10 @@ use crate::values::offset_of;
 pub struct DumpWords<'a> {
     pub hash_path: &'a str,
     pub hash_offset: u64,
+    pub json: bool,
 }
 
-/// `[--hash-offset BYTES] HASH`
+/// `[--hash-offset BYTES] [--json] HASH`
 #[tactic(auto, unfolding(crate::specs::words::Dump::dump_said))]
 pub fn dump_of<'a>(options: &OptionWords<'a>, words: &[&'a str]) -> Result<Further<'a>, WordsFault>
     ensures { Reads (option_map dump (dump_said (option_texts options.now) (texts_of words.now))) result }
@@ -31,5 +32,6 @@ pub fn dump_of<'a>(options: &OptionWords<'a>, words: &[&'a str]) -> Result<Furth
     Ok(Further::Dump(DumpWords {
         hash_path,
         hash_offset,
+        json: options.json,
     }))
 }

@@ -1,4 +1,4 @@
-//! `partitions [--sector-size 512|4096] [--stack | --root ROOT] IMAGE`
+//! `partitions [--sector-size 512|4096] [--json | --stack | --root ROOT] IMAGE`
 ghost use Rattle.std.specs.Prelude.{option_map};
 ghost use Rattle.command_line.specs.FurtherRecords.{partitions};
 ghost use Rattle.command_line.specs.Reading.{Reads};
@@ -18,7 +18,7 @@ pub struct PartitionsWords<'a> {
     pub form: PartitionForm,
 }
 
-/// `[--sector-size 512|4096] [--stack | --root ROOT] IMAGE`
+/// `[--sector-size 512|4096] [--json | --stack | --root ROOT] IMAGE`
 #[tactic(auto, unfolding(crate::specs::words::Partitions::partitions_said))]
 pub fn partitions_of<'a>(
     options: &OptionWords<'a>,
@@ -32,7 +32,7 @@ pub fn partitions_of<'a>(
     let Some(sector_size) = sector_size_of(options.sector_size) else {
         return Err(WordsFault::Usage);
     };
-    let Some(form) = form_of(options.root, options.stack) else {
+    let Some(form) = form_of(options.root, options.stack, options.json) else {
         return Err(WordsFault::Usage);
     };
     Ok(Further::Partitions(PartitionsWords {

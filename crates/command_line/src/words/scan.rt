@@ -1,4 +1,4 @@
-//! `scan [--cache N] [--map FILE] [--progress] STACK NAME BINDING...`
+//! `scan [--cache N] [--map FILE] [--progress] [--json] STACK NAME BINDING...`
 ghost use Rattle.std.specs.Prelude.{option_map};
 ghost use Rattle.command_line.specs.FurtherRecords.{scan};
 ghost use Rattle.command_line.specs.Reading.{Reads};
@@ -22,9 +22,10 @@ pub struct ScanWords<'a> {
     pub bindings: Vec<Binding<'a>>,
     pub map: Option<&'a str>,
     pub progress: bool,
+    pub json: bool,
 }
 
-/// `[--cache N] [--map FILE] [--progress] STACK NAME BINDING...`
+/// `[--cache N] [--map FILE] [--progress] [--json] STACK NAME BINDING...`
 #[tactic(auto, unfolding(crate::specs::words::Scan::scan_said))]
 pub fn scan_of<'a>(
     alloc: Global,
@@ -50,6 +51,7 @@ pub fn scan_of<'a>(
             bindings,
             map,
             progress: options.progress,
+            json: options.json,
         })),
         Err(fault) => Err(fault),
     }

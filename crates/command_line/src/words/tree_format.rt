@@ -17,6 +17,7 @@ pub struct TreeFormatWords<'a> {
     pub hash_path: &'a str,
     pub hash_offset: u64,
     pub grow: bool,
+    pub progress: bool,
 }
 
 /// `[OPTIONS] DATA HASH`; an identifier stands in a superblock alone.
@@ -41,5 +42,6 @@ pub fn tree_format_of<'a>(
         hash_path,
         hash_offset,
         grow: options.grow,
+        progress: options.progress,
     }))
 }

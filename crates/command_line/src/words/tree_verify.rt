@@ -17,6 +17,7 @@ pub struct TreeVerifyWords<'a> {
     pub hash_path: &'a str,
     pub root: RootWord<'a>,
     pub hash_offset: u64,
+    pub progress: bool,
 }
 
 /// `--salt HEX [OPTIONS] DATA HASH [ROOT]`
@@ -30,7 +31,7 @@ pub fn tree_verify_of<'a>(
     let [data_path, hash_path, rest @ ..] = words else {
         return Err(WordsFault::Usage);
     };
-    if options.all || options.salt.is_none() {
+    if options.all || options.json || options.salt.is_none() {
         return Err(WordsFault::Usage);
     }
     let Some(hash_offset) = offset_of(options.hash_offset) else {
@@ -44,5 +45,6 @@ pub fn tree_verify_of<'a>(
         hash_path,
         root,
         hash_offset,
+        progress: options.progress,
     }))
 }

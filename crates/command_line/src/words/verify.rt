@@ -1,9 +1,9 @@
-//! `verify [--all] [--hash-offset BYTES] [--root-hash-file FILE] DATA HASH [ROOT]`
-ghost use Rattle.std.specs.Prelude.{option_map};
+//! `verify [--all [--json]] [--hash-offset BYTES] [--root-hash-file FILE] [--progress] DATA HASH [ROOT]`
+ghost use Rattle.std.specs.Prelude.{◌≡◌, option_map};
 ghost use Rattle.command_line.specs.FurtherRecords.{verify};
 ghost use Rattle.command_line.specs.Reading.{Reads};
 ghost use Rattle.command_line.specs.FormatOptions.{option_texts, texts_of};
-ghost use Rattle.command_line.specs.words.Verify.{verify_said};
+ghost use Rattle.command_line.specs.words.Verify.{verify_record, verify_said};
 
 use crate::fault::WordsFault;
 use crate::further::Further;
@@ -18,33 +18,47 @@ pub struct VerifyWords<'a> {
     pub root: RootWord<'a>,
     pub hash_offset: u64,
     pub all: bool,
+    pub json: bool,
+    pub progress: bool,
 }
 
-/// `[--all] [--hash-offset BYTES] [--root-hash-file FILE] DATA HASH [ROOT]`
-#[tactic(auto, unfolding(crate::specs::words::Verify::verify_said))]
+/// `[--all [--json]] [--hash-offset BYTES] [--root-hash-file FILE] [--progress] DATA HASH [ROOT]`
 pub fn verify_of<'a>(
     options: &OptionWords<'a>,
     words: &[&'a str],
 ) -> Result<Further<'a>, WordsFault>
     ensures { Reads (option_map verify (verify_said (option_texts options.now) (texts_of words.now))) result }
 {
+    match verify_words(options, words) {
+        Some(verify) => Ok(Further::Verify(verify)),
+        None => Err(WordsFault::Usage),
+    }
+}
+
+/// The same, as words alone.
+#[tactic(auto, unfolding(crate::specs::words::Verify::verify_said))]
+pub fn verify_words<'a>(options: &OptionWords<'a>, words: &[&'a str]) -> Option<VerifyWords<'a>>
+    ensures { option_map verify_record result ≡ verify_said (option_texts options.now) (texts_of words.now) }
+{
     let [data_path, hash_path, rest @ ..] = words else {
-        return Err(WordsFault::Usage);
+        return None;
     };
-    if has_tree_value(options) {
-        return Err(WordsFault::Usage);
+    if has_tree_value(options) || options.json && !options.all {
+        return None;
     }
     let Some(hash_offset) = offset_of(options.hash_offset) else {
-        return Err(WordsFault::Usage);
+        return None;
     };
     let Some(root) = root_alone(options.root_hash_file, rest) else {
-        return Err(WordsFault::Usage);
+        return None;
     };
-    Ok(Further::Verify(VerifyWords {
+    Some(VerifyWords {
         data_path,
         hash_path,
         root,
         hash_offset,
         all: options.all,
-    }))
+        json: options.json,
+        progress: options.progress,
+    })
 }

@@ -1,8 +1,9 @@
 -- Commands on images that end early.
-use Rattle.std.proofs.Common.{List, ℕ, Option, refl}
+use Rattle.std.proofs.Common.{List, ℕ, Bool, Option, refl}
+use Rattle.verity_format.specs.declared.verifying.VerifyFault.{VerifyFault}
 use Rattle.image_commands.specs.declared.fault.ImageFault.{ImageFault}
 use Rattle.image_commands.specs.declared.fault.ImageFault.TheVariants.{NoMemory, Open, Format, Verify, Differs, RootText, Unaligned, Random, Write}
-use Rattle.image_commands.specs.Endings.{IsQuiet}
+use Rattle.image_commands.specs.Endings.{IsQuiet, IsVerifyEnd, MayEnd}
 
 pub quiet : (fault : ImageFault) (bytes : Option (List ℕ)) → IsQuiet fault bytes bytes
 quiet NoMemory bytes = refl
@@ -14,3 +15,15 @@ quiet RootText bytes = refl
 quiet Unaligned bytes = refl
 quiet Random bytes = refl
 quiet Write bytes = tt
+
+-- want of memory and a line that can't be written end a command whatever else may
+pub may_end : (Cause : VerifyFault → Type 0) (failed : Bool) (fault : ImageFault) → MayEnd failed fault → IsVerifyEnd Cause failed fault
+may_end Cause failed NoMemory h = h
+may_end Cause failed (Open file) h = h
+may_end Cause failed (Format fault) h = h
+may_end Cause failed (Verify fault) h = absurd h
+may_end Cause failed (Differs verdict) h = h
+may_end Cause failed RootText h = h
+may_end Cause failed Unaligned h = h
+may_end Cause failed Random h = h
+may_end Cause failed Write h = h

@@ -1,5 +1,7 @@
-use Rattle.std.proofs.Common.{ℕ, Result, inl, inr, refl, subst}
+use Rattle.std.proofs.Common.{ℕ, Result, ap, inl, inr, refl, subst}
+use Rattle.std.proofs.Math.Path.{subst₃}
 use Rattle.std.specs.Prelude.{IfErr, IfOk}
+use Rattle.block_device.specs.Device.{Device}
 use Rattle.verity_format.specs.declared.formatting.FormatFault.{FormatFault}
 use Rattle.image_commands.specs.declared.format.MadeImage.{MadeImage}
 use Rattle.image_commands.specs.declared.fault.ImageFault.TheVariants.{Format, Write}
@@ -15,8 +17,12 @@ returns-in_err-options-clause-err g c =
 pub returns-in_err-made-clause-err : goal.returns-in_err-made-clause-err
 returns-in_err-made-clause-err g c =
     let cause = c.in_err-made.field-0.0 in
-    let placing : ℕ → Placing = λ end. record { data_dev = g.I.Dev.BlockDev.state c.in_ok-two.two.data.device; hash_dev = g.I.Dev.BlockDev.state c.in_ok-two.two.hash.device; hash_dev' = g.I.Dev.BlockDev.state c.make_behind-hash_dev.result.0; end = end; first = c.args.places.hash_first } in
-    let ends : IsPlacedEnd c.in_ok-options.options (placing c.data_end-end.result) cause = subst (λ (r : Result MadeImage FormatFault). IfErr r (IsPlacedEnd c.in_ok-options.options (placing c.data_end-end.result))) c.in_err-made.was c.make_behind-hash_dev.ensures.err in
+    let watched = c.watch-data_dev in
+    let state = g.I.Dev.BlockDev.state in
+    let after : Device = state c.make_behind-hash_dev.result.0 in
+    let placing : Device → Device → ℕ → Placing = λ data_dev hash_dev end. record { data_dev = data_dev; hash_dev = hash_dev; hash_dev' = after; end = end; first = c.args.watched.places.hash_first } in
+    let was : Placing = placing (state watched.result.0.inner) (state watched.result.1) c.data_end-end.result in
+    let ends : IsPlacedEnd c.in_ok-options.options was cause = subst (λ (r : Result MadeImage FormatFault). IfErr r (IsPlacedEnd c.in_ok-options.options was)) c.in_err-made.was c.make_behind-hash_dev.ensures.err in
     err-from c.from_residual-in_err-made.result _ (Format cause) c.from_residual-in_err-made.ensures.1
     (inr (inr (inr (inl (record {
       given = c.in_ok-options.options;
@@ -25,15 +31,19 @@ returns-in_err-made-clause-err g c =
       cause = cause;
       opened = c.in_ok-two.ensures.ok;
       are_given = c.in_ok-options.ensures.ok;
-      ends = subst (λ (end : ℕ). IsPlacedEnd c.in_ok-options.options (placing end) cause) c.data_end-end.ensures ends;
+      ends = subst₃ (λ (d h : Device) (end : ℕ). IsPlacedEnd c.in_ok-options.options (placing d h end) cause) (ap state watched.ensures.data) (ap state watched.ensures.hash) c.data_end-end.ensures ends;
       is = refl;
     })))))
 
 pub returns-in_err-say_made-clause-err : goal.returns-in_err-say_made-clause-err
 returns-in_err-say_made-clause-err g c =
     let image = c.in_ok-made.made in
-    let placing : ℕ → Placing = λ end. record { data_dev = g.I.Dev.BlockDev.state c.in_ok-two.two.data.device; hash_dev = g.I.Dev.BlockDev.state c.in_ok-two.two.hash.device; hash_dev' = g.I.Dev.BlockDev.state c.make_behind-hash_dev.result.0; end = end; first = c.args.places.hash_first } in
-    let made : IsMadePlaced c.in_ok-options.options (placing c.data_end-end.result) image = subst (λ (r : Result MadeImage FormatFault). IfOk r (IsMadePlaced c.in_ok-options.options (placing c.data_end-end.result))) c.in_ok-made.was c.make_behind-hash_dev.ensures.ok in
+    let watched = c.watch-data_dev in
+    let state = g.I.Dev.BlockDev.state in
+    let after : Device = state c.make_behind-hash_dev.result.0 in
+    let placing : Device → Device → ℕ → Placing = λ data_dev hash_dev end. record { data_dev = data_dev; hash_dev = hash_dev; hash_dev' = after; end = end; first = c.args.watched.places.hash_first } in
+    let was : Placing = placing (state watched.result.0.inner) (state watched.result.1) c.data_end-end.result in
+    let made : IsMadePlaced c.in_ok-options.options was image = subst (λ (r : Result MadeImage FormatFault). IfOk r (IsMadePlaced c.in_ok-options.options was)) c.in_ok-made.was c.make_behind-hash_dev.ensures.ok in
     err-from c.from_residual-in_err-say_made.result _ Write c.from_residual-in_err-say_made.ensures.1
     (inr (inr (inr (inr (
       image,
@@ -45,7 +55,7 @@ returns-in_err-say_made-clause-err g c =
         aligned = cc (c.if-not-is_aligned.ensures);
         opened = c.in_ok-two.ensures.ok;
         are_given = c.in_ok-options.ensures.ok;
-        made = subst (λ (end : ℕ). IsMadePlaced c.in_ok-options.options (placing end) image) c.data_end-end.ensures made;
+        made = subst₃ (λ (d h : Device) (end : ℕ). IsMadePlaced c.in_ok-options.options (placing d h end) image) (ap state watched.ensures.data) (ap state watched.ensures.hash) c.data_end-end.ensures made;
         closed = c.close.ensures;
       },
       c.in_err-say_made.ensures.failed,
@@ -54,8 +64,12 @@ returns-in_err-say_made-clause-err g c =
 pub returns-clause-ok : goal.returns-clause-ok
 returns-clause-ok g c =
     let image = c.in_ok-made.made in
-    let placing : ℕ → Placing = λ end. record { data_dev = g.I.Dev.BlockDev.state c.in_ok-two.two.data.device; hash_dev = g.I.Dev.BlockDev.state c.in_ok-two.two.hash.device; hash_dev' = g.I.Dev.BlockDev.state c.make_behind-hash_dev.result.0; end = end; first = c.args.places.hash_first } in
-    let made : IsMadePlaced c.in_ok-options.options (placing c.data_end-end.result) image = subst (λ (r : Result MadeImage FormatFault). IfOk r (IsMadePlaced c.in_ok-options.options (placing c.data_end-end.result))) c.in_ok-made.was c.make_behind-hash_dev.ensures.ok in (
+    let watched = c.watch-data_dev in
+    let state = g.I.Dev.BlockDev.state in
+    let after : Device = state c.make_behind-hash_dev.result.0 in
+    let placing : Device → Device → ℕ → Placing = λ data_dev hash_dev end. record { data_dev = data_dev; hash_dev = hash_dev; hash_dev' = after; end = end; first = c.args.watched.places.hash_first } in
+    let was : Placing = placing (state watched.result.0.inner) (state watched.result.1) c.data_end-end.result in
+    let made : IsMadePlaced c.in_ok-options.options was image = subst (λ (r : Result MadeImage FormatFault). IfOk r (IsMadePlaced c.in_ok-options.options was)) c.in_ok-made.was c.make_behind-hash_dev.ensures.ok in (
       image,
       record {
         given = c.in_ok-options.options;
@@ -65,7 +79,7 @@ returns-clause-ok g c =
         aligned = cc (c.if-not-is_aligned.ensures);
         opened = c.in_ok-two.ensures.ok;
         are_given = c.in_ok-options.ensures.ok;
-        made = subst (λ (end : ℕ). IsMadePlaced c.in_ok-options.options (placing end) image) c.data_end-end.ensures made;
+        made = subst₃ (λ (d h : Device) (end : ℕ). IsMadePlaced c.in_ok-options.options (placing d h end) image) (ap state watched.ensures.data) (ap state watched.ensures.hash) c.data_end-end.ensures made;
         closed = c.close.ensures;
       },
       c.in_ok-say_made.ensures.ok,

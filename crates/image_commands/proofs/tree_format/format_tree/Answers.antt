@@ -1,4 +1,5 @@
-use Rattle.std.proofs.Common.{ℕ, Result, inl, inr, refl, subst}
+use Rattle.std.proofs.Common.{ℕ, Result, ap, inl, inr, refl, subst}
+use Rattle.std.proofs.Math.Path.{subst₃}
 use Rattle.std.specs.Prelude.{IfErr, IfOk}
 use Rattle.block_device.specs.Device.{Device}
 use Rattle.verity_format.specs.declared.formatting.FormatFault.{FormatFault}
@@ -19,11 +20,12 @@ pub returns-in_err-made-clause-err : goal.returns-in_err-made-clause-err
 returns-in_err-made-clause-err g c =
     let cause = c.in_err-made.field-0.0 in
     let given = c.in_ok-options.options in
-    let whole : Device = g.I.Dev.BlockDev.state c.in_ok-two.two.data.device in
-    let hash_dev : Device = g.I.Dev.BlockDev.state c.in_ok-two.two.hash.device in
-    let hash_dev' : Device = g.I.Dev.BlockDev.state c.make_at-hash_dev.result.0 in
-    let Ends : ℕ → FormatFault → Type 0 = λ end. IsTreeEnd (tree_with given (before whole end)) (before whole end) hash_dev c.args.places.hash_first hash_dev' in
-    let ends : Ends c.data_end-end.result cause = subst (λ (r : Result MadeImage FormatFault). IfErr r (Ends c.data_end-end.result)) c.in_err-made.was c.make_at-hash_dev.ensures.err in
+    let watched = c.watch-data_dev in
+    let state = g.I.Dev.BlockDev.state in
+    let hash_dev' : Device = state c.make_at-hash_dev.result.0 in
+    let Ends : Device → Device → ℕ → FormatFault → Type 0 = λ whole hash_dev end. IsTreeEnd (tree_with given (before whole end)) (before whole end) hash_dev c.args.watched.places.hash_first hash_dev' in
+    let Was : FormatFault → Type 0 = Ends (state watched.result.0.inner) (state watched.result.1) c.data_end-end.result in
+    let ends : Was cause = subst (λ (r : Result MadeImage FormatFault). IfErr r Was) c.in_err-made.was c.make_at-hash_dev.ensures.err in
     err-from c.from_residual-in_err-made.result _ (Format cause) c.from_residual-in_err-made.ensures.1
     (inr (inr (inr (inl (record {
       given = given;
@@ -32,7 +34,7 @@ returns-in_err-made-clause-err g c =
       cause = cause;
       opened = c.in_ok-two.ensures.ok;
       are_given = given-as c.in_ok-options.ensures.ok c.unnamed.ensures;
-      ends = subst (λ (end : ℕ). Ends end cause) c.data_end-end.ensures ends;
+      ends = subst₃ (λ (d h : Device) (end : ℕ). Ends d h end cause) (ap state watched.ensures.data) (ap state watched.ensures.hash) c.data_end-end.ensures ends;
       is = refl;
     })))))
 
@@ -40,11 +42,12 @@ pub returns-in_err-say_tree-clause-err : goal.returns-in_err-say_tree-clause-err
 returns-in_err-say_tree-clause-err g c =
     let made = c.in_ok-made.made in
     let given = c.in_ok-options.options in
-    let whole : Device = g.I.Dev.BlockDev.state c.in_ok-two.two.data.device in
-    let hash_dev : Device = g.I.Dev.BlockDev.state c.in_ok-two.two.hash.device in
-    let hash_dev' : Device = g.I.Dev.BlockDev.state c.make_at-hash_dev.result.0 in
-    let Made : ℕ → MadeImage → Type 0 = λ end. IsTreeMade (tree_with given (before whole end)) (before whole end) hash_dev c.args.places.hash_first hash_dev' in
-    let tree : Made c.data_end-end.result made = subst (λ (r : Result MadeImage FormatFault). IfOk r (Made c.data_end-end.result)) c.in_ok-made.was c.make_at-hash_dev.ensures.ok in
+    let watched = c.watch-data_dev in
+    let state = g.I.Dev.BlockDev.state in
+    let hash_dev' : Device = state c.make_at-hash_dev.result.0 in
+    let Made : Device → Device → ℕ → MadeImage → Type 0 = λ whole hash_dev end. IsTreeMade (tree_with given (before whole end)) (before whole end) hash_dev c.args.watched.places.hash_first hash_dev' in
+    let Was : MadeImage → Type 0 = Made (state watched.result.0.inner) (state watched.result.1) c.data_end-end.result in
+    let tree : Was made = subst (λ (r : Result MadeImage FormatFault). IfOk r Was) c.in_ok-made.was c.make_at-hash_dev.ensures.ok in
     err-from c.from_residual-in_err-say_tree.result _ Write c.from_residual-in_err-say_tree.ensures.1
     (inr (inr (inr (inr (
       made,
@@ -56,7 +59,7 @@ returns-in_err-say_tree-clause-err g c =
         aligned = cc (c.if-not-is_aligned.ensures);
         opened = c.in_ok-two.ensures.ok;
         are_given = given-as c.in_ok-options.ensures.ok c.unnamed.ensures;
-        tree = subst (λ (end : ℕ). Made end made) c.data_end-end.ensures tree;
+        tree = subst₃ (λ (d h : Device) (end : ℕ). Made d h end made) (ap state watched.ensures.data) (ap state watched.ensures.hash) c.data_end-end.ensures tree;
         closed = c.close.ensures;
       },
       c.in_err-say_tree.ensures.failed,
@@ -66,11 +69,12 @@ pub returns-clause-ok : goal.returns-clause-ok
 returns-clause-ok g c =
     let made = c.in_ok-made.made in
     let given = c.in_ok-options.options in
-    let whole : Device = g.I.Dev.BlockDev.state c.in_ok-two.two.data.device in
-    let hash_dev : Device = g.I.Dev.BlockDev.state c.in_ok-two.two.hash.device in
-    let hash_dev' : Device = g.I.Dev.BlockDev.state c.make_at-hash_dev.result.0 in
-    let Made : ℕ → MadeImage → Type 0 = λ end. IsTreeMade (tree_with given (before whole end)) (before whole end) hash_dev c.args.places.hash_first hash_dev' in
-    let tree : Made c.data_end-end.result made = subst (λ (r : Result MadeImage FormatFault). IfOk r (Made c.data_end-end.result)) c.in_ok-made.was c.make_at-hash_dev.ensures.ok in (
+    let watched = c.watch-data_dev in
+    let state = g.I.Dev.BlockDev.state in
+    let hash_dev' : Device = state c.make_at-hash_dev.result.0 in
+    let Made : Device → Device → ℕ → MadeImage → Type 0 = λ whole hash_dev end. IsTreeMade (tree_with given (before whole end)) (before whole end) hash_dev c.args.watched.places.hash_first hash_dev' in
+    let Was : MadeImage → Type 0 = Made (state watched.result.0.inner) (state watched.result.1) c.data_end-end.result in
+    let tree : Was made = subst (λ (r : Result MadeImage FormatFault). IfOk r Was) c.in_ok-made.was c.make_at-hash_dev.ensures.ok in (
       made,
       record {
         given = given;
@@ -80,7 +84,7 @@ returns-clause-ok g c =
         aligned = cc (c.if-not-is_aligned.ensures);
         opened = c.in_ok-two.ensures.ok;
         are_given = given-as c.in_ok-options.ensures.ok c.unnamed.ensures;
-        tree = subst (λ (end : ℕ). Made end made) c.data_end-end.ensures tree;
+        tree = subst₃ (λ (d h : Device) (end : ℕ). Made d h end made) (ap state watched.ensures.data) (ap state watched.ensures.hash) c.data_end-end.ensures tree;
         closed = c.close.ensures;
       },
       c.in_ok-say_tree.ensures.ok,

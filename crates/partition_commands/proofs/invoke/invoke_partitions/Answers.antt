@@ -8,3 +8,9 @@ returns-in-Stack-clause-ok g c = rw c.in-Stack.is (rw c.size_of-size.ensures at 
 
 pub returns-in-Stack-clause-err : goal.returns-in-Stack-clause-err
 returns-in-Stack-clause-err g c = rw c.in-Stack.is (rw c.size_of-size.ensures at c.stack_of_image.ensures.err)
+
+pub returns-in-Object-clause-ok : goal.returns-in-Object-clause-ok
+returns-in-Object-clause-ok g c = rw c.in-Object.is (rw c.size_of-size.ensures at c.object_of_image.ensures.ok)
+
+pub returns-in-Object-clause-err : goal.returns-in-Object-clause-err
+returns-in-Object-clause-err g c = rw c.in-Object.is (rw c.size_of-size.ensures at c.object_of_image.ensures.err)

@@ -26,21 +26,21 @@ returns-in_err-wanted-clause-err g c =
     let u = c.turns.invariant in
     err-from c.from_residual.result _ NoMemory c.from_residual.ensures.1
     (ends-as g.I.Images.relations.replaces c.args.file.path.now c.args.d.0 c.sectors-sectors.result _ _ _ c.turns.images
-    (sides c.turns.stack (g.O.BlockDev.state c.turns.out) (g.W.Write.contents c.turns.writer.inner)) c.turns.writer.failed NoMemory u.all u.turns refl)
+    (sides c.turns.stack (g.O.BlockDev.state c.turns.out) (g.L.Listing.told c.turns.listing)) (g.L.Listing.failed c.turns.listing) NoMemory u.all u.turns refl)
 
 pub returns-in_err-map-clause-err : goal.returns-in_err-map-clause-err
 returns-in_err-map-clause-err g c =
     let u = c.turns.invariant in
     err-from c.from_residual-in_err-map.result _ c.in_err-map.field-0.0 c.from_residual-in_err-map.ensures.1
     (ends-as g.I.Images.relations.replaces c.args.file.path.now c.args.d.0 c.sectors-sectors.result _ _ _ c.take_turn.new.images
-    (sides c.take_turn.new.stack (g.O.BlockDev.state c.take_turn.new.out) (g.W.Write.contents c.take_turn.new.writer.inner)) c.take_turn.new.writer.failed c.in_err-map.field-0.0 u.all u.turns c.in_err-map.ensures.err)
+    (sides c.take_turn.new.stack (g.O.BlockDev.state c.take_turn.new.out) (g.L.Listing.told c.take_turn.new.listing)) (g.L.Listing.failed c.take_turn.new.listing) c.in_err-map.field-0.0 u.all u.turns c.in_err-map.ensures.err)
 
 pub turns-preserved : goal.turns-preserved
 turns-preserved g c =
     let u = c.turns.invariant in
     let more : c.turns.at + c.min-count.result ≤ c.sectors-sectors.result = omega (arith, c.min-count.ensures, c.turns-test.true) in
     elim c.if-is_had.branch [
-      | then-is_had w ↦ rw (w.images-is, w.stack-is, w.out-is, w.writer-is, w.map-is, w.at-is) (record {
+      | then-is_had w ↦ rw (w.images-is, w.stack-is, w.out-is, w.listing-is, w.map-is, w.at-is) (record {
         turns = passes u.turns (record {
           span = record { first = c.turns.at; count = c.min-count.result };
           next = record {
@@ -63,7 +63,7 @@ turns-preserved g c =
         allowed = u.allowed;
       })
       | else-is_had+in_ok-map w ↦ let t = w.in_ok-map.ensures.ok in
-          rw (w.images-is, w.stack-is, w.out-is, w.writer-is, w.map-is, w.at-is) (record {
+          rw (w.images-is, w.stack-is, w.out-is, w.listing-is, w.map-is, w.at-is) (record {
             turns = goes_on u.turns t;
             map = w.in_ok-map.ensures.sectors;
             within = more;
@@ -79,4 +79,4 @@ returns-clause-ok g c =
     let u = c.turns.invariant in
     let end : c.turns.at ≡ c.sectors-sectors.result = omega (arith, u.within, c.turns-test.false) in
     whole-as g.I.Images.relations.replaces c.args.file.path.now c.args.d.0 c.sectors-sectors.result _ c.turns.at _ c.turns.images
-    (sides c.turns.stack (g.O.BlockDev.state c.turns.out) (g.W.Write.contents c.turns.writer.inner)) c.turns.map c.totals_of.result u.all end u.turns c.totals_of.ensures
+    (sides c.turns.stack (g.O.BlockDev.state c.turns.out) (g.L.Listing.told c.turns.listing)) c.turns.map c.totals_of.result u.all end u.turns c.totals_of.ensures

@@ -9,8 +9,8 @@ use Rattle.rescue_files.proofs.turns.rescue_in_turns.Given as goal
 abbrev pub invariant-turns : goal.invariant-turns
 invariant-turns g l = record {
   turns : Turns (kept g.I.Images.relations.replaces l.fn.file.path.now l.fn.d.0 l.sectors)
-      (progressed l.fn.images (sides l.fn.stack (g.O.BlockDev.state l.fn.out) (g.W.Write.contents l.fn.writer.inner)) l.fn.file.map 0)
-      (progressed l.images (sides l.stack (g.O.BlockDev.state l.out) (g.W.Write.contents l.writer.inner)) l.map l.at);
+      (progressed l.fn.images (sides l.fn.stack (g.O.BlockDev.state l.fn.out) (g.L.Listing.told l.fn.listing)) l.fn.file.map 0)
+      (progressed l.images (sides l.stack (g.O.BlockDev.state l.out) (g.L.Listing.told l.listing)) l.map l.at);
   map : length (marks l.map) ≡ l.sectors;
   within : l.at ≤ l.sectors;
   all : l.sectors ≡ size l.fn.stack.config (mapped l.fn.d.0);

@@ -12,7 +12,7 @@ use Rattle.rescue_files.proofs.turns.take_turn.Goals as goal
 pub returns-in_err-rescued-clause-err : goal.returns-in_err-rescued-clause-err
 returns-in_err-rescued-clause-err g c =
     let k = kept g.I.Images.relations.replaces c.args.turn.path.now c.args.d.0 c.args.turn.sectors in
-    let now = progressed c.args.images.now (sides c.args.stack.now (g.O.BlockDev.state c.args.out.now) (g.W.Write.contents c.args.writer.now.inner)) c.args.turn.map.now c.args.turn.span.first in
+    let now = progressed c.args.images.now (sides c.args.stack.now (g.O.BlockDev.state c.args.out.now) (g.L.Listing.told c.args.listing.now)) c.args.turn.map.now c.args.turn.span.first in
     err-from c.from_residual.result _ (recovery_ending c.in_err-rescued.field-0.0) c.from_residual.ensures.1 (stops-rescue k now _ _ _ c.in_err-rescued.field-0.0 c.in_err-rescued.ensures.err)
 
 pub returns-in_err-sync-clause-err : goal.returns-in_err-sync-clause-err
@@ -27,21 +27,21 @@ returns-in_err-map-clause-err g c = err-from c.from_residual-in_err-map.result _
 pub returns-in_err-write_map-clause-err : goal.returns-in_err-write_map-clause-err
 returns-in_err-write_map-clause-err g c =
     let k = kept g.I.Images.relations.replaces c.args.turn.path.now c.args.d.0 c.args.turn.sectors in
-    let now = progressed c.args.images.now (sides c.args.stack.now (g.O.BlockDev.state c.args.out.now) (g.W.Write.contents c.args.writer.now.inner)) c.args.turn.map.now c.args.turn.span.first in
+    let now = progressed c.args.images.now (sides c.args.stack.now (g.O.BlockDev.state c.args.out.now) (g.L.Listing.told c.args.listing.now)) c.args.turn.map.now c.args.turn.span.first in
     err-from c.from_residual-in_err-write_map.result _ c.in_err-write_map.field-0.0 c.from_residual-in_err-write_map.ensures.1
-    (stops-unwritten k now (map_text c.tried_before-tried.result c.in_ok-map.map) c.write_map.new.images (sides c.rescue.new.stack (g.O.BlockDev.state c.sync.new.self) (g.W.Write.contents c.rescue.new.writer.inner)) c.rescue.new.writer.failed c.in_err-write_map.field-0.0 c.in_err-write_map.ensures.err)
+    (stops-unwritten k now (map_text c.tried_before-tried.result c.in_ok-map.map) c.write_map.new.images (sides c.rescue.new.stack (g.O.BlockDev.state c.sync.new.self) (g.L.Listing.told c.rescue.new.listing)) (g.L.Listing.failed c.rescue.new.listing) c.in_err-write_map.field-0.0 c.in_err-write_map.ensures.err)
 
 pub returns-clause-ok : goal.returns-clause-ok
 returns-clause-ok g c =
-    let old : Sides = sides c.args.stack.now (g.O.BlockDev.state c.args.out.now) (g.W.Write.contents c.args.writer.now.inner) in
-    let left : Sides = sides c.rescue.new.stack (g.O.BlockDev.state c.rescue.new.out) (g.W.Write.contents c.rescue.new.writer.inner) in
+    let old : Sides = sides c.args.stack.now (g.O.BlockDev.state c.args.out.now) (g.L.Listing.told c.args.listing.now) in
+    let left : Sides = sides c.rescue.new.stack (g.O.BlockDev.state c.rescue.new.out) (g.L.Listing.told c.rescue.new.listing) in
     record {
       span = c.args.turn.span;
       next = c.requires.next;
       left = left;
       rescued = c.in_ok-rescued.rescued;
       rescues = subst (λ (l : List Bool). Rescues l c.args.d.0 old c.in_ok-rescued.rescued left) c.requires.wanted c.in_ok-rescued.ensures.ok;
-      on_medium = ap (λ (o : Device). sides c.rescue.new.stack o (g.W.Write.contents c.rescue.new.writer.inner)) c.in_ok-sync.ensures.ok;
+      on_medium = ap (λ (o : Device). sides c.rescue.new.stack o (g.L.Listing.told c.rescue.new.listing)) c.in_ok-sync.ensures.ok;
       map = c.in_ok-map.ensures.marks;
       written = subst (λ (t : Option ℕ). g.I.Images.relations.replaces c.args.images.now c.args.turn.path.now (map_text t c.in_ok-map.map) (Ok tt) c.write_map.new.images) c.tried_before-tried.ensures c.in_ok-write_map.ensures.ok;
     }

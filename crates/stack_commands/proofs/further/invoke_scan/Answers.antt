@@ -1,7 +1,14 @@
+use Rattle.stack_commands.proofs.further.invoke_scan.Goals.{in-None, in-Some}
 use Rattle.stack_commands.proofs.further.invoke_scan.Goals as goal
 
-pub returns-in-None-clause-err : goal.returns-in-None-clause-err
-returns-in-None-clause-err g c = rw c.in-None.is (rw c.stack_file-file.ensures at c.scan_device.ensures.err)
+pub returns-then-json-clause-err : goal.returns-then-json-clause-err
+returns-then-json-clause-err g c = elim c.match-map.branch [
+  | in-None w ↦ rw w.result-is (rw w.images-is (rw w.writer-is (rw c.if-json.true (rw w.in-None.is (rw c.stack_file-file.ensures at w.scan_to_object.ensures.err)))))
+  | in-Some w ↦ rw w.result-is (rw w.images-is (rw w.writer-is (rw c.if-json.true (rw w.in-Some.is (rw c.stack_file-file.ensures at w.scan_to_object_by_map.ensures.err)))))
+]
+
+pub returns-in-None-map-clause-err : goal.returns-in-None-map-clause-err
+returns-in-None-map-clause-err g c = rw c.if-json.false (rw c.in-None-map.is (rw c.stack_file-file.ensures at c.scan_device.ensures.err))
 
 pub returns-clause-err : goal.returns-clause-err
-returns-clause-err g c = rw c.in-Some.is (rw c.stack_file-file.ensures at c.scan_by_map.ensures.err)
+returns-clause-err g c = rw c.if-json.false (rw c.in-Some-map.is (rw c.stack_file-file.ensures at c.scan_by_map.ensures.err))

@@ -21,6 +21,9 @@ returns-in-Write-clause-err g c =
 pub returns-in-Scan-clause-err : goal.returns-in-Scan-clause-err
 returns-in-Scan-clause-err g c = rw c.in-Scan.is (rw c.stack_file-file-in-Scan.ensures at c.scan_device.ensures.err)
 
+pub returns-in-Copy-clause-err : goal.returns-in-Copy-clause-err
+returns-in-Copy-clause-err g c = rw c.in-Copy.is (rw c.stack_file-file-in-Copy.ensures at c.copy_device.ensures.err)
+
 pub returns-in-Nbd-clause-err : goal.returns-in-Nbd-clause-err
 returns-in-Nbd-clause-err g c = rw c.in-Nbd.is (rw c.as_slice-in-Nbd.ensures.value at c.serve_client.ensures.err)
 

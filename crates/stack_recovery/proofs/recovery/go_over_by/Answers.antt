@@ -23,7 +23,7 @@ use Rattle.stack_recovery.proofs.recovery.go_over_by.Goals as goal
 
 pub pieces-init : goal.pieces-init
 pieces-init g c =
-    let old : Sides = sides c.args.stack.now (g.O.BlockDev.state c.args.out.now) (g.W.Write.contents c.args.writer.now.inner) in
+    let old : Sides = sides c.args.stack.now (g.O.BlockDev.state c.args.out.now) (g.L.Listing.told c.args.listing.now) in
     let before : List Bool = marks_ahead c.args.ahead in
     let all = c.sectors-sectors.ensures ∙ ap (λ (x : Configuration). size x (mapped c.args.d.0)) c.config.ensures.value in
     record {
@@ -48,9 +48,9 @@ note-requires-clause-room g c =
 
 pub returns-in_err-note-clause-err : goal.returns-in_err-note-clause-err
 returns-in_err-note-clause-err g c =
-    let old : Sides = sides c.args.stack.now (g.O.BlockDev.state c.args.out.now) (g.W.Write.contents c.args.writer.now.inner) in
-    let new : Sides = sides c.pieces.stack (g.O.BlockDev.state c.pieces.out) (g.W.Write.contents c.pieces.writer.inner) in
-    err-from c.from_residual.result _ _ c.from_residual.ensures.1 (subst (IsRescueEnd (marks_ahead c.args.ahead) c.args.d.0 old new c.pieces.writer.failed) (sym c.in_err-note.ensures.err) (begun _ _ _ _ _ _ _ c.pieces.invariant.so_far c.pieces.stack _))
+    let old : Sides = sides c.args.stack.now (g.O.BlockDev.state c.args.out.now) (g.L.Listing.told c.args.listing.now) in
+    let new : Sides = sides c.pieces.stack (g.O.BlockDev.state c.pieces.out) (g.L.Listing.told c.pieces.listing) in
+    err-from c.from_residual.result _ _ c.from_residual.ensures.1 (subst (IsRescueEnd (marks_ahead c.args.ahead) c.args.d.0 old new (g.L.Listing.failed c.pieces.listing)) (sym c.in_err-note.ensures.err) (begun _ _ _ _ _ _ _ c.pieces.invariant.so_far c.pieces.stack _))
 
 pub overflow_add-at : goal.overflow_add-at
 overflow_add-at g c =
@@ -69,7 +69,7 @@ pieces-preserved-then-run g c =
     let marked : AreMarked before c.pieces.at here.count true = subst (AreMarked before c.pieces.at here.count) c.if-run.true (marked-next before c.pieces.at here.count here.count here.had _ (omega arith) (u.ahead ∙ first)) in
     let tally : c.close.new.self ≡ record { last = None; lost = c.pieces.tally.lost } = ap₂ {C = Tally} (λ (l : Option LostRun) (m : ℕ). record { last = l; lost = m }) c.in_ok-close.ensures.last c.close.ensures.lost in
     record {
-      so_far = underway-kept _ _ _ _ _ _ _ u.so_far here.count (g.W.Write.contents c.close.new.writer.inner) c.close.new.self c.note.new.noted c.next_run-run.ensures.some marked c.in_ok-note.ensures.ok c.in_ok-close.ensures.text.ok tally;
+      so_far = underway-kept _ _ _ _ _ _ _ u.so_far here.count (g.L.Listing.told c.close.new.listing) c.close.new.self c.note.new.noted c.next_run-run.ensures.some marked c.in_ok-note.ensures.ok c.in_ok-close.ensures.text.ok tally;
       ahead = ahead-next before c.pieces.at here.count _ _ _ (u.ahead ∙ sym c.next_run-run.ensures.same) c.pass.ensures;
       config = u.config;
       within = inside;
@@ -116,9 +116,9 @@ note-requires-in-Ok-clause-room g c =
 
 pub returns-in_err-note-in-Ok-clause-err : goal.returns-in_err-note-in-Ok-clause-err
 returns-in_err-note-in-Ok-clause-err g c =
-    let old : Sides = sides c.args.stack.now (g.O.BlockDev.state c.args.out.now) (g.W.Write.contents c.args.writer.now.inner) in
-    let new : Sides = sides c.read_bytes.new.self (g.O.BlockDev.state c.pieces.out) (g.W.Write.contents c.pieces.writer.inner) in
-    err-from c.from_residual-in_err-note-in-Ok.result _ _ c.from_residual-in_err-note-in-Ok.ensures.1 (subst (IsRescueEnd (marks_ahead c.args.ahead) c.args.d.0 old new c.pieces.writer.failed) (sym c.in_err-note-in-Ok.ensures.err) (begun _ _ _ _ _ _ _ c.pieces.invariant.so_far c.read_bytes.new.self _))
+    let old : Sides = sides c.args.stack.now (g.O.BlockDev.state c.args.out.now) (g.L.Listing.told c.args.listing.now) in
+    let new : Sides = sides c.read_bytes.new.self (g.O.BlockDev.state c.pieces.out) (g.L.Listing.told c.pieces.listing) in
+    err-from c.from_residual-in_err-note-in-Ok.result _ _ c.from_residual-in_err-note-in-Ok.ensures.1 (subst (IsRescueEnd (marks_ahead c.args.ahead) c.args.d.0 old new (g.L.Listing.failed c.pieces.listing)) (sym c.in_err-note-in-Ok.ensures.err) (begun _ _ _ _ _ _ _ c.pieces.invariant.so_far c.read_bytes.new.self _))
 
 pub write-requires-clause-range : goal.write-requires-clause-range
 write-requires-clause-range g c =
@@ -157,15 +157,15 @@ pieces-preserved-in-Ok g c =
     let bytes : List ℕ = c.read_bytes.new.out in
     let piece = subst (λ (m : ℕ). EachBytes c.pieces.stack c.args.d.0 c.pieces.at m (Ok bytes) c.read_bytes.new.self) number (record { any = c.in-Ok.ensures.any; steady = c.in-Ok.ensures.steady }) in
     let len : length bytes ≡ 512 * n = piece.any.may.read.run.len in
-    let old : Sides = sides c.args.stack.now (g.O.BlockDev.state c.args.out.now) (g.W.Write.contents c.args.writer.now.inner) in
-    let new : Sides = sides c.read_bytes.new.self (g.O.BlockDev.state c.write.new.self) (g.W.Write.contents c.close-in-Ok.new.writer.inner) in
+    let old : Sides = sides c.args.stack.now (g.O.BlockDev.state c.args.out.now) (g.L.Listing.told c.args.listing.now) in
+    let new : Sides = sides c.read_bytes.new.self (g.O.BlockDev.state c.write.new.self) (g.L.Listing.told c.close-in-Ok.new.listing) in
     let tally : c.close-in-Ok.new.self ≡ record { last = None; lost = c.pieces.tally.lost } = ap₂ {C = Tally} (λ (l : Option LostRun) (m : ℕ). record { last = l; lost = m }) c.in_ok-close-in-Ok.ensures.last c.close-in-Ok.ensures.lost in
     let k : ℕ = length bytes / 512 in
     let count : length bytes / 512 ≡ n = omega (arith, len) in
     let same : c.from-count.result ≡ n = c.from-count.ensures in
     record {
       so_far = subst (λ (m : ℕ). IsUnderway before c.args.d.0 old new (c.pieces.at + m) c.close-in-Ok.new.self c.note-in-Ok.new.noted) (sym same)
-          (underway-had _ _ _ _ _ _ _ u.so_far n bytes c.read_bytes.new.self k _ (g.O.BlockDev.state c.write.new.self) (g.W.Write.contents c.close-in-Ok.new.writer.inner) c.close-in-Ok.new.self c.note-in-Ok.new.noted
+          (underway-had _ _ _ _ _ _ _ u.so_far n bytes c.read_bytes.new.self k _ (g.O.BlockDev.state c.write.new.self) (g.L.Listing.told c.close-in-Ok.new.listing) c.close-in-Ok.new.self c.note-in-Ok.new.noted
           c.piece_at-piece.ensures.some piece marked (rw same at c.in_ok-note-in-Ok.ensures.ok) count c.in_ok-write-in-Ok.ensures.moved
           c.in_ok-write-in-Ok.ensures.image
           c.in_ok-close-in-Ok.ensures.text.ok tally);
@@ -192,9 +192,9 @@ note-requires-then-piece-clause-room g c =
 
 pub returns-in_err-note-in-Err-clause-err : goal.returns-in_err-note-in-Err-clause-err
 returns-in_err-note-in-Err-clause-err g c =
-    let old : Sides = sides c.args.stack.now (g.O.BlockDev.state c.args.out.now) (g.W.Write.contents c.args.writer.now.inner) in
-    let new : Sides = sides c.read_bytes.new.self (g.O.BlockDev.state c.pieces.out) (g.W.Write.contents c.pieces.writer.inner) in
-    err-from c.from_residual-in_err-note-in-Err.result _ _ c.from_residual-in_err-note-in-Err.ensures.1 (subst (IsRescueEnd (marks_ahead c.args.ahead) c.args.d.0 old new c.pieces.writer.failed) (sym c.in_err-note-in-Err.ensures.err) (begun _ _ _ _ _ _ _ c.pieces.invariant.so_far c.read_bytes.new.self _))
+    let old : Sides = sides c.args.stack.now (g.O.BlockDev.state c.args.out.now) (g.L.Listing.told c.args.listing.now) in
+    let new : Sides = sides c.read_bytes.new.self (g.O.BlockDev.state c.pieces.out) (g.L.Listing.told c.pieces.listing) in
+    err-from c.from_residual-in_err-note-in-Err.result _ _ c.from_residual-in_err-note-in-Err.ensures.1 (subst (IsRescueEnd (marks_ahead c.args.ahead) c.args.d.0 old new (g.L.Listing.failed c.pieces.listing)) (sym c.in_err-note-in-Err.ensures.err) (begun _ _ _ _ _ _ _ c.pieces.invariant.so_far c.read_bytes.new.self _))
 
 pub lose-requires : goal.lose-requires
 lose-requires g c =
@@ -221,15 +221,15 @@ pieces-preserved-then-piece g c =
     let piece = subst (λ (m : ℕ). EachBytes c.pieces.stack c.args.d.0 c.pieces.at m (Err c.in-Err.fault) c.read_bytes.new.self) number (record { any = c.in-Err.ensures.any; steady = c.in-Err.ensures.steady }) in
     let alike : AreAlike c.pieces.stack.config c.args.d.0 c.pieces.at n = subst (λ (x : Configuration). AreAlike x c.args.d.0 c.pieces.at n) c.config-else-run.ensures.value (c.piece_at-piece.ensures.alike c.if-piece.true) in
     let none : c.in-Err.fault ≡ NoMemory → ⊥ = λ e. false≢true (sym c.if-is_same.false ∙ c.is_same.ensures ∙ ap (λ (f : IoFault). is_same f NoMemory) e) in
-    let old : Sides = sides c.args.stack.now (g.O.BlockDev.state c.args.out.now) (g.W.Write.contents c.args.writer.now.inner) in
-    let new : Sides = sides c.read_bytes.new.self (g.O.BlockDev.state c.pieces.out) (g.W.Write.contents c.lose.new.writer.inner) in
+    let old : Sides = sides c.args.stack.now (g.O.BlockDev.state c.args.out.now) (g.L.Listing.told c.args.listing.now) in
+    let new : Sides = sides c.read_bytes.new.self (g.O.BlockDev.state c.pieces.out) (g.L.Listing.told c.lose.new.listing) in
     let same : c.from-count.result ≡ n = c.from-count.ensures in
     let grown : LostRun = run c.pieces.at c.from-count.result c.in-Err.fault in
     let tally : c.lose.new.self ≡ record { last = Some (opened_by c.pieces.tally.last grown); lost = c.pieces.tally.lost + c.from-count.result } =
     ap₂ {C = Tally} (λ (l : Option LostRun) (m : ℕ). record { last = l; lost = m }) c.in_ok-lose-in-Err.ensures.last c.in_ok-lose-in-Err.ensures.lost in
     record {
       so_far = subst (λ (m : ℕ). IsUnderway before c.args.d.0 old new (c.pieces.at + m) c.lose.new.self c.note-then-piece.new.noted) (sym same)
-          (underway-lost _ _ _ _ _ _ _ u.so_far n c.in-Err.fault c.read_bytes.new.self (g.W.Write.contents c.lose.new.writer.inner) c.lose.new.self c.note-then-piece.new.noted
+          (underway-lost _ _ _ _ _ _ _ u.so_far n c.in-Err.fault c.read_bytes.new.self (g.L.Listing.told c.lose.new.listing) c.lose.new.self c.note-then-piece.new.noted
           c.piece_at-piece.ensures.some piece marked (rw same at c.in_ok-note-in-Err.ensures.ok) alike none (rw same at c.in_ok-lose-in-Err.ensures.text.ok)
           (rw same at tally));
       ahead = ahead-next before c.pieces.at c.from-count.result _ _ _ (u.ahead ∙ sym c.next_run-run.ensures.same) c.pass-then-piece.ensures;
@@ -274,5 +274,5 @@ pub returns-clause-ok : goal.returns-clause-ok
 returns-clause-ok g c =
     let u = c.pieces.invariant in
     let all : c.sectors-sectors.result ≡ c.pieces.at = omega (arith, u.within, c.pieces-test.false) in
-    underway-all _ _ _ _ _ _ _ u.so_far (g.W.Write.contents c.close-2.new.writer.inner) c.sectors-sectors.result _ (sym all ∙ u.all) all
+    underway-all _ _ _ _ _ _ _ u.so_far (g.L.Listing.told c.close-2.new.listing) c.sectors-sectors.result _ (sym all ∙ u.all) all
     c.in_ok-close-2.ensures.text.ok (ap (λ m. record { read = c.sectors-sectors.result - m; lost = m }) c.close-2.ensures.lost) u.unfailed

@@ -9,14 +9,14 @@ use Rattle.stack_recovery.proofs.recovery.go_over_by.Given as goal
 -- the sectors before this one are had or lost
 abbrev pub invariant-pieces : goal.invariant-pieces
 invariant-pieces g l = record {
-  so_far : IsUnderway (marks_ahead l.fn.ahead) l.fn.d.0 (sides l.fn.stack (g.O.BlockDev.state l.fn.out) (g.W.Write.contents l.fn.writer.inner)) (sides l.stack (g.O.BlockDev.state l.out) (g.W.Write.contents l.writer.inner)) l.at l.tally l.noted;
+  so_far : IsUnderway (marks_ahead l.fn.ahead) l.fn.d.0 (sides l.fn.stack (g.O.BlockDev.state l.fn.out) (g.L.Listing.told l.fn.listing)) (sides l.stack (g.O.BlockDev.state l.out) (g.L.Listing.told l.listing)) l.at l.tally l.noted;
   ahead : drop l.at (marks_ahead l.fn.ahead) ≡ marks_ahead l.ahead;
   config : l.stack.config ≡ l.fn.stack.config;
   within : l.at ≤ l.sectors;
   all : l.sectors ≡ size l.fn.stack.config (mapped l.d.0);
   few : l.sectors ≤ 2 ^ 54;
   pace : IsPace l.pace.most;
-  kept : l.writer.failed ≡ l.fn.writer.failed;
+  kept : g.L.Listing.failed l.listing ≡ g.L.Listing.failed l.fn.listing;
   unfailed : (g.O.BlockDev.state l.out).failures ≡ (g.O.BlockDev.state l.fn.out).failures;
   noted : is_some l.noted ≡ is_some l.fn.noted;
 }

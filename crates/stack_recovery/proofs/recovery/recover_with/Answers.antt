@@ -10,8 +10,8 @@ use Rattle.stack_recovery.proofs.recovery.recover_with.Goals as goal
 pub returns-clause-ok : goal.returns-clause-ok
 returns-clause-ok g c =
     let d : ℕ = c.args.d.0 in
-    let old : Sides = sides c.args.stack.now (g.O.BlockDev.state c.args.out.now) (g.W.Write.contents c.args.writer.now.inner) in
-    let new : Sides = sides c.go_over.new.stack (g.O.BlockDev.state c.go_over.new.out) (g.W.Write.contents c.go_over.new.writer.inner) in
+    let old : Sides = sides c.args.stack.now (g.O.BlockDev.state c.args.out.now) (g.L.Listing.told c.args.listing.now) in
+    let new : Sides = sides c.go_over.new.stack (g.O.BlockDev.state c.go_over.new.out) (g.L.Listing.told c.go_over.new.listing) in
     let noted : Option (List Run) = c.go_over.new.noted in
     ok-as c.go_over.result (λ (counts : Counts). GoesOver (marks_ahead c.unread-ahead.result) d old counts noted new) (λ (counts : Counts). Recovers d old counts new)
     (λ counts p. recovers-none c.sectors.result d old counts noted new (subst (λ (m : List Bool). GoesOver m d old counts noted new) c.unread-ahead.ensures p))
@@ -20,9 +20,9 @@ returns-clause-ok g c =
 pub returns-clause-err : goal.returns-clause-err
 returns-clause-err g c =
     let d : ℕ = c.args.d.0 in
-    let old : Sides = sides c.args.stack.now (g.O.BlockDev.state c.args.out.now) (g.W.Write.contents c.args.writer.now.inner) in
-    let new : Sides = sides c.go_over.new.stack (g.O.BlockDev.state c.go_over.new.out) (g.W.Write.contents c.go_over.new.writer.inner) in
-    let failed : Bool = c.go_over.new.writer.failed in
+    let old : Sides = sides c.args.stack.now (g.O.BlockDev.state c.args.out.now) (g.L.Listing.told c.args.listing.now) in
+    let new : Sides = sides c.go_over.new.stack (g.O.BlockDev.state c.go_over.new.out) (g.L.Listing.told c.go_over.new.listing) in
+    let failed : Bool = g.L.Listing.failed c.go_over.new.listing in
     err-as c.go_over.result (IsRescueEnd (marks_ahead c.unread-ahead.result) d old new failed) (IsRecoveryEnd d old new failed)
     (λ fault p. ends-none c.sectors.result d old new failed fault (subst (λ (m : List Bool). IsRescueEnd m d old new failed fault) c.unread-ahead.ensures p))
     c.go_over.ensures.err

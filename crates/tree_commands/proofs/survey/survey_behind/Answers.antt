@@ -8,7 +8,7 @@ use Rattle.verity_format.specs.Verifying.{IsReadCause}
 use Rattle.tree_survey.specs.declared.fault.SurveyFault.TheVariants.{Image}
 use Rattle.tree_survey.specs.Passes.{pass}
 use Rattle.tree_commands.specs.declared.fault.TreeFault.TheVariants.{Survey}
-use Rattle.tree_commands.specs.Surveys.{IsSurveyEnd, SaysSurvey}
+use Rattle.tree_commands.specs.Surveys.{IsSurveyEnd, SaysFound}
 use Rattle.tree_commands.proofs.OpeningLemmas.{err-from, windowed-same}
 use Rattle.tree_commands.proofs.survey.survey_behind.Goals as goal
 
@@ -39,7 +39,7 @@ returns-clause-ok g c =
       data_dev' = data_new;
       hash_dev' = hash_new;
       first_read = subst (λ (v : Device). IsOnlyRead v read_dev) b c.in_ok-superblock.ensures.read;
-      says = subst (λ (v : Device). SaysSurvey (pass v read_dev data_new hash_new old printed) c.args.root.now true) a done;
+      says = subst (λ (v : Device). SaysFound c.args.json (pass v read_dev data_new hash_new old printed) c.args.root.now true) a done;
     })
     c.say_survey.ensures.ok
 
@@ -62,6 +62,6 @@ returns-clause-err g c =
       data_dev' = data_new;
       hash_dev' = hash_new;
       first_read = subst (λ (v : Device). IsOnlyRead v read_dev) b c.in_ok-superblock.ensures.read;
-      ends = subst (λ (v : Device). IsSurveyEnd (pass v read_dev data_new hash_new old printed) root c.say_survey.new.writer.failed fault) a ends;
+      ends = subst (λ (v : Device). IsSurveyEnd c.args.json (pass v read_dev data_new hash_new old printed) root c.say_survey.new.writer.failed fault) a ends;
     })))
     c.say_survey.ensures.err

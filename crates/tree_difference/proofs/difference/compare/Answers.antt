@@ -27,7 +27,7 @@ spans-init g c =
     let w0 : Walk = c.args.walk.now in
     let d0 : Device = g.D.BlockDev.state c.args.first.now in
     let e0 : Device = g.E.BlockDev.state c.args.second.now in
-    let old : Option (List ℕ) = g.W.Write.contents c.args.writer.now.inner in
+    let old : Option (List ℕ) = g.L.Listing.told c.args.listing.now in
     record {
       so_far = underway-none w0 d0 e0 c.args.most old c.new-tally.result c.requires (listed-none c.args.most old c.new-tally.result c.new-tally.ensures);
       kept = refl;
@@ -38,7 +38,7 @@ descend-requires g c =
     let w0 : Walk = c.args.walk.now in
     let d0 : Device = g.D.BlockDev.state c.args.first.now in
     let e0 : Device = g.E.BlockDev.state c.args.second.now in
-    let old : Option (List ℕ) = g.W.Write.contents c.args.writer.now.inner in
+    let old : Option (List ℕ) = g.L.Listing.told c.args.listing.now in
     let w : Walk = c.spans.walk in
     let d : Device = g.D.BlockDev.state c.spans.first in
     let e : Device = g.E.BlockDev.state c.spans.second in
@@ -57,7 +57,7 @@ returns-in_err-stop-clause-err g c =
     let w0 : Walk = c.args.walk.now in
     let d0 : Device = g.D.BlockDev.state c.args.first.now in
     let e0 : Device = g.E.BlockDev.state c.args.second.now in
-    let old : Option (List ℕ) = g.W.Write.contents c.args.writer.now.inner in
+    let old : Option (List ℕ) = g.L.Listing.told c.args.listing.now in
     let w : Walk = c.spans.walk in
     let d : Device = g.D.BlockDev.state c.spans.first in
     let e : Device = g.E.BlockDev.state c.spans.second in
@@ -66,7 +66,7 @@ returns-in_err-stop-clause-err g c =
     let d' : Device = g.D.BlockDev.state c.descend.new.first in
     let e' : Device = g.E.BlockDev.state c.descend.new.second in
     err-from c.from_residual.result _ c.in_err-stop.field-0.0 c.from_residual.ensures.1
-    (walk-comparison w0 (world d0 e0 d' e' old (g.W.Write.contents c.spans.writer.inner)) c.spans.writer.failed c.in_err-stop.field-0.0
+    (walk-comparison w0 (world d0 e0 d' e' old (g.L.Listing.told c.spans.listing)) (g.L.Listing.failed c.spans.listing) c.in_err-stop.field-0.0
     (cause-then w0 w d0 e0 d e d' e' c.in_err-stop.field-0.0 u.trees u.first_read.read u.second_read.read u.first_read.failures u.second_read.failures c.in_err-stop.ensures.err))
 
 pub overflow_add-changed : goal.overflow_add-changed
@@ -74,7 +74,7 @@ overflow_add-changed g c =
     let w0 : Walk = c.args.walk.now in
     let d0 : Device = g.D.BlockDev.state c.args.first.now in
     let e0 : Device = g.E.BlockDev.state c.args.second.now in
-    let old : Option (List ℕ) = g.W.Write.contents c.args.writer.now.inner in
+    let old : Option (List ℕ) = g.L.Listing.told c.args.listing.now in
     let w : Walk = c.spans.walk in
     let d : Device = g.D.BlockDev.state c.spans.first in
     let e : Device = g.E.BlockDev.state c.spans.second in
@@ -88,7 +88,7 @@ spans-smaller g c =
     let w0 : Walk = c.args.walk.now in
     let d0 : Device = g.D.BlockDev.state c.args.first.now in
     let e0 : Device = g.E.BlockDev.state c.args.second.now in
-    let old : Option (List ℕ) = g.W.Write.contents c.args.writer.now.inner in
+    let old : Option (List ℕ) = g.L.Listing.told c.args.listing.now in
     let some : 1 ≤ c.span-count.result = span-some w0 d0 e0 c.in_ok-stop.stop.level c.span-count.result (w0.blocks - c.spans.at) c.requires.have c.span-count.ensures (omega (arith, c.spans-test.true)) in
     let less : w0.blocks - (c.spans.at + c.span-count.result) < w0.blocks - c.spans.at = omega (arith, some, c.spans-test.true) in
     less
@@ -98,7 +98,7 @@ spans-preserved g c =
     let w0 : Walk = c.args.walk.now in
     let d0 : Device = g.D.BlockDev.state c.args.first.now in
     let e0 : Device = g.E.BlockDev.state c.args.second.now in
-    let old : Option (List ℕ) = g.W.Write.contents c.args.writer.now.inner in
+    let old : Option (List ℕ) = g.L.Listing.told c.args.listing.now in
     let w : Walk = c.spans.walk in
     let d : Device = g.D.BlockDev.state c.spans.first in
     let e : Device = g.E.BlockDev.state c.spans.second in
@@ -109,7 +109,7 @@ spans-preserved g c =
     let w' : Walk = c.descend.new.self in
     let d' : Device = g.D.BlockDev.state c.descend.new.first in
     let e' : Device = g.E.BlockDev.state c.descend.new.second in
-    let now : Option (List ℕ) = g.W.Write.contents c.spans.writer.inner in
+    let now : Option (List ℕ) = g.L.Listing.told c.spans.listing in
     let level : ℕ = c.in_ok-stop.stop.level in
     let count : ℕ = c.span-count.result in
     let have = c.requires.have in
@@ -118,12 +118,12 @@ spans-preserved g c =
     let i : World = world d0 e0 d e old now in
     elim c.if-stop.branch [
       | then-stop+in_ok-close v ↦
-          let new : Option (List ℕ) = g.W.Write.contents v.close.new.writer.inner in
+          let new : Option (List ℕ) = g.L.Listing.told v.close.new.listing in
           let i' : World = world d0 e0 d' e' old new in
           let n : IsNext w0 w w' i i' at top level count = next-of w0 w w' d0 e0 d e d' e' old now new at top level count c.in_ok-stop.stop.same u.trees c.spans-test.true is u.first_read.read u.second_read.read h span in
           let same : digest_on w'.first at level ≡ digest_on w'.second at level = (bytes_eq-Decides _ _).0 (sym h.test ∙ v.if-stop.true) in
           let counted : c.spans.changed ≡ count_of Changed (u.compared ++ replicate count None) = omega (arith, u.counted, count_of-append Changed u.compared (replicate count None), count_of-had Changed count) in
-          rw (v.writer-is, v.tally-is, v.changed-is) (record {
+          rw (v.listing-is, v.tally-is, v.changed-is) (record {
             so_far = underway-next w0 w w' d0 e0 have i i' c.args.most (progress c.spans.tally c.spans.changed at) (progress v.close.new.self c.spans.changed (at + count)) top level count None u n
                 (seen-same w0 w w' d0 e0 have i i' at top level count n same) (stored-same w0 w w' d0 e0 have i i' at top level count n same)
                 (listed-had c.args.most u.compared c.spans.tally v.close.new.self old now new count (count-some w0 w w' d0 e0 have i i' at top level count n) u.listed v.in_ok-close.ensures.text.ok v.in_ok-close.ensures.last v.in_ok-close.ensures.limit)
@@ -131,13 +131,13 @@ spans-preserved g c =
             kept = v.in_ok-close.ensures.text.kept ∙ c.spans.invariant.kept;
           })
       | else-stop+in_ok-add v ↦
-          let new : Option (List ℕ) = g.W.Write.contents v.add.new.writer.inner in
+          let new : Option (List ℕ) = g.L.Listing.told v.add.new.listing in
           let i' : World = world d0 e0 d' e' old new in
           let n : IsNext w0 w w' i i' at top level count = next-of w0 w w' d0 e0 d e d' e' old now new at top level count c.in_ok-stop.stop.same u.trees c.spans-test.true is u.first_read.read u.second_read.read h span in
           let low : level ≡ 0 = h.last v.if-stop.false in
           let differ : digest_on w'.first at level ≢ digest_on w'.second at level = λ same. false≢true (sym v.if-stop.false ∙ h.test ∙ (bytes_eq-Decides _ _).1 same) in
           let counted : c.spans.changed + count ≡ count_of Changed (u.compared ++ replicate count (Some Changed)) = omega (arith, u.counted, count_of-append Changed u.compared (replicate count (Some Changed)), count_of-some count Changed) in
-          rw (v.writer-is, v.tally-is, v.changed-is) (record {
+          rw (v.listing-is, v.tally-is, v.changed-is) (record {
             so_far = underway-next w0 w w' d0 e0 have i i' c.args.most (progress c.spans.tally c.spans.changed at) (progress v.add.new.self (c.spans.changed + count) (at + count)) top level count (Some Changed) u n
                 (seen-changed w0 w w' d0 e0 have i i' at top level count n low differ) (stored-changed w0 w w' d0 e0 have i i' at top level count n low differ)
                 (listed-run c.args.most u.compared c.spans.tally v.add.new.self old now new at count Changed u.here (count-some w0 w w' d0 e0 have i i' at top level count n) u.listed v.in_ok-add.ensures.text.ok v.in_ok-add.ensures.last v.in_ok-add.ensures.limit)
@@ -151,7 +151,7 @@ totals_after-requires-clause-few g c =
     let w0 : Walk = c.args.walk.now in
     let d0 : Device = g.D.BlockDev.state c.args.first.now in
     let e0 : Device = g.E.BlockDev.state c.args.second.now in
-    let old : Option (List ℕ) = g.W.Write.contents c.args.writer.now.inner in
+    let old : Option (List ℕ) = g.L.Listing.told c.args.listing.now in
     let w : Walk = c.spans.walk in
     let d : Device = g.D.BlockDev.state c.spans.first in
     let e : Device = g.E.BlockDev.state c.spans.second in
@@ -165,11 +165,11 @@ returns-clause-ok g c =
     let w0 : Walk = c.args.walk.now in
     let d0 : Device = g.D.BlockDev.state c.args.first.now in
     let e0 : Device = g.E.BlockDev.state c.args.second.now in
-    let old : Option (List ℕ) = g.W.Write.contents c.args.writer.now.inner in
+    let old : Option (List ℕ) = g.L.Listing.told c.args.listing.now in
     let w : Walk = c.spans.walk in
     let d : Device = g.D.BlockDev.state c.spans.first in
     let e : Device = g.E.BlockDev.state c.spans.second in
     let u = c.spans.invariant.so_far in
     let at : ℕ = c.spans.at in
-    underway-all w0 w d0 e0 c.requires.have (world d0 e0 d e old (g.W.Write.contents c.spans.writer.inner)) c.args.most (progress c.spans.tally c.spans.changed at) u (omega (arith, u.within, c.spans-test.false)) c.totals_after.result c.totals_after.ensures
-    (g.W.Write.contents c.finish.new.writer.inner) c.in_ok-finish.ensures.ok
+    underway-all w0 w d0 e0 c.requires.have (world d0 e0 d e old (g.L.Listing.told c.spans.listing)) c.args.most (progress c.spans.tally c.spans.changed at) u (omega (arith, u.within, c.spans-test.false)) c.totals_after.result c.totals_after.ensures
+    (g.L.Listing.told c.finish.new.listing) c.in_ok-finish.ensures.ok

@@ -17,8 +17,8 @@ use Rattle.tree_difference.proofs.difference.compare_trees.Goals as goal
 pub returns-in_err-two-clause-err : goal.returns-in_err-two-clause-err
 returns-in_err-two-clause-err g c =
     err-from c.from_residual-in_err-two.result _ c.in_err-two.field-0.0 c.from_residual-in_err-two.ensures.1
-    (image-second (world (g.D.BlockDev.state c.args.first.now) (g.E.BlockDev.state c.args.second.now) (g.D.BlockDev.state c.superblock_of.new.device) (g.E.BlockDev.state c.superblock_of-2.new.device) (g.W.Write.contents c.args.writer.now.inner) (g.W.Write.contents c.args.writer.now.inner))
-    c.args.roots c.args.writer.now.failed c.in_err-two.field-0.0 c.in_err-two.ensures.err)
+    (image-second (world (g.D.BlockDev.state c.args.first.now) (g.E.BlockDev.state c.args.second.now) (g.D.BlockDev.state c.superblock_of.new.device) (g.E.BlockDev.state c.superblock_of-2.new.device) (g.L.Listing.told c.args.listing.now) (g.L.Listing.told c.args.listing.now))
+    c.args.roots (g.L.Listing.failed c.args.listing.now) c.in_err-two.field-0.0 c.in_err-two.ensures.err)
 
 pub align-requires : goal.align-requires
 align-requires g c =
@@ -29,7 +29,7 @@ pub returns-in_err-align-clause-err : goal.returns-in_err-align-clause-err
 returns-in_err-align-clause-err g c =
     err-from c.from_residual-in_err-align.result _ c.in_err-align.field-0.0 c.from_residual-in_err-align.ensures.1
     (walk-cause c.in_ok-one.one c.in_ok-two.two c.args.roots c.in_ok-walk.walk (g.D.BlockDev.state c.args.first.now) (g.D.BlockDev.state c.superblock_of.new.device) (g.E.BlockDev.state c.args.second.now) (g.E.BlockDev.state c.superblock_of-2.new.device)
-    (g.D.BlockDev.state c.align.new.first) (g.E.BlockDev.state c.align.new.second) (g.W.Write.contents c.args.writer.now.inner) (g.W.Write.contents c.args.writer.now.inner) c.args.writer.now.failed
+    (g.D.BlockDev.state c.align.new.first) (g.E.BlockDev.state c.align.new.second) (g.L.Listing.told c.args.listing.now) (g.L.Listing.told c.args.listing.now) (g.L.Listing.failed c.args.listing.now)
     c.in_ok-one.ensures.found c.in_ok-two.ensures.found c.in_ok-walk.ensures.trees c.superblock_of.ensures.read c.superblock_of-2.ensures.read c.in_ok-one.ensures.full.failures c.in_ok-two.ensures.full.failures
     c.in_err-align.field-0.0 c.in_err-align.ensures.err)
 
@@ -57,8 +57,8 @@ returns-clause-ok g c =
     let e2 : Device = g.E.BlockDev.state c.align.new.second in
     let d3 : Device = g.D.BlockDev.state c.compare.new.first in
     let e3 : Device = g.E.BlockDev.state c.compare.new.second in
-    let old : Option (List ℕ) = g.W.Write.contents c.args.writer.now.inner in
-    let new : Option (List ℕ) = g.W.Write.contents c.compare.new.writer.inner in
+    let old : Option (List ℕ) = g.L.Listing.told c.args.listing.now in
+    let new : Option (List ℕ) = g.L.Listing.told c.compare.new.listing in
     let aligned = c.in_ok-align.ensures.ok in
     let have : HaveTrees w d1 e1 =
     have-trees a b c.args.roots w d0 d1 e0 e1 c.in_ok-walk.ensures (sym c.in-None.ensures) c.in_ok-one.ensures.found c.in_ok-two.ensures.found c.superblock_of.ensures.read.same.size c.superblock_of-2.ensures.read.same.size in
@@ -91,7 +91,7 @@ returns-clause-err g c =
     have-trees a b c.args.roots w (g.D.BlockDev.state c.args.first.now) d1 (g.E.BlockDev.state c.args.second.now) e1 c.in_ok-walk.ensures (sym c.in-None.ensures) c.in_ok-one.ensures.found c.in_ok-two.ensures.found c.superblock_of.ensures.read.same.size c.superblock_of-2.ensures.read.same.size in
     IfErr-weaker c.compare.result _ _
     (λ fault cause. comparison-cause a b c.args.roots c.align.new.walk (g.D.BlockDev.state c.args.first.now) d2 (g.E.BlockDev.state c.args.second.now) e2 (g.D.BlockDev.state c.compare.new.first) (g.E.BlockDev.state c.compare.new.second)
-    (g.W.Write.contents c.args.writer.now.inner) (g.W.Write.contents c.compare.new.writer.inner) c.compare.new.writer.failed c.in_ok-one.ensures.found c.in_ok-two.ensures.found
+    (g.L.Listing.told c.args.listing.now) (g.L.Listing.told c.compare.new.listing) (g.L.Listing.failed c.compare.new.listing) c.in_ok-one.ensures.found c.in_ok-two.ensures.found
     (same-trees w c.align.new.walk d1 e1 d2 e2 have aligned ∙ c.in_ok-walk.ensures.trees)
     (only_read-then c.superblock_of.ensures.read aligned.first.full.read) (only_read-then c.superblock_of-2.ensures.read aligned.second.full.read)
     (aligned.first.full.failures ∙ c.in_ok-one.ensures.full.failures) (aligned.second.full.failures ∙ c.in_ok-two.ensures.full.failures) fault cause)

@@ -8,14 +8,14 @@ levels-preserved g c =
     let above : c.levels.level ≡ l + 1 = omega (arith, c.levels-test.true) in
     record {
       few = omega (arith, c.levels.invariant.few);
-      said = subst (IsSayingTree c.args.path.now c.say_level.new.path (g.H.BlockDev.state c.args.device.now) (g.H.BlockDev.state c.say_level.new.device) l (g.W.Write.contents c.args.writer.now.inner) (g.W.Write.contents c.say_level.new.writer.inner))
+      said = subst (IsSayingTree c.args.path.now c.say_level.new.path (g.H.BlockDev.state c.args.device.now) (g.H.BlockDev.state c.say_level.new.device) l (g.L.Listing.told c.args.listing.now) (g.L.Listing.told c.say_level.new.listing))
           (sym c.both-whole.ensures)
           (tree-next c.args.path.now c.levels.path c.say_level.new.path (g.H.BlockDev.state c.args.device.now) (g.H.BlockDev.state c.levels.device) (g.H.BlockDev.state c.say_level.new.device)
-          c.levels.level l (g.W.Write.contents c.args.writer.now.inner) (g.W.Write.contents c.levels.writer.inner) (g.W.Write.contents c.say_level.new.writer.inner) c.levels.whole c.in_ok-good.good above
+          c.levels.level l (g.L.Listing.told c.args.listing.now) (g.L.Listing.told c.levels.listing) (g.L.Listing.told c.say_level.new.listing) c.levels.whole c.in_ok-good.good above
           c.levels.invariant.said c.say_level.ensures.read c.in_ok-good.ensures.ok);
     }
 
 pub returns-clause-ok : goal.returns-clause-ok
 returns-clause-ok g c =
-    tree-all c.args.path.now c.levels.path (g.H.BlockDev.state c.args.device.now) (g.H.BlockDev.state c.levels.device) c.levels.level (g.W.Write.contents c.args.writer.now.inner) (g.W.Write.contents c.levels.writer.inner) c.levels.whole
+    tree-all c.args.path.now c.levels.path (g.H.BlockDev.state c.args.device.now) (g.H.BlockDev.state c.levels.device) c.levels.level (g.L.Listing.told c.args.listing.now) (g.L.Listing.told c.levels.listing) c.levels.whole
     (omega (arith, c.levels-test.false)) c.levels.invariant.said

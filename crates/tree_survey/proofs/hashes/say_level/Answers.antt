@@ -24,18 +24,18 @@ numbers-preserved g c =
     let d = g.H.BlockDev.state c.args.device.now in
     let d' = g.H.BlockDev.state c.numbers.device in
     let d'' = g.H.BlockDev.state c.is_good.new.device in
-    let old = g.W.Write.contents c.args.writer.now.inner in
-    let now = g.W.Write.contents c.numbers.writer.inner in
+    let old = g.L.Listing.told c.args.listing.now in
+    let now = g.L.Listing.told c.numbers.listing in
     let p = c.args.path.now in
     let q = c.numbers.path in
     let r = c.is_good.new.path in
     elim c.if-not-branch.branch [
       | then-not-branch+in_ok-say_hash v ↦
-          rw (v.writer-is, v.whole-is, add-one c.numbers.number)
-          (level-bad p q r d d' d'' c.args.level c.numbers.number (c.numbers.number * c.span-width.result) old now c.numbers.whole c.numbers.invariant at.0 c.is_good.ensures.read (g.W.Write.contents v.say_hash.new.writer.inner)
+          rw (v.listing-is, v.whole-is, add-one c.numbers.number)
+          (level-bad p q r d d' d'' c.args.level c.numbers.number (c.numbers.number * c.span-width.result) old now c.numbers.whole c.numbers.invariant at.0 c.is_good.ensures.read (g.L.Listing.told v.say_hash.new.listing)
           (rw v.if-not-branch.true at c.in_ok-is_good.ensures.ok) v.in_ok-say_hash.ensures.ok)
       | else-not-branch v ↦
-          rw (v.writer-is, v.whole-is, add-one c.numbers.number)
+          rw (v.listing-is, v.whole-is, add-one c.numbers.number)
           (level-good p q r d d' d'' c.args.level c.numbers.number (c.numbers.number * c.span-width.result) old now c.numbers.whole c.numbers.invariant at.0 c.is_good.ensures.read
           (rw v.if-not-branch.false at c.in_ok-is_good.ensures.ok))
     ]

@@ -16,7 +16,7 @@ use Rattle.tree_survey.proofs.survey.survey_data.Goals as goal
 pub pieces-init : goal.pieces-init
 pieces-init g c = record {
   shape_is = c.requires.shape;
-  so_far = underway-none c.args.sight.now c.args.salt.now (g.D.BlockDev.state c.args.data_dev.now) (g.H.BlockDev.state c.args.hash_dev.now) (g.W.Write.contents c.args.writer.now.inner) c.new-counts.result c.requires c.new-counts.ensures;
+  so_far = underway-none c.args.sight.now c.args.salt.now (g.D.BlockDev.state c.args.data_dev.now) (g.H.BlockDev.state c.args.hash_dev.now) (g.L.Listing.told c.args.listing.now) c.new-counts.result c.requires c.new-counts.ensures;
   data_read = subst (λ (n : ℕ). IsFullRead (g.D.BlockDev.state c.args.data_dev.now) n (g.D.BlockDev.state c.args.data_dev.now)) (sym (zero-mul _)) (full_read-none (g.D.BlockDev.state c.args.data_dev.now));
 }
 
@@ -33,14 +33,14 @@ read_piece-requires g c =
 pub run-init : goal.run-init
 run-init g c =
     let plain : c.pieces.at ≡ c.pieces.at + 0 = omega arith in
-    subst (IsUnderway (tree_in c.args.sight.now) (g.D.BlockDev.state c.args.data_dev.now) (g.H.BlockDev.state c.args.hash_dev.now) (g.H.BlockDev.state c.pieces.hash_dev) (g.W.Write.contents c.args.writer.now.inner) (g.W.Write.contents c.pieces.writer.inner) c.pieces.sight c.pieces.counts) plain
+    subst (IsUnderway (tree_in c.args.sight.now) (g.D.BlockDev.state c.args.data_dev.now) (g.H.BlockDev.state c.args.hash_dev.now) (g.H.BlockDev.state c.pieces.hash_dev) (g.L.Listing.told c.args.listing.now) (g.L.Listing.told c.pieces.listing) c.pieces.sight c.pieces.counts) plain
     c.pieces.invariant.so_far
 
 pub go_to-requires : goal.go_to-requires
 go_to-requires g c =
     let t = tree_in c.args.sight.now in
     let low : c.pieces.at + c.run.k < c.args.sight.now.path.shape.blocks = omega (arith, c.run-test.true, c.len-k-end.ensures, c.in_ok-digests.digests.ok.0, c.in_ok-digests.ensures.ok.few, ap (λ (s : ShapeRecord). s.blocks) c.requires.shape) in
-    can-go t c.requires.valid (g.D.BlockDev.state c.args.data_dev.now) (g.H.BlockDev.state c.args.hash_dev.now) (g.H.BlockDev.state c.run.hash_dev) (g.W.Write.contents c.args.writer.now.inner) (g.W.Write.contents c.run.writer.inner) c.run.sight c.run.counts (c.pieces.at + c.run.k)
+    can-go t c.requires.valid (g.D.BlockDev.state c.args.data_dev.now) (g.H.BlockDev.state c.args.hash_dev.now) (g.H.BlockDev.state c.run.hash_dev) (g.L.Listing.told c.args.listing.now) (g.L.Listing.told c.run.listing) c.run.sight c.run.counts (c.pieces.at + c.run.k)
     c.run.invariant low c.requires.tree_fits
 
 pub add-requires-clause-inside : goal.add-requires-clause-inside
@@ -52,7 +52,7 @@ pub add-requires-clause-few : goal.add-requires-clause-few
 add-requires-clause-few g c =
     let t = tree_in c.args.sight.now in
     let low : c.pieces.at + c.run.k < c.args.sight.now.path.shape.blocks = omega (arith, c.run-test.true, c.len-k-end.ensures, c.in_ok-digests.digests.ok.0, c.in_ok-digests.ensures.ok.few, ap (λ (s : ShapeRecord). s.blocks) c.requires.shape) in
-    are-few t c.requires.valid (g.D.BlockDev.state c.args.data_dev.now) (g.H.BlockDev.state c.args.hash_dev.now) (g.H.BlockDev.state c.run.hash_dev) (g.W.Write.contents c.args.writer.now.inner) (g.W.Write.contents c.run.writer.inner) c.run.sight c.run.counts (c.pieces.at + c.run.k)
+    are-few t c.requires.valid (g.D.BlockDev.state c.args.data_dev.now) (g.H.BlockDev.state c.args.hash_dev.now) (g.H.BlockDev.state c.run.hash_dev) (g.L.Listing.told c.args.listing.now) (g.L.Listing.told c.run.listing) c.run.sight c.run.counts (c.pieces.at + c.run.k)
     c.run.invariant low
 
 pub run-preserved : goal.run-preserved
@@ -73,9 +73,9 @@ run-preserved g c =
     let both = in-piece t d0 d d' _ c.pieces.at c.run.k ds [] c.pieces.invariant.data_read p inside in
     let found : c.index.result.now ≡ get_or ds c.run.k [] = get_or_read ds c.run.k c.index.result.now inside c.index.ensures [] in
     let next : at + 1 ≡ c.pieces.at + (c.run.k + 1) = omega arith in
-    subst (IsUnderway t d0 h0 h' (g.W.Write.contents c.args.writer.now.inner) (g.W.Write.contents c.add.new.writer.inner) c.go_to.new.self c.add.new.self) next
-    (underway-next t c.requires.valid d0 h0 h (g.W.Write.contents c.args.writer.now.inner) (g.W.Write.contents c.run.writer.inner) c.run.sight c.run.counts at c.run.invariant low c.go_to.new.self h' c.in_ok-go_to.ensures.ok c.go_to.ensures.read
-    (get_or p.run.contents c.run.k []) c.index.result.now c.add.new.self (g.W.Write.contents c.add.new.writer.inner) (found ∙ both.0) both.1
+    subst (IsUnderway t d0 h0 h' (g.L.Listing.told c.args.listing.now) (g.L.Listing.told c.add.new.listing) c.go_to.new.self c.add.new.self) next
+    (underway-next t c.requires.valid d0 h0 h (g.L.Listing.told c.args.listing.now) (g.L.Listing.told c.run.listing) c.run.sight c.run.counts at c.run.invariant low c.go_to.new.self h' c.in_ok-go_to.ensures.ok c.go_to.ensures.read
+    (get_or p.run.contents c.run.k []) c.index.result.now c.add.new.self (g.L.Listing.told c.add.new.listing) (found ∙ both.0) both.1
     (rw c.state.ensures at c.in_ok-add.ensures.text.ok) (rw c.state.ensures at c.in_ok-add.ensures.added))
 
 pub pieces-preserved : goal.pieces-preserved
@@ -93,7 +93,7 @@ pieces-preserved g c =
     subst (λ (s : ShapeRecord). IsPieceRead s t.salt d d' c.pieces.at ds) c.requires.shape (subst (λ (z : List ℕ). IsPieceRead c.args.sight.now.shape z d d' c.pieces.at ds) c.requires.salt_is c.in_ok-digests.ensures.ok) in
     record {
       shape_is = c.requires.shape;
-      so_far = subst (IsUnderway t d0 h0 (g.H.BlockDev.state c.run.hash_dev) (g.W.Write.contents c.args.writer.now.inner) (g.W.Write.contents c.run.writer.inner) c.run.sight c.run.counts) all c.run.invariant;
+      so_far = subst (IsUnderway t d0 h0 (g.H.BlockDev.state c.run.hash_dev) (g.L.Listing.told c.args.listing.now) (g.L.Listing.told c.run.listing) c.run.sight c.run.counts) all c.run.invariant;
       data_read = full_read-then (c.pieces.at * size) (length ds * size) ((c.pieces.at + c.len.result) * size) c.pieces.invariant.data_read p.run.full
           (ap (λ (n : ℕ). c.pieces.at * size + n * size) (sym count) ∙ (let e : c.pieces.at * size + c.len.result * size ≡ (c.pieces.at + c.len.result) * size = grind arith in e));
     }
@@ -101,7 +101,7 @@ pieces-preserved g c =
 pub returns-clause-ok : goal.returns-clause-ok
 returns-clause-ok g c =
     let t = tree_in c.args.sight.now in
-    underway-all t c.requires.valid (g.D.BlockDev.state c.args.data_dev.now) (g.H.BlockDev.state c.args.hash_dev.now) (g.H.BlockDev.state c.pieces.hash_dev) (g.W.Write.contents c.args.writer.now.inner) (g.W.Write.contents c.pieces.writer.inner) c.pieces.sight c.pieces.counts c.pieces.at
-    c.pieces.invariant.so_far (g.D.BlockDev.state c.pieces.data_dev) (g.W.Write.contents c.close.new.writer.inner)
+    underway-all t c.requires.valid (g.D.BlockDev.state c.args.data_dev.now) (g.H.BlockDev.state c.args.hash_dev.now) (g.H.BlockDev.state c.pieces.hash_dev) (g.L.Listing.told c.args.listing.now) (g.L.Listing.told c.pieces.listing) c.pieces.sight c.pieces.counts c.pieces.at
+    c.pieces.invariant.so_far (g.D.BlockDev.state c.pieces.data_dev) (g.L.Listing.told c.close.new.listing)
     (omega (arith, c.pieces.invariant.so_far.within, c.pieces-test.false, c.blocks-in-pieces.ensures.value, ap (λ (s : ShapeRecord). s.blocks) c.requires.shape))
     c.pieces.invariant.data_read c.in_ok-close.ensures.text.ok

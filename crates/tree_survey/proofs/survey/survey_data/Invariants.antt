@@ -6,12 +6,12 @@ use Rattle.tree_survey.proofs.survey.survey_data.Given as goal
 
 abbrev pub invariant-run : goal.invariant-run
 invariant-run g l =
-    IsUnderway (tree_in l.fn.sight) (g.D.BlockDev.state l.fn.data_dev) (g.H.BlockDev.state l.fn.hash_dev) (g.H.BlockDev.state l.hash_dev) (g.W.Write.contents l.fn.writer.inner) (g.W.Write.contents l.writer.inner) l.sight l.counts (l.at + l.k)
+    IsUnderway (tree_in l.fn.sight) (g.D.BlockDev.state l.fn.data_dev) (g.H.BlockDev.state l.fn.hash_dev) (g.H.BlockDev.state l.hash_dev) (g.L.Listing.told l.fn.listing) (g.L.Listing.told l.listing) l.sight l.counts (l.at + l.k)
 
 abbrev pub invariant-pieces : goal.invariant-pieces
 invariant-pieces g l = record {
   shape_is : l.shape ≡ l.fn.sight.path.shape;
-  so_far : IsUnderway (tree_in l.fn.sight) (g.D.BlockDev.state l.fn.data_dev) (g.H.BlockDev.state l.fn.hash_dev) (g.H.BlockDev.state l.hash_dev) (g.W.Write.contents l.fn.writer.inner) (g.W.Write.contents l.writer.inner) l.sight l.counts l.at;
+  so_far : IsUnderway (tree_in l.fn.sight) (g.D.BlockDev.state l.fn.data_dev) (g.H.BlockDev.state l.fn.hash_dev) (g.H.BlockDev.state l.hash_dev) (g.L.Listing.told l.fn.listing) (g.L.Listing.told l.listing) l.sight l.counts l.at;
   data_read : IsFullRead (g.D.BlockDev.state l.fn.data_dev) (l.at * (l.fn.sight.path.shape.data_block / 512)) (g.D.BlockDev.state l.data_dev);
 }
 

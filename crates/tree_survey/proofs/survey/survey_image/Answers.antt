@@ -19,8 +19,8 @@ returns-clause-ok g c =
     let h1 : Device = g.H.BlockDev.state c.superblock_of.new.hash_dev in
     let h2 : Device = g.H.BlockDev.state c.survey_data.new.hash_dev in
     let h3 : Device = g.H.BlockDev.state c.say_hashes.new.device in
-    let old : Option (List ℕ) = g.W.Write.contents c.args.writer.now.inner in
-    let between : Option (List ℕ) = g.W.Write.contents c.survey_data.new.writer.inner in
+    let old : Option (List ℕ) = g.L.Listing.told c.args.listing.now in
+    let between : Option (List ℕ) = g.L.Listing.told c.survey_data.new.listing in
     let t : Tree = tree_of c.in_ok-superblock.superblock c.args.root.now in
     let path : IsPathOf (shape_of c.in_ok-superblock.superblock) c.in_ok-superblock.superblock.salt c.args.root.now c.in_ok-path.path =
     subst (λ (x : ShapeRecord). IsPathOf x c.in_ok-superblock.superblock.salt c.args.root.now c.in_ok-path.path) c.shape-shape.ensures.value

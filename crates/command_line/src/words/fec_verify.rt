@@ -1,0 +1,39 @@
+//! `verify --fec FILE [--fec-roots N] [--hash-offset BYTES] [--root-hash-file FILE] [--progress] DATA HASH [ROOT]`
+ghost use Rattle.std.specs.Prelude.{option_map};
+ghost use Rattle.command_line.specs.FurtherRecords.{verify_fec};
+ghost use Rattle.command_line.specs.Reading.{Reads};
+ghost use Rattle.command_line.specs.FormatOptions.{option_texts, texts_of};
+ghost use Rattle.command_line.specs.words.FecVerify.{fec_verify_said};
+
+use crate::fault::WordsFault;
+use crate::fec_file::{FecFile, fec_file_of};
+use crate::further::Further;
+use crate::option_words::OptionWords;
+use crate::words::verify::{VerifyWords, verify_words};
+
+/// A verity image is checked, and the parity over it. `verify.all` and `verify.json` are false.
+#[derive(Drop)]
+pub struct FecVerifyWords<'a> {
+    pub verify: VerifyWords<'a>,
+    pub fec: FecFile<'a>,
+}
+
+/// `--fec FILE [--fec-roots N] [--hash-offset BYTES] [--root-hash-file FILE] [--progress] DATA HASH [ROOT]`
+#[tactic(auto, unfolding(crate::specs::words::FecVerify::fec_verify_said))]
+pub fn fec_verify_of<'a>(
+    options: &OptionWords<'a>,
+    words: &[&'a str],
+) -> Result<Further<'a>, WordsFault>
+    ensures { Reads (option_map verify_fec (fec_verify_said (option_texts options.now) (texts_of words.now))) result }
+{
+    if options.all {
+        return Err(WordsFault::Usage);
+    }
+    let Some(fec) = fec_file_of(options.fec, options.fec_roots) else {
+        return Err(WordsFault::Usage);
+    };
+    match verify_words(options, words) {
+        Some(verify) => Ok(Further::VerifyFec(FecVerifyWords { verify, fec })),
+        None => Err(WordsFault::Usage),
+    }
+}

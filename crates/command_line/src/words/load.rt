@@ -1,0 +1,43 @@
+//! `load [--json] STACK BINDING...`
+ghost use Rattle.std.specs.Prelude.{option_map};
+ghost use Rattle.command_line.specs.FurtherRecords.{load};
+ghost use Rattle.command_line.specs.Reading.{Reads};
+ghost use Rattle.command_line.specs.FormatOptions.{option_texts, texts_of};
+ghost use Rattle.command_line.specs.words.Load.{load_said};
+
+use crate::binding_words::bindings_of;
+use crate::bindings::Binding;
+use crate::fault::WordsFault;
+use crate::further::Further;
+use crate::option_words::OptionWords;
+use std::alloc::Global;
+
+/// The devices of a stack are printed.
+#[derive(Drop)]
+pub struct LoadWords<'a> {
+    pub stack: &'a str,
+    pub bindings: Vec<Binding<'a>>,
+    pub json: bool,
+}
+
+/// `[--json] STACK BINDING...`
+#[tactic(auto, unfolding(crate::specs::words::Load::load_said))]
+pub fn load_of<'a>(
+    alloc: Global,
+    options: &OptionWords<'a>,
+    words: &[&'a str],
+) -> Result<Further<'a>, WordsFault>
+    ensures { Reads (option_map load (load_said (option_texts options.now) (texts_of words.now))) result }
+{
+    let [stack, rest @ ..] = words else {
+        return Err(WordsFault::Usage);
+    };
+    match bindings_of(alloc, rest) {
+        Ok(bindings) => Ok(Further::Load(LoadWords {
+            stack,
+            bindings,
+            json: options.json,
+        })),
+        Err(fault) => Err(fault),
+    }
+}

@@ -1,0 +1,34 @@
+-- Commands that end early.
+use Rattle.std.proofs.Common.{◌≡◌, ℕ, List, Option, Result, Ok, Err, refl, sym, subst}
+use Rattle.std.specs.Prelude.{IfErr, IsErrAnd}
+use Rattle.image_commands.proofs.lemmas.EndingLemmas.{quiet as image-quiet}
+use Rattle.verity_commands.specs.declared.fault.VerityFault.{VerityFault}
+use Rattle.verity_commands.specs.declared.fault.VerityFault.TheVariants as verity
+use Rattle.verity_commands.specs.Endings.{IsQuiet}
+use Rattle.fec_commands.specs.declared.fault.FecFault.{FecFault}
+use Rattle.fec_commands.specs.declared.fault.FecFault.TheVariants as fec
+use Rattle.fec_commands.specs.Checking.{IsFecQuiet}
+
+verity-quiet : (fault : VerityFault) (bytes : Option (List ℕ)) → IsQuiet fault bytes bytes
+verity-quiet verity.Usage bytes = refl
+verity-quiet (verity.Image fault) bytes = image-quiet fault bytes
+
+pub quiet : (fault : FecFault) (bytes : Option (List ℕ)) → IsFecQuiet fault bytes bytes
+quiet (fec.Verity fault) bytes = verity-quiet fault bytes
+quiet fec.BlockSizes bytes = refl
+quiet (fec.Parity fault) bytes = refl
+quiet (fec.Differs round) bytes = refl
+
+-- what holds of a fault holds of the result that hands it on
+pub err-from : {T E : Type 0} (r : Result T E) (P : E → Type 0) (fault : E) → IsErrAnd r (λ e. e ≡ fault) → P fault → IfErr r P
+err-from (Ok done) P fault is holds = tt
+err-from (Err e) P fault is holds = subst P (sym is) holds
+
+-- what holds of a result's fault, where that is known
+pub at-fault : {T E : Type 0} (r : Result T E) (P : E → Type 0) (fault : E) → r ≡ Err fault → IfErr r P → P fault
+at-fault {T} {E} r P fault is holds = subst (λ (x : Result T E). IfErr x P) is holds
+
+-- two facts of a result's fault give a third
+pub err-both : {T E : Type 0} (r : Result T E) (P Q R : E → Type 0) → ((e : E) → P e → Q e → R e) → IfErr r P → IfErr r Q → IfErr r R
+err-both (Ok done) P Q R f p q = tt
+err-both (Err e) P Q R f p q = f e p q

@@ -1,0 +1,116 @@
+-- What `format --fec` and `verify --fec` do and print, and how they end early.
+use Rattle.std.specs.Prelude.{◌≡◌, ◌⊎◌, ℕ, Bool, true, List, [], Option, Some}
+use Rattle.std.specs.Io.KnownBytes.{Appends}
+use Rattle.command_line.specs.FormatOptions.{OptionTexts}
+use Rattle.command_line.specs.words.Format.{FormatRecord}
+use Rattle.command_line.specs.words.Verify.{VerifyRecord}
+use Rattle.image_commands.specs.Drawing.{Drawing}
+use Rattle.image_commands.specs.Places.{TwoPlaces}
+use Rattle.image_files.specs.Opener.{Calls}
+use Rattle.verity_commands.specs.declared.fault.VerityFault.{VerityFault}
+use Rattle.verity_commands.specs.Endings.{IsUnsaid}
+use Rattle.verity_commands.specs.Placed.{FormatsAt, IsFormatEnd, IsVerifyEnd, VerifiesAt}
+use Rattle.verity_commands.specs.Places.{places_of}
+use Rattle.fec_commands.specs.declared.fault.FecFault.{FecFault}
+use Rattle.fec_commands.specs.declared.fault.FecFault.TheVariants.{BlockSizes, Verity}
+use Rattle.fec_commands.specs.Checking.{IsCheckEnd, IsFecQuiet, PrintsOk}
+use Rattle.fec_commands.specs.FecFaults.{kept_fault, unwritten}
+use Rattle.command_line.specs.words.FecFormat.{FecFormatRecord}
+use Rattle.command_line.specs.words.FecVerify.{FecVerifyRecord}
+use Rattle.fec_commands.specs.Growing.{IsProtectionEnd, Protects}
+use Rattle.fec_commands.specs.Sizes.{says_two_sizes}
+
+-- where the images of the words are
+abbrev pub format_places : FormatRecord → TwoPlaces
+format_places f = places_of f.data_path f.hash_path f.hash_offset
+
+abbrev pub verify_places : VerifyRecord → TwoPlaces
+verify_places v = places_of v.data_path v.hash_path v.hash_offset
+
+-- a `format` whose text is kept in memory ended so
+pub record IsKeptEnd {S D T G : Type 0} (texts : OptionTexts) (w : Calls S D) (d : Drawing T G) (f : FormatRecord) (fault : VerityFault) : Type 0 where
+  pub ended : VerityFault
+  pub text : Option (List ℕ)
+  pub failed : Bool
+  pub ends : IsFormatEnd texts w d f (Some []) text failed ended
+  pub is : fault ≡ kept_fault ended
+
+-- ---- `format --fec`
+
+-- The image was formatted as without parity, with this text; then its parity was written and put on its medium.
+pub record MakesFec {S D T G : Type 0} (texts : OptionTexts) (w : Calls S D) (d : Drawing T G) (f : FecFormatRecord) (text : List ℕ) : Type 0 where
+  pub between : S
+  pub formats : FormatsAt texts (record w { new = between }) d f.format (Some []) (Some text)
+  pub protects : Protects f.format.grow (record w { old = between }) (format_places f.format) f.fec
+
+-- and then the text was printed
+pub record FormatsFec {S D T G : Type 0} (texts : OptionTexts) (w : Calls S D) (d : Drawing T G) (f : FecFormatRecord) (old new : Option (List ℕ)) : Type 0 where
+  pub text : List ℕ
+  pub made : MakesFec texts w d f text
+  pub printed : Appends old new text
+
+-- words say no value, and nothing was opened
+pub record EndsUnsaid {S D : Type 0} (w : Calls S D) (fault : FecFault) : Type 0 where
+  pub cause : VerityFault
+  pub unsaid : IsUnsaid cause
+  pub is : fault ≡ Verity cause
+  pub same : w.new ≡ w.old
+
+-- they say two sizes of blocks, and nothing was opened
+pub record EndsUnlike {S D : Type 0} (texts : OptionTexts) (w : Calls S D) (fault : FecFault) : Type 0 where
+  pub two : says_two_sizes texts ≡ true
+  pub is : fault ≡ BlockSizes
+  pub same : w.new ≡ w.old
+
+-- the image wasn't made
+pub record EndsUnmade {S D T G : Type 0} (texts : OptionTexts) (w : Calls S D) (d : Drawing T G) (f : FecFormatRecord) (fault : FecFault) : Type 0 where
+  pub cause : VerityFault
+  pub ends : IsKeptEnd texts w d f.format cause
+  pub is : fault ≡ Verity cause
+
+-- it was made, and its parity isn't on its medium
+pub record EndsUnguarded {S D T G : Type 0} (texts : OptionTexts) (w : Calls S D) (d : Drawing T G) (f : FecFormatRecord) (fault : FecFault) : Type 0 where
+  pub between : S
+  pub text : List ℕ
+  pub formats : FormatsAt texts (record w { new = between }) d f.format (Some []) (Some text)
+  pub ends : IsProtectionEnd f.format.grow (record w { old = between }) (format_places f.format) f.fec fault
+
+-- both were made, and the text can't be written
+pub record EndsUntold {S D T G : Type 0} (texts : OptionTexts) (w : Calls S D) (d : Drawing T G) (f : FecFormatRecord) (failed : Bool) (fault : FecFault) : Type 0 where
+  pub text : List ℕ
+  pub made : MakesFec texts w d f text
+  pub has_failed : failed ≡ true
+  pub is : fault ≡ unwritten
+
+-- one of these; nothing is printed, unless it is the writing that fails
+abbrev pub IsFormatFecEnd : {S D T G : Type 0} → OptionTexts → Calls S D → Drawing T G → FecFormatRecord → Option (List ℕ) → Option (List ℕ) → Bool → FecFault → Type 0
+IsFormatFecEnd texts w d f old new failed fault =
+    (EndsUnsaid w fault ⊎ (EndsUnlike texts w fault ⊎ (EndsUnmade texts w d f fault ⊎ (EndsUnguarded texts w d f fault ⊎ EndsUntold texts w d f failed fault))))
+    × IsFecQuiet fault old new
+
+-- ---- `verify --fec`
+
+-- the image was verified as without parity, and then its parity
+pub record VerifiesFec {S D : Type 0} (w : Calls S D) (v : FecVerifyRecord) (old new : Option (List ℕ)) : Type 0 where
+  pub between : S
+  pub told : Option (List ℕ)
+  pub verifies : VerifiesAt (record w { new = between }) v.verify old told
+  pub checks : PrintsOk (record w { old = between }) (verify_places v.verify) v.fec told new
+
+-- the image isn't the one under the root, or isn't compared
+pub record EndsUnverified {S D : Type 0} (w : Calls S D) (v : FecVerifyRecord) (old new : Option (List ℕ)) (failed : Bool) (fault : FecFault) : Type 0 where
+  pub cause : VerityFault
+  pub ends : IsVerifyEnd w v.verify old new failed cause
+  pub is : fault ≡ Verity cause
+
+-- it is, as is printed; its parity isn't, or isn't compared
+pub record EndsUnlikeParity {S D : Type 0} (w : Calls S D) (v : FecVerifyRecord) (old new : Option (List ℕ)) (failed : Bool) (fault : FecFault) : Type 0 where
+  pub between : S
+  pub told : Option (List ℕ)
+  pub verifies : VerifiesAt (record w { new = between }) v.verify old told
+  pub ends : IsCheckEnd (record w { old = between }) (verify_places v.verify) v.fec failed fault
+  pub quiet : IsFecQuiet fault told new
+
+abbrev pub IsVerifyFecEnd : {S D : Type 0} → Calls S D → FecVerifyRecord → Option (List ℕ) → Option (List ℕ) → Bool → FecFault → Type 0
+IsVerifyFecEnd w v old new failed fault =
+    (EndsUnsaid w fault × (new ≡ old)) ⊎ (EndsUnverified w v old new failed fault ⊎ EndsUnlikeParity w v old new failed fault)

@@ -1,0 +1,30 @@
+-- Faults of the commands on images with parity that are those of images.
+use Rattle.image_commands.specs.declared.fault.ImageFault.{ImageFault}
+use Rattle.image_commands.specs.declared.fault.ImageFault.TheVariants as image
+use Rattle.image_files.specs.declared.opening.UnopenedFile.{UnopenedFile}
+use Rattle.verity_commands.specs.declared.fault.VerityFault.{VerityFault}
+use Rattle.verity_commands.specs.declared.fault.VerityFault.TheVariants as verity
+use Rattle.verity_format.specs.declared.verifying.VerifyFault.{VerifyFault}
+use Rattle.fec_commands.specs.declared.fault.FecFault.{FecFault}
+use Rattle.fec_commands.specs.declared.fault.FecFault.TheVariants as fec
+
+-- a file isn't opened
+abbrev pub unopened : UnopenedFile → FecFault
+unopened file = fec.Verity (verity.Image (image.Open file))
+
+-- the superblock isn't read or taken, or an image is too small
+abbrev pub unread : VerifyFault → FecFault
+unread fault = fec.Verity (verity.Image (image.Verify fault))
+
+-- a line can't be written
+abbrev pub unwritten : FecFault
+unwritten = fec.Verity (verity.Image image.Write)
+
+-- The text of a `format` is kept in memory, so it can't be written only where memory ran out.
+abbrev pub kept_image : ImageFault → ImageFault
+kept_image image.Write = image.NoMemory
+kept_image fault = fault
+
+abbrev pub kept_fault : VerityFault → VerityFault
+kept_fault verity.Usage = verity.Usage
+kept_fault (verity.Image fault) = verity.Image (kept_image fault)

@@ -1,0 +1,57 @@
+-- The images of a command on parity: which paths are opened, in which order and with which rights.
+use Rattle.std.specs.Prelude.{◌⊎◌, ℕ, ◌-◌, ◌^◌, ◌&&◌, nat_lt, Bool, false, List, [], ◌∷◌, if◌then◌else◌}
+use Rattle.image_files.specs.declared.file_use.FileUse.{FileUse}
+use Rattle.image_files.specs.declared.images.OpenImage.{OpenImage}
+use Rattle.image_files.specs.declared.opening.UnopenedFile.{UnopenedFile}
+use Rattle.image_files.specs.Apart.{OpensApart, RefusesApart}
+use Rattle.image_files.specs.FileUses.{image_use}
+use Rattle.image_files.specs.Opened.{Opens, Refuses}
+use Rattle.image_files.specs.OneFile.{is_one_file}
+use Rattle.image_files.specs.Opener.{Calls}
+use Rattle.image_commands.specs.Places.{TwoPlaces}
+use Rattle.fec_commands.specs.declared.image.Extent.{Extent}
+use Rattle.fec_commands.specs.declared.image.ThreeImages.{ThreeImages}
+use Rattle.command_line.specs.FecFiles.{FecRecord}
+
+-- two files that are only read
+abbrev pub uses_of : {D : Type 0} → OpenImage D → OpenImage D → List FileUse
+uses_of data_image hash_image = image_use false data_image ∷ image_use false hash_image ∷ []
+
+-- The data image was opened for reading, the hash image too, and then the file of the parity, which is none of them where it
+-- may be written.
+pub record OpensThree {S D : Type 0} (w : Calls S D) (places : TwoPlaces) (fec : FecRecord) (writable : Bool) (three : ThreeImages D) : Type 0 where
+  pub one : S
+  pub two : S
+  pub data_opened : Opens (record w { new = one }) places.paths.data_path false three.«data»
+  pub hash_opened : Opens (record w { old = one; new = two }) places.paths.hash_path false three.hash
+  pub parity_opened : OpensApart (record w { old = two }) (uses_of three.«data» three.hash) fec.path writable three.parity
+
+-- the data image was opened, and the hash image wasn't
+pub record RefusesHash {S D : Type 0} (w : Calls S D) (places : TwoPlaces) (file : UnopenedFile) : Type 0 where
+  pub one : S
+  pub data_image : OpenImage D
+  pub data_opened : Opens (record w { new = one }) places.paths.data_path false data_image
+  pub refused : Refuses (record w { old = one }) places.paths.hash_path false file
+
+-- both were opened, and the file of the parity wasn't, or is one of them
+pub record RefusesParity {S D : Type 0} (w : Calls S D) (places : TwoPlaces) (fec : FecRecord) (writable : Bool) (file : UnopenedFile) : Type 0 where
+  pub one : S
+  pub two : S
+  pub data_image : OpenImage D
+  pub hash_image : OpenImage D
+  pub data_opened : Opens (record w { new = one }) places.paths.data_path false data_image
+  pub hash_opened : Opens (record w { old = one; new = two }) places.paths.hash_path false hash_image
+  pub refused : RefusesApart (record w { old = two }) (uses_of data_image hash_image) fec.path writable file
+
+-- one of the three isn't opened, the first that is refused
+abbrev pub FailsToOpenThree : {S D : Type 0} → Calls S D → TwoPlaces → FecRecord → Bool → UnopenedFile → Type 0
+FailsToOpenThree w places fec writable file =
+    Refuses w places.paths.data_path false file ⊎ (RefusesHash w places file ⊎ RefusesParity w places fec writable file)
+
+-- where the data end: in one file before the hash image, else at the end of theirs
+abbrev pub data_end : {D : Type 0} → ThreeImages D → ℕ → ℕ
+data_end three first = if nat_lt 0 first && is_one_file three.«data».id three.hash.id then first else 2 ^ 64 - 1
+
+-- where the data end and the hash image begins, and the bytes of parity in a codeword
+abbrev pub extent_of : {D : Type 0} → TwoPlaces → FecRecord → ThreeImages D → Extent
+extent_of places fec three = record { end = data_end three places.first; first = places.first; roots = fec.roots }

@@ -1,0 +1,68 @@
+-- How parity lies across a verity image, by its superblock.
+use Rattle.std.specs.Prelude.{◌≡◌, ◌≢◌, ◌⊎◌, ℕ, ◌<◌, ◌≤◌, true, false, List}
+use Rattle.block_device.specs.Device.{Device}
+use Rattle.fec_area.specs.declared.layout.Layout.{Layout}
+use Rattle.fec_area.specs.Layouts.{IsLaidOn, IsLayoutOf}
+use Rattle.image_commands.specs.declared.fault.ImageFault.{ImageFault}
+use Rattle.image_commands.specs.declared.fault.ImageFault.TheVariants.{Unaligned, Verify}
+use Rattle.image_commands.specs.Places.{is_aligned}
+use Rattle.verity_commands.specs.Endings.{IsImageEnd}
+use Rattle.verity_format.specs.declared.verifying.VerifyFault.{VerifyFault}
+use Rattle.verity_format.specs.declared.verifying.VerifyFault.TheVariants.{TooSmall}
+use Rattle.verity_format.specs.Blocks.{IsOnlyRead}
+use Rattle.verity_format.specs.Image.{data_sectors}
+use Rattle.verity_format.specs.Superblock.{SuperRecord, shape_of}
+use Rattle.verity_format.specs.Verifying.{IsReadCause, IsReadFrom}
+use Rattle.fec_commands.specs.declared.fault.FecFault.{FecFault}
+use Rattle.fec_commands.specs.declared.fault.FecFault.TheVariants.{BlockSizes, Differs, Parity, Verity}
+
+-- a codeword of dm-verity-fec has 2 to 24 bytes of parity
+abbrev pub IsRoots : ℕ → Type 0
+IsRoots roots = (2 ≤ roots) × (roots ≤ 24)
+
+-- the superblock was read, and its tree may stand behind that sector
+pub record ReadsSuper (hash_dev : Device) (first : ℕ) (super : SuperRecord) : Type 0 where
+  pub sector : List ℕ
+  pub read : IsReadFrom hash_dev sector super
+  pub aligned : is_aligned first super.hash_block ≡ true
+
+-- The layout is that of the superblock; the covered blocks lie on the two devices, of which the hash device was only read.
+pub record LaysOut (data_dev hash_dev : Device) (first roots : ℕ) (hash_dev' : Device) (layout : Layout) : Type 0 where
+  pub super : SuperRecord
+  pub super_read : ReadsSuper hash_dev first super
+  pub is : IsLayoutOf (shape_of super) hash_dev.size roots layout
+  pub laid : IsLaidOn layout data_dev hash_dev'
+  pub read : IsOnlyRead hash_dev hash_dev'
+
+-- the superblock was read, but no hash block begins there
+pub record IsUnaligned (hash_dev : Device) (first : ℕ) : Type 0 where
+  pub super : SuperRecord
+  pub sector : List ℕ
+  pub read : IsReadFrom hash_dev sector super
+  pub unaligned : is_aligned first super.hash_block ≡ false
+
+-- it speaks of more data than there are
+pub record AreDataShort (data_dev hash_dev : Device) (first : ℕ) (fault : VerifyFault) : Type 0 where
+  pub super : SuperRecord
+  pub super_read : ReadsSuper hash_dev first super
+  pub short : data_dev.size < data_sectors (shape_of super)
+  pub is : fault ≡ TooSmall
+
+-- its data and hash blocks have different sizes
+pub record HasOtherSizes (hash_dev : Device) (first : ℕ) : Type 0 where
+  pub super : SuperRecord
+  pub super_read : ReadsSuper hash_dev first super
+  pub differ : super.data_block ≢ super.hash_block
+
+-- the superblock isn't read or taken, speaks of more data, or no hash block begins there
+abbrev pub IsUnread : Device → Device → ℕ → Device → ImageFault → Type 0
+IsUnread data_dev hash_dev first hash_dev' (Verify fault) = IsReadCause hash_dev hash_dev' fault ⊎ AreDataShort data_dev hash_dev first fault
+IsUnread data_dev hash_dev first hash_dev' Unaligned = IsUnaligned hash_dev first
+IsUnread data_dev hash_dev first hash_dev' fault = ⊥
+
+-- why there is no layout
+abbrev pub IsLayoutEnd : Device → Device → ℕ → Device → FecFault → Type 0
+IsLayoutEnd data_dev hash_dev first hash_dev' (Verity fault) = IsImageEnd (IsUnread data_dev hash_dev first hash_dev') fault
+IsLayoutEnd data_dev hash_dev first hash_dev' BlockSizes = HasOtherSizes hash_dev first
+IsLayoutEnd data_dev hash_dev first hash_dev' (Parity fault) = ⊥
+IsLayoutEnd data_dev hash_dev first hash_dev' (Differs round) = ⊥

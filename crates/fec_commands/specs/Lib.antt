@@ -1,0 +1,9 @@
+pub mod FecFaults
+pub mod FaultTexts
+pub mod Images
+pub mod Layings
+pub mod Protecting
+pub mod Growing
+pub mod Checking
+pub mod Sizes
+pub mod Commands

@@ -1,0 +1,101 @@
+-- Parity of an image that stands in files, written to a file.
+use Rattle.std.specs.Prelude.{◌≡◌, ◌⊎◌, true}
+use Rattle.block_device.specs.Device.{Device, IsUnsynced, synced}
+use Rattle.fec_area.specs.declared.layout.Layout.{Layout}
+use Rattle.fec_area.specs.declared.writing.ParityFault.{ParityFault}
+use Rattle.fec_area.specs.declared.writing.ParityFault.TheVariants.{Device as DeviceFailed}
+use Rattle.fec_area.specs.Layouts.{parity_sectors}
+use Rattle.fec_area.specs.Writing.{IsParityCause, IsParityWritten}
+use Rattle.image_files.specs.declared.opening.UnopenedFile.{UnopenedFile}
+use Rattle.image_files.specs.Opener.{Calls}
+use Rattle.image_commands.specs.Places.{TwoPlaces, before, behind}
+use Rattle.verity_format.specs.Blocks.{IsOnlyWritten}
+use Rattle.fec_commands.specs.declared.fault.FecFault.{FecFault}
+use Rattle.fec_commands.specs.declared.fault.FecFault.TheVariants.{Parity}
+use Rattle.fec_commands.specs.declared.image.Extent.{Extent}
+use Rattle.fec_commands.specs.declared.image.ThreeImages.{ThreeImages}
+use Rattle.fec_commands.specs.FecFaults.{unopened}
+use Rattle.command_line.specs.FecFiles.{FecRecord}
+use Rattle.fec_commands.specs.Images.{FailsToOpenThree, OpensThree, extent_of}
+use Rattle.fec_commands.specs.Layings.{IsLayoutEnd, LaysOut}
+
+-- the parity was written, behind it all is as it was, and it was put on the medium
+pub record IsSealed (l : Layout) (data_dev hash_dev parity_dev parity_dev' : Device) : Type 0 where
+  pub data_dev' : Device
+  pub hash_dev' : Device
+  pub written_dev : Device
+  pub written : IsParityWritten l data_dev hash_dev parity_dev data_dev' hash_dev' written_dev
+  pub only : IsOnlyWritten parity_dev (parity_sectors l) written_dev
+  pub is_synced : parity_dev' ≡ synced written_dev
+
+-- it wasn't written, or not all of it, for this reason
+pub record IsUnfinished (l : Layout) (data_dev hash_dev parity_dev parity_dev' : Device) (fault : ParityFault) : Type 0 where
+  pub data_dev' : Device
+  pub hash_dev' : Device
+  pub cause : IsParityCause l data_dev hash_dev parity_dev data_dev' hash_dev' parity_dev' fault
+  pub only : IsOnlyWritten parity_dev (parity_sectors l) parity_dev'
+
+-- it was written, but may not be on the medium
+pub record IsUnsealed (l : Layout) (data_dev hash_dev parity_dev parity_dev' : Device) (fault : ParityFault) : Type 0 where
+  pub data_dev' : Device
+  pub hash_dev' : Device
+  pub written_dev : Device
+  pub written : IsParityWritten l data_dev hash_dev parity_dev data_dev' hash_dev' written_dev
+  pub only : IsOnlyWritten parity_dev (parity_sectors l) written_dev
+  pub failed : IsUnsynced written_dev parity_dev'
+  pub is : fault ≡ DeviceFailed
+
+abbrev pub IsSealingEnd : Layout → Device → Device → Device → Device → ParityFault → Type 0
+IsSealingEnd l data_dev hash_dev parity_dev parity_dev' fault =
+    IsUnfinished l data_dev hash_dev parity_dev parity_dev' fault ⊎ IsUnsealed l data_dev hash_dev parity_dev parity_dev' fault
+
+-- of what lies before the data's end and behind the hash image's first sector
+pub record ProtectsBehind (data_dev hash_dev parity_dev : Device) (extent : Extent) (parity_dev' : Device) : Type 0 where
+  pub layout : Layout
+  pub read_dev : Device
+  pub lays : LaysOut (before data_dev extent.end) (behind hash_dev extent.first) extent.first extent.roots read_dev layout
+  pub sealed : IsSealed layout (before data_dev extent.end) read_dev parity_dev parity_dev'
+
+-- there is no layout, and nothing was written
+pub record EndsUnlaid (data_dev hash_dev parity_dev : Device) (extent : Extent) (parity_dev' : Device) (fault : FecFault) : Type 0 where
+  pub read_dev : Device
+  pub ends : IsLayoutEnd (before data_dev extent.end) (behind hash_dev extent.first) extent.first read_dev fault
+  pub same : parity_dev' ≡ parity_dev
+
+-- there is one, and the parity isn't on its medium
+pub record EndsUnsealed (data_dev hash_dev parity_dev : Device) (extent : Extent) (parity_dev' : Device) (fault : FecFault) : Type 0 where
+  pub layout : Layout
+  pub read_dev : Device
+  pub cause : ParityFault
+  pub lays : LaysOut (before data_dev extent.end) (behind hash_dev extent.first) extent.first extent.roots read_dev layout
+  pub ends : IsSealingEnd layout (before data_dev extent.end) read_dev parity_dev parity_dev' cause
+  pub is : fault ≡ Parity cause
+
+abbrev pub IsParityEnd : Device → Device → Device → Extent → Device → FecFault → Type 0
+IsParityEnd data_dev hash_dev parity_dev extent parity_dev' fault =
+    EndsUnlaid data_dev hash_dev parity_dev extent parity_dev' fault ⊎ EndsUnsealed data_dev hash_dev parity_dev extent parity_dev' fault
+
+-- The parity of the image was written to the file, which is neither of the images, synced, and given back under its path.
+pub record ProtectsImage {S D : Type 0} (w : Calls S D) (places : TwoPlaces) (fec : FecRecord) : Type 0 where
+  pub between : S
+  pub three : ThreeImages D
+  pub closed_dev : D
+  pub opened : OpensThree (record w { new = between }) places fec true three
+  pub protects : ProtectsBehind (w.state three.«data».device) (w.state three.hash.device) (w.state three.parity.device) (extent_of places fec three) (w.state closed_dev)
+  pub closed : w.relations.takes between fec.path closed_dev w.new
+
+-- a file isn't opened
+pub record EndsUnopened {S D : Type 0} (w : Calls S D) (places : TwoPlaces) (fec : FecRecord) (fault : FecFault) : Type 0 where
+  pub file : UnopenedFile
+  pub refused : FailsToOpenThree w places fec true file
+  pub is : fault ≡ unopened file
+
+-- all three are open, and the parity isn't on its medium
+pub record EndsUnprotected {S D : Type 0} (w : Calls S D) (places : TwoPlaces) (fec : FecRecord) (fault : FecFault) : Type 0 where
+  pub three : ThreeImages D
+  pub parity_dev' : D
+  pub opened : OpensThree w places fec true three
+  pub ends : IsParityEnd (w.state three.«data».device) (w.state three.hash.device) (w.state three.parity.device) (extent_of places fec three) (w.state parity_dev') fault
+
+abbrev pub IsProtectEnd : {S D : Type 0} → Calls S D → TwoPlaces → FecRecord → FecFault → Type 0
+IsProtectEnd w places fec fault = EndsUnopened w places fec fault ⊎ EndsUnprotected w places fec fault

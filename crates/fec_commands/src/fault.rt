@@ -1,0 +1,79 @@
+//! Why a command on an image with parity ends early.
+ghost use Rattle.std.specs.Prelude.{◌≡◌};
+ghost use Rattle.fec_commands.specs.declared.fault.FecFault.TheVariants as fec_fault;
+
+use counted_io::WriteFault;
+use fec_area::ParityFault;
+use image_commands::ImageFault;
+use image_files::UnopenedFile;
+use verity_commands::VerityFault;
+use verity_format::VerifyFault;
+
+/// Why a command on an image with parity ends early.
+#[derive(Clone, Copy, Debug, PartialEq, Eq)]
+pub enum FecFault<'a> {
+    /// The image isn't made, opened or read, or isn't the one under the root.
+    Verity(VerityFault<'a>),
+    /// Data and hash blocks have different sizes.
+    BlockSizes,
+    /// The parity isn't written or compared.
+    Parity(ParityFault),
+    /// That round's parity, the first, isn't that of the image.
+    Differs(u64),
+}
+
+impl<'a> From<VerityFault<'a>> for FecFault<'a> {
+    ghost from_gives = { λ fault given. given ≡ fec_fault.Verity fault };
+
+    fn from(fault: VerityFault<'a>) -> Self {
+        FecFault::Verity(fault)
+    }
+}
+
+impl<'a> From<ImageFault<'a>> for FecFault<'a> {
+    ghost use Rattle.verity_commands.specs.declared.fault.VerityFault.TheVariants as verity_fault;
+
+    ghost from_gives = { λ fault given. given ≡ fec_fault.Verity (verity_fault.Image fault) };
+
+    fn from(fault: ImageFault<'a>) -> Self {
+        FecFault::Verity(VerityFault::Image(fault))
+    }
+}
+
+impl<'a> From<UnopenedFile<'a>> for FecFault<'a> {
+    ghost use Rattle.fec_commands.specs.FecFaults.{unopened};
+
+    ghost from_gives = { λ file given. given ≡ unopened file };
+
+    fn from(file: UnopenedFile<'a>) -> Self {
+        FecFault::Verity(VerityFault::Image(ImageFault::Open(file)))
+    }
+}
+
+impl From<VerifyFault> for FecFault<'_> {
+    ghost use Rattle.fec_commands.specs.FecFaults.{unread};
+
+    ghost from_gives = { λ fault given. given ≡ unread fault };
+
+    fn from(fault: VerifyFault) -> Self {
+        FecFault::Verity(VerityFault::Image(ImageFault::Verify(fault)))
+    }
+}
+
+impl From<ParityFault> for FecFault<'_> {
+    ghost from_gives = { λ fault given. given ≡ fec_fault.Parity fault };
+
+    fn from(fault: ParityFault) -> Self {
+        FecFault::Parity(fault)
+    }
+}
+
+impl From<WriteFault> for FecFault<'_> {
+    ghost use Rattle.fec_commands.specs.FecFaults.{unwritten};
+
+    ghost from_gives = { λ _ given. given ≡ unwritten };
+
+    fn from(_fault: WriteFault) -> Self {
+        FecFault::Verity(VerityFault::Image(ImageFault::Write))
+    }
+}

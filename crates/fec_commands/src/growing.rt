@@ -1,0 +1,63 @@
+//! The parity of a verity image, written to a file that is made, or made longer, where it has too few sectors.
+ghost use Rattle.std.specs.Prelude.{◌≡◌, true, Err, IfErr, IfSome, OnOk};
+ghost use Rattle.image_files.specs.Opener.{calls};
+ghost use Rattle.image_commands.specs.Places.{two_places};
+ghost use Rattle.fec_area.specs.declared.writing.ParityFault.TheVariants as parity_fault;
+ghost use Rattle.fec_commands.specs.declared.fault.FecFault.TheVariants as fec_fault;
+ghost use Rattle.verity_commands.specs.Growing.{Grows};
+ghost use Rattle.fec_commands.specs.Growing.{IsProtectionEnd, IsUnmade, Protects};
+ghost use Rattle.command_line.specs.FecFiles.{fec_record};
+ghost use Rattle.fec_commands.specs.Layings.{IsRoots};
+
+use crate::fault::FecFault;
+use crate::protect::protect_image;
+use command_line::FecFile;
+use fec_area::ParityFault;
+use image_commands::ImagePlaces;
+use image_files::{Images, UnopenedFile};
+use std::alloc::Global;
+
+// The file under a path has at least so many sectors from then on.
+fn make_room<'a, I: Images>(
+    images: &mut I,
+    path: &'a str,
+    sectors: u64,
+) -> Result<(), UnopenedFile<'a>>
+    ensures ok { OnOk result (Grows (calls I.relations I.Dev.state images.old images.new) path.now sectors) }
+    ensures err { IfErr result (IsUnmade (calls I.relations I.Dev.state images.old images.new) path.now sectors) }
+{
+    match images.grow(path, sectors) {
+        Ok(()) => Ok(()),
+        Err(fault) => Err(UnopenedFile { fault, path }),
+    }
+}
+
+// How many sectors the parity's file has to have, where the writing ended since it has fewer.
+fn needed_by(tried: &Result<(), FecFault<'_>>) -> Option<u64>
+    ensures { IfSome result (λ needed. tried.now ≡ Err (fec_fault.Parity (parity_fault.TooSmall needed))) }
+{
+    match tried {
+        Err(FecFault::Parity(ParityFault::TooSmall { needed })) => Some(*needed),
+        _ => None,
+    }
+}
+
+/// Writes the parity once its file has the sectors that are needed.
+pub(crate) fn protect_growing<'a, I: Images>(
+    alloc: Global,
+    images: &mut I,
+    places: &ImagePlaces<'a>,
+    fec: &FecFile<'a>,
+) -> Result<(), FecFault<'a>>
+    requires { IsRoots fec.now.roots }
+    ensures ok { OnOk result (Protects true (calls I.relations I.Dev.state images.old images.new) (two_places places.now) (fec_record fec.now)) }
+    ensures err { IfErr result (IsProtectionEnd true (calls I.relations I.Dev.state images.old images.new) (two_places places.now) (fec_record fec.now)) }
+{
+    make_room(images, fec.path, 0)?;
+    let tried = protect_image(alloc, images, places, fec);
+    let Some(sectors) = needed_by(&tried) else {
+        return tried;
+    };
+    make_room(images, fec.path, sectors)?;
+    protect_image(alloc, images, places, fec)
+}

@@ -1,0 +1,106 @@
+//! A verity image and the file of its parity, open, and how parity lies across the image.
+ghost use Rattle.std.specs.Prelude.{◌≡◌, ◌&&◌, nat_le, nat_lt, IfErr, IfOk};
+ghost use Rattle.image_files.specs.Opener.{IsFresh, calls};
+ghost use Rattle.image_commands.specs.Places.{two_places};
+ghost use Rattle.fec_area.specs.Layouts.{IsLayout};
+ghost use Rattle.command_line.specs.FecFiles.{fec_record};
+ghost use Rattle.fec_commands.specs.Images.{FailsToOpenThree, OpensThree, data_end};
+ghost use Rattle.fec_commands.specs.Layings.{IsLayoutEnd, IsRoots, LaysOut};
+
+use crate::fault::FecFault;
+use block_device::BlockDev;
+use command_line::FecFile;
+use fec_area::Layout;
+use image_commands::{ImageFault, ImagePlaces, is_aligned};
+use image_files::{FileUse, Images, OpenImage, UnopenedFile, is_one_file, open_apart, open_image};
+use verity_commands::VerityFault;
+use verity_format::{VerifyFault, data_sectors, read_superblock};
+
+/// A data image, its hash image and their parity, open.
+#[derive(Drop)]
+pub(crate) struct ThreeImages<D> {
+    pub data: OpenImage<D>,
+    pub hash: OpenImage<D>,
+    pub parity: OpenImage<D>,
+}
+
+/// Where in their files the data end and the hash image begins, in sectors of 512 bytes, and how many bytes of parity a
+/// codeword has.
+#[derive(Clone, Copy)]
+pub(crate) struct Extent {
+    pub end: u64,
+    pub first: u64,
+    pub roots: u32,
+}
+
+/// Whether a codeword may have so many bytes of parity.
+pub(crate) fn is_roots(roots: u32) -> bool
+    ensures { result ≡ (nat_le 2 roots && nat_le roots 24) }
+{
+    roots >= 2 && roots <= 24
+}
+
+/// Opens the data image for reading, the hash image too, and then the file of the parity, for writing too where
+/// `writable` says so, which may be neither of them then.
+pub(crate) fn open_three<'a, I: Images>(
+    images: &mut I,
+    places: &ImagePlaces<'a>,
+    fec: &FecFile<'a>,
+    writable: bool,
+) -> Result<ThreeImages<I::Dev>, UnopenedFile<'a>>
+    ensures ok { IfOk result (OpensThree (calls I.relations I.Dev.state images.old images.new) (two_places places.now) (fec_record fec.now) writable) }
+    ensures fresh { IfOk result (λ three. IsFresh (I.Dev.state three.parity.device) writable) }
+    ensures err { IfErr result (FailsToOpenThree (calls I.relations I.Dev.state images.old images.new) (two_places places.now) (fec_record fec.now) writable) }
+{
+    let data = open_image(images, places.data, false)?;
+    let hash = open_image(images, places.hash, false)?;
+    let files = [
+        FileUse {
+            id: data.id,
+            writable: false,
+            part: None,
+        },
+        FileUse {
+            id: hash.id,
+            writable: false,
+            part: None,
+        },
+    ];
+    let parity = open_apart(images, &files, fec.path, writable)?;
+    Ok(ThreeImages { data, hash, parity })
+}
+
+/// The sector where the data end: in one file before the hash image, else at the end of theirs.
+pub(crate) fn data_end<D>(three: &ThreeImages<D>, first: u64) -> u64
+    ensures { result ≡ data_end three.now first }
+{
+    if first > 0 && is_one_file(three.data.id, three.hash.id) {
+        return first;
+    }
+    u64::MAX
+}
+
+/// How parity with so many bytes in a codeword lies across the image, whose superblock is read.
+pub(crate) fn lay_out<'a, D: BlockDev, H: BlockDev>(
+    data_dev: &D,
+    hash_dev: &mut H,
+    first: u64,
+    roots: u32,
+) -> Result<Layout, FecFault<'a>>
+    requires { IsRoots roots }
+    ensures ok { IfOk result (LaysOut (D.state data_dev.now) (H.state hash_dev.old) first roots (H.state hash_dev.new)) }
+    ensures err { IfErr result (IsLayoutEnd (D.state data_dev.now) (H.state hash_dev.old) first (H.state hash_dev.new)) }
+{
+    let superblock = read_superblock(hash_dev)?;
+    if !is_aligned(first, superblock.hash_block()) {
+        return Err(FecFault::Verity(VerityFault::Image(ImageFault::Unaligned)));
+    }
+    let shape = superblock.shape();
+    if data_dev.sectors() < data_sectors(&shape) {
+        return Err(FecFault::Verity(VerityFault::Image(ImageFault::Verify(VerifyFault::TooSmall))));
+    }
+    match Layout::of(&shape, hash_dev.sectors(), roots as usize) {
+        Some(layout) => Ok(layout),
+        None => Err(FecFault::BlockSizes),
+    }
+}

@@ -1,0 +1,100 @@
+//! The commands on images with parity by their words.
+ghost use Rattle.std.specs.Prelude.{IfErr, OnOk};
+ghost use Rattle.command_line.specs.FormatOptions.{option_texts};
+ghost use Rattle.image_commands.specs.Drawing.{drawing};
+ghost use Rattle.image_commands.specs.Places.{two_places};
+ghost use Rattle.image_files.specs.Opener.{calls};
+ghost use Rattle.fec_commands.specs.Commands.{FormatsFec, IsFormatFecEnd, IsVerifyFecEnd, VerifiesFec};
+ghost use Rattle.fec_commands.specs.Growing.{IsProtectionEnd, Protects};
+ghost use Rattle.command_line.specs.FecFiles.{fec_record};
+ghost use Rattle.command_line.specs.words.FecFormat.{fec_format_record};
+ghost use Rattle.command_line.specs.words.FecVerify.{fec_verify_record};
+ghost use Rattle.fec_commands.specs.Layings.{IsRoots};
+
+use crate::check::check_image;
+use crate::fault::FecFault;
+use crate::growing::protect_growing;
+use crate::image::is_roots;
+use crate::kept::format_kept;
+use crate::protect::protect_image;
+use crate::sizes::says_two_sizes;
+use command_line::{FecFile, FecFormatWords, FecVerifyWords, OptionWords};
+use counted_io::Counted;
+use image_commands::{Generators, ImagePlaces};
+use image_files::Images;
+use std::alloc::Global;
+use std::io::Write;
+use verity_commands::{VerityFault, invoke_verify, sector_at};
+use watched_device::Watchers;
+
+/// `format --fec FILE [--fec-roots N] [--grow] [--progress] [OPTION..] DATA HASH`: as `format`, and then the parity, which is on its
+/// medium before anything is printed.
+pub fn invoke_format_fec<'a, I: Images, G: Generators + Watchers, W: Write>(
+    alloc: Global,
+    images: &mut I,
+    generators: &mut G,
+    words: &FecFormatWords<'a>,
+    options: &OptionWords<'a>,
+    writer: &mut Counted<W>,
+) -> Result<(), FecFault<'a>>
+    ensures ok { OnOk result (FormatsFec (option_texts options.now) (calls I.relations I.Dev.state images.old images.new) (drawing G.gives G.Generator.stream generators.old generators.new) (fec_format_record words.now) (W.contents writer.old.inner) (W.contents writer.new.inner)) }
+    ensures err { IfErr result (IsFormatFecEnd (option_texts options.now) (calls I.relations I.Dev.state images.old images.new) (drawing G.gives G.Generator.stream generators.old generators.new) (fec_format_record words.now) (W.contents writer.old.inner) (W.contents writer.new.inner) writer.new.failed) }
+{
+    if !is_roots(words.fec.roots) {
+        return Err(FecFault::Verity(VerityFault::Usage));
+    }
+    if says_two_sizes(options) {
+        return Err(FecFault::BlockSizes);
+    }
+    let text = format_kept(alloc, images, generators, &words.format, options)?;
+    let places = ImagePlaces {
+        data: words.format.data_path,
+        hash: words.format.hash_path,
+        hash_first: sector_at(words.format.hash_offset),
+    };
+    protect(alloc, images, &places, &words.fec, words.format.grow)?;
+    writer.put(&text)?;
+    Ok(())
+}
+
+/// `verify --fec FILE [--fec-roots N] [--hash-offset BYTES] [--root-hash-file FILE] [--progress] DATA HASH [ROOT]`: as `verify`, and then
+/// the parity.
+pub fn invoke_verify_fec<'a, I: Images, S: Watchers, W: Write>(
+    alloc: Global,
+    images: &mut I,
+    watchers: &S,
+    words: &FecVerifyWords<'a>,
+    writer: &mut Counted<W>,
+) -> Result<(), FecFault<'a>>
+    ensures ok { OnOk result (VerifiesFec (calls I.relations I.Dev.state images.old images.new) (fec_verify_record words.now) (W.contents writer.old.inner) (W.contents writer.new.inner)) }
+    ensures err { IfErr result (IsVerifyFecEnd (calls I.relations I.Dev.state images.old images.new) (fec_verify_record words.now) (W.contents writer.old.inner) (W.contents writer.new.inner) writer.new.failed) }
+{
+    if !is_roots(words.fec.roots) {
+        return Err(FecFault::Verity(VerityFault::Usage));
+    }
+    invoke_verify(alloc, images, watchers, &words.verify, writer)?;
+    let places = ImagePlaces {
+        data: words.verify.data_path,
+        hash: words.verify.hash_path,
+        hash_first: sector_at(words.verify.hash_offset),
+    };
+    check_image(alloc, images, &places, &words.fec, writer)
+}
+
+// Writes the parity, and makes its file as long as is needed where `grow` says so.
+fn protect<'a, I: Images>(
+    alloc: Global,
+    images: &mut I,
+    places: &ImagePlaces<'a>,
+    fec: &FecFile<'a>,
+    grow: bool,
+) -> Result<(), FecFault<'a>>
+    requires { IsRoots fec.now.roots }
+    ensures ok { OnOk result (Protects grow (calls I.relations I.Dev.state images.old images.new) (two_places places.now) (fec_record fec.now)) }
+    ensures err { IfErr result (IsProtectionEnd grow (calls I.relations I.Dev.state images.old images.new) (two_places places.now) (fec_record fec.now)) }
+{
+    if grow {
+        return protect_growing(alloc, images, places, fec);
+    }
+    protect_image(alloc, images, places, fec)
+}

@@ -1,0 +1,54 @@
+//! The text of a `format`, kept in memory until the parity stands.
+ghost use Rattle.std.specs.Prelude.{◌≡◌, [], Some, IfErr, IfOk};
+ghost use Rattle.command_line.specs.FormatOptions.{option_texts};
+ghost use Rattle.command_line.specs.words.Format.{format_record};
+ghost use Rattle.image_commands.specs.Drawing.{drawing};
+ghost use Rattle.image_files.specs.Opener.{calls};
+ghost use Rattle.verity_commands.specs.Placed.{FormatsAt};
+ghost use Rattle.fec_commands.specs.FecFaults.{kept_fault, kept_image};
+ghost use Rattle.fec_commands.specs.Commands.{IsKeptEnd};
+
+use command_line::{FormatWords, OptionWords};
+use counted_io::Counted;
+use image_commands::{Generators, ImageFault};
+use image_files::Images;
+use std::alloc::Global;
+use verity_commands::{VerityFault, invoke_format};
+use watched_device::Watchers;
+
+/// Makes the image, and gives the text that is printed of it.
+pub(crate) fn format_kept<'a, I: Images, G: Generators + Watchers>(
+    alloc: Global,
+    images: &mut I,
+    generators: &mut G,
+    words: &FormatWords<'a>,
+    options: &OptionWords<'a>,
+) -> Result<Vec<u8>, VerityFault<'a>>
+    ensures ok { IfOk result (λ text. FormatsAt (option_texts options.now) (calls I.relations I.Dev.state images.old images.new) (drawing G.gives G.Generator.stream generators.old generators.new) (format_record words.now) (Some []) (Some text.items)) }
+    ensures err { IfErr result (IsKeptEnd (option_texts options.now) (calls I.relations I.Dev.state images.old images.new) (drawing G.gives G.Generator.stream generators.old generators.new) (format_record words.now)) }
+{
+    let mut kept = Counted::new(Vec::new(alloc));
+    match invoke_format(alloc, images, generators, words, options, &mut kept) {
+        Ok(()) => Ok(kept.into_inner()),
+        Err(fault) => Err(kept_fault(fault)),
+    }
+}
+
+// A text that is kept can't be written only where memory ran out.
+fn kept_fault(fault: VerityFault<'_>) -> VerityFault<'_>
+    ensures { result ≡ kept_fault fault.entry }
+{
+    match fault {
+        VerityFault::Usage => VerityFault::Usage,
+        VerityFault::Image(fault) => VerityFault::Image(kept_image(fault)),
+    }
+}
+
+fn kept_image(fault: ImageFault<'_>) -> ImageFault<'_>
+    ensures { result ≡ kept_image fault.entry }
+{
+    match fault {
+        ImageFault::Write => ImageFault::NoMemory,
+        fault => fault,
+    }
+}

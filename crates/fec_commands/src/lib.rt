@@ -1,0 +1,16 @@
+//! The commands on images with parity: `format --fec` and `verify --fec`.
+#![tactic(auto)]
+
+mod check;
+mod fault;
+mod fault_text;
+mod growing;
+mod image;
+mod invoke;
+mod kept;
+mod protect;
+mod sizes;
+
+pub use fault::FecFault;
+pub use fault_text::{fec_status, say_fec_fault};
+pub use invoke::{invoke_format_fec, invoke_verify_fec};

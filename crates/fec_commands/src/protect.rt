@@ -1,0 +1,93 @@
+//! The parity of a verity image, written to a file.
+ghost use Rattle.std.specs.Prelude.{◌≡◌, IfErr, OnOk};
+ghost use Rattle.image_files.specs.Opener.{calls};
+ghost use Rattle.image_commands.specs.Places.{two_places};
+ghost use Rattle.verity_format.specs.Blocks.{AreOnlyRead};
+ghost use Rattle.fec_area.specs.Layouts.{IsLaidOn};
+ghost use Rattle.command_line.specs.FecFiles.{fec_record};
+ghost use Rattle.fec_commands.specs.Layings.{IsRoots};
+ghost use Rattle.fec_commands.specs.Protecting.{IsParityEnd, IsProtectEnd, IsSealed, IsSealingEnd, ProtectsBehind, ProtectsImage};
+
+use crate::fault::FecFault;
+use crate::image::{Extent, ThreeImages, data_end, lay_out, open_three};
+use block_device::{BlockDev, SyncDev};
+use command_line::FecFile;
+use device_window::Window;
+use fec_area::{Layout, ParityFault, write_parity};
+use image_commands::ImagePlaces;
+use image_files::{Images, OpenImage};
+use std::alloc::Global;
+use std::marker::Brand;
+
+/// Writes the parity of an image that stands in files to a file, has it put on its medium, and gives it back.
+pub(crate) fn protect_image<'a, I: Images>(
+    alloc: Global,
+    images: &mut I,
+    places: &ImagePlaces<'a>,
+    fec: &FecFile<'a>,
+) -> Result<(), FecFault<'a>>
+    requires { IsRoots fec.now.roots }
+    ensures ok { OnOk result (ProtectsImage (calls I.relations I.Dev.state images.old images.new) (two_places places.now) (fec_record fec.now)) }
+    ensures err { IfErr result (IsProtectEnd (calls I.relations I.Dev.state images.old images.new) (two_places places.now) (fec_record fec.now)) }
+{
+    let three = open_three(images, places, fec, true)?;
+    let extent = Extent {
+        end: data_end(&three, places.hash_first),
+        first: places.hash_first,
+        roots: fec.roots,
+    };
+    let ThreeImages {
+        data: OpenImage {
+            device: data_dev,
+            id: _,
+        },
+        hash: OpenImage {
+            device: hash_dev,
+            id: _,
+        },
+        parity: OpenImage {
+            device: mut parity_dev,
+            id: _,
+        },
+    } = three;
+    protect_behind(alloc, data_dev, hash_dev, &mut parity_dev, extent)?;
+    images.close(fec.path, parity_dev);
+    Ok(())
+}
+
+// Writes the parity of what lies on two devices before and behind a sector, and has it put on its medium.
+fn protect_behind<'a, D: BlockDev + Drop, H: BlockDev + Drop, P: SyncDev>(
+    alloc: Global,
+    data_dev: D,
+    hash_dev: H,
+    parity_dev: &mut P,
+    extent: Extent,
+) -> Result<(), FecFault<'a>>
+    requires { IsRoots extent.roots }
+    ensures ok { OnOk result (ProtectsBehind (D.state data_dev) (H.state hash_dev) (P.state parity_dev.old) extent (P.state parity_dev.new)) }
+    ensures err { IfErr result (IsParityEnd (D.state data_dev) (H.state hash_dev) (P.state parity_dev.old) extent (P.state parity_dev.new)) }
+{
+    let mut before = Window::<D, Brand>::before(data_dev, extent.end);
+    let mut behind = Window::<H, Brand>::behind(hash_dev, extent.first);
+    let layout = lay_out(&before, &mut behind, extent.first, extent.roots)?;
+    write_synced(alloc, &layout, &mut before, &mut behind, parity_dev)?;
+    Ok(())
+}
+
+// Writes the parity, and has it put on its medium.
+fn write_synced<D: BlockDev, H: BlockDev, P: SyncDev>(
+    alloc: Global,
+    layout: &Layout,
+    data_dev: &mut D,
+    hash_dev: &mut H,
+    parity_dev: &mut P,
+) -> Result<(), ParityFault>
+    requires { IsLaidOn layout.now (D.state data_dev.old) (H.state hash_dev.old) }
+    ensures read { AreOnlyRead (D.state data_dev.old) (H.state hash_dev.old) (D.state data_dev.new) (H.state hash_dev.new) }
+    ensures ok { OnOk result (IsSealed layout.now (D.state data_dev.old) (H.state hash_dev.old) (P.state parity_dev.old) (P.state parity_dev.new)) }
+    ensures err { IfErr result (IsSealingEnd layout.now (D.state data_dev.old) (H.state hash_dev.old) (P.state parity_dev.old) (P.state parity_dev.new)) }
+{
+    write_parity(alloc, layout, data_dev, hash_dev, parity_dev)?;
+    parity_dev.sync()?;
+    Ok(())
+}

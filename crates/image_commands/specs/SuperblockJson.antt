@@ -1,0 +1,30 @@
+-- The fields of a superblock as a JSON object, and in which form they are printed.
+use Rattle.std.specs.Prelude.{ℕ, Bool, true, false, List, codes}
+use Rattle.uuid.specs.Text.{hyphenated_text, lower}
+use Rattle.serde_json.specs.Data.{Data, number, object, string, unsigned, member, no_members}
+use Rattle.reply_json.specs.Lines.{json_line}
+use Rattle.verity_format.specs.Line.{salt_word}
+use Rattle.verity_format.specs.Superblock.{SuperRecord}
+use Rattle.image_commands.specs.SuperblockTexts.{superblock_text}
+
+-- the hash type and the algorithm are always these
+abbrev pub fields_json : ℕ → ℕ → ℕ → Data → Data → Data
+fields_json data_block blocks hash_block salt uuid =
+    object
+    (member (codes "algorithm") (string (codes "sha256"))
+    (member (codes "data_block") (number (unsigned data_block))
+    (member (codes "data_blocks") (number (unsigned blocks))
+    (member (codes "hash_block") (number (unsigned hash_block))
+    (member (codes "hash_type") (number (unsigned 1))
+    (member (codes "salt") salt
+    (member (codes "uuid") uuid
+    no_members)))))))
+
+-- the same fields as the lines say
+abbrev pub superblock_json : SuperRecord → Data
+superblock_json s = fields_json s.data_block s.blocks s.hash_block (string (salt_word s.salt)) (string (hyphenated_text lower s.uuid))
+
+-- as an object, or as lines
+abbrev pub dump_text : Bool → SuperRecord → List ℕ
+dump_text true s = json_line (superblock_json s)
+dump_text false s = superblock_text s

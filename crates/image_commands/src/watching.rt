@@ -1,0 +1,50 @@
+//! Images over whose data a command goes from one end to the other, of which it is told how far it has come.
+ghost use Rattle.std.specs.Prelude.{◌≡◌};
+
+use crate::paths::TwoImages;
+use crate::places::ImagePlaces;
+use block_device::BlockDev;
+use image_files::OpenImage;
+use verity_format::FormatOptions;
+use watched_device::{Watched, Watchers, watcher_of};
+
+/// The places of two images, and whether it is shown how much of the data was read.
+#[derive(Clone, Copy, Debug, PartialEq, Eq)]
+pub struct WatchedPlaces<'a> {
+    pub places: ImagePlaces<'a>,
+    pub progress: bool,
+}
+
+/// The two devices. Of the reads of the data device someone is told, as of so many bytes that are read.
+pub(crate) fn watch<D: BlockDev + Drop, S: Watchers>(
+    two: TwoImages<D>,
+    watchers: &S,
+    progress: bool,
+    all: u64,
+) -> (Watched<D, S::Watcher>, D)
+    ensures data { result.0.inner ≡ two.data.device }
+    ensures hash { result.1 ≡ two.hash.device }
+{
+    let TwoImages {
+        data: OpenImage {
+            device: data_dev,
+            id: _,
+        },
+        hash: OpenImage {
+            device: hash_dev,
+            id: _,
+        },
+    } = two;
+    let watcher = watcher_of(watchers, progress);
+    (Watched::new(data_dev, watcher, all), hash_dev)
+}
+
+/// How many of so many bytes are data blocks, where the options say how many blocks there are.
+pub(crate) fn bytes_of_blocks(options: &FormatOptions, bytes: u64) -> u64 {
+    match options.blocks {
+        Some(blocks) => blocks
+            .saturating_mul(u64::from(options.data_block))
+            .min(bytes),
+        None => bytes,
+    }
+}

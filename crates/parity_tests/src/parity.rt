@@ -1,0 +1,139 @@
+//! Parity beside that of veritysetup 2.6.1.
+use block_device::{BlockDev, MemoryDev};
+use fec_area::{Layout, check_parity, write_parity};
+use sha2::{Digest, Sha256};
+use std::alloc::Global;
+use std::process::Abort;
+use std::test::Fail;
+use tree_shape::{Algorithm, Salt};
+use verity_format::{Superblock, format};
+
+/// An image over a ramp, and the digest of veritysetup's parity of it.
+struct Case {
+    /// A block's bytes, how many data blocks, and how many bytes of parity in a codeword.
+    block: u32,
+    blocks: u64,
+    roots: usize,
+    /// The sectors of the data, the hash device and the parity.
+    data: u32,
+    hash: u32,
+    parity: u32,
+    digest: &'static str,
+}
+
+static CASES: [Case; 8] = [
+    Case {
+        block: 512,
+        blocks: 300,
+        roots: 2,
+        data: 300,
+        hash: 23,
+        parity: 4,
+        digest: "5c3009bc47b695baefa44706256fd0336ce045b94996c9d09854347e718e1b6b",
+    },
+    Case {
+        block: 512,
+        blocks: 300,
+        roots: 8,
+        data: 300,
+        hash: 23,
+        parity: 16,
+        digest: "5b128e77f2801e20bb71c56a04909d6b1a7bfe1abe53eabb96f1bb22e2be37c0",
+    },
+    // 247 covered blocks are one round
+    Case {
+        block: 512,
+        blocks: 231,
+        roots: 8,
+        data: 231,
+        hash: 17,
+        parity: 8,
+        digest: "82236a054fbdf5ee494842dff29b42cb6d5806cbac57531638cc9a4ee1ee1b25",
+    },
+    // and 248 are two, by one data block more, or by one behind the tree
+    Case {
+        block: 512,
+        blocks: 232,
+        roots: 8,
+        data: 232,
+        hash: 17,
+        parity: 16,
+        digest: "456a88f3779e303c370afe1120725bbd6fbec488d80fe58c8c1e92b4391e1c7f",
+    },
+    Case {
+        block: 512,
+        blocks: 231,
+        roots: 8,
+        data: 231,
+        hash: 18,
+        parity: 16,
+        digest: "9d042f630516f3feb5b278177cdba89984d0ca9c4384890c7fefd966b4f88cd6",
+    },
+    Case {
+        block: 512,
+        blocks: 300,
+        roots: 24,
+        data: 300,
+        hash: 26,
+        parity: 48,
+        digest: "7d74d0251225ecacb578e99756c64b5b4c7b8ea753fcaa568eba5771d34e9a3b",
+    },
+    Case {
+        block: 4096,
+        blocks: 40,
+        roots: 2,
+        data: 320,
+        hash: 24,
+        parity: 16,
+        digest: "26b95d641bccae305e2ef95ef85afcf1e2136db3943db21244f3896d5be00bb7",
+    },
+    Case {
+        block: 1024,
+        blocks: 5,
+        roots: 24,
+        data: 10,
+        hash: 4,
+        parity: 48,
+        digest: "755022cd02bcd111952b738068f9b17407def193532c82e6d31770ef36c9f983",
+    },
+];
+
+/// Whether the digest has these hexadecimal digits.
+fn has_digits(digest: &[u8], wanted: &str) -> bool {
+    let mut digits = [0u8; 64];
+    hex::encode_to_slice(digest, &mut digits).is_ok() && digits.as_slice() == wanted.as_bytes()
+}
+
+/// The parity of the image, which is written, compared and handed out.
+fn parity_of<R: Abort>(rt: &R, alloc: Global, case: &Case) -> Result<MemoryDev, Fail> {
+    let salt = Salt::new(Algorithm::Sha256, &[0]).ok_or("no salt")?;
+    let mut uuid = [0u8; 16];
+    uuid[15] = 1;
+    let superblock = Superblock::new(uuid, case.block, case.block, case.blocks, salt)?;
+    let mut data = MemoryDev::ramp(alloc, case.data, false)?;
+    let mut hash = MemoryDev::zeros(alloc, case.hash, true)?;
+    let mut parity = MemoryDev::zeros(alloc, case.parity, true)?;
+    let _root = format(alloc, &mut data, &mut hash, superblock)?;
+    let roots = case.roots;
+    assert!(rt; roots >= 2);
+    assert!(rt; roots <= 24);
+    let layout = Layout::of(&superblock.shape(), hash.sectors(), roots).ok_or("no layout")?;
+    assert!(rt; layout.is_laid_on(&data, &hash));
+    write_parity(alloc, &layout, &mut data, &mut hash, &mut parity)?;
+    assert!(rt; layout.is_laid_on(&data, &hash));
+    let found = check_parity(alloc, &layout, &mut data, &mut hash, &mut parity);
+    assert!(rt; found == Ok(None));
+    Ok(parity)
+}
+
+#[test]
+fn parity_is_that_of_veritysetup(rt: HostRuntime) -> Result<(), Fail> {
+    let alloc = rt.alloc();
+    for case in &CASES {
+        let parity = parity_of(&rt, alloc, case)?;
+        let mut sum = Sha256::new();
+        sum.update(parity.into_bytes().as_slice());
+        assert!(rt; has_digits(&sum.finalize(), case.digest));
+    }
+    Ok(())
+}

@@ -1,0 +1,82 @@
+-- What `scan --json` prints, and how it ends early: the runs are kept in memory, and one object is printed of them.
+use Rattle.std.specs.Prelude.{◌≡◌, ◌⊎◌, ℕ, ◌<◌, Bool, true, List, [], Option, Some}
+use Rattle.std.specs.Io.KnownBytes.{Appends}
+use Rattle.image_files.specs.Opener.{Calls}
+use Rattle.reply_json.specs.Lines.{json_line}
+use Rattle.rescue_files.specs.declared.fault.RescueFault.{RescueFault}
+use Rattle.rescue_files.specs.declared.fault.RescueFault.TheVariants as rescue
+use Rattle.stack_json.specs.Lost.{lost_json}
+use Rattle.stack_recovery.specs.declared.lost_run.LostRun.{LostRun}
+use Rattle.stack_recovery.specs.declared.recovery.Counts.{Counts}
+use Rattle.stack_recovery.specs.Texts.{runs_text}
+use Rattle.stack_session.specs.declared.fault.SessionFault.TheVariants.{WriteFault}
+use Rattle.stack_commands.specs.declared.by_map.UnkeptMap.{UnkeptMap}
+use Rattle.stack_commands.specs.declared.fault.CommandFault.{CommandFault}
+use Rattle.stack_commands.specs.declared.fault.CommandFault.TheVariants.{LostAsSaid, Map, NoMemory, Session}
+use Rattle.stack_commands.specs.MappedCopies.{CutsScan, ScansByMap}
+use Rattle.stack_commands.specs.Recoveries.{FailsToFind, FailsToScan, Scans}
+use Rattle.stack_commands.specs.StackCommands.{DeviceWords, IsStackEnd}
+
+-- a run that isn't kept in memory is want of it
+abbrev pub unkept_map : UnkeptMap → RescueFault → CommandFault
+unkept_map end rescue.Write = NoMemory
+unkept_map end fault = Map end
+
+abbrev pub unkept : CommandFault → CommandFault
+unkept (Session fault) = NoMemory
+unkept (Map end) = unkept_map end end.fault
+unkept fault = fault
+
+-- what was gone over said these runs, and one object was printed of them and of the counts
+abbrev pub PrintsLost : List LostRun → Counts → Option (List ℕ) → Option (List ℕ) → Type 0
+PrintsLost runs counts old new = Appends old new (json_line (lost_json runs counts))
+
+-- that cause, as a command's end
+abbrev pub IsUnkept : (CommandFault → Type 0) → CommandFault → Type 0
+IsUnkept Ends fault = (cause : CommandFault) × Ends cause × (fault ≡ unkept cause)
+
+-- ---- of a way to go over a device, which says what it printed before and after
+
+abbrev pub Way : Type 1
+Way = Option (List ℕ) → Counts → Option (List ℕ) → Type 0
+
+-- no sector is lost, and the object was printed
+pub record PrintsScanObject (Gone : Way) (old new : Option (List ℕ)) : Type 0 where
+  pub counts : Counts
+  pub runs : List LostRun
+  pub gone : Gone (Some []) counts (Some (runs_text runs))
+  pub none : counts.lost ≡ 0
+  pub printed : PrintsLost runs counts old new
+
+-- some are lost, which the object said; or it can't be made or written
+abbrev pub IsObjectEnd : List LostRun → Counts → Option (List ℕ) → Option (List ℕ) → Bool → CommandFault → Type 0
+IsObjectEnd runs counts old new failed LostAsSaid = (0 < counts.lost) × PrintsLost runs counts old new
+IsObjectEnd runs counts old new failed (Session fault) = (fault ≡ WriteFault) × (failed ≡ true)
+IsObjectEnd runs counts old new failed NoMemory = new ≡ old
+IsObjectEnd runs counts old new failed fault = ⊥
+
+pub record LosesInObject (Gone : Way) (old new : Option (List ℕ)) (failed : Bool) (fault : CommandFault) : Type 0 where
+  pub counts : Counts
+  pub runs : List LostRun
+  pub gone : Gone (Some []) counts (Some (runs_text runs))
+  pub ends : IsObjectEnd runs counts old new failed fault
+
+-- it ended early, and no run that was kept is told
+pub record CutsObject (Cuts : Option (List ℕ) → Option (List ℕ) → Bool → CommandFault → Type 0) (fault : CommandFault) : Type 0 where
+  pub kept : Option (List ℕ)
+  pub failed : Bool
+  pub cause : CommandFault
+  pub cuts : Cuts (Some []) kept failed cause
+  pub is : fault ≡ unkept cause
+
+-- ---- without a map file, and with one
+
+abbrev pub IsScanObjectEnd : {S D : Type 0} → Calls S D → DeviceWords → Option (List ℕ) → Option (List ℕ) → Bool → CommandFault → Type 0
+IsScanObjectEnd w words old new failed fault =
+    ((new ≡ old) × (IsStackEnd w words.words (FailsToFind w.state words.name) fault ⊎ CutsObject (FailsToScan w words) fault))
+    ⊎ LosesInObject (Scans w words) old new failed fault
+
+abbrev pub IsMappedObjectEnd : {S D : Type 0} → Calls S D → DeviceWords → List ℕ → Option (List ℕ) → Option (List ℕ) → Bool → CommandFault → Type 0
+IsMappedObjectEnd w words map old new failed fault =
+    ((new ≡ old) × (IsStackEnd w words.words (FailsToFind w.state words.name) fault ⊎ CutsObject (CutsScan w words map) fault))
+    ⊎ LosesInObject (ScansByMap w words map) old new failed fault

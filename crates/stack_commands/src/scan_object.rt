@@ -1,0 +1,152 @@
+//! The command `scan --json`: says which sectors of a device are lost, as one JSON object.
+ghost use Rattle.std.specs.Prelude.{◌≡◌, ◌≤◌, ◌<◌, length, Some, IfErr, IfOk, OnOk};
+ghost use Rattle.image_files.specs.Opener.{calls};
+ghost use Rattle.stack_opening.specs.OpenStacks.{stack_words};
+ghost use Rattle.stack_rules.specs.Names.{mapped, size};
+ghost use Rattle.stack_recovery.specs.Recoveries.{Recovers, sides};
+ghost use Rattle.stack_recovery.specs.Texts.{runs_text};
+ghost use Rattle.stack_commands.specs.ByMap.{IsMapEnd, IsRescued, IsUnrescued, moving};
+ghost use Rattle.stack_commands.specs.Recovering.{IsRecoverEnd};
+ghost use Rattle.stack_commands.specs.MappedCopies.{ScansByMap};
+ghost use Rattle.stack_commands.specs.Recoveries.{Scans};
+ghost use Rattle.stack_commands.specs.ScanObjects.{IsMappedObjectEnd, IsObjectEnd, IsScanObjectEnd, IsUnkept, PrintsLost, PrintsScanObject, unkept, unkept_map};
+ghost use Rattle.stack_commands.specs.StackCommands.{device_words};
+
+use crate::by_map::{UnkeptMap, rescue_by_map};
+use crate::device::{NamedDevice, load_device, recover_device};
+use crate::fault::CommandFault;
+use block_device::BlockDev;
+use counted_io::Counted;
+use image_files::Images;
+use progress::Progress;
+use rescue_files::RescueFault;
+use stack_config::DevId;
+use stack_engine::Stack;
+use stack_json::lost_line;
+use stack_opening::{StackFile, open_stack};
+use stack_recovery::{Counts, Discard, KeptRuns, LostRun};
+use std::alloc::Global;
+use std::io::Write;
+
+/// `scan --json [--cache N] STACK NAME BINDING...`: reads a device of a stack file over the bindings, and says which sectors
+/// are lost.
+pub fn scan_to_object<'a, I: Images, W: Write, P: Progress>(
+    alloc: Global,
+    images: &mut I,
+    file: StackFile<'a, '_>,
+    device: NamedDevice<'a>,
+    writer: &mut Counted<W>,
+    progress: &mut P,
+) -> Result<(), CommandFault<'a>>
+    ensures ok { OnOk result (PrintsScanObject (Scans (calls I.relations I.Dev.state images.old images.new) (device_words (stack_words file.entry) device.entry.name.now device.entry.cache)) (W.contents writer.old.inner) (W.contents writer.new.inner)) }
+    ensures err { IfErr result (IsScanObjectEnd (calls I.relations I.Dev.state images.old images.new) (device_words (stack_words file.entry) device.entry.name.now device.entry.cache) (W.contents writer.old.inner) (W.contents writer.new.inner) writer.new.failed) }
+{
+    let over = open_stack(alloc, images, file)?;
+    let (mut stack, device) = load_device(alloc, over, device.name, device.cache)?;
+    let mut out = Discard::new(stack.config().sectors(device));
+    let mut kept = KeptRuns::new(alloc);
+    let counts = keep_runs(&mut stack, device, &mut out, &mut kept, progress)?;
+    say_lost(alloc, kept.runs.as_slice(), counts, writer)
+}
+
+/// The same with `--map FILE`: reads the sectors that weren't had, as the map file says, and keeps the map.
+pub fn scan_to_object_by_map<'a, I: Images, W: Write, P: Progress>(
+    alloc: Global,
+    images: &mut I,
+    file: StackFile<'a, '_>,
+    device: NamedDevice<'a>,
+    map: &'a str,
+    writer: &mut Counted<W>,
+    progress: &mut P,
+) -> Result<(), CommandFault<'a>>
+    ensures ok { OnOk result (PrintsScanObject (ScansByMap (calls I.relations I.Dev.state images.old images.new) (device_words (stack_words file.entry) device.entry.name.now device.entry.cache) map.now) (W.contents writer.old.inner) (W.contents writer.new.inner)) }
+    ensures err { IfErr result (IsMappedObjectEnd (calls I.relations I.Dev.state images.old images.new) (device_words (stack_words file.entry) device.entry.name.now device.entry.cache) map.now (W.contents writer.old.inner) (W.contents writer.new.inner) writer.new.failed) }
+{
+    let over = open_stack(alloc, images, file)?;
+    let (mut stack, device) = load_device(alloc, over, device.name, device.cache)?;
+    let mut out = Discard::new(stack.config().sectors(device));
+    let mut kept = KeptRuns::new(alloc);
+    let counts = keep_runs_by_map(
+        alloc, images, &mut stack, device, &mut out, map, &mut kept, progress,
+    )?;
+    say_lost(alloc, kept.runs.as_slice(), counts, writer)
+}
+
+// Goes over the device, and keeps its lost runs.
+fn keep_runs<'a, D: BlockDev + Drop, P: Progress>(
+    stack: &mut Stack<D>,
+    device: DevId,
+    out: &mut Discard,
+    kept: &mut KeptRuns,
+    progress: &mut P,
+) -> Result<Counts, CommandFault<'a>>
+    requires device { device.0 < length stack.old.config.devices }
+    requires room { size stack.old.config (mapped device.0) ≤ (⟦<Discard as BlockDev>⟧.state out.old).size }
+    ensures ok { IfOk result (λ counts. Recovers device.0 (sides stack.old (⟦<Discard as BlockDev>⟧.state out.old) (Some (runs_text kept.old.runs.items))) counts (sides stack.new (⟦<Discard as BlockDev>⟧.state out.new) (Some (runs_text kept.new.runs.items)))) }
+    ensures err { IfErr result (IsUnkept (IsRecoverEnd device.0 (sides stack.old (⟦<Discard as BlockDev>⟧.state out.old) (Some (runs_text kept.old.runs.items))) (sides stack.new (⟦<Discard as BlockDev>⟧.state out.new) (Some (runs_text kept.new.runs.items))) kept.new.refused)) }
+{
+    match recover_device(stack, device, out, kept, progress) {
+        Ok(counts) => Ok(counts),
+        Err(fault) => Err(unkept(fault)),
+    }
+}
+
+// The same by a map file.
+fn keep_runs_by_map<'a, I: Images, D: BlockDev, P: Progress>(
+    alloc: Global,
+    images: &mut I,
+    stack: &mut Stack<D>,
+    device: DevId,
+    out: &mut Discard,
+    map: &'a str,
+    kept: &mut KeptRuns,
+    progress: &mut P,
+) -> Result<Counts, CommandFault<'a>>
+    requires device { device.0 < length stack.old.config.devices }
+    requires room { size stack.old.config (mapped device.0) ≤ (⟦<Discard as BlockDev>⟧.state out.old).size }
+    ensures ok { IfOk result (IsRescued (calls I.relations I.Dev.state images.old images.new) map.now device.0 (moving (sides stack.old (⟦<Discard as BlockDev>⟧.state out.old) (Some (runs_text kept.old.runs.items))) (sides stack.new (⟦<Discard as BlockDev>⟧.state out.new) (Some (runs_text kept.new.runs.items))))) }
+    ensures err { IfErr result (IsUnkept (IsMapEnd map.now (IsUnrescued (calls I.relations I.Dev.state images.old images.new) map.now device.0 (moving (sides stack.old (⟦<Discard as BlockDev>⟧.state out.old) (Some (runs_text kept.old.runs.items))) (sides stack.new (⟦<Discard as BlockDev>⟧.state out.new) (Some (runs_text kept.new.runs.items)))) kept.new.refused))) }
+{
+    match rescue_by_map(alloc, images, stack, device, out, map, kept, progress) {
+        Ok(counts) => Ok(counts),
+        Err(fault) => Err(unkept(fault)),
+    }
+}
+
+// Where a run isn't kept, memory ran out.
+fn unkept<'a>(fault: CommandFault<'a>) -> CommandFault<'a>
+    ensures { result ≡ unkept fault.entry }
+{
+    match fault {
+        CommandFault::Session(_) => CommandFault::NoMemory,
+        CommandFault::Map(end) => unkept_map(end),
+        other => other,
+    }
+}
+
+fn unkept_map<'a>(end: UnkeptMap<'a>) -> CommandFault<'a>
+    ensures { result ≡ unkept_map end.entry end.entry.fault }
+{
+    match end.fault {
+        RescueFault::Write => CommandFault::NoMemory,
+        _ => CommandFault::Map(end),
+    }
+}
+
+// Prints the object; where sectors are lost, the command ends so.
+fn say_lost<'a, W: Write>(
+    alloc: Global,
+    runs: &[LostRun],
+    counts: Counts,
+    writer: &mut Counted<W>,
+) -> Result<(), CommandFault<'a>>
+    ensures ok { OnOk result ((counts.lost ≡ 0) × PrintsLost runs.now counts (W.contents writer.old.inner) (W.contents writer.new.inner)) }
+    ensures err { IfErr result (IsObjectEnd runs.now counts (W.contents writer.old.inner) (W.contents writer.new.inner) writer.new.failed) }
+{
+    let line = lost_line(alloc, runs, counts)?;
+    writer.put(line.as_bytes())?;
+    if counts.lost > 0 {
+        return Err(CommandFault::LostAsSaid);
+    }
+    Ok(())
+}

@@ -1,0 +1,101 @@
+//! The command `verify --all --json`: what of an image is good, as one JSON object.
+ghost use Rattle.std.specs.Prelude.{◌≡◌, Some, true, string_bytes, IfOk, IfErr, OnOk};
+ghost use Rattle.reply_json.specs.Lines.{json_line};
+ghost use Rattle.serde_json.specs.View.{view};
+ghost use Rattle.verity_format.specs.Blocks.{IsOnlyRead};
+ghost use Rattle.verity_format.specs.declared.verifying.VerifyFault.TheVariants as verify_fault;
+ghost use Rattle.tree_runs.specs.Lines.{lines_text};
+ghost use Rattle.tree_survey.specs.declared.fault.SurveyFault.TheVariants as survey_fault;
+ghost use Rattle.tree_survey.specs.Passes.{IsSurvey, pass};
+ghost use Rattle.tree_commands.specs.Objects.{survey_json};
+ghost use Rattle.tree_commands.specs.Surveys.{IsKeptCause, IsSurveyEnd, SaysObject, unkept};
+
+use crate::fault::TreeFault;
+use crate::survey::is_all_good;
+use block_device::BlockDev;
+use counted_io::Counted;
+use reply_json::line_of;
+use serde_json::{Value, json};
+use std::alloc::{AllocError, Global};
+use std::io::Write;
+use tree_runs::{KeptLines, Line, hashes_value, runs_value};
+use tree_shape::Digest;
+use tree_survey::{Survey, SurveyFault, Totals, survey_image};
+use verity_format::VerifyFault;
+
+/// Goes over the two devices, and prints an object at the end.
+pub(crate) fn survey_object<'a, D: BlockDev, H: BlockDev, W: Write>(
+    alloc: Global,
+    data_dev: &mut D,
+    hash_dev: &mut H,
+    root: &Digest,
+    writer: &mut Counted<W>,
+) -> Result<(), TreeFault<'a>>
+    ensures ok { OnOk result (SaysObject (pass (D.state data_dev.old) (H.state hash_dev.old) (D.state data_dev.new) (H.state hash_dev.new) (W.contents writer.old.inner) (W.contents writer.new.inner)) root.now true) }
+    ensures err { IfErr result (IsSurveyEnd true (pass (D.state data_dev.old) (H.state hash_dev.old) (D.state data_dev.new) (H.state hash_dev.new) (W.contents writer.old.inner) (W.contents writer.new.inner)) root.now writer.new.failed) }
+{
+    let mut kept = KeptLines::new(alloc);
+    let found = keep_survey(alloc, data_dev, hash_dev, root, &mut kept)?;
+    let line = survey_line(alloc, kept.lines.as_slice(), found.totals)?;
+    writer.put(line.as_bytes())?;
+    if !is_all_good(found) {
+        return Err(TreeFault::Damaged);
+    }
+    Ok(())
+}
+
+// Where a line isn't kept, memory ran out.
+#[tactic(auto, using(crate::proofs::KeptLemmas::kept_cause))]
+fn keep_survey<D: BlockDev, H: BlockDev>(
+    alloc: Global,
+    data_dev: &mut D,
+    hash_dev: &mut H,
+    root: &Digest,
+    kept: &mut KeptLines,
+) -> Result<Survey, SurveyFault>
+    ensures ok { IfOk result (IsSurvey (pass (D.state data_dev.old) (H.state hash_dev.old) (D.state data_dev.new) (H.state hash_dev.new) (Some (lines_text kept.old.lines.items)) (Some (lines_text kept.new.lines.items))) root.now) }
+    ensures err { IfErr result (IsKeptCause (D.state data_dev.old) (H.state hash_dev.old) (D.state data_dev.new) (H.state hash_dev.new)) }
+{
+    match survey_image(alloc, data_dev, hash_dev, root, kept) {
+        Ok(found) => Ok(found),
+        Err(fault) => Err(unkept(fault)),
+    }
+}
+
+fn unkept(fault: SurveyFault) -> SurveyFault
+    ensures { result ≡ unkept fault }
+{
+    match fault {
+        SurveyFault::Write => SurveyFault::Image(VerifyFault::NoMemory),
+        SurveyFault::Image(image) => SurveyFault::Image(image),
+    }
+}
+
+#[tactic(auto, using(crate::proofs::ObjectLemmas::plain_survey))]
+fn survey_line(alloc: Global, lines: &[Line], totals: Totals) -> Result<String, SurveyFault>
+    ensures ok { IfOk result (λ line. string_bytes line ≡ json_line (survey_json lines.now totals)) }
+    ensures err { IfErr result (λ fault. fault ≡ survey_fault.Image verify_fault.NoMemory) }
+{
+    let value = survey_value(alloc, lines, totals)?;
+    Ok(line_of(alloc, &value)?)
+}
+
+// The members in the order of their keys.
+fn survey_value(alloc: Global, lines: &[Line], totals: Totals) -> Result<Value, AllocError>
+    ensures { IfOk result (λ value. view value ≡ survey_json lines.now totals) }
+{
+    let Totals {
+        good,
+        changed,
+        unknown,
+    } = totals;
+    let hash_blocks = hashes_value(alloc, lines)?;
+    let runs = runs_value(alloc, lines)?;
+    json!(in alloc; {
+        "changed": changed,
+        "good": good,
+        "hash_blocks": hash_blocks,
+        "runs": runs,
+        "unknown": unknown
+    })
+}

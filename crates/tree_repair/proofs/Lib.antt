@@ -1,0 +1,7 @@
+mod LawLemmas
+mod RepairLemmas
+mod RowLemmas
+mod RunLemmas
+mod SourceLemmas
+mod StayLemmas
+mod VisitLemmas

@@ -1,0 +1,125 @@
+-- Runs over blocks, one behind the other.
+use Rattle.std.proofs.Common.{◌≡◌, ◌≤◌, ℕ, zero, suc, Bool, true, false, IsTrue, List, [], ◌∷◌, ◌++◌, Option, Result, Ok, Err, All, refl, sym, ap, ◌∙◌, subst, arith}
+use Rattle.std.specs.Prelude.{IsErrAnd, is_ok}
+use Rattle.std.specs.List.{flat_map}
+use Rattle.std.specs.Io.KnownBytes.{Appends}
+use Rattle.std.proofs.KnownBytes.{Appends-nil, Appends-trans}
+use Rattle.std.proofs.lemmas.Bool.{false≢true}
+use Rattle.std.proofs.lemmas.Grind.{flat_map-append}
+use Rattle.std.proofs.lemmas.List.{append-nil}
+use Rattle.std.proofs.lemmas.List.Elements.{All-append, All-cons, All-nil}
+use Rattle.block_device.specs.Device.{Device, IsSameDevice}
+use Rattle.verity_format.specs.Blocks.{IsOnlyRead}
+use Rattle.tree_path.proofs.lemmas.DeviceLemmas.{only_read-none, only_read-then, same-none, same-then}
+use Rattle.tree_repair.specs.declared.mending.Mended.{Mended}
+use Rattle.tree_repair.specs.declared.mending.Mended.TheVariants as mended
+use Rattle.tree_repair.specs.Mending.{IsMended, IsPut, Look}
+use Rattle.tree_repair.specs.Runs.{CanRun, HasRun, IsDone, IsVisited, IsWorldRead, Job, Runs, Visit, World, line_of, look_at, other, own, world}
+use Rattle.tree_repair.proofs.SourceLemmas.{each-none, each-then}
+
+pub world-none : (w : World) → IsWorldRead w w
+world-none w = record { data_read = only_read-none w.data_dev; hash_read = only_read-none w.hash_dev; data_copies_read = each-none w.data_copies; hash_copies_read = each-none w.hash_copies }
+
+pub world-then : (a b c : World) → IsWorldRead a b → IsWorldRead b c → IsWorldRead a c
+world-then a b c p q = record {
+  data_read = only_read-then p.data_read q.data_read;
+  hash_read = only_read-then p.hash_read q.hash_read;
+  data_copies_read = each-then a.data_copies b.data_copies c.data_copies p.data_copies_read q.data_copies_read;
+  hash_copies_read = each-then a.hash_copies b.hash_copies c.hash_copies p.hash_copies_read q.hash_copies_read;
+}
+
+-- ---- one behind the other
+
+runs-read : (j : Job) (vs : List Visit) (a b c : World) → IsWorldRead a b → Runs j vs b c → Runs j vs a c
+runs-read j [] a b c read runs = world-then a b c read runs
+runs-read j (v ∷ more) a b c read (x, (y, (q, (here, rest)))) = (x, (y, (world-then a b x read q, (here, rest))))
+
+pub runs-then : (j : Job) (vs us : List Visit) (a b c : World) → Runs j vs a b → Runs j us b c → Runs j (vs ++ us) a c
+runs-then j [] us a b c p q = runs-read j us a b c p q
+runs-then j (v ∷ more) us a b c (x, (y, (read, (here, rest)))) q = (x, (y, (read, (here, runs-then j more us y b c rest q))))
+
+pub has-none : (j : Job) (w : World) (old : Option (List ℕ)) → HasRun j w w old old true
+has-none j w old = record { visits = []; runs = world-none w; done = λ ok. All-nil IsDone; printed = λ ok. Appends-nil old }
+
+pub has-read : (j : Job) (a b : World) (old : Option (List ℕ)) → IsWorldRead a b → HasRun j a b old old true
+has-read j a b old read = record { visits = []; runs = read; done = λ ok. All-nil IsDone; printed = λ ok. Appends-nil old }
+
+-- a run that came to its end goes on
+pub has-then : (j : Job) (a b c : World) (old now new : Option (List ℕ)) (ok : Bool) → HasRun j a b old now true → HasRun j b c now new ok → HasRun j a c old new ok
+has-then j a b c old now new ok p q = record {
+  visits = p.visits ++ q.visits;
+  runs = runs-then j p.visits q.visits a b c p.runs q.runs;
+  done = λ end. All-append IsDone p.visits q.visits (p.done refl) (q.done end);
+  printed = λ end. subst (Appends old new) (sym (flat_map-append (line_of j) p.visits q.visits))
+      (Appends-trans old now new (flat_map (line_of j) p.visits) (flat_map (line_of j) q.visits) (p.printed refl) (q.printed end));
+}
+
+-- one that didn't, of which no more is said
+pub has-ended : (j : Job) (a b : World) (old new : Option (List ℕ)) (vs : List Visit) → Runs j vs a b → HasRun j a b old new false
+has-ended j a b old new vs runs = record { visits = vs; runs = runs; done = λ end. absurd (false≢true end); printed = λ end. absurd (false≢true end) }
+
+-- what holds of a run that didn't come to its end holds of the result that hands its fault on
+pub ended-from : {T E : Type 0} (r : Result T E) (P : E → Type 0) (j : Job) (a b : World) (old new : Option (List ℕ)) → IsErrAnd r P → HasRun j a b old new false → HasRun j a b old new (is_ok r)
+ended-from (Ok x) P j a b old new is run = absurd is
+ended-from (Err e) P j a b old new is run = run
+
+-- one block
+pub runs-one : (j : Job) (v : Visit) (a b : World) → IsVisited j v a b → Runs j (v ∷ []) a b
+runs-one j v a b here = (a, (b, (world-none a, (here, world-none b))))
+
+pub has-one : (j : Job) (v : Visit) (a b : World) (old new : Option (List ℕ)) → IsVisited j v a b → v.done ≡ true → Appends old new (line_of j v) → HasRun j a b old new true
+has-one j v a b old new here done told = record {
+  visits = v ∷ [];
+  runs = runs-one j v a b here;
+  done = λ ok. All-cons IsDone v [] done (All-nil IsDone);
+  printed = λ ok. subst (Appends old new) (sym (append-nil (line_of j v))) told;
+}
+
+-- ---- the devices stay the same ones
+
+put-same : (write : Bool) (old : Device) (first sectors : ℕ) (bytes : List ℕ) (done : Bool) (new : Device) → IsPut write old first sectors bytes done new → IsSameDevice old new
+put-same true old first sectors bytes done new put = put.moved.same
+put-same false old first sectors bytes done new put = subst (IsSameDevice old) (sym put.0) (same-none old)
+
+mended-same : (l : Look) (bytes : List ℕ) (done : Bool) (m : Mended) → IsMended l bytes done m → IsSameDevice l.old l.new
+mended-same l bytes done mended.Good found = found.read.same
+mended-same l bytes done (mended.Copy k) found = same-then found.read.same (put-same l.write found.between l.first l.w.sectors bytes done l.new found.put)
+mended-same l bytes done mended.Lost found = found.read.same
+
+pub record AreSame (a b : World) : Type 0 where
+  pub data_same : IsSameDevice a.data_dev b.data_dev
+  pub hash_same : IsSameDevice a.hash_dev b.hash_dev
+
+are-then : (a b c : World) → AreSame a b → AreSame b c → AreSame a c
+are-then a b c p q = record { data_same = same-then p.data_same q.data_same; hash_same = same-then p.hash_same q.hash_same }
+
+pub read-same : (a b : World) → IsWorldRead a b → AreSame a b
+read-same a b read = record { data_same = read.data_read.same; hash_same = read.hash_read.same }
+
+at-same : (h : ℕ) (a b : World) → IsSameDevice (own h a) (own h b) → other h b ≡ other h a → AreSame a b
+at-same zero a b here stays = record { data_same = here; hash_same = subst (IsSameDevice a.hash_dev) (sym stays) (same-none a.hash_dev) }
+at-same (suc l) a b here stays = record { data_same = subst (IsSameDevice a.data_dev) (sym stays) (same-none a.data_dev); hash_same = here }
+
+pub visited-same : (j : Job) (v : Visit) (a b : World) → IsVisited j v a b → AreSame a b
+visited-same j v a b here = at-same v.height a b (mended-same (look_at j here.p v.height v.index a b) v.bytes v.done v.mended here.mended_as) here.other_is
+
+runs-same : (j : Job) (vs : List Visit) (a b : World) → Runs j vs a b → AreSame a b
+runs-same j [] a b read = read-same a b read
+runs-same j (v ∷ more) a b (x, (y, (read, (here, rest)))) = are-then a x b (read-same a x read) (are-then x y b (visited-same j v x y here) (runs-same j more y b rest))
+
+can-same : (j : Job) (a b : World) → AreSame a b → CanRun j a → CanRun j b
+can-same j a b same can = record {
+  valid = can.valid;
+  data_fits = omega (arith, can.data_fits, same.data_same.size);
+  tree_fits = omega (arith, can.tree_fits, same.hash_same.size);
+  data_writable = λ write. subst IsTrue (sym same.data_same.may_write) (can.data_writable write);
+  hash_writable = λ write. subst IsTrue (sym same.hash_same.may_write) (can.hash_writable write);
+  copy_small = can.copy_small;
+}
+
+pub can-later : (j : Job) (a b : World) (old new : Option (List ℕ)) (ok : Bool) → HasRun j a b old new ok → CanRun j a → CanRun j b
+can-later j a b old new ok run = can-same j a b (runs-same j run.visits a b run.runs)
+
+-- the hash device alone was read
+pub tree-read : (w : World) (d : Device) → IsOnlyRead w.hash_dev d → IsWorldRead w (world w.data_dev d w.data_copies w.hash_copies)
+tree-read w d read = record { data_read = only_read-none w.data_dev; hash_read = read; data_copies_read = each-none w.data_copies; hash_copies_read = each-none w.hash_copies }

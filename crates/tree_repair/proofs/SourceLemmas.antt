@@ -1,0 +1,83 @@
+-- Copies that are read one after another.
+use Rattle.std.proofs.Common.{◌≡◌, ◌≢◌, ◌<◌, ◌+◌, ◌-◌, ℕ, IsTrue, List, length, map, set, get_or, ap, sym, ◌∙◌, subst, refl, arith, inl, inr, Result, Ok, Err}
+use Rattle.std.specs.Prelude.{IsErrAnd, OnErr}
+use Rattle.std.specs.List.{concat}
+use Rattle.std.proofs.Math.ListN.{length-set}
+use Rattle.std.proofs.lemmas.Bool.{cases_eq, cases_lt}
+use Rattle.std.proofs.lemmas.List.{get_or-map, get_or-set_same, get_or-set_other, length-map, map-set}
+use Rattle.block_device.specs.Device.{Device, run_of}
+use Rattle.tree_shape.specs.Digests.{digest}
+use Rattle.verity_format.specs.Blocks.{IsOnlyRead}
+use Rattle.tree_path.proofs.lemmas.DeviceLemmas.{only_read-none, only_read-then, steady-then}
+use Rattle.tree_repair.specs.Sources.{AreEachRead, AreIn, AreNotIn, IsThere, IsWithout, Wanted, bytes_at}
+
+bytes-before : (a b : Device) (first n : ℕ) → IsOnlyRead a b → IsTrue a.steady → bytes_at b first n ≡ bytes_at a first n
+bytes-before a b first n read steady = ap (λ (im : List (List ℕ)). concat (run_of im first n)) (read.image steady)
+
+-- what a device hasn't, it hadn't before it was read
+pub without-before : (a b : Device) (first : ℕ) (w : Wanted) → IsOnlyRead a b → IsWithout b first w → IsWithout a first w
+without-before a b first w read without steady never fits same =
+    without (steady-then read.same steady) (read.same.never_fails never) (omega (arith, fits, read.same.size))
+    (ap (digest w.salt) (bytes-before a b first w.sectors read steady) ∙ same)
+
+pub there-before : (a b : Device) (first : ℕ) (w : Wanted) (bytes : List ℕ) → IsOnlyRead a b → IsThere b first w bytes → IsThere a first w bytes
+there-before a b first w bytes read there = record {
+  good = there.good;
+  stand = λ steady. there.stand (steady-then read.same steady) ∙ bytes-before a b first w.sectors read steady;
+}
+
+pub each-none : (old : List Device) → AreEachRead old old
+each-none old = record { count = refl; each = λ j low d. only_read-none (get_or old j d) }
+
+pub each-then : (a b c : List Device) → AreEachRead a b → AreEachRead b c → AreEachRead a c
+each-then a b c p q = record {
+  count = q.count ∙ p.count;
+  each = λ j low d. only_read-then (p.each j low d) (q.each j (omega (arith, low, p.count)) d);
+}
+
+-- what holds where a fault is handed on
+pub on_err-from : {T E : Type 0} (r : Result T E) (P : E → Type 0) (Q : Type 0) → IsErrAnd r P → Q → OnErr r Q
+on_err-from (Ok x) P Q is holds = tt
+on_err-from (Err e) P Q is holds = holds
+
+-- of devices that are seen by f, of which each was only read, one more is
+module _ {X : Type 0} (f : X → Device) (old : List Device) (xs : List X) (k : ℕ) (d v : X) (inside : k < length xs) (so_far : AreEachRead old (map f xs)) where
+  low-here : k < length old
+  low-here = omega (arith, inside, length-map xs f, so_far.count)
+
+  pub read-here : (e : Device) → IsOnlyRead (get_or old k e) (f (get_or xs k d))
+  read-here e = subst (IsOnlyRead (get_or old k e)) (get_or-map f xs k d e inside) (so_far.each k low-here e)
+
+  new-here : (e : Device) → get_or (map f (set xs k v)) k e ≡ f v
+  new-here e = ap (λ (l : List Device). get_or l k e) (map-set f xs k v) ∙ get_or-set_same (map f xs) k (f v) e (omega (arith, inside, length-map xs f))
+
+  new-other : (j : ℕ) (e : Device) → j ≢ k → get_or (map f (set xs k v)) j e ≡ get_or (map f xs) j e
+  new-other j e other = ap (λ (l : List Device). get_or l j e) (map-set f xs k v) ∙ get_or-set_other (map f xs) k j (f v) e other
+
+  pub each-next : IsOnlyRead (f (get_or xs k d)) (f v) → AreEachRead old (map f (set xs k v))
+  each-next read = record {
+    count = length-map (set xs k v) f ∙ length-set xs k v ∙ sym (length-map xs f) ∙ so_far.count;
+    each = λ j low e. elim (cases_eq j k) [
+      | inl same ↦
+          subst (λ (n : ℕ). IsOnlyRead (get_or old n e) (get_or (map f (set xs k v)) n e)) (sym same)
+          (subst (IsOnlyRead (get_or old k e)) (sym (new-here e)) (only_read-then (read-here e) read))
+      | inr other ↦ subst (IsOnlyRead (get_or old j e)) (sym (new-other j e other)) (so_far.each j low e)
+    ];
+  }
+
+  pub in-here : (first : ℕ) (w : Wanted) (bytes : List ℕ) → IsThere (f (get_or xs k d)) first w bytes → AreIn old first w (k + 1) bytes
+  in-here first w bytes there =
+      let same : k ≡ k + 1 - 1 = omega arith in
+      record {
+        some = omega arith;
+        inside = omega (arith, low-here);
+        there = λ e. subst (λ (m : ℕ). IsThere (get_or old m e) first w bytes) same (there-before (get_or old k e) (f (get_or xs k d)) first w bytes (read-here e) there);
+      }
+
+  pub not-in-next : (first : ℕ) (w : Wanted) → AreNotIn old first w k → IsWithout (f (get_or xs k d)) first w → AreNotIn old first w (k + 1)
+  not-in-next first w before without j low e = elim (cases_lt j k) [
+    | inl less ↦ before j less e
+    | inr not ↦
+        let at : k ≡ j = omega (arith, low, not) in
+        subst (λ (n : ℕ). IsWithout (get_or old n e) first w) at (without-before (get_or old k e) (f (get_or xs k d)) first w (read-here e) without)
+  ]

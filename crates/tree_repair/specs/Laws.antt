@@ -1,0 +1,72 @@
+-- What is known of blocks that were mended, and of sectors that weren't.
+use Rattle.std.specs.Prelude.{◌≡◌, ◌⊎◌, ℕ, zero, suc, ◌+◌, ◌-◌, ◌/◌, ◌<◌, ◌≤◌, IsTrue, List, [], ◌∷◌}
+use Rattle.std.specs.List.{slice_index_or}
+use Rattle.tree_shape.specs.Shape.{levels}
+use Rattle.hash_tree.specs.Chain.{ChainRecord, formed}
+use Rattle.tree_path.specs.Laws.{Collide}
+use Rattle.tree_survey.specs.Laws.{AreContents, IsChain}
+use Rattle.tree_survey.specs.Surveys.{Tree}
+use Rattle.tree_repair.specs.declared.mending.Mended.{Mended}
+use Rattle.tree_repair.specs.declared.mending.Mended.TheVariants as mended
+use Rattle.tree_repair.specs.Runs.{IsVisited, Job, Runs, Visit, World, sector_at, size_at}
+
+-- ---- blocks that were mended
+
+-- what stands in a chain so many blocks beneath its top: a hash block, or at last the content
+abbrev pub block_below : List (List ℕ) → List ℕ → ℕ → List ℕ
+block_below [] content d = content
+block_below (b ∷ path) content zero = b
+block_below (b ∷ path) content (suc d) = block_below path content d
+
+-- the block of that height in a chain
+abbrev pub block_in : Tree → ChainRecord → ℕ → List ℕ
+block_in t c h = block_below c.path c.content (levels t.shape - h)
+
+-- it was found in a copy
+pub record IsMendedIn (j : Job) (v : Visit) (w w' : World) (k : ℕ) : Type 0 where
+  pub visited : IsVisited j v w w'
+  pub is : v.mended ≡ mended.Copy k
+
+-- the bytes of a block that was mended are those of each chain that is good under the root, or two different inputs have one
+-- digest
+abbrev pub MendedBlocksAreGood : Type 0
+MendedBlocksAreGood = (j : Job) → (v : Visit) → (w w' : World) → (k : ℕ) → IsMendedIn j v w w' k → (c : ChainRecord) → IsChain j.tree v.index c
+    → (v.bytes ≡ block_in j.tree c v.height) ⊎ Collide j.tree.salt
+
+-- the same of the blocks of all data whose tree has this root
+abbrev pub MendedBlocksAreFormatted : Type 0
+MendedBlocksAreFormatted = (j : Job) → (v : Visit) → (w w' : World) → (k : ℕ) → IsMendedIn j v w w' k → (contents : List (List ℕ)) → AreContents j.tree contents
+    → (v.bytes ≡ block_in j.tree (formed j.tree.shape j.tree.salt contents v.index) v.height) ⊎ Collide j.tree.salt
+
+-- ---- sectors that weren't
+
+abbrev pub IsFound : Mended → Type 0
+IsFound mended.Good = ⊥
+IsFound (mended.Copy k) = Unit {0}
+IsFound mended.Lost = ⊥
+
+-- a sector isn't one of so many from the first on
+abbrev pub IsOutside : ℕ → ℕ → ℕ → Type 0
+IsOutside first n k = (k < first) ⊎ (first + n ≤ k)
+
+-- a sector of the data device, or of the hash device, isn't one of a block's
+abbrev pub IsOffData : Job → ℕ → ℕ → ℕ → Type 0
+IsOffData j k zero i = IsOutside (sector_at j.tree.shape zero i) (size_at j.tree.shape zero / 512) k
+IsOffData j k (suc l) i = Unit {0}
+
+abbrev pub IsOffTree : Job → ℕ → ℕ → ℕ → Type 0
+IsOffTree j k zero i = Unit {0}
+IsOffTree j k (suc l) i = IsOutside (sector_at j.tree.shape (suc l) i) (size_at j.tree.shape (suc l) / 512) k
+
+-- it is in none of the blocks that were mended
+abbrev pub AreOff : (ℕ → ℕ → Type 0) → List Visit → Type 0
+AreOff P [] = Unit {0}
+AreOff P (v ∷ more) = (IsFound v.mended → P v.height v.index) × AreOff P more
+
+-- a sector in no block that was mended is as it was, on a steady device
+pub record StaysElsewhere (j : Job) (visits : List Visit) (w w' : World) : Type 0 where
+  pub data_stays : IsTrue w.data_dev.steady → (k : ℕ) → AreOff (IsOffData j k) visits → (d : List ℕ) → slice_index_or w'.data_dev.image k d ≡ slice_index_or w.data_dev.image k d
+  pub tree_stays : IsTrue w.hash_dev.steady → (k : ℕ) → AreOff (IsOffTree j k) visits → (d : List ℕ) → slice_index_or w'.hash_dev.image k d ≡ slice_index_or w.hash_dev.image k d
+
+abbrev pub OtherSectorsStay : Type 0
+OtherSectorsStay = (j : Job) → (visits : List Visit) → (w w' : World) → Runs j visits w w' → StaysElsewhere j visits w w'

@@ -1,0 +1,62 @@
+-- What comes of a block that is looked at: it is good, or it isn't and was found elsewhere, or it is lost.
+use Rattle.std.specs.Prelude.{◌≡◌, ℕ, ◌/◌, Bool, true, false, IsTrue, List, length}
+use Rattle.block_device.specs.Device.{Device, IsWritten, sectors_of, spliced}
+use Rattle.tree_shape.specs.Digests.{digest}
+use Rattle.verity_format.specs.Blocks.{IsOnlyRead}
+use Rattle.tree_repair.specs.declared.mending.Mended.{Mended}
+use Rattle.tree_repair.specs.declared.mending.Mended.TheVariants as mended
+use Rattle.tree_repair.specs.Sources.{AreEachRead, AreIn, AreNotIn, IsBad, IsThere, Wanted}
+
+-- A device and the copies before and after, the block's first sector on each, what should stand there, and whether it may be
+-- written.
+pub record Look : Type 0 where
+  pub old : Device
+  pub new : Device
+  pub copies : List Device
+  pub copies' : List Device
+  pub first : ℕ
+  pub copy_first : ℕ
+  pub w : Wanted
+  pub write : Bool
+
+-- a block of those bytes was written, or the write failed
+pub record IsBlockPut (old : Device) (first sectors : ℕ) (bytes : List ℕ) (done : Bool) (new : Device) : Type 0 where
+  pub moved : IsWritten old first sectors done new
+  pub image : IsTrue done → IsTrue old.steady → new.image ≡ spliced old.image first (sectors_of sectors bytes)
+
+-- the same where anything may be written
+abbrev pub IsPut : Bool → Device → ℕ → ℕ → List ℕ → Bool → Device → Type 0
+IsPut true old first sectors bytes done new = IsBlockPut old first sectors bytes done new
+IsPut false old first sectors bytes done new = (new ≡ old) × (done ≡ true)
+
+-- it is good: nothing is written
+pub record IsFoundGood (l : Look) (bytes : List ℕ) : Type 0 where
+  pub read : IsOnlyRead l.old l.new
+  pub copies_read : AreEachRead l.copies l.copies'
+  pub there : IsThere l.old l.first l.w bytes
+
+-- it isn't, and copy k has it: its bytes were written, or the write failed
+pub record IsFoundIn (l : Look) (k : ℕ) (bytes : List ℕ) (done : Bool) : Type 0 where
+  pub between : Device
+  pub read : IsOnlyRead l.old between
+  pub bad : IsBad l.old l.first l.w between
+  pub copies_read : AreEachRead l.copies l.copies'
+  pub copy : AreIn l.copies l.copy_first l.w k bytes
+  pub good : digest l.w.salt bytes ≡ l.w.digest_is
+  pub put : IsPut l.write between l.first l.w.sectors bytes done l.new
+
+-- it isn't, and no copy has it: nothing is written
+pub record IsFoundNowhere (l : Look) : Type 0 where
+  pub read : IsOnlyRead l.old l.new
+  pub bad : IsBad l.old l.first l.w l.new
+  pub copies_read : AreEachRead l.copies l.copies'
+  pub none : AreNotIn l.copies l.copy_first l.w (length l.copies)
+
+abbrev pub IsMended : Look → List ℕ → Bool → Mended → Type 0
+IsMended l bytes done mended.Good = IsFoundGood l bytes
+IsMended l bytes done (mended.Copy k) = IsFoundIn l k bytes done
+IsMended l bytes done mended.Lost = IsFoundNowhere l
+
+-- it was found in a copy, but can't be written
+abbrev pub IsUnmended : Look → Type 0
+IsUnmended l = (k : ℕ) × ((bytes : List ℕ) × IsFoundIn l k bytes false)

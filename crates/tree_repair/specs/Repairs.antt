@@ -1,0 +1,40 @@
+-- What a repair of an image did.
+use Rattle.std.specs.Prelude.{◌⊎◌, ℕ, Bool, true, false, IsTrue, List, Option}
+use Rattle.block_device.specs.Device.{Device}
+use Rattle.verity_format.specs.Superblock.{SuperRecord, shape_of}
+use Rattle.tree_survey.specs.declared.fault.SurveyFault.TheVariants as survey
+use Rattle.tree_survey.specs.Causes.{AreImages, IsImageCause as IsSuperblockCause}
+use Rattle.tree_repair.specs.declared.fault.RepairFault.{RepairFault}
+use Rattle.tree_repair.specs.declared.fault.RepairFault.TheVariants.{Image, Write}
+use Rattle.tree_repair.specs.declared.repair.Plan.{Plan}
+use Rattle.tree_repair.specs.Runs.{HasRun, IsWorldRead, Job, World}
+
+-- that of the tree of a superblock under the plan's root
+abbrev pub job_of : SuperRecord → Plan → Job
+job_of s plan = record { tree = record { shape = shape_of s; salt = s.salt; root = plan.root }; copy_first = plan.copy_first; write = plan.write }
+
+-- the devices may be written if anything may
+pub record IsAllowed (write : Bool) (data_dev hash_dev : Device) : Type 0 where
+  pub data_writable : IsTrue write → IsTrue data_dev.may_write
+  pub hash_writable : IsTrue write → IsTrue hash_dev.may_write
+
+-- the superblock was read, and then the blocks of its tree were gone over
+pub record Repairs (plan : Plan) (w w' : World) (old new : Option (List ℕ)) (ok : Bool) : Type 0 where
+  pub s : SuperRecord
+  pub images : AreImages w.data_dev w.hash_dev s
+  pub run : HasRun (job_of s plan) w w' old new ok
+
+-- to the end
+abbrev pub IsRepair : Plan → World → World → Option (List ℕ) → Option (List ℕ) → Type 0
+IsRepair plan w w' old new = Repairs plan w w' old new true
+
+-- ---- why there was nothing to be gone over
+
+-- there is no superblock, or data or tree go past their device
+abbrev pub IsImageCause : Device → Device → Device → RepairFault → Type 0
+IsImageCause data_dev hash_dev hash_dev' (Image fault) = IsSuperblockCause data_dev hash_dev hash_dev' (survey.Image fault)
+IsImageCause data_dev hash_dev hash_dev' Write = ⊥
+
+-- so, and the devices were only read; or the blocks were gone over, and not to the end
+abbrev pub IsUnrepaired : Plan → World → World → Option (List ℕ) → Option (List ℕ) → RepairFault → Type 0
+IsUnrepaired plan w w' old new fault = (IsWorldRead w w' × IsImageCause w.data_dev w.hash_dev w'.hash_dev fault) ⊎ Repairs plan w w' old new false

@@ -1,0 +1,159 @@
+-- A run over the blocks of an image, each with what came of it.
+use Rattle.std.specs.Prelude.{◌≡◌, ℕ, zero, suc, ◌+◌, ◌*◌, ◌/◌, ◌^◌, ◌<◌, ◌≤◌, Bool, true, false, IsTrue, List, [], ◌∷◌, ◌++◌, Option, All, codes, decimal}
+use Rattle.std.specs.List.{flat_map}
+use Rattle.std.specs.Io.KnownBytes.{Appends}
+use Rattle.block_device.specs.Device.{Device}
+use Rattle.tree_shape.specs.Shape.{ShapeRecord, IsShape, ancestor, position}
+use Rattle.verity_format.specs.Blocks.{IsOnlyRead}
+use Rattle.verity_format.specs.Image.{data_sectors, tree_sectors}
+use Rattle.tree_path.specs.Path.{PathRecord, digest_on}
+use Rattle.tree_survey.specs.Surveys.{Tree, IsWay}
+use Rattle.tree_repair.specs.declared.mending.Mended.{Mended}
+use Rattle.tree_repair.specs.declared.mending.Mended.TheVariants as mended
+use Rattle.tree_repair.specs.Mending.{Look, IsMended}
+use Rattle.tree_repair.specs.Sources.{AreEachRead, wanted}
+
+-- the data device, the hash device and copies of each
+pub record World : Type 0 where
+  pub data_dev : Device
+  pub hash_dev : Device
+  pub data_copies : List Device
+  pub hash_copies : List Device
+
+abbrev pub world : Device → Device → List Device → List Device → World
+world data_dev hash_dev data_copies hash_copies = record { data_dev = data_dev; hash_dev = hash_dev; data_copies = data_copies; hash_copies = hash_copies }
+
+-- a tree, the sector at which hash blocks begin on a copy, and whether anything may be written
+pub record Job : Type 0 where
+  pub tree : Tree
+  pub copy_first : ℕ
+  pub write : Bool
+
+-- ---- a block: a data block has height 0, a hash block of level l height l + 1; its index is that of the first data block beneath
+
+-- the device that has it, and the other one
+abbrev pub own : ℕ → World → Device
+own zero w = w.data_dev
+own (suc l) w = w.hash_dev
+
+abbrev pub other : ℕ → World → Device
+other zero w = w.hash_dev
+other (suc l) w = w.data_dev
+
+-- the copies of that, and those of the other one
+abbrev pub own_copies : ℕ → World → List Device
+own_copies zero w = w.data_copies
+own_copies (suc l) w = w.hash_copies
+
+abbrev pub other_copies : ℕ → World → List Device
+other_copies zero w = w.hash_copies
+other_copies (suc l) w = w.data_copies
+
+-- how many bytes it has
+abbrev pub size_at : ShapeRecord → ℕ → ℕ
+size_at s zero = s.data_block
+size_at s (suc l) = s.hash_block
+
+-- its first sector, there and on a copy
+abbrev pub sector_at : ShapeRecord → ℕ → ℕ → ℕ
+sector_at s zero i = i * (s.data_block / 512)
+sector_at s (suc l) i = position s l (ancestor s (l + 1) i) * (s.hash_block / 512)
+
+abbrev pub copy_sector_at : Job → ℕ → ℕ → ℕ
+copy_sector_at j zero i = sector_at j.tree.shape zero i
+copy_sector_at j (suc l) i = j.copy_first + sector_at j.tree.shape (suc l) i
+
+-- a look at it, where a path leads to the digest that should be its own
+abbrev pub look_at : Job → PathRecord → ℕ → ℕ → World → World → Look
+look_at j p h i w w' = record {
+  old = own h w;
+  new = own h w';
+  copies = own_copies h w;
+  copies' = own_copies h w';
+  first = sector_at j.tree.shape h i;
+  copy_first = copy_sector_at j h i;
+  w = wanted j.tree.salt (digest_on p i h) (size_at j.tree.shape h / 512);
+  write = j.write;
+}
+
+-- ---- one after another
+
+-- a block, what came of it, the bytes that are good there, and whether none of its writes failed
+pub record Visit : Type 0 where
+  pub height : ℕ
+  pub index : ℕ
+  pub mended : Mended
+  pub bytes : List ℕ
+  pub done : Bool
+
+abbrev pub visit : ℕ → ℕ → Mended → List ℕ → Bool → Visit
+visit height index mended bytes done = record { height = height; index = index; mended = mended; bytes = bytes; done = done }
+
+-- Good hash blocks lead from the root to the block's digest, and by that it was found good, mended or lost. The devices that
+-- haven't such blocks weren't asked.
+pub record IsVisited (j : Job) (v : Visit) (w w' : World) : Type 0 where
+  pub inside : v.index < j.tree.shape.blocks
+  pub p : PathRecord
+  pub way : IsWay j.tree v.index v.height p
+  pub mended_as : IsMended (look_at j p v.height v.index w w') v.bytes v.done v.mended
+  pub other_is : other v.height w' ≡ other v.height w
+  pub copies_are : other_copies v.height w' ≡ other_copies v.height w
+
+-- all devices were only read
+pub record IsWorldRead (w w' : World) : Type 0 where
+  pub data_read : IsOnlyRead w.data_dev w'.data_dev
+  pub hash_read : IsOnlyRead w.hash_dev w'.hash_dev
+  pub data_copies_read : AreEachRead w.data_copies w'.data_copies
+  pub hash_copies_read : AreEachRead w.hash_copies w'.hash_copies
+
+-- these blocks were visited, and all else was only read
+abbrev pub Runs : Job → List Visit → World → World → Type 0
+Runs j [] w w' = IsWorldRead w w'
+Runs j (v ∷ more) w w' = (a : World) × ((b : World) × (IsWorldRead w a × (IsVisited j v a b × Runs j more b w')))
+
+-- ---- what is printed
+
+abbrev pub verb : Bool → List ℕ
+verb true = codes "repaired"
+verb false = codes "repairable"
+
+-- `VERB data INDEX copy K` or `VERB hash LEVEL NUMBER copy K`
+unfoldable pub data_line : Bool → ℕ → ℕ → List ℕ
+data_line write i k = verb write ++ (codes " data " ++ (decimal i ++ (codes " copy " ++ (decimal k ++ codes "\n"))))
+
+unfoldable pub hash_line : Bool → ℕ → ℕ → ℕ → List ℕ
+hash_line write l n k = verb write ++ (codes " hash " ++ (decimal l ++ (codes " " ++ (decimal n ++ (codes " copy " ++ (decimal k ++ codes "\n"))))))
+
+abbrev pub copy_line : Job → ℕ → ℕ → ℕ → List ℕ
+copy_line j zero i k = data_line j.write i k
+copy_line j (suc l) i k = hash_line j.write l (ancestor j.tree.shape (l + 1) i) k
+
+-- one line for a block that was mended
+abbrev pub mended_line : Job → ℕ → ℕ → Mended → List ℕ
+mended_line j h i mended.Good = []
+mended_line j h i (mended.Copy k) = copy_line j h i k
+mended_line j h i mended.Lost = []
+
+abbrev pub line_of : Job → Visit → List ℕ
+line_of j v = mended_line j v.height v.index v.mended
+
+-- ---- the whole
+
+abbrev pub IsDone : Visit → Type 0
+IsDone v = v.done ≡ true
+
+-- A run, whether it came to its end or not. If so, no write failed, and a line was printed for each block that was mended.
+pub record HasRun (j : Job) (w w' : World) (old new : Option (List ℕ)) (ok : Bool) : Type 0 where
+  pub visits : List Visit
+  pub runs : Runs j visits w w'
+  pub done : IsTrue ok → All IsDone visits
+  pub printed : IsTrue ok → Appends old new (flat_map (line_of j) visits)
+
+-- data and tree lie on the devices, which may be written if anything may
+pub record CanRun (j : Job) (w : World) : Type 0 where
+  pub valid : IsShape j.tree.shape
+  pub data_fits : data_sectors j.tree.shape ≤ w.data_dev.size
+  pub tree_fits : tree_sectors j.tree.shape ≤ w.hash_dev.size
+  pub data_writable : IsTrue j.write → IsTrue w.data_dev.may_write
+  pub hash_writable : IsTrue j.write → IsTrue w.hash_dev.may_write
+  pub copy_small : j.copy_first ≤ 2 ^ 55

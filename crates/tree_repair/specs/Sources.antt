@@ -1,0 +1,53 @@
+-- Where the bytes of a block are sought, and what a read of them tells.
+use Rattle.std.specs.Prelude.{◌≡◌, ◌≢◌, ◌⊎◌, ℕ, ◌+◌, ◌-◌, ◌<◌, ◌≤◌, IsTrue, List, length}
+use Rattle.std.specs.List.{concat, slice_index_or}
+use Rattle.block_device.specs.Device.{Device, HasFailed, run_of}
+use Rattle.tree_shape.specs.Digests.{digest}
+use Rattle.verity_format.specs.Blocks.{IsOnlyRead}
+
+-- the bytes that should stand somewhere: so many sectors, of that digest
+pub record Wanted : Type 0 where
+  pub salt : List ℕ
+  pub digest_is : List ℕ
+  pub sectors : ℕ
+
+abbrev pub wanted : List ℕ → List ℕ → ℕ → Wanted
+wanted salt digest_is sectors = record { salt = salt; digest_is = digest_is; sectors = sectors }
+
+-- n sectors of a device from the first on, joined
+abbrev pub bytes_at : Device → ℕ → ℕ → List ℕ
+bytes_at device first n = concat (run_of device.image first n)
+
+-- these are the bytes; over a steady device they stand there
+pub record IsThere (device : Device) (first : ℕ) (w : Wanted) (bytes : List ℕ) : Type 0 where
+  pub good : digest w.salt bytes ≡ w.digest_is
+  pub stand : IsTrue device.steady → bytes ≡ bytes_at device first w.sectors
+
+-- other bytes were read there; over a steady device they stand there
+pub record IsOther (device : Device) (first : ℕ) (w : Wanted) : Type 0 where
+  pub bytes : List ℕ
+  pub other : digest w.salt bytes ≢ w.digest_is
+  pub stand : IsTrue device.steady → bytes ≡ bytes_at device first w.sectors
+
+-- they weren't read there: the device failed, or gave other bytes
+abbrev pub IsBad : Device → ℕ → Wanted → Device → Type 0
+IsBad old first w new = HasFailed old new ⊎ IsOther old first w
+
+-- a steady device that can't fail hasn't them there
+abbrev pub IsWithout : Device → ℕ → Wanted → Type 0
+IsWithout device first w = IsTrue device.steady → IsTrue device.never_fails → first + w.sectors ≤ device.size → digest w.salt (bytes_at device first w.sectors) ≢ w.digest_is
+
+-- each of some devices was only read
+pub record AreEachRead (old new : List Device) : Type 0 where
+  pub count : length new ≡ length old
+  pub each : (j : ℕ) → j < length old → (d : Device) → IsOnlyRead (slice_index_or old j d) (slice_index_or new j d)
+
+-- copy n, counted from 1, has the bytes
+pub record AreIn (copies : List Device) (first : ℕ) (w : Wanted) (n : ℕ) (bytes : List ℕ) : Type 0 where
+  pub some : 0 < n
+  pub inside : n ≤ length copies
+  pub there : (d : Device) → IsThere (slice_index_or copies (n - 1) d) first w bytes
+
+-- none of the first k has them
+abbrev pub AreNotIn : List Device → ℕ → Wanted → ℕ → Type 0
+AreNotIn copies first w k = (j : ℕ) → j < k → (d : Device) → IsWithout (slice_index_or copies j d) first w

@@ -1,0 +1,21 @@
+//! Laws of repairs: each function's contract is the law, and its call gives it.
+ghost use Rattle.tree_repair.specs.Laws.{MendedBlocksAreFormatted, MendedBlocksAreGood, OtherSectorsStay};
+
+use hash_tree::laws::formed_chains_are_good;
+
+/// A block that was mended is that of each chain that is good under the root, or two different inputs have one digest.
+pub fn mended_blocks_are_good()
+    ensures { MendedBlocksAreGood }
+{}
+
+/// The same of all data whose trees have this root.
+pub fn mended_blocks_are_formatted()
+    ensures { MendedBlocksAreFormatted }
+{
+    formed_chains_are_good()
+}
+
+/// A sector that is in no block that was mended is as it was.
+pub fn other_sectors_stay()
+    ensures { OtherSectorsStay }
+{}

@@ -1,0 +1,77 @@
+//! A block that is looked at, and written where it isn't good and was found elsewhere.
+ghost use Rattle.std.specs.Prelude.{◌≡◌, ◌/◌, ◌+◌, ◌<◌, ◌^◌, ℕ, List, true, IfOk, IsTrue, OnErr, OnOk, is_ok, length, map};
+ghost use Rattle.block_device.specs.Device.{IsInside};
+ghost use Rattle.tree_repair.specs.Mending.{IsMended, IsPut, IsUnmended};
+ghost use Rattle.tree_repair.specs.Looks.{look};
+
+use crate::seeking::{is_there, seek_copies};
+use block_device::{BlockDev, DeviceFault};
+use tree_shape::{Digest, Salt};
+
+/// What came of a block.
+#[derive(Clone, Copy, Debug, PartialEq, Eq)]
+pub enum Mended {
+    /// It is good.
+    Good,
+    /// It wasn't, and the copy of that number, counted from 1, has it.
+    Copy(usize),
+    /// It isn't, and was found nowhere.
+    Lost,
+}
+
+/// The first sector of a block on its device and on a copy, and its digest.
+#[derive(Clone, Copy)]
+pub(crate) struct Sought {
+    pub(crate) first: u64,
+    pub(crate) copy_first: u64,
+    pub(crate) digest: Digest,
+}
+
+/// Reads a block. Where it hasn't its digest it is sought in the copies, and written if it may be.
+pub(crate) fn mend<B: BlockDev, C: BlockDev>(
+    device: &mut B,
+    copies: &mut [C],
+    sought: &Sought,
+    salt: &Salt,
+    block: &mut [u8],
+    write: bool,
+) -> Result<Mended, DeviceFault>
+    requires inside { IsInside (B.state device.old) sought.now.first (length block.old) }
+    requires small { sought.now.copy_first + length block.old / 512 < 2 ^ 64 }
+    requires allowed { IsTrue write → IsTrue (B.state device.old).may_write }
+    ensures ok { IfOk result (λ m. (bytes : List ℕ) × IsMended (look sought.now salt.now (length block.old / 512) write (B.state device.old) (B.state device.new) (map C.state copies.old) (map C.state copies.new)) bytes true m) }
+    ensures err { OnErr result (IsUnmended (look sought.now salt.now (length block.old / 512) write (B.state device.old) (B.state device.new) (map C.state copies.old) (map C.state copies.new))) }
+{
+    let Sought {
+        first,
+        copy_first,
+        digest,
+    } = *sought;
+    if is_there(device, first, salt, &digest, block) {
+        return Ok(Mended::Good);
+    }
+    match seek_copies(copies, copy_first, salt, &digest, block) {
+        None => Ok(Mended::Lost),
+        Some(number) => {
+            put(device, first, block, write)?;
+            Ok(Mended::Copy(number))
+        }
+    }
+}
+
+// Writes a block, if it may be written.
+fn put<B: BlockDev>(
+    device: &mut B,
+    first: u64,
+    block: &[u8],
+    write: bool,
+) -> Result<(), DeviceFault>
+    requires inside { IsInside (B.state device.old) first (length block.now) }
+    requires allowed { IsTrue write → IsTrue (B.state device.old).may_write }
+    ensures { IsPut write (B.state device.old) first (length block.now / 512) block.now (is_ok result) (B.state device.new) }
+{
+    if !write {
+        return Ok(());
+    }
+    device.write(first, block)
+}

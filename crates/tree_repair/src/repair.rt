@@ -1,0 +1,123 @@
+//! An image, repaired from the root down.
+ghost use Rattle.std.specs.Prelude.{◌≡◌, ◌≤◌, ◌^◌, IfErr, IfOk, OnOk, is_ok, map};
+ghost use Rattle.tree_shape.specs.Shape.{IsShape};
+ghost use Rattle.verity_format.specs.Blocks.{IsOnlyRead};
+ghost use Rattle.verity_format.specs.Superblock.{shape_of};
+ghost use Rattle.tree_survey.specs.Causes.{AreImages};
+ghost use Rattle.tree_repair.specs.Jobs.{job};
+ghost use Rattle.tree_repair.specs.Repairs.{IsAllowed, IsImageCause, IsRepair, IsUnrepaired, job_of};
+ghost use Rattle.tree_repair.specs.Runs.{CanRun, HasRun, world};
+
+use crate::fault::RepairFault;
+use crate::levels::repair_height;
+use crate::place::Repair;
+use block_device::BlockDev;
+use counted_io::Counted;
+use std::alloc::Global;
+use std::io::Write;
+use tree_shape::Digest;
+use verity_format::{Superblock, VerifyFault, data_sectors, read_superblock, tree_sectors};
+
+/// The root digest, the sector of 512 bytes at which a copy has the hash image, and whether anything may be written.
+#[derive(Clone, Copy, Debug, PartialEq, Eq)]
+pub struct Plan {
+    pub root: Digest,
+    pub copy_first: u64,
+    pub write: bool,
+}
+
+/// Goes over an image from the root down, and looks at each block to which good hash blocks lead. One that isn't good is
+/// sought in the copies, and written where one has it, if anything may be written. A line is printed for each such block.
+pub fn repair_image<D: BlockDev, H: BlockDev, C: BlockDev, W: Write>(
+    alloc: Global,
+    data_dev: &mut D,
+    hash_dev: &mut H,
+    data_copies: &mut [C],
+    hash_copies: &mut [C],
+    plan: Plan,
+    writer: &mut Counted<W>,
+) -> Result<(), RepairFault>
+    requires first { plan.copy_first ≤ 2 ^ 55 }
+    requires allowed { IsAllowed plan.write (D.state data_dev.old) (H.state hash_dev.old) }
+    ensures ok { OnOk result (IsRepair plan (world (D.state data_dev.old) (H.state hash_dev.old) (map C.state data_copies.old) (map C.state hash_copies.old)) (world (D.state data_dev.new) (H.state hash_dev.new) (map C.state data_copies.new) (map C.state hash_copies.new)) (W.contents writer.old.inner) (W.contents writer.new.inner)) }
+    ensures err { IfErr result (IsUnrepaired plan (world (D.state data_dev.old) (H.state hash_dev.old) (map C.state data_copies.old) (map C.state hash_copies.old)) (world (D.state data_dev.new) (H.state hash_dev.new) (map C.state data_copies.new) (map C.state hash_copies.new)) (W.contents writer.old.inner) (W.contents writer.new.inner)) }
+{
+    let superblock = superblock_of(data_dev, hash_dev)?;
+    let repair = repair_of(&superblock, &plan);
+    repair_heights(
+        alloc,
+        &repair,
+        data_dev,
+        hash_dev,
+        data_copies,
+        hash_copies,
+        writer,
+    )
+}
+
+// What is repaired by a plan.
+fn repair_of(superblock: &Superblock, plan: &Plan) -> Repair
+    ensures job { job result ≡ job_of superblock.now plan.now }
+    ensures valid { IsShape (shape_of superblock.now) }
+{
+    let shape = superblock.shape();
+    let _blocks = shape.blocks();
+    Repair {
+        shape,
+        salt: superblock.salt(),
+        root: plan.root,
+        copy_first: plan.copy_first,
+        write: plan.write,
+    }
+}
+
+// The superblock of the hash device, where data and tree lie on the devices.
+fn superblock_of<D: BlockDev, H: BlockDev>(
+    data_dev: &D,
+    hash_dev: &mut H,
+) -> Result<Superblock, RepairFault>
+    ensures read { IsOnlyRead (H.state hash_dev.old) (H.state hash_dev.new) }
+    ensures ok { IfOk result (AreImages (D.state data_dev.now) (H.state hash_dev.old)) }
+    ensures err { IfErr result (IsImageCause (D.state data_dev.now) (H.state hash_dev.old) (H.state hash_dev.new)) }
+{
+    let superblock = read_superblock(hash_dev)?;
+    let shape = superblock.shape();
+    if data_dev.sectors() < data_sectors(&shape) {
+        return Err(RepairFault::Image(VerifyFault::TooSmall));
+    }
+    if hash_dev.sectors() < tree_sectors(&shape) {
+        return Err(RepairFault::Image(VerifyFault::TooSmall));
+    }
+    Ok(superblock)
+}
+
+// Goes over all heights, from the top one down to the data.
+fn repair_heights<D: BlockDev, H: BlockDev, C: BlockDev, W: Write>(
+    alloc: Global,
+    repair: &Repair,
+    data_dev: &mut D,
+    hash_dev: &mut H,
+    data_copies: &mut [C],
+    hash_copies: &mut [C],
+    writer: &mut Counted<W>,
+) -> Result<(), RepairFault>
+    requires { CanRun (job repair.now) (world (D.state data_dev.old) (H.state hash_dev.old) (map C.state data_copies.old) (map C.state hash_copies.old)) }
+    ensures { HasRun (job repair.now) (world (D.state data_dev.old) (H.state hash_dev.old) (map C.state data_copies.old) (map C.state hash_copies.old)) (world (D.state data_dev.new) (H.state hash_dev.new) (map C.state data_copies.new) (map C.state hash_copies.new)) (W.contents writer.old.inner) (W.contents writer.new.inner) (is_ok result) }
+{
+    let levels = repair.shape.levels();
+    let mut height = levels + 1;
+    'heights: while height > 0 {
+        height -= 1;
+        repair_height(
+            alloc,
+            repair,
+            height,
+            data_dev,
+            hash_dev,
+            data_copies,
+            hash_copies,
+            writer,
+        )?;
+    }
+    Ok(())
+}

@@ -1,0 +1,80 @@
+//! A line for each block that was mended.
+ghost use Rattle.std.specs.Prelude.{◌≡◌, ◌<◌};
+ghost use Rattle.counted_io.specs.Counted.{Writes};
+ghost use Rattle.tree_repair.specs.Jobs.{job};
+ghost use Rattle.tree_repair.specs.Runs.{copy_line, data_line, hash_line, mended_line, verb};
+
+use crate::mending::Mended;
+use crate::place::{Place, Repair};
+use counted_io::{Counted, WriteFault};
+use std::io::Write;
+
+/// The line of a block that was mended; else nothing.
+pub(crate) fn say_mended<W: Write>(
+    writer: &mut Counted<W>,
+    repair: &Repair,
+    place: Place,
+    mended: Mended,
+) -> Result<(), WriteFault>
+    requires { place.index < repair.now.shape.blocks }
+    ensures { Writes W.contents writer.old writer.new (mended_line (job repair.now) place.height place.index mended) result }
+{
+    match mended {
+        Mended::Good => writer.put(b""),
+        Mended::Copy(number) => say_copy(writer, repair, place, number),
+        Mended::Lost => writer.put(b""),
+    }
+}
+
+fn say_copy<W: Write>(
+    writer: &mut Counted<W>,
+    repair: &Repair,
+    place: Place,
+    number: usize,
+) -> Result<(), WriteFault>
+    requires { place.index < repair.now.shape.blocks }
+    ensures { Writes W.contents writer.old writer.new (copy_line (job repair.now) place.height place.index number) result }
+{
+    let Place { height, index } = place;
+    if height == 0 {
+        return say_data(writer, repair.write, index, number);
+    }
+    let level = height - 1;
+    let block = repair.shape.block_on_path(level, index);
+    say_hash(writer, repair.write, level, block, number)
+}
+
+fn verb(write: bool) -> &'static str
+    ensures { result.now ≡ verb write }
+{
+    if write { "repaired" } else { "repairable" }
+}
+
+// `VERB data INDEX copy K`
+#[tactic(auto, unfolding(crate::specs::Runs::data_line))]
+fn say_data<W: Write>(
+    writer: &mut Counted<W>,
+    write: bool,
+    index: u64,
+    number: usize,
+) -> Result<(), WriteFault>
+    ensures { Writes W.contents writer.old writer.new (data_line write index number) result }
+{
+    let verb = verb(write);
+    writer.print(format_args!("{verb} data {index} copy {number}\n"))
+}
+
+// `VERB hash LEVEL NUMBER copy K`
+#[tactic(auto, unfolding(crate::specs::Runs::hash_line))]
+fn say_hash<W: Write>(
+    writer: &mut Counted<W>,
+    write: bool,
+    level: u32,
+    block: u64,
+    number: usize,
+) -> Result<(), WriteFault>
+    ensures { Writes W.contents writer.old writer.new (hash_line write level block number) result }
+{
+    let verb = verb(write);
+    writer.print(format_args!("{verb} hash {level} {block} copy {number}\n"))
+}

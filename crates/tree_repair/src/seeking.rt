@@ -1,0 +1,81 @@
+//! The bytes of a block, sought by their digest.
+ghost use Rattle.std.specs.Prelude.{◌≡◌, ◌/◌, ◌%◌, ◌+◌, ◌<◌, ◌^◌, false, IfNone, IfSome, IsTrue, length, map};
+ghost use Rattle.std.specs.Str.{bytes_eq};
+ghost use Rattle.block_device.specs.Device.{IsInside};
+ghost use Rattle.verity_format.specs.Blocks.{IsOnlyRead};
+ghost use Rattle.tree_repair.specs.Sources.{AreEachRead, AreIn, AreNotIn, IsBad, IsThere, IsWithout, wanted};
+
+use block_device::BlockDev;
+use tree_shape::{Digest, Salt};
+
+/// Reads the sectors from the first on that fill `block`, and tells whether they have that digest; not so where the read fails.
+pub(crate) fn is_there<B: BlockDev>(
+    device: &mut B,
+    first: u64,
+    salt: &Salt,
+    digest: &Digest,
+    block: &mut [u8],
+) -> bool
+    requires { IsInside (B.state device.old) first (length block.old) }
+    ensures read { IsOnlyRead (B.state device.old) (B.state device.new) }
+    ensures good { IsTrue result → IsThere (B.state device.old) first (wanted salt.now digest.now (length block.old / 512)) block.new }
+    ensures bad { result ≡ false → IsBad (B.state device.old) first (wanted salt.now digest.now (length block.old / 512)) (B.state device.new) }
+    ensures sure { result ≡ false → IsWithout (B.state device.old) first (wanted salt.now digest.now (length block.old / 512)) }
+{
+    match device.read(first, block) {
+        Ok(()) => is_same(&salt.digest(block), digest),
+        Err(_) => false,
+    }
+}
+
+fn is_same(a: &Digest, b: &Digest) -> bool
+    ensures { result ≡ bytes_eq a.now b.now }
+{
+    a == b
+}
+
+/// The same where the device may end before.
+fn has<B: BlockDev>(
+    device: &mut B,
+    first: u64,
+    salt: &Salt,
+    digest: &Digest,
+    block: &mut [u8],
+) -> bool
+    requires some { 0 < length block.old }
+    requires whole { length block.old % 512 ≡ 0 }
+    requires small { first + length block.old / 512 < 2 ^ 64 }
+    ensures read { IsOnlyRead (B.state device.old) (B.state device.new) }
+    ensures good { IsTrue result → IsThere (B.state device.old) first (wanted salt.now digest.now (length block.old / 512)) block.new }
+    ensures sure { result ≡ false → IsWithout (B.state device.old) first (wanted salt.now digest.now (length block.old / 512)) }
+{
+    let sectors = (block.len() / 512) as u64;
+    if device.sectors() < first + sectors {
+        return false;
+    }
+    is_there(device, first, salt, digest, block)
+}
+
+/// The number of the first copy, counted from 1, in which the sectors from that one on have the digest; they are in `block`
+/// then.
+pub(crate) fn seek_copies<C: BlockDev>(
+    copies: &mut [C],
+    first: u64,
+    salt: &Salt,
+    digest: &Digest,
+    block: &mut [u8],
+) -> Option<usize>
+    requires some { 0 < length block.old }
+    requires whole { length block.old % 512 ≡ 0 }
+    requires small { first + length block.old / 512 < 2 ^ 64 }
+    ensures read { AreEachRead (map C.state copies.old) (map C.state copies.new) }
+    ensures found { IfSome result (λ n. AreIn (map C.state copies.old) first (wanted salt.now digest.now (length block.old / 512)) n block.new) }
+    ensures none { IfNone result (AreNotIn (map C.state copies.old) first (wanted salt.now digest.now (length block.old / 512)) (length copies.old)) }
+{
+    'copies: for k in 0..copies.len() {
+        if has(&mut copies[k], first, salt, digest, block) {
+            return Some(k + 1);
+        }
+    }
+    None
+}

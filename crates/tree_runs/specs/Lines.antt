@@ -1,0 +1,24 @@
+-- Lines that are told while trees are gone over.
+use Rattle.std.specs.Prelude.{ℕ, Bool, true, false, List}
+use Rattle.std.specs.List.{flat_map, list_any}
+use Rattle.tree_runs.specs.declared.line.Line.{Line}
+use Rattle.tree_runs.specs.declared.line.Line.TheVariants.{Run, More, Hash}
+use Rattle.tree_runs.specs.Texts.{run_text, more_text, hash_text}
+
+abbrev pub line_text : Line → List ℕ
+line_text (Run run) = run_text run
+line_text More = more_text
+line_text (Hash level number) = hash_text level number
+
+-- one line behind another
+abbrev pub lines_text : List Line → List ℕ
+lines_text lines = flat_map line_text lines
+
+abbrev pub is_more : Line → Bool
+is_more More = true
+is_more (Run run) = false
+is_more (Hash level number) = false
+
+-- some line says that there are more runs
+abbrev pub says_more : List Line → Bool
+says_more lines = list_any is_more lines

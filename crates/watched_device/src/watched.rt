@@ -1,0 +1,96 @@
+//! A device of which it is told how much was read.
+ghost use Rattle.std.specs.Prelude.{◌≡◌, ◌*◌, ◌/◌, length, min, is_ok, IsOk, IsTrue, OnErr, OnOk};
+ghost use Rattle.std.specs.List.{concat};
+ghost use Rattle.block_device.specs.Device.{HasFailed, IsInside, IsRead, run_of};
+ghost use Rattle.block_device.specs.Failing.{IsInnerRead};
+ghost use Rattle.watched_device.specs.Watching.{done_after};
+
+use block_device::{BlockDev, DeviceFault};
+use progress::Progress;
+
+/// A proof sees of it what it sees of the device within. Behind each read that went well its watcher is told how many
+/// bytes were read so far.
+#[derive(Drop)]
+pub struct Watched<D, P> {
+    /// The device within.
+    pub inner: D,
+    /// Who is told.
+    pub watcher: P,
+    /// The bytes of the reads that went well, at most the greatest `u64`.
+    pub done: u64,
+    /// The bytes that are to be read, as the watcher is told.
+    pub all: u64,
+}
+
+/// How many bytes lie on a device before that sector, which may be behind its end.
+pub fn bytes_before<D: BlockDev>(device: &D, end: u64) -> u64
+    ensures { result ≡ min (D.state device.now).size end * 512 }
+{
+    device.sectors().min(end) * 512
+}
+
+impl<D: BlockDev, P: Progress> Watched<D, P> {
+    /// Nothing was read so far, of so many bytes.
+    pub fn new(inner: D, watcher: P, all: u64) -> Watched<D, P>
+        ensures inner { result.inner ≡ inner }
+        ensures state { ⟦<Watched<D, P> as BlockDev>⟧.state result ≡ D.state inner }
+        ensures done { result.done ≡ 0 }
+    {
+        Watched {
+            inner,
+            watcher,
+            done: 0,
+            all,
+        }
+    }
+}
+
+impl<D: BlockDev, P: Progress> BlockDev for Watched<D, P> {
+    ghost state = { λ w. D.state w.inner };
+
+    ghost gives = { λ w first bytes. D.gives w.inner first bytes };
+
+    ghost whole = { λ w. record { length = (D.whole w.inner).length; sectors = (D.whole w.inner).sectors } };
+
+    fn sectors(&self) -> u64 {
+        self.inner.sectors()
+    }
+
+    fn writable(&self) -> bool {
+        self.inner.writable()
+    }
+
+    fn read(&mut self, first: u64, out: &mut [u8]) -> Result<(), DeviceFault>
+        requires { IsInside (⟦<Watched<D, P> as BlockDev>⟧.state self.old) first (length out.old) }
+        ensures moved { IsRead (⟦<Watched<D, P> as BlockDev>⟧.state self.old) (length out.old / 512) (is_ok result) (⟦<Watched<D, P> as BlockDev>⟧.state self.new) }
+        ensures bytes { OnOk result (IsTrue (⟦<Watched<D, P> as BlockDev>⟧.state self.old).steady → out.new ≡ concat (run_of (⟦<Watched<D, P> as BlockDev>⟧.state self.old).image first (length out.old / 512))) }
+        ensures given { OnOk result (⟦<Watched<D, P> as BlockDev>⟧.gives self.old first out.new) }
+        ensures sure { IsTrue (⟦<Watched<D, P> as BlockDev>⟧.state self.old).never_fails → IsOk result }
+        ensures fault { OnErr result (HasFailed (⟦<Watched<D, P> as BlockDev>⟧.state self.old) (⟦<Watched<D, P> as BlockDev>⟧.state self.new)) }
+
+        // It is one of the device within, whose bytes are counted where it went well.
+        ensures inner { IsInnerRead (D.state self.old.inner) first (length out.old / 512) (is_ok result) (D.state self.new.inner) out.new }
+        ensures done { self.new.done ≡ done_after self.old.done (length out.old) (is_ok result) }
+    {
+        self.inner.read(first, out)?;
+        self.done = self.done.saturating_add(out.len() as u64);
+        self.watcher.tell(self.done, Some(self.all));
+        Ok(())
+    }
+
+    fn write(&mut self, first: u64, bytes: &[u8]) -> Result<(), DeviceFault> {
+        self.inner.write(first, bytes)
+    }
+
+    fn reads(&self) -> u64 {
+        self.inner.reads()
+    }
+
+    fn writes(&self) -> u64 {
+        self.inner.writes()
+    }
+
+    fn failures(&self) -> u64 {
+        self.inner.failures()
+    }
+}
