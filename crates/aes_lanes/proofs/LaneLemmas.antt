@@ -1,8 +1,7 @@
 -- What holds of each lane.
 use Rattle.std.proofs.Common.{◌≡◌, ℕ, zero, suc, ◌+◌, ◌*◌, ◌/◌, ◌%◌, ◌<◌, true, nat_eq, List, [], ◌++◌, length, get_or, slice_index, slice_index_or, w8, sym, ap, ◌∙◌, arith}
-use Rattle.aes_lanes.specs.Planes.{lane_below}
 use Rattle.std.specs.Simd.Lanes.{zip2, pick_l}
-use Rattle.std.proofs.lemmas.Simd.{length-zip2, get_or-zip2, swz_l, get_or-swz_l_below}
+use Rattle.std.proofs.lemmas.Simd.{length-zip2, get_or-zip2}
 use Rattle.std.proofs.lemmas.List.{get_or-map, get_or_append_left, length-map}
 use Rattle.aes_block.proofs.lemmas.ByteLemmas.{all_below, same_below}
 
@@ -24,18 +23,6 @@ module _ (f : ℕ → ℕ → ℕ) (x y : List ℕ) (left : length x ≡ 32) (ri
 
   pub slice_index-zipped : (p : ℕ) → p < 32 → slice_index (zip2 f x y) p ≡ f (slice_index x p) (slice_index y p)
   slice_index-zipped p h = get_or-zip2 f x y p 0 0 0 (omega (arith, left)) (omega (arith, right))
-
--- lanes gathered from places of the same half, which a table names
-module _ (n : ℕ) (x : List ℕ) (table : List (List ℕ)) (s : ℕ) (long : length x ≡ 32) (rows : length (slice_index_or table s []) ≡ 32)
-    (computed : all_below 32 (λ p. nat_eq (slice_index (slice_index_or table s []) p) (lane_below n s p % 16)) ≡ true) where
-  pub slice_index-gathered : (p : ℕ) → p < 32 → slice_index (swz_l w8 16 x 0 (slice_index_or table s [])) p ≡ slice_index x (lane_below n s p)
-  slice_index-gathered p h =
-      let row = slice_index_or table s [] in
-      let place = same_below 32 (slice_index row) (λ p. lane_below n s p % 16) computed p h in
-      let column : ℕ = (p / 4 + s * n) % 4 in
-      let column_lt : column < 4 = omega arith in
-      let at : 16 * ((0 + p) / 16) + slice_index row p ≡ lane_below n s p = omega (arith, place, column_lt) in
-      get_or-swz_l_below w8 16 x 0 row p (omega (arith, h, rows)) (omega (arith, place)) ∙ ap (slice_index x) at
 
 -- lanes of one vector at other places
 module _ (x places : List ℕ) (long : length x ≡ 32) (count : length places ≡ 32) (from : ℕ → ℕ)

@@ -8,58 +8,78 @@ ghost use Rattle.aes_block.specs.Field.{xtimes};
 ghost use Rattle.aes_block.specs.Rounds.{mix_columns, inv_mix_columns};
 ghost use Rattle.aes_lanes.specs.Planes.{ArePlanes, byte_of, block_of, shifted, AreMoved, lane_below};
 
-use crate::planes::Planes;
+use crate::planes::{Planes, each};
 use crate::sums::add;
 use std::simd::prelude::*;
 
-// The lane, among sixteen, from which each lane takes the byte that is one row below, after 0 to 3 ShiftRows.
-static BELOW_1: [[u8; 32]; 4] = [
-    [
-        1, 2, 3, 0, 5, 6, 7, 4, 9, 10, 11, 8, 13, 14, 15, 12, 1, 2, 3, 0, 5, 6, 7, 4, 9, 10, 11, 8,
-        13, 14, 15, 12,
-    ],
-    [
-        5, 6, 7, 4, 9, 10, 11, 8, 13, 14, 15, 12, 1, 2, 3, 0, 5, 6, 7, 4, 9, 10, 11, 8, 13, 14, 15,
-        12, 1, 2, 3, 0,
-    ],
-    [
-        9, 10, 11, 8, 13, 14, 15, 12, 1, 2, 3, 0, 5, 6, 7, 4, 9, 10, 11, 8, 13, 14, 15, 12, 1, 2,
-        3, 0, 5, 6, 7, 4,
-    ],
-    [
-        13, 14, 15, 12, 1, 2, 3, 0, 5, 6, 7, 4, 9, 10, 11, 8, 13, 14, 15, 12, 1, 2, 3, 0, 5, 6, 7,
-        4, 9, 10, 11, 8,
-    ],
-];
-
-// The same for two rows below: two ShiftRows more move it by four columns, which is none.
-static BELOW_2: [[u8; 32]; 2] = [
-    [
-        2, 3, 0, 1, 6, 7, 4, 5, 10, 11, 8, 9, 14, 15, 12, 13, 2, 3, 0, 1, 6, 7, 4, 5, 10, 11, 8, 9,
-        14, 15, 12, 13,
-    ],
-    [
-        10, 11, 8, 9, 14, 15, 12, 13, 2, 3, 0, 1, 6, 7, 4, 5, 10, 11, 8, 9, 14, 15, 12, 13, 2, 3,
-        0, 1, 6, 7, 4, 5,
-    ],
-];
-
+// To each lane the byte that is one row below, after as many ShiftRows.
+//
+// The places are constants, since of a table that is read by an index only some compilers make one instruction.
 #[inline(always)]
-fn lanes_below_1(x: u8x32, shifts: usize) -> u8x32
-    requires { shifts < 4 }
+fn next_row(x: u8x32) -> u8x32
     ensures len { length result ≡ 32 }
-    ensures lanes { (p : ℕ) → p < 32 → slice_index result p ≡ slice_index x (lane_below 1 shifts p) }
+    ensures lanes { (p : ℕ) → p < 32 → slice_index result p ≡ slice_index x (lane_below 1 0 p) }
 {
-    x.swizzle_dyn_within::<16>(u8x32::from_array(BELOW_1[shifts]))
+    x.swizzle([
+        1, 2, 3, 0, 5, 6, 7, 4, 9, 10, 11, 8, 13, 14, 15, 12, 17, 18, 19, 16, 21, 22, 23, 20, 25,
+        26, 27, 24, 29, 30, 31, 28,
+    ])
 }
 
 #[inline(always)]
-fn lanes_below_2(x: u8x32, shifts: usize) -> u8x32
-    requires { shifts < 4 }
+fn next_row_after_1(x: u8x32) -> u8x32
     ensures len { length result ≡ 32 }
-    ensures lanes { (p : ℕ) → p < 32 → slice_index result p ≡ slice_index x (lane_below 2 shifts p) }
+    ensures lanes { (p : ℕ) → p < 32 → slice_index result p ≡ slice_index x (lane_below 1 1 p) }
 {
-    x.swizzle_dyn_within::<16>(u8x32::from_array(BELOW_2[shifts % 2]))
+    x.swizzle([
+        5, 6, 7, 4, 9, 10, 11, 8, 13, 14, 15, 12, 1, 2, 3, 0, 21, 22, 23, 20, 25, 26, 27, 24, 29,
+        30, 31, 28, 17, 18, 19, 16,
+    ])
+}
+
+#[inline(always)]
+fn next_row_after_2(x: u8x32) -> u8x32
+    ensures len { length result ≡ 32 }
+    ensures lanes { (p : ℕ) → p < 32 → slice_index result p ≡ slice_index x (lane_below 1 2 p) }
+{
+    x.swizzle([
+        9, 10, 11, 8, 13, 14, 15, 12, 1, 2, 3, 0, 5, 6, 7, 4, 25, 26, 27, 24, 29, 30, 31, 28, 17,
+        18, 19, 16, 21, 22, 23, 20,
+    ])
+}
+
+#[inline(always)]
+fn next_row_after_3(x: u8x32) -> u8x32
+    ensures len { length result ≡ 32 }
+    ensures lanes { (p : ℕ) → p < 32 → slice_index result p ≡ slice_index x (lane_below 1 3 p) }
+{
+    x.swizzle([
+        13, 14, 15, 12, 1, 2, 3, 0, 5, 6, 7, 4, 9, 10, 11, 8, 29, 30, 31, 28, 17, 18, 19, 16, 21,
+        22, 23, 20, 25, 26, 27, 24,
+    ])
+}
+
+// The same for two rows below: two ShiftRows more move it by four columns, which is none.
+#[inline(always)]
+fn opposite_row(x: u8x32) -> u8x32
+    ensures len { length result ≡ 32 }
+    ensures lanes { (p : ℕ) → p < 32 → slice_index result p ≡ slice_index x (lane_below 2 0 p) }
+{
+    x.swizzle([
+        2, 3, 0, 1, 6, 7, 4, 5, 10, 11, 8, 9, 14, 15, 12, 13, 18, 19, 16, 17, 22, 23, 20, 21, 26,
+        27, 24, 25, 30, 31, 28, 29,
+    ])
+}
+
+#[inline(always)]
+fn opposite_row_after_1(x: u8x32) -> u8x32
+    ensures len { length result ≡ 32 }
+    ensures lanes { (p : ℕ) → p < 32 → slice_index result p ≡ slice_index x (lane_below 2 1 p) }
+{
+    x.swizzle([
+        10, 11, 8, 9, 14, 15, 12, 13, 2, 3, 0, 1, 6, 7, 4, 5, 26, 27, 24, 25, 30, 31, 28, 29, 18,
+        19, 16, 17, 22, 23, 20, 21,
+    ])
 }
 
 #[inline(always)]
@@ -67,15 +87,15 @@ fn move_below_1(q: &Planes, shifts: usize) -> Planes
     requires { shifts < 4 }
     ensures { AreMoved (lane_below 1 shifts) q.now result }
 {
-    let m0 = lanes_below_1(q[0], shifts);
-    let m1 = lanes_below_1(q[1], shifts);
-    let m2 = lanes_below_1(q[2], shifts);
-    let m3 = lanes_below_1(q[3], shifts);
-    let m4 = lanes_below_1(q[4], shifts);
-    let m5 = lanes_below_1(q[5], shifts);
-    let m6 = lanes_below_1(q[6], shifts);
-    let m7 = lanes_below_1(q[7], shifts);
-    [m0, m1, m2, m3, m4, m5, m6, m7]
+    if shifts == 0 {
+        each(q, next_row)
+    } else if shifts == 1 {
+        each(q, next_row_after_1)
+    } else if shifts == 2 {
+        each(q, next_row_after_2)
+    } else {
+        each(q, next_row_after_3)
+    }
 }
 
 #[inline(always)]
@@ -83,15 +103,11 @@ fn move_below_2(q: &Planes, shifts: usize) -> Planes
     requires { shifts < 4 }
     ensures { AreMoved (lane_below 2 shifts) q.now result }
 {
-    let m0 = lanes_below_2(q[0], shifts);
-    let m1 = lanes_below_2(q[1], shifts);
-    let m2 = lanes_below_2(q[2], shifts);
-    let m3 = lanes_below_2(q[3], shifts);
-    let m4 = lanes_below_2(q[4], shifts);
-    let m5 = lanes_below_2(q[5], shifts);
-    let m6 = lanes_below_2(q[6], shifts);
-    let m7 = lanes_below_2(q[7], shifts);
-    [m0, m1, m2, m3, m4, m5, m6, m7]
+    if shifts % 2 == 0 {
+        each(q, opposite_row)
+    } else {
+        each(q, opposite_row_after_1)
+    }
 }
 
 // The product of each byte by x (4.2).

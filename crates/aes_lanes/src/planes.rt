@@ -8,6 +8,23 @@ use std::simd::prelude::*;
 
 pub(crate) type Planes = [u8x32; 8];
 
+// What a function makes of each plane.
+#[inline(always)]
+pub(crate) fn each<F: Fn(u8x32) -> u8x32>(q: &Planes, lanes: F) -> Planes
+    requires { (k : ℕ) → k < 8 → F.pre lanes (plane q.now k) }
+    ensures { (k : ℕ) → k < 8 → F.post lanes (plane q.now k) (plane result k) }
+{
+    let m0 = lanes(q[0]);
+    let m1 = lanes(q[1]);
+    let m2 = lanes(q[2]);
+    let m3 = lanes(q[3]);
+    let m4 = lanes(q[4]);
+    let m5 = lanes(q[5]);
+    let m6 = lanes(q[6]);
+    let m7 = lanes(q[7]);
+    [m0, m1, m2, m3, m4, m5, m6, m7]
+}
+
 // Swaps the bits of `b` that `mask` has with those of `a` that are `by` higher.
 #[inline(always)]
 fn swap_bits(a: u8x32, b: u8x32, by: u8, mask: u8) -> [u8x32; 2]

@@ -4,7 +4,7 @@ ghost use Rattle.std.specs.Prelude.{◌≡◌, ℕ, ◌<◌, length, slice_index
 ghost use Rattle.aes_block.specs.Rounds.{shift_rows, inv_shift_rows};
 ghost use Rattle.aes_lanes.specs.Planes.{ArePlanes, block_of, AreMoved, lane_shifted, lane_unshifted};
 
-use crate::planes::Planes;
+use crate::planes::{Planes, each};
 use std::simd::prelude::*;
 
 #[inline(always)]
@@ -33,30 +33,14 @@ fn lanes_unshifted(x: u8x32) -> u8x32
 fn move_shifted(q: &Planes) -> Planes
     ensures { AreMoved lane_shifted q.now result }
 {
-    let m0 = lanes_shifted(q[0]);
-    let m1 = lanes_shifted(q[1]);
-    let m2 = lanes_shifted(q[2]);
-    let m3 = lanes_shifted(q[3]);
-    let m4 = lanes_shifted(q[4]);
-    let m5 = lanes_shifted(q[5]);
-    let m6 = lanes_shifted(q[6]);
-    let m7 = lanes_shifted(q[7]);
-    [m0, m1, m2, m3, m4, m5, m6, m7]
+    each(q, lanes_shifted)
 }
 
 #[inline(always)]
 fn move_unshifted(q: &Planes) -> Planes
     ensures { AreMoved lane_unshifted q.now result }
 {
-    let m0 = lanes_unshifted(q[0]);
-    let m1 = lanes_unshifted(q[1]);
-    let m2 = lanes_unshifted(q[2]);
-    let m3 = lanes_unshifted(q[3]);
-    let m4 = lanes_unshifted(q[4]);
-    let m5 = lanes_unshifted(q[5]);
-    let m6 = lanes_unshifted(q[6]);
-    let m7 = lanes_unshifted(q[7]);
-    [m0, m1, m2, m3, m4, m5, m6, m7]
+    each(q, lanes_unshifted)
 }
 
 // ShiftRows (5.1.2).

@@ -1,12 +1,29 @@
-use Rattle.std.proofs.Common.{◌≡◌, ℕ, List, [], ◌∷◌}
+use Rattle.std.proofs.Common.{◌≡◌, sym, ap, ◌∙◌, arith}
 use Rattle.aes_lanes.specs.Planes.{lane, lane_below}
-use Rattle.aes_lanes.proofs.LaneLemmas.{below_eight}
 use Rattle.aes_lanes.proofs.columns.move_below_1.Goals as goal
 
-pub returns : goal.returns
-returns c = record {
-  planes = below_eight _ c.lanes_below_1-m0.ensures.len c.lanes_below_1-m1.ensures.len c.lanes_below_1-m2.ensures.len c.lanes_below_1-m3.ensures.len c.lanes_below_1-m4.ensures.len c.lanes_below_1-m5.ensures.len c.lanes_below_1-m6.ensures.len c.lanes_below_1-m7.ensures.len;
-  lanes = λ k p hk hp.
-      let new : List (List ℕ) = c.lanes_below_1-m0.result ∷ c.lanes_below_1-m1.result ∷ c.lanes_below_1-m2.result ∷ c.lanes_below_1-m3.result ∷ c.lanes_below_1-m4.result ∷ c.lanes_below_1-m5.result ∷ c.lanes_below_1-m6.result ∷ c.lanes_below_1-m7.result ∷ [] in
-      below_eight (λ k. lane new k p ≡ lane c.args.q.now k (lane_below 1 c.args.shifts p)) (c.lanes_below_1-m0.ensures.lanes p hp) (c.lanes_below_1-m1.ensures.lanes p hp) (c.lanes_below_1-m2.ensures.lanes p hp) (c.lanes_below_1-m3.ensures.lanes p hp) (c.lanes_below_1-m4.ensures.lanes p hp) (c.lanes_below_1-m5.ensures.lanes p hp) (c.lanes_below_1-m6.ensures.lanes p hp) (c.lanes_below_1-m7.ensures.lanes p hp) k hk;
+pub returns-then-shifts-eq0 : goal.returns-then-shifts-eq0
+returns-then-shifts-eq0 c = record {
+  planes = λ k h. (c.each.ensures k h).1.0;
+  lanes = λ k p hk hp. (c.each.ensures k hk).1.1 p hp ∙ ap (λ s. lane c.args.q.now k (lane_below 1 s p)) (sym c.if-shifts-eq0.true);
 }
+
+pub returns-then-shifts-eq1 : goal.returns-then-shifts-eq1
+returns-then-shifts-eq1 c = record {
+  planes = λ k h. (c.each-then-shifts-eq1.ensures k h).1.0;
+  lanes = λ k p hk hp. (c.each-then-shifts-eq1.ensures k hk).1.1 p hp ∙ ap (λ s. lane c.args.q.now k (lane_below 1 s p)) (sym c.if-shifts-eq1.true);
+}
+
+pub returns-then-shifts-eq2 : goal.returns-then-shifts-eq2
+returns-then-shifts-eq2 c = record {
+  planes = λ k h. (c.each-then-shifts-eq2.ensures k h).1.0;
+  lanes = λ k p hk hp. (c.each-then-shifts-eq2.ensures k hk).1.1 p hp ∙ ap (λ s. lane c.args.q.now k (lane_below 1 s p)) (sym c.if-shifts-eq2.true);
+}
+
+pub returns-else-shifts-eq2 : goal.returns-else-shifts-eq2
+returns-else-shifts-eq2 c =
+    let three : 3 ≡ c.args.shifts = omega (arith, c.requires, c.if-shifts-eq0.false, c.if-shifts-eq1.false, c.if-shifts-eq2.false) in
+    record {
+      planes = λ k h. (c.each-else-shifts-eq2.ensures k h).1.0;
+      lanes = λ k p hk hp. (c.each-else-shifts-eq2.ensures k hk).1.1 p hp ∙ ap (λ s. lane c.args.q.now k (lane_below 1 s p)) three;
+    }

@@ -1,12 +1,19 @@
-use Rattle.std.proofs.Common.{◌≡◌, ℕ, List, [], ◌∷◌}
+use Rattle.std.proofs.Common.{◌≡◌, ap, ◌∙◌, arith}
 use Rattle.aes_lanes.specs.Planes.{lane, lane_below}
-use Rattle.aes_lanes.proofs.LaneLemmas.{below_eight}
 use Rattle.aes_lanes.proofs.columns.move_below_2.Goals as goal
 
-pub returns : goal.returns
-returns c = record {
-  planes = below_eight _ c.lanes_below_2-m0.ensures.len c.lanes_below_2-m1.ensures.len c.lanes_below_2-m2.ensures.len c.lanes_below_2-m3.ensures.len c.lanes_below_2-m4.ensures.len c.lanes_below_2-m5.ensures.len c.lanes_below_2-m6.ensures.len c.lanes_below_2-m7.ensures.len;
+pub returns-then-shifts-eq0 : goal.returns-then-shifts-eq0
+returns-then-shifts-eq0 c = record {
+  planes = λ k h. (c.each.ensures k h).1.0;
   lanes = λ k p hk hp.
-      let new : List (List ℕ) = c.lanes_below_2-m0.result ∷ c.lanes_below_2-m1.result ∷ c.lanes_below_2-m2.result ∷ c.lanes_below_2-m3.result ∷ c.lanes_below_2-m4.result ∷ c.lanes_below_2-m5.result ∷ c.lanes_below_2-m6.result ∷ c.lanes_below_2-m7.result ∷ [] in
-      below_eight (λ k. lane new k p ≡ lane c.args.q.now k (lane_below 2 c.args.shifts p)) (c.lanes_below_2-m0.ensures.lanes p hp) (c.lanes_below_2-m1.ensures.lanes p hp) (c.lanes_below_2-m2.ensures.lanes p hp) (c.lanes_below_2-m3.ensures.lanes p hp) (c.lanes_below_2-m4.ensures.lanes p hp) (c.lanes_below_2-m5.ensures.lanes p hp) (c.lanes_below_2-m6.ensures.lanes p hp) (c.lanes_below_2-m7.ensures.lanes p hp) k hk;
+      let same : lane_below 2 0 p ≡ lane_below 2 c.args.shifts p = omega (arith, c.if-shifts-eq0.true) in
+      (c.each.ensures k hk).1.1 p hp ∙ ap (lane c.args.q.now k) same;
+}
+
+pub returns-else-shifts-eq0 : goal.returns-else-shifts-eq0
+returns-else-shifts-eq0 c = record {
+  planes = λ k h. (c.each-else-shifts-eq0.ensures k h).1.0;
+  lanes = λ k p hk hp.
+      let same : lane_below 2 1 p ≡ lane_below 2 c.args.shifts p = omega (arith, c.if-shifts-eq0.false) in
+      (c.each-else-shifts-eq0.ensures k hk).1.1 p hp ∙ ap (lane c.args.q.now k) same;
 }
