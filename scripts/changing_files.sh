@@ -2,21 +2,11 @@
 # What sessions and commands answer while others change their files: images that are cut short, overwritten, removed or put
 # in another's place, file systems that are full, and standard streams that are full or closed. Each answer is a named fault
 # or status, nothing waits for ever, and no other file is changed.
+#
+# shellcheck disable=SC2154 # checks.sh sets what is named here
 set -eu
 top=$(dirname "$(dirname "$(readlink -f "$0")")")
-"$top/scripts/built.sh" dmstack
-program=$top/crates/dmstack/out/dmstack
-room=$(mktemp -d)
-trap 'rm -rf "$room"' EXIT
-cd "$room"
-passed=0 failed=0
-
-# check WHAT COMMAND..: the command says that WHAT holds.
-check() {
-    local what=$1
-    shift
-    if "$@" > /dev/null 2>&1; then passed=$((passed + 1)); else failed=$((failed + 1)) && echo "not so: $what"; fi
-}
+. "$top/scripts/checks.sh"
 
 # filled BYTE COUNT: so many sectors of that byte, in octal
 filled() { head -c $(($2 * 512)) /dev/zero | tr '\0' "\\$1"; }
@@ -261,5 +251,4 @@ if mount -t tmpfs -o size=32k,mode=777 tmpfs full 2> mount_errors; then
 else
     echo 'changing files: no small file system could be mounted: the full one is left out'
 fi
-echo "changing files: $passed passed, $failed failed"
-[ $failed = 0 ]
+total 'changing files'

@@ -2,23 +2,13 @@
 # What `--progress` of the commands on verity images shows: on standard error a line that is written over, at most twice a
 # second, of so many MiB as the data have; on standard output what stands there without it. Of a command that takes no half
 # of a second nothing is shown.
+#
+# shellcheck disable=SC2154 # checks.sh sets what is named here
 set -eu
 top=$(dirname "$(dirname "$(readlink -f "$0")")")
-"$top/scripts/built.sh" dmstack
-program=$top/crates/dmstack/out/dmstack
-room=$(mktemp -d)
-trap 'rm -rf "$room"' EXIT
-cd "$room"
-passed=0 failed=0
+. "$top/scripts/checks.sh"
 salt=(--salt 00112233 --uuid 00000000-0000-4000-8000-000000000001)
 bare=(--no-superblock --salt 00112233)
-
-# check WHAT COMMAND..: the command says that WHAT holds.
-check() {
-    local what=$1
-    shift
-    if "$@" > /dev/null 2>&1; then passed=$((passed + 1)); else failed=$((failed + 1)) && echo "not so: $what"; fi
-}
 
 milliseconds() { echo $(($(date +%s%N) / 1000000)); }
 
@@ -73,5 +63,4 @@ truncate -s 1M data
 check 'nothing is shown of 1 MiB' test ! -s shown
 check 'its root is printed' grep -q '^root ' told
 
-echo "shown_progress: $passed passed, $failed failed"
-[ "$failed" = 0 ]
+total 'shown_progress'
