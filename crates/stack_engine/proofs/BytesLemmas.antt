@@ -25,7 +25,8 @@ use Rattle.stack_lines.specs.Touches.{TouchesOnly, leaves_of, source_leaves}
 use Rattle.stack_lines.proofs.lemmas.TouchLemmas.{one-within, served-within}
 use Rattle.stack_engine.specs.Bytes.{IsGoodChain, MayBeBytes, AnyBytes, EachBytes, FindsBytes}
 use Rattle.stack_engine.specs.Keeping.{ReadsBlocks}
-use Rattle.stack_engine.specs.Pieces.{stack_over}
+use Rattle.stack_engine.specs.Pieces.{stack_with}
+use Rattle.verified_cache.specs.Cache.{CacheRecord}
 use Rattle.stack_meaning.proofs.lemmas.LeafListLemmas.{AreRead-none}
 use Rattle.stack_meaning.proofs.lemmas.FoundLemmas.{said_at-mono, used-append, kept-later, Grown-none}
 use Rattle.stack_meaning.proofs.lemmas.RunLemmas.{Passes, pass, fault_passes, fill_ok, fill_err, fill_more}
@@ -140,7 +141,7 @@ may-bytes c lower first n (Err (io.Device i)) p = p.got.may
 may-bytes c lower first n (Err io.NoMemory) p = tt
 
 pub each-bytes : (c : Configuration) (d first n : ℕ) {old new : List Device} (answer : Result (List ℕ) IoFault) → FindsBytes (place_of c (mapped d)) c first n old new answer → TouchesOnly (leaves_of c (mapped d)) old new answer
-    → {before after : ℕ} → after ≡ before → EachBytes (stack_over c old before) d first n answer (stack_over c new after)
-each-bytes c d first n answer p touches capacity =
-    let any : AnyBytes (stack_over c _ _) d first n answer (stack_over c _ _) = record { config = refl; capacity = capacity; moved = p.got.moved; may = may-bytes c (mapped d) first n answer p; touches = touches } in
+    → {before after : CacheRecord} → after.capacity ≡ before.capacity → EachBytes (stack_with c old before) d first n answer (stack_with c new after)
+each-bytes c d first n answer p touches {before = before} {after = after} capacity =
+    let any : AnyBytes (stack_with c _ before) d first n answer (stack_with c _ after) = record { config = refl; capacity = capacity; moved = p.got.moved; may = may-bytes c (mapped d) first n answer p; touches = touches } in
     record { any = any; steady = λ steady. record { any = any; exact = p.got.exact steady } }

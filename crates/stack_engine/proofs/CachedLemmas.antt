@@ -1,5 +1,8 @@
 -- What the cache keeps stays true.
-use Rattle.std.proofs.Common.{◌≡◌, ℕ, ◌*◌, ◌<◌, IsTrue, Bool, ◌||◌, true, false, cond, List, length, get_or, All, Option, Some, None, Result, Ok, Err, refl, sym, ap, ◌∙◌, subst}
+use Rattle.std.proofs.lemmas.List.Elements.{All-nil}
+use Rattle.stack_engine.specs.KeptBlocks.{AreChecked}
+use Rattle.stack_engine.specs.Pieces.{stack_with}
+use Rattle.std.proofs.Common.{◌≡◌, ℕ, ◌*◌, ◌<◌, IsTrue, Bool, ◌||◌, not, true, false, cond, List, length, get_or, All, Option, Some, None, Result, Ok, Err, refl, sym, ap, ◌∙◌, subst}
 use Rattle.std.specs.Prelude.{option_map, OnOk, OnErr}
 use Rattle.std.specs.Option.{option_map_or}
 use Rattle.std.specs.declared.alloc.AllocError.{AllocError}
@@ -10,13 +13,14 @@ use Rattle.dm_table.specs.declared.verity.Verity.{Verity}
 use Rattle.stack_rules.specs.declared.lower.Lower.TheVariants.{Leaf as leaf}
 use Rattle.stack_rules.specs.Rules.{most_leaves}
 use Rattle.stack_rules.specs.Records.{Configuration}
-use Rattle.verified_cache.specs.Cache.{CachedBlock, CacheRecord, block_under, blocks_with, cache_after_find, cache_after_keep}
+use Rattle.verified_cache.specs.Cache.{CachedBlock, CacheRecord, IsCache, block_under, blocks_with, cache_after_find, cache_after_keep}
 use Rattle.verified_cache.specs.declared.key.Key.{Key}
+use Rattle.verified_cache.proofs.lemmas.CacheLemmas.{IsCache-after_find, IsCache-after_keep, IsCache-filter, IsCache-empty}
 use Rattle.verified_cache.proofs.lemmas.AnswerLemmas.{block_under-is, All-block_under, All-after_find, All-after_keep}
 use Rattle.stack_lines.specs.declared.tree.Extent.{Extent}
 use Rattle.stack_meaning.specs.Outcomes.{Outcome, Images, mismatch, span, then_outcome}
 use Rattle.stack_meaning.specs.Blocks.{checked, hash_sectors, hash_place}
-use Rattle.stack_lines.specs.Caches.{StackCache, IsCached, IsCacheOf, KeepsCache, IsPlaceOf}
+use Rattle.stack_lines.specs.Caches.{StackCache, IsCached, IsCacheOf, IsFresh, KeepsCache, IsPlaceOf}
 use Rattle.stack_meaning.specs.Changes.{reached, AreWritten}
 use Rattle.stack_lines.specs.Standing.{contains, stands_on, name_stands_on, key_stands_on, cache_without_leaf, AreLeafSets, CoversBlocks}
 use Rattle.stack_meaning.specs.Leaves.{steady_images, AreSteady, AreRead}
@@ -59,7 +63,7 @@ module _ (c : Configuration) where
 
   -- reads change no image of a steady leaf
   pub cached-read : {old new : List Device} {n : ℕ} (cache : StackCache) → AreRead old n new → IsCacheOf c old cache → IsCacheOf c new cache
-  cached-read cache a all = record { sets = all.sets; covers = all.covers; kept = kept-read cache.blocks a all.kept }
+  cached-read cache a all = record { sets = all.sets; covers = all.covers; valid = all.valid; kept = kept-read cache.blocks a all.kept }
 
   -- what a name means, and what it names
   module _ {salt : List ℕ} {key : Key} {extent : Extent} (at : IsPlaceOf c salt key extent) where
@@ -142,7 +146,7 @@ module _ (c : Configuration) where
         → ((i : ℕ) → contains after.covered i ≡ (contains cache.covered i || stands_on c i extent.lower)) → KeepsCache c leaves before cache → KeepsCache c leaves before after
     keeps-noted leaves before cache after same is kept = record {
       capacity = ap (λ (k : StackCache). k.blocks.capacity) same ∙ kept.capacity;
-      sound = subst (IsCacheOf c leaves) (sym same) (record { sets = kept.sound.sets; covers = noted cache after is kept.sound.covers; kept = kept.sound.kept });
+      sound = subst (IsCacheOf c leaves) (sym same) (record { sets = kept.sound.sets; covers = noted cache after is kept.sound.covers; valid = kept.sound.valid; kept = kept.sound.kept });
     }
 
     pub keeps-kept : {A : Type 0} (bytes_of : A → List ℕ) (x : A) (expected : List ℕ) {old new : List Device} (before cache after : StackCache)
@@ -157,6 +161,7 @@ module _ (c : Configuration) where
               (record {
                 sets = kept.sound.sets;
                 covers = All-after_keep (λ b. (i : ℕ) → i < most_leaves → key_stands_on c i b.key ≡ true → contains cache.covered i ≡ true) one cache.blocks (λ i small. covers i) kept.sound.covers;
+                valid = IsCache-after_keep one cache.blocks kept.sound.valid;
                 kept = cached-kept bytes_of x expected cache.blocks got kept.sound.kept;
               });
         }
@@ -165,6 +170,19 @@ module _ (c : Configuration) where
       sound = subst (IsCacheOf c new) (sym err) kept.sound;
     }
 
+  -- of a cache that holds no block
+  pub cached-fresh : {capacity : ℕ} (leaves : List Device) {cache : StackCache} → IsFresh c capacity cache → IsCacheOf c leaves cache
+  cached-fresh {capacity = capacity} leaves {cache = cache} fresh = record {
+    sets = fresh.sets;
+    covers = subst (λ (k : CacheRecord). CoversBlocks c cache.covered k.blocks) (sym fresh.empty) (All-nil _);
+    valid = subst IsCache (sym fresh.empty) (IsCache-empty capacity);
+    kept = subst (λ (k : CacheRecord). All (IsCached c leaves) k.blocks) (sym fresh.empty) (All-nil _);
+  }
+
+  -- as callers see it
+  pub cached-checked : {leaves : List Device} {cache : StackCache} → IsCacheOf c leaves cache → AreChecked (stack_with c leaves cache.blocks)
+  cached-checked all = record { few = all.valid.within; each = all.kept }
+
   -- what a find leaves: it changes the order alone
   pub keeps-found : (leaves : List Device) (key : Key) (expected : List ℕ) (cache after : StackCache) → after ≡ record cache { blocks = cache_after_find key expected cache.blocks } → IsCacheOf c leaves cache → KeepsCache c leaves cache after
   keeps-found leaves key expected cache after is all = record {
@@ -172,6 +190,7 @@ module _ (c : Configuration) where
     sound = subst (IsCacheOf c leaves) (sym is) (record {
       sets = all.sets;
       covers = All-after_find (λ b. (i : ℕ) → i < most_leaves → key_stands_on c i b.key ≡ true → contains cache.covered i ≡ true) key expected cache.blocks all.covers;
+      valid = IsCache-after_find key expected cache.blocks all.valid;
       kept = All-after_find (IsCached c leaves) key expected cache.blocks all.kept;
     });
   }
@@ -184,6 +203,7 @@ module _ (c : Configuration) where
     sound = record {
       sets = subst (AreLeafSets c) (sym same) all.sets;
       covers = covers;
+      valid = subst IsCache (sym is) (IsCache-filter (λ b. not (key_stands_on c i b.key)) before.blocks all.valid);
       kept = subst (λ (k : CacheRecord). All (IsCached c new) k.blocks) (sym is) (kept-written c i old new written.moved.fixed (others-alone c i first n old new written.others) before.blocks all.kept);
     };
   }

@@ -1,6 +1,7 @@
 pub mod lemmas
 pub mod PathBlockLemmas
 pub mod CachedLemmas
+pub mod PlainCacheLemmas
 pub mod PathLemmas
 pub mod TouchedLemmas
 pub mod BlocksLemmas

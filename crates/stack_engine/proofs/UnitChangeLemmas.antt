@@ -81,7 +81,7 @@ module _ (c : Configuration) (b : BlockPart) (whole : WholeUnit) (bytes : List �
       ap (λ (x : BlockPart). source_said c (Units x) j) of.from
       ∙ unit-said c b.device.0 b.line 0 of.crypt loaded of.has on.0 on.1.crypt_line.named (b.first - b.first % unit_sectors of.crypt + j)
 
-  none-meets : MeetVerity (source_said c (Units whole.from)) 0 whole.sectors → ⊥
+  pub none-meets : MeetVerity (source_said c (Units whole.from)) 0 whole.sectors → ⊥
   none-meets x =
       let h : (crypt_said (said_at c on.0) of.crypt (b.first - b.first % unit_sectors of.crypt + (0 + x.0))).meets mismatch = subst (λ (y : Said). y.meets mismatch) (from-said (0 + x.0)) x.2 in
       none-verity c loaded on.0 (on.1.crypt_line.writable writable) (unit_first of.crypt (b.first - b.first % unit_sectors of.crypt + (0 + x.0))) (unit_sectors of.crypt) h

@@ -30,7 +30,9 @@ use Rattle.stack_meaning.specs.Reading.{Answers}
 use Rattle.stack_lines.specs.Touches.{leaves_of}
 use Rattle.stack_lines.specs.Walks.{HasVerity}
 use Rattle.stack_engine.specs.Bytes.{MayBeBytes}
+use Rattle.stack_engine.specs.KeptBlocks.{WriteKeeps}
 use Rattle.stack_engine.specs.Pieces.{EachPiece}
+use Rattle.stack_engine.specs.WritePieces.{AnyWrite}
 use Rattle.stack_engine.specs.Stacks.{StackRecord, AnswerRecord}
 
 -- ---- a verity line over formatted devices
@@ -141,3 +143,10 @@ ForgedSectorsCollide = (c : Configuration) → IsLoaded c → (d first n : ℕ) 
 abbrev pub IgnoredBlocksCollide : Type 0
 IgnoredBlocksCollide = (v : Verity) (block : List ℕ) → IsTrue (is_ignored v (digest v.salt block)) → block ≢ zero_block v
     → IsSha256Collision (v.salt ++ block) (v.salt ++ zero_block v)
+
+-- ---- hash blocks that are kept
+
+-- What a write says of the kept blocks (`forgets`), of each leaf: one whose counter of writes isn't as it was, or whose image,
+-- where it is steady, has none kept.
+abbrev pub WrittenLeavesAreForgotten : Type 0
+WrittenLeavesAreForgotten = (w w' : StackRecord) (d first : ℕ) (bytes : List ℕ) (result : Result Unit IoFault) → AnyWrite w d first bytes result w' → WriteKeeps w w'

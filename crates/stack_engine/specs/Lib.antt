@@ -1,4 +1,5 @@
 pub mod Stacks
+pub mod KeptBlocks
 pub mod Premises
 pub mod Keeping
 pub mod Uncut

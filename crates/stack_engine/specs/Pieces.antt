@@ -1,5 +1,5 @@
 -- Pieces of a read: at most 128 sectors, which one call answers.
-use Rattle.std.specs.Prelude.{◌≡◌, ℕ, ◌*◌, List, Result}
+use Rattle.std.specs.Prelude.{◌≡◌, ℕ, ◌*◌, List, [], Result}
 use Rattle.block_device.specs.Device.{Device}
 use Rattle.stack_rules.specs.Records.{Configuration}
 use Rattle.stack_rules.specs.Names.{mapped}
@@ -12,10 +12,15 @@ use Rattle.stack_meaning.specs.Leaves.{steady_images, AreSteady, AreRead}
 use Rattle.stack_meaning.specs.Reading.{Ends, Answers}
 use Rattle.stack_lines.specs.Touches.{TouchesOnly, leaves_of}
 use Rattle.stack_engine.specs.Stacks.{StackRecord, AnswerRecord}
+use Rattle.verified_cache.specs.Cache.{CacheRecord}
 
--- a configuration over its leaves' devices, with room for so many hash blocks
+-- a configuration over its leaves' devices, with the hash blocks of a cache
+abbrev pub stack_with : Configuration → List Device → CacheRecord → StackRecord
+stack_with config leaves cache = record { config = config; leaves = leaves; capacity = cache.capacity; kept = cache.blocks }
+
+-- with room for so many, of which none is kept
 abbrev pub stack_over : Configuration → List Device → ℕ → StackRecord
-stack_over config leaves capacity = record { config = config; leaves = leaves; capacity = capacity }
+stack_over config leaves capacity = stack_with config leaves (record { capacity = capacity; blocks = [] })
 
 -- How a piece is answered, n sectors of mapped device d from the first on, with the stack that the answer leaves:
 -- whatever the leaves answer

@@ -6,12 +6,15 @@ use Rattle.stack_rules.specs.Rules.{IsLoaded}
 use Rattle.stack_meaning.specs.Found.{FoundRecord}
 use Rattle.stack_meaning.specs.Leaves.{ServeLeaves}
 use Rattle.stack_lines.specs.Caches.{StackCache, IsCacheOf}
+use Rattle.verified_cache.specs.Cache.{CachedBlock}
 
--- a configuration, the devices of its leaves in order, and how many hash blocks may be kept
+-- a configuration, the devices of its leaves in order, how many hash blocks may be kept, and those that are, the most
+-- recently used first
 pub record StackRecord : Type 0 where
   pub config : Configuration
   pub leaves : List Device
   pub capacity : ℕ
+  pub kept : List CachedBlock
 
 -- what holds of every stack, whatever its devices answer
 pub record IsSound (c : Configuration) (leaves : List Device) : Type 0 where

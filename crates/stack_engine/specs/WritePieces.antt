@@ -4,6 +4,7 @@ use Rattle.stack_rules.specs.Names.{mapped}
 use Rattle.stack_rules.specs.Records.{Configuration}
 use Rattle.stack_rules.specs.Descend.{write_cost}
 use Rattle.stack_meaning.specs.declared.fault.IoFault.{IoFault}
+use Rattle.stack_meaning.specs.declared.fault.IoFault.TheVariants as io
 use Rattle.stack_meaning.specs.Meaning.{said_at}
 use Rattle.stack_meaning.specs.May.{MayFault}
 use Rattle.stack_meaning.specs.Puts.{put_on}
@@ -11,6 +12,7 @@ use Rattle.stack_meaning.specs.Leaves.{steady_images, AreSteady}
 use Rattle.stack_meaning.specs.Changes.{LeafSectors, reached, AreWritten, NoneRead, DifferWithin, AllWhole}
 use Rattle.stack_lines.specs.Writing.{AreSectors, SomeEncrypt, MayEnd, IsPut, destination_of, StopsAtFault, StopsBehindPut, sectors_in}
 use Rattle.stack_lines.specs.Touches.{leaves_of}
+use Rattle.stack_lines.specs.Forgetting.{Forgets}
 use Rattle.stack_engine.specs.Stacks.{StackRecord}
 
 -- the bytes of 1 to 128 whole sectors
@@ -32,6 +34,8 @@ pub record AnyWrite (w : StackRecord) (d first : ℕ) (bytes : List ℕ) (result
   pub ends : MayEnd (MayFault w.config (mapped d) first (length bytes / 512)) w.leaves w'.leaves result
   pub stops : StopsAtFault (said_at w.config (mapped d)) first (length bytes / 512) w.leaves w'.leaves result
   pub unread : (SomeEncrypt (said_at w.config (mapped d)) first (length bytes / 512) → ⊥) → NoneRead w.leaves w'.leaves
+  pub forgets : Forgets w.config (leaves_of w.config (mapped d)) w.leaves w'.leaves w.kept w'.kept
+  pub short : result ≡ Err io.NoMemory → w'.kept ≡ w.kept
 
 -- Where the leaves beneath are steady: what the put leaves, no leaf sector that isn't reached is changed, and what stands before the
 -- sectors that failed is put.

@@ -1,9 +1,9 @@
 //! Reads that hand out no chains.
-ghost use Rattle.std.specs.Prelude.{◌/◌, length, map, []};
+ghost use Rattle.std.specs.Prelude.{◌≡◌, ◌/◌, length, map, []};
 ghost use Rattle.stack_rules.specs.Names.{mapped};
 ghost use Rattle.stack_meaning.specs.Meaning.{said_at};
 ghost use Rattle.stack_meaning.specs.Places.{place_of};
-ghost use Rattle.stack_meaning.specs.Reading.{IsPlain, buffer_answer};
+ghost use Rattle.stack_meaning.specs.Reading.{IsPlain, MeetVerity, buffer_answer};
 ghost use Rattle.stack_lines.specs.declared.source.Source.TheVariants.{Below};
 ghost use Rattle.stack_lines.specs.Sources.{source_place, source_said};
 ghost use Rattle.stack_lines.specs.Caches.{KeepsCache};
@@ -33,6 +33,7 @@ fn run_bytes<D: BlockDev>(
         (map D.state reader.old.devices.items) (map D.state reader.new.devices.items) (buffer_answer result out.new) }
     ensures cached { KeepsCache config.now (map D.state reader.new.devices.items) reader.old.cache reader.new.cache }
     ensures plain { IsPlain (source_said config.now source) 0 (length out.old / 512) (map D.state reader.old.devices.items) (map D.state reader.new.devices.items) result }
+    ensures same { (MeetVerity (source_said config.now source) 0 (length out.old / 512) → ⊥) → reader.new.cache ≡ reader.old.cache }
     ensures touches { TouchesOnly (source_leaves config.now source) (map D.state reader.old.devices.items) (map D.state reader.new.devices.items) result }
     ensures spent { ReadsAtMost (source_budget config.now source (length out.old / 512)) (map D.state reader.old.devices.items) (map D.state reader.new.devices.items) }
 {
@@ -63,6 +64,7 @@ pub(crate) fn device_bytes<D: BlockDev>(
         (map D.state reader.old.devices.items) (map D.state reader.new.devices.items) (buffer_answer result out.new) }
     ensures cached { KeepsCache config.now (map D.state reader.new.devices.items) reader.old.cache reader.new.cache }
     ensures plain { IsPlain (said_at config.now (mapped d.0)) first (length out.old / 512) (map D.state reader.old.devices.items) (map D.state reader.new.devices.items) result }
+    ensures same { (MeetVerity (said_at config.now (mapped d.0)) first (length out.old / 512) → ⊥) → reader.new.cache ≡ reader.old.cache }
     ensures touches { TouchesOnly (leaves_of config.now (mapped d.0)) (map D.state reader.old.devices.items) (map D.state reader.new.devices.items) result }
     ensures spent { ReadsAtMost (budget config.now (mapped d.0) first (length out.old / 512)) (map D.state reader.old.devices.items) (map D.state reader.new.devices.items) }
 {

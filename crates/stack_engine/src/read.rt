@@ -9,7 +9,7 @@ ghost use Rattle.stack_lines.specs.declared.source.Source.TheVariants.{Below};
 ghost use Rattle.stack_meaning.specs.Found.{FoundRecord};
 ghost use Rattle.stack_meaning.specs.Places.{place_of, run_expected};
 ghost use Rattle.stack_meaning.specs.Meaning.{said_at};
-ghost use Rattle.stack_meaning.specs.Reading.{Gets, Reads, IsPlain, buffer_answer};
+ghost use Rattle.stack_meaning.specs.Reading.{Gets, Reads, IsPlain, MeetVerity, buffer_answer};
 ghost use Rattle.stack_lines.specs.Sources.{ReadsSource, source_said};
 ghost use Rattle.stack_lines.specs.Extents.{LiesInside};
 ghost use Rattle.stack_lines.specs.Budgets.{ReadsAtMost, budget, source_budget};
@@ -77,6 +77,7 @@ fn read_lower<D: BlockDev>(
         (buffer_answer result out.new) }
     ensures cached { KeepsCache config.now (map D.state reader.new.devices.items) reader.old.cache reader.new.cache }
     ensures plain { IsPlain (said_at config.now lower) first (length out.old / 512) (map D.state reader.old.devices.items) (map D.state reader.new.devices.items) result }
+    ensures same { (MeetVerity (said_at config.now lower) first (length out.old / 512) → ⊥) → reader.new.cache ≡ reader.old.cache }
     ensures touches { TouchesOnly (leaves_of config.now lower) (map D.state reader.old.devices.items) (map D.state reader.new.devices.items) result }
     ensures spent { ReadsAtMost (budget config.now lower first (length out.old / 512)) (map D.state reader.old.devices.items) (map D.state reader.new.devices.items) }
 {
@@ -101,6 +102,7 @@ pub(crate) fn read_run<D: BlockDev>(
         (buffer_answer result out.new) }
     ensures cached { KeepsCache config.now (map D.state reader.new.devices.items) reader.old.cache reader.new.cache }
     ensures plain { IsPlain (source_said config.now source) 0 (length out.old / 512) (map D.state reader.old.devices.items) (map D.state reader.new.devices.items) result }
+    ensures same { (MeetVerity (source_said config.now source) 0 (length out.old / 512) → ⊥) → reader.new.cache ≡ reader.old.cache }
     ensures touches { TouchesOnly (source_leaves config.now source) (map D.state reader.old.devices.items) (map D.state reader.new.devices.items) result }
     ensures spent { ReadsAtMost (source_budget config.now source (length out.old / 512)) (map D.state reader.old.devices.items) (map D.state reader.new.devices.items) }
 {
@@ -133,6 +135,7 @@ pub(crate) fn read_units<D: BlockDev>(
         (buffer_answer result out.new) }
     ensures cached { KeepsCache config.now (map D.state reader.new.devices.items) reader.old.cache reader.new.cache }
     ensures plain { IsPlain (source_said config.now (Source.Units part)) 0 (length out.old / 512) (map D.state reader.old.devices.items) (map D.state reader.new.devices.items) result }
+    ensures same { (MeetVerity (source_said config.now (Source.Units part)) 0 (length out.old / 512) → ⊥) → reader.new.cache ≡ reader.old.cache }
     ensures touches { TouchesOnly (leaves_of config.now (mapped part.device.0)) (map D.state reader.old.devices.items) (map D.state reader.new.devices.items) result }
     ensures spent { ReadsAtMost (source_budget config.now (Source.Units part) (length out.old / 512)) (map D.state reader.old.devices.items) (map D.state reader.new.devices.items) }
 {
@@ -162,6 +165,7 @@ fn read_unit_part<D: BlockDev>(
         (buffer_answer result out.new) }
     ensures cached { KeepsCache config.now (map D.state reader.new.devices.items) reader.old.cache reader.new.cache }
     ensures plain { IsPlain (source_said config.now (Source.UnitPart part)) 0 (length out.old / 512) (map D.state reader.old.devices.items) (map D.state reader.new.devices.items) result }
+    ensures same { (MeetVerity (source_said config.now (Source.UnitPart part)) 0 (length out.old / 512) → ⊥) → reader.new.cache ≡ reader.old.cache }
     ensures touches { TouchesOnly (leaves_of config.now (mapped part.device.0)) (map D.state reader.old.devices.items) (map D.state reader.new.devices.items) result }
     ensures spent { ReadsAtMost (source_budget config.now (Source.UnitPart part) (length out.old / 512)) (map D.state reader.old.devices.items) (map D.state reader.new.devices.items) }
 {
@@ -193,6 +197,7 @@ fn read_block<D: BlockDev>(
         (buffer_answer result out.new) }
     ensures cached { KeepsCache config.now (map D.state reader.new.devices.items) reader.old.cache reader.new.cache }
     ensures plain { IsPlain (source_said config.now (Source.Block part)) 0 (length out.old / 512) (map D.state reader.old.devices.items) (map D.state reader.new.devices.items) result }
+    ensures same { (MeetVerity (source_said config.now (Source.Block part)) 0 (length out.old / 512) → ⊥) → reader.new.cache ≡ reader.old.cache }
     ensures touches { TouchesOnly (leaves_of config.now (mapped part.device.0)) (map D.state reader.old.devices.items) (map D.state reader.new.devices.items) result }
     ensures spent { ReadsAtMost (source_budget config.now (Source.Block part) (length out.old / 512)) (map D.state reader.old.devices.items) (map D.state reader.new.devices.items) }
 {
@@ -246,6 +251,7 @@ pub(crate) fn read_blocks<D: BlockDev>(
         (buffer_answer result out.new) }
     ensures cached { KeepsCache config.now (map D.state reader.new.devices.items) reader.old.cache reader.new.cache }
     ensures plain { IsPlain (source_said config.now (Source.Blocks part)) 0 (length out.old / 512) (map D.state reader.old.devices.items) (map D.state reader.new.devices.items) result }
+    ensures same { (MeetVerity (source_said config.now (Source.Blocks part)) 0 (length out.old / 512) → ⊥) → reader.new.cache ≡ reader.old.cache }
     ensures touches { TouchesOnly (leaves_of config.now (mapped part.device.0)) (map D.state reader.old.devices.items) (map D.state reader.new.devices.items) result }
     ensures spent { ReadsAtMost (source_budget config.now (Source.Blocks part) (length out.old / 512)) (map D.state reader.old.devices.items) (map D.state reader.new.devices.items) }
 {
@@ -564,6 +570,7 @@ pub(crate) fn read_device<D: BlockDev>(
         (buffer_answer result out.new) }
     ensures cached { KeepsCache config.now (map D.state reader.new.devices.items) reader.old.cache reader.new.cache }
     ensures plain { IsPlain (said_at config.now (mapped d.0)) first (length out.old / 512) (map D.state reader.old.devices.items) (map D.state reader.new.devices.items) result }
+    ensures same { (MeetVerity (said_at config.now (mapped d.0)) first (length out.old / 512) → ⊥) → reader.new.cache ≡ reader.old.cache }
     ensures touches { TouchesOnly (leaves_of config.now (mapped d.0)) (map D.state reader.old.devices.items) (map D.state reader.new.devices.items) result }
     ensures spent { ReadsAtMost (budget config.now (mapped d.0) first (length out.old / 512)) (map D.state reader.old.devices.items) (map D.state reader.new.devices.items) }
 {

@@ -1,5 +1,5 @@
 //! A stack: a configuration, and the devices of its leaves.
-ghost use Rattle.std.specs.Prelude.{◌≡◌, ◌<◌, ◌≤◌, ◌+◌, ◌/◌, length, map, IsTrue, IsOk, IfOk, IfErr, OnOk, OnErr, None, Some, Err};
+ghost use Rattle.std.specs.Prelude.{◌≡◌, ◌<◌, ◌≤◌, ◌+◌, ◌/◌, [], length, map, IsTrue, IsOk, IfOk, IfErr, OnOk, OnErr, None, Some, Err};
 ghost use Rattle.block_device.specs.Device.{capped, synced};
 ghost use Rattle.stack_rules.specs.Names.{mapped, size, may_write};
 ghost use Rattle.stack_rules.specs.Rules.{after_load, IsRefusal, first_refusal};
@@ -8,6 +8,7 @@ ghost use Rattle.stack_rules.specs.declared.refusal.Refusal.{Refusal};
 ghost use Rattle.stack_meaning.specs.Leaves.{ServeLeaves, AreSteady, reads_of, writes_of};
 ghost use Rattle.stack_engine.specs.Bytes.{AnyBytes, SteadyBytes};
 ghost use Rattle.stack_engine.specs.Pieces.{AnyPiece, SteadyPiece, stack_over};
+ghost use Rattle.stack_engine.specs.KeptBlocks.{AreChecked, ReadKeeps};
 ghost use Rattle.stack_engine.specs.Stacks.{StackRecord, IsSound};
 ghost use Rattle.stack_meaning.specs.Changes.{NoneRead};
 ghost use Rattle.stack_meaning.specs.Meaning.{said_at};
@@ -50,7 +51,7 @@ impl<D: BlockDev> Model for Stack<D> {
 
     ghost Value = { StackRecord };
 
-    ghost view = { λ s. record { config = s.config; leaves = map D.state s.reader.devices.items; capacity = s.reader.cache.blocks.capacity } };
+    ghost view = { λ s. record { config = s.config; leaves = map D.state s.reader.devices.items; capacity = s.reader.cache.blocks.capacity; kept = s.reader.cache.blocks.blocks } };
 
     ghost invariant = { λ s. IsStack s.config (map D.state s.reader.devices.items) s.reader.cache };
 }
@@ -109,6 +110,7 @@ impl<D: BlockDev> Stack<D> {
         ensures steady { AreSteady (leaves_of self.old.config (mapped d.0)) self.old.leaves → SteadyPiece self.old d.0 first n result self.new }
         ensures stops { (MeetVerity (said_at self.old.config (mapped d.0)) first n → ⊥) → ReadStops (said_at self.old.config (mapped d.0)) first n self.old.leaves self.new.leaves result }
         ensures spent { ReadsAtMost (budget self.old.config (mapped d.0) first n) self.old.leaves self.new.leaves }
+        ensures kept { ReadKeeps self.old d.0 first n self.new }
     {
         let mut bytes = match zero_sectors(self.reader.alloc, n) {
             Ok(bytes) => bytes,
@@ -139,6 +141,7 @@ impl<D: BlockDev> Stack<D> {
         ensures memory { result ≡ Err IoFault.NoMemory → MeetVerity (said_at self.old.config (mapped d.0)) first (length out.old / 512) }
         ensures stops { (MeetVerity (said_at self.old.config (mapped d.0)) first (length out.old / 512) → ⊥) → ReadStops (said_at self.old.config (mapped d.0)) first (length out.old / 512) self.old.leaves self.new.leaves result }
         ensures spent { ReadsAtMost (budget self.old.config (mapped d.0) first (length out.old / 512)) self.old.leaves self.new.leaves }
+        ensures kept { ReadKeeps self.old d.0 first (length out.old / 512) self.new }
     {
         device_bytes(&self.config, &mut self.reader, d, first, out)
     }
@@ -156,6 +159,7 @@ impl<D: BlockDev> Stack<D> {
         ensures steady { AreSteady (leaves_of self.old.config (mapped d.0)) self.old.leaves → SteadyWrite self.old d.0 first bytes.now result self.new }
         ensures memory { result ≡ Err IoFault.NoMemory → SomeEncrypt (said_at self.old.config (mapped d.0)) first (length bytes.now / 512) }
         ensures uncut { CutsNone self.old.config (mapped d.0) first (length bytes.now / 512) → NoneRead self.old.leaves self.new.leaves }
+        ensures checked { AreChecked self.new }
     {
         let mut buffer = match bytes_to_encrypt(self.reader.alloc, &self.config, d, first, bytes) {
             Ok(buffer) => buffer,
@@ -169,7 +173,7 @@ impl<D: BlockDev> Stack<D> {
     /// Puts the devices of a text in, all or none.
     pub fn load(&mut self, text: &StackText) -> Result<(), LoadFault>
         ensures ok { OnOk result (first_refusal self.old.config text.now ≡ None) }
-        ensures after { OnOk result (self.new ≡ record self.old { config = after_load self.old.config text.now }) }
+        ensures after { OnOk result (self.new ≡ record self.old { config = after_load self.old.config text.now; kept = [] }) }
         ensures refused { (r : Refusal) → result ≡ Err (LoadFault.Refused r) → IsRefusal self.old.config text.now r }
         ensures same { OnErr result (self.new ≡ self.old) }
     {
@@ -185,7 +189,7 @@ impl<D: BlockDev> Stack<D> {
     /// Removes the mapped device of that name; later ones move up by one place.
     pub fn remove(&mut self, name: &[u8]) -> Result<(), RemoveFault>
         ensures ok { OnOk result (removal_fault self.old.config name.now ≡ None) }
-        ensures after { OnOk result (self.new ≡ record self.old { config = after_removal self.old.config name.now }) }
+        ensures after { OnOk result (self.new ≡ record self.old { config = after_removal self.old.config name.now; kept = [] }) }
         ensures err { IfErr result (λ fault. removal_fault self.old.config name.now ≡ Some fault) }
         ensures same { OnErr result (self.new ≡ self.old) }
     {
@@ -208,7 +212,8 @@ impl<D: BlockDev> Stack<D> {
 
     /// How many hash blocks are kept, which is never more than may be.
     pub fn cached(&self) -> usize
-        ensures { result ≤ self.now.capacity }
+        ensures value { result ≡ length self.now.kept }
+        ensures checked { AreChecked self.now }
     {
         self.reader.cache.count()
     }
@@ -228,6 +233,7 @@ impl<D: SyncDev> Stack<D> {
         ensures ok { OnOk result (self.new.leaves ≡ map synced self.old.leaves) }
         ensures config { self.new.config ≡ self.old.config }
         ensures capacity { self.new.capacity ≡ self.old.capacity }
+        ensures kept { self.new.kept ≡ self.old.kept }
         ensures err { IfErr result (FailsToSync self.old.leaves self.new.leaves) }
         ensures sure { NeverFail self.old.leaves → IsOk result }
     {

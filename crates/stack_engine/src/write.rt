@@ -7,6 +7,8 @@ ghost use Rattle.stack_meaning.specs.Meaning.{said_at};
 ghost use Rattle.stack_lines.specs.Sources.{source_said};
 ghost use Rattle.stack_lines.specs.Writing.{AreHeld, sectors_in, destination_of, Writes, source_destination};
 ghost use Rattle.stack_lines.specs.Caches.{KeepsCache};
+ghost use Rattle.stack_lines.specs.Forgetting.{Forgets};
+ghost use Rattle.stack_lines.specs.Touches.{leaves_of, source_leaves};
 ghost use Rattle.stack_engine.specs.Uncut.{CutsNone, SourceCutsNone};
 ghost use Rattle.stack_engine.specs.Stacks.{IsSound};
 ghost use Rattle.stack_engine.specs.Premises.{FitsIn, CanWrite};
@@ -51,6 +53,8 @@ fn write_leaf<D: BlockDev>(
     ensures writes { Writes (destination_of config.now (Lower.Leaf leaf)) first (sectors_in bytes.now)
         (map D.state reader.old.devices.items) (map D.state reader.new.devices.items) result }
     ensures cached { KeepsCache config.now (map D.state reader.new.devices.items) reader.old.cache reader.new.cache }
+    ensures forgets { Forgets config.now (leaves_of config.now (Lower.Leaf leaf)) (map D.state reader.old.devices.items) (map D.state reader.new.devices.items)
+        reader.old.cache.blocks.blocks reader.new.cache.blocks.blocks }
 {
     reader.cache.forget_leaf(config, leaf);
     write_sectors(config, reader.devices.as_mut_slice(), leaf, first, bytes)
@@ -91,6 +95,8 @@ fn write_lower<D: BlockDev>(
         (map D.state reader.old.devices.items) (map D.state reader.new.devices.items) result }
     ensures uncut { CutsNone config.now lower first (length (plain.now ++ buffer.old) / 512) → NoneRead (map D.state reader.old.devices.items) (map D.state reader.new.devices.items) }
     ensures cached { KeepsCache config.now (map D.state reader.new.devices.items) reader.old.cache reader.new.cache }
+    ensures forgets { Forgets config.now (leaves_of config.now lower) (map D.state reader.old.devices.items) (map D.state reader.new.devices.items)
+        reader.old.cache.blocks.blocks reader.new.cache.blocks.blocks }
 {
     match lower {
         Lower::Leaf(leaf) => write_leaf(config, reader, leaf, first, held(plain, buffer)),
@@ -113,6 +119,8 @@ fn write_run<D: BlockDev>(
         (map D.state reader.old.devices.items) (map D.state reader.new.devices.items) result }
     ensures uncut { SourceCutsNone config.now source (length (plain.now ++ buffer.old) / 512) → NoneRead (map D.state reader.old.devices.items) (map D.state reader.new.devices.items) }
     ensures cached { KeepsCache config.now (map D.state reader.new.devices.items) reader.old.cache reader.new.cache }
+    ensures forgets { Forgets config.now (source_leaves config.now source) (map D.state reader.old.devices.items) (map D.state reader.new.devices.items)
+        reader.old.cache.blocks.blocks reader.new.cache.blocks.blocks }
 {
     match source {
         Source::Below { lower, first } => write_lower(config, reader, lower, first, plain, buffer),
@@ -138,6 +146,8 @@ fn write_units<D: BlockDev>(
         (map D.state reader.old.devices.items) (map D.state reader.new.devices.items) result }
     ensures uncut { SourceCutsNone config.now (Source.Units part) (length units.old / 512) → NoneRead (map D.state reader.old.devices.items) (map D.state reader.new.devices.items) }
     ensures cached { KeepsCache config.now (map D.state reader.new.devices.items) reader.old.cache reader.new.cache }
+    ensures forgets { Forgets config.now (leaves_of config.now (mapped part.device.0)) (map D.state reader.old.devices.items) (map D.state reader.new.devices.items)
+        reader.old.cache.blocks.blocks reader.new.cache.blocks.blocks }
 {
     let crypt = crypt_at(config, part.device, part.line);
     let unit = unit_at(config, part, crypt);
@@ -177,6 +187,8 @@ fn write_unit_part<D: BlockDev>(
     ensures writes { Writes (source_destination config.now (Source.UnitPart part)) 0 (sectors_in bytes.now)
         (map D.state reader.old.devices.items) (map D.state reader.new.devices.items) result }
     ensures cached { KeepsCache config.now (map D.state reader.new.devices.items) reader.old.cache reader.new.cache }
+    ensures forgets { Forgets config.now (leaves_of config.now (mapped part.device.0)) (map D.state reader.old.devices.items) (map D.state reader.new.devices.items)
+        reader.old.cache.blocks.blocks reader.new.cache.blocks.blocks }
 {
     let whole = whole_unit(config, part);
     let mut room = [0u8; MOST];
@@ -207,6 +219,8 @@ pub(crate) fn write_device<D: BlockDev>(
         (map D.state reader.old.devices.items) (map D.state reader.new.devices.items) result }
     ensures uncut { CutsNone config.now (mapped d.0) first (length (plain.now ++ buffer.old) / 512) → NoneRead (map D.state reader.old.devices.items) (map D.state reader.new.devices.items) }
     ensures cached { KeepsCache config.now (map D.state reader.new.devices.items) reader.old.cache reader.new.cache }
+    ensures forgets { Forgets config.now (leaves_of config.now (mapped d.0)) (map D.state reader.old.devices.items) (map D.state reader.new.devices.items)
+        reader.old.cache.blocks.blocks reader.new.cache.blocks.blocks }
 {
     let room = buffer.len();
     let len = held(plain, buffer).len();

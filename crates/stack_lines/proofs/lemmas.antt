@@ -2,6 +2,7 @@
 pub mod BudgetLemmas
 pub mod EncryptLemmas
 pub mod ForgetLemmas
+pub mod KeptLemmas
 pub mod PutLemmas
 pub mod ReadRunLemmas
 pub mod SizeLemmas

@@ -4,7 +4,7 @@ use Rattle.block_device.specs.Device.{Device}
 use Rattle.dm_table.specs.declared.verity.Verity.{Verity}
 use Rattle.stack_rules.specs.Names.{named}
 use Rattle.stack_rules.specs.Records.{Configuration}
-use Rattle.verified_cache.specs.Cache.{CachedBlock, CacheRecord}
+use Rattle.verified_cache.specs.Cache.{CachedBlock, CacheRecord, IsCache}
 use Rattle.verified_cache.specs.declared.key.Key.{Key}
 use Rattle.stack_lines.specs.declared.tree.Extent.{Extent}
 use Rattle.stack_lines.specs.declared.leaf_set.LeafSet.{LeafSet}
@@ -40,6 +40,7 @@ pub record IsFresh (c : Configuration) (capacity : ℕ) (cache : StackCache) : T
 pub record IsCacheOf (c : Configuration) (leaves : List Device) (cache : StackCache) : Type 0 where
   pub sets : AreLeafSets c cache.beneath
   pub covers : CoversBlocks c cache.covered cache.blocks.blocks
+  pub valid : IsCache cache.blocks
   pub kept : All (IsCached c leaves) cache.blocks.blocks
 
 -- what a read or a write that left these leaves left of the cache

@@ -1,5 +1,5 @@
 -- One piece as callers see it, and pieces one after another.
-use Rattle.std.proofs.Common.{◌≡◌, ℕ, ◌+◌, ◌≤◌, List, [], ◌++◌, Result, Ok, Err, refl, arith}
+use Rattle.std.proofs.Common.{◌≡◌, ℕ, ◌+◌, ◌≤◌, List, [], ◌++◌, Result, Ok, Err, refl, ap, ◌∙◌, arith}
 use Rattle.std.proofs.lemmas.List.Elements.{Contains-append_left, Contains-append_right, All-nil}
 use Rattle.block_device.specs.Device.{Device}
 use Rattle.stack_rules.specs.declared.lower.Lower.{Lower}
@@ -13,11 +13,20 @@ use Rattle.stack_meaning.specs.Leaves.{AreRead}
 use Rattle.stack_meaning.specs.Places.{place_of, Expected, run_expected}
 use Rattle.stack_meaning.specs.Reading.{Gets, Reads}
 use Rattle.stack_engine.specs.Stacks.{StackRecord, AnswerRecord, IsSound}
+use Rattle.verified_cache.specs.Cache.{CachedBlock, CacheRecord}
 use Rattle.stack_lines.specs.Touches.{TouchesOnly, leaves_of}
-use Rattle.stack_engine.specs.Pieces.{AnyPiece, EachPiece, stack_over}
+use Rattle.stack_engine.specs.Pieces.{AnyPiece, EachPiece, stack_with}
 use Rattle.stack_meaning.proofs.lemmas.LeafListLemmas.{AreRead-none, leaves_kept}
 use Rattle.stack_meaning.proofs.lemmas.FoundLemmas.{HasMore, used-append, said_at-mono}
 use Rattle.stack_meaning.proofs.lemmas.RunLemmas.{fault_passes, fill_ok, fill_err, fill_more}
+
+-- stacks with the same parts
+pub same-stack : (v w : StackRecord) → v.config ≡ w.config → v.leaves ≡ w.leaves → v.capacity ≡ w.capacity → v.kept ≡ w.kept → v ≡ w
+same-stack v w config leaves capacity kept =
+    ap (λ (c : Configuration). record v { config = c }) config
+    ∙ ap (λ (l : List Device). record v { config = w.config; leaves = l }) leaves
+    ∙ ap (λ (n : ℕ). record v { config = w.config; leaves = w.leaves; capacity = n }) capacity
+    ∙ ap (λ (b : List CachedBlock). record w { kept = b }) kept
 
 pub piece-sound : (c : Configuration) {old new : List Device} {n : ℕ} → IsSound c old → AreRead old n new → IsSound c new
 piece-sound c {old = old} {new = new} s a = record { loaded = s.loaded; serve = leaves_kept c.leaves old new a.moved.fixed s.serve }
@@ -100,9 +109,9 @@ no-pieces c lower first leaves = record {
 
 -- a piece as the stack's own record
 pub each-piece : (c : Configuration) (d first n : ℕ) {old new : List Device} (answer : Result AnswerRecord IoFault) → Gets (piece_expected c (mapped d) first n) old new answer → TouchesOnly (leaves_of c (mapped d)) old new answer
-    → {before after : ℕ} → after ≡ before → EachPiece (stack_over c old before) d first n answer (stack_over c new after)
-each-piece c d first n answer p touches capacity =
-    let any : AnyPiece (stack_over c _ _) d first n answer (stack_over c _ _) = record { config = refl; capacity = capacity; moved = p.moved; may = p.may; touches = touches } in
+    → {before after : CacheRecord} → after.capacity ≡ before.capacity → EachPiece (stack_with c old before) d first n answer (stack_with c new after)
+each-piece c d first n answer p touches {before = before} {after = after} capacity =
+    let any : AnyPiece (stack_with c _ before) d first n answer (stack_with c _ after) = record { config = refl; capacity = capacity; moved = p.moved; may = p.may; touches = touches } in
     record { any = any; steady = λ steady. record { any = any; exact = p.exact steady } }
 
 -- and back

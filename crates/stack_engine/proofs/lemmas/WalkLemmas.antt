@@ -37,6 +37,12 @@ module _ {A : Type 0} (bytes_of : A → List ℕ) (place : Place) (first n : ℕ
     exact = λ steady. ap (λ (s : Outcome). then_outcome s (checked salt expected)) (p.exact steady) ∙ checked-same salt expected bytes good ∙ ap Ok (sym is);
   }
 
+  -- a read that a fault ended
+  pub checked_err : (fault : IoFault) → Gets (run_expected place chains first n) old new (Err fault) → Gets (checked_expected bytes_of place first n salt expected) old new (Err fault)
+  checked_err fault p =
+      fault_passes {wanted = run_expected place chains first n} {wanted' = checked_expected bytes_of place first n salt expected} fault p (AreRead-none 0 old) (omega arith)
+      (λ x meets. inr meets) (λ i is. is) (λ steady x is. ap (λ (s : Outcome). then_outcome s (checked salt expected)) is)
+
 -- ---- the data block
 
 -- the digest of a block of zeros

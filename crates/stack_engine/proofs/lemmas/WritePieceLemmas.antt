@@ -10,15 +10,18 @@ use Rattle.stack_meaning.specs.declared.fault.Fault.TheVariants as why
 use Rattle.stack_meaning.specs.declared.fault.IoFault.TheVariants as io
 use Rattle.stack_meaning.specs.May.{MayFault}
 use Rattle.stack_meaning.specs.Changes.{reached, AreWritten, NoneRead, AllWhole}
+use Rattle.stack_lines.specs.Forgetting.{Forgets}
+use Rattle.stack_lines.specs.Touches.{leaves_of}
 use Rattle.stack_lines.specs.Writing.{sectors_in, SomeEncrypt, MayEnd, destination_of, StopsAt, StopsAtFault, StopsBehindPut, with_some, Writes}
 use Rattle.stack_engine.specs.Stacks.{StackRecord, IsSound}
 use Rattle.stack_meaning.specs.declared.fault.Fault.{Fault}
 use Rattle.stack_meaning.specs.Outcomes.{error_target, LeafSector}
 use Rattle.stack_meaning.specs.Meaning.{said_at}
 use Rattle.stack_engine.specs.WritePieces.{piece_reached, AnyWrite, EachWrite, WritesInPieces, nothing, next, ends}
-use Rattle.stack_meaning.proofs.lemmas.LeafListLemmas.{leaves_kept, failed_later}
+use Rattle.stack_meaning.proofs.lemmas.LeafListLemmas.{AreRead-none, leaves_kept, failed_later}
 use Rattle.stack_meaning.proofs.lemmas.ChangeLemmas.{KeepsOthers-none, differ-within, reached-first, reached-later, AreWritten-none, AreWritten-then, AreWritten-more}
 use Rattle.stack_meaning.proofs.lemmas.FoundLemmas.{SomeOf-more}
+use Rattle.stack_lines.proofs.lemmas.KeptLemmas.{forgets-none, forgets-then}
 use Rattle.stack_lines.proofs.lemmas.PutLemmas.{put-none}
 use Rattle.stack_lines.proofs.lemmas.StopLemmas.{stop-here, stop-later, behind-of}
 use Rattle.stack_lines.proofs.lemmas.WriteRunLemmas.{length-sectors_in}
@@ -29,8 +32,8 @@ WritesTo c d first bytes w w' result = Writes (destination_of c (mapped d)) firs
 
 -- as the stack's own record
 pub each-write : {w w' : StackRecord} (d first : ℕ) (bytes : List ℕ) (result : Result Unit IoFault) → w'.config ≡ w.config → w'.capacity ≡ w.capacity → (AllWhole w.leaves → AllWhole w'.leaves)
-    → WritesTo w.config d first bytes w w' result → EachWrite w d first bytes result w'
-each-write {w = w} {w' = w'} d first bytes result config capacity whole p =
+    → Forgets w.config (leaves_of w.config (mapped d)) w.leaves w'.leaves w.kept w'.kept → WritesTo w.config d first bytes w w' result → EachWrite w d first bytes result w'
+each-write {w = w} {w' = w'} d first bytes result config capacity whole forgets p =
     let count = length-sectors_in bytes in
     let any : AnyWrite w d first bytes result w' = record {
       config = config;
@@ -40,6 +43,8 @@ each-write {w = w} {w' = w'} d first bytes result config capacity whole p =
       ends = subst (λ (n : ℕ). MayEnd (MayFault w.config (mapped d) first n) w.leaves w'.leaves result) count p.ends;
       stops = subst (λ (n : ℕ). StopsAtFault (said_at w.config (mapped d)) first n w.leaves w'.leaves result) count p.stops;
       unread = subst (λ (n : ℕ). (SomeEncrypt (said_at w.config (mapped d)) first n → ⊥) → NoneRead w.leaves w'.leaves) count p.unread;
+      forgets = forgets;
+      short = λ is. absurd (p.grown is);
     } in
     record { any = any; steady = λ steady. record { any = any; exact = p.exact steady; others = differ-within w.leaves w'.leaves any.moved.moved.fixed any.moved.others; behind = behind-all result (p.behind steady) } }
   where
@@ -47,6 +52,10 @@ each-write {w = w} {w' = w'} d first bytes result config capacity whole p =
         → StopsBehindPut (destination_of w.config (mapped d)) first (sectors_in bytes) w.leaves w'.leaves result
     behind-all (Ok x) h = tt
     behind-all (Err fault) h = λ counted. behind-of (destination_of w.config (mapped d)) first (sectors_in bytes) (put-none w.config (mapped d)) (h counted)
+
+-- where nothing was written
+none-forgotten : (w : StackRecord) (d : ℕ) → Forgets w.config (leaves_of w.config (mapped d)) w.leaves w.leaves w.kept w.kept
+none-forgotten w d = forgets-none w.kept (AreRead-none 0 w.leaves)
 
 -- want of memory, before anything was written
 abbrev none-stop : (w : StackRecord) (d first n : ℕ) → 0 < n → StopsAt (said_at w.config (mapped d)) first n io.NoMemory w.leaves w.leaves
@@ -65,7 +74,7 @@ none-written w d first bytes some = record {
 }
   where
     any : AnyWrite w d first bytes (Err io.NoMemory) w
-    any = record { config = refl; capacity = refl; whole = λ h. h; moved = AreWritten-none _ _ w.leaves; ends = refl; stops = λ counted. none-stop w d first (length bytes / 512) some; unread = λ none. refl }
+    any = record { config = refl; capacity = refl; whole = λ h. h; moved = AreWritten-none _ _ w.leaves; ends = refl; stops = λ counted. none-stop w d first (length bytes / 512) some; unread = λ none. refl; forgets = none-forgotten w d; short = λ is. refl }
 
 pub write-sound : (c : Configuration) {w w' : StackRecord} {d first : ℕ} {bytes : List ℕ} {result : Result Unit IoFault} → IsSound c w.leaves → EachWrite w d first bytes result w' → IsSound c w'.leaves
 write-sound c {w = w} {w' = w'} s p = record { loaded = s.loaded; serve = leaves_kept c.leaves w.leaves w'.leaves p.any.moved.moved.fixed s.serve }
@@ -81,7 +90,7 @@ fault_of fault e = cc
 -- nothing was written yet
 pub write-none : (w : StackRecord) (d first : ℕ) → WritesInPieces w d first [] (Ok tt) w
 write-none w d first = record {
-  any = record { config = refl; capacity = refl; whole = λ h. h; moved = AreWritten-none _ _ w.leaves; ends = tt; stops = tt; unread = λ none. refl };
+  any = record { config = refl; capacity = refl; whole = λ h. h; moved = AreWritten-none _ _ w.leaves; ends = tt; stops = tt; unread = λ none. refl; forgets = none-forgotten w d; short = λ is. refl };
   pieces = nothing;
 }
 
@@ -118,6 +127,8 @@ module _ {w w' w'' : StackRecord} (d first : ℕ) (x y z : List ℕ) (even : len
     ends = later result grown (subst (λ (c : Configuration). MayEnd (MayFault c (mapped d) (first + length x / 512) (length y / 512)) w'.leaves w''.leaves result) p.config q.ends);
     stops = stops-later result (subst (λ (c : Configuration). StopsAtFault (said_at c (mapped d)) (first + length x / 512) (length y / 512) w'.leaves w''.leaves result) p.config q.stops);
     unread = λ none. after-unread none ∙ p.unread (λ some. none (some.0, omega (arith, some.1, fits x y z even), some.2));
+    forgets = forgets-then p.forgets (subst (λ (c : Configuration). Forgets c (leaves_of c (mapped d)) w'.leaves w''.leaves w'.kept w''.kept) p.config q.forgets);
+    short = λ is. absurd (grown is);
   }
     where
       stops-later : (result : Result Unit IoFault) → StopsAtFault (said_at w.config (mapped d)) (first + length x / 512) (length y / 512) w'.leaves w''.leaves result

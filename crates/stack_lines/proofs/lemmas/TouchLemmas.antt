@@ -76,7 +76,7 @@ touches-up {these = these} {more = more} {result = result} up p = record { leaf 
 
 -- ---- leaves
 
-other-leaf : (k i : ℕ) → (k == i) ≡ false → k ≢ i
+pub other-leaf : (k i : ℕ) → (k == i) ≡ false → k ≢ i
 other-leaf k i h same = let yes : (k == i) ≡ true = grind (arith, nat_tests) in let clash : false ≡ true = sym h ∙ yes in cc
 
 -- a leaf was asked

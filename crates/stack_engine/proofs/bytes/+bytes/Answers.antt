@@ -10,7 +10,8 @@ use Rattle.stack_meaning.specs.Found.{FoundRecord}
 use Rattle.stack_meaning.specs.Kept.{IsKept}
 use Rattle.stack_meaning.specs.Meaning.{said_at}
 use Rattle.stack_meaning.specs.Places.{place_of}
-use Rattle.stack_meaning.specs.Reading.{IsPlain, buffer_answer}
+use Rattle.stack_meaning.specs.Reading.{IsPlain, MeetVerity, buffer_answer}
+use Rattle.stack_lines.specs.declared.source.Source.{Source}
 use Rattle.stack_lines.specs.declared.source.Source.TheVariants.{Below}
 use Rattle.stack_lines.specs.AtOnce.{CanGo}
 use Rattle.stack_lines.specs.Sources.{SourceHolds, ReadsSource, source_said, source_place}
@@ -19,6 +20,7 @@ use Rattle.stack_engine.specs.Bytes.{FindsBytes}
 use Rattle.stack_engine.specs.Keeping.{ReadsBlocks}
 use Rattle.stack_engine.proofs.RunBytesLemmas.{run_length}
 use Rattle.stack_engine.proofs.StackLemmas.{stack-later}
+use Rattle.stack_engine.proofs.PlainCacheLemmas.{meets-below, meets-device}
 use Rattle.stack_engine.proofs.BytesLemmas.{found-bytes, dropped-bytes, below-bytes, bytes_ok, bytes_err, same_bytes}
 use Rattle.stack_meaning.proofs.lemmas.LoadedLemmas.{size-small}
 use Rattle.stack_lines.proofs.lemmas.SourceLemmas.{served-depth, served-holds, device_plain, below_plain}
@@ -90,6 +92,8 @@ device_bytes-loop-at-preserved g t c =
       so_far = same_bytes (place_of config (mapped c.args.d.0)) config c.args.first (omega (arith, c.loop-at.invariant.whole)) (sym front)
           (bytes_ok config c.args.d.0 c.args.first (at / 512) count source c.requires.stack.sound.loaded c.run_to_read-run.ensures.some c.run_to_read-run.ensures.served c.loop-at.invariant.so_far more);
       cached = record { capacity = c.in-Ok.ensures.cached.capacity ∙ c.loop-at.invariant.cached.capacity; sound = c.in-Ok.ensures.cached.sound };
+      same = λ none. c.in-Ok.ensures.same (λ some. none (meets-device config c.args.d.0 c.args.first (at / 512) count all source c.requires.stack.sound.loaded (omega (arith, fits, c.loop-at.auto.out)) c.run_to_read-run.ensures.served
+          (subst (λ (k : ℕ). MeetVerity (source_said config source) 0 k) number some))) ∙ c.loop-at.invariant.same none;
       plain = subst (λ (n : ℕ). IsPlain (said_at config (mapped c.args.d.0)) c.args.first n (map state c.args.reader.now.devices.items) new (Ok tt)) (omega (arith, c.loop-at.invariant.whole))
           (device_plain config c.args.d.0 c.args.first (at / 512) count (at / 512 + count) source c.requires.stack.sound.loaded (omega arith) c.run_to_read-run.ensures.served c.loop-at.invariant.plain
           (subst (λ (n : ℕ). IsPlain (source_said config source) 0 n mid new (Ok tt)) number c.in-Ok.ensures.plain));
@@ -196,6 +200,7 @@ device_bytes-loop-at-init g t c =
       };
       cached = record { capacity = refl; sound = c.requires.stack.cached };
       plain = plain-none (said_at config (mapped c.args.d.0)) c.args.first 0 old (Ok tt) (λ e. cc) tt;
+      same = λ none. refl;
       touches = touches-none (leaves_of config (mapped c.args.d.0)) old (Ok tt) tt;
       spent = omega arith;
       cut = inl refl;
@@ -238,3 +243,35 @@ run_bytes-returns-in-Blocks-clause-spent g t c = rw c.in-Blocks.is c.read_blocks
 
 pub run_bytes-returns-clause-spent : goal.run_bytes-returns-clause-spent
 run_bytes-returns-clause-spent g t c = c.read_run.ensures.spent
+
+-- ---- where no verity line is on the way
+
+pub device_bytes-returns-in-Err-clause-same : goal.device_bytes-returns-in-Err-clause-same
+device_bytes-returns-in-Err-clause-same g t c =
+    let config = c.args.config.now in
+    let at = c.loop-at.at in
+    let source = c.run_to_read-run.result.source in
+    let count = c.run_to_read-run.result.count in
+    let fits : at + count * 512 ≤ length c.loop-at.out = omega (arith, c.run_to_read-run.ensures.most, c.loop-at-test.true) in
+    let len = run_length c.loop-at.out at count fits in
+    let number : length (take (at + count * 512 - at) (drop at c.loop-at.out)) / 512 ≡ count = omega (arith, len) in
+    λ none. c.in-Err.ensures.same (λ some. none (meets-device config c.args.d.0 c.args.first (at / 512) count (length c.args.out.now / 512) source c.requires.stack.sound.loaded (omega (arith, fits, c.loop-at.auto.out)) c.run_to_read-run.ensures.served
+    (subst (λ (k : ℕ). MeetVerity (source_said config source) 0 k) number some))) ∙ c.loop-at.invariant.same none
+
+pub device_bytes-returns-clause-same : goal.device_bytes-returns-clause-same
+device_bytes-returns-clause-same g t c = c.loop-at.invariant.same
+
+pub run_bytes-returns-in-Below-Device-default-clause-same : goal.run_bytes-returns-in-Below-Device-default-clause-same
+run_bytes-returns-in-Below-Device-default-clause-same g t c =
+    let config = c.args.config.now in
+    let n : ℕ = length c.args.out.now / 512 in
+    let arm = c.in-Below-Device-default in
+    let lower : arm.lower ≡ mapped arm.d.0 = rw arm.is at arm.lower-is in
+    let is : c.args.source ≡ Below (mapped arm.d.0) arm.first = arm.is ∙ ap (λ (x : Lower). Below x arm.first) lower in
+    λ none. c.device_bytes.ensures.same (λ some. none (subst (λ (s : Source). MeetVerity (source_said config s) 0 n) (sym is) (meets-below config (mapped arm.d.0) arm.first n some)))
+
+pub run_bytes-returns-in-Blocks-clause-same : goal.run_bytes-returns-in-Blocks-clause-same
+run_bytes-returns-in-Blocks-clause-same g t c = rw c.in-Blocks.is c.read_blocks.ensures.same
+
+pub run_bytes-returns-clause-same : goal.run_bytes-returns-clause-same
+run_bytes-returns-clause-same g t c = c.read_run.ensures.same

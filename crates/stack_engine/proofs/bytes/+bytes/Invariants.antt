@@ -3,7 +3,7 @@ use Rattle.stack_rules.specs.Names.{mapped}
 use Rattle.stack_rules.specs.Descend.{depth}
 use Rattle.stack_meaning.specs.Meaning.{said_at}
 use Rattle.stack_meaning.specs.Places.{place_of}
-use Rattle.stack_meaning.specs.Reading.{IsPlain}
+use Rattle.stack_meaning.specs.Reading.{IsPlain, MeetVerity}
 use Rattle.stack_lines.specs.Sources.{source_depth}
 use Rattle.stack_lines.specs.Caches.{KeepsCache}
 use Rattle.stack_lines.specs.Touches.{TouchesOnly, leaves_of}
@@ -26,6 +26,7 @@ invariant-device_bytes-loop-at g l = record {
   so_far : FindsBytes (place_of l.config (mapped l.d.0)) l.config l.first (l.at / 512)
       (map g.D.BlockDev.state l.fn.reader.devices.items) (map g.D.BlockDev.state l.reader.devices.items) (Ok (take l.at l.out));
   cached : KeepsCache l.config (map g.D.BlockDev.state l.reader.devices.items) l.fn.reader.cache l.reader.cache;
+  same : (MeetVerity (said_at l.config (mapped l.d.0)) l.first (length l.fn.out / 512) → ⊥) → l.reader.cache ≡ l.fn.reader.cache;
   plain : IsPlain (said_at l.config (mapped l.d.0)) l.first (l.at / 512) (map g.D.BlockDev.state l.fn.reader.devices.items) (map g.D.BlockDev.state l.reader.devices.items) (Ok tt);
   touches : TouchesOnly {A = Unit {0}} (leaves_of l.config (mapped l.d.0)) (map g.D.BlockDev.state l.fn.reader.devices.items) (map g.D.BlockDev.state l.reader.devices.items) (Ok tt);
   spent : ReadsAtMost (budget l.config (mapped l.d.0) l.first (l.at / 512)) (map g.D.BlockDev.state l.fn.reader.devices.items) (map g.D.BlockDev.state l.reader.devices.items);

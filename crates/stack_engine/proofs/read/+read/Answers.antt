@@ -29,7 +29,7 @@ use Rattle.stack_meaning.specs.Blocks.{hash_sectors, hash_start, next_digest}
 use Rattle.stack_lines.specs.Walks.{block_in, checked_expected, GetsChain, IsWalked}
 use Rattle.stack_meaning.specs.declared.fault.IoFault.{IoFault}
 use Rattle.stack_meaning.specs.Places.{place_of, run_expected, Read}
-use Rattle.stack_meaning.specs.Reading.{Gets, Reads, IsPlain, buffer_answer}
+use Rattle.stack_meaning.specs.Reading.{Gets, Reads, IsPlain, MeetVerity, buffer_answer}
 use Rattle.stack_lines.specs.Sources.{SourceHolds, ReadsSource, source_said}
 use Rattle.stack_engine.proofs.RunBytesLemmas.{room_sectors, run_length}
 use Rattle.stack_engine.proofs.StackLemmas.{stack-later}
@@ -37,13 +37,14 @@ use Rattle.stack_meaning.proofs.lemmas.LoadedLemmas.{size-small}
 use Rattle.stack_lines.proofs.lemmas.SourceLemmas.{served-depth, served-holds, below_of, leaf_of, empty_read, zeros_of, fails_of, device_ok, device_err, device_plain, below_plain, zeros_plain, fails_plain, same_reads}
 use Rattle.stack_lines.proofs.lemmas.VerityLineLemmas.{data-whole, hash-whole, part-within, part-index, hash-depth, data-depth}
 use Rattle.stack_engine.proofs.PathBlockLemmas.{bytes, hash_place_of, hash-lies, block_there, checked_as, place_key, hash_read, hash_failed, data_had, data_failed}
+use Rattle.stack_engine.proofs.PlainCacheLemmas.{meets-below, meets-device, meets-units, meets-part, meets-block, meets-blocks}
 use Rattle.stack_engine.proofs.CachedLemmas.{cached-read, cached-hit, keeps-noted, noted_key, keeps-kept, keeps-found}
 use Rattle.stack_lines.proofs.lemmas.StandingLemmas.{named-inside, knows-all}
 use Rattle.stack_engine.proofs.BlockPartLemmas.{kept_length, contains_at, part-room, part_found, part_walked, part_err, part_full, block_plain}
 use Rattle.stack_lines.specs.declared.source.BlockPart.{BlockPart}
 use Rattle.stack_lines.specs.Sources.{AreUnits}
 use Rattle.stack_engine.proofs.lemmas.BlockLemmas.{length-content}
-use Rattle.stack_engine.proofs.lemmas.WalkLemmas.{checked_ok, data_zeros, data_read, walk_full}
+use Rattle.stack_engine.proofs.lemmas.WalkLemmas.{checked_ok, checked_err, data_zeros, data_read, walk_full}
 use Rattle.stack_engine.proofs.read.+read.Goals.{read_block-in-Err-push, read_block-in-Ok-push}
 use Rattle.stack_meaning.proofs.lemmas.LeafLemmas.{all-whole}
 use Rattle.stack_rules.specs.Units.{unit_sectors}
@@ -129,6 +130,8 @@ read_device-loop-at-preserved g t c =
       so_far = same_reads config (mapped c.args.d.0) c.args.first _ (omega (arith, c.loop-at.invariant.whole)) (sym front)
           (device_ok config c.args.d.0 c.args.first (at / 512) count source c.requires.stack.sound.loaded c.run_to_read-run.ensures.some c.run_to_read-run.ensures.served c.loop-at.invariant.so_far more);
       cached = record { capacity = c.in-Ok.ensures.cached.capacity ∙ c.loop-at.invariant.cached.capacity; sound = c.in-Ok.ensures.cached.sound };
+      same = λ none. c.in-Ok.ensures.same (λ some. none (meets-device config c.args.d.0 c.args.first (at / 512) count all source c.requires.stack.sound.loaded (omega (arith, fits, c.loop-at.auto.out)) c.run_to_read-run.ensures.served
+          (subst (λ (k : ℕ). MeetVerity (source_said config source) 0 k) number some))) ∙ c.loop-at.invariant.same none;
       plain = subst (λ (n : ℕ). IsPlain (said_at config (mapped c.args.d.0)) c.args.first n (map state c.args.reader.now.devices.items) (map state c.read_run.new.reader.devices.items) (Ok tt)) (omega (arith, c.loop-at.invariant.whole))
           (device_plain config c.args.d.0 c.args.first (at / 512) count (at / 512 + count) source c.requires.stack.sound.loaded (omega arith) c.run_to_read-run.ensures.served c.loop-at.invariant.plain
           (subst (λ (n : ℕ). IsPlain (source_said config source) 0 n (map state c.loop-at.reader.devices.items) (map state c.read_run.new.reader.devices.items) (Ok tt)) number c.in-Ok.ensures.plain));
@@ -564,6 +567,19 @@ pub read_block-returns-after-push-clause-plain : goal.read_block-returns-after-p
 read_block-returns-after-push-clause-plain g t c = block_plain c.args.config.now c.args.part (length c.args.out.now / 512) (omega (arith, c.requires.fits.sectors.some, c.requires.fits.sectors.whole)) c.requires.fits.holds
 
 -- ---- one block that is checked
+
+pub read_checked-returns-in-Err-read_lower-clause-reads : goal.read_checked-returns-in-Err-read_lower-clause-reads
+read_checked-returns-in-Err-read_lower-clause-reads g t c =
+    let e = c.args.extent in
+    let state = g.D.BlockDev.state in
+    let block = c.in-Ok.block in
+    let out = c.read_lower.new.out in
+    let fault = c.in-Err-read_lower.fault in
+    let held : length out ≡ block.len = c.read_lower.auto.out ∙ ap (λ (l : List ℕ). length l) c.as_mut_slice.ensures.value ∙ sym block.ok.0 in
+    let size : block.len ≡ e.sectors * 512 = c.in-Ok.ensures in
+    let count : length c.as_mut_slice.result.now / 512 ≡ e.sectors = omega (arith, held, size, c.read_lower.auto.out) in
+    let got = subst (λ (k : ℕ). Reads c.args.config.now e.lower e.first k (record { old = map state c.args.reader.now.devices.items; new = map state c.read_lower.new.reader.devices.items; before = c.new-beneath.result.items; after = c.read_lower.new.found.items }) (Err fault)) count c.in-Err-read_lower.ensures.reads in
+    checked_err bytes (place_of c.args.config.now e.lower) e.first e.sectors c.args.salt.now c.args.expected.now c.read_lower.new.found.items fault got.got
 
 pub read_checked-returns-then-eq-clause-reads : goal.read_checked-returns-then-eq-clause-reads
 read_checked-returns-then-eq-clause-reads g t c =
@@ -2049,6 +2065,7 @@ read_device-loop-at-init g t c =
       };
       cached = record { capacity = refl; sound = c.requires.stack.cached };
       plain = plain-none (said_at config (mapped c.args.d.0)) c.args.first 0 old (Ok tt) (λ e. cc) tt;
+      same = λ none. refl;
       touches = touches-none (leaves_of config (mapped c.args.d.0)) old (Ok tt) tt;
       spent = omega arith;
       cut = inl refl;
@@ -2302,3 +2319,106 @@ read_blocks-returns-clause-spent g t c =
     let r : ℕ = c.checks.read in
     let read : r ≤ m = omega (arith, inv.most, many_are) in
     had-spent config v p n m line at.aligned at.size.some at.count r j read (omega (arith, inv.within, many_are)) inv.had.moved
+
+-- ---- where no verity line is on the way
+
+pub read_lower-returns-in-Leaf-clause-same : goal.read_lower-returns-in-Leaf-clause-same
+read_lower-returns-in-Leaf-clause-same g t c = λ none. refl
+
+pub read_lower-returns-in-Device-clause-same : goal.read_lower-returns-in-Device-clause-same
+read_lower-returns-in-Device-clause-same g t c = rw c.in-Device.is c.read_device.ensures.same
+
+pub read_run-returns-in-Below-clause-same : goal.read_run-returns-in-Below-clause-same
+read_run-returns-in-Below-clause-same g t c =
+    let config = c.args.config.now in
+    let n : ℕ = length c.args.out.now / 512 in
+    λ none. c.read_lower.ensures.same (λ some. none (subst (λ (s : Source). MeetVerity (source_said config s) 0 n) (sym c.in-Below.is) (meets-below config c.in-Below.lower c.in-Below.first n some)))
+
+pub read_run-returns-in-Units-clause-same : goal.read_run-returns-in-Units-clause-same
+read_run-returns-in-Units-clause-same g t c = rw c.in-Units.is c.read_units.ensures.same
+
+pub read_run-returns-in-UnitPart-clause-same : goal.read_run-returns-in-UnitPart-clause-same
+read_run-returns-in-UnitPart-clause-same g t c = rw c.in-UnitPart.is c.read_unit_part.ensures.same
+
+pub read_run-returns-in-Block-clause-same : goal.read_run-returns-in-Block-clause-same
+read_run-returns-in-Block-clause-same g t c = rw c.in-Block.is c.read_block.ensures.same
+
+pub read_run-returns-in-Blocks-clause-same : goal.read_run-returns-in-Blocks-clause-same
+read_run-returns-in-Blocks-clause-same g t c = rw c.in-Blocks.is c.read_blocks.ensures.same
+
+pub read_run-returns-in-Zeros-clause-same : goal.read_run-returns-in-Zeros-clause-same
+read_run-returns-in-Zeros-clause-same g t c = λ none. refl
+
+pub read_run-returns-in-Fails-clause-same : goal.read_run-returns-in-Fails-clause-same
+read_run-returns-in-Fails-clause-same g t c = λ none. refl
+
+pub read_units-returns-in-Ok-clause-same : goal.read_units-returns-in-Ok-clause-same
+read_units-returns-in-Ok-clause-same g t c =
+    let config = c.args.config.now in
+    let unit = c.unit_at-unit in
+    let n : ℕ = length c.args.out.now / 512 in
+    λ none. c.in-Ok.ensures.same (λ some. none (meets-units config c.args.part n c.crypt_at-crypt.result.now c.requires.stack.sound.loaded c.crypt_at-crypt.ensures c.requires.fits.holds unit.result.lower unit.ensures.lower
+    (subst (λ (k : ℕ). MeetVerity (said_at config unit.result.lower) k n) unit.ensures.first some)))
+
+pub read_units-returns-in-Err-clause-same : goal.read_units-returns-in-Err-clause-same
+read_units-returns-in-Err-clause-same g t c =
+    let config = c.args.config.now in
+    let unit = c.unit_at-unit in
+    let n : ℕ = length c.args.out.now / 512 in
+    λ none. c.in-Err.ensures.same (λ some. none (meets-units config c.args.part n c.crypt_at-crypt.result.now c.requires.stack.sound.loaded c.crypt_at-crypt.ensures c.requires.fits.holds unit.result.lower unit.ensures.lower
+    (subst (λ (k : ℕ). MeetVerity (said_at config unit.result.lower) k n) unit.ensures.first some)))
+
+pub read_unit_part-returns-in-Ok-clause-same : goal.read_unit_part-returns-in-Ok-clause-same
+read_unit_part-returns-in-Ok-clause-same g t c =
+    let config = c.args.config.now in
+    let whole = c.whole_unit-whole in
+    let count = room_sectors c.as_mut_slice-all.result.now whole.result.sectors (ap (λ (l : List ℕ). length l) c.as_mut_slice-all.ensures.value) whole.ensures.few in
+    λ none. c.in-Ok.ensures.same (λ some. none (meets-part config c.args.part whole.result (length c.args.out.now / 512) c.requires.stack.sound.loaded whole.ensures.whole c.requires.fits.holds (omega (arith, c.requires.fits.sectors.some, c.requires.fits.sectors.whole))
+    (subst (λ (k : ℕ). MeetVerity (source_said config (Units whole.result.from)) 0 k) count some)))
+
+pub read_unit_part-returns-in-Err-clause-same : goal.read_unit_part-returns-in-Err-clause-same
+read_unit_part-returns-in-Err-clause-same g t c =
+    let config = c.args.config.now in
+    let whole = c.whole_unit-whole in
+    let count = room_sectors c.as_mut_slice-all.result.now whole.result.sectors (ap (λ (l : List ℕ). length l) c.as_mut_slice-all.ensures.value) whole.ensures.few in
+    λ none. c.in-Err.ensures.same (λ some. none (meets-part config c.args.part whole.result (length c.args.out.now / 512) c.requires.stack.sound.loaded whole.ensures.whole c.requires.fits.holds (omega (arith, c.requires.fits.sectors.some, c.requires.fits.sectors.whole))
+    (subst (λ (k : ℕ). MeetVerity (source_said config (Units whole.result.from)) 0 k) count some)))
+
+pub read_block-returns-in-Some-clause-same : goal.read_block-returns-in-Some-clause-same
+read_block-returns-in-Some-clause-same g t c = λ none. refl
+
+pub read_block-returns-in-Err-clause-same : goal.read_block-returns-in-Err-clause-same
+read_block-returns-in-Err-clause-same g t c = λ none. absurd (none (meets-block c.args.config.now c.args.part (length c.args.out.now / 512) (omega (arith, c.requires.fits.sectors.some, c.requires.fits.sectors.whole)) c.requires.fits.holds))
+
+pub read_block-returns-after-push-clause-same : goal.read_block-returns-after-push-clause-same
+read_block-returns-after-push-clause-same g t c = λ none. absurd (none (meets-block c.args.config.now c.args.part (length c.args.out.now / 512) (omega (arith, c.requires.fits.sectors.some, c.requires.fits.sectors.whole)) c.requires.fits.holds))
+
+pub read_blocks-returns-in-Err-clause-same : goal.read_blocks-returns-in-Err-clause-same
+read_blocks-returns-in-Err-clause-same g t c = λ none. absurd (none (meets-blocks c.args.config.now c.args.part (length c.args.out.now / 512) (omega (arith, c.requires.fits.sectors.some, c.requires.fits.sectors.whole)) c.requires.fits.holds))
+
+pub read_blocks-returns-in-Err-read_beneath-clause-same : goal.read_blocks-returns-in-Err-read_beneath-clause-same
+read_blocks-returns-in-Err-read_beneath-clause-same g t c = λ none. absurd (none (meets-blocks c.args.config.now c.args.part (length c.args.out.now / 512) (omega (arith, c.requires.fits.sectors.some, c.requires.fits.sectors.whole)) c.requires.fits.holds))
+
+pub read_blocks-returns-then-not-settle-clause-same : goal.read_blocks-returns-then-not-settle-clause-same
+read_blocks-returns-then-not-settle-clause-same g t c = λ none. absurd (none (meets-blocks c.args.config.now c.args.part (length c.args.out.now / 512) (omega (arith, c.requires.fits.sectors.some, c.requires.fits.sectors.whole)) c.requires.fits.holds))
+
+pub read_blocks-returns-in-Err-keep-clause-same : goal.read_blocks-returns-in-Err-keep-clause-same
+read_blocks-returns-in-Err-keep-clause-same g t c = λ none. absurd (none (meets-blocks c.args.config.now c.args.part (length c.args.out.now / 512) (omega (arith, c.requires.fits.sectors.some, c.requires.fits.sectors.whole)) c.requires.fits.holds))
+
+pub read_blocks-returns-clause-same : goal.read_blocks-returns-clause-same
+read_blocks-returns-clause-same g t c = λ none. absurd (none (meets-blocks c.args.config.now c.args.part (length c.args.out.now / 512) (omega (arith, c.requires.fits.sectors.some, c.requires.fits.sectors.whole)) c.requires.fits.holds))
+
+pub read_device-returns-in-Err-clause-same : goal.read_device-returns-in-Err-clause-same
+read_device-returns-in-Err-clause-same g t c =
+    let config = c.args.config.now in
+    let at = c.loop-at.at in
+    let source = c.run_to_read-run.result.source in
+    let count = c.run_to_read-run.result.count in
+    let fits : at + count * 512 ≤ length c.loop-at.out = omega (arith, c.run_to_read-run.ensures.most, c.loop-at-test.true) in
+    let len = run_length c.loop-at.out at count fits in
+    let number : length (take (at + count * 512 - at) (drop at c.loop-at.out)) / 512 ≡ count = omega (arith, len) in
+    λ none. c.in-Err.ensures.same (λ some. none (meets-device config c.args.d.0 c.args.first (at / 512) count (length c.args.out.now / 512) source c.requires.stack.sound.loaded (omega (arith, fits, c.loop-at.auto.out)) c.run_to_read-run.ensures.served
+    (subst (λ (k : ℕ). MeetVerity (source_said config source) 0 k) number some))) ∙ c.loop-at.invariant.same none
+
+pub read_device-returns-clause-same : goal.read_device-returns-clause-same
+read_device-returns-clause-same g t c = c.loop-at.invariant.same

@@ -2,7 +2,7 @@ use Rattle.std.proofs.Common.{All, List, length, take, map, ◌-◌, ◌≡◌, 
 use Rattle.stack_rules.specs.Names.{mapped}
 use Rattle.stack_rules.specs.Descend.{depth}
 use Rattle.stack_meaning.specs.Meaning.{said_at}
-use Rattle.stack_meaning.specs.Reading.{Reads, IsPlain}
+use Rattle.stack_meaning.specs.Reading.{Reads, IsPlain, MeetVerity}
 use Rattle.stack_lines.specs.Sources.{source_depth}
 use Rattle.stack_lines.specs.Walks.{block_in, IsWalked}
 use Rattle.stack_lines.specs.Caches.{IsCached, KeepsCache}
@@ -35,6 +35,7 @@ invariant-read_device-loop-at g l = record {
   so_far : Reads l.config (mapped l.d.0) l.first (l.at / 512)
       (record { old = map g.D.BlockDev.state l.fn.reader.devices.items; new = map g.D.BlockDev.state l.reader.devices.items; before = l.fn.found.items; after = l.found.items }) (Ok (take l.at l.out));
   cached : KeepsCache l.config (map g.D.BlockDev.state l.reader.devices.items) l.fn.reader.cache l.reader.cache;
+  same : (MeetVerity (said_at l.config (mapped l.d.0)) l.first (length l.fn.out / 512) → ⊥) → l.reader.cache ≡ l.fn.reader.cache;
   plain : IsPlain (said_at l.config (mapped l.d.0)) l.first (l.at / 512) (map g.D.BlockDev.state l.fn.reader.devices.items) (map g.D.BlockDev.state l.reader.devices.items) (Ok tt);
   touches : TouchesOnly {A = Unit {0}} (leaves_of l.config (mapped l.d.0)) (map g.D.BlockDev.state l.fn.reader.devices.items) (map g.D.BlockDev.state l.reader.devices.items) (Ok tt);
   spent : ReadsAtMost (budget l.config (mapped l.d.0) l.first (l.at / 512)) (map g.D.BlockDev.state l.fn.reader.devices.items) (map g.D.BlockDev.state l.reader.devices.items);

@@ -15,6 +15,13 @@ use Rattle.stack_engine.proofs.SpentLemmas.{IsCutBehind, cut-behind}
 use Rattle.stack_engine.proofs.UncutLemmas.{device-uncut, leaf-plain, units-plain-below, unread-then}
 use Rattle.stack_engine.specs.Uncut.{SourceCutsNone}
 use Rattle.stack_engine.proofs.StackLemmas.{stack-later}
+use Rattle.stack_lines.specs.Caches.{StackCache}
+use Rattle.stack_lines.specs.Forgetting.{Forgets}
+use Rattle.stack_lines.specs.Touches.{leaves_of}
+use Rattle.stack_lines.proofs.lemmas.KeptLemmas.{forgets-none, forgets-then, forgets-up}
+use Rattle.stack_lines.proofs.lemmas.TouchLemmas.{crypt-within, served-within}
+use Rattle.stack_meaning.specs.Reading.{MeetVerity}
+use Rattle.stack_meaning.proofs.lemmas.LeafListLemmas.{AreRead-none}
 use Rattle.stack_meaning.proofs.lemmas.LoadedLemmas.{size-small}
 use Rattle.stack_lines.proofs.lemmas.SourceLemmas.{served-depth, served-holds}
 use Rattle.stack_lines.proofs.lemmas.WriteSourceLemmas.{served-may_write, below-alike, zeros-written, fails-written, device-written, device-ended}
@@ -37,7 +44,7 @@ use Rattle.stack_meaning.specs.Places.{Read}
 use Rattle.stack_meaning.specs.Reading.{IsPlain}
 use Rattle.stack_lines.specs.Sources.{ReadsSource}
 use Rattle.stack_meaning.proofs.lemmas.LeafLemmas.{all-whole}
-use Rattle.stack_engine.proofs.UnitChangeLemmas.{part-ended, part-written}
+use Rattle.stack_engine.proofs.UnitChangeLemmas.{none-meets, part-ended, part-written}
 use Rattle.stack_engine.proofs.UnitWriteLemmas.{lower-written, units-none, units-more, units-ended}
 use Rattle.stack_engine.proofs.RunBytesLemmas.{room_length, room_sectors, run_length, run_sectors, front_whole, with_run, with_rest, run_served, ends_before, ends_after, ends_behind}
 use Rattle.stack_engine.proofs.UnitStepLemmas.{step-at, step-width, step-written}
@@ -57,6 +64,7 @@ write_device-loop-at-init g t c =
       so_far = subst (λ (l : List (List ℕ)). Writes to c.args.first l leaves leaves (Ok tt)) (sym sectors_in-none) (write_none to c.args.first leaves (put-none c.args.config.now (mapped c.args.d.0) c.args.first));
       ends = inl (inl refl);
       uncut = λ cuts. refl;
+      forgets = forgets-none c.args.reader.now.cache.blocks.blocks (AreRead-none 0 leaves);
       cut = inl refl;
       cached = record { capacity = refl; sound = c.requires.can.stack.cached };
     }
@@ -127,6 +135,7 @@ write_device-loop-at-preserved g t c =
     let number : count ≡ length (part ++ room) / 512 = omega (arith, len, ap (λ (l : List ℕ). length l) same) in
     record {
       whole = omega (arith, c.loop-at.invariant.whole);
+      forgets = forgets-then c.loop-at.invariant.forgets (forgets-up (served-within config c.args.d.0 (c.args.first + at / 512) count source c.requires.can.stack.sound.loaded c.run_at-run.ensures.some c.run_at-run.ensures.served) c.in-Ok.ensures.forgets);
       uncut = λ cuts. unread-then (map g.D.BlockDev.state c.args.reader.now.devices.items) (map g.D.BlockDev.state c.loop-at.reader.devices.items) (map g.D.BlockDev.state c.write_run.new.reader.devices.items) (c.loop-at.invariant.uncut cuts) (c.in-Ok.ensures.uncut (subst (SourceCutsNone config source) number
           (device-uncut config c.args.d.0 c.args.first (at / 512) count ((length c.held-len.result.now - at) / 512) (length bytes / 512) source c.requires.can.stack.sound.loaded c.run_at-run.ensures.some (omega (arith, fits)) (omega (arith, c.loop-at.invariant.whole, fits, ap (λ (l : List ℕ). length l) c.held-len.ensures)) c.loop-at.invariant.cut c.run_at-run.ensures.longest c.run_at-run.ensures.served cuts)));
       cut = subst (λ (k : ℕ). IsCutBehind config c.args.d.0 c.args.first k (length bytes / 512)) ends_at
@@ -379,6 +388,7 @@ write_units-loop-at-init g t c =
     record {
       even = omega arith;
       uncut = λ cuts. refl;
+      forgets = forgets-none c.args.reader.now.cache.blocks.blocks (AreRead-none 0 leaves);
       within = omega arith;
       rest = refl;
       so_far = subst (λ (l : List (List ℕ)). Writes to 0 l leaves leaves (Ok tt)) (sym sectors_in-none) (write_none to 0 leaves (λ images. units-none c.args.config.now c.args.part images));
@@ -409,6 +419,7 @@ write_units-loop-at-preserved g t c =
     let all = units-more config p bytes n crypt c.requires.stack.sound.loaded has c.requires.fits.holds lower unit.ensures.lower long (at / size) step.fits so_far wrote in
     record {
       even = ap (λ (k : ℕ). k % size) step.end_is ∙ step.even;
+      forgets = forgets-then c.loop-at.invariant.forgets (forgets-up (crypt-within config p.device.0 p.line 0 crypt lower c.requires.stack.sound.loaded has unit.ensures.lower) c.in-Ok.ensures.forgets);
       uncut = λ cuts. unread-then (map g.D.BlockDev.state c.args.reader.now.devices.items) (map g.D.BlockDev.state c.loop-at.reader.devices.items) (map g.D.BlockDev.state c.write_lower-in-loop-at.new.reader.devices.items) (c.loop-at.invariant.uncut cuts) (c.in-Ok.ensures.writes.unread (units-plain-below config p n crypt lower (unit.result.first + at / 512) has unit.ensures.lower cuts (at / 512) (length (sectors_in (take (c.min-end.result - at) (drop at now)))) (omega (arith, unit.ensures.first))
           (omega (arith, long, c.min-end.ensures, c.loop-at.auto.units, c.encrypt.auto.units, length-sectors_in (take (c.min-end.result - at) (drop at now)), length-take (c.min-end.result - at) (drop at now), length-drop at now))));
       within = omega (arith, c.min-end.ensures, c.encrypt.auto.units);
@@ -632,3 +643,84 @@ write_device-returns-in-Err-clause-uncut g t c =
 
 pub write_device-returns-clause-uncut : goal.write_device-returns-clause-uncut
 write_device-returns-clause-uncut g t c = c.loop-at.invariant.uncut
+
+-- ---- the kept blocks
+
+pub write_lower-returns-in-Leaf-clause-forgets : goal.write_lower-returns-in-Leaf-clause-forgets
+write_lower-returns-in-Leaf-clause-forgets g t c = rw c.in-Leaf.is c.write_leaf.ensures.forgets
+
+pub write_lower-returns-in-Device-clause-forgets : goal.write_lower-returns-in-Device-clause-forgets
+write_lower-returns-in-Device-clause-forgets g t c = rw c.in-Device.is c.write_device.ensures.forgets
+
+pub write_run-returns-in-Below-clause-forgets : goal.write_run-returns-in-Below-clause-forgets
+write_run-returns-in-Below-clause-forgets g t c = rw c.in-Below.is c.write_lower.ensures.forgets
+
+pub write_run-returns-in-Units-clause-forgets : goal.write_run-returns-in-Units-clause-forgets
+write_run-returns-in-Units-clause-forgets g t c = rw c.in-Units.is c.write_units.ensures.forgets
+
+pub write_run-returns-in-UnitPart-clause-forgets : goal.write_run-returns-in-UnitPart-clause-forgets
+write_run-returns-in-UnitPart-clause-forgets g t c = rw c.in-UnitPart.is c.write_unit_part.ensures.forgets
+
+pub write_run-returns-in-Zeros-clause-forgets : goal.write_run-returns-in-Zeros-clause-forgets
+write_run-returns-in-Zeros-clause-forgets g t c = forgets-none c.args.reader.now.cache.blocks.blocks (AreRead-none 0 (map g.D.BlockDev.state c.args.reader.now.devices.items))
+
+pub write_run-returns-in-Fails-clause-forgets : goal.write_run-returns-in-Fails-clause-forgets
+write_run-returns-in-Fails-clause-forgets g t c = forgets-none c.args.reader.now.cache.blocks.blocks (AreRead-none 0 (map g.D.BlockDev.state c.args.reader.now.devices.items))
+
+pub write_units-returns-then-lower_cuts-clause-forgets : goal.write_units-returns-then-lower_cuts-clause-forgets
+write_units-returns-then-lower_cuts-clause-forgets g t c =
+    let p = c.args.part in
+    forgets-up (crypt-within c.args.config.now p.device.0 p.line 0 c.crypt_at-crypt.result.now c.unit_at-unit.result.lower c.requires.stack.sound.loaded c.crypt_at-crypt.ensures c.unit_at-unit.ensures.lower) c.write_lower.ensures.forgets
+
+pub write_units-returns-in-Err-clause-forgets : goal.write_units-returns-in-Err-clause-forgets
+write_units-returns-in-Err-clause-forgets g t c =
+    let p = c.args.part in
+    forgets-then c.loop-at.invariant.forgets
+    (forgets-up (crypt-within c.args.config.now p.device.0 p.line 0 c.crypt_at-crypt.result.now c.unit_at-unit.result.lower c.requires.stack.sound.loaded c.crypt_at-crypt.ensures c.unit_at-unit.ensures.lower) c.in-Err.ensures.forgets)
+
+pub write_units-returns-clause-forgets : goal.write_units-returns-clause-forgets
+write_units-returns-clause-forgets g t c = c.loop-at.invariant.forgets
+
+pub write_unit_part-returns-in-Err-clause-forgets : goal.write_unit_part-returns-in-Err-clause-forgets
+write_unit_part-returns-in-Err-clause-forgets g t c =
+    let config = c.args.config.now in
+    let state = g.D.BlockDev.state in
+    let p = c.args.part in
+    let n : ℕ = length c.args.bytes.now / 512 in
+    let whole = c.whole_unit-whole in
+    let count = room_sectors c.as_mut_slice-all.result.now whole.result.sectors (ap (λ (l : List ℕ). length l) c.as_mut_slice-all.ensures.value) whole.ensures.few in
+    let none = none-meets config p whole.result c.args.bytes.now n c.requires.stack.sound.loaded whole.ensures.whole c.requires.fits.holds (omega (arith, c.requires.fits.sectors.some, c.requires.fits.sectors.whole)) (omega (arith, c.requires.fits.sectors.whole)) c.requires.allowed in
+    let before = c.args.reader.now.cache.blocks.blocks in
+    let same : c.read_units.new.reader.cache ≡ c.args.reader.now.cache =
+    c.in-Err.ensures.same (λ x. none (subst (λ (k : ℕ). MeetVerity (source_said config (Units whole.result.from)) 0 k) count x)) in
+    let read : Forgets config (leaves_of config (mapped p.device.0)) (map state c.args.reader.now.devices.items) (map state c.read_units.new.reader.devices.items) before c.read_units.new.reader.cache.blocks.blocks =
+    subst (λ (k : StackCache). Forgets config (leaves_of config (mapped p.device.0)) (map state c.args.reader.now.devices.items) (map state c.read_units.new.reader.devices.items) before k.blocks.blocks) (sym same)
+    (forgets-none before c.in-Err.ensures.reads.got.moved) in
+    read
+
+pub write_unit_part-returns-clause-forgets : goal.write_unit_part-returns-clause-forgets
+write_unit_part-returns-clause-forgets g t c =
+    let config = c.args.config.now in
+    let state = g.D.BlockDev.state in
+    let p = c.args.part in
+    let n : ℕ = length c.args.bytes.now / 512 in
+    let whole = c.whole_unit-whole in
+    let count = room_sectors c.as_mut_slice-all.result.now whole.result.sectors (ap (λ (l : List ℕ). length l) c.as_mut_slice-all.ensures.value) whole.ensures.few in
+    let none = none-meets config p whole.result c.args.bytes.now n c.requires.stack.sound.loaded whole.ensures.whole c.requires.fits.holds (omega (arith, c.requires.fits.sectors.some, c.requires.fits.sectors.whole)) (omega (arith, c.requires.fits.sectors.whole)) c.requires.allowed in
+    let before = c.args.reader.now.cache.blocks.blocks in
+    let same : c.read_units.new.reader.cache ≡ c.args.reader.now.cache =
+    c.in-Ok.ensures.same (λ x. none (subst (λ (k : ℕ). MeetVerity (source_said config (Units whole.result.from)) 0 k) count x)) in
+    let read : Forgets config (leaves_of config (mapped p.device.0)) (map state c.args.reader.now.devices.items) (map state c.read_units.new.reader.devices.items) before c.read_units.new.reader.cache.blocks.blocks =
+    subst (λ (k : StackCache). Forgets config (leaves_of config (mapped p.device.0)) (map state c.args.reader.now.devices.items) (map state c.read_units.new.reader.devices.items) before k.blocks.blocks) (sym same)
+    (forgets-none before c.in-Ok.ensures.reads.got.moved) in
+    forgets-then read (subst (λ (b : BlockPart). Forgets config (leaves_of config (mapped b.device.0)) (map state c.read_units.new.reader.devices.items) (map state c.write_units.new.reader.devices.items)
+    c.read_units.new.reader.cache.blocks.blocks c.write_units.new.reader.cache.blocks.blocks) whole.ensures.whole.from c.write_units.ensures.forgets)
+
+pub write_device-returns-in-Err-clause-forgets : goal.write_device-returns-in-Err-clause-forgets
+write_device-returns-in-Err-clause-forgets g t c =
+    let run = c.run_at-run in
+    forgets-then c.loop-at.invariant.forgets
+    (forgets-up (served-within c.args.config.now c.args.d.0 (c.args.first + c.loop-at.at / 512) run.result.count run.result.source c.requires.can.stack.sound.loaded run.ensures.some run.ensures.served) c.in-Err.ensures.forgets)
+
+pub write_device-returns-clause-forgets : goal.write_device-returns-clause-forgets
+write_device-returns-clause-forgets g t c = c.loop-at.invariant.forgets

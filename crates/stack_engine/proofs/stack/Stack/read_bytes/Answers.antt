@@ -1,4 +1,4 @@
-use Rattle.std.proofs.Common.{◌/◌, ℕ, List, length, map, Result, subst}
+use Rattle.std.proofs.Common.{◌/◌, ℕ, List, length, map, Result, ap, subst}
 use Rattle.stack_meaning.specs.declared.fault.IoFault.{IoFault}
 use Rattle.stack_meaning.specs.Leaves.{AreSteady}
 use Rattle.stack_rules.specs.Names.{mapped}
@@ -8,9 +8,12 @@ use Rattle.stack_meaning.specs.Meaning.{said_at}
 use Rattle.stack_meaning.specs.Reading.{MeetVerity, buffer_answer}
 use Rattle.stack_meaning.specs.Stops.{ReadStops}
 use Rattle.stack_engine.specs.Stacks.{StackRecord}
-use Rattle.stack_engine.specs.Pieces.{stack_over}
+use Rattle.stack_engine.specs.Pieces.{stack_with}
 use Rattle.stack_engine.specs.Bytes.{AnyBytes, SteadyBytes}
 use Rattle.stack_engine.proofs.BytesLemmas.{each-bytes}
+use Rattle.stack_engine.proofs.CachedLemmas.{cached-checked}
+use Rattle.stack_lines.specs.Caches.{StackCache}
+use Rattle.stack_engine.specs.KeptBlocks.{ReadKeeps}
 use Rattle.stack_engine.proofs.lemmas.PieceLemmas.{piece-sound}
 use Rattle.stack_engine.proofs.TouchedLemmas.{buffer-touched}
 use Rattle.stack_engine.proofs.stack.Stack.read_bytes.Goals as goal
@@ -22,16 +25,16 @@ pub returns-clause-any : goal.returns-clause-any
 returns-clause-any g c =
     let n : ℕ = length c.args.out.now / 512 in
     let answer : Result (List ℕ) IoFault = buffer_answer c.device_bytes.result c.device_bytes.new.out in
-    let after : StackRecord = stack_over c.self.inside.config (map g.D.BlockDev.state c.device_bytes.new.reader.devices.items) c.device_bytes.new.reader.cache.blocks.capacity in
-    subst (λ (w : StackRecord). AnyBytes w c.args.d.0 c.args.first n answer after) c.self.view_is (each-bytes c.self.inside.config c.args.d.0 c.args.first n answer c.device_bytes.ensures.reads (buffer-touched c.device_bytes.result c.device_bytes.new.out c.device_bytes.ensures.touches) c.device_bytes.ensures.cached.capacity).any
+    let after : StackRecord = stack_with c.self.inside.config (map g.D.BlockDev.state c.device_bytes.new.reader.devices.items) c.device_bytes.new.reader.cache.blocks in
+    subst (λ (w : StackRecord). AnyBytes w c.args.d.0 c.args.first n answer after) c.self.view_is (each-bytes c.self.inside.config c.args.d.0 c.args.first n answer c.device_bytes.ensures.reads (buffer-touched c.device_bytes.result c.device_bytes.new.out c.device_bytes.ensures.touches) {before = c.self.inside.reader.cache.blocks} {after = c.device_bytes.new.reader.cache.blocks} c.device_bytes.ensures.cached.capacity).any
 
 pub returns-clause-steady : goal.returns-clause-steady
 returns-clause-steady g c =
     let n : ℕ = length c.args.out.now / 512 in
     let answer : Result (List ℕ) IoFault = buffer_answer c.device_bytes.result c.device_bytes.new.out in
-    let after : StackRecord = stack_over c.self.inside.config (map g.D.BlockDev.state c.device_bytes.new.reader.devices.items) c.device_bytes.new.reader.cache.blocks.capacity in
+    let after : StackRecord = stack_with c.self.inside.config (map g.D.BlockDev.state c.device_bytes.new.reader.devices.items) c.device_bytes.new.reader.cache.blocks in
     subst (λ (w : StackRecord). AreSteady (leaves_of w.config (mapped c.args.d.0)) w.leaves → SteadyBytes w c.args.d.0 c.args.first n answer after) c.self.view_is
-    (each-bytes c.self.inside.config c.args.d.0 c.args.first n answer c.device_bytes.ensures.reads (buffer-touched c.device_bytes.result c.device_bytes.new.out c.device_bytes.ensures.touches) c.device_bytes.ensures.cached.capacity).steady
+    (each-bytes c.self.inside.config c.args.d.0 c.args.first n answer c.device_bytes.ensures.reads (buffer-touched c.device_bytes.result c.device_bytes.new.out c.device_bytes.ensures.touches) {before = c.self.inside.reader.cache.blocks} {after = c.device_bytes.new.reader.cache.blocks} c.device_bytes.ensures.cached.capacity).steady
 
 pub returns-clause-stops : goal.returns-clause-stops
 returns-clause-stops g c =
@@ -44,3 +47,10 @@ pub returns-clause-spent : goal.returns-clause-spent
 returns-clause-spent g c =
     subst (λ (w : StackRecord). ReadsAtMost (budget w.config (mapped c.args.d.0) c.args.first (length c.args.out.now / 512)) w.leaves (map g.D.BlockDev.state c.device_bytes.new.reader.devices.items)) c.self.view_is
     c.device_bytes.ensures.spent
+
+pub returns-clause-kept : goal.returns-clause-kept
+returns-clause-kept g c =
+    let n : ℕ = length c.args.out.now / 512 in
+    let after : StackRecord = stack_with c.self.inside.config (map g.D.BlockDev.state c.device_bytes.new.reader.devices.items) c.device_bytes.new.reader.cache.blocks in
+    subst (λ (w : StackRecord). ReadKeeps w c.args.d.0 c.args.first n after) c.self.view_is
+    (record { same = λ none. ap (λ (k : StackCache). k.blocks.blocks) (c.device_bytes.ensures.same none); checked = cached-checked c.self.inside.config c.device_bytes.ensures.cached.sound })

@@ -11,7 +11,10 @@ use Rattle.stack_lines.specs.Touches.{NamesOneOf, leaves_of}
 use Rattle.stack_lines.specs.Budgets.{ReadsAtMost, budget}
 use Rattle.stack_lines.proofs.lemmas.TouchLemmas.{touches-as}
 use Rattle.stack_engine.specs.Stacks.{StackRecord, AnswerRecord}
-use Rattle.stack_engine.specs.Pieces.{EachPiece, stack_over}
+use Rattle.stack_engine.specs.Pieces.{EachPiece, stack_with}
+use Rattle.stack_engine.proofs.CachedLemmas.{cached-checked}
+use Rattle.stack_lines.specs.Caches.{StackCache}
+use Rattle.stack_engine.specs.KeptBlocks.{AreChecked, ReadKeeps}
 use Rattle.stack_engine.proofs.lemmas.PieceLemmas.{piece_expected, each-piece, piece-sound, piece_ok, piece_err}
 use Rattle.stack_engine.proofs.stack.Stack.read_piece.Goals.{in-Err-read_device, in-Ok-read_device}
 use Rattle.stack_engine.proofs.stack.Stack.read_piece.Given as given
@@ -39,7 +42,7 @@ reads g c =
     subst (λ k. R k []) (count g c) (subst (R (length c.as_mut_slice.result.now / 512)) c.new-chains.ensures.items c.read_device.ensures.reads)
 
 piece : (g : given.Over) (c : goal.Joined-read_device g)
-    → EachPiece c.args.self.now c.args.d.0 c.args.first c.args.n c.match-read_device.result (stack_over c.self.inside.config (map g.D.BlockDev.state c.read_device.new.reader.devices.items) c.read_device.new.reader.cache.blocks.capacity)
+    → EachPiece c.args.self.now c.args.d.0 c.args.first c.args.n c.match-read_device.result (stack_with c.self.inside.config (map g.D.BlockDev.state c.read_device.new.reader.devices.items) c.read_device.new.reader.cache.blocks)
 piece g c =
     let state = g.D.BlockDev.state in
     let config = c.self.inside.config in
@@ -62,8 +65,8 @@ piece g c =
       | in-Err-read_device w ↦ subst Names (sym w.result-is) (subst (λ (r : Result Unit IoFault). IfErr r (NamesOneOf these)) w.in-Err-read_device.is c.read_device.ensures.touches.fault)
       | in-Ok-read_device w ↦ subst Names (sym w.result-is) tt
     ] in
-    subst (λ (w : StackRecord). EachPiece w c.args.d.0 c.args.first c.args.n c.match-read_device.result (stack_over config new c.read_device.new.reader.cache.blocks.capacity)) c.self.view_is
-    (each-piece config c.args.d.0 c.args.first c.args.n c.match-read_device.result got (touches-as c.match-read_device.result fault c.read_device.ensures.touches) c.read_device.ensures.cached.capacity)
+    subst (λ (w : StackRecord). EachPiece w c.args.d.0 c.args.first c.args.n c.match-read_device.result (stack_with config new c.read_device.new.reader.cache.blocks)) c.self.view_is
+    (each-piece config c.args.d.0 c.args.first c.args.n c.match-read_device.result got (touches-as c.match-read_device.result fault c.read_device.ensures.touches) {before = c.self.inside.reader.cache.blocks} {after = c.read_device.new.reader.cache.blocks} c.read_device.ensures.cached.capacity)
 
 pub invariant_of-self : goal.invariant_of-self
 invariant_of-self g c = record { sound = piece-sound c.self.inside.config c.self.invariant.sound (reads g c).got.moved; cached = c.read_device.ensures.cached.sound }
@@ -100,3 +103,16 @@ returns-clause-spent g c =
 
 pub returns-in-Err-clause-spent : goal.returns-in-Err-clause-spent
 returns-in-Err-clause-spent g c = omega arith
+
+-- the blocks that are kept
+
+pub returns-clause-kept : goal.returns-clause-kept
+returns-clause-kept g c =
+    let config = c.self.inside.config in
+    let after : StackRecord = stack_with config (map g.D.BlockDev.state c.read_device.new.reader.devices.items) c.read_device.new.reader.cache.blocks in
+    let none_met = subst (λ (n : ℕ). (MeetVerity (said_at config (mapped c.args.d.0)) c.args.first n → ⊥) → c.read_device.new.reader.cache ≡ c.self.inside.reader.cache) (count g c) c.read_device.ensures.same in
+    subst (λ (w : StackRecord). ReadKeeps w c.args.d.0 c.args.first c.args.n after) c.self.view_is
+    (record { same = λ none. ap (λ (k : StackCache). k.blocks.blocks) (none_met none); checked = cached-checked config c.read_device.ensures.cached.sound })
+
+pub returns-in-Err-clause-kept : goal.returns-in-Err-clause-kept
+returns-in-Err-clause-kept g c = record { same = λ none. refl; checked = subst AreChecked c.self.view_is (cached-checked c.self.inside.config c.self.invariant.cached) }

@@ -2,11 +2,13 @@ use Rattle.std.proofs.Common.{◌≡◌, ℕ, ◌-◌, ◌/◌, List, ◌++◌, 
 use Rattle.std.proofs.lemmas.List.{take_all, length-drop}
 use Rattle.stack_rules.specs.Names.{mapped}
 use Rattle.stack_engine.specs.Stacks.{StackRecord}
-use Rattle.stack_engine.specs.Pieces.{stack_over}
+use Rattle.stack_engine.specs.Pieces.{stack_with}
 use Rattle.stack_meaning.specs.Changes.{NoneRead}
 use Rattle.stack_engine.specs.Uncut.{CutsNone}
 use Rattle.stack_lines.specs.Writing.{sectors_in, destination_of, Writes}
 use Rattle.stack_engine.specs.WritePieces.{EachWrite}
+use Rattle.stack_engine.proofs.CachedLemmas.{cached-checked}
+use Rattle.stack_engine.specs.KeptBlocks.{AreChecked}
 use Rattle.stack_engine.proofs.lemmas.WritePieceLemmas.{each-write, none-written, write-sound}
 use Rattle.stack_meaning.proofs.lemmas.LeafLemmas.{all-whole}
 use Rattle.stack_engine.proofs.stack.Stack.write_piece.Given as given
@@ -24,19 +26,19 @@ bytes_of g c =
 
 -- what the write did, of the stack's own devices
 piece : (g : given.Over) (c : goal.After-drop-buffer g)
-    → EachWrite (stack_over c.self.inside.config (map g.D.BlockDev.state c.self.inside.reader.devices.items) c.self.inside.reader.cache.blocks.capacity) c.args.d.0 c.args.first c.args.bytes.now c.write_device.result
-    (stack_over c.self.inside.config (map g.D.BlockDev.state c.write_device.new.reader.devices.items) c.write_device.new.reader.cache.blocks.capacity)
+    → EachWrite (stack_with c.self.inside.config (map g.D.BlockDev.state c.self.inside.reader.devices.items) c.self.inside.reader.cache.blocks) c.args.d.0 c.args.first c.args.bytes.now c.write_device.result
+    (stack_with c.self.inside.config (map g.D.BlockDev.state c.write_device.new.reader.devices.items) c.write_device.new.reader.cache.blocks)
 piece g c =
     let state = g.D.BlockDev.state in
     let Is : List ℕ → Type 0 = λ b.
     Writes (destination_of c.self.inside.config (mapped c.args.d.0)) c.args.first (sectors_in b) (map state c.self.inside.reader.devices.items) (map state c.write_device.new.reader.devices.items) c.write_device.result in
-    each-write c.args.d.0 c.args.first c.args.bytes.now c.write_device.result refl c.write_device.ensures.cached.capacity (λ was. all-whole state g.met.D.BlockDev.whole c.write_device.new.reader.devices.items) (subst Is (bytes_of g c) c.write_device.ensures.writes)
+    each-write c.args.d.0 c.args.first c.args.bytes.now c.write_device.result refl c.write_device.ensures.cached.capacity (λ was. all-whole state g.met.D.BlockDev.whole c.write_device.new.reader.devices.items) c.write_device.ensures.forgets (subst Is (bytes_of g c) c.write_device.ensures.writes)
 
 -- of the stack as it was
 whole : (g : given.Over) (c : goal.After-drop-buffer g)
-    → EachWrite c.args.self.now c.args.d.0 c.args.first c.args.bytes.now c.write_device.result (stack_over c.self.inside.config (map g.D.BlockDev.state c.write_device.new.reader.devices.items) c.write_device.new.reader.cache.blocks.capacity)
+    → EachWrite c.args.self.now c.args.d.0 c.args.first c.args.bytes.now c.write_device.result (stack_with c.self.inside.config (map g.D.BlockDev.state c.write_device.new.reader.devices.items) c.write_device.new.reader.cache.blocks)
 whole g c =
-    subst (λ (w : StackRecord). EachWrite w c.args.d.0 c.args.first c.args.bytes.now c.write_device.result (stack_over c.self.inside.config (map g.D.BlockDev.state c.write_device.new.reader.devices.items) c.write_device.new.reader.cache.blocks.capacity)) c.self.view_is (piece g c)
+    subst (λ (w : StackRecord). EachWrite w c.args.d.0 c.args.first c.args.bytes.now c.write_device.result (stack_with c.self.inside.config (map g.D.BlockDev.state c.write_device.new.reader.devices.items) c.write_device.new.reader.cache.blocks)) c.self.view_is (piece g c)
 
 pub invariant_of-self : goal.invariant_of-self
 invariant_of-self g c = record { sound = write-sound c.self.inside.config c.self.invariant.sound (piece g c); cached = c.write_device.ensures.cached.sound }
@@ -66,3 +68,11 @@ returns-clause-uncut g c =
 
 pub returns-in-Err-clause-uncut : goal.returns-in-Err-clause-uncut
 returns-in-Err-clause-uncut g c = λ cuts. refl
+
+-- the blocks that are kept
+
+pub returns-clause-checked : goal.returns-clause-checked
+returns-clause-checked g c = cached-checked c.self.inside.config c.write_device.ensures.cached.sound
+
+pub returns-in-Err-clause-checked : goal.returns-in-Err-clause-checked
+returns-in-Err-clause-checked g c = subst AreChecked c.self.view_is (cached-checked c.self.inside.config c.self.invariant.cached)
