@@ -1,3 +1,4 @@
 pub mod BindingLemmas
 pub mod CommandWordLemmas
+pub mod ImageCopyLemmas
 pub mod lemmas

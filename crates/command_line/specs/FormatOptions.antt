@@ -46,6 +46,7 @@ pub record OptionTexts : Type 0 where
   pub differing : Bool
   pub progress : Bool
   pub json : Bool
+  pub check : Bool
 
 -- what the program's own value says
 abbrev pub text_of : Option (Bor (List ℕ)) → Option (List ℕ)
@@ -79,6 +80,7 @@ option_texts words = record {
   differing = words.differing;
   progress = words.progress;
   json = words.json;
+  check = words.check;
 }
 
 -- each value is the one that its text says; where there is no text, it is 4,096 for a block size, and none for the others

@@ -7,6 +7,7 @@ use Rattle.command_line.specs.words.Copy.{CopyRecord, copy_record, copy_said}
 use Rattle.command_line.specs.words.Exports.{ExportsRecord, exports_record, exports_said}
 use Rattle.command_line.specs.words.Load.{LoadRecord, load_record, load_said}
 use Rattle.command_line.specs.words.Manual.{manual_said}
+use Rattle.command_line.specs.words.Repair.{RepairRecord, repair_record, repair_said}
 use Rattle.command_line.specs.words.Scan.{ScanRecord, scan_record, scan_said}
 use Rattle.command_line.specs.words.Store.{StoreRecord, store_record, store_said}
 use Rattle.command_line.specs.FurtherWords.{has_fec_value}
@@ -22,7 +23,7 @@ use Rattle.command_line.specs.words.TreeFormat.{TreeFormatRecord, tree_format_re
 use Rattle.command_line.specs.words.TreeVerify.{TreeVerifyRecord, tree_verify_record, tree_verify_said}
 use Rattle.command_line.specs.words.TreeTable.{TreeTableRecord, tree_table_record, tree_table_said}
 use Rattle.command_line.specs.declared.further.Further.{Further}
-use Rattle.command_line.specs.declared.further.Further.TheVariants.{Load, Cat, Store, Format, Verify, Dump, Table, Partitions, Diff, Scan, Copy, Exports, Manual, Version, FormatTree, VerifyTree, TableTree, FormatFec, VerifyFec}
+use Rattle.command_line.specs.declared.further.Further.TheVariants.{Load, Cat, Store, Format, Verify, Dump, Table, Partitions, Diff, Scan, Copy, Exports, Manual, Version, FormatTree, VerifyTree, TableTree, FormatFec, VerifyFec, Repair}
 
 pub data FurtherRecord : Type 0 where
   load : LoadRecord → FurtherRecord
@@ -45,6 +46,7 @@ pub data FurtherRecord : Type 0 where
   table_tree : TreeTableRecord → FurtherRecord
   format_fec : FecFormatRecord → FurtherRecord
   verify_fec : FecVerifyRecord → FurtherRecord
+  repair : RepairRecord → FurtherRecord
 
 -- the commands on trees without a superblock
 abbrev pub tree_said : List ℕ → OptionTexts → List (List ℕ) → Option FurtherRecord
@@ -94,7 +96,8 @@ command_said name texts words =
 -- the same, where `--fec` or `--no-superblock` may stand
 abbrev pub further_said : List ℕ → OptionTexts → List (List ℕ) → Option FurtherRecord
 further_said name texts words =
-    if has_fec_value texts then fec_said name texts words
+    if bytes_eq name (codes "repair") then option_map repair (repair_said texts words)
+    else if has_fec_value texts then fec_said name texts words
     else if texts.no_superblock then tree_said name texts words else command_said name texts words
 
 -- what the program's own value says
@@ -118,3 +121,4 @@ further_record (VerifyTree w) = verify_tree (tree_verify_record w)
 further_record (TableTree w) = table_tree (tree_table_record w)
 further_record (FormatFec w) = format_fec (fec_format_record w)
 further_record (VerifyFec w) = verify_fec (fec_verify_record w)
+further_record (Repair w) = repair (repair_record w)

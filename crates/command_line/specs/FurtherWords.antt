@@ -20,7 +20,7 @@ has_further_flag texts = texts.all || texts.stack || texts.no_superblock || text
 
 -- one that says how something is done or told
 unfoldable pub has_manner : OptionTexts → Bool
-has_manner texts = texts.differing || texts.progress || texts.json
+has_manner texts = texts.differing || texts.progress || texts.json || texts.check
 
 -- a number of cached blocks beside a command that goes over a device
 unfoldable pub is_cached_pass : List ℕ → OptionTexts → Bool
@@ -38,7 +38,7 @@ is_beside_format name texts = has_tree_value texts && not (bytes_eq name (codes 
 unfoldable pub is_new : List ℕ → Bool
 is_new name =
     bytes_eq name (codes "cat") || bytes_eq name (codes "store") || bytes_eq name (codes "partitions") || bytes_eq name (codes "diff")
-    || bytes_eq name (codes "manual") || bytes_eq name (codes "version")
+    || bytes_eq name (codes "repair") || bytes_eq name (codes "manual") || bytes_eq name (codes "version")
 
 -- such a command, or an option that the command hasn't there
 unfoldable pub is_further : List ℕ → OptionTexts → Bool

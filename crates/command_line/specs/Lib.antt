@@ -5,6 +5,7 @@ pub mod FecFiles
 pub mod FormatOptions
 pub mod FurtherWords
 pub mod Values
+pub mod ImageCopies
 pub mod PartBindings
 pub mod words
 pub mod FurtherRecords

@@ -9,6 +9,7 @@ pub mod Format
 pub mod Load
 pub mod Manual
 pub mod Partitions
+pub mod Repair
 pub mod Scan
 pub mod Store
 pub mod Table

@@ -16,6 +16,7 @@ use crate::words::format::{FormatWords, format_of};
 use crate::words::load::{LoadWords, load_of};
 use crate::words::manual::{manual_of, version_of};
 use crate::words::partitions::{PartitionsWords, partitions_of};
+use crate::words::repair::{RepairWords, repair_of};
 use crate::words::scan::{ScanWords, scan_of};
 use crate::words::store::{StoreWords, store_of};
 use crate::words::table::{TableWords, table_of};
@@ -48,6 +49,7 @@ pub enum Further<'a> {
     TableTree(TreeTableWords<'a>),
     FormatFec(FecFormatWords<'a>),
     VerifyFec(FecVerifyWords<'a>),
+    Repair(RepairWords<'a>),
 }
 
 /// The command of that name; with `--fec` one on parity, and with `--no-superblock` one on a tree that has none.
@@ -59,7 +61,9 @@ pub fn further_of<'a>(
 ) -> Result<Further<'a>, WordsFault>
     ensures { Reads (further_said name.now (option_texts options.now) (texts_of words.now)) result }
 {
-    if has_fec_value(options) {
+    if name == b"repair".as_slice() {
+        repair_of(alloc, options, words)
+    } else if has_fec_value(options) {
         fec_of(name, options, words)
     } else if options.no_superblock {
         tree_of(name, options, words)

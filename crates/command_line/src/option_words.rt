@@ -29,6 +29,7 @@ pub struct OptionWords<'a> {
     pub differing: bool,
     pub progress: bool,
     pub json: bool,
+    pub check: bool,
 }
 
 /// Whether a command isn't one of the first version, or has an option that it didn't have there.
@@ -55,6 +56,7 @@ fn is_new(name: &[u8]) -> bool
         || name == b"store".as_slice()
         || name == b"partitions".as_slice()
         || name == b"diff".as_slice()
+        || name == b"repair".as_slice()
         || name == b"manual".as_slice()
         || name == b"version".as_slice()
 }
@@ -99,7 +101,7 @@ fn has_further_flag(options: &OptionWords<'_>) -> bool
 fn has_manner(options: &OptionWords<'_>) -> bool
     ensures { result ≡ has_manner (option_texts options.now) }
 {
-    options.differing || options.progress || options.json
+    options.differing || options.progress || options.json || options.check
 }
 
 // Whether a number of cached blocks stands beside a command that goes over a device.

@@ -10,6 +10,7 @@ pub mod format;
 pub mod load;
 pub mod manual;
 pub mod partitions;
+pub mod repair;
 pub mod scan;
 pub mod store;
 pub mod table;

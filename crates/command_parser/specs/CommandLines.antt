@@ -39,6 +39,7 @@ texts_in rows = record {
   differing = is_there (codes "differing") rows;
   progress = is_there (codes "progress") rows;
   json = is_there (codes "json") rows;
+  check = is_there (codes "check") rows;
 }
 
 -- the positional words

@@ -36,6 +36,7 @@ pub fn option_words<'a>(found: &ArgMatches<'a>) -> OptionWords<'a>
         differing: is_there(found, "differing"),
         progress: is_there(found, "progress"),
         json: is_there(found, "json"),
+        check: is_there(found, "check"),
     }
 }
 

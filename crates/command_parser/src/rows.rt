@@ -160,8 +160,14 @@ const JSON: OptionRow = OptionRow {
     has_value: false,
 };
 
+const CHECK: OptionRow = OptionRow {
+    name: "check",
+    others: &[],
+    has_value: false,
+};
+
 /// All commands.
-pub static COMMANDS: [CommandRow; 17] = [
+pub static COMMANDS: [CommandRow; 18] = [
     CommandRow {
         name: "format",
         options: &[
@@ -211,6 +217,10 @@ pub static COMMANDS: [CommandRow; 17] = [
             NAME,
             NO_SUPERBLOCK,
         ],
+    },
+    CommandRow {
+        name: "repair",
+        options: &[HASH_OFFSET, ROOT_HASH_FILE, CHECK],
     },
     CommandRow {
         name: "load",

@@ -1,0 +1,68 @@
+//! The copies of an image.
+ghost use Rattle.std.specs.Prelude.{◌≡◌, map, Some, None, IfOk, IfErr};
+ghost use Rattle.command_line.specs.CommandWords.{IsUsage};
+ghost use Rattle.command_line.specs.FormatOptions.{texts_of};
+ghost use Rattle.command_line.specs.ImageCopies.{copies_in_pairs, copies_of, image_copy_record, one_file};
+
+use crate::fault::WordsFault;
+use std::alloc::{AllocError, Global};
+
+/// The paths of a copy's data and of its hashes, which are the same where it has both in one file.
+#[derive(Clone, Copy)]
+pub struct ImageCopy<'a> {
+    pub data_path: &'a str,
+    pub hash_path: &'a str,
+}
+
+/// The copies of an image with these paths: a word for each where data and hashes have the same path, else two.
+#[tactic(auto, unfolding(crate::specs::ImageCopies::copies_of))]
+pub fn copies_of<'a>(
+    alloc: Global,
+    data_path: &str,
+    hash_path: &str,
+    words: &[&'a str],
+) -> Result<Vec<ImageCopy<'a>>, WordsFault>
+    ensures ok { IfOk result (λ copies. copies_of data_path.now hash_path.now (texts_of words.now) ≡ Some (map image_copy_record copies.items)) }
+    ensures err { IfErr result (λ fault. IsUsage fault (copies_of data_path.now hash_path.now (texts_of words.now) ≡ None)) }
+{
+    if data_path.as_bytes() == hash_path.as_bytes() {
+        let copies = copies_in_one_file(alloc, words)?;
+        return Ok(copies);
+    }
+    copies_in_pairs(alloc, words)
+}
+
+fn copies_in_one_file<'a>(
+    alloc: Global,
+    words: &[&'a str],
+) -> Result<Vec<ImageCopy<'a>>, AllocError>
+    ensures { IfOk result (λ copies. map image_copy_record copies.items ≡ map one_file (texts_of words.now)) }
+{
+    let mut copies = Vec::new(alloc);
+    'words: for word in words {
+        copies.push(ImageCopy {
+            data_path: word,
+            hash_path: word,
+        })?;
+    }
+    Ok(copies)
+}
+
+fn copies_in_pairs<'a>(alloc: Global, words: &[&'a str]) -> Result<Vec<ImageCopy<'a>>, WordsFault>
+    ensures ok { IfOk result (λ copies. copies_in_pairs (texts_of words.now) ≡ Some (map image_copy_record copies.items)) }
+    ensures err { IfErr result (λ fault. IsUsage fault (copies_in_pairs (texts_of words.now) ≡ None)) }
+{
+    let mut copies = Vec::new(alloc);
+    let mut rest = words;
+    'pairs: while let [data_path, hash_path, more @ ..] = rest {
+        copies.push(ImageCopy {
+            data_path,
+            hash_path,
+        })?;
+        rest = more;
+    }
+    if rest.is_empty() {
+        return Ok(copies);
+    }
+    Err(WordsFault::Usage)
+}

@@ -1,0 +1,55 @@
+//! `repair [OPTIONS] DATA HASH [ROOT] [COPY..]`
+ghost use Rattle.std.specs.Prelude.{option_map};
+ghost use Rattle.command_line.specs.FurtherRecords.{repair};
+ghost use Rattle.command_line.specs.Reading.{Reads};
+ghost use Rattle.command_line.specs.FormatOptions.{option_texts, texts_of};
+ghost use Rattle.command_line.specs.words.Repair.{repair_said};
+
+use crate::fault::WordsFault;
+use crate::further::Further;
+use crate::image_copies::{ImageCopy, copies_of};
+use crate::option_words::OptionWords;
+use crate::values::{RootWord, offset_of, root_first};
+use std::alloc::Global;
+
+/// A verity image is repaired from copies of it, or only looked at where `check` is said.
+#[derive(Drop)]
+pub struct RepairWords<'a> {
+    pub data_path: &'a str,
+    pub hash_path: &'a str,
+    pub root: RootWord<'a>,
+    pub hash_offset: u64,
+    pub check: bool,
+    pub copies: Vec<ImageCopy<'a>>,
+}
+
+/// `[--check] [--hash-offset BYTES] [--root-hash-file FILE] DATA HASH [ROOT] [COPY..]`
+#[tactic(auto, unfolding(crate::specs::words::Repair::repair_said))]
+pub fn repair_of<'a>(
+    alloc: Global,
+    options: &OptionWords<'a>,
+    words: &[&'a str],
+) -> Result<Further<'a>, WordsFault>
+    ensures { Reads (option_map repair (repair_said (option_texts options.now) (texts_of words.now))) result }
+{
+    let [data_path, hash_path, behind @ ..] = words else {
+        return Err(WordsFault::Usage);
+    };
+    let Some(hash_offset) = offset_of(options.hash_offset) else {
+        return Err(WordsFault::Usage);
+    };
+    let Some((root, rest)) = root_first(options.root_hash_file, behind) else {
+        return Err(WordsFault::Usage);
+    };
+    match copies_of(alloc, data_path, hash_path, rest) {
+        Ok(copies) => Ok(Further::Repair(RepairWords {
+            data_path,
+            hash_path,
+            root,
+            hash_offset,
+            check: options.check,
+            copies,
+        })),
+        Err(fault) => Err(fault),
+    }
+}

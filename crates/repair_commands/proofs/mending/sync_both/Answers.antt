@@ -1,0 +1,12 @@
+use Rattle.std.proofs.Common.{refl}
+use Rattle.std.proofs.lemmas.Result.{on_ok_weaker}
+use Rattle.repair_commands.proofs.mending.sync_both.Goals as goal
+
+pub returns-in_err-sync_one-clause-kept : goal.returns-in_err-sync_one-clause-kept
+returns-in_err-sync_one-clause-kept g c = record { data_image = c.sync_one.ensures.kept; hash_image = refl }
+
+pub returns-clause-kept : goal.returns-clause-kept
+returns-clause-kept g c = record { data_image = c.sync_one.ensures.kept; hash_image = c.sync_one-2.ensures.kept }
+
+pub returns-clause-ok : goal.returns-clause-ok
+returns-clause-ok g c = on_ok_weaker c.sync_one-2.result (λ hash_clean. record { data_clean = c.in_ok-sync_one.ensures.ok; hash_clean = hash_clean }) c.sync_one-2.ensures.ok

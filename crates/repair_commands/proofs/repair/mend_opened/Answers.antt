@@ -1,0 +1,30 @@
+use Rattle.std.proofs.Common.{IsTrue, subst, sym}
+use Rattle.repair_commands.proofs.repair.mend_opened.Goals as goal
+
+pub mend-ended-requires-clause-allowed : goal.mend-ended-requires-clause-allowed
+mend-ended-requires-clause-allowed g c = record {
+  data_writable = λ write. subst IsTrue (sym c.requires.data_fresh.may_write) write;
+  hash_writable = λ write. subst IsTrue (sym c.requires.hash_fresh.may_write) write;
+}
+
+pub returns-in-Ok-clause-ok : goal.returns-in-Ok-clause-ok
+returns-in-Ok-clause-ok g c = record {
+  data_dev = c.mend-ended.new.data_dev;
+  hash_dev = c.mend-ended.new.hash_dev;
+  data_copies = c.mend-ended.new.data_copies;
+  hash_copies = c.mend-ended.new.hash_copies;
+  mends = rw (← c.as_mut_slice.ensures.value, ← c.as_mut_slice-2.ensures.value) (rw c.in-Ok.is at c.mend-ended.ensures.ok);
+  back = c.give_back.ensures;
+}
+
+pub returns-clause-err : goal.returns-clause-err
+returns-clause-err g c = record {
+  data_dev = c.mend-ended.new.data_dev;
+  hash_dev = c.mend-ended.new.hash_dev;
+  data_copies = c.mend-ended.new.data_copies;
+  hash_copies = c.mend-ended.new.hash_copies;
+  cause = c.in-Err.fault;
+  is = c.fault_of.ensures;
+  half = rw (← c.as_mut_slice.ensures.value, ← c.as_mut_slice-2.ensures.value) (rw c.in-Err.is at c.mend-ended.ensures.err);
+  back = c.give_back.ensures;
+}

@@ -1,0 +1,5 @@
+pub mod Pairs
+pub mod Copies
+pub mod Openings
+pub mod Mends
+pub mod Commands

@@ -1,0 +1,86 @@
+-- Which parts of which files `repair` opens, in which order and with which rights.
+use Rattle.std.specs.Prelude.{◌≡◌, ◌⊎◌, ℕ, ◌-◌, ◌^◌, ◌&&◌, nat_lt, Bool, false, List, [], ◌∷◌, if◌then◌else◌}
+use Rattle.device_window.specs.declared.part.Part.{Part}
+use Rattle.device_window.specs.Parts.{part_before, part_behind}
+use Rattle.image_files.specs.declared.file_use.FileUse.{FileUse}
+use Rattle.image_files.specs.declared.images.OpenImage.{OpenImage}
+use Rattle.image_files.specs.declared.opening.UnopenedFile.{UnopenedFile}
+use Rattle.image_files.specs.declared.parts.UnopenedPart.{UnopenedPart}
+use Rattle.image_files.specs.declared.parts.UnopenedPart.TheVariants.{File, Outside}
+use Rattle.image_files.specs.FileUses.{part_use}
+use Rattle.image_files.specs.OneFile.{is_one_file}
+use Rattle.image_files.specs.Opened.{Opens, Refuses}
+use Rattle.image_files.specs.Opener.{Calls}
+use Rattle.image_files.specs.OpenParts.{OpensPart, RefusesPart}
+use Rattle.tree_commands.specs.declared.fault.TreeFault.{TreeFault}
+use Rattle.tree_commands.specs.declared.fault.TreeFault.TheVariants.{Open, Survey}
+use Rattle.tree_survey.specs.declared.fault.SurveyFault.TheVariants.{Image}
+use Rattle.verity_format.specs.declared.verifying.VerifyFault.TheVariants.{TooSmall}
+use Rattle.repair_commands.specs.declared.pair.Pair.{Pair}
+use Rattle.repair_commands.specs.declared.pair.Parts.{Parts}
+use Rattle.repair_commands.specs.declared.pair.RepairPlaces.{RepairPlaces}
+
+pub record Places : Type 0 where
+  pub data_path : List ℕ
+  pub hash_path : List ℕ
+  pub first : ℕ
+  pub write : Bool
+
+abbrev pub places_of : RepairPlaces → Places
+places_of p = record { data_path = p.«data».now; hash_path = p.hash.now; first = p.hash_first; write = p.write }
+
+-- where the data end: in one file before the hash image, else at the end of theirs
+abbrev pub data_end : {D : Type 0} → Pair D → ℕ → ℕ
+data_end pair first = if nat_lt 0 first && is_one_file pair.data_image.id pair.hash_image.id then first else 2 ^ 64 - 1
+
+-- both files were opened for reading, the data's first, and the parts are these by their lengths
+pub record Measures {S D : Type 0} (w : Calls S D) (p : Places) (parts : Parts) : Type 0 where
+  pub between : S
+  pub pair : Pair D
+  pub data_opened : Opens (record w { new = between }) p.data_path false pair.data_image
+  pub hash_opened : Opens (record w { old = between }) p.hash_path false pair.hash_image
+  pub data_part : parts.data_part ≡ part_before (w.state pair.data_image.device) (data_end pair p.first)
+  pub hash_part : parts.hash_part ≡ part_behind (w.state pair.hash_image.device) p.first
+
+-- the data's file was opened, and the other one wasn't
+pub record RefusesHash {S D : Type 0} (w : Calls S D) (p : Places) (file : UnopenedFile) : Type 0 where
+  pub between : S
+  pub data_image : OpenImage D
+  pub data_opened : Opens (record w { new = between }) p.data_path false data_image
+  pub refused : Refuses (record w { old = between }) p.hash_path false file
+
+abbrev pub FailsToMeasure : {S D : Type 0} → Calls S D → Places → UnopenedFile → Type 0
+FailsToMeasure w p file = Refuses w p.data_path false file ⊎ RefusesHash w p file
+
+-- ---- the parts
+
+-- a part that ends behind its file is one of a file that is too small
+abbrev pub part_fault : UnopenedPart → TreeFault
+part_fault (File file) = Open file
+part_fault (Outside path) = Survey (Image TooSmall)
+
+-- a part isn't opened, or has a sector in common with one of these
+pub record IsPartEnd {S D : Type 0} (w : Calls S D) (files : List FileUse) (path : List ℕ) (writable : Bool) (part : Part) (fault : TreeFault) : Type 0 where
+  pub cause : UnopenedPart
+  pub refused : RefusesPart w files path writable part cause
+  pub is : fault ≡ part_fault cause
+
+-- both parts were opened, the data first; where they may be written they have no sector in common
+pub record OpensPair {S D : Type 0} (w : Calls S D) (p : Places) (parts : Parts) (pair : Pair D) : Type 0 where
+  pub between : S
+  pub data_opened : OpensPart (record w { new = between }) [] p.data_path p.write parts.data_part pair.data_image
+  pub hash_opened : OpensPart (record w { old = between }) (part_use p.write parts.data_part pair.data_image ∷ []) p.hash_path p.write parts.hash_part pair.hash_image
+
+-- the data were opened, and the hash image wasn't
+pub record FailsAtHash {S D : Type 0} (w : Calls S D) (p : Places) (parts : Parts) (fault : TreeFault) : Type 0 where
+  pub between : S
+  pub data_image : OpenImage D
+  pub data_opened : OpensPart (record w { new = between }) [] p.data_path p.write parts.data_part data_image
+  pub ends : IsPartEnd (record w { old = between }) (part_use p.write parts.data_part data_image ∷ []) p.hash_path p.write parts.hash_part fault
+
+abbrev pub FailsToOpenPair : {S D : Type 0} → Calls S D → Places → Parts → TreeFault → Type 0
+FailsToOpenPair w p parts fault = IsPartEnd w [] p.data_path p.write parts.data_part fault ⊎ FailsAtHash w p parts fault
+
+-- how the two files are used then
+abbrev pub uses_of : {D : Type 0} → Places → Parts → Pair D → List FileUse
+uses_of p parts pair = part_use p.write parts.data_part pair.data_image ∷ part_use p.write parts.hash_part pair.hash_image ∷ []

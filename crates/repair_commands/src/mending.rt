@@ -1,0 +1,64 @@
+//! The two devices repaired, and what was written put on their media.
+ghost use Rattle.std.specs.Prelude.{◌≡◌, ◌≤◌, ◌^◌, false, IfErr, IsTrue, OnOk, map};
+ghost use Rattle.tree_repair.specs.Repairs.{IsAllowed};
+ghost use Rattle.tree_repair.specs.Runs.{world};
+ghost use Rattle.repair_commands.specs.Mends.{HalfMends, IsOnMedium, KeepsImages, MendsWhole};
+
+use block_device::{BlockDev, DeviceFault, SyncDev};
+use counted_io::Counted;
+use std::alloc::Global;
+use std::io::Write;
+use tree_repair::{Plan, RepairFault, repair_image};
+
+/// Repairs both, and has what was written put on their media.
+pub(crate) fn mend<D: SyncDev, H: SyncDev, C: BlockDev, W: Write>(
+    alloc: Global,
+    data_dev: &mut D,
+    hash_dev: &mut H,
+    data_copies: &mut [C],
+    hash_copies: &mut [C],
+    plan: Plan,
+    writer: &mut Counted<W>,
+) -> Result<(), RepairFault>
+    requires first { plan.copy_first ≤ 2 ^ 55 }
+    requires allowed { IsAllowed plan.write (D.state data_dev.old) (H.state hash_dev.old) }
+    ensures ok { OnOk result (MendsWhole plan (world (D.state data_dev.old) (H.state hash_dev.old) (map C.state data_copies.old) (map C.state hash_copies.old)) (world (D.state data_dev.new) (H.state hash_dev.new) (map C.state data_copies.new) (map C.state hash_copies.new)) (W.contents writer.old.inner) (W.contents writer.new.inner)) }
+    ensures err { IfErr result (HalfMends plan (world (D.state data_dev.old) (H.state hash_dev.old) (map C.state data_copies.old) (map C.state hash_copies.old)) (world (D.state data_dev.new) (H.state hash_dev.new) (map C.state data_copies.new) (map C.state hash_copies.new)) (W.contents writer.old.inner) (W.contents writer.new.inner)) }
+{
+    let write = plan.write;
+    repair_image(
+        alloc,
+        data_dev,
+        hash_dev,
+        data_copies,
+        hash_copies,
+        plan,
+        writer,
+    )?;
+    sync_both(data_dev, hash_dev, write)?;
+    Ok(())
+}
+
+// Has what was written put on the media of both.
+fn sync_both<D: SyncDev, H: SyncDev>(
+    data_dev: &mut D,
+    hash_dev: &mut H,
+    write: bool,
+) -> Result<(), DeviceFault>
+    ensures kept { KeepsImages (D.state data_dev.old) (H.state hash_dev.old) (D.state data_dev.new) (H.state hash_dev.new) }
+    ensures ok { OnOk result (IsOnMedium write (D.state data_dev.new) (H.state hash_dev.new)) }
+{
+    sync_one(data_dev, write)?;
+    sync_one(hash_dev, write)
+}
+
+// Has what was written put on its medium, if anything was.
+fn sync_one<D: SyncDev>(device: &mut D, write: bool) -> Result<(), DeviceFault>
+    ensures kept { (D.state device.new).image ≡ (D.state device.old).image }
+    ensures ok { OnOk result (IsTrue write → (D.state device.new).dirty ≡ false) }
+{
+    if !write {
+        return Ok(());
+    }
+    device.sync()
+}

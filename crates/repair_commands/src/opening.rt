@@ -1,0 +1,74 @@
+//! All that a repair reads and writes, opened.
+ghost use Rattle.std.specs.Prelude.{◌≡◌, IfErr, IfOk};
+ghost use Rattle.image_files.specs.Opener.{IsFresh, calls};
+ghost use Rattle.repair_commands.specs.Openings.{FailsToOpen, OpensAll, OpensCopies, RefusesCopies};
+ghost use Rattle.repair_commands.specs.Pairs.{places_of, uses_of};
+
+use crate::copies::open_copies;
+use crate::pair::{Pair, Parts, RepairPlaces, measure, open_pair, part_use};
+use command_line::ImageCopy;
+use image_files::{FileUse, Images};
+use std::alloc::Global;
+use tree_commands::TreeFault;
+
+/// The two parts of files that are repaired, open, and the copies of each.
+#[derive(Drop)]
+pub(crate) struct Opened<D> {
+    pub parts: Parts,
+    pub pair: Pair<D>,
+    pub copies: Copies<D>,
+}
+
+/// The data of the copies, and their hashes.
+#[derive(Drop)]
+pub(crate) struct Copies<D> {
+    pub data_copies: Vec<D>,
+    pub hash_copies: Vec<D>,
+}
+
+/// Opens the two parts, and then the copies.
+pub(crate) fn open_all<'a, I: Images>(
+    alloc: Global,
+    images: &mut I,
+    places: RepairPlaces<'a>,
+    copies: &[ImageCopy<'a>],
+) -> Result<Opened<I::Dev>, TreeFault<'a>>
+    ensures ok { IfOk result (OpensAll (calls I.relations I.Dev.state images.old images.new) (places_of places.entry) copies.now) }
+    ensures data_fresh { IfOk result (λ o. IsFresh (I.Dev.state o.pair.data_image.device) places.entry.write) }
+    ensures hash_fresh { IfOk result (λ o. IsFresh (I.Dev.state o.pair.hash_image.device) places.entry.write) }
+    ensures err { IfErr result (FailsToOpen (calls I.relations I.Dev.state images.old images.new) (places_of places.entry) copies.now) }
+{
+    let write = places.write;
+    let parts = measure(images, places)?;
+    let pair = open_pair(images, places, parts)?;
+    let files = [
+        part_use(&pair.data_image, write, parts.data_part),
+        part_use(&pair.hash_image, write, parts.hash_part),
+    ];
+    match open_both(alloc, images, &files, copies) {
+        Ok(copies) => Ok(Opened {
+            parts,
+            pair,
+            copies,
+        }),
+        Err(fault) => Err(fault),
+    }
+}
+
+// Opens the data of all copies, and then their hashes.
+fn open_both<'a, I: Images>(
+    alloc: Global,
+    images: &mut I,
+    files: &[FileUse],
+    copies: &[ImageCopy<'a>],
+) -> Result<Copies<I::Dev>, TreeFault<'a>>
+    ensures ok { IfOk result (OpensCopies (calls I.relations I.Dev.state images.old images.new) files.now copies.now) }
+    ensures err { IfErr result (RefusesCopies (calls I.relations I.Dev.state images.old images.new) files.now copies.now) }
+{
+    let data_copies = open_copies(alloc, images, files, copies, false)?;
+    let hash_copies = open_copies(alloc, images, files, copies, true)?;
+    Ok(Copies {
+        data_copies,
+        hash_copies,
+    })
+}

@@ -1,0 +1,143 @@
+//! The data image and the hash image that are repaired, each a part of its file.
+ghost use Rattle.std.specs.Prelude.{◌≡◌, IfErr, IfOk};
+ghost use Rattle.device_window.specs.Parts.{part_before, part_behind};
+ghost use Rattle.image_files.specs.FileUses.{part_use};
+ghost use Rattle.image_files.specs.OpenParts.{OpensPart};
+ghost use Rattle.image_files.specs.Opener.{IsFresh, calls};
+ghost use Rattle.repair_commands.specs.Pairs.{FailsToMeasure, FailsToOpenPair, IsPartEnd, Measures, OpensPair, data_end, part_fault, places_of};
+
+use block_device::BlockDev;
+use device_window::Part;
+use image_files::{
+    FileUse, Images, OpenImage, UnopenedFile, UnopenedPart, is_one_file, open_image, open_part,
+};
+use tree_commands::TreeFault;
+use tree_survey::SurveyFault;
+use verity_format::VerifyFault;
+
+/// The paths of a data image and of its hash image, the sector of 512 bytes of the hash image's file where the hash image
+/// begins, and whether anything may be written.
+#[derive(Clone, Copy, Debug, PartialEq, Eq)]
+pub struct RepairPlaces<'a> {
+    pub data: &'a str,
+    pub hash: &'a str,
+    pub hash_first: u64,
+    pub write: bool,
+}
+
+/// Which part of its file each of the two is.
+#[derive(Clone, Copy, Debug, PartialEq, Eq)]
+pub(crate) struct Parts {
+    pub data_part: Part,
+    pub hash_part: Part,
+}
+
+/// The two, open.
+#[derive(Drop)]
+pub(crate) struct Pair<D> {
+    pub data_image: OpenImage<D>,
+    pub hash_image: OpenImage<D>,
+}
+
+/// Opens both files for reading, and tells the parts: what lies behind the sector where the hash image begins, and of the
+/// data's file all, or what lies before that sector where both are one file.
+pub(crate) fn measure<'a, I: Images>(
+    images: &mut I,
+    places: RepairPlaces<'a>,
+) -> Result<Parts, UnopenedFile<'a>>
+    ensures ok { IfOk result (Measures (calls I.relations I.Dev.state images.old images.new) (places_of places.entry)) }
+    ensures err { IfErr result (FailsToMeasure (calls I.relations I.Dev.state images.old images.new) (places_of places.entry)) }
+{
+    let data_image = open_image(images, places.data, false)?;
+    let hash_image = open_image(images, places.hash, false)?;
+    let pair = Pair {
+        data_image,
+        hash_image,
+    };
+    Ok(parts_of(&pair, places.hash_first))
+}
+
+fn parts_of<D: BlockDev>(pair: &Pair<D>, first: u64) -> Parts
+    ensures data_part { result.data_part ≡ part_before (D.state pair.now.data_image.device) (data_end pair.now first) }
+    ensures hash_part { result.hash_part ≡ part_behind (D.state pair.now.hash_image.device) first }
+{
+    let end = data_end(pair, first);
+    Parts {
+        data_part: Part::before(&pair.data_image.device, end),
+        hash_part: Part::behind(&pair.hash_image.device, first),
+    }
+}
+
+// The sector where the data end: in one file before the hash image, else at the end of theirs.
+fn data_end<D>(pair: &Pair<D>, first: u64) -> u64
+    ensures { result ≡ data_end pair.now first }
+{
+    if first > 0 && is_one_file(pair.data_image.id, pair.hash_image.id) {
+        return first;
+    }
+    u64::MAX
+}
+
+/// Opens both parts, for writing too where anything may be written. Then they may not have a sector in common.
+pub(crate) fn open_pair<'a, I: Images>(
+    images: &mut I,
+    places: RepairPlaces<'a>,
+    parts: Parts,
+) -> Result<Pair<I::Dev>, TreeFault<'a>>
+    ensures ok { IfOk result (OpensPair (calls I.relations I.Dev.state images.old images.new) (places_of places.entry) parts) }
+    ensures data_fresh { IfOk result (λ pair. IsFresh (I.Dev.state pair.data_image.device) places.entry.write) }
+    ensures hash_fresh { IfOk result (λ pair. IsFresh (I.Dev.state pair.hash_image.device) places.entry.write) }
+    ensures err { IfErr result (FailsToOpenPair (calls I.relations I.Dev.state images.old images.new) (places_of places.entry) parts) }
+{
+    let RepairPlaces {
+        data,
+        hash,
+        hash_first: _,
+        write,
+    } = places;
+    let data_image = open_apart_part(images, &[], data, write, parts.data_part)?;
+    let files = [part_use(&data_image, write, parts.data_part)];
+    let hash_image = open_apart_part(images, &files, hash, write, parts.hash_part)?;
+    Ok(Pair {
+        data_image,
+        hash_image,
+    })
+}
+
+/// How a part of a file is used that was opened with this right.
+pub(crate) fn part_use<D>(image: &OpenImage<D>, writable: bool, part: Part) -> FileUse
+    ensures { result ≡ part_use writable part image.now }
+{
+    FileUse {
+        id: image.id,
+        writable,
+        part: Some(part),
+    }
+}
+
+// A part that ends behind its file was measured of a longer one: the file is too small by now.
+fn open_apart_part<'a, I: Images>(
+    images: &mut I,
+    files: &[FileUse],
+    path: &'a str,
+    writable: bool,
+    part: Part,
+) -> Result<OpenImage<I::Dev>, TreeFault<'a>>
+    ensures ok { IfOk result (OpensPart (calls I.relations I.Dev.state images.old images.new) files.now path.now writable part) }
+    ensures fresh { IfOk result (λ image. IsFresh (I.Dev.state image.device) writable) }
+    ensures err { IfErr result (IsPartEnd (calls I.relations I.Dev.state images.old images.new) files.now path.now writable part) }
+{
+    match open_part(images, files, path, writable, part) {
+        Ok(image) => Ok(image),
+        Err(fault) => Err(part_fault(fault)),
+    }
+}
+
+fn part_fault(fault: UnopenedPart<'_>) -> TreeFault<'_>
+    ensures { result ≡ part_fault fault.entry }
+{
+    match fault {
+        UnopenedPart::File(file) => TreeFault::Open(file),
+        UnopenedPart::Outside(_) => TreeFault::Survey(SurveyFault::Image(VerifyFault::TooSmall)),
+    }
+}

@@ -1,0 +1,147 @@
+//! The command `repair`: blocks that aren't good are sought in copies, and what is still lost is told.
+ghost use Rattle.std.specs.Prelude.{◌≡◌, ◌≤◌, ◌^◌, IfErr, OnOk};
+ghost use Rattle.image_files.specs.Opener.{IsFresh, calls};
+ghost use Rattle.repair_commands.specs.Commands.{GivesBack, HalfMendsOpened, IsMendingEnd, IsRepairEnd, MendsFiles, MendsOpened, RepairsFiles, fault_of};
+ghost use Rattle.repair_commands.specs.Pairs.{places_of};
+
+use crate::mending::mend;
+use crate::opening::{Copies, Opened, open_all};
+use crate::pair::{Pair, Parts, RepairPlaces};
+use command_line::ImageCopy;
+use counted_io::Counted;
+use image_files::{Images, OpenImage};
+use std::alloc::Global;
+use std::io::Write;
+use tree_commands::{SurveyOrder, TreeFault, survey_images};
+use tree_repair::{Plan, RepairFault};
+use tree_shape::Digest;
+use tree_survey::SurveyFault;
+use watched_device::Watchers;
+
+/// `repair [--check] [--hash-offset BYTES] DATA HASH ROOT [COPY ..]`: a line for each block that isn't good and was found in a
+/// copy, and then what `verify --all` prints. Each copy is asked for each such block, at its place in DATA or in HASH.
+pub fn repair_images<'a, I: Images, S: Watchers, W: Write>(
+    alloc: Global,
+    images: &mut I,
+    watchers: &S,
+    places: RepairPlaces<'a>,
+    copies: &[ImageCopy<'a>],
+    root: &Digest,
+    writer: &mut Counted<W>,
+) -> Result<(), TreeFault<'a>>
+    requires { places.hash_first ≤ 2 ^ 55 }
+    ensures ok { OnOk result (RepairsFiles (calls I.relations I.Dev.state images.old images.new) (places_of places.entry) copies.now root.now (W.contents writer.old.inner) (W.contents writer.new.inner)) }
+    ensures err { IfErr result (IsRepairEnd (calls I.relations I.Dev.state images.old images.new) (places_of places.entry) copies.now root.now (W.contents writer.old.inner) (W.contents writer.new.inner) writer.new.failed) }
+{
+    mend_images(alloc, images, places, copies, root, writer)?;
+    let RepairPlaces {
+        data,
+        hash,
+        hash_first,
+        write: _,
+    } = places;
+    let order = SurveyOrder {
+        data,
+        hash,
+        hash_first,
+        json: false,
+        progress: false,
+    };
+    survey_images(alloc, images, watchers, order, root, writer)
+}
+
+// Opens the images and the copies, repairs, and gives the images back.
+fn mend_images<'a, I: Images, W: Write>(
+    alloc: Global,
+    images: &mut I,
+    places: RepairPlaces<'a>,
+    copies: &[ImageCopy<'a>],
+    root: &Digest,
+    writer: &mut Counted<W>,
+) -> Result<(), TreeFault<'a>>
+    requires { places.hash_first ≤ 2 ^ 55 }
+    ensures ok { OnOk result (MendsFiles (calls I.relations I.Dev.state images.old images.new) (places_of places.entry) copies.now root.now (W.contents writer.old.inner) (W.contents writer.new.inner)) }
+    ensures err { IfErr result (IsMendingEnd (calls I.relations I.Dev.state images.old images.new) (places_of places.entry) copies.now root.now (W.contents writer.old.inner) (W.contents writer.new.inner)) }
+{
+    let opened = open_all(alloc, images, places, copies)?;
+    mend_opened(alloc, images, places, opened, root, writer)
+}
+
+// Repairs what is open, and gives the images back, however that ends.
+fn mend_opened<'a, I: Images, W: Write>(
+    alloc: Global,
+    images: &mut I,
+    places: RepairPlaces<'a>,
+    opened: Opened<I::Dev>,
+    root: &Digest,
+    writer: &mut Counted<W>,
+) -> Result<(), TreeFault<'a>>
+    requires first { places.hash_first ≤ 2 ^ 55 }
+    requires data_fresh { IsFresh (I.Dev.state opened.pair.data_image.device) places.write }
+    requires hash_fresh { IsFresh (I.Dev.state opened.pair.hash_image.device) places.write }
+    ensures ok { OnOk result (MendsOpened (calls I.relations I.Dev.state images.old images.new) (places_of places.entry) opened root.now (W.contents writer.old.inner) (W.contents writer.new.inner)) }
+    ensures err { IfErr result (HalfMendsOpened (calls I.relations I.Dev.state images.old images.new) (places_of places.entry) opened root.now (W.contents writer.old.inner) (W.contents writer.new.inner)) }
+{
+    let Opened {
+        parts,
+        pair: Pair {
+            data_image: OpenImage {
+                device: mut data_dev,
+                id: _,
+            },
+            hash_image: OpenImage {
+                device: mut hash_dev,
+                id: _,
+            },
+        },
+        copies: Copies {
+            mut data_copies,
+            mut hash_copies,
+        },
+    } = opened;
+    let plan = Plan {
+        root: *root,
+        copy_first: places.hash_first,
+        write: places.write,
+    };
+    let ended = mend(
+        alloc,
+        &mut data_dev,
+        &mut hash_dev,
+        data_copies.as_mut_slice(),
+        hash_copies.as_mut_slice(),
+        plan,
+        writer,
+    );
+    give_back(images, places, parts, data_dev, hash_dev);
+    match ended {
+        Ok(()) => Ok(()),
+        Err(fault) => Err(fault_of(fault)),
+    }
+}
+
+// Gives both parts back, where anything may be written.
+fn give_back<'a, I: Images>(
+    images: &mut I,
+    places: RepairPlaces<'a>,
+    parts: Parts,
+    data_dev: I::Dev,
+    hash_dev: I::Dev,
+)
+    ensures { GivesBack places.entry.write (calls I.relations I.Dev.state images.old images.new) (places_of places.entry) parts data_dev hash_dev }
+{
+    if !places.write {
+        return;
+    }
+    images.close_part(places.data, parts.data_part, data_dev);
+    images.close_part(places.hash, parts.hash_part, hash_dev);
+}
+
+fn fault_of<'a>(fault: RepairFault) -> TreeFault<'a>
+    ensures { result ≡ fault_of fault }
+{
+    match fault {
+        RepairFault::Image(fault) => TreeFault::Survey(SurveyFault::Image(fault)),
+        RepairFault::Write => TreeFault::Write,
+    }
+}
