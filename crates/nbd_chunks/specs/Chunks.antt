@@ -24,10 +24,22 @@ none_chunk cookie = chunk_head true 0 cookie 0
 abbrev pub data_chunk : Bool → ℕ → ℕ → List ℕ → List ℕ
 data_chunk done cookie offset content = chunk_head done 1 cookie (8 + length content) ++ (bytes64 offset ++ content)
 
+-- OFFSET_HOLE: so many bytes of the export from a place on are zeros
+abbrev pub hole_chunk : Bool → ℕ → ℕ → ℕ → List ℕ
+hole_chunk done cookie offset count = chunk_head done 2 cookie 12 ++ (bytes64 offset ++ bytes32 count)
+
 -- BLOCK_STATUS of the only context, the last of a reply: what is told of extents
 abbrev pub status_chunk : ℕ → List ℕ → List ℕ
 status_chunk cookie told = chunk_head true 5 cookie (4 + length told) ++ (bytes32 1 ++ told)
 
--- ERROR, the last of a reply, with no text
+-- the number of an error, and the length of its text, which is none
+abbrev pub error_told : RequestError → List ℕ
+error_told error = bytes32 (error_number error) ++ bytes16 0
+
+-- ERROR, the last of a reply
 abbrev pub error_chunk : ℕ → RequestError → List ℕ
-error_chunk cookie error = chunk_head true 0x8001 cookie 6 ++ (bytes32 (error_number error) ++ bytes16 0)
+error_chunk cookie error = chunk_head true 0x8001 cookie 6 ++ error_told error
+
+-- ERROR_OFFSET, the last of a reply: the first byte that can't be had is the one at that place
+abbrev pub error_at_chunk : ℕ → ℕ → RequestError → List ℕ
+error_at_chunk cookie offset error = chunk_head true 0x8002 cookie 14 ++ (error_told error ++ bytes64 offset)

@@ -1,7 +1,7 @@
 //! The chunks of a structured reply.
 ghost use Rattle.std.specs.Prelude.{◌≡◌, ◌<◌, ◌+◌, ◌^◌, length};
 ghost use Rattle.counted_io.specs.Counted.{Writes};
-ghost use Rattle.nbd_chunks.specs.Chunks.{chunk_head, data_chunk, error_chunk, flag_of_last, none_chunk, status_chunk};
+ghost use Rattle.nbd_chunks.specs.Chunks.{chunk_head, data_chunk, error_at_chunk, error_chunk, error_told, flag_of_last, hole_chunk, none_chunk, status_chunk};
 
 use counted_io::{Counted, WriteFault};
 use nbd_protocol::{RequestError, put16, put32, put64};
@@ -20,9 +20,13 @@ const NONE: u16 = 0;
 
 const OFFSET_DATA: u16 = 1;
 
+const OFFSET_HOLE: u16 = 2;
+
 const BLOCK_STATUS: u16 = 5;
 
 const ERROR: u16 = 0x8001;
+
+const ERROR_OFFSET: u16 = 0x8002;
 
 // The flag of the last chunk.
 fn flag_of_last(done: bool) -> u16
@@ -71,6 +75,21 @@ pub fn say_data<W: Write>(
     writer.put(bytes)
 }
 
+/// So many bytes of the export from a place on that are zeros, in the last chunk of a reply if it is `done`.
+pub fn say_hole<W: Write>(
+    writer: &mut Counted<W>,
+    done: bool,
+    cookie: u64,
+    offset: u64,
+    count: u32,
+) -> Result<(), WriteFault>
+    ensures { Writes W.contents writer.old writer.new (hole_chunk done cookie offset count) result }
+{
+    say_head(writer, done, OFFSET_HOLE, cookie, 12)?;
+    put64(writer, offset)?;
+    put32(writer, count)
+}
+
 /// What is told of extents by the only context, in the last chunk of a reply.
 pub fn say_status<W: Write>(
     writer: &mut Counted<W>,
@@ -85,6 +104,14 @@ pub fn say_status<W: Write>(
     writer.put(told)
 }
 
+// An error, with no text.
+fn say_told<W: Write>(writer: &mut Counted<W>, error: RequestError) -> Result<(), WriteFault>
+    ensures { Writes W.contents writer.old writer.new (error_told error) result }
+{
+    put32(writer, error.number())?;
+    put16(writer, 0)
+}
+
 /// The last chunk of a reply, which says why the request fails.
 pub fn say_error<W: Write>(
     writer: &mut Counted<W>,
@@ -94,6 +121,19 @@ pub fn say_error<W: Write>(
     ensures { Writes W.contents writer.old writer.new (error_chunk cookie error) result }
 {
     say_head(writer, true, ERROR, cookie, 6)?;
-    put32(writer, error.number())?;
-    put16(writer, 0)
+    say_told(writer, error)
+}
+
+/// The last chunk of a reply, which says why the request fails, and at which byte of the export.
+pub fn say_error_at<W: Write>(
+    writer: &mut Counted<W>,
+    cookie: u64,
+    offset: u64,
+    error: RequestError,
+) -> Result<(), WriteFault>
+    ensures { Writes W.contents writer.old writer.new (error_at_chunk cookie offset error) result }
+{
+    say_head(writer, true, ERROR_OFFSET, cookie, 14)?;
+    say_told(writer, error)?;
+    put64(writer, offset)
 }

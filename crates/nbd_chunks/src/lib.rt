@@ -3,4 +3,4 @@
 
 mod chunk;
 
-pub use chunk::{say_data, say_error, say_none, say_status};
+pub use chunk::{say_data, say_error, say_error_at, say_hole, say_none, say_status};
