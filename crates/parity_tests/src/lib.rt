@@ -1,5 +1,7 @@
-//! Tests of `fec_area` over its public calls, beside files of veritysetup.
+//! Tests of `fec_area` beside files of veritysetup, and of `tree_repair` over images in memory.
 #![tactic(auto)]
 
 #[cfg(test)]
 mod parity;
+#[cfg(test)]
+mod remaking;

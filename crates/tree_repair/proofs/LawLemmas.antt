@@ -1,5 +1,5 @@
 -- A block that was mended is that of each chain that is good under the root.
-use Rattle.std.proofs.Common.{◌≡◌, ◌≤◌, ◌<◌, ◌+◌, ◌-◌, ℕ, zero, suc, List, [], ◌∷◌, length, refl, sym, ap, ◌∙◌, subst, arith, inl, inr, ◌⊎◌}
+use Rattle.std.proofs.Common.{◌≡◌, ◌≤◌, ◌<◌, ◌+◌, ◌-◌, ℕ, zero, suc, Bool, List, [], ◌∷◌, length, refl, sym, ap, ◌∙◌, subst, arith, inl, inr, ◌⊎◌}
 use Rattle.tree_shape.specs.Digests.{digest, digest_in}
 use Rattle.tree_shape.specs.Shape.{ShapeRecord, levels, slot, ancestor}
 use Rattle.hash_tree.specs.Chain.{ChainRecord, HangsFrom, IsGood, formed}
@@ -10,8 +10,10 @@ use Rattle.tree_path.proofs.lemmas.ChainLemmas.{blocks-one}
 use Rattle.tree_path.proofs.lemmas.PathLemmas.{digest_on-below, digest_on-top}
 use Rattle.tree_survey.specs.Laws.{AreContents, IsChain}
 use Rattle.tree_survey.specs.Surveys.{Tree, IsWay}
-use Rattle.tree_repair.specs.Laws.{IsMendedIn, MendedBlocksAreFormatted, MendedBlocksAreGood, block_below, block_in}
-use Rattle.tree_repair.specs.Mending.{IsFoundIn, IsMended}
+use Rattle.tree_repair.specs.declared.mending.Mended.{Mended}
+use Rattle.tree_repair.specs.declared.mending.Mended.TheVariants as mended
+use Rattle.tree_repair.specs.Laws.{IsMendedBy, MendedBlocksAreFormatted, MendedBlocksAreGood, block_below, block_in}
+use Rattle.tree_repair.specs.Mending.{IsFound, IsMended, Look}
 use Rattle.tree_repair.specs.Runs.{Job, Visit, World, look_at}
 
 -- the block of a chain d blocks beneath its top has the digest to which a path leads there, or two blocks collide
@@ -60,10 +62,15 @@ way-good t p i h bytes c way chain same =
     subst (λ (x : List ℕ). (bytes ≡ block_in t c h) ⊎ Collide x) way.is.salt_is
     (subst (λ (s : ShapeRecord). (bytes ≡ block_below c.path c.content (levels s - h)) ⊎ Collide p.salt) way.is.shape_is (path-good p i h bytes c way.leads few chain.index good here))
 
+found-good : (l : Look) (bytes : List ℕ) (done : Bool) (m : Mended) → IsMended l bytes done m → IsFound m → digest l.w.salt bytes ≡ l.w.digest_is
+found-good l bytes done mended.Good looked found = absurd found
+found-good l bytes done (mended.Copy n) looked found = looked.good
+found-good l bytes done mended.Remade looked found = looked.good
+found-good l bytes done mended.Lost looked found = absurd found
+
 pub mended-good : MendedBlocksAreGood
-mended-good j v w w' k m c chain =
-    let found : IsFoundIn (look_at j m.visited.p v.height v.index w w') k v.bytes v.done = subst (IsMended (look_at j m.visited.p v.height v.index w w') v.bytes v.done) m.is m.visited.mended_as in
-    way-good j.tree m.visited.p v.index v.height v.bytes c m.visited.way chain found.good
+mended-good j v w w' m c chain =
+    way-good j.tree m.visited.p v.index v.height v.bytes c m.visited.way chain (found-good (look_at j m.visited.p v.height v.index w w') v.bytes v.done v.mended m.visited.mended_as m.found)
 
 -- the chain that is formed of the data
 formed-chain : FormedChainsAreGood → (t : Tree) (contents : List (List ℕ)) → AreContents t contents → (i : ℕ) → i < t.shape.blocks → IsChain t i (formed t.shape t.salt contents i)
@@ -75,5 +82,5 @@ formed-chain form t contents are i inside = record {
 }
 
 pub mended-formatted : FormedChainsAreGood → MendedBlocksAreFormatted
-mended-formatted form j v w w' k m contents are =
-    mended-good j v w w' k m (formed j.tree.shape j.tree.salt contents v.index) (formed-chain form j.tree contents are v.index m.visited.inside)
+mended-formatted form j v w w' m contents are =
+    mended-good j v w w' m (formed j.tree.shape j.tree.salt contents v.index) (formed-chain form j.tree contents are v.index m.visited.inside)

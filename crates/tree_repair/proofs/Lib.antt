@@ -1,4 +1,5 @@
 mod LawLemmas
+mod MakeLemmas
 mod RepairLemmas
 mod RowLemmas
 mod RunLemmas

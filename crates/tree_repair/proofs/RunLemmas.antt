@@ -14,7 +14,7 @@ use Rattle.tree_path.proofs.lemmas.DeviceLemmas.{only_read-none, only_read-then,
 use Rattle.tree_repair.specs.declared.mending.Mended.{Mended}
 use Rattle.tree_repair.specs.declared.mending.Mended.TheVariants as mended
 use Rattle.tree_repair.specs.Mending.{IsMended, IsPut, Look}
-use Rattle.tree_repair.specs.Runs.{CanRun, HasRun, IsDone, IsVisited, IsWorldRead, Job, Runs, Visit, World, line_of, look_at, other, own, world}
+use Rattle.tree_repair.specs.Runs.{CanRun, HasRun, IsDone, IsVisited, IsWorldRead, Job, OtherStays, Runs, Visit, World, line_of, look_at, other, own, world}
 use Rattle.tree_repair.proofs.SourceLemmas.{each-none, each-then}
 
 pub world-none : (w : World) → IsWorldRead w w
@@ -84,7 +84,27 @@ put-same false old first sectors bytes done new put = subst (IsSameDevice old) (
 mended-same : (l : Look) (bytes : List ℕ) (done : Bool) (m : Mended) → IsMended l bytes done m → IsSameDevice l.old l.new
 mended-same l bytes done mended.Good found = found.read.same
 mended-same l bytes done (mended.Copy k) found = same-then found.read.same (put-same l.write found.between l.first l.w.sectors bytes done l.new found.put)
-mended-same l bytes done mended.Lost found = found.read.same
+mended-same l bytes done mended.Remade found =
+    same-then found.read.same (same-then found.beneath_read.same (put-same l.write found.between l.first l.w.sectors bytes done l.new found.put))
+mended-same l bytes done mended.Lost found = same-then found.read.same found.beneath_read.same
+
+-- the other device is the same one, and a steady one holds what it held
+is-same : (old new : Device) → new ≡ old → IsSameDevice old new
+is-same old new stays = subst (IsSameDevice old) (sym stays) (same-none old)
+
+other-same : (h : ℕ) (m : Mended) (old new : Device) → OtherStays h m old new → IsSameDevice old new
+other-same zero m old new stays = is-same old new stays
+other-same (suc l) mended.Good old new stays = is-same old new stays
+other-same (suc l) (mended.Copy k) old new stays = is-same old new stays
+other-same (suc l) mended.Remade old new stays = stays.same
+other-same (suc l) mended.Lost old new stays = stays.same
+
+pub other-image : (h : ℕ) (m : Mended) (old new : Device) → OtherStays h m old new → IsTrue old.steady → new.image ≡ old.image
+other-image zero m old new stays steady = ap (λ (x : Device). x.image) stays
+other-image (suc l) mended.Good old new stays steady = ap (λ (x : Device). x.image) stays
+other-image (suc l) (mended.Copy k) old new stays steady = ap (λ (x : Device). x.image) stays
+other-image (suc l) mended.Remade old new stays steady = stays.image steady
+other-image (suc l) mended.Lost old new stays steady = stays.image steady
 
 pub record AreSame (a b : World) : Type 0 where
   pub data_same : IsSameDevice a.data_dev b.data_dev
@@ -96,12 +116,14 @@ are-then a b c p q = record { data_same = same-then p.data_same q.data_same; has
 pub read-same : (a b : World) → IsWorldRead a b → AreSame a b
 read-same a b read = record { data_same = read.data_read.same; hash_same = read.hash_read.same }
 
-at-same : (h : ℕ) (a b : World) → IsSameDevice (own h a) (own h b) → other h b ≡ other h a → AreSame a b
-at-same zero a b here stays = record { data_same = here; hash_same = subst (IsSameDevice a.hash_dev) (sym stays) (same-none a.hash_dev) }
-at-same (suc l) a b here stays = record { data_same = subst (IsSameDevice a.data_dev) (sym stays) (same-none a.data_dev); hash_same = here }
+at-same : (h : ℕ) (a b : World) → IsSameDevice (own h a) (own h b) → IsSameDevice (other h a) (other h b) → AreSame a b
+at-same zero a b here there = record { data_same = here; hash_same = there }
+at-same (suc l) a b here there = record { data_same = there; hash_same = here }
 
 pub visited-same : (j : Job) (v : Visit) (a b : World) → IsVisited j v a b → AreSame a b
-visited-same j v a b here = at-same v.height a b (mended-same (look_at j here.p v.height v.index a b) v.bytes v.done v.mended here.mended_as) here.other_is
+visited-same j v a b here =
+    at-same v.height a b (mended-same (look_at j here.p v.height v.index a b) v.bytes v.done v.mended here.mended_as)
+    (other-same v.height v.mended (other v.height a) (other v.height b) here.other_stays)
 
 runs-same : (j : Job) (vs : List Visit) (a b : World) → Runs j vs a b → AreSame a b
 runs-same j [] a b read = read-same a b read

@@ -6,10 +6,10 @@ use Rattle.tree_path.specs.Path.{PathRecord}
 use Rattle.tree_path.proofs.lemmas.DeviceLemmas.{steady-then}
 use Rattle.tree_repair.specs.declared.mending.Mended.{Mended}
 use Rattle.tree_repair.specs.declared.mending.Mended.TheVariants as mended
-use Rattle.tree_repair.specs.Laws.{AreOff, IsFound, IsOffData, IsOffTree, IsOutside, OtherSectorsStay}
-use Rattle.tree_repair.specs.Mending.{IsMended, IsPut, Look}
-use Rattle.tree_repair.specs.Runs.{Job, Runs, Visit, World, look_at, other}
-use Rattle.tree_repair.proofs.RunLemmas.{visited-same}
+use Rattle.tree_repair.specs.Laws.{AreOff, IsOffData, IsOffTree, IsOutside, OtherSectorsStay}
+use Rattle.tree_repair.specs.Mending.{IsFound, IsMended, IsPut, Look}
+use Rattle.tree_repair.specs.Runs.{Job, OtherStays, Runs, Visit, World, look_at, other}
+use Rattle.tree_repair.proofs.RunLemmas.{other-image, visited-same}
 
 module _ (k : ℕ) (d : List ℕ) where
   written-stays : (old : Device) (first n : ℕ) (done : Bool) (new : Device) → IsWritten old first n done new → IsTrue old.steady → IsOutside first n k → get_or new.image k d ≡ get_or old.image k d
@@ -33,25 +33,30 @@ module _ (k : ℕ) (d : List ℕ) where
   look-stays l bytes done (mended.Copy n) found steady outside =
       put-stays l.write found.between l.first l.w.sectors bytes done l.new found.put (steady-then found.read.same steady) (outside tt)
       ∙ ap (λ (im : List (List ℕ)). get_or im k d) (found.read.image steady)
-  look-stays l bytes done mended.Lost found steady outside = ap (λ (im : List (List ℕ)). get_or im k d) (found.read.image steady)
+  look-stays l bytes done mended.Remade found steady outside =
+      let seen : IsTrue found.seen.steady = steady-then found.read.same steady in
+      put-stays l.write found.between l.first l.w.sectors bytes done l.new found.put (steady-then found.beneath_read.same seen) (outside tt)
+      ∙ ap (λ (im : List (List ℕ)). get_or im k d) (found.beneath_read.image seen ∙ found.read.image steady)
+  look-stays l bytes done mended.Lost found steady outside =
+      ap (λ (im : List (List ℕ)). get_or im k d) (found.beneath_read.image (steady-then found.read.same steady) ∙ found.read.image steady)
 
   module _ (j : Job) (p : PathRecord) where
-    data-visit : (h i : ℕ) (m : Mended) (bytes : List ℕ) (done : Bool) (w w' : World) → IsMended (look_at j p h i w w') bytes done m → other h w' ≡ other h w → IsTrue w.data_dev.steady
+    data-visit : (h i : ℕ) (m : Mended) (bytes : List ℕ) (done : Bool) (w w' : World) → IsMended (look_at j p h i w w') bytes done m → OtherStays h m (other h w) (other h w') → IsTrue w.data_dev.steady
         → (IsFound m → IsOffData j k h i) → get_or w'.data_dev.image k d ≡ get_or w.data_dev.image k d
-    data-visit zero i m bytes done w w' looked other_is steady off = look-stays (look_at j p zero i w w') bytes done m looked steady off
-    data-visit (suc l) i m bytes done w w' looked other_is steady off = ap (λ (x : Device). get_or x.image k d) other_is
+    data-visit zero i m bytes done w w' looked stays steady off = look-stays (look_at j p zero i w w') bytes done m looked steady off
+    data-visit (suc l) i m bytes done w w' looked stays steady off = ap (λ (im : List (List ℕ)). get_or im k d) (other-image (suc l) m w.data_dev w'.data_dev stays steady)
 
-    tree-visit : (h i : ℕ) (m : Mended) (bytes : List ℕ) (done : Bool) (w w' : World) → IsMended (look_at j p h i w w') bytes done m → other h w' ≡ other h w → IsTrue w.hash_dev.steady
+    tree-visit : (h i : ℕ) (m : Mended) (bytes : List ℕ) (done : Bool) (w w' : World) → IsMended (look_at j p h i w w') bytes done m → OtherStays h m (other h w) (other h w') → IsTrue w.hash_dev.steady
         → (IsFound m → IsOffTree j k h i) → get_or w'.hash_dev.image k d ≡ get_or w.hash_dev.image k d
-    tree-visit zero i m bytes done w w' looked other_is steady off = ap (λ (x : Device). get_or x.image k d) other_is
-    tree-visit (suc l) i m bytes done w w' looked other_is steady off = look-stays (look_at j p (suc l) i w w') bytes done m looked steady off
+    tree-visit zero i m bytes done w w' looked stays steady off = ap (λ (im : List (List ℕ)). get_or im k d) (other-image zero m w.hash_dev w'.hash_dev stays steady)
+    tree-visit (suc l) i m bytes done w w' looked stays steady off = look-stays (look_at j p (suc l) i w w') bytes done m looked steady off
 
   data-run : (j : Job) (vs : List Visit) (w w' : World) → Runs j vs w w' → IsTrue w.data_dev.steady → AreOff (IsOffData j k) vs → get_or w'.data_dev.image k d ≡ get_or w.data_dev.image k d
   data-run j [] w w' read steady off = ap (λ (im : List (List ℕ)). get_or im k d) (read.data_read.image steady)
   data-run j (v ∷ more) w w' (x, (y, (read, (here, rest)))) steady off =
       let before : IsTrue x.data_dev.steady = steady-then read.data_read.same steady in
       data-run j more y w' rest (steady-then (visited-same j v x y here).data_same before) off.1
-      ∙ data-visit j here.p v.height v.index v.mended v.bytes v.done x y here.mended_as here.other_is before off.0
+      ∙ data-visit j here.p v.height v.index v.mended v.bytes v.done x y here.mended_as here.other_stays before off.0
       ∙ ap (λ (im : List (List ℕ)). get_or im k d) (read.data_read.image steady)
 
   tree-run : (j : Job) (vs : List Visit) (w w' : World) → Runs j vs w w' → IsTrue w.hash_dev.steady → AreOff (IsOffTree j k) vs → get_or w'.hash_dev.image k d ≡ get_or w.hash_dev.image k d
@@ -59,7 +64,7 @@ module _ (k : ℕ) (d : List ℕ) where
   tree-run j (v ∷ more) w w' (x, (y, (read, (here, rest)))) steady off =
       let before : IsTrue x.hash_dev.steady = steady-then read.hash_read.same steady in
       tree-run j more y w' rest (steady-then (visited-same j v x y here).hash_same before) off.1
-      ∙ tree-visit j here.p v.height v.index v.mended v.bytes v.done x y here.mended_as here.other_is before off.0
+      ∙ tree-visit j here.p v.height v.index v.mended v.bytes v.done x y here.mended_as here.other_stays before off.0
       ∙ ap (λ (im : List (List ℕ)). get_or im k d) (read.hash_read.image steady)
 
 pub others-stay : OtherSectorsStay

@@ -6,8 +6,7 @@ use Rattle.hash_tree.specs.Chain.{ChainRecord, formed}
 use Rattle.tree_path.specs.Laws.{Collide}
 use Rattle.tree_survey.specs.Laws.{AreContents, IsChain}
 use Rattle.tree_survey.specs.Surveys.{Tree}
-use Rattle.tree_repair.specs.declared.mending.Mended.{Mended}
-use Rattle.tree_repair.specs.declared.mending.Mended.TheVariants as mended
+use Rattle.tree_repair.specs.Mending.{IsFound}
 use Rattle.tree_repair.specs.Runs.{IsVisited, Job, Runs, Visit, World, sector_at, size_at}
 
 -- ---- blocks that were mended
@@ -22,28 +21,23 @@ block_below (b ∷ path) content (suc d) = block_below path content d
 abbrev pub block_in : Tree → ChainRecord → ℕ → List ℕ
 block_in t c h = block_below c.path c.content (levels t.shape - h)
 
--- it was found in a copy
-pub record IsMendedIn (j : Job) (v : Visit) (w w' : World) (k : ℕ) : Type 0 where
+-- it wasn't good, and was found in a copy or made again
+pub record IsMendedBy (j : Job) (v : Visit) (w w' : World) : Type 0 where
   pub visited : IsVisited j v w w'
-  pub is : v.mended ≡ mended.Copy k
+  pub found : IsFound v.mended
 
 -- the bytes of a block that was mended are those of each chain that is good under the root, or two different inputs have one
 -- digest
 abbrev pub MendedBlocksAreGood : Type 0
-MendedBlocksAreGood = (j : Job) → (v : Visit) → (w w' : World) → (k : ℕ) → IsMendedIn j v w w' k → (c : ChainRecord) → IsChain j.tree v.index c
+MendedBlocksAreGood = (j : Job) → (v : Visit) → (w w' : World) → IsMendedBy j v w w' → (c : ChainRecord) → IsChain j.tree v.index c
     → (v.bytes ≡ block_in j.tree c v.height) ⊎ Collide j.tree.salt
 
 -- the same of the blocks of all data whose tree has this root
 abbrev pub MendedBlocksAreFormatted : Type 0
-MendedBlocksAreFormatted = (j : Job) → (v : Visit) → (w w' : World) → (k : ℕ) → IsMendedIn j v w w' k → (contents : List (List ℕ)) → AreContents j.tree contents
+MendedBlocksAreFormatted = (j : Job) → (v : Visit) → (w w' : World) → IsMendedBy j v w w' → (contents : List (List ℕ)) → AreContents j.tree contents
     → (v.bytes ≡ block_in j.tree (formed j.tree.shape j.tree.salt contents v.index) v.height) ⊎ Collide j.tree.salt
 
 -- ---- sectors that weren't
-
-abbrev pub IsFound : Mended → Type 0
-IsFound mended.Good = ⊥
-IsFound (mended.Copy k) = Unit {0}
-IsFound mended.Lost = ⊥
 
 -- a sector isn't one of so many from the first on
 abbrev pub IsOutside : ℕ → ℕ → ℕ → Type 0

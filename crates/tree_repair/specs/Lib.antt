@@ -1,6 +1,7 @@
 pub mod Sources
 pub mod Mending
 pub mod Looks
+pub mod Remaking
 pub mod Runs
 pub mod Jobs
 pub mod Visits

@@ -45,17 +45,47 @@ pub record IsFoundIn (l : Look) (k : ℕ) (bytes : List ℕ) (done : Bool) : Typ
   pub good : digest l.w.salt bytes ≡ l.w.digest_is
   pub put : IsPut l.write between l.first l.w.sectors bytes done l.new
 
--- it isn't, and no copy has it: nothing is written
-pub record IsFoundNowhere (l : Look) : Type 0 where
-  pub read : IsOnlyRead l.old l.new
-  pub bad : IsBad l.old l.first l.w l.new
+-- It isn't, and no copy has it, but it was made again of blocks that were read behind it: its bytes were written, or the
+-- write failed.
+pub record IsFoundBeneath (l : Look) (bytes : List ℕ) (done : Bool) : Type 0 where
+  pub seen : Device
+  pub read : IsOnlyRead l.old seen
+  pub bad : IsBad l.old l.first l.w seen
   pub copies_read : AreEachRead l.copies l.copies'
   pub none : AreNotIn l.copies l.copy_first l.w (length l.copies)
+  pub between : Device
+  pub beneath_read : IsOnlyRead seen between
+  pub good : digest l.w.salt bytes ≡ l.w.digest_is
+  pub put : IsPut l.write between l.first l.w.sectors bytes done l.new
+
+-- it isn't, and no copy has it, nor was it made again: nothing is written
+pub record IsFoundNowhere (l : Look) : Type 0 where
+  pub seen : Device
+  pub read : IsOnlyRead l.old seen
+  pub bad : IsBad l.old l.first l.w seen
+  pub copies_read : AreEachRead l.copies l.copies'
+  pub none : AreNotIn l.copies l.copy_first l.w (length l.copies)
+  pub beneath_read : IsOnlyRead seen l.new
 
 abbrev pub IsMended : Look → List ℕ → Bool → Mended → Type 0
 IsMended l bytes done mended.Good = IsFoundGood l bytes
 IsMended l bytes done (mended.Copy k) = IsFoundIn l k bytes done
+IsMended l bytes done mended.Remade = IsFoundBeneath l bytes done
 IsMended l bytes done mended.Lost = IsFoundNowhere l
+
+-- it wasn't good, and its bytes were found or made
+abbrev pub IsFound : Mended → Type 0
+IsFound mended.Good = ⊥
+IsFound (mended.Copy k) = Unit {0}
+IsFound mended.Remade = Unit {0}
+IsFound mended.Lost = ⊥
+
+-- it wasn't made again
+abbrev pub IsNotRemade : Mended → Type 0
+IsNotRemade mended.Good = Unit {0}
+IsNotRemade (mended.Copy k) = Unit {0}
+IsNotRemade mended.Remade = ⊥
+IsNotRemade mended.Lost = Unit {0}
 
 -- it was found in a copy, but can't be written
 abbrev pub IsUnmended : Look → Type 0

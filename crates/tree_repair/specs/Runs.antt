@@ -10,7 +10,8 @@ use Rattle.tree_path.specs.Path.{PathRecord, digest_on}
 use Rattle.tree_survey.specs.Surveys.{Tree, IsWay}
 use Rattle.tree_repair.specs.declared.mending.Mended.{Mended}
 use Rattle.tree_repair.specs.declared.mending.Mended.TheVariants as mended
-use Rattle.tree_repair.specs.Mending.{Look, IsMended}
+use Rattle.tree_repair.specs.Mending.{Look, IsMended, IsNotRemade}
+use Rattle.tree_repair.specs.Remaking.{IsMadeBeneath, IsNowhereBeneath}
 use Rattle.tree_repair.specs.Sources.{AreEachRead, wanted}
 
 -- the data device, the hash device and copies of each
@@ -89,14 +90,30 @@ pub record Visit : Type 0 where
 abbrev pub visit : ℕ → ℕ → Mended → List ℕ → Bool → Visit
 visit height index mended bytes done = record { height = height; index = index; mended = mended; bytes = bytes; done = done }
 
--- Good hash blocks lead from the root to the block's digest, and by that it was found good, mended or lost. The devices that
--- haven't such blocks weren't asked.
+-- The device that hasn't such blocks wasn't asked; but where a hash block isn't good and no copy has it, it was only read.
+abbrev pub OtherStays : ℕ → Mended → Device → Device → Type 0
+OtherStays zero m old new = new ≡ old
+OtherStays (suc l) mended.Good old new = new ≡ old
+OtherStays (suc l) (mended.Copy k) old new = new ≡ old
+OtherStays (suc l) mended.Remade old new = IsOnlyRead old new
+OtherStays (suc l) mended.Lost old new = IsOnlyRead old new
+
+-- A hash block that was made again is made of the blocks beneath it, and one that is lost can't be. A data block isn't made.
+abbrev pub IsMadeOf : Job → PathRecord → ℕ → ℕ → Device → Device → List ℕ → Mended → Type 0
+IsMadeOf j p zero i data_dev hash_dev bytes m = IsNotRemade m
+IsMadeOf j p (suc l) i data_dev hash_dev bytes mended.Good = Unit {0}
+IsMadeOf j p (suc l) i data_dev hash_dev bytes (mended.Copy k) = Unit {0}
+IsMadeOf j p (suc l) i data_dev hash_dev bytes mended.Remade = IsMadeBeneath j.tree.shape j.tree.salt data_dev hash_dev l i bytes
+IsMadeOf j p (suc l) i data_dev hash_dev bytes mended.Lost = IsNowhereBeneath j.tree.shape j.tree.salt data_dev hash_dev l i (digest_on p i (l + 1))
+
+-- Good hash blocks lead from the root to the block's digest, and by that it was found good, mended or lost.
 pub record IsVisited (j : Job) (v : Visit) (w w' : World) : Type 0 where
   pub inside : v.index < j.tree.shape.blocks
   pub p : PathRecord
   pub way : IsWay j.tree v.index v.height p
   pub mended_as : IsMended (look_at j p v.height v.index w w') v.bytes v.done v.mended
-  pub other_is : other v.height w' ≡ other v.height w
+  pub made_of : IsMadeOf j p v.height v.index w.data_dev w.hash_dev v.bytes v.mended
+  pub other_stays : OtherStays v.height v.mended (other v.height w) (other v.height w')
   pub copies_are : other_copies v.height w' ≡ other_copies v.height w
 
 -- all devices were only read
@@ -124,6 +141,14 @@ data_line write i k = verb write ++ (codes " data " ++ (decimal i ++ (codes " co
 unfoldable pub hash_line : Bool → ℕ → ℕ → ℕ → List ℕ
 hash_line write l n k = verb write ++ (codes " hash " ++ (decimal l ++ (codes " " ++ (decimal n ++ (codes " copy " ++ (decimal k ++ codes "\n"))))))
 
+-- `VERB hash LEVEL NUMBER remade`
+unfoldable pub remade_line : Bool → ℕ → ℕ → List ℕ
+remade_line write l n = verb write ++ (codes " hash " ++ (decimal l ++ (codes " " ++ (decimal n ++ codes " remade\n"))))
+
+abbrev pub made_line : Job → ℕ → ℕ → List ℕ
+made_line j zero i = []
+made_line j (suc l) i = remade_line j.write l (ancestor j.tree.shape (l + 1) i)
+
 abbrev pub copy_line : Job → ℕ → ℕ → ℕ → List ℕ
 copy_line j zero i k = data_line j.write i k
 copy_line j (suc l) i k = hash_line j.write l (ancestor j.tree.shape (l + 1) i) k
@@ -132,6 +157,7 @@ copy_line j (suc l) i k = hash_line j.write l (ancestor j.tree.shape (l + 1) i) 
 abbrev pub mended_line : Job → ℕ → ℕ → Mended → List ℕ
 mended_line j h i mended.Good = []
 mended_line j h i (mended.Copy k) = copy_line j h i k
+mended_line j h i mended.Remade = made_line j h i
 mended_line j h i mended.Lost = []
 
 abbrev pub line_of : Job → Visit → List ℕ

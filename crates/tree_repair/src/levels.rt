@@ -1,5 +1,5 @@
 //! The blocks of a height, gone over row by row.
-ghost use Rattle.std.specs.Prelude.{◌≡◌, ◌<◌, ◌≤◌, ◌^◌, IfErr, IfOk, IfSome, is_ok, length, map, replicate};
+ghost use Rattle.std.specs.Prelude.{◌≡◌, ◌<◌, ◌≤◌, ◌*◌, ◌^◌, IfErr, IfOk, IfSome, is_ok, length, map, replicate};
 ghost use Rattle.tree_shape.specs.Shape.{levels};
 ghost use Rattle.tree_survey.specs.Surveys.{IsWay};
 ghost use Rattle.verity_format.specs.Blocks.{IsOnlyRead};
@@ -8,7 +8,7 @@ ghost use Rattle.tree_repair.specs.Runs.{CanRun, HasRun, size_at, world};
 ghost use Rattle.verity_format.specs.Image.{tree_sectors};
 
 use crate::fault::RepairFault;
-use crate::place::{Place, Repair, Row};
+use crate::place::{MOST_BYTES, Place, Repair, Row, block_size};
 use crate::saying::say_mended;
 use crate::visiting::visit;
 use block_device::BlockDev;
@@ -16,7 +16,6 @@ use counted_io::Counted;
 use std::alloc::{AllocError, Global};
 use std::io::Write;
 use tree_path::{TreePath, span};
-use tree_shape::Shape;
 
 /// Goes over the blocks of a height: of the data at 0, of the hash blocks of level l at l + 1.
 pub(crate) fn repair_height<D: BlockDev, H: BlockDev, C: BlockDev, W: Write>(
@@ -112,8 +111,11 @@ fn repair_along<D: BlockDev, H: BlockDev, C: BlockDev, W: Write>(
     ensures { HasRun (job repair.now) (world (D.state data_dev.old) (H.state hash_dev.old) (map C.state data_copies.old) (map C.state hash_copies.old)) (world (D.state data_dev.new) (H.state hash_dev.new) (map C.state data_copies.new) (map C.state hash_copies.new)) (W.contents writer.old.inner) (W.contents writer.new.inner) (is_ok result) }
 {
     let size = block_size(&repair.shape, row.height);
+    let room = row.height as usize * MOST_BYTES;
     let mut block = zeros(alloc, size)?;
+    let mut beneath = zeros(alloc, room)?;
     let piece = block.as_mut_slice();
+    let memory = beneath.as_mut_slice();
     repair_blocks(
         path,
         repair,
@@ -123,6 +125,7 @@ fn repair_along<D: BlockDev, H: BlockDev, C: BlockDev, W: Write>(
         data_copies,
         hash_copies,
         piece,
+        memory,
         writer,
     )
 }
@@ -150,16 +153,6 @@ fn way_to<H: BlockDev>(
     }
 }
 
-// How many bytes a block of that height has.
-fn block_size(shape: &Shape, height: u32) -> usize
-    ensures { result ≡ size_at shape.now height }
-{
-    if height == 0 {
-        return shape.data_block() as usize;
-    }
-    shape.hash_block() as usize
-}
-
 fn zeros(alloc: Global, size: usize) -> Result<Vec<u8>, AllocError>
     ensures { IfOk result (λ v. v.items ≡ replicate size 0) }
 {
@@ -176,12 +169,14 @@ fn repair_blocks<D: BlockDev, H: BlockDev, C: BlockDev, W: Write>(
     data_copies: &mut [C],
     hash_copies: &mut [C],
     block: &mut [u8],
+    memory: &mut [u8],
     writer: &mut Counted<W>,
 ) -> Result<(), RepairFault>
     requires can { CanRun (job repair.now) (world (D.state data_dev.old) (H.state hash_dev.old) (map C.state data_copies.old) (map C.state hash_copies.old)) }
     requires row { IsRow repair.now.shape row }
     requires way { IsWay (job repair.now).tree row.first row.height path.now }
     requires size { length block.old ≡ size_at repair.now.shape row.height }
+    requires room { 4096 * row.height ≤ length memory.old }
     ensures { HasRun (job repair.now) (world (D.state data_dev.old) (H.state hash_dev.old) (map C.state data_copies.old) (map C.state hash_copies.old)) (world (D.state data_dev.new) (H.state hash_dev.new) (map C.state data_copies.new) (map C.state hash_copies.new)) (W.contents writer.old.inner) (W.contents writer.new.inner) (is_ok result) }
 {
     let Row {
@@ -202,6 +197,7 @@ fn repair_blocks<D: BlockDev, H: BlockDev, C: BlockDev, W: Write>(
             data_copies,
             hash_copies,
             block,
+            memory,
             writer,
         )?;
         index += step;
@@ -219,12 +215,14 @@ fn repair_block<D: BlockDev, H: BlockDev, C: BlockDev, W: Write>(
     data_copies: &mut [C],
     hash_copies: &mut [C],
     block: &mut [u8],
+    memory: &mut [u8],
     writer: &mut Counted<W>,
 ) -> Result<(), RepairFault>
     requires can { CanRun (job repair.now) (world (D.state data_dev.old) (H.state hash_dev.old) (map C.state data_copies.old) (map C.state hash_copies.old)) }
     requires inside { place.index < repair.now.shape.blocks }
     requires way { IsWay (job repair.now).tree place.index place.height path.now }
     requires size { length block.old ≡ size_at repair.now.shape place.height }
+    requires room { 4096 * place.height ≤ length memory.old }
     ensures { HasRun (job repair.now) (world (D.state data_dev.old) (H.state hash_dev.old) (map C.state data_copies.old) (map C.state hash_copies.old)) (world (D.state data_dev.new) (H.state hash_dev.new) (map C.state data_copies.new) (map C.state hash_copies.new)) (W.contents writer.old.inner) (W.contents writer.new.inner) (is_ok result) }
 {
     let mended = visit(
@@ -236,6 +234,7 @@ fn repair_block<D: BlockDev, H: BlockDev, C: BlockDev, W: Write>(
         data_copies,
         hash_copies,
         block,
+        memory,
     )?;
     say_mended(writer, repair, place, mended)?;
     Ok(())

@@ -1,5 +1,5 @@
-//! Damaged images, repaired from the root down: each block that isn't good is sought in copies, and written where the bytes
-//! that were found have its digest.
+//! Damaged images, repaired from the root down: each block that isn't good is sought in copies, a hash block that none has is
+//! made again from the blocks beneath it, and the bytes are written that have its digest.
 #![tactic(auto)]
 
 mod fault;
@@ -7,6 +7,7 @@ pub mod laws;
 mod levels;
 mod mending;
 mod place;
+mod remaking;
 mod repair;
 mod saying;
 mod seeking;

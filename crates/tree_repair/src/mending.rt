@@ -1,7 +1,7 @@
 //! A block that is looked at, and written where it isn't good and was found elsewhere.
 ghost use Rattle.std.specs.Prelude.{◌≡◌, ◌/◌, ◌+◌, ◌<◌, ◌^◌, ℕ, List, true, IfOk, IsTrue, OnErr, OnOk, is_ok, length, map};
 ghost use Rattle.block_device.specs.Device.{IsInside};
-ghost use Rattle.tree_repair.specs.Mending.{IsMended, IsPut, IsUnmended};
+ghost use Rattle.tree_repair.specs.Mending.{IsMended, IsNotRemade, IsPut, IsUnmended};
 ghost use Rattle.tree_repair.specs.Looks.{look};
 
 use crate::seeking::{is_there, seek_copies};
@@ -15,6 +15,8 @@ pub enum Mended {
     Good,
     /// It wasn't, and the copy of that number, counted from 1, has it.
     Copy(usize),
+    /// It is a hash block, and wasn't good, no copy has it, and it was made again from the blocks beneath it.
+    Remade,
     /// It isn't, and was found nowhere.
     Lost,
 }
@@ -40,6 +42,7 @@ pub(crate) fn mend<B: BlockDev, C: BlockDev>(
     requires small { sought.now.copy_first + length block.old / 512 < 2 ^ 64 }
     requires allowed { IsTrue write → IsTrue (B.state device.old).may_write }
     ensures ok { IfOk result (λ m. (bytes : List ℕ) × IsMended (look sought.now salt.now (length block.old / 512) write (B.state device.old) (B.state device.new) (map C.state copies.old) (map C.state copies.new)) bytes true m) }
+    ensures plain { IfOk result IsNotRemade }
     ensures err { OnErr result (IsUnmended (look sought.now salt.now (length block.old / 512) write (B.state device.old) (B.state device.new) (map C.state copies.old) (map C.state copies.new))) }
 {
     let Sought {
@@ -59,8 +62,8 @@ pub(crate) fn mend<B: BlockDev, C: BlockDev>(
     }
 }
 
-// Writes a block, if it may be written.
-fn put<B: BlockDev>(
+/// Writes a block, if it may be written.
+pub(crate) fn put<B: BlockDev>(
     device: &mut B,
     first: u64,
     block: &[u8],

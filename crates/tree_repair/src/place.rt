@@ -1,5 +1,13 @@
 //! Blocks of an image by their places, and what is repaired.
+ghost use Rattle.std.specs.Prelude.{◌≡◌, ◌≤◌, ◌^◌};
+ghost use Rattle.tree_shape.specs.Shape.{levels};
+ghost use Rattle.tree_repair.specs.Remaking.{count_at};
+ghost use Rattle.tree_repair.specs.Runs.{size_at};
+
 use tree_shape::{Digest, Salt, Shape};
+
+/// The most bytes that a block has.
+pub(crate) const MOST_BYTES: usize = 4096;
 
 /// A tree, the sector at which hash blocks begin on a copy, and whether anything may be written.
 #[derive(Drop)]
@@ -27,4 +35,27 @@ pub(crate) struct Row {
     pub(crate) first: u64,
     pub(crate) end: u64,
     pub(crate) step: u64,
+}
+
+/// How many bytes a block of that height has.
+pub(crate) fn block_size(shape: &Shape, height: u32) -> usize
+    ensures { result ≡ size_at shape.now height }
+{
+    if height == 0 {
+        return shape.data_block() as usize;
+    }
+    shape.hash_block() as usize
+}
+
+/// How many blocks of that height there are.
+pub(crate) fn count_at(shape: &Shape, height: u32) -> u64
+    requires { height ≤ levels shape.now }
+    ensures value { result ≡ count_at shape.now height }
+    ensures small { result ≤ 2 ^ 54 }
+{
+    let blocks = shape.blocks();
+    if height == 0 {
+        return blocks;
+    }
+    shape.level_blocks(height - 1)
 }

@@ -27,7 +27,8 @@ pub struct Plan {
 }
 
 /// Goes over an image from the root down, and looks at each block to which good hash blocks lead. One that isn't good is
-/// sought in the copies, and written where one has it, if anything may be written. A line is printed for each such block.
+/// sought in the copies; a hash block that none has is made again from the blocks beneath it. What has its digest is written,
+/// if anything may be written. A line is printed for each such block.
 pub fn repair_image<D: BlockDev, H: BlockDev, C: BlockDev, W: Write>(
     alloc: Global,
     data_dev: &mut D,

@@ -2,7 +2,7 @@
 ghost use Rattle.std.specs.Prelude.{◌≡◌, ◌<◌};
 ghost use Rattle.counted_io.specs.Counted.{Writes};
 ghost use Rattle.tree_repair.specs.Jobs.{job};
-ghost use Rattle.tree_repair.specs.Runs.{copy_line, data_line, hash_line, mended_line, verb};
+ghost use Rattle.tree_repair.specs.Runs.{copy_line, data_line, hash_line, made_line, mended_line, remade_line, verb};
 
 use crate::mending::Mended;
 use crate::place::{Place, Repair};
@@ -22,6 +22,7 @@ pub(crate) fn say_mended<W: Write>(
     match mended {
         Mended::Good => writer.put(b""),
         Mended::Copy(number) => say_copy(writer, repair, place, number),
+        Mended::Remade => say_made(writer, repair, place),
         Mended::Lost => writer.put(b""),
     }
 }
@@ -42,6 +43,37 @@ fn say_copy<W: Write>(
     let level = height - 1;
     let block = repair.shape.block_on_path(level, index);
     say_hash(writer, repair.write, level, block, number)
+}
+
+fn say_made<W: Write>(
+    writer: &mut Counted<W>,
+    repair: &Repair,
+    place: Place,
+) -> Result<(), WriteFault>
+    requires { place.index < repair.now.shape.blocks }
+    ensures { Writes W.contents writer.old writer.new (made_line (job repair.now) place.height place.index) result }
+{
+    let Place { height, index } = place;
+    if height == 0 {
+        return writer.put(b"");
+    }
+    let level = height - 1;
+    let block = repair.shape.block_on_path(level, index);
+    say_remade(writer, repair.write, level, block)
+}
+
+// `VERB hash LEVEL NUMBER remade`
+#[tactic(auto, unfolding(crate::specs::Runs::remade_line))]
+fn say_remade<W: Write>(
+    writer: &mut Counted<W>,
+    write: bool,
+    level: u32,
+    block: u64,
+) -> Result<(), WriteFault>
+    ensures { Writes W.contents writer.old writer.new (remade_line write level block) result }
+{
+    let verb = verb(write);
+    writer.print(format_args!("{verb} hash {level} {block} remade\n"))
 }
 
 fn verb(write: bool) -> &'static str

@@ -1,5 +1,4 @@
 use Rattle.std.proofs.Common.{true, false, refl, [], ◌∷◌, map}
-use Rattle.tree_repair.specs.declared.mending.Mended.TheVariants as mended
 use Rattle.tree_repair.specs.Jobs.{job}
 use Rattle.tree_repair.specs.Runs.{visit, world}
 use Rattle.tree_repair.proofs.RunLemmas.{has-ended, has-one, runs-one, ended-from}
@@ -10,9 +9,9 @@ returns-in_err-mended g c =
     let a = world (g.D.BlockDev.state c.args.data_dev.now) (g.H.BlockDev.state c.args.hash_dev.now) (map g.C.BlockDev.state c.args.data_copies.now) (map g.C.BlockDev.state c.args.hash_copies.now) in
     let b = world (g.D.BlockDev.state c.visit.new.data_dev) (g.H.BlockDev.state c.visit.new.hash_dev) (map g.C.BlockDev.state c.visit.new.data_copies) (map g.C.BlockDev.state c.visit.new.hash_copies) in
     let f = c.in_err-mended.ensures.err in
-    let v = visit c.args.place.height c.args.place.index (mended.Copy f.0) f.1.0 false in
+    let v = visit c.args.place.height c.args.place.index f.0 f.1.0 false in
     ended-from c.from_residual.result _ (job c.args.repair.now) a b (g.W.Write.contents c.args.writer.now.inner) (g.W.Write.contents c.args.writer.now.inner) c.from_residual.ensures.1
-    (has-ended (job c.args.repair.now) a b (g.W.Write.contents c.args.writer.now.inner) (g.W.Write.contents c.args.writer.now.inner) (v ∷ []) (runs-one (job c.args.repair.now) v a b f.1.1))
+    (has-ended (job c.args.repair.now) a b (g.W.Write.contents c.args.writer.now.inner) (g.W.Write.contents c.args.writer.now.inner) (v ∷ []) (runs-one (job c.args.repair.now) v a b f.1.1.1))
 
 pub returns-in_err-say_mended : goal.returns-in_err-say_mended
 returns-in_err-say_mended g c =

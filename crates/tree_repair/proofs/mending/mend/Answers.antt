@@ -1,5 +1,6 @@
 use Rattle.std.proofs.Common.{◌≡◌, ◌/◌, ℕ, [], true, false, length, map, arith, ap, sym, ◌∙◌, subst}
 use Rattle.std.proofs.lemmas.List.{length-map}
+use Rattle.tree_path.proofs.lemmas.DeviceLemmas.{only_read-none}
 use Rattle.tree_repair.specs.Mending.{IsPut}
 use Rattle.tree_repair.specs.Sources.{AreIn, AreNotIn, wanted}
 use Rattle.tree_repair.proofs.SourceLemmas.{each-none, on_err-from}
@@ -25,9 +26,11 @@ returns-in-None-clause-ok g c =
     let long : length c.is_there.new.block / 512 ≡ length c.args.block.now / 512 = ap (λ (n : ℕ). n / 512) c.is_there.auto.block in (
       [],
       record {
+        seen = g.B.BlockDev.state c.is_there.new.device;
         read = c.is_there.ensures.read;
         bad = c.is_there.ensures.bad c.if-is_there.false;
         copies_read = c.seek_copies.ensures.read;
+        beneath_read = only_read-none (g.B.BlockDev.state c.is_there.new.device);
         none = subst (λ (n : ℕ). AreNotIn cs s.copy_first (wanted c.args.salt.now s.digest n) (length cs)) long
             (subst (λ (n : ℕ). AreNotIn cs s.copy_first (wanted c.args.salt.now s.digest (length c.is_there.new.block / 512)) n) (sym (length-map c.args.copies.now g.C.BlockDev.state)) c.in-None.ensures.none);
       },

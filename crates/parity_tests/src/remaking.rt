@@ -1,0 +1,198 @@
+//! Hash blocks that were lost, made again from what is beneath them.
+use block_device::{BlockDev, MemoryDev};
+use counted_io::Counted;
+use std::alloc::Global;
+use std::process::Abort;
+use std::test::Fail;
+use tree_repair::{Plan, repair_image};
+use tree_shape::{Algorithm, Salt};
+use verity_format::{Superblock, format};
+
+/// An image over a ramp, of which some sectors are written over, and what a repair without copies prints.
+struct Case {
+    /// The bytes of a data block and of a hash block, and how many data blocks there are.
+    data_block: u32,
+    hash_block: u32,
+    blocks: u64,
+    /// The sectors of the data and of the hash device.
+    data: u32,
+    hash: u32,
+    /// The sectors that are lost: of the hash device, and of the data.
+    lost: &'static [u64],
+    changed: &'static [u64],
+    write: bool,
+    lines: &'static str,
+    /// The sectors of the hash device that are lost still.
+    still: &'static [u64],
+}
+
+// Of 300 blocks the top level stands at sector 1, the two of the next one at 2 and 3, the 19 of the lowest from 4 on.
+static CASES: [Case; 8] = [
+    // the top one, one in the middle, and the last one
+    Case {
+        data_block: 512,
+        hash_block: 512,
+        blocks: 300,
+        data: 300,
+        hash: 23,
+        lost: &[1, 2, 22],
+        changed: &[],
+        write: true,
+        lines: "repaired hash 2 0 remade\nrepaired hash 1 0 remade\nrepaired hash 0 18 remade\n",
+        still: &[],
+    },
+    // nothing may be written
+    Case {
+        data_block: 512,
+        hash_block: 512,
+        blocks: 300,
+        data: 300,
+        hash: 23,
+        lost: &[1, 2, 22],
+        changed: &[],
+        write: false,
+        lines: "repairable hash 2 0 remade\n",
+        still: &[1, 2, 22],
+    },
+    // a data block is changed too: all above the lowest level is made of hash blocks
+    Case {
+        data_block: 512,
+        hash_block: 512,
+        blocks: 300,
+        data: 300,
+        hash: 23,
+        lost: &[1, 3],
+        changed: &[7],
+        write: true,
+        lines: "repaired hash 2 0 remade\nrepaired hash 1 1 remade\n",
+        still: &[],
+    },
+    // one above it
+    Case {
+        data_block: 512,
+        hash_block: 512,
+        blocks: 300,
+        data: 300,
+        hash: 23,
+        lost: &[4, 5],
+        changed: &[7],
+        write: true,
+        lines: "repaired hash 0 1 remade\n",
+        still: &[4],
+    },
+    // no height is whole
+    Case {
+        data_block: 512,
+        hash_block: 512,
+        blocks: 300,
+        data: 300,
+        hash: 23,
+        lost: &[1, 2, 5],
+        changed: &[7],
+        write: true,
+        lines: "",
+        still: &[1, 2, 5],
+    },
+    // one data block is left beneath the last hash block of each level
+    Case {
+        data_block: 512,
+        hash_block: 512,
+        blocks: 257,
+        data: 257,
+        hash: 21,
+        lost: &[1, 2, 3, 20],
+        changed: &[],
+        write: true,
+        lines: "repaired hash 2 0 remade\nrepaired hash 1 0 remade\nrepaired hash 1 1 remade\nrepaired hash 0 16 remade\n",
+        still: &[],
+    },
+    // data blocks that are greater, and smaller, than hash blocks
+    Case {
+        data_block: 4096,
+        hash_block: 512,
+        blocks: 17,
+        data: 136,
+        hash: 4,
+        lost: &[1, 2, 3],
+        changed: &[],
+        write: true,
+        lines: "repaired hash 1 0 remade\nrepaired hash 0 0 remade\nrepaired hash 0 1 remade\n",
+        still: &[],
+    },
+    Case {
+        data_block: 512,
+        hash_block: 4096,
+        blocks: 129,
+        data: 129,
+        hash: 32,
+        lost: &[8, 16, 24],
+        changed: &[],
+        write: true,
+        lines: "repaired hash 1 0 remade\nrepaired hash 0 0 remade\nrepaired hash 0 1 remade\n",
+        still: &[],
+    },
+];
+
+// Writes over these sectors.
+fn lose<R: Abort>(rt: &R, device: &mut MemoryDev, sectors: &[u64]) -> Result<(), Fail> {
+    for sector in sectors {
+        assert!(rt; *sector < device.sectors());
+        assert!(rt; device.writable());
+        device.write(*sector, &[0xa5; 512])?;
+    }
+    Ok(())
+}
+
+// The image before it was damaged, and its root.
+fn formatted(
+    alloc: Global,
+    case: &Case,
+    salt: Salt,
+) -> Result<(MemoryDev, MemoryDev, tree_shape::Digest), Fail> {
+    let superblock = Superblock::new([1; 16], case.data_block, case.hash_block, case.blocks, salt)?;
+    let mut data = MemoryDev::ramp(alloc, case.data, true)?;
+    let mut hash = MemoryDev::zeros(alloc, case.hash, true)?;
+    let root = format(alloc, &mut data, &mut hash, superblock)?;
+    Ok((data, hash, root))
+}
+
+fn repaired<R: Abort>(rt: &R, alloc: Global, case: &Case) -> Result<(), Fail> {
+    let salt = Salt::new(Algorithm::Sha256, &[7, 9]).ok_or("no salt")?;
+    let (mut data, mut hash, root) = formatted(alloc, case, salt)?;
+    let (_data, mut wanted, _root) = formatted(alloc, case, salt)?;
+    lose(rt, &mut data, case.changed)?;
+    lose(rt, &mut hash, case.lost)?;
+    lose(rt, &mut wanted, case.still)?;
+    let mut writer = Counted::new(Vec::new(alloc));
+    let mut copies: [MemoryDev; 0] = [];
+    let mut others: [MemoryDev; 0] = [];
+    let plan = Plan {
+        root,
+        copy_first: 0,
+        write: case.write,
+    };
+    assert!(rt; data.writable());
+    assert!(rt; hash.writable());
+    let done = repair_image(
+        alloc,
+        &mut data,
+        &mut hash,
+        &mut copies,
+        &mut others,
+        plan,
+        &mut writer,
+    );
+    assert!(rt; done.is_ok());
+    assert!(rt; writer.into_inner().as_slice() == case.lines.as_bytes());
+    assert!(rt; hash.into_bytes() == wanted.into_bytes());
+    Ok(())
+}
+
+#[test]
+fn lost_hash_blocks_are_made_again(rt: HostRuntime) -> Result<(), Fail> {
+    let alloc = rt.alloc();
+    for case in &CASES {
+        repaired(&rt, alloc, case)?;
+    }
+    Ok(())
+}

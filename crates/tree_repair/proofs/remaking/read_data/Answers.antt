@@ -1,0 +1,16 @@
+use Rattle.std.proofs.Common.{◌≡◌, ◌*◌, ◌/◌, ◌+◌, arith}
+use Rattle.tree_path.proofs.lemmas.DeviceLemmas.{block-inside, block-size}
+use Rattle.tree_repair.proofs.remaking.read_data.Goals as goal
+
+pub overflow_mul-first : goal.overflow_mul-first
+overflow_mul-first g c =
+    let s = c.args.shape.now in
+    let room = block-inside c.args.number s.blocks (s.data_block / 512) c.requires.inside in
+    rw c.requires.size (omega (arith, room, c.requires.valid.data_fits))
+
+pub read-requires : goal.read-requires
+read-requires g c =
+    let s = c.args.shape.now in
+    let block = block-size s.data_block c.requires.valid.data_size in
+    let room = block-inside c.args.number s.blocks (s.data_block / 512) c.requires.inside in
+    rw c.requires.size (record { some = block.some; whole = block.whole; inside = omega (arith, room, c.requires.fits) })

@@ -1,0 +1,17 @@
+use Rattle.std.proofs.Common.{◌≡◌, ◌*◌, ◌/◌, ◌+◌, arith}
+use Rattle.tree_shape.specs.Shape.{area_end}
+use Rattle.tree_path.proofs.lemmas.DeviceLemmas.{block-inside, block-size}
+use Rattle.tree_repair.proofs.remaking.read_hash.Goals as goal
+
+pub overflow_mul-first : goal.overflow_mul-first
+overflow_mul-first g c =
+    let s = c.args.shape.now in
+    let room = block-inside c.position-place.result (area_end s) (s.hash_block / 512) c.position-place.ensures.inside in
+    rw c.requires.size (omega (arith, room, c.requires.valid.tree_fits))
+
+pub read-requires : goal.read-requires
+read-requires g c =
+    let s = c.args.shape.now in
+    let block = block-size s.hash_block c.requires.valid.hash_size in
+    let room = block-inside c.position-place.result (area_end s) (s.hash_block / 512) c.position-place.ensures.inside in
+    rw c.requires.size (record { some = block.some; whole = block.whole; inside = omega (arith, room, c.requires.fits) })

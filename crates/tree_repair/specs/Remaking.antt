@@ -1,0 +1,80 @@
+-- Hash blocks made again from the blocks beneath them.
+use Rattle.std.specs.Prelude.{◌≡◌, ◌≢◌, ℕ, zero, suc, ◌+◌, ◌-◌, ◌*◌, ◌≤◌, min, map, Bool, IsTrue, List}
+use Rattle.std.specs.List.{concat, range_with_len}
+use Rattle.block_device.specs.Device.{Device}
+use Rattle.tree_shape.specs.Digests.{digest}
+use Rattle.tree_shape.specs.Shape.{ShapeRecord, IsShape, ancestor, level_blocks, per_block, position}
+use Rattle.hash_tree.specs.Tree.{filled}
+use Rattle.verity_format.specs.Blocks.{block_at}
+use Rattle.verity_format.specs.Image.{data_sectors, tree_sectors}
+
+-- ---- blocks by their height (a data block has height 0, a hash block of level l height l + 1) and their number within it
+
+-- how many there are
+abbrev pub count_at : ShapeRecord → ℕ → ℕ
+count_at s zero = s.blocks
+count_at s (suc l) = level_blocks s l
+
+-- those of a height whose digests stand in block n of the height above
+abbrev pub children : ShapeRecord → ℕ → ℕ → List ℕ
+children s h n = range_with_len (n * per_block s) (min (per_block s) (count_at s h - n * per_block s))
+
+-- block n of a height as it stands on the data device and the hash device
+abbrev pub stands : ShapeRecord → List (List ℕ) → List (List ℕ) → ℕ → ℕ → List ℕ
+stands s data_image hash_image zero n = block_at data_image s.data_block n
+stands s data_image hash_image (suc l) n = block_at hash_image s.hash_block (position s l n)
+
+-- ---- made again
+
+-- A tree's shape and salt, what stands on the two devices, and a height: its blocks are taken as they stand, and those above
+-- are made again.
+pub record Ground : Type 0 where
+  pub shape : ShapeRecord
+  pub salt : List ℕ
+  pub data_image : List (List ℕ)
+  pub hash_image : List (List ℕ)
+  pub height : ℕ
+
+abbrev pub ground : ShapeRecord → List ℕ → Device → Device → ℕ → Ground
+ground s salt data_dev hash_dev h = record { shape = s; salt = salt; data_image = data_dev.image; hash_image = hash_dev.image; height = h }
+
+-- block n of so many heights above: the digests of those beneath it in their order, and zeros behind them
+unfoldable pub made : Ground → ℕ → ℕ → List ℕ
+made g zero n = stands g.shape g.data_image g.hash_image g.height n
+made g (suc steps) n = filled g.shape.hash_block (concat (map (λ i. digest g.salt (made g steps i)) (children g.shape (g.height + steps) n)))
+
+-- the hash block of level l on the way to data block i
+abbrev pub made_on : Ground → ℕ → ℕ → List ℕ
+made_on g l i = made g (l + 1 - g.height) (ancestor g.shape (l + 1) i)
+
+-- ---- by two devices
+
+-- data and tree lie on them
+pub record HaveBlocks (s : ShapeRecord) (data_dev hash_dev : Device) : Type 0 where
+  pub valid : IsShape s
+  pub data_fits : data_sectors s ≤ data_dev.size
+  pub tree_fits : tree_sectors s ≤ hash_dev.size
+
+-- over steady devices these are the bytes
+abbrev pub IsOver : Device → Device → List ℕ → List ℕ → Type 0
+IsOver data_dev hash_dev bytes_are bytes = IsTrue data_dev.steady → IsTrue hash_dev.steady → bytes ≡ bytes_are
+
+-- it is so over devices that can't fail
+abbrev pub IsSure : Device → Device → Bool → Type 0
+IsSure data_dev hash_dev ok = IsTrue data_dev.never_fails → IsTrue hash_dev.never_fails → IsTrue ok
+
+-- over steady devices that can't fail these bytes have another digest
+abbrev pub IsUnlike : List ℕ → Device → Device → List ℕ → List ℕ → Type 0
+IsUnlike salt data_dev hash_dev digest_is bytes =
+    IsTrue data_dev.steady → IsTrue hash_dev.steady → IsTrue data_dev.never_fails → IsTrue hash_dev.never_fails → digest salt bytes ≢ digest_is
+
+-- The hash block of level l on the way to data block i was made again of the blocks of one height beneath it, over steady
+-- devices of those that stand there, and these are its bytes.
+pub record IsMadeBeneath (s : ShapeRecord) (salt : List ℕ) (data_dev hash_dev : Device) (l i : ℕ) (bytes : List ℕ) : Type 0 where
+  pub from : ℕ
+  pub beneath : from ≤ l
+  pub stand : IsOver data_dev hash_dev (made_on (ground s salt data_dev hash_dev from) l i) bytes
+
+-- from whichever height beneath it is made, it has another digest
+abbrev pub IsNowhereBeneath : ShapeRecord → List ℕ → Device → Device → ℕ → ℕ → List ℕ → Type 0
+IsNowhereBeneath s salt data_dev hash_dev l i digest_is = (from : ℕ) → from ≤ l → IsUnlike salt data_dev hash_dev digest_is (made_on (ground s salt data_dev hash_dev from) l i)

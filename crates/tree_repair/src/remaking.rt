@@ -1,0 +1,230 @@
+//! Hash blocks made again from the blocks beneath them.
+ghost use Rattle.std.specs.Prelude.{◌≡◌, ◌≤◌, ◌<◌, ◌+◌, ◌-◌, ◌*◌, ◌++◌, ◌^◌, false, min, drop, take, IsTrue, length};
+ghost use Rattle.std.specs.Str.{bytes_eq};
+ghost use Rattle.tree_shape.specs.Digests.{digest};
+ghost use Rattle.tree_shape.specs.Shape.{IsShape, level_blocks, levels, per_block, position};
+ghost use Rattle.verity_format.specs.Blocks.{AreOnlyRead, IsOnlyRead, block_at};
+ghost use Rattle.verity_format.specs.Image.{data_sectors, tree_sectors};
+ghost use Rattle.tree_path.specs.Path.{digest_on};
+ghost use Rattle.tree_survey.specs.Surveys.{IsWay};
+ghost use Rattle.tree_repair.specs.Jobs.{job};
+ghost use Rattle.tree_repair.specs.Remaking.{HaveBlocks, IsMadeBeneath, IsNowhereBeneath, IsOver, IsSure, IsUnlike, count_at, ground, made, stands};
+ghost use Rattle.tree_repair.specs.Runs.{size_at};
+
+use crate::place::{Repair, block_size, count_at};
+use block_device::BlockDev;
+use tree_path::TreePath;
+use tree_shape::{Digest, Shape};
+
+/// Makes the hash block of a level again that stands on the way to a data block, from the blocks of the height just beneath
+/// it, else from those of the next one, down to the data. Tells whether one that was made has the digest to which the path
+/// leads; it is in `block` then. Where a block of a height can't be read, none is made from that height. `memory` has 4,096
+/// bytes for each height beneath.
+pub(crate) fn remake<D: BlockDev, H: BlockDev>(
+    path: &TreePath,
+    repair: &Repair,
+    level: u32,
+    index: u64,
+    data_dev: &mut D,
+    hash_dev: &mut H,
+    block: &mut [u8],
+    memory: &mut [u8],
+) -> bool
+    requires have { HaveBlocks repair.now.shape (D.state data_dev.old) (H.state hash_dev.old) }
+    requires inside { index < repair.now.shape.blocks }
+    requires level { level < levels repair.now.shape }
+    requires way { IsWay (job repair.now).tree index (level + 1) path.now }
+    requires size { length block.old ≡ repair.now.shape.hash_block }
+    requires room { 4096 * (level + 1) ≤ length memory.old }
+    ensures read { AreOnlyRead (D.state data_dev.old) (H.state hash_dev.old) (D.state data_dev.new) (H.state hash_dev.new) }
+    ensures good { IsTrue result → digest repair.now.salt block.new ≡ digest_on path.now index (level + 1) }
+    ensures made { IsTrue result → IsMadeBeneath repair.now.shape repair.now.salt (D.state data_dev.old) (H.state hash_dev.old) level index block.new }
+    ensures none { result ≡ false → IsNowhereBeneath repair.now.shape repair.now.salt (D.state data_dev.old) (H.state hash_dev.old) level index (digest_on path.now index (level + 1)) }
+{
+    let number = repair.shape.block_on_path(level, index);
+    let digest = path.digest_at(level + 1, index);
+    let mut from = level + 1;
+    'heights: while from > 0 {
+        from -= 1;
+        let steps = level + 1 - from;
+        if is_made(
+            repair, from, steps, number, &digest, data_dev, hash_dev, block, memory,
+        ) {
+            return true;
+        }
+    }
+    false
+}
+
+// Makes a block from those of that height, so many steps beneath it, and tells whether it has the digest.
+fn is_made<D: BlockDev, H: BlockDev>(
+    repair: &Repair,
+    from: u32,
+    steps: u32,
+    number: u64,
+    expected: &Digest,
+    data_dev: &mut D,
+    hash_dev: &mut H,
+    block: &mut [u8],
+    memory: &mut [u8],
+) -> bool
+    requires have { HaveBlocks repair.now.shape (D.state data_dev.old) (H.state hash_dev.old) }
+    requires high { from + steps ≤ levels repair.now.shape }
+    requires inside { number < count_at repair.now.shape (from + steps) }
+    requires size { length block.old ≡ size_at repair.now.shape (from + steps) }
+    requires room { 4096 * steps ≤ length memory.old }
+    ensures read { AreOnlyRead (D.state data_dev.old) (H.state hash_dev.old) (D.state data_dev.new) (H.state hash_dev.new) }
+    ensures good { IsTrue result → digest repair.now.salt block.new ≡ expected.now }
+    ensures stand { IsTrue result → IsOver (D.state data_dev.old) (H.state hash_dev.old) (made (ground repair.now.shape repair.now.salt (D.state data_dev.old) (H.state hash_dev.old) from) steps number) block.new }
+    ensures none { result ≡ false → IsUnlike repair.now.salt (D.state data_dev.old) (H.state hash_dev.old) expected.now (made (ground repair.now.shape repair.now.salt (D.state data_dev.old) (H.state hash_dev.old) from) steps number) }
+{
+    if !make(
+        repair, from, steps, number, data_dev, hash_dev, block, memory,
+    ) {
+        return false;
+    }
+    is_same(&repair.salt.digest(block), expected)
+}
+
+fn is_same(a: &Digest, b: &Digest) -> bool
+    ensures { result ≡ bytes_eq a.now b.now }
+{
+    a == b
+}
+
+// Makes a block from those of that height, so many steps beneath it, and tells whether these could be read.
+fn make<D: BlockDev, H: BlockDev>(
+    repair: &Repair,
+    from: u32,
+    steps: u32,
+    number: u64,
+    data_dev: &mut D,
+    hash_dev: &mut H,
+    block: &mut [u8],
+    memory: &mut [u8],
+) -> bool
+    requires have { HaveBlocks repair.now.shape (D.state data_dev.old) (H.state hash_dev.old) }
+    requires high { from + steps ≤ levels repair.now.shape }
+    requires inside { number < count_at repair.now.shape (from + steps) }
+    requires size { length block.old ≡ size_at repair.now.shape (from + steps) }
+    requires room { 4096 * steps ≤ length memory.old }
+    ensures read { AreOnlyRead (D.state data_dev.old) (H.state hash_dev.old) (D.state data_dev.new) (H.state hash_dev.new) }
+    ensures made { IsTrue result → IsOver (D.state data_dev.old) (H.state hash_dev.old) (made (ground repair.now.shape repair.now.salt (D.state data_dev.old) (H.state hash_dev.old) from) steps number) block.new }
+    ensures sure { IsSure (D.state data_dev.old) (H.state hash_dev.old) result }
+{
+    if steps == 0 {
+        return read_at(&repair.shape, from, number, data_dev, hash_dev, block);
+    }
+    let height = from + (steps - 1);
+    let beneath = children_of(&repair.shape, height, number);
+    let (child, rest) = memory.split_at_mut(block_size(&repair.shape, height));
+    block.fill(0);
+    'each: for slot in 0..beneath.count {
+        let next = beneath.first + slot;
+        if !make(
+            repair,
+            from,
+            steps - 1,
+            next,
+            data_dev,
+            hash_dev,
+            child,
+            rest,
+        ) {
+            return false;
+        }
+        put_digest(&repair.salt.digest(child), slot, block);
+    }
+    true
+}
+
+// Blocks of a height: so many, from the first on.
+#[derive(Clone, Copy)]
+struct Children {
+    first: u64,
+    count: u64,
+}
+
+// Those of a height whose digests stand in a block of the height above.
+fn children_of(shape: &Shape, height: u32, number: u64) -> Children
+    requires high { height < levels shape.now }
+    requires inside { number < level_blocks shape.now height }
+    ensures first { result.first ≡ number * per_block shape.now }
+    ensures count { result.count ≡ min (per_block shape.now) (count_at shape.now height - number * per_block shape.now) }
+    ensures inside { result.first + result.count ≤ 2 ^ 62 }
+{
+    let per_block = shape.per_block();
+    let first = number * per_block;
+    let count = count_at(shape, height).saturating_sub(first).min(per_block);
+    Children { first, count }
+}
+
+// Puts a digest into its slot of a hash block.
+fn put_digest(digest: &Digest, slot: u64, block: &mut [u8])
+    requires { 32 * slot + 32 ≤ length block.old }
+    ensures { block.new ≡ take (32 * slot) block.old ++ digest.now ++ drop (32 * slot + 32) block.old }
+{
+    let at = slot as usize * Digest::SIZE;
+    block[at..at + Digest::SIZE].copy_from_slice(digest.as_bytes());
+}
+
+// Reads a block of a height as it stands, and tells whether it could be read.
+fn read_at<D: BlockDev, H: BlockDev>(
+    shape: &Shape,
+    height: u32,
+    number: u64,
+    data_dev: &mut D,
+    hash_dev: &mut H,
+    block: &mut [u8],
+) -> bool
+    requires have { HaveBlocks shape.now (D.state data_dev.old) (H.state hash_dev.old) }
+    requires high { height ≤ levels shape.now }
+    requires inside { number < count_at shape.now height }
+    requires size { length block.old ≡ size_at shape.now height }
+    ensures read { AreOnlyRead (D.state data_dev.old) (H.state hash_dev.old) (D.state data_dev.new) (H.state hash_dev.new) }
+    ensures stands { IsTrue result → IsOver (D.state data_dev.old) (H.state hash_dev.old) (stands shape.now (D.state data_dev.old).image (H.state hash_dev.old).image height number) block.new }
+    ensures sure { IsSure (D.state data_dev.old) (H.state hash_dev.old) result }
+{
+    if height == 0 {
+        return read_data(shape, number, data_dev, block);
+    }
+    read_hash(shape, height - 1, number, hash_dev, block)
+}
+
+#[tactic(auto, unfolding(verity_format::specs::Blocks::block_at))]
+fn read_data<D: BlockDev>(shape: &Shape, number: u64, data_dev: &mut D, block: &mut [u8]) -> bool
+    requires valid { IsShape shape.now }
+    requires fits { data_sectors shape.now ≤ (D.state data_dev.old).size }
+    requires inside { number < shape.now.blocks }
+    requires size { length block.old ≡ shape.now.data_block }
+    ensures read { IsOnlyRead (D.state data_dev.old) (D.state data_dev.new) }
+    ensures stands { IsTrue result → IsTrue (D.state data_dev.old).steady → block.new ≡ block_at (D.state data_dev.old).image shape.now.data_block number }
+    ensures sure { IsTrue (D.state data_dev.old).never_fails → IsTrue result }
+{
+    let size = block.len();
+    let first = number * (size / 512) as u64;
+    data_dev.read(first, block).is_ok()
+}
+
+#[tactic(auto, unfolding(verity_format::specs::Blocks::block_at))]
+fn read_hash<H: BlockDev>(
+    shape: &Shape,
+    level: u32,
+    number: u64,
+    hash_dev: &mut H,
+    block: &mut [u8],
+) -> bool
+    requires valid { IsShape shape.now }
+    requires fits { tree_sectors shape.now ≤ (H.state hash_dev.old).size }
+    requires level { level < levels shape.now }
+    requires inside { number < level_blocks shape.now level }
+    requires size { length block.old ≡ shape.now.hash_block }
+    ensures read { IsOnlyRead (H.state hash_dev.old) (H.state hash_dev.new) }
+    ensures stands { IsTrue result → IsTrue (H.state hash_dev.old).steady → block.new ≡ block_at (H.state hash_dev.old).image shape.now.hash_block (position shape.now level number) }
+    ensures sure { IsTrue (H.state hash_dev.old).never_fails → IsTrue result }
+{
+    let size = block.len();
+    let place = shape.position(level, number);
+    let first = place * (size / 512) as u64;
+    hash_dev.read(first, block).is_ok()
+}
