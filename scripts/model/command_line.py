@@ -5,6 +5,7 @@ from files import WHOLE, Files, Stop
 from images import Drawn, run_diff, run_dump, run_format, run_partitions, run_table, run_verify
 from nbd import Service
 from recovery import check_size, facts_of as lost_facts, lines_of, looked_up, recovered, with_map
+from repairs import run_repair
 from replies import Json, Octets
 from session import MOST_SECTORS, SUBMISSION_RULES, Session, Usage, check_request, costs
 from stack import SECTOR, Fault, FileImage, MemoryImage, Stack
@@ -250,7 +251,7 @@ def run_version(_options, words, _files, _given, _features):
 
 
 COMMANDS = {
-    b"format": run_format, b"verify": run_verify, b"dump": run_dump, b"table": run_table,
+    b"format": run_format, b"verify": run_verify, b"dump": run_dump, b"table": run_table, b"repair": run_repair,
     b"load": run_load, b"read": run_read, b"write": run_write, b"session": run_session,
     b"scan": run_scan, b"copy": run_copy, b"nbd": run_nbd, b"cat": run_cat, b"store": run_store,
     b"partitions": run_partitions, b"diff": run_diff, b"version": run_version,

@@ -117,7 +117,7 @@ class Maker(Services, Images, Disks):
             runs = [Run([b"session"] + self.cache() + self.bindings(), b"moved\n")]
         else:
             words = [self.pick([b"", b"load", b"read", b"write", b"session", b"format", b"verify", b"dump",
-                                b"table", b"nbd", b"help", b"--help", b"-h", b"--version", b"Load", b"x"])]
+                                b"table", b"repair", b"nbd", b"help", b"--help", b"-h", b"--version", b"Load", b"x"])]
             words += [self.pick([b"data", b"--", b"-", b"--help", b"-x", b"--cache=1", b"a=zero:1"])
                       for _ in range(self.random.randrange(5))]
             return [Run(words[:self.random.randint(0, 5)], b"moved\n")]

@@ -54,7 +54,8 @@ class Trees(Dice):
         return [b"--hash-offset", b"%d" % offset]
 
     def tree_case(self):
-        return self.pick([self.made_tree, self.checked_tree, self.checked_tree, self.compared_trees])()
+        cases = [self.made_tree, self.checked_tree, self.checked_tree, self.compared_trees]
+        return self.pick(cases + [self.repaired_tree] if self.has("commands", "repair") else cases)()
 
     def bare_words(self, it, with_blocks=False):
         """What `verify` and `table` are told of a tree without a superblock."""
@@ -114,6 +115,50 @@ class Trees(Dice):
             name = self.pick(names)
             self.files[name] = self.files[name][:-self.pick([1, 512, 513])]
         return [self.tree_run(it, names, root, offset) for _ in range(self.pick([1, 2, 3]))]
+
+    def repaired_tree(self):
+        """A damaged image, and copies of it that are damaged too."""
+        it = Planted(self)
+        it.is_bare = False
+        _, area, root = it.made()
+        whole = b"".join(it.contents)
+        is_one = self.chance(0.3)
+        offset = self.offset(it.hash_block, len(whole) if is_one else 0)
+        self.files[b"root"] = root.hex().encode()
+        names, copies = self.image_files(it, whole, area, offset, is_one, b""), []
+        for number in range(self.pick([0, 1, 1, 2, 2, 3])):
+            copies += self.image_files(it, whole, area, offset, is_one, b"%d" % number)[is_one:]
+        if copies and self.chance(0.1):
+            copies[self.random.randrange(len(copies))] = self.pick(names + [b"missing", b"root", b"twin"])
+            self.files[b"twin"] = (self.pick(["link", "symlink"]), self.pick(names))
+        if copies and self.chance(0.05):
+            copies.pop()
+        runs = []
+        for _ in range(self.pick([1, 2, 3])):
+            said, rest = self.root_words(root)
+            check = [b"--check"] if self.chance(0.4) else []
+            words = self.shuffled(check, self.offset_words(offset), said)
+            runs.append(Run([b"repair"] + words + names + rest + copies))
+        return runs
+
+    def image_files(self, it, whole, area, offset, is_one, mark):
+        """The names of the data and of the tree of an image, of which some blocks are damaged, and some are cut off."""
+        data, tree = bytearray(whole), bytearray(area)
+        self.damage(it, data, tree)
+        if self.chance(0.03):
+            tree[self.random.randrange(it.hash_block)] ^= 1
+        if is_one:
+            files = {b"one" + mark: bytes(data) + b"\x77" * (offset - len(data)) + bytes(tree)}
+        else:
+            files = {b"data" + mark: bytes(data), b"hash" + mark: b"\x77" * offset + bytes(tree)}
+        names = list(files) * (1 + is_one)
+        self.files.update(files)
+        if self.chance(0.1):
+            name = self.pick(names)
+            self.files[name] = self.files[name][:-self.pick([1, 512, 513, 5000])]
+        elif self.chance(0.2):
+            self.files[names[1]] += b"\x33" * self.pick([1, 512, 700])
+        return names
 
     def damage(self, it, data, area):
         """Changes bytes of data blocks and of hash blocks, or swaps two of these."""

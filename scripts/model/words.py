@@ -17,13 +17,14 @@ OPTIONS = {
                b"fec", b"fec-roots"),
     "dump": (b"hash-offset", b"json"),
     "table": (*TREE, b"hash-offset", b"root-hash-file", b"name", b"no-superblock"),
+    "repair": (b"hash-offset", b"root-hash-file", b"check"),
     "load": (b"json",), "read": (b"cache",), "write": (b"cache",), "session": (b"cache",), "nbd": (b"cache", b"all"),
     "scan": (b"cache", b"map", b"progress", b"json"), "copy": (b"cache", b"map", b"differing", b"progress"),
     "cat": (b"cache", b"first", b"count", b"progress"), "store": (b"cache", b"first", b"progress"),
     "partitions": (b"sector-size", b"stack", b"root", b"json"), "diff": (b"blocks", b"json"),
     "manual": (), "version": (),
 }
-FLAGS = (b"all", b"stack", b"no-superblock", b"grow", b"json", b"differing", b"progress")
+FLAGS = (b"all", b"stack", b"no-superblock", b"grow", b"json", b"differing", b"progress", b"check")
 # veritysetup's names of options that have another here; `diff` counts runs by its --blocks, and has none.
 OTHER_NAMES = {b"data-block-size": b"data-block", b"hash-block-size": b"hash-block",
                b"data-blocks": b"blocks", b"fec-device": b"fec"}
@@ -189,6 +190,22 @@ def read_fec(options):
     if roots < 2:
         raise Usage
     return options[b"fec"], roots
+
+
+def read_copies(data_path, hash_path, words):
+    """The paths of the data and of the hashes of each copy of an image."""
+    if data_path == hash_path:
+        return [(word, word) for word in words]
+    if len(words) % 2:
+        raise Usage
+    return list(zip(words[::2], words[1::2]))
+
+
+def read_repair(options, words):
+    """DATA, HASH, the root, the place, and the copies."""
+    (data_path, hash_path), rest = at_least(words, 2)
+    root, rest = said_root(options, rest)
+    return data_path, hash_path, root, read_offset(options), read_copies(data_path, hash_path, rest)
 
 
 def read_format(options, words):

@@ -106,7 +106,22 @@ const FORMAT: Row = Row {
     ..READ
 };
 
-static ROWS: [Row; 24] = [
+// A data block with its superblock behind it, in one file that is opened as two parts.
+const REPAIR: Row = Row {
+    words: &[
+        "repair",
+        "--hash-offset",
+        "512",
+        "damaged",
+        "damaged",
+        "15933044960fd23a7daaac9ce51355f1f39894d1c3fe6de21b59b28ce2c77e77",
+        "whole",
+    ],
+    printed: b"repaired data 0 copy 1\ngood 1 changed 0 unknown 0\n",
+    ..READ
+};
+
+static ROWS: [Row; 28] = [
     WRITE,
     // The write fails, and then the sync: what was written is given back.
     Row {
@@ -172,6 +187,35 @@ static ROWS: [Row; 24] = [
         printed: b"refused 5 Device\n",
         ..FORMAT
     },
+    REPAIR,
+    // The block isn't written, or not put on its medium.
+    Row {
+        call: 2,
+        status: 1,
+        printed: b"refused 10 Device\n",
+        ..REPAIR
+    },
+    Row {
+        call: 3,
+        status: 1,
+        printed: b"repaired data 0 copy 1\nrefused 10 Device\n",
+        ..REPAIR
+    },
+    Row {
+        words: &[
+            "repair",
+            "--check",
+            "--hash-offset",
+            "512",
+            "damaged",
+            "damaged",
+            "15933044960fd23a7daaac9ce51355f1f39894d1c3fe6de21b59b28ce2c77e77",
+            "whole",
+        ],
+        status: 3,
+        printed: b"repairable data 0 copy 1\nchanged 0 1\ngood 0 changed 1 unknown 0\n",
+        ..REPAIR
+    },
     // It has no superblock.
     Row {
         words: &["dump", "image"],
@@ -209,9 +253,20 @@ fn filled(alloc: Global, bytes: [u8; 2]) -> Result<Vec<u8>, Fail> {
     Ok(image)
 }
 
+// A data block, and the superblock of its tree, which has no hash block.
+const SUPERBLOCK: &[u8] =
+    b"verity\0\0\x01\0\0\0\x01\0\0\0\0\0\0\0\0\0\0\0\0\0\0\0\0\0\0\0sha256\0\0\0\0\0\0\0\0\0\0\0\0\0\0\0\0\0\0\0\0\0\0\0\0\0\0\0\x02\0\0\0\x02\0\0\x01";
+
+fn one_block(alloc: Global, byte: u8) -> Result<Vec<u8>, Fail> {
+    let mut image = vec![in alloc; byte; 512]?;
+    image.extend_from_slice(SUPERBLOCK)?;
+    image.resize(1024, 0)?;
+    Ok(image)
+}
+
 fn images_of(alloc: Global, call: u64) -> Result<FailingImages, Fail> {
     let mut names = Vec::new(alloc);
-    for name in ["stack", "source", "image", "other"] {
+    for name in ["stack", "source", "image", "other", "damaged", "whole"] {
         names.push(String::from_str(alloc, name)?)?;
     }
     let mut images = Vec::new(alloc);
@@ -219,6 +274,8 @@ fn images_of(alloc: Global, call: u64) -> Result<FailingImages, Fail> {
     images.push(vec![in alloc; 7u8; 512]?)?;
     images.push(filled(alloc, [0, 0])?)?;
     images.push(filled(alloc, [9, 9])?)?;
+    images.push(one_block(alloc, 6)?)?;
+    images.push(one_block(alloc, 7)?)?;
     let images = MemoryImages::new(names, images);
     Ok(FailingImages { images, call })
 }

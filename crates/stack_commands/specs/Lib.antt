@@ -9,6 +9,7 @@ pub mod MapTexts
 pub mod MappedCopies
 pub mod Recoveries
 pub mod Recovering
+pub mod Repairing
 pub mod Requests
 pub mod ScanObjects
 pub mod StackCommands

@@ -23,6 +23,7 @@ use crate::load::load_stack_file;
 use crate::mapped_copy::copy_by_map;
 use crate::mapped_scan::scan_by_map;
 use crate::nbd::serve_exports;
+use crate::repair::repair_image;
 use crate::scan::scan_device;
 use crate::scan_object::{scan_to_object, scan_to_object_by_map};
 use crate::store::{Target, store_device};
@@ -95,6 +96,7 @@ pub fn invoke_further<'a, I: Images, G: Generators + Progress + Watchers, S: Rea
         Further::VerifyFec(words) => {
             Ok(invoke_verify_fec(alloc, images, generators, &words, writer)?)
         }
+        Further::Repair(words) => repair_image(alloc, images, generators, &words, writer),
         Further::Scan(words) => invoke_scan(alloc, images, words, writer, generators),
         Further::Copy(words) => invoke_copy(alloc, images, words, writer, generators),
         Further::Exports(words) => invoke_exports(alloc, images, words, reader, writer),

@@ -17,6 +17,7 @@ mod mapped_scan;
 mod nbd;
 mod program;
 mod read;
+mod repair;
 mod request;
 mod scan;
 mod scan_object;

@@ -1,0 +1,92 @@
+"""A damaged verity image, whose blocks are sought in copies of it from the root down."""
+
+from files import Stop
+from images import REFUSED, check_aligned, surveyed, told_root
+from stack import SECTOR
+from verity import check_sizes, digest, read_superblock
+from words import read_repair
+
+
+def parts_of(whole, first):
+    """The first sector and the number of sectors of the data and of the hash image in their files."""
+    counts = [len(image) // SECTOR for image in whole]
+    data_end = first if first and whole[0] is whole[1] else counts[0]
+    return (0, min(data_end, counts[0])), (min(first, counts[1]), max(0, counts[1] - first))
+
+
+def opened(files, paths, first, copies, writes):
+    """The bytes of the data and of the hash image's file, the length of the data, and the copies of each."""
+    files.opened.clear()
+    whole = [files.image(path, False) for path in paths]
+    files.opened.clear()
+    parts = parts_of(whole, first)
+    for path, part in zip(paths, parts):
+        files.image(path, writes, part)
+    return whole, parts[0][1] * SECTOR, [[files.image(copy[at], False) for copy in copies] for at in (0, 1)]
+
+
+def block_at(image, at, size):
+    """The bytes there, where they lie in whole sectors of the image."""
+    return bytes(image[at:at + size]) if at + size <= len(image) // SECTOR * SECTOR else None
+
+
+class Repair:
+    """What is repaired: a tree under a root, the data and the hash image's file, and copies of each."""
+
+    def __init__(self, tree, salt, root, first):
+        self.tree, self.salt, self.root, self.start = tree, salt, root, first * SECTOR
+
+    def place(self, height, index):
+        """The first byte and the size of a data block, at height 0, or of a hash block of level `height` - 1."""
+        if height == 0:
+            return index * self.tree.data_block, self.tree.data_block
+        size = self.tree.hash_block
+        return self.start + (self.tree.first(height - 1) + index) * size, size
+
+    def lines(self, whole, copies, writes):
+        """A line for each block that isn't good and that a copy has; it is written where it may be."""
+        heights = [self.tree.blocks] + self.tree.levels
+        good = {0: self.root}
+        for height in reversed(range(len(heights))):
+            at_height, digests = 0 if height == 0 else 1, good
+            good = {}
+            for index in range(heights[height]):
+                if index not in digests:
+                    continue
+                at, size = self.place(height, index)
+                block = block_at(whole[at_height], at, size)
+                if digest(self.salt, block) != digests[index]:
+                    number, block = self.sought(copies[at_height], at, size, digests[index])
+                    if number is None:
+                        continue
+                    name = "data %d" % index if height == 0 else "hash %d %d" % (height - 1, index)
+                    yield "%s %s copy %d" % ("repaired" if writes else "repairable", name, number)
+                    if not writes:
+                        continue
+                    whole[at_height][at:at + size] = block
+                if height:
+                    slots = self.tree.slots
+                    good.update({index * slots + slot: block[32 * slot:][:32] for slot in range(slots)})
+
+    def sought(self, copies, at, size, wanted):
+        for number, copy in enumerate(copies, 1):
+            block = block_at(copy, at, size)
+            if block is not None and digest(self.salt, block) == wanted:
+                return number, block
+        return None, None
+
+
+def run_repair(options, words, files, _given, _features):
+    *paths, root, first, copies = read_repair(options, words)
+    root, writes = told_root(root, files), b"check" not in options
+    whole, data_size, copies = opened(files, paths, first, copies, writes)
+    superblock = read_superblock(whole[1][first * SECTOR:])
+    tree, salt = superblock.tree(), superblock.salt
+    check_sizes(tree, whole[0][:data_size], whole[1][first * SECTOR:])
+    lines = [line.encode() for line in Repair(tree, salt, root, first).lines(whole, copies, writes)]
+    try:
+        check_aligned(first, superblock.hash_block)
+    except Stop as stop:
+        return lines + [stop.line], REFUSED
+    found, status = surveyed(whole[0][:data_size], whole[1][first * SECTOR:], tree, salt, root, False)
+    return lines + found, status
