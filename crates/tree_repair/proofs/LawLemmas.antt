@@ -1,20 +1,25 @@
 -- A block that was mended is that of each chain that is good under the root.
-use Rattle.std.proofs.Common.{◌≡◌, ◌≤◌, ◌<◌, ◌+◌, ◌-◌, ℕ, zero, suc, Bool, List, [], ◌∷◌, length, refl, sym, ap, ◌∙◌, subst, arith, inl, inr, ◌⊎◌}
+use Rattle.std.proofs.Common.{◌≡◌, ◌≤◌, ◌<◌, ◌+◌, ◌-◌, ℕ, zero, suc, Bool, List, [], ◌∷◌, length, map, get_or, add-one, refl, sym, ap, ◌∙◌, subst, arith, inl, inr, ◌⊎◌}
 use Rattle.tree_shape.specs.Digests.{digest, digest_in}
-use Rattle.tree_shape.specs.Shape.{ShapeRecord, levels, slot, ancestor}
+use Rattle.block_device.specs.Device.{Device}
+use Rattle.tree_shape.specs.Shape.{ShapeRecord, IsShape, levels, slot, ancestor}
+use Rattle.hash_tree.specs.Tree.{level}
+use Rattle.verity_format.specs.Blocks.{blocks_at}
 use Rattle.hash_tree.specs.Chain.{ChainRecord, HangsFrom, IsGood, formed}
 use Rattle.hash_tree.specs.Laws.{FormedChainsAreGood}
 use Rattle.tree_path.specs.Laws.{Collide}
-use Rattle.tree_path.specs.Path.{PathRecord, IsPathOf, LeadsTo, block_of, digest_on}
+use Rattle.tree_path.specs.Path.{PathRecord, LeadsTo, block_of, digest_on}
 use Rattle.tree_path.proofs.lemmas.ChainLemmas.{blocks-one}
 use Rattle.tree_path.proofs.lemmas.PathLemmas.{digest_on-below, digest_on-top}
 use Rattle.tree_survey.specs.Laws.{AreContents, IsChain}
 use Rattle.tree_survey.specs.Surveys.{Tree, IsWay}
 use Rattle.tree_repair.specs.declared.mending.Mended.{Mended}
 use Rattle.tree_repair.specs.declared.mending.Mended.TheVariants as mended
-use Rattle.tree_repair.specs.Laws.{IsMendedBy, MendedBlocksAreFormatted, MendedBlocksAreGood, block_below, block_in}
+use Rattle.tree_repair.specs.Laws.{MendedBlocksAreFormatted, MendedBlocksAreGood, NoHashBlockIsLost, block_below, block_in}
 use Rattle.tree_repair.specs.Mending.{IsFound, IsMended, Look}
-use Rattle.tree_repair.specs.Runs.{Job, Visit, World, look_at}
+use Rattle.tree_repair.specs.Remaking.{ground, made, made_on}
+use Rattle.tree_repair.specs.Runs.{IsMadeOf, look_at}
+use Rattle.tree_repair.proofs.FormedLemmas.{below-path, level-made}
 
 -- the block of a chain d blocks beneath its top has the digest to which a path leads there, or two blocks collide
 module _ (p : PathRecord) (i k : ℕ) (content : List ℕ) (leads : LeadsTo p i k) where
@@ -39,28 +44,33 @@ module _ (p : PathRecord) (i k : ℕ) (content : List ℕ) (leads : LeadsTo p i 
       ]
 
 -- of a path in its own tree
-path-good : (p : PathRecord) (i h : ℕ) (bytes : List ℕ) (c : ChainRecord) → LeadsTo p i h → h ≤ levels p.shape → c.index ≡ i → IsGood p.shape p.salt p.root c → digest p.salt bytes ≡ digest_on p i h
-    → (bytes ≡ block_below c.path c.content (levels p.shape - h)) ⊎ Collide p.salt
-path-good p i h bytes c leads few at good same =
+path-digest : (p : PathRecord) (i h : ℕ) (c : ChainRecord) → LeadsTo p i h → h ≤ levels p.shape → c.index ≡ i → IsGood p.shape p.salt p.root c
+    → (digest p.salt (block_below c.path c.content (levels p.shape - h)) ≡ digest_on p i h) ⊎ Collide p.salt
+path-digest p i h c leads few at good =
     let d : ℕ = levels p.shape - h in
     let all : h + d ≡ levels p.shape = omega (arith, few) in
     let top : p.root ≡ digest_on p i (h + d) = sym (digest_on-top p i (h + d) all) in
     let hangs : HangsFrom p.shape p.salt i (digest_on p i (h + d)) c.path c.content =
     subst (λ (e : List ℕ). HangsFrom p.shape p.salt i e c.path c.content) top (subst (λ (n : ℕ). HangsFrom p.shape p.salt n p.root c.path c.content) at good.hangs) in
-    elim (meets p i h c.content leads d c.path (good.path ∙ sym all) (omega (arith, all)) hangs) [
-      | inr clash ↦ inr clash
-      | inl met ↦ blocks-one p.salt bytes (block_below c.path c.content d) (same ∙ sym met)
-    ]
+    meets p i h c.content leads d c.path (good.path ∙ sym all) (omega (arith, all)) hangs
 
-way-good : (t : Tree) (p : PathRecord) (i h : ℕ) (bytes : List ℕ) (c : ChainRecord) → IsWay t i h p → IsChain t i c → digest t.salt bytes ≡ digest_on p i h → (bytes ≡ block_in t c h) ⊎ Collide t.salt
-way-good t p i h bytes c way chain same =
+-- a chain's block has the digest to which a way leads
+way-digest : (t : Tree) (p : PathRecord) (i h : ℕ) (c : ChainRecord) → IsWay t i h p → IsChain t i c → (digest t.salt (block_in t c h) ≡ digest_on p i h) ⊎ Collide t.salt
+way-digest t p i h c way chain =
     let good : IsGood p.shape p.salt p.root c =
     subst (λ (x : List ℕ). IsGood p.shape p.salt x c) (sym way.is.root_is)
     (subst (λ (x : List ℕ). IsGood p.shape x t.root c) (sym way.is.salt_is) (subst (λ (x : ShapeRecord). IsGood x t.salt t.root c) (sym way.is.shape_is) chain.good)) in
     let few : h ≤ levels p.shape = omega (arith, way.few, ap levels way.is.shape_is) in
-    let here : digest p.salt bytes ≡ digest_on p i h = ap (λ (x : List ℕ). digest x bytes) way.is.salt_is ∙ same in
-    subst (λ (x : List ℕ). (bytes ≡ block_in t c h) ⊎ Collide x) way.is.salt_is
-    (subst (λ (s : ShapeRecord). (bytes ≡ block_below c.path c.content (levels s - h)) ⊎ Collide p.salt) way.is.shape_is (path-good p i h bytes c way.leads few chain.index good here))
+    subst (λ (x : List ℕ). (digest x (block_in t c h) ≡ digest_on p i h) ⊎ Collide x) way.is.salt_is
+    (subst (λ (s : ShapeRecord). (digest p.salt (block_below c.path c.content (levels s - h)) ≡ digest_on p i h) ⊎ Collide p.salt) way.is.shape_is (path-digest p i h c way.leads few chain.index good))
+
+-- so one of the same digest is that block
+way-good : (t : Tree) (p : PathRecord) (i h : ℕ) (bytes : List ℕ) (c : ChainRecord) → IsWay t i h p → IsChain t i c → digest t.salt bytes ≡ digest_on p i h → (bytes ≡ block_in t c h) ⊎ Collide t.salt
+way-good t p i h bytes c way chain same =
+    elim (way-digest t p i h c way chain) [
+      | inr clash ↦ inr clash
+      | inl met ↦ blocks-one t.salt bytes (block_in t c h) (same ∙ sym met)
+    ]
 
 found-good : (l : Look) (bytes : List ℕ) (done : Bool) (m : Mended) → IsMended l bytes done m → IsFound m → digest l.w.salt bytes ≡ l.w.digest_is
 found-good l bytes done mended.Good looked found = absurd found
@@ -84,3 +94,35 @@ formed-chain form t contents are i inside = record {
 pub mended-formatted : FormedChainsAreGood → MendedBlocksAreFormatted
 mended-formatted form j v w w' m contents are =
     mended-good j v w w' m (formed j.tree.shape j.tree.salt contents v.index) (formed-chain form j.tree contents are v.index m.visited.inside)
+
+-- ---- hash blocks that are lost
+
+module _ (t : Tree) (contents : List (List ℕ)) (d h : Device) (l i : ℕ) (valid : IsShape t.shape) (inside : i < t.shape.blocks) (few : suc l ≤ levels t.shape)
+    (stand : contents ≡ blocks_at d.image t.shape.data_block 0 t.shape.blocks) where
+  -- what is made of the data is the block of the chain that is formed of them
+  made-formed : made_on (ground t.shape t.salt d h 0) l i ≡ block_in t (formed t.shape t.salt contents i) (suc l)
+  unfolding formed
+  made-formed =
+      let steps : l + 1 - 0 ≡ suc l = omega arith in
+      let all : levels t.shape ≡ suc l + (levels t.shape - suc l) = omega (arith, few) in
+      ap (λ (k : ℕ). made (ground t.shape t.salt d h 0) k (ancestor t.shape (l + 1) i)) steps
+      ∙ sym (level-made t.shape valid t.salt d.image h.image l i inside)
+      ∙ ap (λ (x : List (List ℕ)). get_or (level t.shape.hash_block t.salt (map (digest t.salt) x) l) (ancestor t.shape (l + 1) i) []) (sym stand)
+      ∙ sym (below-path t.shape t.salt (map (digest t.salt) contents) (get_or contents i []) i l (levels t.shape) (levels t.shape - suc l) all)
+
+pub none-lost : FormedChainsAreGood → NoHashBlockIsLost
+none-lost form j v w w' l lost contents holds =
+    let p = lost.visited.p in
+    let t = j.tree in
+    let i = v.index in
+    let c : ChainRecord = formed t.shape t.salt contents i in
+    let way : IsWay t i (suc l) p = subst (λ (n : ℕ). IsWay t i n p) lost.height_is lost.visited.way in
+    let none : IsMadeOf j p (suc l) i w.data_dev w.hash_dev v.bytes mended.Lost =
+    subst (λ (m : Mended). IsMadeOf j p (suc l) i w.data_dev w.hash_dev v.bytes m) lost.lost
+    (subst (λ (n : ℕ). IsMadeOf j p n i w.data_dev w.hash_dev v.bytes v.mended) lost.height_is lost.visited.made_of) in
+    elim (way-digest t p i (suc l) c way (formed-chain form t contents holds.are i lost.visited.inside)) [
+      | inr clash ↦ clash
+      | inl same ↦
+          let other = none 0 (omega arith) holds.data_steady holds.hash_steady holds.data_sure holds.hash_sure in
+          absurd (other (ap (digest t.salt) (made-formed t contents w.data_dev w.hash_dev l i holds.are.shape lost.visited.inside way.few holds.stand) ∙ same ∙ ap (digest_on p i) (sym (add-one l))))
+    ]

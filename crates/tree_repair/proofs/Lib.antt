@@ -1,3 +1,4 @@
+mod FormedLemmas
 mod LawLemmas
 mod MakeLemmas
 mod RepairLemmas

@@ -1,5 +1,5 @@
 -- Hash blocks made again, digest by digest.
-use Rattle.std.proofs.Common.{◌≡◌, ◌≢◌, ◌≤◌, ◌<◌, ◌+◌, ◌-◌, ◌*◌, ◌/◌, ◌^◌, ◌++◌, ◌∷◌, [], ℕ, zero, suc, min, List, length, map, take, drop, replicate, IsTrue, length-append, refl, sym, ap, ◌∙◌, subst, arith}
+use Rattle.std.proofs.Common.{◌≡◌, ◌≤◌, ◌<◌, ◌+◌, ◌-◌, ◌*◌, ◌^◌, ◌++◌, ◌∷◌, [], ℕ, zero, suc, min, List, length, map, take, drop, replicate, IsTrue, length-append, refl, sym, ap, ◌∙◌, arith}
 use Rattle.std.specs.Int.{div_ceil}
 use Rattle.std.specs.List.{concat, range_with_len}
 use Rattle.std.proofs.Math.Nat.{div-le_self}
@@ -12,14 +12,13 @@ use Rattle.block_device.specs.Device.{Device}
 use Rattle.tree_shape.specs.Digests.{digest}
 use Rattle.tree_shape.specs.Shape.{ShapeRecord, IsShape, level_blocks, per_block}
 use Rattle.tree_shape.proofs.lemmas.ShapeFactLemmas.{two}
-use Rattle.tree_shape.proofs.lemmas.ShapeFaultLemmas.{blocks-le, per_block-wide}
 use Rattle.tree_shape.proofs.lemmas.ShapeLemmas.{div_ceil-suc, pow_pos}
 use Rattle.hash_tree.specs.Tree.{filled}
-use Rattle.hash_tree.proofs.lemmas.PackingLemmas.{AllOf, length-concat}
+use Rattle.hash_tree.proofs.lemmas.PackingLemmas.{length-concat}
 use Rattle.hash_tree.proofs.lemmas.TreeLemmas.{length-digest}
 use Rattle.verity_format.specs.Blocks.{AreOnlyRead}
 use Rattle.tree_path.proofs.lemmas.DeviceLemmas.{only_read-none, only_read-then, steady-then}
-use Rattle.tree_repair.specs.Remaking.{Ground, HaveBlocks, IsMadeBeneath, IsNowhereBeneath, IsOver, IsSure, IsUnlike, count_at, ground, made, stands}
+use Rattle.tree_repair.specs.Remaking.{Ground, HaveBlocks, IsOver, IsUnlike, count_at, ground, made, stands}
 
 -- ---- how many blocks there are
 

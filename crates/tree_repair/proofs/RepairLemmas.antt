@@ -1,5 +1,5 @@
 -- What a repair did, behind the superblock.
-use Rattle.std.proofs.Common.{◌≡◌, ◌≤◌, ◌^◌, ℕ, List, Option, Bool, true, false, IsTrue, Result, Ok, Err, sym, subst, arith, inl, inr}
+use Rattle.std.proofs.Common.{◌≡◌, ◌≤◌, ◌^◌, ℕ, List, Option, Bool, true, false, IsTrue, Result, Ok, Err, sym, subst, arith, inr}
 use Rattle.std.specs.Prelude.{IfErr, IsErrAnd, OnOk, is_ok}
 use Rattle.block_device.specs.Device.{Device}
 use Rattle.tree_shape.specs.Shape.{IsShape}

@@ -1,11 +1,10 @@
 -- Rows of blocks, and the way to each of them.
-use Rattle.std.proofs.Common.{◌≡◌, ◌≤◌, ◌<◌, ◌+◌, ◌-◌, ◌/◌, ◌%◌, ◌^◌, ℕ, min, Option, None, IsTrue, List, length, ap, sym, ◌∙◌, subst, refl, arith}
+use Rattle.std.proofs.Common.{◌≡◌, ◌≤◌, ◌<◌, ◌+◌, ◌/◌, ◌%◌, ◌^◌, ℕ, min, ap, sym, ◌∙◌, subst, refl, arith}
 use Rattle.std.proofs.Math.Nat.{add-mod_right}
 use Rattle.block_device.specs.Device.{Device}
 use Rattle.tree_shape.specs.Shape.{ShapeRecord, IsShape, ancestor, levels, per_block}
 use Rattle.tree_shape.proofs.lemmas.ShapeFactLemmas.{two}
-use Rattle.tree_shape.proofs.lemmas.ShapeLemmas.{pow_pos}
-use Rattle.tree_path.specs.Path.{PathRecord, IsPathOf, LeadsTo}
+use Rattle.tree_path.specs.Path.{PathRecord, IsPathOf}
 use Rattle.tree_path.specs.Steps.{IsDown, steps}
 use Rattle.tree_path.proofs.lemmas.PathLemmas.{leads-along}
 use Rattle.tree_path.proofs.lemmas.SpanLemmas.{along}

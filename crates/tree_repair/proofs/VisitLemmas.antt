@@ -1,5 +1,5 @@
 -- A look at a block is a visit of the image.
-use Rattle.std.proofs.Common.{◌≡◌, ◌≤◌, ◌<◌, ◌+◌, ◌*◌, ◌/◌, ℕ, zero, suc, [], ◌-◌, ◌^◌, add-one, sym, ap, ◌∙◌, subst, refl, arith, true, false, Bool, List, Result, Ok, Err, IsTrue}
+use Rattle.std.proofs.Common.{◌≡◌, ◌<◌, ◌+◌, ◌*◌, ◌/◌, ℕ, suc, [], ◌-◌, add-one, sym, subst, refl, true, false, Bool, List, Result, Ok, Err}
 use Rattle.std.specs.Prelude.{IfOk, OnErr}
 use Rattle.block_device.specs.Device.{Device}
 use Rattle.tree_shape.specs.Digests.{digest}
@@ -10,7 +10,7 @@ use Rattle.tree_path.specs.Path.{PathRecord, digest_on}
 use Rattle.tree_survey.specs.Surveys.{IsWay}
 use Rattle.tree_repair.specs.declared.mending.Mended.{Mended}
 use Rattle.tree_repair.specs.declared.mending.Mended.TheVariants as mended
-use Rattle.tree_repair.specs.Mending.{IsFound, IsFoundNowhere, IsMended, IsNotRemade, IsPut, IsUnmended}
+use Rattle.tree_repair.specs.Mending.{IsFoundNowhere, IsMended, IsNotRemade, IsPut, IsUnmended}
 use Rattle.tree_repair.specs.Remaking.{IsMadeBeneath, IsNowhereBeneath}
 use Rattle.tree_repair.specs.Runs.{IsVisited, Job, visit, world}
 use Rattle.tree_repair.proofs.MakeLemmas.{over-before, unlike-before}

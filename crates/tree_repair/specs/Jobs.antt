@@ -1,5 +1,5 @@
 -- The job of a repair.
-use Rattle.std.specs.Prelude.{◌≡◌, ℕ, ◌+◌, ◌%◌, ◌^◌, ◌<◌, ◌≤◌}
+use Rattle.std.specs.Prelude.{◌≡◌, ◌+◌, ◌%◌, ◌^◌, ◌<◌, ◌≤◌}
 use Rattle.tree_shape.specs.Shape.{ShapeRecord, levels, per_block}
 use Rattle.tree_repair.specs.declared.place.Repair.{Repair}
 use Rattle.tree_repair.specs.declared.place.Row.{Row}

@@ -6,6 +6,8 @@ use Rattle.hash_tree.specs.Chain.{ChainRecord, formed}
 use Rattle.tree_path.specs.Laws.{Collide}
 use Rattle.tree_survey.specs.Laws.{AreContents, IsChain}
 use Rattle.tree_survey.specs.Surveys.{Tree}
+use Rattle.verity_format.specs.Blocks.{blocks_at}
+use Rattle.tree_repair.specs.declared.mending.Mended.TheVariants as mended
 use Rattle.tree_repair.specs.Mending.{IsFound}
 use Rattle.tree_repair.specs.Runs.{IsVisited, Job, Runs, Visit, World, sector_at, size_at}
 
@@ -36,6 +38,27 @@ MendedBlocksAreGood = (j : Job) → (v : Visit) → (w w' : World) → IsMendedB
 abbrev pub MendedBlocksAreFormatted : Type 0
 MendedBlocksAreFormatted = (j : Job) → (v : Visit) → (w w' : World) → IsMendedBy j v w w' → (contents : List (List ℕ)) → AreContents j.tree contents
     → (v.bytes ≡ block_in j.tree (formed j.tree.shape j.tree.salt contents v.index) v.height) ⊎ Collide j.tree.salt
+
+-- ---- hash blocks that are lost
+
+-- These data blocks stand on the data device, and the tree over them has the root. Both devices are steady and can't fail.
+pub record HoldsData (j : Job) (w : World) (contents : List (List ℕ)) : Type 0 where
+  pub are : AreContents j.tree contents
+  pub stand : contents ≡ blocks_at w.data_dev.image j.tree.shape.data_block 0 j.tree.shape.blocks
+  pub data_steady : IsTrue w.data_dev.steady
+  pub hash_steady : IsTrue w.hash_dev.steady
+  pub data_sure : IsTrue w.data_dev.never_fails
+  pub hash_sure : IsTrue w.hash_dev.never_fails
+
+-- a hash block of level l was looked at, and is lost
+pub record IsLostHash (j : Job) (v : Visit) (w w' : World) (l : ℕ) : Type 0 where
+  pub visited : IsVisited j v w w'
+  pub height_is : v.height ≡ suc l
+  pub lost : v.mended ≡ mended.Lost
+
+-- above whole data no hash block is lost, or two different inputs have one digest
+abbrev pub NoHashBlockIsLost : Type 0
+NoHashBlockIsLost = (j : Job) → (v : Visit) → (w w' : World) → (l : ℕ) → IsLostHash j v w w' l → (contents : List (List ℕ)) → HoldsData j w contents → Collide j.tree.salt
 
 -- ---- sectors that weren't
 

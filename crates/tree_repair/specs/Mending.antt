@@ -1,5 +1,5 @@
 -- What comes of a block that is looked at: it is good, or it isn't and was found elsewhere, or it is lost.
-use Rattle.std.specs.Prelude.{◌≡◌, ℕ, ◌/◌, Bool, true, false, IsTrue, List, length}
+use Rattle.std.specs.Prelude.{◌≡◌, ℕ, Bool, true, false, IsTrue, List, length}
 use Rattle.block_device.specs.Device.{Device, IsWritten, sectors_of, spliced}
 use Rattle.tree_shape.specs.Digests.{digest}
 use Rattle.verity_format.specs.Blocks.{IsOnlyRead}

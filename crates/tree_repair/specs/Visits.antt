@@ -1,11 +1,10 @@
 -- One block of an image that is looked at.
-use Rattle.std.specs.Prelude.{◌≡◌, ℕ, suc, ◌+◌, ◌*◌, ◌/◌, ◌^◌, ◌≤◌, Bool, true, false, IsTrue, List}
+use Rattle.std.specs.Prelude.{ℕ, suc, ◌+◌, ◌*◌, ◌/◌, ◌^◌, ◌≤◌, Bool, true, false, IsTrue, List}
 use Rattle.block_device.specs.Device.{Device}
 use Rattle.tree_shape.specs.Shape.{IsShape, ancestor, position}
 use Rattle.verity_format.specs.Image.{data_sectors, tree_sectors}
 use Rattle.tree_path.specs.Path.{PathRecord, digest_on}
 use Rattle.tree_repair.specs.declared.mending.Mended.{Mended}
-use Rattle.tree_repair.specs.declared.mending.Mended.TheVariants as mended
 use Rattle.tree_repair.specs.Mending.{Look, IsFound, IsMended}
 use Rattle.tree_repair.specs.Runs.{IsMadeOf, IsVisited, Job, OtherStays, World, visit}
 use Rattle.tree_repair.specs.Sources.{wanted}

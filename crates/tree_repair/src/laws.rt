@@ -1,5 +1,5 @@
 //! Laws of repairs: each function's contract is the law, and its call gives it.
-ghost use Rattle.tree_repair.specs.Laws.{MendedBlocksAreFormatted, MendedBlocksAreGood, OtherSectorsStay};
+ghost use Rattle.tree_repair.specs.Laws.{MendedBlocksAreFormatted, MendedBlocksAreGood, NoHashBlockIsLost, OtherSectorsStay};
 
 use hash_tree::laws::formed_chains_are_good;
 
@@ -11,6 +11,13 @@ pub fn mended_blocks_are_good()
 /// The same of all data whose trees have this root.
 pub fn mended_blocks_are_formatted()
     ensures { MendedBlocksAreFormatted }
+{
+    formed_chains_are_good()
+}
+
+/// Above whole data, on steady devices that can't fail, no hash block is lost, or two different inputs have one digest.
+pub fn no_hash_block_is_lost()
+    ensures { NoHashBlockIsLost }
 {
     formed_chains_are_good()
 }

@@ -1,4 +1,4 @@
-use Rattle.std.proofs.Common.{◌≡◌, ℕ, List, [], map, length, ap, ◌∙◌}
+use Rattle.std.proofs.Common.{ℕ, List, [], map, length, ap, ◌∙◌}
 use Rattle.std.proofs.lemmas.List.{length-replicate}
 use Rattle.tree_repair.specs.Jobs.{job}
 use Rattle.tree_repair.specs.Runs.{world}

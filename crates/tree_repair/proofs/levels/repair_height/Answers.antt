@@ -1,4 +1,4 @@
-use Rattle.std.proofs.Common.{◌≡◌, ◌≤◌, ◌<◌, ◌+◌, ◌-◌, ◌%◌, ◌^◌, ℕ, min, true, false, length, map, arith, ap, ◌∙◌}
+use Rattle.std.proofs.Common.{◌+◌, ◌^◌, true, false, map, arith}
 use Rattle.std.proofs.Math.Nat.{zero-mod}
 use Rattle.tree_shape.specs.Shape.{per_block}
 use Rattle.tree_shape.proofs.lemmas.ShapeFaultLemmas.{blocks-le}

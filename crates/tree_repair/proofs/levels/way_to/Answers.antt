@@ -1,4 +1,4 @@
-use Rattle.std.proofs.Common.{◌≡◌, ◌≤◌, None, arith, ap}
+use Rattle.std.proofs.Common.{arith, ap}
 use Rattle.tree_shape.specs.Shape.{ShapeRecord, levels}
 use Rattle.verity_format.specs.Image.{tree_sectors}
 use Rattle.tree_repair.specs.Jobs.{job}

@@ -1,4 +1,4 @@
-use Rattle.std.proofs.Common.{◌≡◌, ◌≤◌, ◌+◌, true, map}
+use Rattle.std.proofs.Common.{◌≤◌, ◌+◌, true, map}
 use Rattle.tree_shape.specs.Shape.{levels}
 use Rattle.tree_repair.specs.Jobs.{job}
 use Rattle.tree_repair.specs.Runs.{HasRun, world}

@@ -1,5 +1,4 @@
-use Rattle.std.proofs.Common.{◌≡◌, ◌/◌, ◌<◌, ◌+◌, ℕ, false, length, get_or, map, arith, ap, sym, subst}
-use Rattle.block_device.specs.Device.{Device}
+use Rattle.std.proofs.Common.{◌≡◌, ◌/◌, ◌+◌, ℕ, length, get_or, map, arith, ap, subst}
 use Rattle.tree_repair.specs.Sources.{AreIn, IsWithout, wanted}
 use Rattle.tree_repair.proofs.SourceLemmas.{each-next, each-none, in-here, not-in-next}
 use Rattle.tree_repair.proofs.seeking.seek_copies.Goals as goal

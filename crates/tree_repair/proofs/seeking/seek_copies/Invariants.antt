@@ -1,4 +1,4 @@
-use Rattle.std.proofs.Common.{◌≡◌, ◌/◌, length, map}
+use Rattle.std.proofs.Common.{◌/◌, length, map}
 use Rattle.tree_repair.specs.Sources.{AreEachRead, AreNotIn, wanted}
 use Rattle.tree_repair.proofs.seeking.seek_copies.Given as goal
 

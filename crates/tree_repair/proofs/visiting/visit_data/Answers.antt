@@ -1,4 +1,4 @@
-use Rattle.std.proofs.Common.{◌≡◌, ◌*◌, ◌/◌, ◌+◌, arith}
+use Rattle.std.proofs.Common.{◌/◌, arith}
 use Rattle.tree_path.proofs.lemmas.DeviceLemmas.{block-inside, block-size}
 use Rattle.tree_repair.proofs.visiting.visit_data.Goals as goal
 

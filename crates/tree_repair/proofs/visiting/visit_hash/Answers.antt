@@ -1,4 +1,4 @@
-use Rattle.std.proofs.Common.{◌≡◌, ◌*◌, ◌/◌, ◌+◌, ◌<◌, ◌≤◌, ◌^◌, true, false, [], length, map, refl, ◌∙◌, arith}
+use Rattle.std.proofs.Common.{◌≡◌, true, false, [], length, map, refl, ◌∙◌, arith}
 use Rattle.tree_path.proofs.lemmas.DeviceLemmas.{block-size}
 use Rattle.tree_repair.specs.declared.mending.Mended.TheVariants as mended
 use Rattle.tree_repair.specs.Jobs.{job}
