@@ -1,12 +1,12 @@
 -- One piece of a request and a sync, as steps of the world.
-use Rattle.std.proofs.Common.{◌≡◌, ◌<◌, ◌≤◌, ◌-◌, ℕ, List, map, get_or, set, ap, sym, ◌∙◌, subst, arith, Some, Result, Ok, Err}
+use Rattle.std.proofs.Common.{◌≡◌, ◌<◌, ◌≤◌, ◌-◌, ℕ, List, map, get_or, set, refl, ap, sym, ◌∙◌, subst, arith, Some, Result, Ok, Err}
 use Rattle.std.specs.Prelude.{IfErr, OnOk, position, remove}
 use Rattle.block_device.specs.Device.{Device, synced}
 use Rattle.stack_rules.specs.Records.{Configuration}
 use Rattle.stack_meaning.specs.declared.fault.IoFault.{IoFault}
-use Rattle.stack_engine.specs.Pieces.{stack_over}
 use Rattle.stack_engine.specs.Stacks.{StackRecord, AnswerRecord}
 use Rattle.stack_engine.specs.Syncs.{FailsToSync}
+use Rattle.stack_engine.proofs.lemmas.PieceLemmas.{same-stack}
 use Rattle.request_queue.specs.declared.reply.Progress.TheVariants.{More, Done}
 use Rattle.request_queue.specs.declared.reply.Reply.{Reply}
 use Rattle.request_queue.specs.Flights.{FlightRecord, IsSoundFlight, reply_to, has_ticket}
@@ -84,15 +84,11 @@ sound-done v v' given fs fs' i f f' p r s =
 
 -- ---- a sync
 
-pub is-synced : (w : World) (v : StackRecord) (result : Result Unit IoFault) → OnOk result (v.leaves ≡ map synced w.stack.leaves) → v.config ≡ w.stack.config → v.capacity ≡ w.stack.capacity → IfErr result (FailsToSync w.stack.leaves v.leaves)
+pub is-synced : (w : World) (v : StackRecord) (result : Result Unit IoFault) → OnOk result (v.leaves ≡ map synced w.stack.leaves) → v.config ≡ w.stack.config → v.capacity ≡ w.stack.capacity → v.kept ≡ w.stack.kept → IfErr result (FailsToSync w.stack.leaves v.leaves)
     → Syncs w result (world v w.given w.in_flight)
-is-synced w v (Ok done) same config capacity fails =
-    ap (λ (l : List Device). world (stack_over v.config l v.capacity) w.given w.in_flight) same
-    ∙ ap (λ (c : Configuration). world (stack_over c (map synced w.stack.leaves) v.capacity) w.given w.in_flight) config
-    ∙ ap (λ (n : ℕ). world (stack_over w.stack.config (map synced w.stack.leaves) n) w.given w.in_flight) capacity
-is-synced w v (Err fault) same config capacity fails = record {
+is-synced w v (Ok done) same config capacity kept fails = ap (λ (x : StackRecord). world x w.given w.in_flight) (same-stack v (record w.stack { leaves = map synced w.stack.leaves }) config same capacity kept)
+is-synced w v (Err fault) same config capacity kept fails = record {
   after = v.leaves;
   fails = fails;
-  leaves = ap (λ (c : Configuration). world (stack_over c v.leaves v.capacity) w.given w.in_flight) config
-      ∙ ap (λ (n : ℕ). world (stack_over w.stack.config v.leaves n) w.given w.in_flight) capacity;
+  leaves = ap (λ (x : StackRecord). world x w.given w.in_flight) (same-stack v (record w.stack { leaves = v.leaves }) config refl capacity kept);
 }

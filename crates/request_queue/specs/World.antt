@@ -137,7 +137,7 @@ ReadsBytes part w d first bytes (Err fault) w' = (bytes_range w.stack.config d f
 pub record LoadDone (w : World) (text : List Entry) (w' : World) : Type 0 where
   pub idle : w.in_flight ≡ []
   pub passes : first_refusal w.stack.config text ≡ None
-  pub leaves : w' ≡ world (record w.stack { config = after_load w.stack.config text }) w.given w.in_flight
+  pub leaves : w' ≡ world (record w.stack { config = after_load w.stack.config text; kept = [] }) w.given w.in_flight
   pub loaded : IsLoaded w'.stack.config
 
 abbrev pub LoadFails : World → List Entry → LoadFault → Type 0
@@ -153,7 +153,7 @@ Loads w text (Err (Fault fault)) w' = (w.in_flight ≡ []) × LoadFails w text f
 pub record RemovalDone (w : World) (name : List ℕ) (w' : World) : Type 0 where
   pub idle : w.in_flight ≡ []
   pub passes : removal_fault w.stack.config name ≡ None
-  pub leaves : w' ≡ world (record w.stack { config = after_removal w.stack.config name }) w.given w.in_flight
+  pub leaves : w' ≡ world (record w.stack { config = after_removal w.stack.config name; kept = [] }) w.given w.in_flight
   pub loaded : IsLoaded w'.stack.config
 
 abbrev pub Removes : World → List ℕ → Result Unit (Held RemoveFault) → World → Type 0

@@ -8,13 +8,13 @@ use Rattle.stack_rules.specs.Names.{mapped}
 use Rattle.stack_rules.specs.Rules.{IsLoaded}
 use Rattle.stack_meaning.specs.declared.fault.IoFault.{IoFault}
 use Rattle.stack_meaning.specs.declared.fault.IoFault.TheVariants as io
-use Rattle.stack_engine.specs.Pieces.{EachPiece, stack_over}
+use Rattle.stack_engine.specs.Pieces.{EachPiece}
 use Rattle.stack_engine.specs.WritePieces.{EachWrite, WritesInPieces}
 use Rattle.stack_meaning.specs.Reading.{Gets}
 use Rattle.stack_lines.specs.Touches.{TouchesOnly, leaves_of}
 use Rattle.stack_lines.proofs.lemmas.TouchLemmas.{touches-none, touches-then, touches-as}
 use Rattle.stack_engine.specs.Stacks.{StackRecord, AnswerRecord}
-use Rattle.stack_engine.proofs.lemmas.PieceLemmas.{piece_expected, pieces_expected, no-pieces, more-pieces, fault-pieces, piece-got}
+use Rattle.stack_engine.proofs.lemmas.PieceLemmas.{same-stack, piece_expected, pieces_expected, no-pieces, more-pieces, fault-pieces, piece-got}
 use Rattle.stack_engine.proofs.lemmas.WritePieceLemmas.{write-none, write-then, write-ends}
 use Rattle.request_queue.specs.declared.range.SectorRange.{SectorRange}
 use Rattle.request_queue.specs.declared.reply.Progress.TheVariants.{More, Done}
@@ -232,7 +232,7 @@ module _ (base : StackRecord) (loaded : IsLoaded base.config) (range : SectorRan
     -- where memory ran out nothing more was written
     put-nothing : EachWrite w.stack range.device.0 (range.first + u.done) (next_bytes bytes u.done n) (Err io.NoMemory) w'.stack → WritesInPieces base range.device.0 range.first (take (512 * u.done) bytes) (Ok tt) w'.stack
     put-nothing p =
-        let same : w.stack ≡ w'.stack = ap (λ c. stack_over c w.stack.leaves w.stack.capacity) (sym p.any.config) ∙ ap (λ l. stack_over w'.stack.config l w.stack.capacity) (sym p.any.ends) ∙ ap (λ n. stack_over w'.stack.config w'.stack.leaves n) (sym p.any.capacity) in
+        let same : w.stack ≡ w'.stack = same-stack w.stack w'.stack (sym p.any.config) (sym p.any.ends) (sym p.any.capacity) (sym (p.any.short refl)) in
         subst (λ x. WritesInPieces base range.device.0 range.first (take (512 * u.done) bytes) (Ok tt) x) same u.put
 
     put-fails : (fault : IoFault) → u.done < range.count → EachWrite w.stack range.device.0 (range.first + u.done) (next_bytes bytes u.done n) (Err fault) w'.stack → WritesWhole base range bytes (Err fault) w'.stack

@@ -7,4 +7,4 @@ pub returns : goal.returns
 returns g c =
     let q = c.self.inside in
     subst (λ w. Syncs w c.sync.result (world c.sync.new.self q.given q.flights.items)) c.self.view_is
-    (is-synced (world q.stack q.given q.flights.items) c.sync.new.self c.sync.result c.sync.ensures.ok c.sync.ensures.config c.sync.ensures.capacity c.sync.ensures.err)
+    (is-synced (world q.stack q.given q.flights.items) c.sync.new.self c.sync.result c.sync.ensures.ok c.sync.ensures.config c.sync.ensures.capacity c.sync.ensures.kept c.sync.ensures.err)
