@@ -3,7 +3,7 @@
 
 nbd_clients.py [PROGRAM]: copies devices out with nbdcopy and qemu-img and compares them, copies an image in through a
 `crypt` line and reads it back by another stack, writes bytes and zeros with qemu-io across the ends of sectors, with FUA
-too, reads a verity volume with one changed block, copies each device of a stack out by its name, looks at the map of a
+too, reads a verity volume with one changed block, also by chunks, copies each device of a stack out by its name, looks at the map of a
 sparse stack and that copies of it stay sparse, and prints the speed over each kind of line, over four connections and over one, beside nbdkit's and beside `scan`'s. What isn't installed is named and left out (Debian: libnbd-bin, python3-libnbd, qemu-utils, socat, nbdkit).
 """
 import json
@@ -244,7 +244,29 @@ def changed_block(data):
             say(f"bytes at {offset} over the changed block", False)
         except nbd.Error as error:
             say(f"bytes at {offset} over the changed block", error.errno == "EIO")
+    for offset, length in ((bad * BLOCK - 9, 10), (bad * BLOCK + 7, 9), (0, len(data)), (3, 1 << 20), (5, 700), (1, len(data) // 2 - 1)):
+        chunks_of(handle, data, offset, length, bad * BLOCK)
     handle.shutdown()
+
+
+def chunks_of(handle, data, offset, length, bad):
+    """The chunks of a read as the client sees them: data in rising order up to the changed block, then its error."""
+    import nbd
+
+    told = []
+    try:
+        handle.pread_structured(length, offset, lambda part, at, status, error: told.append((at, bytes(part), status)) or 0)
+        failed_there = False
+    except nbd.Error as error:
+        failed_there = error.errno == "EIO"
+    over = bad < offset + length and offset < bad + BLOCK
+    fault = [(max(offset, bad), nbd.READ_ERROR)] if over else []
+    found = [(at, status) for at, _, status in told if status != nbd.READ_DATA]
+    parts = [(at, part) for at, part, status in told if status == nbd.READ_DATA]
+    places = [offset + sum(len(part) for _, part in parts[:k]) for k in range(len(parts))]
+    wanted = data[offset : max(offset, bad) if over else offset + length]
+    good = failed_there == over and found == fault and [at for at, _ in parts] == places
+    say(f"chunks of {length} bytes at {offset}", good and b"".join(part for _, part in parts) == wanted, str(found))
 
 
 def main():

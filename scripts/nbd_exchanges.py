@@ -23,10 +23,12 @@ EXPORT_NAME, ABORT, LIST, STARTTLS, INFO, GO, STRUCTURED, LIST_META, SET_META, E
 ACK, SERVER, REP_INFO, REP_META = 1, 2, 3, 4
 UNSUPPORTED, INVALID, UNKNOWN, TOO_BIG = (2**31 + n for n in (1, 3, 6, 9))
 READ, WRITE, DISC, FLUSH, TRIM, CACHE, ZEROES, STATUS = 0, 1, 2, 3, 4, 5, 6, 7
-NONE, OFFSET_DATA, BLOCK_STATUS, ERROR = 0, 1, 5, 0x8001
+NONE, OFFSET_DATA, BLOCK_STATUS, ERROR, ERROR_OFFSET = 0, 1, 5, 0x8001, 0x8002
 HOLE_AND_ZERO = 3
 EPERM, EIO, ENOMEM, EINVAL, ENOSPC = 1, 5, 12, 22, 28
 MOST = 32 << 20
+# where a piece of a READ ends that is answered piece by piece
+PIECE = 256 << 10
 
 GREETING = MAGIC + OPTION_MAGIC + struct.pack(">H", 3)
 
@@ -101,15 +103,34 @@ class Export:
             return reply(EIO)
         return reply(data=bytes(self.content[offset : offset + length]))
 
-    def chunks(self, offset, length, cookie=0x1122334455667788):
-        """The same in chunks."""
-        answer = self.read(offset, length)
-        error, = struct.unpack(">I", answer[4:8])
-        if error:
-            return failed(error, cookie)
+    def chunks(self, offset, length, cookie=0x1122334455667788, df=False, again=False):
+        """The same in chunks, piece by piece unless one chunk is asked for; by sectors, where each is read again."""
+        if length > MOST or offset + length > len(self.content):
+            return failed(EINVAL, cookie)
         if not length:
             return chunk(NONE, cookie=cookie)
-        return chunk(OFFSET_DATA, struct.pack(">Q", offset) + answer[16:], cookie)
+        if not df:
+            return b"".join(self.pieces(offset, length, cookie, again))
+        if self.fails(offset, length):
+            return failed(EIO, cookie)
+        return self.data(offset, offset + length, cookie)
+
+    def data(self, at, end, cookie, done=1):
+        return chunk(OFFSET_DATA, struct.pack(">Q", at) + self.content[at:end], cookie, done)
+
+    def pieces(self, offset, length, cookie, again):
+        """A piece that fails is read sector by sector, up to the one that fails."""
+        at, end = offset, offset + length
+        while at < end:
+            stop = min(end, at - at % PIECE + PIECE)
+            step = SECTOR if again or self.fails(at, stop - at) else PIECE
+            while at < stop:
+                behind = min(stop, at - at % step + step)
+                if self.fails(at, behind - at):
+                    yield chunk(ERROR_OFFSET, struct.pack(">IHQ", EIO, 0, at), cookie)
+                    return
+                yield self.data(at, behind, cookie, int(behind == end))
+                at = behind
 
     def status(self, offset, length, one=False):
         """The extents of some bytes: those of zero lines are holes, by ranges of sectors."""
@@ -363,7 +384,7 @@ def chunks(runner):
         for bits in (0, FUA, NO_HOLE, DF, FUA | DF, NO_HOLE | DF, REQ_ONE, REQ_ONE | DF, FAST_ZERO, 0x8000, 0x8004):
             asked, found = begun_in_chunks(e)
             asked += request(READ, 0, 700, bits=bits) + request(CACHE, 0, 512, bits=bits) + request(FLUSH, bits=bits)
-            found += e.chunks(0, 700) if bits & ~(FUA | DF) == 0 else failed(EINVAL)
+            found += e.chunks(0, 700, df=bits & DF) if bits & ~(FUA | DF) == 0 else failed(EINVAL)
             found += 2 * (reply() if bits & ~FUA == 0 else reply(EINVAL))
             runner.run(f"flag {bits} in chunks", name, asked + request(READ, 0, 512), found + e.chunks(0, 512))
         asked, found = begun_in_chunks(e)
@@ -378,8 +399,61 @@ def chunks(runner):
     for offset in (0, 1023, 1024, 1500, 1535, 1536, 2000):
         for length in (1, 2, 512, 513, 1024):
             sent += request(READ, offset, length) + request(READ, offset, length, bits=DF)
-            wanted += 2 * e.chunks(offset, length)
+            wanted += e.chunks(offset, length) + e.chunks(offset, length, df=True)
     runner.run("reads of holed in chunks", "holed", sent, wanted)
+    large_chunks(runner)
+
+
+def large_chunks(runner):
+    """READs of several pieces, with and without DF, before a sector that fails and over it, at the ends of pieces."""
+    size = 9 * PIECE // 2
+    content = b"".join(struct.pack(">I", k) for k in range(size // 4))
+    sectors = size // SECTOR
+    for lost in ((), (0,), (1,), (511,), (512,), (513, 700), (1023, 1024), (1030,), (sectors - 1,)):
+        lines, at = [], 0
+        for k in (*lost, sectors):
+            lines += [f"{at} {k - at} linear F {at}"] * (at < k) + [f"{k} 1 error"] * (k < sectors)
+            at = k + 1
+        open("large", "w").write("l,,,ro," + ",".join(lines))
+        open("F", "wb").write(content)
+        e = Export("l", content, lost=[(k, k + 1) for k in lost])
+        sent, wanted = begun_in_chunks(e)
+        for offset in (0, 1, 511, 512, PIECE - 513, PIECE - 512, PIECE - 1, PIECE, PIECE + 1, 2 * PIECE - 1024, 4 * PIECE - 3, size - 1):
+            for length in (1, 512, 513, 1025, PIECE - 1, PIECE, PIECE + 1, 3 * PIECE, size - offset):
+                if offset + length <= size:
+                    cookie = offset ^ length << 32
+                    sent += request(READ, offset, length, cookie) + request(READ, offset, length, cookie, bits=DF)
+                    wanted += e.chunks(offset, length, cookie) + e.chunks(offset, length, cookie, df=True)
+        served = subprocess.run([runner.program, "nbd", "large", "l", "F=ro:F"], input=sent + request(DISC), capture_output=True, timeout=60)
+        at = next((k for k, (a, b) in enumerate(zip(served.stdout, wanted)) if a != b), min(len(served.stdout), len(wanted)))
+        runner.count(f"large reads with {lost} lost", served.stdout == wanted and served.returncode == 0 and not served.stderr, f"differs at {at}")
+
+
+def gone(runner):
+    """A client that goes away at each byte of a reply in chunks: the program ends by itself, with the writer's fault."""
+    size = 2 * PIECE + 700
+    size -= size % SECTOR
+    content = bytes(k * k % 253 for k in range(size))
+    open("large", "w").write(f"l,,,ro,0 {size // SECTOR} linear F 0")
+    open("F", "wb").write(content)
+    e = Export("l", content)
+    sent, told = begun_in_chunks(e)
+    whole = told + e.chunks(3, size - 3)
+    heads = [len(told) + k for k in range(40)] + [len(told) + 20 + 8 + PIECE - 3 + k for k in range(-2, 40)] + [len(whole) - k for k in range(4)]
+    for taken in heads:
+        served = subprocess.Popen([runner.program, "nbd", "large", "l", "F=ro:F"], bufsize=0, stdin=subprocess.PIPE, stdout=subprocess.PIPE, stderr=subprocess.PIPE)
+        served.stdin.write(sent + request(READ, 3, size - 3))
+        found = b""
+        while len(found) < taken and (more := served.stdout.read(taken - len(found))):
+            found += more
+        for it in (served.stdout, served.stdin):
+            it.close()
+        told_of = served.stderr.read()
+        served.stderr.close()
+        status = served.wait(60)
+        # the last bytes may be in the pipe already
+        wanted = (1,) if len(whole) - taken > 1 << 17 else (0, 1)
+        runner.count(f"gone behind {taken} bytes", found == whole[:taken] and not told_of and status in wanted, f"status {status}, {told_of[:80]!r}")
 
 
 def contexts(runner):
@@ -633,7 +707,8 @@ def cuts(runner):
         (option(LIST_META, queries(b"sparse", b"base:")), context(LIST_META, 0) + option_reply(LIST_META, ACK)),
         (option(SET_META, queries(b"sparse", b"base:allocation")), context(SET_META, 1) + option_reply(SET_META, ACK)),
         (option(GO, asks(b"sparse")), e.told(GO, structured=True)),
-        (request(READ, 510, 4, bits=DF), e.chunks(510, 4)),
+        (request(READ, 510, 4, bits=DF), e.chunks(510, 4, df=True)),
+        (request(READ, 510, 2000), e.chunks(510, 2000)),
         (request(STATUS, 510, 3000), e.status(510, 3000)),
         (request(STATUS, 510, 3000, bits=REQ_ONE), e.status(510, 3000, True)),
     ]
@@ -650,7 +725,7 @@ def talks(chunked, failing=None, error=EIO):
     e = exports()["file"]
     asked = [("write", 509, b"across"), ("flush",), ("read", 508, 8), ("write", 1024, bytes(range(256)) * 4), ("flush",), ("zeroes", 1536, 512), ("read", 0, 4096)]
     if chunked:
-        asked.append(("status", 5, 4000))
+        asked += [("whole", 5, 700), ("sector", 520, 9), ("status", 5, 4000)]
     sent, wanted = begun_in_chunks(e, True) if chunked else begun(e)
     for number, (kind, *rest) in enumerate(asked):
         if kind == "write":
@@ -665,9 +740,17 @@ def talks(chunked, failing=None, error=EIO):
         elif kind == "status":
             sent += request(STATUS, *rest)
             answer = failed(error) if number == failing else e.status(*rest)
-        elif chunked:
+        elif kind == "whole":
+            sent += request(READ, *rest, bits=DF)
+            answer = failed(error) if number == failing else e.chunks(*rest, df=True)
+        elif kind == "sector":
             sent += request(READ, *rest)
-            answer = failed(error) if number == failing else e.chunks(*rest)
+            place = struct.pack(">IHQ", error, 0, rest[0])
+            answer = chunk(ERROR_OFFSET, place) if number == failing else e.chunks(*rest)
+        elif chunked:
+            # a piece that failed once is read again, sector by sector
+            sent += request(READ, *rest)
+            answer = e.chunks(*rest, again=number == failing)
         else:
             sent += request(READ, *rest)
             answer = reply(error) if number == failing else e.read(*rest)
@@ -726,7 +809,7 @@ def main():
     runner = Runner(os.path.abspath(given) if os.path.exists(given) else given)
     with tempfile.TemporaryDirectory() as room:
         os.chdir(room)
-        for part in (handshakes, many_exports, transmissions, chunks, contexts, statuses, writes, zeroes, long_runs, crypt, cuts, failures, refusals):
+        for part in (handshakes, many_exports, transmissions, chunks, gone, contexts, statuses, writes, zeroes, long_runs, crypt, cuts, failures, refusals):
             part(runner)
     print(f"exchanges: {runner.passed} passed, {runner.failed} failed")
     return 1 if runner.failed or not runner.passed else 0

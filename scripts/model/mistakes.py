@@ -275,6 +275,10 @@ LATER = [
      'len(data) != 6 + size + 2 * count', 'len(data) < 6 + size + 2 * count'),
     ("nbd-command", "the first export whatever the name is", "nbd.py",
      'if device.name == name), None)', 'if name), None)'),
+    ("nbd-command", "a piece that fails isn't read again", "nbd.py",
+     'if at // SECTOR == (behind - 1) // SECTOR:', 'if at < end:'),
+    ("nbd-command", "pieces of 512 KiB", "nbd.py", 'PIECE = 256 * 1024', 'PIECE = 512 * 1024'),
+    ("nbd-command", "one chunk where it isn't asked for", "nbd.py", 'length and not flags & DF:', 'length and flags & DF:'),
     ("nbd-command", "DISC with a flag refused", "nbd.py",
      '        if command == DISCONNECT:', '        if command == DISCONNECT and not flags:'),
 ]

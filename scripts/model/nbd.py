@@ -17,12 +17,14 @@ SEND_DF, CAN_MULTI_CONN, SEND_CACHE = 128, 256, 1024
 READ, WRITE, DISCONNECT, FLUSH, TRIM, CACHE, WRITE_ZEROES, BLOCK_STATUS = range(8)
 FUA, NO_HOLE, DF, REQ_ONE = 1, 2, 4, 8
 # The types of chunks, and the flag of the last one.
-NONE, OFFSET_DATA, STATUS, ERROR, LAST = 0, 1, 5, 0x8001, 1
+NONE, OFFSET_DATA, STATUS, ERROR, ERROR_OFFSET, LAST = 0, 1, 5, 0x8001, 0x8002, 1
 CONTEXT, CONTEXT_NAME, NAMESPACE = 1, b"base:allocation", b"base:"
 HOLE_OF_ZEROS = 3
 MOST_EXTENTS, MOST_JOINED = 1024, 4096
 EPERM, EIO, EINVAL, ENOSPC = 1, 5, 22, 28
 MOST_OF_AN_OPTION, MOST_OF_A_REQUEST = 65536, 32 * 1024 * 1024
+# Where the pieces of a READ end.
+PIECE = 256 * 1024
 DONE, BROKEN = 0, 4
 
 
@@ -209,20 +211,40 @@ class Service:
         if command == DISCONNECT:
             raise Ended(DONE)
         data = self.take(length) if command == WRITE else b""
+        asked = "command %d at %d of %d bytes" % (command, offset, length)
         try:
             self.check(flags, command, offset, length)
+            if self.structured and command == READ and length and not flags & DF:
+                for last, kind, told in self.pieces(offset, offset + length):
+                    self.replies.add(asked, framed(cookie, last, kind, told))
+                return
             error, answer = 0, self.done(command, flags, offset, length, data)
         except Refused as refused:
             error, answer = refused.error, b""
         except Fault:
             error, answer = EIO, b""
-        asked = "command %d at %d of %d bytes" % (command, offset, length)
         if self.structured and command in (READ, BLOCK_STATUS):
-            kind, told = self.chunk(command, offset, error, answer)
-            octets = struct.pack(">IHHQI", CHUNK_MAGIC, LAST, kind, cookie, len(told)) + told
+            octets = framed(cookie, True, *self.chunk(command, offset, error, answer))
         else:
             octets = struct.pack(">IIQ", SIMPLE_REPLY_MAGIC, error, cookie) + answer
         self.replies.add(asked, octets)
+
+    def pieces(self, at, end):
+        """The chunks of a READ, piece by piece: one that fails is read sector by sector, up to the one that fails."""
+        slow = at
+        while at < end:
+            step = SECTOR if at < slow else PIECE
+            behind = min(end, at - at % step + step)
+            try:
+                octets = self.read(at, behind - at)
+            except Fault:
+                if at // SECTOR == (behind - 1) // SECTOR:
+                    yield True, ERROR_OFFSET, struct.pack(">IHQ", EIO, 0, at)
+                    return
+                slow = behind
+                continue
+            yield behind == end, OFFSET_DATA, struct.pack(">Q", at) + octets
+            at = behind
 
     def chunk(self, command, offset, error, answer):
         """The type and the payload of the only chunk of a reply."""
@@ -297,6 +319,11 @@ class Service:
             count = self.stack.piece(self.device, at, end - at)
             self.stack.write_run(self.device, at, sectors[place:place + count * SECTOR])
             at += count
+
+
+def framed(cookie, last, kind, told):
+    """A chunk of that type under a cookie."""
+    return struct.pack(">IHHQI", CHUNK_MAGIC, LAST if last else 0, kind, cookie, len(told)) + told
 
 
 def asked_for(data):

@@ -3,12 +3,13 @@ use Rattle.std.proofs.Common.{◌≡◌, ◌≢◌, ◌<◌, ◌≤◌, ℕ, Lis
 use Rattle.std.specs.Prelude.{◌⊎◌, ◌||◌, ◌&&◌, All, Bool, true, false, is_some, not, take, codes, ◌==◌, if◌then◌else◌}
 use Rattle.std.specs.Io.KnownBytes.{Appends, Consumes, Keeps}
 use Rattle.std.specs.Str.{bytes_eq}
-use Rattle.std.proofs.KnownBytes.{Appends-nil, Appends-kept, Consumes-trans, Keeps-refl}
+use Rattle.std.proofs.KnownBytes.{Appends-nil, Appends-kept, Consumes-nil, Consumes-trans, Keeps-refl}
 use Rattle.std.proofs.lemmas.Bool.{eqb-true}
 use Rattle.std.proofs.lemmas.List.Elements.{All-get_or}
 use Rattle.std.proofs.lemmas.List.Quantifiers.{position-Some}
 use Rattle.std.proofs.lemmas.Slice.Eq.{bytes_eq-Decides}
 use Rattle.request_queue.specs.World.{World}
+use Rattle.counted_io.specs.Counted.{Grows}
 use Rattle.counted_io.specs.Streams.{Streams, streams}
 use Rattle.nbd_protocol.specs.declared.fault.ServiceFault.{ServiceFault}
 use Rattle.nbd_protocol.specs.declared.fault.ServiceFault.TheVariants as fault
@@ -20,12 +21,14 @@ use Rattle.nbd_protocol.specs.declared.header.Header.{Header}
 use Rattle.nbd_protocol.specs.Numbers.{number32}
 use Rattle.nbd_protocol.specs.Exports.{ExportRecord, HasShortName, asked, export_at, most_name, no_export, place_of}
 use Rattle.nbd_protocol.specs.Handshake.{answer_to, answer_to_long, most_data, names_export, phase_after, phase_after_long}
-use Rattle.nbd_protocol.specs.Headers.{header_of, payload_len, request_magic}
+use Rattle.nbd_protocol.specs.Headers.{command_of, header_of, is_chunked, payload_len, request_magic}
 use Rattle.nbd_server.specs.Causes.{Breaks, IsCut, IsCutWithin, IsNaming}
 use Rattle.nbd_protocol.specs.Streaming.{IsShort, Spoken, Stops, TakesInto}
 use Rattle.nbd_server.specs.Replies.{RequestOutcome, reply_to}
 use Rattle.nbd_server.specs.Transmission.{Serves}
-use Rattle.nbd_server.specs.Service.{Answers, AnswersOption, IsTooLong, IsAnswered, IsUnnamed, IsUnread, TakesOption, TakesRequest, Turns}
+use Rattle.nbd_server.specs.Delivery.{IsDelivered, IsStuck, bytes_asked, delivery_of, has_df}
+use Rattle.nbd_server.specs.declared.delivery.Delivery.{Delivery}
+use Rattle.nbd_server.specs.Service.{Answers, AnswersOption, BeginsRequest, IsTooLong, IsAnswered, IsUnnamed, IsUnread, Replies, TakesOption, TakesRequest, Turns}
 
 -- what came of a message that the service ends in
 broken : (es : List ExportRecord) (phase : Phase) (w w' : World) (old new : Streams) (x : ServiceFault) → w' ≡ w → (part : List ℕ) → Consumes old.input new.input part → Keeps old.output new.output → Breaks es phase part new.input x
@@ -169,13 +172,13 @@ module _ (es : List ExportRecord) (terms : Terms) (w : World) (input mid input' 
     option-ends content c count Is Ends fault.Flags answers breaks k = turns-fault es (Haggling terms) w w (streams input output) (streams input' output') fault.Flags refl (header ++ content) (Consumes-trans input mid input' header content first c) k.0 (breaks k.1)
     option-ends content c count Is Ends fault.NoSuchExport answers breaks k = turns-fault es (Haggling terms) w w (streams input output) (streams input' output') fault.NoSuchExport refl (header ++ content) (Consumes-trans input mid input' header content first c) k.0 (breaks k.1)
     option-ends content c count Is Ends fault.ReadFault answers breaks k = turns-fault es (Haggling terms) w w (streams input output) (streams input' output') fault.ReadFault refl (header ++ content) (Consumes-trans input mid input' header content first c) k.0 (breaks k.1)
-    option-ends content c count Is Ends fault.WriteFault answers breaks k = record {
+    option-ends content c count Is Ends fault.WriteFault answers breaks k = inl (record {
       message = header ++ content;
       reply = k.0;
       next = k.1;
       consumed = Consumes-trans input mid input' header content first c;
       takes = (option-takes content count k.1 k.0 (answers k.0 k.1 k.2), refl);
-    }
+    })
 
     naming : (name : List ℕ) → length name ≡ number32 header 12 → number32 header 8 ≡ 1 → IsNaming (header ++ name) name
     naming name count option = record { header = header; rest_is = refl; is_header = record { size = size; magic = magic }; option = option; count = count }
@@ -206,6 +209,26 @@ module _ (es : List ExportRecord) (terms : Terms) (w : World) (input mid input' 
 
 -- ---- requests
 
+-- what is answered piece by piece is answered by chunks
+delivery-chunked : (e : ExportRecord) (agreed : Agreement) (h : Header) (d : Delivery) → delivery_of e agreed h ≡ Some d → is_chunked agreed h ≡ true
+delivery-chunked e agreed h d found = go (is_chunked agreed h) (not (has_df h)) (bytes_asked h.cookie (command_of e agreed h)) found
+  where
+    go : (chunked whole : Bool) (asked : Option Delivery) → (if chunked && whole then asked else None) ≡ Some d → chunked ≡ true
+    go true whole asked is = refl
+    go false whole asked is = let clash : None ≡ Some d = is in cc
+
+-- and no bytes follow it
+chunked-payload : (agreed : Agreement) (h : Header) → is_chunked agreed h ≡ true → 0 ≡ payload_len h
+chunked-payload agreed h is = go agreed.structured (h.kind == 1) refl is
+  where
+    none : (k : ℕ) → k ≡ 1 → ((k == 0) || (k == 7)) ≡ true → ⊥
+    none k one is = let clash : false ≡ true = subst (λ (n : ℕ). ((n == 0) || (n == 7)) ≡ true) one is in cc
+
+    go : (structured write : Bool) → (h.kind == 1) ≡ write → (structured && ((h.kind == 0) || (h.kind == 7))) ≡ true → 0 ≡ (if write then h.length else 0)
+    go structured false at chunked = refl
+    go false true at chunked = let clash : false ≡ true = chunked in cc
+    go true true at chunked = absurd (none h.kind (eqb-true h.kind 1 at) chunked)
+
 pub request-unlike : (es : List ExportRecord) (agreed : Agreement) (w : World) (input input' output : Option (List ℕ)) (header : List ℕ) → Consumes input input' header → length header ≡ 28 → number32 header 0 ≢ request_magic
     → Turns es (Serving agreed) w w (streams input output) (streams input' output) (Err fault.Magic)
 request-unlike es agreed w input input' output header c size other = turns-fault es (Serving agreed) w w (streams input output) (streams input' output) fault.Magic refl header c (Keeps-refl output) (size, other)
@@ -218,41 +241,68 @@ module _ (es : List ExportRecord) (agreed : Agreement) (e : ExportRecord) (at : 
       turns-fault es (Serving agreed) w w' (streams input output) (streams input' output) x p.1 (header ++ p.0.part) (Consumes-trans input mid input' header p.0.part first p.0.consumed) (Keeps-refl output)
       (cut-breaks es (Serving agreed) (header ++ p.0.part) input' x p.0.cause (λ lost. cut) (inr cut))
 
-  -- it was taken and served
-  request-takes : (outcome : RequestOutcome) → (header_of header).kind ≢ 2 → (payload : List ℕ) → length payload ≡ payload_len (header_of header) → Serves e agreed w (header_of header) payload outcome w'
-      → TakesRequest (export_at es agreed.place) agreed w (header ++ payload) (reply_to agreed (header_of header) outcome) (Serving agreed) w'
-  request-takes outcome other payload count serves = subst (λ x. TakesRequest x agreed w (header ++ payload) (reply_to agreed (header_of header) outcome) (Serving agreed) w') (sym at) (record {
+  -- it was taken, and has that reply
+  request-takes : (found : Option Delivery) → delivery_of e agreed (header_of header) ≡ found → (header_of header).kind ≢ 2 → (payload reply : List ℕ) → length payload ≡ payload_len (header_of header)
+      → Replies e agreed w (header_of header) payload found reply w' → TakesRequest (export_at es agreed.place) agreed w (header ++ payload) reply (Serving agreed) w'
+  request-takes found is other payload reply count replies = subst (λ x. TakesRequest x agreed w (header ++ payload) reply (Serving agreed) w') (sym at) (record {
     header = header;
     payload = payload;
     message_is = refl;
     size = size;
     magic = magic;
     count = count;
-    answered = inr (other, record { outcome = outcome; serves = serves; reply_is = refl; next_is = refl });
+    answered = inr (other, record { replies = subst (λ (f : Option Delivery). Replies e agreed w (header_of header) payload f reply w') (sym is) replies; next_is = refl });
   })
 
-  pub request-served : (output output' : Option (List ℕ)) (outcome : RequestOutcome) → (header_of header).kind ≢ 2
-      → (payload : List ℕ) × (length payload ≡ payload_len (header_of header)) × Consumes mid input' payload × Serves e agreed w (header_of header) payload outcome w'
-      → Appends output output' (reply_to agreed (header_of header) outcome) → Turns es (Serving agreed) w w' (streams input output) (streams input' output') (Ok (Some (Serving agreed)))
-  request-served output output' outcome other p a = record {
-    taken = header ++ p.0;
-    written = reply_to agreed (header_of header) outcome;
-    consumed = Consumes-trans input mid input' header p.0 first p.2;
-    appended = a;
-    holds = request-takes outcome other p.0 p.1 p.3;
-  }
+  module _ (other : (header_of header).kind ≢ 2) (output output' : Option (List ℕ)) where
+    request-answered : (found : Option Delivery) → delivery_of e agreed (header_of header) ≡ found → (payload reply : List ℕ) → length payload ≡ payload_len (header_of header) → Consumes mid input' payload
+        → Replies e agreed w (header_of header) payload found reply w' → Appends output output' reply → Turns es (Serving agreed) w w' (streams input output) (streams input' output') (Ok (Some (Serving agreed)))
+    request-answered found is payload reply count c replies a = record {
+      taken = header ++ payload;
+      written = reply;
+      consumed = Consumes-trans input mid input' header payload first c;
+      appended = a;
+      holds = request-takes found is other payload reply count replies;
+    }
 
-  -- and the writer failed in its reply
-  pub request-unanswered : (output output' : Option (List ℕ)) (outcome : RequestOutcome) → (header_of header).kind ≢ 2
-      → (payload : List ℕ) × (length payload ≡ payload_len (header_of header)) × Consumes mid input' payload × Serves e agreed w (header_of header) payload outcome w'
-      → Turns es (Serving agreed) w w' (streams input output) (streams input' output') (Err fault.WriteFault)
-  request-unanswered output output' outcome other p = record {
-    message = header ++ p.0;
-    reply = reply_to agreed (header_of header) outcome;
-    next = Serving agreed;
-    consumed = Consumes-trans input mid input' header p.0 first p.2;
-    takes = request-takes outcome other p.0 p.1 p.3;
-  }
+    -- and the writer failed in its reply
+    unanswered-request : (found : Option Delivery) → delivery_of e agreed (header_of header) ≡ found → (payload reply : List ℕ) → length payload ≡ payload_len (header_of header) → Consumes mid input' payload
+        → Replies e agreed w (header_of header) payload found reply w' → Turns es (Serving agreed) w w' (streams input output) (streams input' output') (Err fault.WriteFault)
+    unanswered-request found is payload reply count c replies = inl (record {
+      message = header ++ payload;
+      reply = reply;
+      next = Serving agreed;
+      consumed = Consumes-trans input mid input' header payload first c;
+      takes = request-takes found is other payload reply count replies;
+    })
+
+    module _ (outcome : RequestOutcome) (none : delivery_of e agreed (header_of header) ≡ None) where
+      pub request-served : (payload : List ℕ) × (length payload ≡ payload_len (header_of header)) × Consumes mid input' payload × Serves e agreed w (header_of header) payload outcome w'
+          → Appends output output' (reply_to agreed (header_of header) outcome) → Turns es (Serving agreed) w w' (streams input output) (streams input' output') (Ok (Some (Serving agreed)))
+      request-served p a = request-answered None none p.0 (reply_to agreed (header_of header) outcome) p.1 p.2 (outcome, p.3, refl) a
+
+      pub request-unanswered : (payload : List ℕ) × (length payload ≡ payload_len (header_of header)) × Consumes mid input' payload × Serves e agreed w (header_of header) payload outcome w'
+          → Turns es (Serving agreed) w w' (streams input output) (streams input' output') (Err fault.WriteFault)
+      request-unanswered p = unanswered-request None none p.0 (reply_to agreed (header_of header) outcome) p.1 p.2 (outcome, p.3, refl)
+
+    -- it is answered piece by piece: no bytes follow it
+    module _ (d : Delivery) (found : delivery_of e agreed (header_of header) ≡ Some d) (same : input' ≡ mid) where
+      nothing : Consumes mid input' []
+      nothing = subst (λ (x : Option (List ℕ)). Consumes mid x []) (sym same) (Consumes-nil mid)
+
+      no-payload : 0 ≡ payload_len (header_of header)
+      no-payload = chunked-payload agreed (header_of header) (delivery-chunked e agreed (header_of header) d found)
+
+      pub request-delivered : Grows output output' (λ reply. IsDelivered e d w reply w') → Turns es (Serving agreed) w w' (streams input output) (streams input' output') (Ok (Some (Serving agreed)))
+      request-delivered p = request-answered (Some d) found [] p.text no-payload nothing p.holds p.written
+
+      pub request-stuck : IsStuck e d w w' → Turns es (Serving agreed) w w' (streams input output) (streams input' output') (Err fault.WriteFault)
+      request-stuck (inl begun) = inr (record {
+        message = header;
+        consumed = subst (λ (x : Option (List ℕ)). Consumes input x header) (sym same) first;
+        begins = subst (λ x. BeginsRequest x agreed w header w') (sym at) (record { delivery = d; size = size; magic = magic; asks = found; begun = begun });
+      })
+      request-stuck (inr p) = unanswered-request (Some d) found [] p.0 no-payload nothing p.1
 
 last-payload : (h : Header) → h.kind ≡ 2 → 0 ≡ payload_len h
 last-payload h kind = sym (ap (λ (k : ℕ). if k == 1 then h.length else 0) kind)

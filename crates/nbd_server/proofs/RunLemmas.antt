@@ -1,5 +1,5 @@
 -- The service of a client as a run of the queue, of which its law speaks.
-use Rattle.std.proofs.Common.{◌≡◌, ◌≢◌, ℕ, ◌+◌, ◌-◌, ◌%◌, List, [], ◌∷◌, length, inl, inr, subst, sym, Ok, Err, Result}
+use Rattle.std.proofs.Common.{◌≡◌, ◌≢◌, ℕ, ◌+◌, ◌-◌, ◌%◌, List, [], ◌∷◌, length, inl, inr, subst, sym, Ok, Err, Result, Option, Some, None}
 use Rattle.std.specs.Prelude.{◌⊎◌, Bool, true, false, replicate}
 use Rattle.request_queue.specs.Parts.{EachPart}
 use Rattle.request_queue.specs.Runs.{IsLed}
@@ -7,6 +7,7 @@ use Rattle.request_queue.specs.World.{World, sync}
 use Rattle.request_queue.proofs.lemmas.LedLemmas.{led-none, led-one, led-then}
 use Rattle.nbd_protocol.specs.declared.header.Command.{Command}
 use Rattle.nbd_protocol.specs.declared.header.Command.TheVariants.{Read, Write, Zero, Hint, Flush, Status}
+use Rattle.nbd_protocol.specs.declared.header.Header.{Header}
 use Rattle.nbd_protocol.specs.declared.phase.Agreement.{Agreement}
 use Rattle.nbd_protocol.specs.declared.phase.Phase.{Phase}
 use Rattle.nbd_protocol.specs.declared.phase.Phase.TheVariants.{Greeted, Haggling, Serving, Over}
@@ -15,14 +16,13 @@ use Rattle.nbd_protocol.specs.Exports.{ExportRecord, export_at}
 use Rattle.nbd_protocol.specs.Headers.{command_of, header_of}
 use Rattle.nbd_server.specs.Replies.{RequestOutcome}
 use Rattle.nbd_server.specs.Transmission.{FailsToReadEnds, Flushes, IsFramed, ReadsBytes, ServesCommand, Settles, WritesBytes, WritesGiven, WritesSome, room_behind}
-use Rattle.nbd_server.specs.Service.{Conversation, begins, goes_on, IsLast, IsServed, TakesMessage}
+use Rattle.nbd_server.specs.Service.{BeginsMessage, Conversation, begins, goes_on, IsLast, IsServed, Replies, TakesMessage}
+use Rattle.nbd_server.specs.Delivery.{IsDelivered, delivery_of}
+use Rattle.nbd_server.specs.declared.delivery.Delivery.{Delivery}
+use Rattle.nbd_server.proofs.DeliveryLemmas.{read-led, delivered-led, pieces-led}
 
 stays-led : (w w' : World) → w' ≡ w → IsLed EachPart w w'
 stays-led w w' same = subst (IsLed EachPart w) (sym same) (led-none EachPart w)
-
-read-led : (e : ExportRecord) (w : World) (offset length : ℕ) (outcome : RequestOutcome) (w' : World) → ReadsBytes e w offset length outcome w' → IsLed EachPart w w'
-read-led e w offset length (Ok content) w' p = p.1.led
-read-led e w offset length (Err error) w' p = p.led
 
 ends-led : (e : ExportRecord) (w mid w' : World) (offset length : ℕ) (before behind : RequestOutcome) → ReadsBytes e w (offset - offset % 512) (offset % 512) before mid
     → ReadsBytes e mid (offset + length) (room_behind offset length) behind w' → IsLed EachPart w w'
@@ -70,9 +70,13 @@ command-led e w (Ok Flush) payload outcome w' p = flush-led w outcome w' p
 command-led e w (Ok (Status offset length one)) payload (Ok content) w' p = stays-led w w' p.1
 command-led e w (Ok (Status offset length one)) payload (Err error) w' p = stays-led w w' p.1
 
+replies-led : (e : ExportRecord) (agreed : Agreement) (w : World) (h : Header) (payload : List ℕ) (found : Option Delivery) (reply : List ℕ) (w' : World) → Replies e agreed w h payload found reply w' → IsLed EachPart w w'
+replies-led e agreed w h payload (Some d) reply w' p = delivered-led e d w reply w' p
+replies-led e agreed w h payload None reply w' p = command-led e w (command_of e agreed h) payload p.0 w' p.1
+
 request-led : (e : ExportRecord) (agreed : Agreement) (w : World) (header payload reply : List ℕ) (next : Phase) (w' : World) → IsLast w header reply next w' ⊎ ((header_of header).kind ≢ 2) × IsServed e agreed w header payload reply next w' → IsLed EachPart w w'
 request-led e agreed w header payload reply next w' (inl x) = stays-led w w' x.same
-request-led e agreed w header payload reply next w' (inr x) = command-led e w (command_of e agreed (header_of header)) payload x.1.outcome w' x.1.serves
+request-led e agreed w header payload reply next w' (inr x) = replies-led e agreed w (header_of header) payload (delivery_of e agreed (header_of header)) reply w' x.1.replies
 
 message-led : (es : List ExportRecord) (phase : Phase) (w : World) (message reply : List ℕ) (next : Phase) (w' : World) → TakesMessage es phase w message reply next w' → IsLed EachPart w w'
 message-led es Greeted w message reply next w' p = stays-led w w' p.1
@@ -85,3 +89,10 @@ pub talk-led : {es : List ExportRecord} {first : World} {phase : Phase} {w : Wor
 talk-led {es = es} {first = first} begins = led-none EachPart first
 talk-led {es = es} {first = first} (goes_on {phase = phase} {next = next} {w = w} {w' = w'} message reply talk takes) =
     led-then EachPart first w w' (talk-led talk) (message-led es phase w message reply next w' takes)
+
+-- and so is a reply that was begun
+pub begun-led : (es : List ExportRecord) (phase : Phase) (w : World) (message : List ℕ) (w' : World) → BeginsMessage es phase w message w' → IsLed EachPart w w'
+begun-led es Greeted w message w' p = absurd p
+begun-led es (Haggling terms) w message w' p = absurd p
+begun-led es (Serving agreed) w message w' p = pieces-led p.begun.pieces
+begun-led es Over w message w' p = absurd p

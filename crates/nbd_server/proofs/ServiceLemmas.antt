@@ -29,8 +29,13 @@ use Rattle.nbd_protocol.proofs.lemmas.ExportLemmas.{asked-inside}
 use Rattle.nbd_server.specs.Premises.{IsPlaced}
 use Rattle.nbd_server.specs.Causes.{Breaks}
 use Rattle.nbd_protocol.specs.Streaming.{Spoken}
-use Rattle.nbd_server.specs.Service.{AnswersOption, Conversation, begins, goes_on, Turns, IsService, IsLast, IsServed, TakesMessage}
-use Rattle.nbd_server.proofs.RunLemmas.{talk-led}
+use Rattle.nbd_protocol.specs.declared.header.Header.{Header}
+use Rattle.nbd_server.specs.Delivery.{IsDelivered, delivery_of}
+use Rattle.nbd_server.specs.declared.delivery.Delivery.{Delivery}
+use Rattle.nbd_server.specs.Service.{AnswersOption, BeginsMessage, Conversation, begins, goes_on, Turns, IsInterrupted, IsService, IsLast, IsServed, IsUnanswered, Replies, TakesMessage}
+use Rattle.nbd_server.proofs.DeliveryLemmas.{delivered-config, fetch-config, read-config}
+use Rattle.nbd_server.proofs.RunLemmas.{begun-led, talk-led}
+use Rattle.request_queue.proofs.lemmas.LedLemmas.{led-then}
 
 -- the messages so far, and the greeting and their replies
 abbrev pub IsTalk : List ExportRecord → World → Phase → World → List ℕ → List ℕ → Type 0
@@ -112,10 +117,37 @@ ends-in {es = es} {first = first} {now = now} {phase = phase} {old = old} {mid =
 
 -- those messages were taken and done
 stuck : {es : List ExportRecord} {first last : World} {phase : Phase} {old new : Streams} (whole replies : List ℕ) → Consumes old.input new.input whole → Conversation es first phase last whole replies → IsService es first last old new (Err fault.WriteFault)
-stuck {phase = phase} whole replies c talk = record {
+stuck {last = last} {phase = phase} {old = old} {new = new} whole replies c talk = record {
   held = λ other. absurd (other refl);
-  done = λ is. record { phase = phase; whole = whole; replies = replies; consumed = c; talk = talk };
+  done = λ is. record {
+    phase = phase;
+    whole = whole;
+    replies = replies;
+    mid = last;
+    rest = [];
+    consumed = subst (λ (l : List ℕ). Consumes old.input new.input l) (sym (append-nil whole)) c;
+    talk = talk;
+    ends = inl (refl, refl);
+  };
   led = talk-led talk;
+}
+
+-- and the reply to another one was begun
+stuck-begun : {es : List ExportRecord} {first mid : World} {phase : Phase} (last : World) (old new : Streams) (whole replies rest : List ℕ) → Consumes old.input new.input (whole ++ rest) → Conversation es first phase mid whole replies
+    → BeginsMessage es phase mid rest last → IsService es first last old new (Err fault.WriteFault)
+stuck-begun {es = es} {first = first} {mid = mid} {phase = phase} last old new whole replies rest c talk begun = record {
+  held = λ other. absurd (other refl);
+  done = λ is. record {
+    phase = phase;
+    whole = whole;
+    replies = replies;
+    mid = mid;
+    rest = rest;
+    consumed = c;
+    talk = talk;
+    ends = inr begun;
+  };
+  led = led-then EachPart first mid last (talk-led talk) (begun-led es phase mid rest last begun);
 }
 
 -- in the greeting
@@ -126,6 +158,14 @@ held-unsaid es first input output output' = stuck {old = streams input output} {
 pub held-stuck : {es : List ExportRecord} {first now : World} {phase : Phase} {old : Streams} (input output output' : Option (List ℕ)) → Held es first phase now old (streams input output) → IsService es first now old (streams input output') (Err fault.WriteFault)
 held-stuck {old = old} input output output' h = stuck {old = old} {new = streams input output'} h.taken h.holds.0 h.consumed h.holds.1
 
+-- in a reply
+held-fails : {es : List ExportRecord} {first now : World} {phase : Phase} {old mid : Streams} (now' : World) (new : Streams) → Held es first phase now old mid
+    → IsUnanswered es phase now now' mid.input new.input ⊎ IsInterrupted es phase now now' mid.input new.input → IsService es first now' old new (Err fault.WriteFault)
+held-fails {old = old} {mid = mid} now' new h (inl t) =
+    stuck {old = old} {new = new} (h.taken ++ t.message) (h.holds.0 ++ t.reply) (Consumes-trans old.input mid.input new.input h.taken t.message h.consumed t.consumed) (goes_on t.message t.reply h.holds.1 t.takes)
+held-fails {old = old} {mid = mid} now' new h (inr t) =
+    stuck-begun now' old new h.taken h.holds.0 t.message (Consumes-trans old.input mid.input new.input h.taken t.message h.consumed t.consumed) h.holds.1 t.begins
+
 -- ---- any fault
 
 pub held-ends : {es : List ExportRecord} {first now : World} {phase : Phase} {old mid : Streams} (now' : World) (new : Streams) (x : ServiceFault) → Held es first phase now old mid → Turns es phase now now' mid new (Err x) → IsService es first now' old new (Err x)
@@ -134,8 +174,7 @@ held-ends now' new fault.Magic h t = ends-in now' new fault.Magic (λ is. (cc)) 
 held-ends now' new fault.Flags h t = ends-in now' new fault.Flags (λ is. (cc)) h t
 held-ends now' new fault.NoSuchExport h t = ends-in now' new fault.NoSuchExport (λ is. (cc)) h t
 held-ends now' new fault.ReadFault h t = ends-in now' new fault.ReadFault (λ is. (cc)) h t
-held-ends {old = old} {mid = mid} now' new fault.WriteFault h t =
-    stuck {old = old} {new = new} (h.taken ++ t.message) (h.holds.0 ++ t.reply) (Consumes-trans old.input mid.input new.input h.taken t.message h.consumed t.consumed) (goes_on t.message t.reply h.holds.1 t.takes)
+held-ends {old = old} {mid = mid} now' new fault.WriteFault h t = held-fails {old = old} {mid = mid} now' new h t
 
 -- the reader was called too often
 pub held-stops : {es : List ExportRecord} {first now : World} {phase : Phase} {old : Streams} (new : Streams) → Held es first phase now old new → IsService es first now old new (Err fault.ReadFault)
@@ -167,19 +206,8 @@ held-over {phase = phase} done h over = record {
 
 -- ---- the configuration stays
 
-fails-config : (w : World) (d first count : ℕ) (error : RequestError) (w' : World) → EndsIn w d first count error w' ⊎ HasNoBuffer w error w' → w'.stack.config ≡ w.stack.config
-fails-config w d first count error w' (inl x) = x.read.config
-fails-config w d first count error w' (inr x) = ap (λ (v : World). v.stack.config) x.1
-
-pub fetch-config : (w : World) (d first count : ℕ) (error : RequestError) (w' : World) → FailsToFetch w d first count error w' → w'.stack.config ≡ w.stack.config
-fetch-config w d first count error w' p = fails-config w d first count error w' p.cause
-
 same-config : (w w' : World) → w' ≡ w → w'.stack.config ≡ w.stack.config
 same-config w w' same = ap (λ (x : World). x.stack.config) same
-
-pub read-config : (e : ExportRecord) (w : World) (offset length : ℕ) (outcome : RequestOutcome) (w' : World) → ReadsBytes e w offset length outcome w' → w'.stack.config ≡ w.stack.config
-read-config e w offset length (Ok content) w' p = p.1.read.config
-read-config e w offset length (Err error) w' p = fetch-config w e.device (offset / 512) (touched offset length) error w' p
 
 pub framed-config : (e : ExportRecord) (w : World) (offset : ℕ) (bytes sectors : List ℕ) (w' : World) → IsFramed e w offset bytes sectors w' → w'.stack.config ≡ w.stack.config
 framed-config e w offset bytes sectors w' p =
@@ -229,9 +257,13 @@ command-config e w (Ok Flush) payload outcome w' p = flush-config w outcome w' p
 command-config e w (Ok (Status offset length one)) payload (Ok content) w' p = same-config w w' p.1
 command-config e w (Ok (Status offset length one)) payload (Err error) w' p = same-config w w' p.1
 
+replies-config : (e : ExportRecord) (agreed : Agreement) (w : World) (h : Header) (payload : List ℕ) (found : Option Delivery) (reply : List ℕ) (w' : World) → Replies e agreed w h payload found reply w' → w'.stack.config ≡ w.stack.config
+replies-config e agreed w h payload (Some d) reply w' p = delivered-config e d w reply w' p
+replies-config e agreed w h payload None reply w' p = command-config e w (command_of e agreed h) payload p.0 w' p.1
+
 request-config : (e : ExportRecord) (agreed : Agreement) (w : World) (header payload reply : List ℕ) (next : Phase) (w' : World) → IsLast w header reply next w' ⊎ ((header_of header).kind ≢ 2) × IsServed e agreed w header payload reply next w' → w'.stack.config ≡ w.stack.config
 request-config e agreed w header payload reply next w' (inl x) = same-config w w' x.same
-request-config e agreed w header payload reply next w' (inr x) = command-config e w (command_of e agreed (header_of header)) payload x.1.outcome w' x.1.serves
+request-config e agreed w header payload reply next w' (inr x) = replies-config e agreed w (header_of header) payload (delivery_of e agreed (header_of header)) reply w' x.1.replies
 
 pub message-config : (es : List ExportRecord) (phase : Phase) (w : World) (message reply : List ℕ) (next : Phase) (w' : World) → TakesMessage es phase w message reply next w' → w'.stack.config ≡ w.stack.config
 message-config es Greeted w message reply next w' p = same-config w w' p.1

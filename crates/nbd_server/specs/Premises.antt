@@ -5,6 +5,10 @@ use Rattle.stack_rules.specs.Records.{Configuration}
 use Rattle.nbd_protocol.specs.Exports.{AreExports, ExportRecord, IsExport, export_records}
 use Rattle.nbd_protocol.specs.declared.export.Export.{Export}
 use Rattle.nbd_server.specs.Transmission.{room_behind}
+use Rattle.nbd_server.specs.Delivery.{IsPiece}
+use Rattle.nbd_server.specs.declared.delivery.Delivery.{Delivery}
+use Rattle.nbd_server.specs.declared.delivery.Progress.{Progress}
+use Rattle.nbd_server.specs.declared.reply.Data.{Data}
 use Rattle.nbd_server.specs.declared.zeros.Zeros.{Zeros}
 use Rattle.nbd_protocol.specs.declared.phase.Phase.{Phase}
 use Rattle.nbd_protocol.specs.declared.phase.Phase.TheVariants.{Over, Serving}
@@ -46,3 +50,14 @@ pub record HaveEnds (z : Zeros) : Type 0 where
   pub before : length z.before.now < 512
   pub few : z.count < 2 ^ 32
   pub behind : length z.behind.now < 512
+
+-- what is left of a READ that is answered piece by piece
+pub record IsRest (d : Delivery) (p : Progress) : Type 0 where
+  pub inside : p.done ≤ d.count
+  pub small : d.offset + d.count < 2 ^ 64
+
+-- its next piece, as it was read
+pub record IsNextPiece (d : Delivery) (p : Progress) (content : Data) : Type 0 where
+  pub rest : IsRest d p
+  pub piece : IsPiece d p content.length
+  pub inside : content.start + content.length ≤ length content.bytes.items

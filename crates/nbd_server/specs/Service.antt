@@ -13,6 +13,9 @@ use Rattle.nbd_server.specs.Causes.{Breaks}
 use Rattle.nbd_protocol.specs.Streaming.{Spoken}
 use Rattle.nbd_server.specs.Replies.{RequestOutcome, reply_to}
 use Rattle.nbd_server.specs.Transmission.{Serves}
+use Rattle.nbd_server.specs.Delivery.{IsBegun, IsDelivered, delivery_of}
+use Rattle.nbd_server.specs.declared.delivery.Delivery.{Delivery}
+use Rattle.nbd_protocol.specs.declared.header.Header.{Header}
 use Rattle.nbd_protocol.specs.declared.fault.ServiceFault.{ServiceFault}
 use Rattle.nbd_protocol.specs.declared.fault.ServiceFault.TheVariants.{NoSuchExport, WriteFault}
 use Rattle.nbd_protocol.specs.declared.phase.Terms.{Terms}
@@ -54,11 +57,14 @@ pub record TakesOption (es : List ExportRecord) (terms : Terms) (message reply :
   pub count : length content ≡ number32 header 12
   pub answered : AnswersOption es terms (number32 header 8) content reply next
 
--- a request that isn't the last: it is served, and has the reply that was agreed on
+-- what is replied to a request that is answered piece by piece, and to any other: what it gives, as was agreed on
+abbrev pub Replies : ExportRecord → Agreement → World → Header → List ℕ → Option Delivery → List ℕ → World → Type 0
+Replies e a w h payload (Some d) reply w' = IsDelivered e d w reply w'
+Replies e a w h payload None reply w' = (outcome : RequestOutcome) × Serves e a w h payload outcome w' × (reply ≡ reply_to a h outcome)
+
+-- a request that isn't the last
 pub record IsServed (e : ExportRecord) (agreed : Agreement) (w : World) (header payload reply : List ℕ) (next : Phase) (w' : World) : Type 0 where
-  pub outcome : RequestOutcome
-  pub serves : Serves e agreed w (header_of header) payload outcome w'
-  pub reply_is : reply ≡ reply_to agreed (header_of header) outcome
+  pub replies : Replies e agreed w (header_of header) payload (delivery_of e agreed (header_of header)) reply w'
   pub next_is : next ≡ Serving agreed
 
 -- the request by which the client ends the service: it has no reply
@@ -113,12 +119,31 @@ pub record IsUnanswered (es : List ExportRecord) (phase : Phase) (w w' : World) 
   pub consumed : Consumes old new message
   pub takes : TakesMessage es phase w message reply next w'
 
+-- a request that is answered piece by piece, whose reply was begun
+pub record BeginsRequest (e : ExportRecord) (agreed : Agreement) (w : World) (message : List ℕ) (w' : World) : Type 0 where
+  pub delivery : Delivery
+  pub size : length message ≡ 28
+  pub magic : number32 message 0 ≡ request_magic
+  pub asks : delivery_of e agreed (header_of message) ≡ Some delivery
+  pub begun : IsBegun e delivery w w'
+
+-- a message of the client whose reply was begun
+abbrev pub BeginsMessage : List ExportRecord → Phase → World → List ℕ → World → Type 0
+BeginsMessage es (Serving agreed) w message w' = BeginsRequest (export_at es agreed.place) agreed w message w'
+BeginsMessage es phase w message w' = ⊥
+
+-- such a message was taken, and the writer failed in its reply
+pub record IsInterrupted (es : List ExportRecord) (phase : Phase) (w w' : World) (old new : Option (List ℕ)) : Type 0 where
+  pub message : List ℕ
+  pub consumed : Consumes old new message
+  pub begins : BeginsMessage es phase w message w'
+
 -- how a message ends: it was taken, the input ended before it, the writer failed in its reply, or the service ends in it
 -- for its cause; then nothing happened
 abbrev pub Turns : List ExportRecord → Phase → World → World → Streams → Streams → Result (Option Phase) ServiceFault → Type 0
 Turns es phase w w' old new (Ok (Some next)) = Spoken old new (λ message reply. TakesMessage es phase w message reply next w')
 Turns es phase w w' old new (Ok None) = Spoken old new (λ taken written. (taken ≡ []) × (written ≡ []) × (w' ≡ w)) × IsAtEnd new.input
-Turns es phase w w' old new (Err WriteFault) = IsUnanswered es phase w w' old.input new.input
+Turns es phase w w' old new (Err WriteFault) = IsUnanswered es phase w w' old.input new.input ⊎ IsInterrupted es phase w w' old.input new.input
 Turns es phase w w' old new (Err fault) = Spoken old new (λ taken written. (written ≡ []) × (w' ≡ w) × Breaks es phase taken new.input fault)
 
 -- how the service ends after those messages: the client ended it or went away, or the fault has its cause in the rest
@@ -137,13 +162,17 @@ pub record IsHeld (es : List ExportRecord) (first last : World) (input : Option 
   pub written_is : written ≡ greeting ++ replies
   pub ends : EndsSo es phase rest input result
 
--- what was taken is whole messages, and these were done; their replies may not all be written
+-- What was taken is whole messages, and these were done; their replies may not all be written. Of the last message, if it
+-- is answered piece by piece, maybe only some pieces were read.
 pub record IsDone (es : List ExportRecord) (first last : World) (old new : Option (List ℕ)) : Type 0 where
   pub phase : Phase
   pub whole : List ℕ
   pub replies : List ℕ
-  pub consumed : Consumes old new whole
-  pub talk : Conversation es first phase last whole replies
+  pub mid : World
+  pub rest : List ℕ
+  pub consumed : Consumes old new (whole ++ rest)
+  pub talk : Conversation es first phase mid whole replies
+  pub ends : ((rest ≡ []) × (last ≡ mid)) ⊎ BeginsMessage es phase mid rest last
 
 -- What a service read and wrote, from the first world of its queue to the last.
 pub record IsService (es : List ExportRecord) (first last : World) (old new : Streams) (result : Result Unit ServiceFault) : Type 0 where

@@ -2,6 +2,7 @@
 #![tactic(auto)]
 
 mod byte_range;
+mod delivery;
 mod fetch;
 mod haggling;
 mod reply;

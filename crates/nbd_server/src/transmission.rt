@@ -11,6 +11,7 @@ ghost use Rattle.nbd_server.specs.Transmission.{Flushes, IsSendable, IsServed, R
 ghost use Rattle.nbd_protocol.specs.declared.phase.Phase.TheVariants.{Serving};
 
 use crate::byte_range::{read_bytes, touched, write_bytes, write_zeros};
+use crate::delivery::{Delivery, deliver};
 use crate::reply::{Data, say_reply};
 use crate::status::status_of;
 use block_device::{BlockDev, SyncDev};
@@ -215,6 +216,13 @@ pub(crate) fn take_request<D: SyncDev, R: Read, W: Write>(
     let header = Header::of(&bytes);
     if header.kind == DISCONNECT {
         return Ok(Some(Phase::Over));
+    }
+    match Delivery::of(export, agreed, header) {
+        Some(delivery) => {
+            deliver(alloc, queue, export, delivery, writer)?;
+            return Ok(Some(Phase::Serving { agreed }));
+        }
+        None => {}
     }
     let outcome = serve_request(alloc, queue, export, agreed, header, reader)?;
     say_reply(writer, agreed, header, outcome)?;

@@ -6,7 +6,7 @@ use Rattle.nbd_server.specs.Premises.{AreBytesOf}
 use Rattle.nbd_server.specs.Transmission.{ReadsBytes, data_of, room_behind}
 use Rattle.nbd_server.proofs.ByteLemmas.{ends-unread}
 use Rattle.nbd_server.proofs.FetchLemmas.{bytes-behind}
-use Rattle.nbd_server.proofs.ServiceLemmas.{read-config}
+use Rattle.nbd_server.proofs.DeliveryLemmas.{read-config}
 use Rattle.nbd_server.proofs.byte_range.read_ends.Goals as goal
 
 pub returns-in_err-behind-clause-err : goal.returns-in_err-behind-clause-err

@@ -1,4 +1,4 @@
-use Rattle.std.proofs.Common.{◌≡◌, ◌≢◌, Ok, Some, inl, ap, sym, ◌∙◌, subst, arith, length}
+use Rattle.std.proofs.Common.{◌≡◌, ◌≢◌, Ok, Some, None, inl, ap, sym, ◌∙◌, refl, subst, arith, length}
 use Rattle.std.proofs.lemmas.Result.{err_from_is_err_and}
 use Rattle.nbd_protocol.specs.declared.fault.ServiceFault.TheVariants as fault
 use Rattle.nbd_protocol.specs.declared.header.Header.{Header}
@@ -9,7 +9,7 @@ use Rattle.nbd_protocol.specs.Numbers.{number32}
 use Rattle.nbd_protocol.specs.Streaming.{Fills}
 use Rattle.nbd_server.specs.Transmission.{outcome_of}
 use Rattle.nbd_protocol.proofs.lemmas.CountedLemmas.{read-then, read-other, written-same, written-ok, written-failed, stops-reading}
-use Rattle.nbd_server.proofs.MessageLemmas.{header-cut, request-last, request-lost, request-served, request-unanswered, request-unlike}
+use Rattle.nbd_server.proofs.MessageLemmas.{header-cut, request-delivered, request-last, request-lost, request-served, request-stuck, request-unanswered, request-unlike}
 use Rattle.nbd_server.proofs.transmission.take_request.Goals as goal
 
 -- ---- the header
@@ -85,6 +85,54 @@ returns-in_err-outcome-clause-writer g c =
     let x = c.in_err-outcome.field-0.0 in
     rw (p.1, p.2) (written-same c.args.writer.now (Some x) (stops-reading (g.R.Read.remaining c.serve_request.new.reader.inner) x c.in_err-outcome.ensures.err.0.cause))
 
+-- ---- a READ that is answered piece by piece
+
+pub deliver-requires : goal.deliver-requires
+deliver-requires g c = record { export = c.requires; within = c.in-Some.ensures.within }
+
+pub returns-in_err-deliver-in-Some-clause-turn : goal.returns-in_err-deliver-in-Some-clause-turn
+returns-in_err-deliver-in-Some-clause-turn g c = λ es at.
+    let input = g.R.Read.remaining c.args.reader.now.inner in
+    let mid = g.R.Read.remaining c.fill.new.reader.inner in
+    let bytes = c.fill.new.buffer in
+    let first = subst (λ b. Fills input mid bytes (Ok b)) c.if-not-branch.false c.in_ok-fill.ensures.filled in
+    let size : length bytes ≡ 28 = omega (arith, c.fill.auto.buffer) in
+    let magic : number32 bytes 0 ≡ request_magic = omega (arith, c.number32.ensures, c.if-number32-ne-MAGIC.false) in
+    let other : (header_of bytes).kind ≢ 2 = λ is. c.if-header-eq-DISCONNECT.false (ap (λ (h : Header). h.kind) c.of-header.ensures ∙ is) in
+    let found = rw c.of-header.ensures at (sym c.of.ensures.value ∙ c.in-Some.is) in
+    let p = err_from_is_err_and c.from_residual-in_err-deliver-in-Some.result c.from_residual-in_err-deliver-in-Some.ensures.1 in
+    rw (p.1, p.2) (request-stuck es c.args.agreed (export_record c.args.export.now) at c.args.queue.now c.deliver.new.queue input mid mid bytes first size magic other
+    (g.W.Write.contents c.args.writer.now.inner) (g.W.Write.contents c.deliver.new.writer.inner) c.in-Some.delivery found refl c.in_err-deliver-in-Some.ensures.stuck)
+
+pub returns-in_err-deliver-in-Some-clause-reader : goal.returns-in_err-deliver-in-Some-clause-reader
+returns-in_err-deliver-in-Some-clause-reader g c =
+    let p = err_from_is_err_and c.from_residual-in_err-deliver-in-Some.result c.from_residual-in_err-deliver-in-Some.ensures.1 in
+    rw (p.1, p.2) (read-other fault.WriteFault c.in_ok-fill.ensures.reader (λ is. (cc)))
+
+pub returns-in_err-deliver-in-Some-clause-writer : goal.returns-in_err-deliver-in-Some-clause-writer
+returns-in_err-deliver-in-Some-clause-writer g c =
+    let p = err_from_is_err_and c.from_residual-in_err-deliver-in-Some.result c.from_residual-in_err-deliver-in-Some.ensures.1 in
+    rw (p.1, p.2) (written-failed c.in_err-deliver-in-Some.ensures.reply.failed)
+
+pub returns-in-Some-clause-turn : goal.returns-in-Some-clause-turn
+returns-in-Some-clause-turn g c = λ es at.
+    let input = g.R.Read.remaining c.args.reader.now.inner in
+    let mid = g.R.Read.remaining c.fill.new.reader.inner in
+    let bytes = c.fill.new.buffer in
+    let first = subst (λ b. Fills input mid bytes (Ok b)) c.if-not-branch.false c.in_ok-fill.ensures.filled in
+    let size : length bytes ≡ 28 = omega (arith, c.fill.auto.buffer) in
+    let magic : number32 bytes 0 ≡ request_magic = omega (arith, c.number32.ensures, c.if-number32-ne-MAGIC.false) in
+    let other : (header_of bytes).kind ≢ 2 = λ is. c.if-header-eq-DISCONNECT.false (ap (λ (h : Header). h.kind) c.of-header.ensures ∙ is) in
+    let found = rw c.of-header.ensures at (sym c.of.ensures.value ∙ c.in-Some.is) in
+    request-delivered es c.args.agreed (export_record c.args.export.now) at c.args.queue.now c.deliver.new.queue input mid mid bytes first size magic other
+    (g.W.Write.contents c.args.writer.now.inner) (g.W.Write.contents c.deliver.new.writer.inner) c.in-Some.delivery found refl c.in_ok-deliver-in-Some.ensures.reply.ok
+
+pub returns-in-Some-clause-reader : goal.returns-in-Some-clause-reader
+returns-in-Some-clause-reader g c = c.in_ok-fill.ensures.reader
+
+pub returns-in-Some-clause-writer : goal.returns-in-Some-clause-writer
+returns-in-Some-clause-writer g c = written-ok c.in_ok-deliver-in-Some.ensures.reply.kept
+
 -- ---- the reply
 
 pub returns-in_err-say_reply-clause-turn : goal.returns-in_err-say_reply-clause-turn
@@ -97,9 +145,10 @@ returns-in_err-say_reply-clause-turn g c = λ es at.
     let size : length bytes ≡ 28 = omega (arith, c.fill.auto.buffer) in
     let magic : number32 bytes 0 ≡ request_magic = omega (arith, c.number32.ensures, c.if-number32-ne-MAGIC.false) in
     let other : (header_of bytes).kind ≢ 2 = λ is. c.if-header-eq-DISCONNECT.false (ap (λ (h : Header). h.kind) c.of-header.ensures ∙ is) in
+    let none = rw c.of-header.ensures at (sym c.of.ensures.value ∙ c.in-None.is) in
     let p = err_from_is_err_and c.from_residual-in_err-say_reply.result c.from_residual-in_err-say_reply.ensures.1 in
     rw (p.1, p.2) (request-unanswered es c.args.agreed (export_record c.args.export.now) at c.args.queue.now c.serve_request.new.queue input mid input' bytes first size magic
-    (g.W.Write.contents c.args.writer.now.inner) (g.W.Write.contents c.say_reply.new.writer.inner) (outcome_of c.in_ok-outcome.outcome) other
+    other (g.W.Write.contents c.args.writer.now.inner) (g.W.Write.contents c.say_reply.new.writer.inner) (outcome_of c.in_ok-outcome.outcome) none
     (let p = rw c.of-header.ensures at c.in_ok-outcome.ensures.ok in (p.payload, p.size, p.consumed, p.serves)))
 
 pub returns-in_err-say_reply-clause-reader : goal.returns-in_err-say_reply-clause-reader
@@ -122,8 +171,9 @@ returns-clause-turn g c = λ es at.
     let size : length bytes ≡ 28 = omega (arith, c.fill.auto.buffer) in
     let magic : number32 bytes 0 ≡ request_magic = omega (arith, c.number32.ensures, c.if-number32-ne-MAGIC.false) in
     let other : (header_of bytes).kind ≢ 2 = λ is. c.if-header-eq-DISCONNECT.false (ap (λ (h : Header). h.kind) c.of-header.ensures ∙ is) in
+    let none = rw c.of-header.ensures at (sym c.of.ensures.value ∙ c.in-None.is) in
     request-served es c.args.agreed (export_record c.args.export.now) at c.args.queue.now c.serve_request.new.queue input mid input' bytes first size magic
-    (g.W.Write.contents c.args.writer.now.inner) (g.W.Write.contents c.say_reply.new.writer.inner) (outcome_of c.in_ok-outcome.outcome) other
+    other (g.W.Write.contents c.args.writer.now.inner) (g.W.Write.contents c.say_reply.new.writer.inner) (outcome_of c.in_ok-outcome.outcome) none
     (let p = rw c.of-header.ensures at c.in_ok-outcome.ensures.ok in (p.payload, p.size, p.consumed, p.serves)) (rw c.of-header.ensures at c.in_ok-say_reply.ensures.ok)
 
 pub returns-clause-reader : goal.returns-clause-reader

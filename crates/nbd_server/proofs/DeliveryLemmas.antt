@@ -1,0 +1,203 @@
+-- A READ that is answered piece by piece.
+use Rattle.std.proofs.Common.{◌≡◌, ◌<◌, ◌≤◌, ℕ, ◌+◌, ◌-◌, ◌*◌, ◌/◌, ◌%◌, ◌^◌, List, [], ◌++◌, length, refl, ap, sym, ◌∙◌, subst, arith, inl, inr, Option, Some, None, Result, Ok, Err}
+use Rattle.std.specs.Prelude.{◌⊎◌, ◌==◌, ◌||◌, ◌&&◌, Bool, true, false, not, nat_lt, if◌then◌else◌}
+use Rattle.std.specs.Io.KnownBytes.{Appends, Keeps}
+use Rattle.std.proofs.KnownBytes.{Appends-kept, Appends-nil, Appends-trans}
+use Rattle.std.proofs.lemmas.Bool.{cases_lt}
+use Rattle.counted_io.specs.Counted.{CountedRecord, Grows, Writes, Writing}
+use Rattle.counted_io.specs.declared.fault.WriteFault.{WriteFault}
+use Rattle.request_queue.specs.Parts.{EachPart}
+use Rattle.request_queue.specs.Runs.{IsLed}
+use Rattle.request_queue.specs.World.{World}
+use Rattle.request_queue.proofs.lemmas.LedLemmas.{led-none, led-then}
+use Rattle.nbd_protocol.specs.Exports.{ExportRecord}
+use Rattle.nbd_protocol.specs.declared.request_error.RequestError.{RequestError}
+use Rattle.nbd_server.specs.Replies.{RequestOutcome}
+use Rattle.nbd_server.specs.Sectors.{FailsToFetch, EndsIn, HasNoBuffer}
+use Rattle.nbd_server.specs.Status.{touched}
+use Rattle.nbd_server.specs.Transmission.{ReadsBytes}
+use Rattle.nbd_server.specs.Premises.{AreBytesOf, IsRest}
+use Rattle.nbd_chunks.specs.Chunks.{data_chunk, error_at_chunk}
+use Rattle.stack_rules.specs.Records.{Configuration}
+use Rattle.nbd_server.specs.Delivery.{AnswersPiece, Delivers, delivers_none, delivers_more, DeliversAll, DeliversPart, GoesOn, IsBegun, IsDelivered, IsLost, IsPiece, IsPutOff, IsSent, IsStuck, ReadsPiece, at_first}
+use Rattle.nbd_server.specs.declared.delivery.Delivery.{Delivery}
+use Rattle.nbd_server.specs.declared.delivery.Progress.{Progress}
+
+-- ---- one read
+
+pub read-led : (e : ExportRecord) (w : World) (offset length : ℕ) (outcome : RequestOutcome) (w' : World) → ReadsBytes e w offset length outcome w' → IsLed EachPart w w'
+read-led e w offset length (Ok content) w' p = p.1.led
+read-led e w offset length (Err error) w' p = p.led
+
+fails-config : (w : World) (d first count : ℕ) (error : RequestError) (w' : World) → EndsIn w d first count error w' ⊎ HasNoBuffer w error w' → w'.stack.config ≡ w.stack.config
+fails-config w d first count error w' (inl x) = x.read.config
+fails-config w d first count error w' (inr x) = ap (λ (v : World). v.stack.config) x.1
+
+pub fetch-config : (w : World) (d first count : ℕ) (error : RequestError) (w' : World) → FailsToFetch w d first count error w' → w'.stack.config ≡ w.stack.config
+fetch-config w d first count error w' p = fails-config w d first count error w' p.cause
+
+pub read-config : (e : ExportRecord) (w : World) (offset length : ℕ) (outcome : RequestOutcome) (w' : World) → ReadsBytes e w offset length outcome w' → w'.stack.config ≡ w.stack.config
+read-config e w offset length (Ok content) w' p = p.1.read.config
+read-config e w offset length (Err error) w' p = fetch-config w e.device (offset / 512) (touched offset length) error w' p
+
+-- ---- pieces
+
+-- sectors that are read one by one aren't put off again
+put_off-behind : (done slow sectors : ℕ) → 1 < sectors → (done < slow → sectors ≡ 1) → slow ≤ done
+put_off-behind done slow sectors several single = elim (cases_lt done slow) [ inl below ↦ absurd (omega (arith, several, single below)) | inr behind ↦ behind ]
+
+module _ (e : ExportRecord) (d : Delivery) where
+  goes-led : (p : Progress) (w : World) (chunk : List ℕ) (next : Progress) (w' : World) → GoesOn e d p w chunk next w' → IsLed EachPart w w'
+  goes-led p w chunk next w' (inl s) = read-led e w (d.offset + p.done) s.size (Ok s.content) w' s.reads
+  goes-led p w chunk next w' (inr s) = read-led e w (d.offset + p.done) s.size (Err s.error) w' s.reads
+
+  pub goes-config : (p : Progress) (w : World) (chunk : List ℕ) (next : Progress) (w' : World) → GoesOn e d p w chunk next w' → w'.stack.config ≡ w.stack.config
+  goes-config p w chunk next w' (inl s) = read-config e w (d.offset + p.done) s.size (Ok s.content) w' s.reads
+  goes-config p w chunk next w' (inr s) = read-config e w (d.offset + p.done) s.size (Err s.error) w' s.reads
+
+  lost-led : (p : Progress) (w : World) (chunk : List ℕ) (w' : World) → IsLost e d p w chunk w' → IsLed EachPart w w'
+  lost-led p w chunk w' s = read-led e w (d.offset + p.done) s.size (Err s.error) w' s.reads
+
+  lost-config : (p : Progress) (w : World) (chunk : List ℕ) (w' : World) → IsLost e d p w chunk w' → w'.stack.config ≡ w.stack.config
+  lost-config p w chunk w' s = read-config e w (d.offset + p.done) s.size (Err s.error) w' s.reads
+
+  -- a piece is behind the one before it, and done or put off once
+  pub goes-inside : (p : Progress) (w : World) (chunk : List ℕ) (next : Progress) (w' : World) → GoesOn e d p w chunk next w' → next.done ≤ d.count
+  goes-inside p w chunk next w' (inl s) = subst (λ (n : Progress). n.done ≤ d.count) (sym s.next_is) s.piece.inside
+  goes-inside p w chunk next w' (inr s) = subst (λ (n : Progress). n.done ≤ d.count) (sym s.next_is) (omega (arith, s.piece.inside))
+
+  pub goes-smaller : (p : Progress) (w : World) (chunk : List ℕ) (next : Progress) (w' : World) → GoesOn e d p w chunk next w'
+      → 2 * (d.count - next.done) + (1 - (next.slow - next.done)) < 2 * (d.count - p.done) + (1 - (p.slow - p.done))
+  goes-smaller p w chunk next w' (inl s) =
+      subst (λ (n : Progress). 2 * (d.count - n.done) + (1 - (n.slow - n.done)) < 2 * (d.count - p.done) + (1 - (p.slow - p.done))) (sym s.next_is) (omega (arith, s.piece.inside, s.piece.some))
+  goes-smaller p w chunk next w' (inr s) =
+      subst (λ (n : Progress). 2 * (d.count - n.done) + (1 - (n.slow - n.done)) < 2 * (d.count - p.done) + (1 - (p.slow - p.done))) (sym s.next_is) (omega (arith, s.piece.some, put_off-behind p.done p.slow (touched (d.offset + p.done) s.size) s.several s.piece.single))
+
+-- ---- what comes of a piece
+
+-- bytes up to the end of a sector lie in it
+pub single-touched : (at place size room : ℕ) → at ≡ place → 0 < size → size ≤ room → at % 512 + room ≤ 512 → touched place size ≡ 1
+single-touched at place size room is some few within = omega (arith, is, some, few, within)
+
+-- what is left of it has small places
+pub rest-left : (c : Configuration) (e : ExportRecord) (d : Delivery) (p : Progress) → AreBytesOf c e d.offset d.count → p.done ≤ d.count → IsRest d p
+rest-left c e d p bytes inside = record { inside = inside; small = omega (arith, bytes.within, bytes.export.fits) }
+
+module _ (e : ExportRecord) (d : Delivery) (p : Progress) (w w' : World) (size at : ℕ) (place : at ≡ d.offset + p.done) (piece : IsPiece d p size) where
+  pub piece-bytes : (c : Configuration) → AreBytesOf c e d.offset d.count → AreBytesOf c e at size
+  piece-bytes c bytes = record { export = bytes.export; within = omega (arith, bytes.within, piece.inside, place) }
+
+  module _ (old new : Option (List ℕ)) where
+    sent-goes : (n : ℕ) → n ≡ size → (content : List ℕ) → ReadsBytes e w at size (Ok content) w'
+        → GoesOn e d p w (data_chunk (p.done + n == d.count) d.cookie (d.offset + p.done) content) (record { done = p.done + size; slow = p.slow }) w'
+    sent-goes n is content reads = inl (record {
+      size = size;
+      content = content;
+      piece = piece;
+      reads = subst (λ (k : ℕ). ReadsBytes e w k size (Ok content) w') place reads;
+      chunk_is = ap (λ (k : ℕ). data_chunk (p.done + k == d.count) d.cookie (d.offset + p.done) content) is;
+      next_is = refl;
+    })
+
+    -- it was read
+    pub piece-sent : (n : ℕ) → n ≡ size → (content : List ℕ) → ReadsBytes e w at size (Ok content) w' → Appends old new (data_chunk (p.done + n == d.count) d.cookie (d.offset + p.done) content)
+        → AnswersPiece e d p w w' old new (Some (record { done = p.done + size; slow = p.slow }))
+    piece-sent n is content reads a = (data_chunk (p.done + n == d.count) d.cookie (d.offset + p.done) content, sent-goes n is content reads, a)
+
+    -- it wasn't, and lies in several sectors
+    pub piece-put_off : (error : RequestError) → ReadsBytes e w at size (Err error) w' → 1 < touched at size → new ≡ old → AnswersPiece e d p w w' old new (Some (record { done = p.done; slow = p.done + size }))
+    piece-put_off error reads several same = (
+      [],
+      inr (record {
+        size = size;
+        error = error;
+        piece = piece;
+        several = subst (λ (k : ℕ). 1 < touched k size) place several;
+        reads = subst (λ (k : ℕ). ReadsBytes e w k size (Err error) w') place reads;
+        silent = refl;
+        next_is = refl;
+      }),
+      subst (λ (o : Option (List ℕ)). Appends old o []) (sym same) (Appends-nil old),
+    )
+
+    -- it wasn't, and lies in one
+    pub piece-lost : (error : RequestError) → ReadsBytes e w at size (Err error) w' → touched at size ≤ 1 → IsLost e d p w (error_at_chunk d.cookie at error) w'
+    piece-lost error reads few = record {
+      size = size;
+      error = error;
+      piece = piece;
+      one = omega (arith, few, piece.some, place);
+      reads = subst (λ (k : ℕ). ReadsBytes e w k size (Err error) w') place reads;
+      chunk_is = ap (λ (k : ℕ). error_at_chunk d.cookie k error) place;
+    }
+
+    -- the writer failed
+    pub sent-stuck : (content : List ℕ) → ReadsBytes e w at size (Ok content) w' → ReadsPiece e d p w w'
+    sent-stuck content reads = inl (data_chunk (p.done + size == d.count) d.cookie (d.offset + p.done) content, record { done = p.done + size; slow = p.slow }, sent-goes size refl content reads)
+
+    pub lost-stuck : (error : RequestError) → ReadsBytes e w at size (Err error) w' → touched at size ≤ 1 → ReadsPiece e d p w w'
+    lost-stuck error reads few = inr (error_at_chunk d.cookie at error, piece-lost error reads few)
+
+-- ---- replies
+
+pub pieces-led : {e : ExportRecord} {d : Delivery} {first w : World} {p : Progress} {written : List ℕ} → Delivers e d first p w written → IsLed EachPart first w
+pieces-led {first = first} delivers_none = led-none EachPart first
+pieces-led {e = e} {d = d} {first = first} (delivers_more {p = p} {next = next} {w = w} {w' = w'} chunk before piece) = led-then EachPart first w w' (pieces-led before) (goes-led e d p w chunk next w' piece)
+
+pieces-config : {e : ExportRecord} {d : Delivery} {first w : World} {p : Progress} {written : List ℕ} → Delivers e d first p w written → w.stack.config ≡ first.stack.config
+pieces-config delivers_none = refl
+pieces-config {e = e} {d = d} (delivers_more {p = p} {next = next} {w = w} {w' = w'} chunk before piece) = goes-config e d p w chunk next w' piece ∙ pieces-config before
+
+pub delivered-led : (e : ExportRecord) (d : Delivery) (w : World) (reply : List ℕ) (w' : World) → IsDelivered e d w reply w' → IsLed EachPart w w'
+delivered-led e d w reply w' (inl x) = pieces-led x.pieces
+delivered-led e d w reply w' (inr x) = led-then EachPart w x.mid w' (pieces-led x.pieces) (lost-led e d x.last x.mid x.chunk w' x.lost)
+
+pub delivered-config : (e : ExportRecord) (d : Delivery) (w : World) (reply : List ℕ) (w' : World) → IsDelivered e d w reply w' → w'.stack.config ≡ w.stack.config
+delivered-config e d w reply w' (inl x) = pieces-config x.pieces
+delivered-config e d w reply w' (inr x) = lost-config e d x.last x.mid x.chunk w' x.lost ∙ pieces-config x.pieces
+
+-- ---- the loop
+
+-- pieces were answered, and nothing failed
+pub record IsUnderway (e : ExportRecord) (d : Delivery) (first : World) (p : Progress) (w : World) (old new : Option (List ℕ)) : Type 0 where
+  pub written : List ℕ
+  pub pieces : Delivers e d first p w written
+  pub appended : Appends old new written
+  pub inside : p.done ≤ d.count
+  pub bytes : AreBytesOf w.stack.config e d.offset d.count
+
+pub underway-none : (e : ExportRecord) (d : Delivery) (w : World) (old : Option (List ℕ)) → AreBytesOf w.stack.config e d.offset d.count → IsUnderway e d w at_first w old old
+underway-none e d w old bytes = record { written = []; pieces = delivers_none; appended = Appends-nil old; inside = omega arith; bytes = bytes }
+
+module _ (e : ExportRecord) (d : Delivery) (first : World) (p : Progress) (w w' : World) (old mid new : Option (List ℕ)) (u : IsUnderway e d first p w old mid) where
+  pub underway-more : (next : Progress) → AnswersPiece e d p w w' mid new (Some next) → IsUnderway e d first next w' old new
+  underway-more next a = record {
+    written = u.written ++ a.0;
+    pieces = delivers_more a.0 u.pieces a.1;
+    appended = Appends-trans old mid new u.written a.0 u.appended a.2;
+    inside = goes-inside e d p w a.0 next w' a.1;
+    bytes = subst (λ c. AreBytesOf c e d.offset d.count) (sym (goes-config e d p w a.0 next w' a.1)) u.bytes;
+  }
+
+  -- a sector is lost
+  lost-part : (chunk : List ℕ) → IsLost e d p w chunk w' → DeliversPart e d first (u.written ++ chunk) w'
+  lost-part chunk lost = record { last = p; mid = w; written = u.written; chunk = chunk; pieces = u.pieces; lost = lost; reply_is = refl }
+
+  pub underway-lost : AnswersPiece e d p w w' mid new None → Grows old new (λ reply. IsDelivered e d first reply w')
+  underway-lost a = record { text = u.written ++ a.0; holds = inr (lost-part a.0 a.1); written = Appends-trans old mid new u.written a.0 u.appended a.2 }
+
+  -- the writer failed
+  pub underway-stuck : ReadsPiece e d p w w' → IsStuck e d first w'
+  underway-stuck (inl r) = inl (record { last = r.1; written = u.written ++ r.0; pieces = delivers_more r.0 u.pieces r.2 })
+  underway-stuck (inr r) = inr (u.written ++ r.0, inr (lost-part r.0 r.1))
+
+pub underway-all : (e : ExportRecord) (d : Delivery) (first : World) (p : Progress) (w : World) (old new : Option (List ℕ)) → IsUnderway e d first p w old new → d.count ≤ p.done
+    → Grows old new (λ reply. IsDelivered e d first reply w)
+underway-all e d first p w old new u all = record { text = u.written; holds = inl (record { last = p; pieces = u.pieces; all = omega (arith, u.inside, all) }); written = u.appended }
+
+-- ---- a chunk that is handed on
+
+pub then-flushed : {T : Type 0} (contents : T → Option (List ℕ)) (old mid new : CountedRecord T) (text : List ℕ) (result : Result Unit WriteFault) → Appends (contents old.inner) (contents mid.inner) text → mid.failed ≡ old.failed
+    → Writing mid new result (Keeps (contents mid.inner) (contents new.inner) × (new.pending ≡ false)) → Writes contents old new text result
+then-flushed contents old mid new text (Ok done) a k p = record { ok = Appends-kept (contents old.inner) (contents mid.inner) (contents new.inner) text a p.ok.0; kept = p.kept ∙ k; failed = tt }
+then-flushed contents old mid new text (Err fault) a k p = record { ok = tt; kept = tt; failed = p.failed }

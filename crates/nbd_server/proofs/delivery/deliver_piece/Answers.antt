@@ -1,0 +1,92 @@
+use Rattle.std.proofs.Common.{◌≡◌, ◌<◌, ◌≤◌, ℕ, ◌+◌, arith, refl, subst, sym}
+use Rattle.std.proofs.lemmas.Result.{err_from_is_err_and}
+use Rattle.nbd_protocol.specs.Exports.{export_record}
+use Rattle.nbd_chunks.specs.Chunks.{error_at_chunk}
+use Rattle.nbd_server.specs.Delivery.{IsPiece}
+use Rattle.nbd_server.specs.Status.{touched}
+use Rattle.nbd_server.specs.Transmission.{data_of}
+use Rattle.nbd_server.proofs.DeliveryLemmas.{lost-stuck, piece-bytes, piece-lost, piece-put_off, piece-sent, rest-left, sent-stuck}
+use Rattle.nbd_server.proofs.delivery.deliver_piece.Goals as goal
+
+pub piece_len-size-requires-clause-rest : goal.piece_len-size-requires-clause-rest
+piece_len-size-requires-clause-rest g c = rest-left c.args.queue.now.stack.config (export_record c.args.export.now) c.args.delivery c.args.progress c.requires.bytes (omega (arith, c.requires.some))
+
+pub at-at-requires : goal.at-at-requires
+at-at-requires g c = rest-left c.args.queue.now.stack.config (export_record c.args.export.now) c.args.delivery c.args.progress c.requires.bytes (omega (arith, c.requires.some))
+
+pub read_bytes-requires : goal.read_bytes-requires
+read_bytes-requires g c =
+    let w = c.args.queue.now in
+    piece-bytes (export_record c.args.export.now) c.args.delivery c.args.progress w w c.piece_len-size.result c.at-at.result c.at-at.ensures c.piece_len-size.ensures w.stack.config c.requires.bytes
+
+-- ---- it was read
+
+pub say_piece-requires : goal.say_piece-requires
+say_piece-requires g c =
+    let d = c.args.delivery in
+    let p = c.args.progress in
+    record {
+      rest = rest-left c.args.queue.now.stack.config (export_record c.args.export.now) d p c.requires.bytes (omega (arith, c.requires.some));
+      piece = subst (λ (n : ℕ). IsPiece d p n) (sym c.in-Ok.ensures.size) c.piece_len-size.ensures;
+      inside = c.in-Ok.ensures.inside;
+    }
+
+pub returns-in_err-say_piece-in-Ok-clause-err : goal.returns-in_err-say_piece-in-Ok-clause-err
+returns-in_err-say_piece-in-Ok-clause-err g c =
+    let old = g.W.Write.contents c.args.writer.now.inner in
+    let new = g.W.Write.contents c.say_piece.new.writer.inner in
+    let p = err_from_is_err_and c.from_residual.result c.from_residual.ensures.1 in
+    rw p.1 (sent-stuck (export_record c.args.export.now) c.args.delivery c.args.progress c.args.queue.now c.read_bytes.new.queue c.piece_len-size.result c.at-at.result c.at-at.ensures c.piece_len-size.ensures old new
+    (data_of c.in-Ok.data) c.in-Ok.ensures.value)
+
+pub returns-in_err-say_piece-in-Ok-clause-failed : goal.returns-in_err-say_piece-in-Ok-clause-failed
+returns-in_err-say_piece-in-Ok-clause-failed g c =
+    let p = err_from_is_err_and c.from_residual.result c.from_residual.ensures.1 in
+    rw p.1 c.in_err-say_piece-in-Ok.ensures.failed
+
+pub returns-in_ok-say_piece-in-Ok-clause-ok : goal.returns-in_ok-say_piece-in-Ok-clause-ok
+returns-in_ok-say_piece-in-Ok-clause-ok g c =
+    let old = g.W.Write.contents c.args.writer.now.inner in
+    let new = g.W.Write.contents c.say_piece.new.writer.inner in
+    piece-sent (export_record c.args.export.now) c.args.delivery c.args.progress c.args.queue.now c.read_bytes.new.queue c.piece_len-size.result c.at-at.result c.at-at.ensures c.piece_len-size.ensures old new
+    c.in-Ok.data.length c.in-Ok.ensures.size (data_of c.in-Ok.data) c.in-Ok.ensures.value c.in_ok-say_piece-in-Ok.ensures.ok
+
+pub returns-in_ok-say_piece-in-Ok-clause-kept : goal.returns-in_ok-say_piece-in-Ok-clause-kept
+returns-in_ok-say_piece-in-Ok-clause-kept g c = c.in_ok-say_piece-in-Ok.ensures.kept
+
+-- ---- it wasn't
+
+pub returns-then-touched-gt1-clause-ok : goal.returns-then-touched-gt1-clause-ok
+returns-then-touched-gt1-clause-ok g c =
+    let old = g.W.Write.contents c.args.writer.now.inner in
+    let at = c.at-at.result in
+    let size = c.piece_len-size.result in
+    let several : 1 < touched at size = omega (arith, c.touched.ensures, c.if-touched-gt1.true) in
+    piece-put_off (export_record c.args.export.now) c.args.delivery c.args.progress c.args.queue.now c.read_bytes.new.queue size at c.at-at.ensures c.piece_len-size.ensures old old c.in-Err.error c.in-Err.ensures.value several refl
+
+pub returns-in_err-say_error_at-in-Err-clause-err : goal.returns-in_err-say_error_at-in-Err-clause-err
+returns-in_err-say_error_at-in-Err-clause-err g c =
+    let old = g.W.Write.contents c.args.writer.now.inner in
+    let new = g.W.Write.contents c.say_error_at.new.writer.inner in
+    let at = c.at-at.result in
+    let size = c.piece_len-size.result in
+    let few : touched at size ≤ 1 = omega (arith, c.touched.ensures, c.if-touched-gt1.false) in
+    let p = err_from_is_err_and c.from_residual-in_err-say_error_at-in-Err.result c.from_residual-in_err-say_error_at-in-Err.ensures.1 in
+    rw p.1 (lost-stuck (export_record c.args.export.now) c.args.delivery c.args.progress c.args.queue.now c.read_bytes.new.queue size at c.at-at.ensures c.piece_len-size.ensures old new c.in-Err.error c.in-Err.ensures.value few)
+
+pub returns-in_err-say_error_at-in-Err-clause-failed : goal.returns-in_err-say_error_at-in-Err-clause-failed
+returns-in_err-say_error_at-in-Err-clause-failed g c =
+    let p = err_from_is_err_and c.from_residual-in_err-say_error_at-in-Err.result c.from_residual-in_err-say_error_at-in-Err.ensures.1 in
+    rw p.1 c.in_err-say_error_at-in-Err.ensures.failed
+
+pub returns-in_ok-say_error_at-in-Err-clause-ok : goal.returns-in_ok-say_error_at-in-Err-clause-ok
+returns-in_ok-say_error_at-in-Err-clause-ok g c =
+    let old = g.W.Write.contents c.args.writer.now.inner in
+    let new = g.W.Write.contents c.say_error_at.new.writer.inner in
+    let at = c.at-at.result in
+    let size = c.piece_len-size.result in
+    let few : touched at size ≤ 1 = omega (arith, c.touched.ensures, c.if-touched-gt1.false) in
+    (error_at_chunk c.args.delivery.cookie at c.in-Err.error, piece-lost (export_record c.args.export.now) c.args.delivery c.args.progress c.args.queue.now c.read_bytes.new.queue size at c.at-at.ensures c.piece_len-size.ensures old new c.in-Err.error c.in-Err.ensures.value few, c.in_ok-say_error_at-in-Err.ensures.ok)
+
+pub returns-in_ok-say_error_at-in-Err-clause-kept : goal.returns-in_ok-say_error_at-in-Err-clause-kept
+returns-in_ok-say_error_at-in-Err-clause-kept g c = c.in_ok-say_error_at-in-Err.ensures.kept

@@ -1,0 +1,129 @@
+-- A READ that is answered piece by piece, each by a chunk as soon as it is read (in the protocol's document "Structured
+-- reply types": OFFSET_DATA and ERROR_OFFSET).
+use Rattle.std.specs.Prelude.{◌≡◌, ◌⊎◌, ◌<◌, ◌≤◌, ℕ, ◌+◌, ◌/◌, ◌%◌, ◌==◌, ◌&&◌, Bool, not, nat_lt, List, [], ◌++◌, Option, Some, None, Result, Ok, Err, if◌then◌else◌}
+use Rattle.std.specs.Io.KnownBytes.{Appends}
+use Rattle.request_queue.specs.World.{World}
+use Rattle.nbd_protocol.specs.Exports.{ExportRecord}
+use Rattle.nbd_protocol.specs.Headers.{command_of, is_chunked}
+use Rattle.nbd_protocol.specs.declared.header.Command.{Command}
+use Rattle.nbd_protocol.specs.declared.header.Command.TheVariants.{Read}
+use Rattle.nbd_protocol.specs.declared.header.Header.{Header}
+use Rattle.nbd_protocol.specs.declared.phase.Agreement.{Agreement}
+use Rattle.nbd_protocol.specs.declared.request_error.RequestError.{RequestError}
+use Rattle.nbd_chunks.specs.Chunks.{data_chunk, error_at_chunk}
+use Rattle.nbd_server.specs.Status.{touched}
+use Rattle.nbd_server.specs.Transmission.{ReadsBytes}
+use Rattle.nbd_server.specs.declared.delivery.Delivery.{Delivery}
+use Rattle.nbd_server.specs.declared.delivery.Progress.{Progress}
+
+-- ---- which requests
+
+-- its flag DF: the bytes are to come in one chunk
+abbrev pub has_df : Header → Bool
+has_df h = h.flags / 4 % 2 == 1
+
+abbrev pub delivery : ℕ → ℕ → ℕ → Delivery
+delivery cookie offset count = record { cookie = cookie; offset = offset; count = count }
+
+-- the bytes of a READ that has some
+abbrev pub bytes_asked : ℕ → Result Command RequestError → Option Delivery
+bytes_asked cookie (Ok (Read offset count)) = if nat_lt 0 count then Some (delivery cookie offset count) else None
+bytes_asked cookie other = None
+
+-- What is answered piece by piece: a READ of some bytes that the export has, where chunks were agreed on, without DF.
+abbrev pub delivery_of : ExportRecord → Agreement → Header → Option Delivery
+delivery_of e a h = if is_chunked a h && not (has_df h) then bytes_asked h.cookie (command_of e a h) else None
+
+-- ---- one piece
+
+-- the most bytes of a piece: 256 KiB
+abbrev pub most_piece : ℕ
+most_piece = 262144
+
+-- some of the bytes, behind those that are done; before `slow` they lie in one sector
+pub record IsPiece (d : Delivery) (p : Progress) (size : ℕ) : Type 0 where
+  pub some : 0 < size
+  pub few : size ≤ most_piece
+  pub inside : p.done + size ≤ d.count
+  pub single : p.done < p.slow → touched (d.offset + p.done) size ≡ 1
+
+-- they were read, and are a chunk, which says whether it is the last
+pub record IsSent (e : ExportRecord) (d : Delivery) (p : Progress) (w : World) (chunk : List ℕ) (next : Progress) (w' : World) : Type 0 where
+  pub size : ℕ
+  pub content : List ℕ
+  pub piece : IsPiece d p size
+  pub reads : ReadsBytes e w (d.offset + p.done) size (Ok content) w'
+  pub chunk_is : chunk ≡ data_chunk (p.done + size == d.count) d.cookie (d.offset + p.done) content
+  pub next_is : next ≡ record { done = p.done + size; slow = p.slow }
+
+-- They lie in several sectors and couldn't be read: nothing is said of them, and they are read again sector by sector.
+pub record IsPutOff (e : ExportRecord) (d : Delivery) (p : Progress) (w : World) (chunk : List ℕ) (next : Progress) (w' : World) : Type 0 where
+  pub size : ℕ
+  pub error : RequestError
+  pub piece : IsPiece d p size
+  pub several : 1 < touched (d.offset + p.done) size
+  pub reads : ReadsBytes e w (d.offset + p.done) size (Err error) w'
+  pub silent : chunk ≡ []
+  pub next_is : next ≡ record { done = p.done; slow = p.done + size }
+
+-- They lie in one sector that couldn't be read: the last chunk says so, and where they begin.
+pub record IsLost (e : ExportRecord) (d : Delivery) (p : Progress) (w : World) (chunk : List ℕ) (w' : World) : Type 0 where
+  pub size : ℕ
+  pub error : RequestError
+  pub piece : IsPiece d p size
+  pub one : touched (d.offset + p.done) size ≡ 1
+  pub reads : ReadsBytes e w (d.offset + p.done) size (Err error) w'
+  pub chunk_is : chunk ≡ error_at_chunk d.cookie (d.offset + p.done) error
+
+-- a piece behind which the reply goes on
+abbrev pub GoesOn : ExportRecord → Delivery → Progress → World → List ℕ → Progress → World → Type 0
+GoesOn e d p w chunk next w' = IsSent e d p w chunk next w' ⊎ IsPutOff e d p w chunk next w'
+
+-- what came of a piece whose chunk was written: how far the reply is then, or it ended at a sector that is lost
+abbrev pub AnswersPiece : ExportRecord → Delivery → Progress → World → World → Option (List ℕ) → Option (List ℕ) → Option Progress → Type 0
+AnswersPiece e d p w w' old new (Some next) = (chunk : List ℕ) × GoesOn e d p w chunk next w' × Appends old new chunk
+AnswersPiece e d p w w' old new None = (chunk : List ℕ) × IsLost e d p w chunk w' × Appends old new chunk
+
+-- and of one in whose chunk the writer failed
+abbrev pub ReadsPiece : ExportRecord → Delivery → Progress → World → World → Type 0
+ReadsPiece e d p w w' = ((chunk : List ℕ) × (next : Progress) × GoesOn e d p w chunk next w') ⊎ ((chunk : List ℕ) × IsLost e d p w chunk w')
+
+-- ---- the reply
+
+abbrev pub at_first : Progress
+at_first = record { done = 0; slow = 0 }
+
+-- pieces one after another, from the first byte on, and their chunks
+pub data Delivers (e : ExportRecord) (d : Delivery) (first : World) : Progress → World → List ℕ → Type 0 where
+  delivers_none : Delivers e d first at_first first []
+  delivers_more : {p next : Progress} {w w' : World} {written : List ℕ} (chunk : List ℕ) → Delivers e d first p w written → GoesOn e d p w chunk next w'
+      → Delivers e d first next w' (written ++ chunk)
+
+-- all of the bytes
+pub record DeliversAll (e : ExportRecord) (d : Delivery) (w : World) (reply : List ℕ) (w' : World) : Type 0 where
+  pub last : Progress
+  pub pieces : Delivers e d w last w' reply
+  pub all : last.done ≡ d.count
+
+-- those before the first sector that can't be read, and its error: no byte of it goes out
+pub record DeliversPart (e : ExportRecord) (d : Delivery) (w : World) (reply : List ℕ) (w' : World) : Type 0 where
+  pub last : Progress
+  pub mid : World
+  pub written : List ℕ
+  pub chunk : List ℕ
+  pub pieces : Delivers e d w last mid written
+  pub lost : IsLost e d last mid chunk w'
+  pub reply_is : reply ≡ written ++ chunk
+
+abbrev pub IsDelivered : ExportRecord → Delivery → World → List ℕ → World → Type 0
+IsDelivered e d w reply w' = DeliversAll e d w reply w' ⊎ DeliversPart e d w reply w'
+
+-- the reply was begun: some pieces were read
+pub record IsBegun (e : ExportRecord) (d : Delivery) (w w' : World) : Type 0 where
+  pub last : Progress
+  pub written : List ℕ
+  pub pieces : Delivers e d w last w' written
+
+-- what was done where the writer failed in the reply: a part of it, or all
+abbrev pub IsStuck : ExportRecord → Delivery → World → World → Type 0
+IsStuck e d w w' = IsBegun e d w w' ⊎ ((reply : List ℕ) × IsDelivered e d w reply w')

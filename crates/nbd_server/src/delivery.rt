@@ -1,0 +1,184 @@
+//! A READ that is answered piece by piece.
+ghost use Rattle.std.specs.Prelude.{◌≡◌, ◌<◌, ◌≤◌, ◌+◌, ◌%◌, ◌^◌, ◌==◌, true, IsTrue, IfOk, IfSome, OnErr};
+ghost use Rattle.counted_io.specs.Counted.{Writes, WritesSome};
+ghost use Rattle.nbd_protocol.specs.Exports.{export_record};
+ghost use Rattle.nbd_chunks.specs.Chunks.{data_chunk};
+ghost use Rattle.nbd_server.specs.Premises.{AreBytesOf, IsNextPiece, IsRest};
+ghost use Rattle.nbd_server.specs.Transmission.{data_of};
+ghost use Rattle.nbd_server.specs.Delivery.{AnswersPiece, IsDelivered, IsPiece, IsStuck, ReadsPiece, delivery_of, has_df, most_piece};
+
+use crate::byte_range::{read_bytes, touched};
+use crate::reply::Data;
+use block_device::BlockDev;
+use counted_io::{Counted, WriteFault};
+use nbd_chunks::{say_data, say_error_at};
+use nbd_protocol::{Agreement, Command, Export, Header, RequestError};
+use request_queue::Queue;
+use std::alloc::Global;
+use std::io::Write;
+
+// A piece ends where a multiple of so many bytes does.
+const LARGE: u64 = 262_144;
+
+const SECTOR: u64 = 512;
+
+// The flag of a READ whose bytes are to come in one chunk.
+const DONT_FRAGMENT: u16 = 4;
+
+/// The bytes of a READ that is answered piece by piece, and its cookie.
+#[derive(Clone, Copy, Debug, PartialEq, Eq)]
+pub(crate) struct Delivery {
+    pub(crate) cookie: u64,
+    pub(crate) offset: u64,
+    pub(crate) count: u32,
+}
+
+/// How many of its bytes were answered, and before which one they are read sector by sector.
+#[derive(Clone, Copy, Debug, PartialEq, Eq)]
+pub(crate) struct Progress {
+    pub(crate) done: u32,
+    pub(crate) slow: u32,
+}
+
+// Whether the bytes are to come in one chunk.
+fn has_df(header: Header) -> bool
+    ensures { result ≡ has_df header }
+{
+    header.flags / DONT_FRAGMENT % 2 == 1
+}
+
+impl Delivery {
+    /// What is answered piece by piece: a READ of some bytes of the export, where chunks were agreed on.
+    pub(crate) fn of(export: &Export<'_>, agreed: Agreement, header: Header) -> Option<Delivery>
+        ensures value { result ≡ delivery_of (export_record export.now) agreed header }
+        ensures within { IfSome result (λ d. d.offset + d.count ≤ export.now.size) }
+    {
+        if !header.is_chunked(agreed) || has_df(header) {
+            return None;
+        }
+        match header.command(export, agreed) {
+            Ok(Command::Read { offset, length }) => {
+                if length == 0 {
+                    return None;
+                }
+                Some(Delivery {
+                    cookie: header.cookie,
+                    offset,
+                    count: length,
+                })
+            }
+            _ => None,
+        }
+    }
+
+    // The place of the next byte.
+    fn at(self, progress: Progress) -> u64
+        requires { IsRest self progress }
+        ensures { result ≡ self.offset + progress.done }
+    {
+        self.offset + u64::from(progress.done)
+    }
+
+    // How many bytes the next piece has.
+    fn piece_len(self, progress: Progress) -> u32
+        requires rest { IsRest self progress }
+        requires some { progress.done < self.count }
+        ensures { IsPiece self progress result }
+    {
+        let room = room_at(self.at(progress), progress.done < progress.slow);
+        room.min(u64::from(self.count - progress.done)) as u32
+    }
+}
+
+// How many bytes there are from a place on up to the end of its piece, or of its sector alone.
+fn room_at(at: u64, single: bool) -> u64
+    ensures some { 0 < result }
+    ensures few { result ≤ most_piece }
+    ensures single { IsTrue single → at % 512 + result ≤ 512 }
+{
+    if single {
+        return SECTOR - at % SECTOR;
+    }
+    LARGE - at % LARGE
+}
+
+// Writes the bytes of a piece, and hands them on.
+fn say_piece<W: Write>(
+    writer: &mut Counted<W>,
+    delivery: Delivery,
+    progress: Progress,
+    content: &Data,
+) -> Result<(), WriteFault>
+    requires { IsNextPiece delivery progress content.now }
+    ensures { Writes W.contents writer.old writer.new
+        (data_chunk (progress.done + content.now.length == delivery.count) delivery.cookie (delivery.offset + progress.done) (data_of content.now)) result }
+{
+    let done = progress.done + content.length as u32;
+    let at = delivery.at(progress);
+    let last = done == delivery.count;
+    say_data(writer, last, delivery.cookie, at, content.part())?;
+    writer.flush()
+}
+
+// Reads the next piece, and answers it. `None`: it lies in a sector that can't be read, and the reply has ended.
+fn deliver_piece<D: BlockDev, W: Write>(
+    alloc: Global,
+    queue: &mut Queue<D>,
+    export: &Export<'_>,
+    delivery: Delivery,
+    progress: Progress,
+    writer: &mut Counted<W>,
+) -> Result<Option<Progress>, WriteFault>
+    requires bytes { AreBytesOf queue.old.stack.config (export_record export.now) delivery.offset delivery.count }
+    requires some { progress.done < delivery.count }
+    ensures ok { IfOk result (AnswersPiece (export_record export.now) delivery progress queue.old queue.new (W.contents writer.old.inner) (W.contents writer.new.inner)) }
+    ensures err { OnErr result (ReadsPiece (export_record export.now) delivery progress queue.old queue.new) }
+    ensures kept { IfOk result (λ _. writer.new.failed ≡ writer.old.failed) }
+    ensures failed { OnErr result (writer.new.failed ≡ true) }
+{
+    let size = delivery.piece_len(progress);
+    let at = delivery.at(progress);
+    match read_bytes(alloc, queue, export, at, size) {
+        Ok(data) => {
+            say_piece(writer, delivery, progress, &data)?;
+            Ok(Some(Progress {
+                done: progress.done + size,
+                slow: progress.slow,
+            }))
+        }
+        Err(error) => {
+            if touched(at, size) > 1 {
+                return Ok(Some(Progress {
+                    done: progress.done,
+                    slow: progress.done + size,
+                }));
+            }
+            say_error_at(writer, delivery.cookie, at, error)?;
+            Ok(None)
+        }
+    }
+}
+
+/// Answers a READ piece by piece, each as soon as it is read, up to the first sector that can't be read.
+///
+/// A piece that fails is read again sector by sector.
+pub(crate) fn deliver<D: BlockDev, W: Write>(
+    alloc: Global,
+    queue: &mut Queue<D>,
+    export: &Export<'_>,
+    delivery: Delivery,
+    writer: &mut Counted<W>,
+) -> Result<(), WriteFault>
+    requires { AreBytesOf queue.old.stack.config (export_record export.now) delivery.offset delivery.count }
+    ensures reply { WritesSome W.contents writer.old writer.new (λ reply. IsDelivered (export_record export.now) delivery queue.old reply queue.new) result }
+    ensures stuck { OnErr result (IsStuck (export_record export.now) delivery queue.old queue.new) }
+{
+    let mut progress = Progress { done: 0, slow: 0 };
+    'pieces: while progress.done < delivery.count {
+        match deliver_piece(alloc, queue, export, delivery, progress, writer)? {
+            Some(next) => progress = next,
+            None => return Ok(()),
+        }
+    }
+    Ok(())
+}
