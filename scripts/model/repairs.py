@@ -1,4 +1,6 @@
-"""A damaged verity image, whose blocks are sought in copies of it from the root down."""
+"""A damaged verity image, whose blocks are sought in copies of it from the root down.
+
+A hash block that no copy has is made again of the blocks beneath it."""
 
 from files import Stop
 from images import REFUSED, check_aligned, surveyed, told_root
@@ -57,10 +59,13 @@ class Repair:
                 block = block_at(whole[at_height], at, size)
                 if digest(self.salt, block) != digests[index]:
                     number, block = self.sought(copies[at_height], at, size, digests[index])
+                    found = "copy %s" % number
                     if number is None:
+                        found, block = "remade", self.remade(whole, height, index, digests[index])
+                    if block is None:
                         continue
                     name = "data %d" % index if height == 0 else "hash %d %d" % (height - 1, index)
-                    yield "%s %s copy %d" % ("repaired" if writes else "repairable", name, number)
+                    yield "%s %s %s" % ("repaired" if writes else "repairable", name, found)
                     if not writes:
                         continue
                     whole[at_height][at:at + size] = block
@@ -74,6 +79,24 @@ class Repair:
             if block is not None and digest(self.salt, block) == wanted:
                 return number, block
         return None, None
+
+    def remade(self, whole, height, index, wanted):
+        """The block made of those of the next height beneath it, else of one further down, if one has that digest."""
+        for base in reversed(range(height)):
+            block = self.made(whole, base, height - base, index)
+            if digest(self.salt, block) == wanted:
+                return block
+        return None
+
+    def made(self, whole, base, steps, index):
+        """A block so many steps above those that are taken as they stand."""
+        height = base + steps
+        if steps == 0:
+            return block_at(whole[0 if height == 0 else 1], *self.place(height, index))
+        counts, slots = [self.tree.blocks] + self.tree.levels, self.tree.slots
+        children = range(index * slots, min((index + 1) * slots, counts[height - 1]))
+        packed = b"".join(digest(self.salt, self.made(whole, base, steps - 1, it)) for it in children)
+        return packed.ljust(self.tree.hash_block, b"\0")
 
 
 def run_repair(options, words, files, _given, _features):
