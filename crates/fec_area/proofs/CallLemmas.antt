@@ -1,11 +1,11 @@
 -- Calls on two devices, one after another.
-use Rattle.std.proofs.Common.{◌≡◌, ◌+◌, ◌*◌, ℕ, Bool, true, false, IsTrue, List, length, subst, inl, inr, refl, sym, ◌∙◌, arith}
-use Rattle.block_device.specs.Device.{Device, HasFailed, IsRead}
+use Rattle.std.proofs.Common.{◌≡◌, ℕ, Bool, true, false, IsTrue, List, subst, inl, inr, refl, ◌∙◌, arith}
+use Rattle.block_device.specs.Device.{Device, IsRead}
 use Rattle.verity_format.specs.Blocks.{AreOnlyRead, IsOnlyRead}
 use Rattle.verity_format.proofs.DeviceLemmas.{only_read-none, only_read-then, steady-then, failed-then}
 use Rattle.fec_area.specs.declared.layout.Layout.{Layout}
-use Rattle.fec_area.specs.Layouts.{IsLaidOn, IsParityOf}
-use Rattle.fec_area.specs.Rounds.{AreUnfailed, HasOneFailed, IsPlaceAdded}
+use Rattle.fec_area.specs.Layouts.{IsLaidOn}
+use Rattle.fec_area.specs.Rounds.{AreUnfailed, HasOneFailed}
 
 pub read-none : (a b : Device) → AreOnlyRead a b a b
 read-none a b = record { data_read = only_read-none a; hash_read = only_read-none b }

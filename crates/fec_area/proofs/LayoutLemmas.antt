@@ -1,11 +1,10 @@
 -- Sizes of rounds, and the blocks that are covered.
 use Rattle.std.proofs.Common.{◌≡◌, ℕ, ◌+◌, ◌-◌, ◌*◌, ◌/◌, ◌<◌, ◌≤◌, ◌^◌, suc, List, [], Bool, true, false, cond, nat_lt, min, ◌%◌, IsTrue, refl, subst, sym, ap, ◌∙◌, arith}
-use Rattle.std.specs.Int.{div_ceil}
 use Rattle.std.proofs.Math.Nat.{mul-le-mul_right, mul-le-mul_left, div-le_self, div-mul-le_self, mul-mod_right}
 use Rattle.std.proofs.lemmas.Bool.{lt-ltb, le-ltb}
 use Rattle.tree_shape.specs.Shape.{IsShape, ShapeRecord, is_block_size}
 use Rattle.verity_format.specs.Blocks.{block_at}
-use Rattle.verity_format.proofs.SizeLemmas.{IsBlock, block-size}
+use Rattle.verity_format.proofs.SizeLemmas.{block-size}
 use Rattle.fec_area.specs.declared.layout.Layout.{Layout}
 use Rattle.fec_area.specs.Layouts.{IsLayout, IsLayoutOf, covered, covered_blocks, parity_sectors, round_bytes, rounds}
 

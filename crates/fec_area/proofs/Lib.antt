@@ -2,4 +2,5 @@ pub mod LayoutLemmas
 pub mod CallLemmas
 pub mod PlaceLemmas
 pub mod RoundLemmas
+pub mod RestoringLemmas
 pub mod WritingLemmas

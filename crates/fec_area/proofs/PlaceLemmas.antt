@@ -1,5 +1,5 @@
 -- Covered blocks that are read, and their bytes added up.
-use Rattle.std.proofs.Common.{◌≡◌, ℕ, ◌+◌, ◌-◌, ◌*◌, ◌/◌, ◌%◌, ◌<◌, ◌≤◌, List, [], length, take, drop, subst, IsTrue, inl, inr, refl, sym, ap, ◌∙◌, arith, bit_xor}
+use Rattle.std.proofs.Common.{◌≡◌, ℕ, ◌+◌, ◌-◌, ◌*◌, ◌/◌, ◌%◌, ◌<◌, ◌≤◌, List, [], length, take, drop, IsTrue, inl, inr, sym, ap, ◌∙◌, arith, bit_xor}
 use Rattle.std.specs.Prelude.{slice_index, EachIndex}
 use Rattle.std.specs.List.{concat}
 use Rattle.std.specs.Int.Bits.{xor_zero_r}

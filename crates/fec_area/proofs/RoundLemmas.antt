@@ -1,14 +1,11 @@
 -- Sums over a round's codewords are its parity.
-use Rattle.std.proofs.Common.{◌≡◌, ℕ, ◌+◌, ◌-◌, ◌*◌, ◌/◌, ◌%◌, ◌<◌, ◌≤◌, zero, suc, List, [], length, subst, cond, nat_lt, true, false, Bool, inl, inr, refl, sym, ap, ◌∙◌, arith, bit_xor}
+use Rattle.std.proofs.Common.{◌≡◌, ℕ, ◌+◌, ◌-◌, ◌*◌, ◌/◌, ◌%◌, ◌<◌, ◌≤◌, zero, suc, List, length, subst, cond, nat_lt, inl, inr, sym, ap, ◌∙◌, arith, bit_xor}
 use Rattle.std.specs.Prelude.{slice_index, EachIndex}
-use Rattle.std.specs.List.{range_with_len}
-use Rattle.std.specs.Int.Bits.{xor_zero_r}
 use Rattle.std.proofs.lemmas.Bool.{cases_lt, lt-ltb, le-ltb}
 use Rattle.std.proofs.lemmas.List.{get_or_past, ext_get_or}
 use Rattle.std.proofs.lemmas.List.FromFn.{get_or-map-range_with_len, length-map-range_with_len, get_or-range_with_len, length-range_with_len}
 use Rattle.std.proofs.lemmas.Nat.{div-mul-add, mod-mul-add, div-add-mod'}
 use Rattle.std.proofs.Math.Nat.{mul-le-mul_right, mod-lt}
-use Rattle.reed_solomon.specs.Code.{IsCodeword}
 use Rattle.reed_solomon.specs.Factors.{AreProducts, parity_places}
 use Rattle.reed_solomon.specs.Field.{product, total}
 use Rattle.reed_solomon.proofs.FieldLemmas.{product_lt, xor_byte}

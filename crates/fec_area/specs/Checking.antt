@@ -1,6 +1,6 @@
 -- What is found of parity on a device.
-use Rattle.std.specs.Prelude.{◌≡◌, ◌⊎◌, ℕ, ◌<◌, ◌≤◌, IsTrue, List, Option, Some, None}
-use Rattle.block_device.specs.Device.{Device, HasFailed}
+use Rattle.std.specs.Prelude.{◌≡◌, ℕ, ◌<◌, ◌≤◌, IsTrue, List, Option, Some, None}
+use Rattle.block_device.specs.Device.{Device}
 use Rattle.reed_solomon.specs.Factors.{AreProducts, parity_places}
 use Rattle.verity_format.specs.Blocks.{block_at}
 use Rattle.fec_area.specs.declared.layout.Layout.{Layout}

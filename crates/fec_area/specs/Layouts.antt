@@ -1,6 +1,6 @@
 -- Which byte of an image stands at which place of which codeword, as Linux's drivers/md/dm-verity-fec.c reads it and cryptsetup's
 -- lib/verity/verity_fec.c writes it.
-use Rattle.std.specs.Prelude.{◌≡◌, ℕ, min, ◌+◌, ◌-◌, ◌*◌, ◌/◌, ◌^◌, ◌<◌, ◌≤◌, List, [], IsTrue, map, nat_lt, slice_index, if◌then◌else◌}
+use Rattle.std.specs.Prelude.{◌≡◌, ◌⊎◌, ℕ, min, ◌+◌, ◌-◌, ◌*◌, ◌/◌, ◌^◌, ◌<◌, ◌≤◌, List, [], IsTrue, map, nat_lt, slice_index, if◌then◌else◌}
 use Rattle.std.specs.Int.{div_ceil}
 use Rattle.std.specs.List.{range_with_len}
 use Rattle.block_device.specs.Device.{Device}
@@ -71,3 +71,17 @@ pub record IsLaidOn (l : Layout) (data_dev hash_dev : Device) : Type 0 where
   pub layout : IsLayout l
   pub data_room : l.data_blocks * (l.block / 512) ≤ data_dev.size
   pub hash_room : (l.hash_first + l.hash_blocks) * (l.block / 512) ≤ hash_dev.size
+
+-- covered block j is this block of the data device, whatever the images are
+pub record IsOfData (l : Layout) (number j : ℕ) : Type 0 where
+  pub is_covered : j < covered_blocks l
+  pub bytes : (data_image hash_image : List (List ℕ)) → covered l data_image hash_image j ≡ block_at data_image l.block number
+
+-- and of the hash device
+pub record IsOfHash (l : Layout) (number j : ℕ) : Type 0 where
+  pub is_covered : j < covered_blocks l
+  pub bytes : (data_image hash_image : List (List ℕ)) → covered l data_image hash_image j ≡ block_at hash_image l.block number
+
+-- a block of the hash device that isn't covered
+abbrev pub IsOffHash : Layout → ℕ → Type 0
+IsOffHash l number = (number < l.hash_first) ⊎ (l.hash_first + l.hash_blocks ≤ number)

@@ -2,3 +2,4 @@ pub mod Layouts
 pub mod Rounds
 pub mod Writing
 pub mod Checking
+pub mod Restoring

@@ -1,9 +1,8 @@
 -- Rounds of codewords, summed up place by place.
-use Rattle.std.specs.Prelude.{◌≡◌, ◌⊎◌, ℕ, ◌+◌, ◌-◌, ◌*◌, ◌/◌, ◌%◌, ◌<◌, ◌≤◌, ◌≢◌, IsTrue, List, length, slice_index, EachIndex, bit_xor}
+use Rattle.std.specs.Prelude.{◌≡◌, ◌⊎◌, ℕ, ◌+◌, ◌-◌, ◌*◌, ◌/◌, ◌%◌, ◌<◌, ◌≤◌, ◌≢◌, List, length, slice_index, EachIndex, bit_xor}
 use Rattle.block_device.specs.Device.{Device, HasFailed}
 use Rattle.reed_solomon.specs.Factors.{AreProducts, parity_places}
 use Rattle.reed_solomon.specs.Field.{product}
-use Rattle.verity_format.specs.Blocks.{block_at}
 use Rattle.fec_area.specs.declared.layout.Layout.{Layout}
 use Rattle.fec_area.specs.Layouts.{IsLaidOn, IsParityOf, covered, message, round_bytes, rounds}
 

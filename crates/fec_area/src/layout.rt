@@ -1,6 +1,6 @@
 //! Which blocks parity covers, and how the codewords lie across them.
 ghost use Rattle.std.specs.Prelude.{◌≡◌, ◌≢◌, ◌<◌, ◌≤◌, ◌^◌, IfNone, IfSome, IsTrue};
-ghost use Rattle.fec_area.specs.Layouts.{IsLaidOn, IsLayout, IsLayoutOf, covered_blocks, parity_sectors, round_bytes, rounds};
+ghost use Rattle.fec_area.specs.Layouts.{IsLaidOn, IsLayout, IsLayoutOf, IsOfData, IsOfHash, IsOffHash, covered_blocks, parity_sectors, round_bytes, rounds};
 
 use block_device::BlockDev;
 use tree_shape::Shape;
@@ -68,6 +68,33 @@ impl Layout {
         ensures small { result ≤ 2 ^ 55 }
     {
         self.data_blocks + self.hash_blocks
+    }
+
+    /// The number of a data block among the covered ones.
+    pub fn covered_data(&self, number: u64) -> Option<u64>
+        ensures some { IfSome result (IsOfData self.now number) }
+        ensures none { IfNone result (self.now.data_blocks ≤ number) }
+    {
+        if number < self.data_blocks {
+            return Some(number);
+        }
+        None
+    }
+
+    /// That of a block of the hash device, counted from the device's beginning.
+    pub fn covered_hash(&self, number: u64) -> Option<u64>
+        requires { IsLayout self.now }
+        ensures some { IfSome result (IsOfHash self.now number) }
+        ensures none { IfNone result (IsOffHash self.now number) }
+    {
+        if number < self.hash_first {
+            return None;
+        }
+        let behind = number - self.hash_first;
+        if behind < self.hash_blocks {
+            return Some(self.data_blocks + behind);
+        }
+        None
     }
 
     /// How many rounds of codewords there are, each of as many as a block has bytes.

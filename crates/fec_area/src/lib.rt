@@ -4,11 +4,14 @@
 
 mod checking;
 mod covered;
+pub mod laws;
 mod layout;
+mod restoring;
 mod round;
 mod writing;
 
 pub use checking::check_parity;
 pub use layout::Layout;
+pub use restoring::{RestoreFault, restore_block};
 pub use round::{restore_blocks, sum_parity};
 pub use writing::{ParityFault, write_parity};

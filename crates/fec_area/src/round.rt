@@ -99,8 +99,8 @@ fn add_place<D: BlockDev, H: BlockDev>(
     Ok(())
 }
 
-// Takes out one byte of each codeword's parity.
-fn take_column(parity: &[u8], roots: usize, k: usize, column: &mut [u8])
+/// Takes out one byte of each codeword's parity.
+pub(crate) fn take_column(parity: &[u8], roots: usize, k: usize, column: &mut [u8])
     requires place { k < roots }
     requires len { length parity.now ≡ length column.old * roots }
     ensures { EachIndex column.new (λ c. slice_index column.new c ≡ slice_index parity.now (c * roots + k)) }

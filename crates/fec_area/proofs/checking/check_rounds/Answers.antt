@@ -1,8 +1,8 @@
-use Rattle.std.proofs.Common.{◌≡◌, ◌≢◌, ◌+◌, ◌-◌, ◌*◌, ◌/◌, ◌<◌, ◌≤◌, ℕ, List, IsTrue, length, sym, ap, ◌∙◌, arith, subst, refl, inl, inr}
+use Rattle.std.proofs.Common.{◌≡◌, ◌/◌, ℕ, List, length, sym, ap, ◌∙◌, arith, refl, inl}
 use Rattle.std.proofs.lemmas.Result.{err_from_is_err_and}
-use Rattle.fec_area.specs.Layouts.{IsParityOf, parity_sectors, round_bytes, rounds}
+use Rattle.fec_area.specs.Layouts.{IsParityOf, round_bytes}
 use Rattle.verity_format.specs.Blocks.{block_at}
-use Rattle.verity_format.proofs.DeviceLemmas.{only_read-none, only_read-then, steady-then, failed-then}
+use Rattle.verity_format.proofs.DeviceLemmas.{only_read-none, only_read-then, steady-then}
 use Rattle.fec_area.proofs.CallLemmas.{call-read, other-told, same-told, read-none, read-then, unfailed-none, unfailed-then, one_failed-then, laid-then, image-then}
 use Rattle.fec_area.proofs.LayoutLemmas.{round-quotient}
 use Rattle.fec_area.proofs.WritingLemmas.{round-at, round-more, round-other, write-inside}

@@ -1,0 +1,82 @@
+use Rattle.std.proofs.Common.{◌≡◌, ◌*◌, ◌/◌, ℕ, List, length, sym, ap, ◌∙◌, subst, refl, inl, inr, arith}
+use Rattle.std.proofs.lemmas.Result.{err_from_is_err_and}
+use Rattle.verity_format.specs.Blocks.{block_at}
+use Rattle.fec_area.specs.Layouts.{round_bytes}
+use Rattle.fec_area.specs.Rounds.{AreRestored}
+use Rattle.fec_area.proofs.CallLemmas.{call-read, read-none}
+use Rattle.fec_area.proofs.LayoutLemmas.{parity-small, round-quotient}
+use Rattle.fec_area.proofs.RestoringLemmas.{first-restored}
+use Rattle.fec_area.proofs.WritingLemmas.{round-at, round-within, write-inside}
+use Rattle.fec_area.proofs.restoring.restore_first.Goals as goal
+
+pub overflow_mul-round : goal.overflow_mul-round
+overflow_mul-round g c =
+    let l = c.args.layout.now in
+    let valid = c.requires.laid.layout in
+    let s : ℕ = length c.args.parity.now / 512 in
+    let is = round-quotient l (length c.args.parity.now) valid c.requires.parity_is in
+    omega (arith, round-within l c.args.round s s c.requires.round_is is is, parity-small l valid)
+
+pub read-requires : goal.read-requires
+read-requires g c =
+    let l = c.args.layout.now in
+    let valid = c.requires.laid.layout in
+    let dev = g.P.BlockDev.state c.args.parity_dev.now in
+    write-inside l dev dev c.args.round (length c.args.parity.now) _ valid c.requires.room refl c.requires.round_is c.requires.parity_is (round-quotient l (length c.args.parity.now) valid c.requires.parity_is)
+
+pub restore_blocks-requires : goal.restore_blocks-requires
+restore_blocks-requires g c = record {
+  laid = c.requires.laid;
+  lost_are = c.requires.within;
+  enough = c.requires.enough;
+  products_are = c.requires.products_are;
+  round_is = c.requires.round_is;
+  block_is = c.requires.block_is;
+  parity_is = c.read.auto.out ∙ c.requires.parity_is;
+  sums_are = c.requires.sums_are;
+}
+
+pub take_column-requires-clause-len : goal.take_column-requires-clause-len
+take_column-requires-clause-len g c =
+    let long : length c.restore_blocks.new.block ≡ c.args.layout.now.block = c.restore_blocks.auto.block ∙ c.requires.block_is in
+    c.restore_blocks.auto.sums ∙ c.requires.sums_are ∙ ap (λ (n : ℕ). n * length c.args.places.now) (sym long)
+
+pub returns-in_err-read-clause-read : goal.returns-in_err-read-clause-read
+returns-in_err-read-clause-read g c = read-none (g.D.BlockDev.state c.args.data_dev.now) (g.H.BlockDev.state c.args.hash_dev.now)
+
+pub returns-in_err-read-clause-parity : goal.returns-in_err-read-clause-parity
+returns-in_err-read-clause-parity g c = call-read c.in_err-read.ensures.moved
+
+pub returns-in_err-read-clause-err : goal.returns-in_err-read-clause-err
+returns-in_err-read-clause-err g c =
+    let p = err_from_is_err_and c.from_residual.result c.from_residual.ensures.1 in
+    rw p.1 (inr c.in_err-read.ensures.fault)
+
+pub returns-in_err-restore_blocks-clause-parity : goal.returns-in_err-restore_blocks-clause-parity
+returns-in_err-restore_blocks-clause-parity g c = call-read c.in_ok-read.ensures.moved
+
+pub returns-in_err-restore_blocks-clause-err : goal.returns-in_err-restore_blocks-clause-err
+returns-in_err-restore_blocks-clause-err g c =
+    let p = err_from_is_err_and c.from_residual-in_err-restore_blocks.result c.from_residual-in_err-restore_blocks.ensures.1 in
+    rw p.1 (inl c.in_err-restore_blocks.ensures.err)
+
+pub returns-clause-parity : goal.returns-clause-parity
+returns-clause-parity g c = call-read c.in_ok-read.ensures.moved
+
+pub returns-clause-first : goal.returns-clause-first
+returns-clause-first g c one other third =
+    let l = c.args.layout.now in
+    let valid = c.requires.laid.layout in
+    let a = g.D.BlockDev.state c.args.data_dev.now in
+    let b = g.H.BlockDev.state c.args.hash_dev.now in
+    let image = (g.P.BlockDev.state c.args.parity_dev.now).image in
+    let round = c.args.round in
+    let stored = c.read.new.out in
+    let places = c.args.places.now in
+    let sums = c.restore_blocks.new.sums in
+    let bytes = c.take_column.new.column in
+    let first = round-quotient l (length c.args.parity.now) valid c.requires.parity_is in
+    let at = round-at l image round (length c.args.parity.now / 512) (length c.args.parity.now) stored valid first c.requires.parity_is (c.in_ok-read.ensures.bytes third) in
+    let restored = subst (λ (xs : List ℕ). AreRestored l a.image b.image round xs places sums) at (c.in_ok-restore_blocks.ensures.restored one other) in
+    first-restored l a.image b.image round (block_at image (round_bytes l) round) places sums bytes c.requires.some (c.take_column.auto.column ∙ c.restore_blocks.auto.block ∙ c.requires.block_is)
+    c.take_column.ensures restored

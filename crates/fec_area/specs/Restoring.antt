@@ -1,0 +1,98 @@
+-- A lost block that is made again.
+use Rattle.std.specs.Prelude.{◌≡◌, ◌==◌, ◌&&◌, ℕ, ◌+◌, ◌-◌, ◌*◌, ◌/◌, ◌%◌, ◌<◌, ◌≤◌, Bool, not, IsTrue, List, length, nat_lt, slice_index, EachIndex, count_by}
+use Rattle.block_device.specs.Device.{Device}
+use Rattle.reed_solomon.specs.Factors.{AreProducts}
+use Rattle.verity_format.specs.Blocks.{block_at}
+use Rattle.fec_area.specs.declared.layout.Layout.{Layout}
+use Rattle.fec_area.specs.declared.restoring.RestoreFault.{RestoreFault}
+use Rattle.fec_area.specs.declared.restoring.RestoreFault.TheVariants.{TooManyLost, TooSmall, Device as DeviceFailed, NoMemory}
+use Rattle.fec_area.specs.Layouts.{IsLaidOn, IsLayout, IsParityOf, IsProtected, covered, covered_blocks, message, parity_sectors, round_bytes, rounds}
+use Rattle.fec_area.specs.Rounds.{IsFormerly}
+use Rattle.fec_area.specs.Writing.{HasAnyFailed}
+
+-- the round of a covered block
+abbrev pub round_of : Layout → ℕ → ℕ
+round_of l index = index % rounds l
+
+-- another covered block of the same round
+abbrev pub is_beside : Layout → ℕ → ℕ → Bool
+is_beside l index j = nat_lt j (covered_blocks l) && (j % rounds l == round_of l index) && not (j == index)
+
+-- how many blocks of its round are lost, where it is and these are
+abbrev pub lost_count : Layout → List ℕ → ℕ → ℕ
+lost_count l lost index = count_by (is_beside l index) lost + 1
+
+abbrev pub IsAmong : List ℕ → ℕ → Type 0
+IsAmong lost j = (k : ℕ) × ((k < length lost) × (slice_index lost k ≡ j))
+
+-- Another image, whose block is whole. In the block's round it has this parity, and of the other blocks of the round those that
+-- aren't known as lost are the same.
+pub record IsBefore (l : Layout) (data_image hash_image former_data former_hash : List (List ℕ)) (parity lost : List ℕ) (index : ℕ) : Type 0 where
+  pub whole : length (covered l former_data former_hash index) ≡ l.block
+  pub stands : IsParityOf l former_data former_hash (round_of l index) parity
+  pub same : (j : ℕ) → IsTrue (is_beside l index j) → (IsAmong lost j → ⊥) → covered l data_image hash_image j ≡ covered l former_data former_hash j
+
+-- the bytes are the block of each such image, by the parity of all rounds
+abbrev pub IsMadeAgain : Layout → List (List ℕ) → List (List ℕ) → List (List ℕ) → List ℕ → ℕ → List ℕ → Type 0
+IsMadeAgain l data_image hash_image parity_image lost index bytes =
+    (former_data former_hash : List (List ℕ)) → IsBefore l data_image hash_image former_data former_hash (block_at parity_image (round_bytes l) (round_of l index)) lost index
+    → bytes ≡ covered l former_data former_hash index
+
+-- ---- the call
+
+-- none of three devices was asked
+pub record AreUnasked (data_dev hash_dev parity_dev data_dev' hash_dev' parity_dev' : Device) : Type 0 where
+  pub data_same : data_dev' ≡ data_dev
+  pub hash_same : hash_dev' ≡ hash_dev
+  pub parity_same : parity_dev' ≡ parity_dev
+
+-- why a block wasn't made again
+abbrev pub IsRestoreCause : Layout → List ℕ → ℕ → Device → Device → Device → Device → Device → Device → RestoreFault → Type 0
+IsRestoreCause l lost index data_dev hash_dev parity_dev data_dev' hash_dev' parity_dev' (TooManyLost count) =
+    (count ≡ lost_count l lost index) × (l.roots < count) × AreUnasked data_dev hash_dev parity_dev data_dev' hash_dev' parity_dev'
+IsRestoreCause l lost index data_dev hash_dev parity_dev data_dev' hash_dev' parity_dev' (TooSmall needed) =
+    (needed ≡ parity_sectors l) × (parity_dev.size < needed) × AreUnasked data_dev hash_dev parity_dev data_dev' hash_dev' parity_dev'
+IsRestoreCause l lost index data_dev hash_dev parity_dev data_dev' hash_dev' parity_dev' DeviceFailed = HasAnyFailed data_dev hash_dev parity_dev data_dev' hash_dev' parity_dev'
+IsRestoreCause l lost index data_dev hash_dev parity_dev data_dev' hash_dev' parity_dev' NoMemory = AreUnasked data_dev hash_dev parity_dev data_dev' hash_dev' parity_dev'
+
+-- ---- its parts
+
+-- the places of the blocks of its round that are lost, its own the first
+pub record AreLostPlaces (l : Layout) (lost : List ℕ) (index : ℕ) (places : List ℕ) : Type 0 where
+  pub count : length places ≡ lost_count l lost index
+  pub own : slice_index places 0 ≡ index / rounds l
+  pub within : EachIndex places (λ k. slice_index places k < 255 - l.roots)
+  pub each : EachIndex lost (λ k. IsTrue (is_beside l index (slice_index lost k)) → IsAmong places (slice_index lost k / rounds l))
+
+-- The bytes are the block at the first of these places, of each image with this parity whose other blocks of the round are these.
+abbrev pub IsFirstRestored : Layout → List (List ℕ) → List (List ℕ) → ℕ → List ℕ → List ℕ → List ℕ → Type 0
+IsFirstRestored l data_image hash_image round parity places bytes =
+    (former_data former_hash : List (List ℕ)) → IsFormerly l data_image hash_image former_data former_hash round parity places
+    → EachIndex bytes (λ c. slice_index bytes c ≡ message l former_data former_hash round c (slice_index places 0))
+
+-- what restoring the first of a round's lost blocks stands on
+pub record CanRestoreFirst (l : Layout) (data_dev hash_dev parity_dev : Device) (places products : List ℕ) (round block parity sums : ℕ) : Type 0 where
+  pub laid : IsLaidOn l data_dev hash_dev
+  pub room : parity_sectors l ≤ parity_dev.size
+  pub some : 0 < length places
+  pub within : EachIndex places (λ k. slice_index places k < 255 - l.roots)
+  pub enough : length places ≤ l.roots
+  pub products_are : AreProducts places products
+  pub round_is : round < rounds l
+  pub block_is : block ≡ l.block
+  pub parity_is : parity ≡ round_bytes l
+  pub sums_are : sums ≡ l.block * length places
+
+-- ---- the law
+
+-- Of two images each block that isn't known as lost is the same.
+abbrev pub AreSameElsewhere : Layout → List (List ℕ) → List (List ℕ) → List (List ℕ) → List (List ℕ) → List ℕ → Type 0
+AreSameElsewhere l data_image hash_image former_data former_hash lost =
+    (j : ℕ) → j < covered_blocks l → (IsAmong lost j → ⊥) → covered l data_image hash_image j ≡ covered l former_data former_hash j
+
+-- What is made again by the parity of an image that was whole is that image's block.
+abbrev pub LostBlocksComeBack : Type 0
+LostBlocksComeBack =
+    (l : Layout) → IsLayout l → (data_image hash_image former_data former_hash parity_image : List (List ℕ)) → (lost bytes : List ℕ) → (index : ℕ) → index < covered_blocks l
+    → length (covered l former_data former_hash index) ≡ l.block → IsProtected l former_data former_hash parity_image → AreSameElsewhere l data_image hash_image former_data former_hash lost
+    → IsMadeAgain l data_image hash_image parity_image lost index bytes → bytes ≡ covered l former_data former_hash index

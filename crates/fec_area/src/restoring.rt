@@ -1,0 +1,161 @@
+//! A lost block, made again from the other blocks of its round and the parity.
+ghost use Rattle.std.specs.Prelude.{◌≡◌, ◌<◌, ◌≤◌, ◌/◌, IfErr, IfOk, IsTrue, OnErr, OnOk, length};
+ghost use Rattle.verity_format.specs.Blocks.{AreOnlyRead, IsOnlyRead, block_at};
+ghost use Rattle.fec_area.specs.Layouts.{IsLaidOn, IsLayout, covered_blocks, round_bytes};
+ghost use Rattle.fec_area.specs.Restoring.{AreLostPlaces, CanRestoreFirst, IsFirstRestored, IsMadeAgain, IsRestoreCause, is_beside};
+ghost use Rattle.fec_area.specs.Writing.{HasAnyFailed};
+
+use crate::layout::Layout;
+use crate::round::{restore_blocks, take_column};
+use crate::writing::zeros;
+use block_device::{BlockDev, DeviceFault};
+use reed_solomon::{Products, restoring_products};
+use std::alloc::{AllocError, Global};
+use thiserror::Error;
+
+/// Why a lost block isn't made again.
+#[derive(Clone, Copy, Debug, PartialEq, Eq, Error)]
+pub enum RestoreFault {
+    /// So many blocks of its round are lost, more than a codeword has bytes of parity.
+    #[error("TooManyLost count {count}")]
+    TooManyLost { count: usize },
+    /// The parity's device has fewer sectors of 512 bytes than are needed.
+    #[error("TooSmall needed {needed}")]
+    TooSmall { needed: u64 },
+    /// One of the three devices failed in the call.
+    #[error("Device")]
+    Device,
+    /// A growth was refused.
+    #[error("NoMemory")]
+    NoMemory,
+}
+
+impl From<DeviceFault> for RestoreFault {
+    ghost use Rattle.fec_area.specs.declared.restoring.RestoreFault.TheVariants.{Device as DeviceFailed};
+
+    ghost from_gives = { λ _ e. e ≡ DeviceFailed };
+
+    fn from(_fault: DeviceFault) -> RestoreFault {
+        RestoreFault::Device
+    }
+}
+
+impl From<AllocError> for RestoreFault {
+    ghost use Rattle.fec_area.specs.declared.restoring.RestoreFault.TheVariants.{NoMemory};
+
+    ghost from_gives = { λ _ e. e ≡ NoMemory };
+
+    fn from(_error: AllocError) -> RestoreFault {
+        RestoreFault::NoMemory
+    }
+}
+
+/// Makes the bytes of covered block `index` again, where it is lost and those of `lost` are, each listed once.
+///
+/// The other blocks of its round and the round's parity are read once. It takes room for the round's parity, as much for
+/// sums, and 64 KiB for each lost block of the round, twice as much while that grows: less than 4 MiB.
+pub fn restore_block<D: BlockDev, H: BlockDev, P: BlockDev>(
+    alloc: Global,
+    layout: &Layout,
+    lost: &[u64],
+    index: u64,
+    data_dev: &mut D,
+    hash_dev: &mut H,
+    parity_dev: &mut P,
+    block: &mut [u8],
+) -> Result<(), RestoreFault>
+    requires laid { IsLaidOn layout.now (D.state data_dev.old) (H.state hash_dev.old) }
+    requires index { index < covered_blocks layout.now }
+    requires size { length block.old ≡ layout.now.block }
+    ensures read { AreOnlyRead (D.state data_dev.old) (H.state hash_dev.old) (D.state data_dev.new) (H.state hash_dev.new) }
+    ensures parity { IsOnlyRead (P.state parity_dev.old) (P.state parity_dev.new) }
+    ensures bytes { OnOk result (IsTrue (D.state data_dev.old).steady → IsTrue (H.state hash_dev.old).steady → IsTrue (P.state parity_dev.old).steady → IsMadeAgain layout.now (D.state data_dev.old).image (H.state hash_dev.old).image (P.state parity_dev.old).image lost.now index block.new) }
+    ensures err { IfErr result (IsRestoreCause layout.now lost.now index (D.state data_dev.old) (H.state hash_dev.old) (P.state parity_dev.old) (D.state data_dev.new) (H.state hash_dev.new) (P.state parity_dev.new)) }
+{
+    let needed = layout.parity_sectors();
+    if parity_dev.sectors() < needed {
+        return Err(RestoreFault::TooSmall { needed });
+    }
+    let places = lost_places(alloc, layout, lost, index)?;
+    let count = places.len();
+    if count > layout.roots {
+        return Err(RestoreFault::TooManyLost { count });
+    }
+    let products = restoring_products(alloc, &places)?;
+    let mut parity = zeros(alloc, layout.round_bytes())?;
+    let mut sums = zeros(alloc, layout.block as usize * count)?;
+    let round = index % layout.rounds();
+    restore_first(
+        layout,
+        &places,
+        &products,
+        data_dev,
+        hash_dev,
+        parity_dev,
+        round,
+        &mut parity,
+        &mut sums,
+        block,
+    )?;
+    Ok(())
+}
+
+// The places of the lost blocks of a round, that of the block first.
+fn lost_places(
+    alloc: Global,
+    layout: &Layout,
+    lost: &[u64],
+    index: u64,
+) -> Result<Vec<usize>, AllocError>
+    requires layout { IsLayout layout.now }
+    requires index { index < covered_blocks layout.now }
+    ensures { IfOk result (λ v. AreLostPlaces layout.now lost.now index v.items) }
+{
+    let rounds = layout.rounds();
+    let mut places = Vec::new(alloc);
+    places.push((index / rounds) as usize)?;
+    for other in lost {
+        if is_beside(layout, index, *other) {
+            places.push((*other / rounds) as usize)?;
+        }
+    }
+    Ok(places)
+}
+
+// Whether a number is that of another covered block of the same round.
+fn is_beside(layout: &Layout, index: u64, other: u64) -> bool
+    requires layout { IsLayout layout.now }
+    requires index { index < covered_blocks layout.now }
+    ensures { result ≡ is_beside layout.now index other }
+{
+    let rounds = layout.rounds();
+    other < layout.covered_blocks() && other % rounds == index % rounds && other != index
+}
+
+// Sums up the lost blocks of a round, and takes out the first one.
+fn restore_first<D: BlockDev, H: BlockDev, P: BlockDev>(
+    layout: &Layout,
+    places: &[usize],
+    products: &[Products],
+    data_dev: &mut D,
+    hash_dev: &mut H,
+    parity_dev: &mut P,
+    round: u64,
+    parity: &mut [u8],
+    sums: &mut [u8],
+    block: &mut [u8],
+) -> Result<(), DeviceFault>
+    requires { CanRestoreFirst layout.now (D.state data_dev.old) (H.state hash_dev.old) (P.state parity_dev.old) places.now products.now round (length block.old) (length parity.old) (length sums.old) }
+    ensures read { AreOnlyRead (D.state data_dev.old) (H.state hash_dev.old) (D.state data_dev.new) (H.state hash_dev.new) }
+    ensures parity { IsOnlyRead (P.state parity_dev.old) (P.state parity_dev.new) }
+    ensures first { OnOk result (IsTrue (D.state data_dev.old).steady → IsTrue (H.state hash_dev.old).steady → IsTrue (P.state parity_dev.old).steady → IsFirstRestored layout.now (D.state data_dev.old).image (H.state hash_dev.old).image round (block_at (P.state parity_dev.old).image (round_bytes layout.now) round) places.now block.new) }
+    ensures err { OnErr result (HasAnyFailed (D.state data_dev.old) (H.state hash_dev.old) (P.state parity_dev.old) (D.state data_dev.new) (H.state hash_dev.new) (P.state parity_dev.new)) }
+{
+    let sectors = (parity.len() / 512) as u64;
+    parity_dev.read(round * sectors, parity)?;
+    restore_blocks(
+        layout, places, products, data_dev, hash_dev, round, parity, block, sums,
+    )?;
+    take_column(sums, places.len(), 0, block);
+    Ok(())
+}
