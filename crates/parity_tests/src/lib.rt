@@ -1,7 +1,11 @@
-//! Tests of `fec_area` beside files of veritysetup, and of `tree_repair` over images in memory.
+//! Tests of `fec_area` beside files of veritysetup, and of `tree_repair` over images in memory and by their parity.
 #![tactic(auto)]
 
 #[cfg(test)]
 mod parity;
 #[cfg(test)]
 mod remaking;
+#[cfg(test)]
+mod repairing;
+#[cfg(test)]
+mod restoring;

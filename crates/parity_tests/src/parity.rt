@@ -5,23 +5,23 @@ use sha2::{Digest, Sha256};
 use std::alloc::Global;
 use std::process::Abort;
 use std::test::Fail;
-use tree_shape::{Algorithm, Salt};
+use tree_shape::{Algorithm, Digest as TreeDigest, Salt};
 use verity_format::{Superblock, format};
 
 /// An image over a ramp, and the digest of veritysetup's parity of it.
-struct Case {
+pub(crate) struct Case {
     /// A block's bytes, how many data blocks, and how many bytes of parity in a codeword.
-    block: u32,
-    blocks: u64,
-    roots: usize,
+    pub(crate) block: u32,
+    pub(crate) blocks: u64,
+    pub(crate) roots: usize,
     /// The sectors of the data, the hash device and the parity.
-    data: u32,
-    hash: u32,
-    parity: u32,
-    digest: &'static str,
+    pub(crate) data: u32,
+    pub(crate) hash: u32,
+    pub(crate) parity: u32,
+    pub(crate) digest: &'static str,
 }
 
-static CASES: [Case; 8] = [
+pub(crate) static CASES: [Case; 9] = [
     Case {
         block: 512,
         blocks: 300,
@@ -96,6 +96,16 @@ static CASES: [Case; 8] = [
         parity: 48,
         digest: "755022cd02bcd111952b738068f9b17407def193532c82e6d31770ef36c9f983",
     },
+    // three rounds, and a tree of three levels
+    Case {
+        block: 512,
+        blocks: 500,
+        roots: 2,
+        data: 500,
+        hash: 36,
+        parity: 6,
+        digest: "b0d0f0348e1ed2fa5b3df03199a7d9244388ca19436f71bf8da495dafb282b14",
+    },
 ];
 
 /// Whether the digest has these hexadecimal digits.
@@ -104,16 +114,26 @@ fn has_digits(digest: &[u8], wanted: &str) -> bool {
     hex::encode_to_slice(digest, &mut digits).is_ok() && digits.as_slice() == wanted.as_bytes()
 }
 
-/// The parity of the image, which is written, compared and handed out.
-fn parity_of<R: Abort>(rt: &R, alloc: Global, case: &Case) -> Result<MemoryDev, Fail> {
+/// An image, its parity and how that lies across it.
+#[derive(Drop)]
+pub(crate) struct Protected {
+    pub(crate) data: MemoryDev,
+    pub(crate) hash: MemoryDev,
+    pub(crate) parity: MemoryDev,
+    pub(crate) layout: Layout,
+    pub(crate) root: TreeDigest,
+}
+
+/// The image, formatted, whose parity is written and compared.
+pub(crate) fn protect<R: Abort>(rt: &R, alloc: Global, case: &Case) -> Result<Protected, Fail> {
     let salt = Salt::new(Algorithm::Sha256, &[0]).ok_or("no salt")?;
     let mut uuid = [0u8; 16];
     uuid[15] = 1;
     let superblock = Superblock::new(uuid, case.block, case.block, case.blocks, salt)?;
-    let mut data = MemoryDev::ramp(alloc, case.data, false)?;
+    let mut data = MemoryDev::ramp(alloc, case.data, true)?;
     let mut hash = MemoryDev::zeros(alloc, case.hash, true)?;
     let mut parity = MemoryDev::zeros(alloc, case.parity, true)?;
-    let _root = format(alloc, &mut data, &mut hash, superblock)?;
+    let root = format(alloc, &mut data, &mut hash, superblock)?;
     let roots = case.roots;
     assert!(rt; roots >= 2);
     assert!(rt; roots <= 24);
@@ -123,14 +143,20 @@ fn parity_of<R: Abort>(rt: &R, alloc: Global, case: &Case) -> Result<MemoryDev, 
     assert!(rt; layout.is_laid_on(&data, &hash));
     let found = check_parity(alloc, &layout, &mut data, &mut hash, &mut parity);
     assert!(rt; found == Ok(None));
-    Ok(parity)
+    Ok(Protected {
+        data,
+        hash,
+        parity,
+        layout,
+        root,
+    })
 }
 
 #[test]
 fn parity_is_that_of_veritysetup(rt: HostRuntime) -> Result<(), Fail> {
     let alloc = rt.alloc();
     for case in &CASES {
-        let parity = parity_of(&rt, alloc, case)?;
+        let Protected { parity, .. } = protect(&rt, alloc, case)?;
         let mut sum = Sha256::new();
         sum.update(parity.into_bytes().as_slice());
         assert!(rt; has_digits(&sum.finalize(), case.digest));

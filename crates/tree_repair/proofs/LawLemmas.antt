@@ -76,6 +76,7 @@ found-good : (l : Look) (bytes : List ℕ) (done : Bool) (m : Mended) → IsMend
 found-good l bytes done mended.Good looked found = absurd found
 found-good l bytes done (mended.Copy n) looked found = looked.good
 found-good l bytes done mended.Remade looked found = looked.good
+found-good l bytes done mended.Parity looked found = looked.replaced.good
 found-good l bytes done mended.Lost looked found = absurd found
 
 pub mended-good : MendedBlocksAreGood

@@ -1,6 +1,7 @@
 mod FormedLemmas
 mod LawLemmas
 mod MakeLemmas
+mod ParityLemmas
 mod RepairLemmas
 mod RowLemmas
 mod RunLemmas

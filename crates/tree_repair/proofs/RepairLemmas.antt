@@ -8,12 +8,12 @@ use Rattle.verity_format.specs.Superblock.{SuperRecord, shape_of}
 use Rattle.tree_survey.specs.Causes.{AreImages}
 use Rattle.tree_repair.specs.declared.fault.RepairFault.{RepairFault}
 use Rattle.tree_repair.specs.declared.repair.Plan.{Plan}
-use Rattle.tree_repair.specs.Repairs.{IsAllowed, IsUnrepaired, Repairs, job_of}
+use Rattle.tree_repair.specs.Repairs.{IsAllowed, IsUnrepairedBy, Repairs, job_of}
 use Rattle.tree_repair.specs.Runs.{CanRun, HasRun, Job, World, world}
 use Rattle.tree_repair.proofs.RunLemmas.{has-read, has-then, tree-read}
 
-module _ (s : SuperRecord) (plan : Plan) (j : Job) (w : World) (h : Device) (same : j ≡ job_of s plan) (read : IsOnlyRead w.hash_dev h) (images : AreImages w.data_dev w.hash_dev s) where
-  begin-of : IsShape (shape_of s) → IsAllowed plan.write w.data_dev w.hash_dev → plan.copy_first ≤ 2 ^ 55 → CanRun (job_of s plan) (world w.data_dev h w.data_copies w.hash_copies)
+module _ (s : SuperRecord) (plan : Plan) (parity : Bool) (j : Job) (w : World) (h : Device) (same : j ≡ job_of s plan parity) (read : IsOnlyRead w.hash_dev h) (images : AreImages w.data_dev w.hash_dev s) where
+  begin-of : IsShape (shape_of s) → IsAllowed plan.write w.data_dev w.hash_dev → plan.copy_first ≤ 2 ^ 55 → CanRun (job_of s plan parity) (world w.data_dev h w.data_copies w.hash_copies)
   begin-of valid allowed small = record {
     valid = valid;
     data_fits = images.data_fits;
@@ -26,7 +26,7 @@ module _ (s : SuperRecord) (plan : Plan) (j : Job) (w : World) (h : Device) (sam
   pub can-begin : IsShape (shape_of s) → IsAllowed plan.write w.data_dev w.hash_dev → plan.copy_first ≤ 2 ^ 55 → CanRun j (world w.data_dev h w.data_copies w.hash_copies)
   can-begin valid allowed small = subst (λ (x : Job). CanRun x (world w.data_dev h w.data_copies w.hash_copies)) (sym same) (begin-of valid allowed small)
 
-  repairs-of : (w' : World) (old new : Option (List ℕ)) (ok : Bool) → HasRun j (world w.data_dev h w.data_copies w.hash_copies) w' old new ok → Repairs plan w w' old new ok
+  repairs-of : (w' : World) (old new : Option (List ℕ)) (ok : Bool) → HasRun j (world w.data_dev h w.data_copies w.hash_copies) w' old new ok → Repairs plan parity w w' old new ok
   repairs-of w' old new ok run = record {
     s = s;
     images = images;
@@ -34,11 +34,11 @@ module _ (s : SuperRecord) (plan : Plan) (j : Job) (w : World) (h : Device) (sam
         (has-then j w (world w.data_dev h w.data_copies w.hash_copies) w' old old new ok (has-read j w (world w.data_dev h w.data_copies w.hash_copies) old (tree-read w h read)) run);
   }
 
-  pub whole-ok : (w' : World) (old new : Option (List ℕ)) (r : Result (Unit {0}) RepairFault) → HasRun j (world w.data_dev h w.data_copies w.hash_copies) w' old new (is_ok r) → OnOk r (Repairs plan w w' old new true)
+  pub whole-ok : (w' : World) (old new : Option (List ℕ)) (r : Result (Unit {0}) RepairFault) → HasRun j (world w.data_dev h w.data_copies w.hash_copies) w' old new (is_ok r) → OnOk r (Repairs plan parity w w' old new true)
   whole-ok w' old new (Ok x) run = repairs-of w' old new true run
   whole-ok w' old new (Err e) run = tt
 
-  pub whole-err : (w' : World) (old new : Option (List ℕ)) (r : Result (Unit {0}) RepairFault) → HasRun j (world w.data_dev h w.data_copies w.hash_copies) w' old new (is_ok r) → IfErr r (IsUnrepaired plan w w' old new)
+  pub whole-err : (w' : World) (old new : Option (List ℕ)) (r : Result (Unit {0}) RepairFault) → HasRun j (world w.data_dev h w.data_copies w.hash_copies) w' old new (is_ok r) → IfErr r (IsUnrepairedBy plan parity w w' old new)
   whole-err w' old new (Ok x) run = tt
   whole-err w' old new (Err e) run = inr (repairs-of w' old new false run)
 

@@ -9,7 +9,9 @@ use Rattle.std.proofs.lemmas.Grind.{flat_map-append}
 use Rattle.std.proofs.lemmas.List.{append-nil}
 use Rattle.std.proofs.lemmas.List.Elements.{All-append, All-cons, All-nil}
 use Rattle.block_device.specs.Device.{Device, IsSameDevice}
-use Rattle.verity_format.specs.Blocks.{IsOnlyRead}
+use Rattle.fec_area.specs.declared.layout.Layout.{Layout}
+use Rattle.fec_area.specs.Layouts.{IsLaidOn}
+use Rattle.verity_format.specs.Blocks.{AreOnlyRead, IsOnlyRead}
 use Rattle.tree_path.proofs.lemmas.DeviceLemmas.{only_read-none, only_read-then, same-none, same-then}
 use Rattle.tree_repair.specs.declared.mending.Mended.{Mended}
 use Rattle.tree_repair.specs.declared.mending.Mended.TheVariants as mended
@@ -86,6 +88,8 @@ mended-same l bytes done mended.Good found = found.read.same
 mended-same l bytes done (mended.Copy k) found = same-then found.read.same (put-same l.write found.between l.first l.w.sectors bytes done l.new found.put)
 mended-same l bytes done mended.Remade found =
     same-then found.read.same (same-then found.beneath_read.same (put-same l.write found.between l.first l.w.sectors bytes done l.new found.put))
+mended-same l bytes done mended.Parity found =
+    same-then found.replaced.read.same (put-same l.write found.replaced.between l.first l.w.sectors bytes done l.new found.replaced.put)
 mended-same l bytes done mended.Lost found = same-then found.read.same found.beneath_read.same
 
 -- the other device is the same one, and a steady one holds what it held
@@ -97,6 +101,7 @@ other-same zero m old new stays = is-same old new stays
 other-same (suc l) mended.Good old new stays = is-same old new stays
 other-same (suc l) (mended.Copy k) old new stays = is-same old new stays
 other-same (suc l) mended.Remade old new stays = stays.same
+other-same (suc l) mended.Parity old new stays = is-same old new stays
 other-same (suc l) mended.Lost old new stays = stays.same
 
 pub other-image : (h : ℕ) (m : Mended) (old new : Device) → OtherStays h m old new → IsTrue old.steady → new.image ≡ old.image
@@ -104,6 +109,7 @@ other-image zero m old new stays steady = ap (λ (x : Device). x.image) stays
 other-image (suc l) mended.Good old new stays steady = ap (λ (x : Device). x.image) stays
 other-image (suc l) (mended.Copy k) old new stays steady = ap (λ (x : Device). x.image) stays
 other-image (suc l) mended.Remade old new stays steady = stays.image steady
+other-image (suc l) mended.Parity old new stays steady = ap (λ (x : Device). x.image) stays
 other-image (suc l) mended.Lost old new stays steady = stays.image steady
 
 pub record AreSame (a b : World) : Type 0 where
@@ -145,3 +151,24 @@ can-later j a b old new ok run = can-same j a b (runs-same j run.visits a b run.
 -- the hash device alone was read
 pub tree-read : (w : World) (d : Device) → IsOnlyRead w.hash_dev d → IsWorldRead w (world w.data_dev d w.data_copies w.hash_copies)
 tree-read w d read = record { data_read = only_read-none w.data_dev; hash_read = read; data_copies_read = each-none w.data_copies; hash_copies_read = each-none w.hash_copies }
+
+-- copies aren't asked for
+pub can-any : (j : Job) (d h : Device) (cs es cs' es' : List Device) → CanRun j (world d h cs es) → CanRun j (world d h cs' es')
+can-any j d h cs es cs' es' can = record {
+  valid = can.valid;
+  data_fits = can.data_fits;
+  tree_fits = can.tree_fits;
+  data_writable = can.data_writable;
+  hash_writable = can.hash_writable;
+  copy_small = can.copy_small;
+}
+
+-- data and hash device were read
+pub both-read : (w : World) (d h : Device) → AreOnlyRead w.data_dev w.hash_dev d h → IsWorldRead w (world d h w.data_copies w.hash_copies)
+both-read w d h read = record { data_read = read.data_read; hash_read = read.hash_read; data_copies_read = each-none w.data_copies; hash_copies_read = each-none w.hash_copies }
+
+-- covered blocks still lie on the devices
+pub laid-later : (l : Layout) (j : Job) (a b : World) (old new : Option (List ℕ)) (ok : Bool) → HasRun j a b old new ok → IsLaidOn l a.data_dev a.hash_dev → IsLaidOn l b.data_dev b.hash_dev
+laid-later l j a b old new ok run laid =
+    let same = runs-same j run.visits a b run.runs in
+    record { layout = laid.layout; data_room = omega (arith, laid.data_room, same.data_same.size); hash_room = omega (arith, laid.hash_room, same.hash_same.size) }

@@ -37,6 +37,9 @@ module _ (k : ℕ) (d : List ℕ) where
       let seen : IsTrue found.seen.steady = steady-then found.read.same steady in
       put-stays l.write found.between l.first l.w.sectors bytes done l.new found.put (steady-then found.beneath_read.same seen) (outside tt)
       ∙ ap (λ (im : List (List ℕ)). get_or im k d) (found.beneath_read.image seen ∙ found.read.image steady)
+  look-stays l bytes done mended.Parity found steady outside =
+      put-stays l.write found.replaced.between l.first l.w.sectors bytes done l.new found.replaced.put (steady-then found.replaced.read.same steady) (outside tt)
+      ∙ ap (λ (im : List (List ℕ)). get_or im k d) (found.replaced.read.image steady)
   look-stays l bytes done mended.Lost found steady outside =
       ap (λ (im : List (List ℕ)). get_or im k d) (found.beneath_read.image (steady-then found.read.same steady) ∙ found.read.image steady)
 

@@ -10,18 +10,25 @@ use Rattle.tree_path.specs.Path.{PathRecord, digest_on}
 use Rattle.tree_survey.specs.Surveys.{IsWay}
 use Rattle.tree_repair.specs.declared.mending.Mended.{Mended}
 use Rattle.tree_repair.specs.declared.mending.Mended.TheVariants as mended
-use Rattle.tree_repair.specs.Mending.{IsFoundNowhere, IsMended, IsNotRemade, IsPut, IsUnmended}
+use Rattle.tree_repair.specs.Mending.{IsBareOf, IsFoundNowhere, IsMended, IsNotRemade, IsPut, IsUnmended}
 use Rattle.tree_repair.specs.Remaking.{IsMadeBeneath, IsNowhereBeneath}
 use Rattle.tree_repair.specs.Runs.{IsVisited, Job, visit, world}
 use Rattle.tree_repair.proofs.MakeLemmas.{over-before, unlike-before}
 use Rattle.tree_repair.specs.Visits.{FailsToMake, IsHashLooked, IsHashSeen, IsHashUnmended, IsLooked, IsMade, data_look, hash_look}
+
+plain-bare : (parity : Bool) (m : Mended) → IsNotRemade m → IsBareOf parity m
+plain-bare parity mended.Good plain = tt
+plain-bare parity (mended.Copy k) plain = tt
+plain-bare parity mended.Remade plain = plain
+plain-bare parity mended.Parity plain = absurd plain
+plain-bare parity mended.Lost plain = tt
 
 module _ (j : Job) (p : PathRecord) (h i : ℕ) (inside : i < j.tree.shape.blocks) (way : IsWay j.tree i h p) where
   module _ (none : h ≡ 0) (d d' e : Device) (cs cs' es : List Device) where
     data-visit : (m : Mended) (bytes : List ℕ) (done : Bool) → IsNotRemade m → IsMended (data_look j p i d d' cs cs') bytes done m → IsVisited j (visit h i m bytes done) (world d e cs es) (world d' e cs' es)
     data-visit m bytes done plain looked =
         subst (λ (n : ℕ). IsVisited j (visit n i m bytes done) (world d e cs es) (world d' e cs' es)) (sym none)
-        (record { inside = inside; p = p; way = subst (λ (n : ℕ). IsWay j.tree i n p) none way; mended_as = looked; made_of = plain; other_stays = refl; copies_are = refl })
+        (record { inside = inside; p = p; way = subst (λ (n : ℕ). IsWay j.tree i n p) none way; mended_as = looked; made_of = plain-bare j.parity m plain; other_stays = refl; copies_are = refl })
 
     pub data-made : {E : Type 0} (r : Result Mended E) → IfOk r IsNotRemade → IfOk r (IsLooked (data_look j p i d d' cs cs')) → IfOk r (IsMade j h i (world d e cs es) (world d' e cs' es))
     data-made (Ok m) plain looked = (looked.0, data-visit m looked.0 true plain looked.1)

@@ -6,7 +6,7 @@ use Rattle.tree_repair.specs.declared.place.Row.{Row}
 use Rattle.tree_repair.specs.Runs.{Job}
 
 abbrev pub job : Repair → Job
-job r = record { tree = record { shape = r.shape; salt = r.salt; root = r.root }; copy_first = r.copy_first; write = r.write }
+job r = record { tree = record { shape = r.shape; salt = r.salt; root = r.root }; copy_first = r.copy_first; write = r.write; parity = r.parity }
 
 -- the blocks of a row stand beneath one hash block
 pub record IsRow (s : ShapeRecord) (r : Row) : Type 0 where

@@ -23,7 +23,7 @@ block_below (b ∷ path) content (suc d) = block_below path content d
 abbrev pub block_in : Tree → ChainRecord → ℕ → List ℕ
 block_in t c h = block_below c.path c.content (levels t.shape - h)
 
--- it wasn't good, and was found in a copy or made again
+-- it wasn't good, and was found elsewhere or made again
 pub record IsMendedBy (j : Job) (v : Visit) (w w' : World) : Type 0 where
   pub visited : IsVisited j v w w'
   pub found : IsFound v.mended

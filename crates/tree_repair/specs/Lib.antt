@@ -7,3 +7,4 @@ pub mod Jobs
 pub mod Visits
 pub mod Repairs
 pub mod Laws
+pub mod Parity

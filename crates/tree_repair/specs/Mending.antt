@@ -58,6 +58,19 @@ pub record IsFoundBeneath (l : Look) (bytes : List ℕ) (done : Bool) : Type 0 w
   pub good : digest l.w.salt bytes ≡ l.w.digest_is
   pub put : IsPut l.write between l.first l.w.sectors bytes done l.new
 
+-- it isn't good, and good bytes are at hand: they were written, or the write failed
+pub record IsReplaced (old : Device) (first : ℕ) (w : Wanted) (write : Bool) (bytes : List ℕ) (done : Bool) (new : Device) : Type 0 where
+  pub between : Device
+  pub read : IsOnlyRead old between
+  pub bad : IsBad old first w between
+  pub good : digest w.salt bytes ≡ w.digest_is
+  pub put : IsPut write between first w.sectors bytes done new
+
+-- so, by parity that was asked before
+pub record IsFoundByParity (l : Look) (bytes : List ℕ) (done : Bool) : Type 0 where
+  pub replaced : IsReplaced l.old l.first l.w l.write bytes done l.new
+  pub copies_read : AreEachRead l.copies l.copies'
+
 -- it isn't, and no copy has it, nor was it made again: nothing is written
 pub record IsFoundNowhere (l : Look) : Type 0 where
   pub seen : Device
@@ -71,6 +84,7 @@ abbrev pub IsMended : Look → List ℕ → Bool → Mended → Type 0
 IsMended l bytes done mended.Good = IsFoundGood l bytes
 IsMended l bytes done (mended.Copy k) = IsFoundIn l k bytes done
 IsMended l bytes done mended.Remade = IsFoundBeneath l bytes done
+IsMended l bytes done mended.Parity = IsFoundByParity l bytes done
 IsMended l bytes done mended.Lost = IsFoundNowhere l
 
 -- it wasn't good, and its bytes were found or made
@@ -78,14 +92,24 @@ abbrev pub IsFound : Mended → Type 0
 IsFound mended.Good = ⊥
 IsFound (mended.Copy k) = Unit {0}
 IsFound mended.Remade = Unit {0}
+IsFound mended.Parity = Unit {0}
 IsFound mended.Lost = ⊥
 
--- it wasn't made again
+-- it wasn't made again, nor brought back by parity
 abbrev pub IsNotRemade : Mended → Type 0
 IsNotRemade mended.Good = Unit {0}
 IsNotRemade (mended.Copy k) = Unit {0}
 IsNotRemade mended.Remade = ⊥
+IsNotRemade mended.Parity = ⊥
 IsNotRemade mended.Lost = Unit {0}
+
+-- it wasn't made again, and was brought back by parity only where there is any
+abbrev pub IsBareOf : Bool → Mended → Type 0
+IsBareOf parity mended.Good = Unit {0}
+IsBareOf parity (mended.Copy k) = Unit {0}
+IsBareOf parity mended.Remade = ⊥
+IsBareOf parity mended.Parity = IsTrue parity
+IsBareOf parity mended.Lost = Unit {0}
 
 -- it was found in a copy, but can't be written
 abbrev pub IsUnmended : Look → Type 0

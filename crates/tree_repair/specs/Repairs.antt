@@ -9,9 +9,9 @@ use Rattle.tree_repair.specs.declared.fault.RepairFault.TheVariants.{Image, Writ
 use Rattle.tree_repair.specs.declared.repair.Plan.{Plan}
 use Rattle.tree_repair.specs.Runs.{HasRun, IsWorldRead, Job, World}
 
--- that of the tree of a superblock under the plan's root
-abbrev pub job_of : SuperRecord → Plan → Job
-job_of s plan = record { tree = record { shape = shape_of s; salt = s.salt; root = plan.root }; copy_first = plan.copy_first; write = plan.write }
+-- that of the tree of a superblock under the plan's root, with parity or without
+abbrev pub job_of : SuperRecord → Plan → Bool → Job
+job_of s plan parity = record { tree = record { shape = shape_of s; salt = s.salt; root = plan.root }; copy_first = plan.copy_first; write = plan.write; parity = parity }
 
 -- the devices may be written if anything may
 pub record IsAllowed (write : Bool) (data_dev hash_dev : Device) : Type 0 where
@@ -19,14 +19,18 @@ pub record IsAllowed (write : Bool) (data_dev hash_dev : Device) : Type 0 where
   pub hash_writable : IsTrue write → IsTrue hash_dev.may_write
 
 -- the superblock was read, and then the blocks of its tree were gone over
-pub record Repairs (plan : Plan) (w w' : World) (old new : Option (List ℕ)) (ok : Bool) : Type 0 where
+pub record Repairs (plan : Plan) (parity : Bool) (w w' : World) (old new : Option (List ℕ)) (ok : Bool) : Type 0 where
   pub s : SuperRecord
   pub images : AreImages w.data_dev w.hash_dev s
-  pub run : HasRun (job_of s plan) w w' old new ok
+  pub run : HasRun (job_of s plan parity) w w' old new ok
 
 -- to the end
 abbrev pub IsRepair : Plan → World → World → Option (List ℕ) → Option (List ℕ) → Type 0
-IsRepair plan w w' old new = Repairs plan w w' old new true
+IsRepair plan w w' old new = Repairs plan false w w' old new true
+
+-- the same with parity
+abbrev pub IsParityRepair : Plan → World → World → Option (List ℕ) → Option (List ℕ) → Type 0
+IsParityRepair plan w w' old new = Repairs plan true w w' old new true
 
 -- ---- why there was nothing to be gone over
 
@@ -36,5 +40,11 @@ IsImageCause data_dev hash_dev hash_dev' (Image fault) = IsSuperblockCause data_
 IsImageCause data_dev hash_dev hash_dev' Write = ⊥
 
 -- so, and the devices were only read; or the blocks were gone over, and not to the end
+abbrev pub IsUnrepairedBy : Plan → Bool → World → World → Option (List ℕ) → Option (List ℕ) → RepairFault → Type 0
+IsUnrepairedBy plan parity w w' old new fault = (IsWorldRead w w' × IsImageCause w.data_dev w.hash_dev w'.hash_dev fault) ⊎ Repairs plan parity w w' old new false
+
 abbrev pub IsUnrepaired : Plan → World → World → Option (List ℕ) → Option (List ℕ) → RepairFault → Type 0
-IsUnrepaired plan w w' old new fault = (IsWorldRead w w' × IsImageCause w.data_dev w.hash_dev w'.hash_dev fault) ⊎ Repairs plan w w' old new false
+IsUnrepaired plan w w' old new fault = IsUnrepairedBy plan false w w' old new fault
+
+abbrev pub IsParityUnrepaired : Plan → World → World → Option (List ℕ) → Option (List ℕ) → RepairFault → Type 0
+IsParityUnrepaired plan w w' old new fault = IsUnrepairedBy plan true w w' old new fault

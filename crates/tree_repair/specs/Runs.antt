@@ -10,7 +10,7 @@ use Rattle.tree_path.specs.Path.{PathRecord, digest_on}
 use Rattle.tree_survey.specs.Surveys.{Tree, IsWay}
 use Rattle.tree_repair.specs.declared.mending.Mended.{Mended}
 use Rattle.tree_repair.specs.declared.mending.Mended.TheVariants as mended
-use Rattle.tree_repair.specs.Mending.{Look, IsMended, IsNotRemade}
+use Rattle.tree_repair.specs.Mending.{Look, IsBareOf, IsMended}
 use Rattle.tree_repair.specs.Remaking.{IsMadeBeneath, IsNowhereBeneath}
 use Rattle.tree_repair.specs.Sources.{AreEachRead, wanted}
 
@@ -24,11 +24,12 @@ pub record World : Type 0 where
 abbrev pub world : Device → Device → List Device → List Device → World
 world data_dev hash_dev data_copies hash_copies = record { data_dev = data_dev; hash_dev = hash_dev; data_copies = data_copies; hash_copies = hash_copies }
 
--- a tree, the sector at which hash blocks begin on a copy, and whether anything may be written
+-- a tree, the sector at which hash blocks begin on a copy, whether anything may be written, and whether there is parity
 pub record Job : Type 0 where
   pub tree : Tree
   pub copy_first : ℕ
   pub write : Bool
+  pub parity : Bool
 
 -- ---- a block: a data block has height 0, a hash block of level l height l + 1; its index is that of the first data block beneath
 
@@ -96,14 +97,17 @@ OtherStays zero m old new = new ≡ old
 OtherStays (suc l) mended.Good old new = new ≡ old
 OtherStays (suc l) (mended.Copy k) old new = new ≡ old
 OtherStays (suc l) mended.Remade old new = IsOnlyRead old new
+OtherStays (suc l) mended.Parity old new = new ≡ old
 OtherStays (suc l) mended.Lost old new = IsOnlyRead old new
 
 -- A hash block that was made again is made of the blocks beneath it, and one that is lost can't be. A data block isn't made.
+-- Only where there is parity a block was brought back by it.
 abbrev pub IsMadeOf : Job → PathRecord → ℕ → ℕ → Device → Device → List ℕ → Mended → Type 0
-IsMadeOf j p zero i data_dev hash_dev bytes m = IsNotRemade m
+IsMadeOf j p zero i data_dev hash_dev bytes m = IsBareOf j.parity m
 IsMadeOf j p (suc l) i data_dev hash_dev bytes mended.Good = Unit {0}
 IsMadeOf j p (suc l) i data_dev hash_dev bytes (mended.Copy k) = Unit {0}
 IsMadeOf j p (suc l) i data_dev hash_dev bytes mended.Remade = IsMadeBeneath j.tree.shape j.tree.salt data_dev hash_dev l i bytes
+IsMadeOf j p (suc l) i data_dev hash_dev bytes mended.Parity = IsTrue j.parity
 IsMadeOf j p (suc l) i data_dev hash_dev bytes mended.Lost = IsNowhereBeneath j.tree.shape j.tree.salt data_dev hash_dev l i (digest_on p i (l + 1))
 
 -- Good hash blocks lead from the root to the block's digest, and by that it was found good, mended or lost.
@@ -149,6 +153,17 @@ abbrev pub made_line : Job → ℕ → ℕ → List ℕ
 made_line j zero i = []
 made_line j (suc l) i = remade_line j.write l (ancestor j.tree.shape (l + 1) i)
 
+-- `VERB data INDEX parity` or `VERB hash LEVEL NUMBER parity`
+unfoldable pub data_parity_line : Bool → ℕ → List ℕ
+data_parity_line write i = verb write ++ (codes " data " ++ (decimal i ++ codes " parity\n"))
+
+unfoldable pub hash_parity_line : Bool → ℕ → ℕ → List ℕ
+hash_parity_line write l n = verb write ++ (codes " hash " ++ (decimal l ++ (codes " " ++ (decimal n ++ codes " parity\n"))))
+
+abbrev pub parity_line : Job → ℕ → ℕ → List ℕ
+parity_line j zero i = data_parity_line j.write i
+parity_line j (suc l) i = hash_parity_line j.write l (ancestor j.tree.shape (l + 1) i)
+
 abbrev pub copy_line : Job → ℕ → ℕ → ℕ → List ℕ
 copy_line j zero i k = data_line j.write i k
 copy_line j (suc l) i k = hash_line j.write l (ancestor j.tree.shape (l + 1) i) k
@@ -158,6 +173,7 @@ abbrev pub mended_line : Job → ℕ → ℕ → Mended → List ℕ
 mended_line j h i mended.Good = []
 mended_line j h i (mended.Copy k) = copy_line j h i k
 mended_line j h i mended.Remade = made_line j h i
+mended_line j h i mended.Parity = parity_line j h i
 mended_line j h i mended.Lost = []
 
 abbrev pub line_of : Job → Visit → List ℕ

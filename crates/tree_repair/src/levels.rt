@@ -7,6 +7,7 @@ ghost use Rattle.tree_repair.specs.Jobs.{IsRow, job};
 ghost use Rattle.tree_repair.specs.Runs.{CanRun, HasRun, size_at, world};
 ghost use Rattle.verity_format.specs.Image.{tree_sectors};
 
+use crate::bad::BadBlocks;
 use crate::fault::RepairFault;
 use crate::place::{MOST_BYTES, Place, Repair, Row, block_size};
 use crate::saying::say_mended;
@@ -26,6 +27,7 @@ pub(crate) fn repair_height<D: BlockDev, H: BlockDev, C: BlockDev, W: Write>(
     hash_dev: &mut H,
     data_copies: &mut [C],
     hash_copies: &mut [C],
+    bad: &mut BadBlocks,
     writer: &mut Counted<W>,
 ) -> Result<(), RepairFault>
     requires can { CanRun (job repair.now) (world (D.state data_dev.old) (H.state hash_dev.old) (map C.state data_copies.old) (map C.state hash_copies.old)) }
@@ -53,6 +55,7 @@ pub(crate) fn repair_height<D: BlockDev, H: BlockDev, C: BlockDev, W: Write>(
             hash_dev,
             data_copies,
             hash_copies,
+            bad,
             writer,
         )?;
         first = end;
@@ -69,6 +72,7 @@ fn repair_row<D: BlockDev, H: BlockDev, C: BlockDev, W: Write>(
     hash_dev: &mut H,
     data_copies: &mut [C],
     hash_copies: &mut [C],
+    bad: &mut BadBlocks,
     writer: &mut Counted<W>,
 ) -> Result<(), RepairFault>
     requires can { CanRun (job repair.now) (world (D.state data_dev.old) (H.state hash_dev.old) (map C.state data_copies.old) (map C.state hash_copies.old)) }
@@ -88,6 +92,7 @@ fn repair_row<D: BlockDev, H: BlockDev, C: BlockDev, W: Write>(
             hash_dev,
             data_copies,
             hash_copies,
+            bad,
             writer,
         ),
     }
@@ -103,6 +108,7 @@ fn repair_along<D: BlockDev, H: BlockDev, C: BlockDev, W: Write>(
     hash_dev: &mut H,
     data_copies: &mut [C],
     hash_copies: &mut [C],
+    bad: &mut BadBlocks,
     writer: &mut Counted<W>,
 ) -> Result<(), RepairFault>
     requires can { CanRun (job repair.now) (world (D.state data_dev.old) (H.state hash_dev.old) (map C.state data_copies.old) (map C.state hash_copies.old)) }
@@ -126,12 +132,13 @@ fn repair_along<D: BlockDev, H: BlockDev, C: BlockDev, W: Write>(
         hash_copies,
         piece,
         memory,
+        bad,
         writer,
     )
 }
 
-// The hash blocks on the way to a data block, from the root down to that height, if all are good.
-fn way_to<H: BlockDev>(
+/// The hash blocks on the way to a data block, from the root down to that height, if all are good.
+pub(crate) fn way_to<H: BlockDev>(
     alloc: Global,
     repair: &Repair,
     hash_dev: &mut H,
@@ -153,7 +160,8 @@ fn way_to<H: BlockDev>(
     }
 }
 
-fn zeros(alloc: Global, size: usize) -> Result<Vec<u8>, AllocError>
+/// So many zeros.
+pub(crate) fn zeros(alloc: Global, size: usize) -> Result<Vec<u8>, AllocError>
     ensures { IfOk result (λ v. v.items ≡ replicate size 0) }
 {
     vec![in alloc; 0u8; size]
@@ -170,6 +178,7 @@ fn repair_blocks<D: BlockDev, H: BlockDev, C: BlockDev, W: Write>(
     hash_copies: &mut [C],
     block: &mut [u8],
     memory: &mut [u8],
+    bad: &mut BadBlocks,
     writer: &mut Counted<W>,
 ) -> Result<(), RepairFault>
     requires can { CanRun (job repair.now) (world (D.state data_dev.old) (H.state hash_dev.old) (map C.state data_copies.old) (map C.state hash_copies.old)) }
@@ -198,6 +207,7 @@ fn repair_blocks<D: BlockDev, H: BlockDev, C: BlockDev, W: Write>(
             hash_copies,
             block,
             memory,
+            bad,
             writer,
         )?;
         index += step;
@@ -216,6 +226,7 @@ fn repair_block<D: BlockDev, H: BlockDev, C: BlockDev, W: Write>(
     hash_copies: &mut [C],
     block: &mut [u8],
     memory: &mut [u8],
+    bad: &mut BadBlocks,
     writer: &mut Counted<W>,
 ) -> Result<(), RepairFault>
     requires can { CanRun (job repair.now) (world (D.state data_dev.old) (H.state hash_dev.old) (map C.state data_copies.old) (map C.state hash_copies.old)) }
@@ -237,5 +248,6 @@ fn repair_block<D: BlockDev, H: BlockDev, C: BlockDev, W: Write>(
         memory,
     )?;
     say_mended(writer, repair, place, mended)?;
+    bad.note(place, mended, repair.write)?;
     Ok(())
 }

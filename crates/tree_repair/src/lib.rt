@@ -2,10 +2,13 @@
 //! made again from the blocks beneath it, and the bytes are written that have its digest.
 #![tactic(auto)]
 
+mod bad;
 mod fault;
 pub mod laws;
 mod levels;
 mod mending;
+mod parity;
+mod passes;
 mod place;
 mod remaking;
 mod repair;
@@ -15,4 +18,5 @@ mod visiting;
 
 pub use fault::RepairFault;
 pub use mending::Mended;
+pub use passes::repair_with_parity;
 pub use repair::{Plan, repair_image};

@@ -17,6 +17,8 @@ pub enum Mended {
     Copy(usize),
     /// It is a hash block, and wasn't good, no copy has it, and it was made again from the blocks beneath it.
     Remade,
+    /// It wasn't, no other source has it, and parity brought it back.
+    Parity,
     /// It isn't, and was found nowhere.
     Lost,
 }

@@ -9,7 +9,7 @@ use tree_shape::{Digest, Salt, Shape};
 /// The most bytes that a block has.
 pub(crate) const MOST_BYTES: usize = 4096;
 
-/// A tree, the sector at which hash blocks begin on a copy, and whether anything may be written.
+/// A tree, the sector at which hash blocks begin on a copy, whether anything may be written, and whether there is parity.
 #[derive(Drop)]
 pub(crate) struct Repair {
     pub(crate) shape: Shape,
@@ -17,6 +17,7 @@ pub(crate) struct Repair {
     pub(crate) root: Digest,
     pub(crate) copy_first: u64,
     pub(crate) write: bool,
+    pub(crate) parity: bool,
 }
 
 /// A block: a data block has height 0, a hash block of level l height l + 1. Its index is that of the first data block

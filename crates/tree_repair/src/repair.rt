@@ -8,6 +8,7 @@ ghost use Rattle.tree_repair.specs.Jobs.{job};
 ghost use Rattle.tree_repair.specs.Repairs.{IsAllowed, IsImageCause, IsRepair, IsUnrepaired, job_of};
 ghost use Rattle.tree_repair.specs.Runs.{CanRun, HasRun, world};
 
+use crate::bad::BadBlocks;
 use crate::fault::RepairFault;
 use crate::levels::repair_height;
 use crate::place::Repair;
@@ -44,7 +45,8 @@ pub fn repair_image<D: BlockDev, H: BlockDev, C: BlockDev, W: Write>(
     ensures err { IfErr result (IsUnrepaired plan (world (D.state data_dev.old) (H.state hash_dev.old) (map C.state data_copies.old) (map C.state hash_copies.old)) (world (D.state data_dev.new) (H.state hash_dev.new) (map C.state data_copies.new) (map C.state hash_copies.new)) (W.contents writer.old.inner) (W.contents writer.new.inner)) }
 {
     let superblock = superblock_of(data_dev, hash_dev)?;
-    let repair = repair_of(&superblock, &plan);
+    let repair = repair_of(&superblock, &plan, false);
+    let mut bad = BadBlocks::new(alloc, false);
     repair_heights(
         alloc,
         &repair,
@@ -52,13 +54,14 @@ pub fn repair_image<D: BlockDev, H: BlockDev, C: BlockDev, W: Write>(
         hash_dev,
         data_copies,
         hash_copies,
+        &mut bad,
         writer,
     )
 }
 
-// What is repaired by a plan.
-fn repair_of(superblock: &Superblock, plan: &Plan) -> Repair
-    ensures job { job result ≡ job_of superblock.now plan.now }
+/// What is repaired by a plan, with parity or without.
+pub(crate) fn repair_of(superblock: &Superblock, plan: &Plan, parity: bool) -> Repair
+    ensures job { job result ≡ job_of superblock.now plan.now parity }
     ensures valid { IsShape (shape_of superblock.now) }
 {
     let shape = superblock.shape();
@@ -69,11 +72,12 @@ fn repair_of(superblock: &Superblock, plan: &Plan) -> Repair
         root: plan.root,
         copy_first: plan.copy_first,
         write: plan.write,
+        parity,
     }
 }
 
-// The superblock of the hash device, where data and tree lie on the devices.
-fn superblock_of<D: BlockDev, H: BlockDev>(
+/// The superblock of the hash device, where data and tree lie on the devices.
+pub(crate) fn superblock_of<D: BlockDev, H: BlockDev>(
     data_dev: &D,
     hash_dev: &mut H,
 ) -> Result<Superblock, RepairFault>
@@ -92,14 +96,15 @@ fn superblock_of<D: BlockDev, H: BlockDev>(
     Ok(superblock)
 }
 
-// Goes over all heights, from the top one down to the data.
-fn repair_heights<D: BlockDev, H: BlockDev, C: BlockDev, W: Write>(
+/// Goes over all heights, from the top one down to the data.
+pub(crate) fn repair_heights<D: BlockDev, H: BlockDev, C: BlockDev, W: Write>(
     alloc: Global,
     repair: &Repair,
     data_dev: &mut D,
     hash_dev: &mut H,
     data_copies: &mut [C],
     hash_copies: &mut [C],
+    bad: &mut BadBlocks,
     writer: &mut Counted<W>,
 ) -> Result<(), RepairFault>
     requires { CanRun (job repair.now) (world (D.state data_dev.old) (H.state hash_dev.old) (map C.state data_copies.old) (map C.state hash_copies.old)) }
@@ -117,6 +122,7 @@ fn repair_heights<D: BlockDev, H: BlockDev, C: BlockDev, W: Write>(
             hash_dev,
             data_copies,
             hash_copies,
+            bad,
             writer,
         )?;
     }

@@ -2,7 +2,7 @@
 ghost use Rattle.std.specs.Prelude.{◌≡◌, ◌<◌};
 ghost use Rattle.counted_io.specs.Counted.{Writes};
 ghost use Rattle.tree_repair.specs.Jobs.{job};
-ghost use Rattle.tree_repair.specs.Runs.{copy_line, data_line, hash_line, made_line, mended_line, remade_line, verb};
+ghost use Rattle.tree_repair.specs.Runs.{copy_line, data_line, data_parity_line, hash_line, hash_parity_line, made_line, mended_line, parity_line, remade_line, verb};
 
 use crate::mending::Mended;
 use crate::place::{Place, Repair};
@@ -23,6 +23,7 @@ pub(crate) fn say_mended<W: Write>(
         Mended::Good => writer.put(b""),
         Mended::Copy(number) => say_copy(writer, repair, place, number),
         Mended::Remade => say_made(writer, repair, place),
+        Mended::Parity => say_parity(writer, repair, place),
         Mended::Lost => writer.put(b""),
     }
 }
@@ -74,6 +75,50 @@ fn say_remade<W: Write>(
 {
     let verb = verb(write);
     writer.print(format_args!("{verb} hash {level} {block} remade\n"))
+}
+
+fn say_parity<W: Write>(
+    writer: &mut Counted<W>,
+    repair: &Repair,
+    place: Place,
+) -> Result<(), WriteFault>
+    requires { place.index < repair.now.shape.blocks }
+    ensures { Writes W.contents writer.old writer.new (parity_line (job repair.now) place.height place.index) result }
+{
+    let Place { height, index } = place;
+    if height == 0 {
+        return say_data_parity(writer, repair.write, index);
+    }
+    let level = height - 1;
+    let block = repair.shape.block_on_path(level, index);
+    say_hash_parity(writer, repair.write, level, block)
+}
+
+// `VERB data INDEX parity`
+#[tactic(auto, unfolding(crate::specs::Runs::data_parity_line))]
+fn say_data_parity<W: Write>(
+    writer: &mut Counted<W>,
+    write: bool,
+    index: u64,
+) -> Result<(), WriteFault>
+    ensures { Writes W.contents writer.old writer.new (data_parity_line write index) result }
+{
+    let verb = verb(write);
+    writer.print(format_args!("{verb} data {index} parity\n"))
+}
+
+// `VERB hash LEVEL NUMBER parity`
+#[tactic(auto, unfolding(crate::specs::Runs::hash_parity_line))]
+fn say_hash_parity<W: Write>(
+    writer: &mut Counted<W>,
+    write: bool,
+    level: u32,
+    block: u64,
+) -> Result<(), WriteFault>
+    ensures { Writes W.contents writer.old writer.new (hash_parity_line write level block) result }
+{
+    let verb = verb(write);
+    writer.print(format_args!("{verb} hash {level} {block} parity\n"))
 }
 
 fn verb(write: bool) -> &'static str

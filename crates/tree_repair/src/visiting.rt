@@ -108,6 +108,7 @@ fn visit_hash<D: BlockDev, H: BlockDev, C: BlockDev>(
         Mended::Good => Ok(Mended::Good),
         Mended::Copy(number) => Ok(Mended::Copy(number)),
         Mended::Remade => Ok(Mended::Remade),
+        Mended::Parity => Ok(Mended::Parity),
         Mended::Lost => {
             if !remake(
                 path, repair, level, index, data_dev, hash_dev, block, memory,

@@ -28,3 +28,12 @@ returns g c =
     let b = world (g.D.BlockDev.state c.visit.new.data_dev) (g.H.BlockDev.state c.visit.new.hash_dev) (map g.C.BlockDev.state c.visit.new.data_copies) (map g.C.BlockDev.state c.visit.new.hash_copies) in
     let f = c.in_ok-mended.ensures.ok in
     has-one (job c.args.repair.now) (visit c.args.place.height c.args.place.index c.in_ok-mended.mended f.0 true) a b (g.W.Write.contents c.args.writer.now.inner) (g.W.Write.contents c.say_mended.new.writer.inner) f.1 refl c.in_ok-say_mended.ensures.ok
+
+pub returns-in_err-note : goal.returns-in_err-note
+returns-in_err-note g c =
+    let a = world (g.D.BlockDev.state c.args.data_dev.now) (g.H.BlockDev.state c.args.hash_dev.now) (map g.C.BlockDev.state c.args.data_copies.now) (map g.C.BlockDev.state c.args.hash_copies.now) in
+    let b = world (g.D.BlockDev.state c.visit.new.data_dev) (g.H.BlockDev.state c.visit.new.hash_dev) (map g.C.BlockDev.state c.visit.new.data_copies) (map g.C.BlockDev.state c.visit.new.hash_copies) in
+    let f = c.in_ok-mended.ensures.ok in
+    let v = visit c.args.place.height c.args.place.index c.in_ok-mended.mended f.0 true in
+    ended-from c.from_residual-in_err-note.result _ (job c.args.repair.now) a b (g.W.Write.contents c.args.writer.now.inner) (g.W.Write.contents c.say_mended.new.writer.inner) c.from_residual-in_err-note.ensures.1
+    (has-ended (job c.args.repair.now) a b (g.W.Write.contents c.args.writer.now.inner) (g.W.Write.contents c.say_mended.new.writer.inner) (v ∷ []) (runs-one (job c.args.repair.now) v a b f.1))

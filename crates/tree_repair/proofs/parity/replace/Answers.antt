@@ -1,0 +1,39 @@
+use Rattle.std.proofs.Common.{arith}
+use Rattle.tree_repair.proofs.ParityLemmas.{if_ok-from}
+use Rattle.tree_repair.proofs.SourceLemmas.{on_err-from}
+use Rattle.tree_repair.proofs.parity.replace.Goals as goal
+
+pub is_there-requires : goal.is_there-requires
+is_there-requires g c = rw c.requires.size c.requires.inside
+
+pub put-requires-clause-inside : goal.put-requires-clause-inside
+put-requires-clause-inside g c = record {
+  some = c.requires.inside.some;
+  whole = c.requires.inside.whole;
+  inside = omega (arith, c.requires.inside.inside, c.is_there.ensures.read.same.size);
+}
+
+pub returns-then-is_there-clause-ok : goal.returns-then-is_there-clause-ok
+returns-then-is_there-clause-ok g c = c.is_there.ensures.read
+
+pub returns-clause-ok : goal.returns-clause-ok
+returns-clause-ok g c = record {
+  between = g.B.BlockDev.state c.is_there.new.device;
+  read = c.is_there.ensures.read;
+  bad = rw c.requires.size at (c.is_there.ensures.bad c.if-is_there.false);
+  good = c.requires.good;
+  put = c.in_ok-put.ensures;
+}
+
+pub returns-in_err-put-clause-ok : goal.returns-in_err-put-clause-ok
+returns-in_err-put-clause-ok g c = if_ok-from c.from_residual.result _ _ c.from_residual.ensures.1
+
+pub returns-in_err-put-clause-err : goal.returns-in_err-put-clause-err
+returns-in_err-put-clause-err g c =
+    on_err-from c.from_residual.result _ _ c.from_residual.ensures.1 (record {
+      between = g.B.BlockDev.state c.is_there.new.device;
+      read = c.is_there.ensures.read;
+      bad = rw c.requires.size at (c.is_there.ensures.bad c.if-is_there.false);
+      good = c.requires.good;
+      put = c.in_err-put.ensures;
+    })
