@@ -1,4 +1,7 @@
 //! Parity beside that of veritysetup 2.6.1.
+ghost use Rattle.std.specs.Prelude.{IfOk};
+ghost use Rattle.fec_area.specs.Layouts.{IsLayout};
+
 use block_device::{BlockDev, MemoryDev};
 use fec_area::{Layout, check_parity, write_parity};
 use sha2::{Digest, Sha256};
@@ -125,7 +128,9 @@ pub(crate) struct Protected {
 }
 
 /// The image, formatted, whose parity is written and compared.
-pub(crate) fn protect<R: Abort>(rt: &R, alloc: Global, case: &Case) -> Result<Protected, Fail> {
+pub(crate) fn protect<R: Abort>(rt: &R, alloc: Global, case: &Case) -> Result<Protected, Fail>
+    ensures { IfOk result (λ image. IsLayout image.layout) }
+{
     let salt = Salt::new(Algorithm::Sha256, &[0]).ok_or("no salt")?;
     let mut uuid = [0u8; 16];
     uuid[15] = 1;
