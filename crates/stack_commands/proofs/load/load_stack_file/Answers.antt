@@ -1,10 +1,10 @@
-use Rattle.std.proofs.Common.{inr, refl}
+use Rattle.std.proofs.Common.{inr, refl, []}
 use Rattle.std.proofs.lemmas.Result.{IfErr-weaker, on_ok_weaker}
 use Rattle.stack_commands.proofs.load.load_stack_file.Goals as goal
 
 pub returns-clause-ok : goal.returns-clause-ok
 returns-clause-ok g c = on_ok_weaker c.load.result (λ done. record {
-  stack = record { config = done.0; leaves = _; capacity = 0 };
+  stack = record { config = done.0; leaves = _; capacity = 0; kept = [] };
   loaded = record {
     over = c.in_ok-text.field-0;
     opened = c.in_ok-text.ensures.ok;
