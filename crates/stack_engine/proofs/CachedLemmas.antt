@@ -181,7 +181,7 @@ module _ (c : Configuration) where
 
   -- as callers see it
   pub cached-checked : {leaves : List Device} {cache : StackCache} → IsCacheOf c leaves cache → AreChecked (stack_with c leaves cache.blocks)
-  cached-checked all = record { few = all.valid.within; each = all.kept }
+  cached-checked all = record { few = all.valid.within; distinct = all.valid.distinct; each = all.kept }
 
   -- what a find leaves: it changes the order alone
   pub keeps-found : (leaves : List Device) (key : Key) (expected : List ℕ) (cache after : StackCache) → after ≡ record cache { blocks = cache_after_find key expected cache.blocks } → IsCacheOf c leaves cache → KeepsCache c leaves cache after

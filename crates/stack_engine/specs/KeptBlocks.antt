@@ -1,19 +1,21 @@
 -- What calls leave of the hash blocks that a stack keeps.
-use Rattle.std.specs.Prelude.{◌≡◌, ◌≤◌, ℕ, false, length, All, Contains}
-use Rattle.std.specs.List.{slice_index_or}
+use Rattle.std.specs.Prelude.{◌≡◌, ◌≤◌, ℕ, false, length, map, All, Contains}
+use Rattle.std.specs.List.{slice_index_or, IsDistinct}
 use Rattle.block_device.specs.Device.{Device}
 use Rattle.stack_rules.specs.Names.{mapped}
 use Rattle.stack_meaning.specs.Meaning.{said_at}
 use Rattle.stack_meaning.specs.Reading.{MeetVerity}
+use Rattle.verified_cache.specs.Cache.{same_key}
 use Rattle.stack_lines.specs.Caches.{IsCached}
 use Rattle.stack_lines.specs.Forgetting.{IsUnwritten}
 use Rattle.stack_lines.specs.Standing.{key_stands_on}
 use Rattle.stack_engine.specs.Stacks.{StackRecord}
 
--- No more are kept than may be. Each has the digest that it is kept under, as a hash block of its line; and where the leaves
--- beneath are steady, it is what stands at its place.
+-- No more are kept than may be, and no two under one key. Each has the digest that it is kept under, as a hash block of its
+-- line; and where the leaves beneath are steady, it is what stands at its place.
 pub record AreChecked (w : StackRecord) : Type 0 where
   pub few : length w.kept ≤ w.capacity
+  pub distinct : IsDistinct same_key (map (λ b. b.key) w.kept)
   pub each : All (IsCached w.config w.leaves) w.kept
 
 -- After a read of n sectors of mapped device d, from the first on: where no `verity` line is on their way those are kept
@@ -22,8 +24,8 @@ pub record ReadKeeps (w : StackRecord) (d first n : ℕ) (w' : StackRecord) : Ty
   pub same : (MeetVerity (said_at w.config (mapped d)) first n → ⊥) → w'.kept ≡ w.kept
   pub checked : AreChecked w'
 
--- After a write: what is kept was kept before; and of a leaf that the write touched nothing is kept, which is of a line whose
--- hash device is that leaf or stands on it.
+-- After a write: what is kept was kept before; and of a leaf that was written nothing is kept of a line whose hash device is
+-- that leaf or stands on it. A leaf was written where its counter of writes, or its image if it is steady, isn't as it was.
 pub record WriteKeeps (w w' : StackRecord) : Type 0 where
   pub adds_none : All (Contains w.kept) w'.kept
-  pub touched : (i : ℕ) (d : Device) → (IsUnwritten (slice_index_or w.leaves i d) (slice_index_or w'.leaves i d) → ⊥) → All (λ b. key_stands_on w.config i b.key ≡ false) w'.kept
+  pub written : (i : ℕ) (d : Device) → (IsUnwritten (slice_index_or w.leaves i d) (slice_index_or w'.leaves i d) → ⊥) → All (λ b. key_stands_on w.config i b.key ≡ false) w'.kept

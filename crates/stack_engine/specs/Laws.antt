@@ -146,7 +146,6 @@ IgnoredBlocksCollide = (v : Verity) (block : List ℕ) → IsTrue (is_ignored v 
 
 -- ---- hash blocks that are kept
 
--- What a write says of the kept blocks (`forgets`), of each leaf: one whose counter of writes isn't as it was, or whose image,
--- where it is steady, has none kept.
+-- What a write says of the kept blocks (`forgets`), leaf by leaf: of one that was written none is kept that stands on it.
 abbrev pub WrittenLeavesAreForgotten : Type 0
 WrittenLeavesAreForgotten = (w w' : StackRecord) (d first : ℕ) (bytes : List ℕ) (result : Result Unit IoFault) → AnyWrite w d first bytes result w' → WriteKeeps w w'

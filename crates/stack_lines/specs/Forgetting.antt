@@ -12,8 +12,8 @@ pub record IsUnwritten (old new : Device) : Type 0 where
   pub writes : new.writes ≡ old.writes
   pub image : IsTrue old.steady → new.image ≡ old.image
 
--- Some of these leaves were written, and no other leaf was. Of what was kept before all is kept in its order but the blocks
--- of lines whose hash device is a written leaf or stands on one, and nothing else is kept.
+-- No leaf was written but some of these, maybe none. Of what was kept before all is kept in its order but the blocks of lines
+-- whose hash device is one of those or stands on one, and nothing else is kept.
 pub record Forgets (c : Configuration) (these : ℕ → Bool) (old new : List Device) (before after : List CachedBlock) : Type 0 where
   pub written : List ℕ
   pub within : All (λ i. IsTrue (these i)) written

@@ -21,7 +21,7 @@ pub struct Cache {
     blocks: BlockCache,
     // The leaves on which each mapped device stands.
     beneath: [LeafSet; 64],
-    // Those on which the hash devices of the kept blocks' lines stand, and maybe others.
+    // Those on which the hash devices of the kept blocks' lines stand, and maybe further ones.
     covered: LeafSet,
 }
 
