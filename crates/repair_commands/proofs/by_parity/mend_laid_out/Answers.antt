@@ -30,5 +30,5 @@ returns-clause-ok g c = record {
   layout = c.in_ok-layout.layout;
   read_dev = g.H.BlockDev.state c.lay_out.new.hash_dev;
   lays = c.in_ok-layout.ensures.ok;
-  mends = mends-behind c.lay_out.ensures.read c.args.plan _ _ _ _ c.in_ok-mend_with_parity.ensures.ok;
+  mends = mends-behind c.args.plan _ _ _ _ c.lay_out.ensures.read c.in_ok-mend_with_parity.ensures.ok;
 }
