@@ -1,5 +1,4 @@
 use Rattle.std.proofs.Common.{refl, inl, inr, map}
-use Rattle.tree_repair.specs.Runs.{world}
 use Rattle.repair_commands.specs.declared.fault.ParityRepairFault.TheVariants.{Tree}
 use Rattle.repair_commands.specs.Commands.{fault_of}
 use Rattle.repair_commands.proofs.EndingLemmas.{err-from}
