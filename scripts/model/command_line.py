@@ -19,7 +19,7 @@ TARGETS = ("linear", "striped", "zero", "error", "crypt", "verity", "zero_blocks
            "unstriped")
 # Options and forms of words that a program may not have yet; without them they are wrong words.
 FORMS = ("all", "grow", "json", "map", "differing", "progress", "pass-cache", "parts", "input-stack", "store-file",
-         "exports")
+         "exports", "fec")
 # Commands whose STACK may be `-`, standard input; where that is the client's or the bytes', `-` is a wrong word.
 STACK_FROM_INPUT = ("load", "read", "write", "scan", "copy", "cat", "store")
 

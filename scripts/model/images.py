@@ -5,12 +5,13 @@ from uuid import UUID
 from differences import Stored, compared, longest_runs, run_lines, unlike
 from files import WHOLE, Stop
 from partitions import lines_of, root_lines, stack_lines, table_facts, table_of
+from protection import check_one_size, compared_parity, protect
 from replies import Json
 from stack import SECTOR
 from tables import digits_of
 from verity import (Superblock, bare_tree, check_sizes, dump_facts, format_images, read_superblock, spelled_uuid, survey,
                     table_line, verify_images)
-from words import exactly, read_diff, read_format, read_offset, read_partitions, read_table, read_verify
+from words import exactly, read_diff, read_fec, read_format, read_offset, read_partitions, read_table, read_verify
 
 DONE, REFUSED, _, FAULT = range(4)
 
@@ -49,7 +50,9 @@ def two_images(files, paths, first, writable):
 
 def run_format(options, words, files, _given, _features):
     *paths, (*sizes, blocks, salt), uuid, first = read_format(options, words)
-    is_bare = b"no-superblock" in options
+    is_bare, fec = b"no-superblock" in options, read_fec(options)
+    if fec:
+        check_one_size(*sizes)
     if b"grow" in options:
         files.make(paths[1])
     check_aligned(first, sizes[1])
@@ -66,6 +69,8 @@ def run_format(options, words, files, _given, _features):
         del image[first * SECTOR:]
         image.extend(bytes(max(0, first * SECTOR - len(image))))
         image.extend(part)
+    if fec:
+        protect(files, paths, fec, first, b"grow" in options)
     lines = ["root " + root.hex(), "salt " + (salt.hex() or "-")]
     lines += [] if is_bare else ["uuid " + spelled_uuid(uuid)]
     return [line.encode() for line in [*lines, "blocks %d" % count]], DONE
@@ -87,7 +92,12 @@ def run_verify(options, words, files, _given, _features):
     if b"all" in options:
         return surveyed(data, image, tree, salt, root, b"json" in options)
     verdict = verify_images(data, image, tree, salt, root)
-    return [verdict.encode()], DONE if verdict == "matches" else FAULT
+    if verdict != "matches":
+        return [verdict.encode()], FAULT
+    if b"fec" in options:
+        line, status = compared_parity(files, paths, read_fec(options), first)
+        return [verdict.encode(), line], status
+    return [verdict.encode()], DONE
 
 
 def surveyed(data, image, tree, salt, root, as_json):

@@ -1,4 +1,9 @@
-"""The parity of verity images as Linux's dm-verity-fec lays it out: Reed-Solomon codewords across data and hash blocks."""
+"""The parity of verity images as Linux's dm-verity-fec lays it out: Reed-Solomon codewords across data and hash blocks.
+
+A codeword is a polynomial of degree 254 whose value is 0 at a^0 .. a^(roots - 1). Blocks are taken whole: each byte of one
+belongs to a codeword of its own, so that a sum of blocks is one of as many codewords."""
+
+from functools import cache
 
 POWERS = [1]
 while len(POWERS) < 255:
@@ -11,26 +16,37 @@ def product(a, b):
     return POWERS[(LOGARITHMS[a] + LOGARITHMS[b]) % 255] if a and b else 0
 
 
-def generator(roots):
-    """The coefficients of (x + 1) (x + a) .. (x + a^(roots - 1)), the highest first."""
-    found = [1]
-    for power in range(roots):
-        longer = found + [0]
-        for place, value in enumerate(found):
-            longer[place + 1] ^= product(value, POWERS[power])
-        found = longer
-    return found
+@cache
+def multiples(factor):
+    return bytes(product(factor, value) for value in range(256))
 
 
-def encoded(message, divisor):
-    """What is left of the message's polynomial, divided by the one whose roots a codeword has."""
-    rest = list(message) + [0] * (len(divisor) - 1)
-    for place in range(len(message)):
-        lead = rest[place]
-        if lead:
-            for k, value in enumerate(divisor):
-                rest[place + k] ^= product(value, lead)
-    return bytes(rest[len(message):])
+def scaled(factor, block):
+    """Each byte of a block times the factor."""
+    return block.translate(multiples(factor))
+
+
+def summed(blocks, size):
+    total = 0
+    for block in blocks:
+        total ^= int.from_bytes(block, "big")
+    return total.to_bytes(size, "big")
+
+
+def solved(powers, known, size):
+    """The blocks at these powers of x, where those at other powers are known."""
+    rows = [[POWERS[power * j % 255] for power in powers] for j in range(len(powers))]
+    sums = [summed([scaled(POWERS[power * j % 255], block) for power, block in known], size) for j in range(len(powers))]
+    for at in range(len(rows)):
+        pivot = next(k for k in range(at, len(rows)) if rows[k][at])
+        rows[at], rows[pivot], sums[at], sums[pivot] = rows[pivot], rows[at], sums[pivot], sums[at]
+        inverse = POWERS[-LOGARITHMS[rows[at][at]] % 255]
+        rows[at], sums[at] = [product(inverse, value) for value in rows[at]], scaled(inverse, sums[at])
+        for k, row in enumerate(rows):
+            if k != at and row[at]:
+                sums[k] = summed([sums[k], scaled(row[at], sums[at])], size)
+                rows[k] = [a ^ product(row[at], b) for a, b in zip(row, rows[at])]
+    return sums
 
 
 def covered(data, image, block, blocks, ahead):
@@ -38,13 +54,37 @@ def covered(data, image, block, blocks, ahead):
     return bytes(data[:blocks * block]) + bytes(image[ahead * block:len(image) // block * block])
 
 
+def rounds_of(area, block, roots):
+    return -(-(len(area) // block) // (WORD - roots))
+
+
+def sectors_of_parity(area, block, roots):
+    return rounds_of(area, block, roots) * roots * block // 512
+
+
+def message(area, block, roots, turn, without=()):
+    """The blocks of a round at their powers: block i * rounds + n is number i of round n; past the last one stands 0."""
+    rounds = rounds_of(area, block, roots)
+    starts = {place: (place * rounds + turn) * block for place in range(WORD - roots) if place not in without}
+    return [(254 - place, area[start:start + block]) for place, start in starts.items() if start < len(area)]
+
+
 def parity_of(area, block, roots):
-    """Byte c of block i * rounds + n is byte i of codeword c of round n; past the last block stands 0."""
-    symbols = WORD - roots
-    rounds = -(-(len(area) // block) // symbols)
-    divisor = generator(roots)
+    """The bytes of parity of a codeword lie together, those of a round one codeword behind the other."""
     made = bytearray()
-    for start in range(rounds * block):
-        places = range(start, symbols * rounds * block, rounds * block)
-        made += encoded([area[at] if at < len(area) else 0 for at in places], divisor)
+    for turn in range(rounds_of(area, block, roots)):
+        blocks = solved(range(roots - 1, -1, -1), message(area, block, roots, turn), block)
+        made += bytes(value for word in zip(*blocks) for value in word)
     return bytes(made)
+
+
+def made_again(area, block, roots, parity, lost, index):
+    """Covered block `index` by the parity, where it is lost and so are those of `lost`; None where too many of its round are."""
+    count, rounds = len(area) // block, rounds_of(area, block, roots)
+    turn = index % rounds
+    places = [index // rounds] + [it // rounds for it in sorted(set(lost) - {index}) if it < count and it % rounds == turn]
+    if len(places) > roots:
+        return None
+    own = bytes(parity[turn * block * roots:(turn + 1) * block * roots])
+    known = message(area, block, roots, turn, places) + [(roots - 1 - k, own[k::roots]) for k in range(roots)]
+    return solved([254 - place for place in places], known, block)[0]

@@ -1,6 +1,7 @@
 """Random images with a tree at some place: behind a superblock or without one, in a file of their own or behind the data,
 of one to three levels, with damage of data and hash blocks; and pairs of trees that are compared."""
 
+from parity import covered, parity_of
 from random_parts import Dice, Run
 from strange_words import STRANGE_NUMBERS
 from tables import PREFIX
@@ -94,6 +95,11 @@ class Trees(Dice):
                 del self.files[b"hash"]
         self.files[b"root"] = root.hex().encode()
         runs = [Run([b"format"] + words + names)]
+        if self.has("forms", "fec") and self.chance(0.3):
+            fec = [b"--fec", self.pick([b"parity"] * 9 + names), b"--fec-roots=%d" % self.pick([2, 2, 8, 23, 24, 25, 1])]
+            self.files[b"parity"] = bytes(self.pick([0, 512, 4096, 40000]))
+            checked = [b"verify"] + fec + self.offset_words(offset) + names + [root.hex().encode()]
+            runs = [Run([b"format"] + fec + words + names), Run(checked)]
         return runs + [self.tree_run(it, names, root, offset) for _ in range(2)]
 
     def checked_tree(self):
@@ -133,13 +139,27 @@ class Trees(Dice):
             self.files[b"twin"] = (self.pick(["link", "symlink"]), self.pick(names))
         if copies and self.chance(0.05):
             copies.pop()
-        runs = []
+        runs, fec = [], self.parity_words(it, whole, area, self.files[names[1]][offset + len(area):], names)
         for _ in range(self.pick([1, 2, 3])):
             said, rest = self.root_words(root)
             check = [b"--check"] if self.chance(0.4) else []
-            words = self.shuffled(check, self.offset_words(offset), said)
+            words = self.shuffled(check, self.offset_words(offset), said, fec)
             runs.append(Run([b"repair"] + words + names + rest + copies))
         return runs
+
+    def parity_words(self, it, whole, area, behind, names):
+        """Options that name the file of an image's parity, as it was before the damage; sometimes it is damaged too."""
+        if not self.has("forms", "fec") or self.chance(0.5):
+            return []
+        roots, made = self.pick([2, 2, 3, 8, 24]), bytearray(4096)
+        if it.data_block == it.hash_block:
+            made = bytearray(parity_of(covered(whole, area + behind, it.hash_block, it.blocks, 1), it.hash_block, roots))
+        if self.chance(0.2):
+            made[self.random.randrange(len(made))] ^= 1 << self.random.randrange(8)
+        self.files[b"parity"] = bytes(made[:-1] if self.chance(0.05) else made)
+        words = [self.pick([b"--fec", b"--fec-device"]), self.pick([b"parity"] * 16 + names + [b"missing"])]
+        said = roots + (self.pick([-1, 1, 2]) if self.chance(0.1) else 0)
+        return words + ([b"--fec-roots=%d" % said] if said != 2 or self.chance(0.3) else [])
 
     def image_files(self, it, whole, area, offset, is_one, mark):
         """The names of the data and of the tree of an image, of which some blocks are damaged, and some are cut off."""

@@ -1,9 +1,11 @@
 """A damaged verity image, whose blocks are sought in copies of it from the root down.
 
-A hash block that no copy has is made again of the blocks beneath it."""
+A hash block that no copy has is made again of the blocks beneath it; where there is parity, what is lost is made of it."""
 
 from files import Stop
 from images import REFUSED, check_aligned, surveyed, told_root
+from parity import covered, made_again
+from protection import check_parity
 from stack import SECTOR
 from verity import check_sizes, digest, read_superblock
 from words import read_repair
@@ -32,6 +34,11 @@ def block_at(image, at, size):
     return bytes(image[at:at + size]) if at + size <= len(image) // SECTOR * SECTOR else None
 
 
+def line_of(height, index, found, writes):
+    name = "data %d" % index if height == 0 else "hash %d %d" % (height - 1, index)
+    return "%s %s %s" % ("repaired" if writes else "repairable", name, found)
+
+
 class Repair:
     """What is repaired: a tree under a root, the data and the hash image's file, and copies of each."""
 
@@ -45,8 +52,10 @@ class Repair:
         size = self.tree.hash_block
         return self.start + (self.tree.first(height - 1) + index) * size, size
 
-    def lines(self, whole, copies, writes):
-        """A line for each block that isn't good and that a copy has; it is written where it may be."""
+    def lines(self, whole, copies, writes, bad):
+        """A line for each block that isn't good and that a copy has; it is written where it may be.
+
+        Those that still aren't good are put into `bad`, each with its digest where it was found nowhere."""
         heights = [self.tree.blocks] + self.tree.levels
         good = {0: self.root}
         for height in reversed(range(len(heights))):
@@ -63,15 +72,43 @@ class Repair:
                     if number is None:
                         found, block = "remade", self.remade(whole, height, index, digests[index])
                     if block is None:
+                        bad.append((height, index, digests[index]))
                         continue
-                    name = "data %d" % index if height == 0 else "hash %d %d" % (height - 1, index)
-                    yield "%s %s %s" % ("repaired" if writes else "repairable", name, found)
+                    yield line_of(height, index, found, writes)
                     if not writes:
+                        bad.append((height, index, None))
                         continue
                     whole[at_height][at:at + size] = block
                 if height:
                     slots = self.tree.slots
                     good.update({index * slots + slot: block[32 * slot:][:32] for slot in range(slots)})
+
+    def passes(self, whole, copies, writes, parity):
+        """The same, and one for each lost block that parity makes again; anew where one of these was a hash block."""
+        while True:
+            bad, again = [], False
+            yield from self.lines(whole, copies, writes, bad)
+            numbers = [self.number(*it[:2]) for it in bad]
+            for (height, index, wanted), number in zip(bad, numbers):
+                block = wanted and made_again(self.area(whole), self.tree.data_block, *parity, numbers, number)
+                if not block or digest(self.salt, block) != wanted:
+                    continue
+                yield line_of(height, index, "parity", writes)
+                if writes:
+                    at, size = self.place(height, index)
+                    whole[1 if height else 0][at:at + size] = block
+                    again = again or height > 0
+            if not again:
+                return
+
+    def area(self, whole):
+        """What parity covers, as it stands."""
+        image = whole[1][self.start:]
+        return covered(whole[0], image, self.tree.data_block, self.tree.blocks, self.tree.start)
+
+    def number(self, height, index):
+        """The number of a block among the covered ones."""
+        return index if height == 0 else self.tree.blocks + self.tree.first(height - 1) - self.tree.start + index
 
     def sought(self, copies, at, size, wanted):
         for number, copy in enumerate(copies, 1):
@@ -100,13 +137,20 @@ class Repair:
 
 
 def run_repair(options, words, files, _given, _features):
-    *paths, root, first, copies = read_repair(options, words)
+    *paths, root, first, copies, fec = read_repair(options, words)
     root, writes = told_root(root, files), b"check" not in options
     whole, data_size, copies = opened(files, paths, first, copies, writes)
+    parity = fec and files.image(fec[0], False)
     superblock = read_superblock(whole[1][first * SECTOR:])
     tree, salt = superblock.tree(), superblock.salt
     check_sizes(tree, whole[0][:data_size], whole[1][first * SECTOR:])
-    lines = [line.encode() for line in Repair(tree, salt, root, first).lines(whole, copies, writes)]
+    repair = Repair(tree, salt, root, first)
+    if fec:
+        check_parity(tree, repair.area(whole), parity, fec[1])
+        lines = repair.passes(whole, copies, writes, (fec[1], parity))
+    else:
+        lines = repair.lines(whole, copies, writes, [])
+    lines = [line.encode() for line in lines]
     try:
         check_aligned(first, superblock.hash_block)
     except Stop as stop:

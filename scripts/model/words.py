@@ -17,7 +17,7 @@ OPTIONS = {
                b"fec", b"fec-roots"),
     "dump": (b"hash-offset", b"json"),
     "table": (*TREE, b"hash-offset", b"root-hash-file", b"name", b"no-superblock"),
-    "repair": (b"hash-offset", b"root-hash-file", b"check"),
+    "repair": (b"hash-offset", b"root-hash-file", b"check", b"fec", b"fec-roots"),
     "load": (b"json",), "read": (b"cache",), "write": (b"cache",), "session": (b"cache",), "nbd": (b"cache", b"all"),
     "scan": (b"cache", b"map", b"progress", b"json"), "copy": (b"cache", b"map", b"differing", b"progress"),
     "cat": (b"cache", b"first", b"count", b"progress"), "store": (b"cache", b"first", b"progress"),
@@ -202,10 +202,11 @@ def read_copies(data_path, hash_path, words):
 
 
 def read_repair(options, words):
-    """DATA, HASH, the root, the place, and the copies."""
+    """DATA, HASH, the root, the place, the copies, and the parity or None."""
     (data_path, hash_path), rest = at_least(words, 2)
     root, rest = said_root(options, rest)
-    return data_path, hash_path, root, read_offset(options), read_copies(data_path, hash_path, rest)
+    copies = read_copies(data_path, hash_path, rest)
+    return data_path, hash_path, root, read_offset(options), copies, read_fec(options)
 
 
 def read_format(options, words):

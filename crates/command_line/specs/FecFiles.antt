@@ -18,6 +18,12 @@ unfoldable pub fec_file_of : Option (List ℕ) → Option (List ℕ) → Option 
 fec_file_of None roots = None
 fec_file_of (Some path) roots = option_map (λ n. record { path = path; roots = n }) (roots_of roots)
 
+-- the same where neither option may stand, and then there is no parity
+unfoldable pub fec_choice_of : Option (List ℕ) → Option (List ℕ) → Option (Option FecRecord)
+fec_choice_of None None = Some None
+fec_choice_of None (Some roots) = None
+fec_choice_of (Some path) roots = option_map (λ fec. Some fec) (fec_file_of (Some path) roots)
+
 -- what the program's own value says
 abbrev pub fec_record : FecFile → FecRecord
 fec_record file = record { path = file.path.now; roots = file.roots }

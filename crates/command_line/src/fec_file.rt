@@ -1,7 +1,7 @@
 //! The parity of an image, by the options `--fec` and `--fec-roots`.
 ghost use Rattle.std.specs.Prelude.{◌≡◌, option_map};
 ghost use Rattle.command_line.specs.FormatOptions.{text_of};
-ghost use Rattle.command_line.specs.FecFiles.{fec_file_of, fec_record, roots_of};
+ghost use Rattle.command_line.specs.FecFiles.{fec_choice_of, fec_file_of, fec_record, roots_of};
 
 use table_reader::number;
 
@@ -26,6 +26,21 @@ pub fn fec_file_of<'a>(path: Option<&'a str>, roots: Option<&str>) -> Option<Fec
     };
     let roots = roots_of(roots)?;
     Some(FecFile { path, roots })
+}
+
+/// The same where neither option may stand: then there is no parity.
+#[tactic(auto, unfolding(crate::specs::FecFiles::fec_choice_of))]
+pub fn fec_choice_of<'a>(path: Option<&'a str>, roots: Option<&str>) -> Option<Option<FecFile<'a>>>
+    ensures { option_map (option_map fec_record) result ≡ fec_choice_of (text_of path.entry) (text_of roots.entry) }
+{
+    let Some(path) = path else {
+        return match roots {
+            None => Some(None),
+            Some(_) => None,
+        };
+    };
+    let fec = fec_file_of(Some(path), roots)?;
+    Some(Some(fec))
 }
 
 // How many bytes of parity a codeword has: 2 unless the word says another number up to 24.

@@ -60,7 +60,7 @@ image_commands more =
     ∷ command (codes "verify") (tree_options (offset ∷ root_file ∷ bare ∷ flag (codes "all") ∷ json ∷ progress ∷ fec_options []))
     ∷ command (codes "dump") (offset ∷ json ∷ [])
     ∷ command (codes "table") (tree_options (offset ∷ root_file ∷ value (codes "name") ∷ bare ∷ []))
-    ∷ command (codes "repair") (offset ∷ root_file ∷ flag (codes "check") ∷ [])
+    ∷ command (codes "repair") (offset ∷ root_file ∷ flag (codes "check") ∷ fec_options [])
     ∷ more
 
 -- the commands on stacks

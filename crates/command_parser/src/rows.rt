@@ -220,7 +220,7 @@ pub static COMMANDS: [CommandRow; 18] = [
     },
     CommandRow {
         name: "repair",
-        options: &[HASH_OFFSET, ROOT_HASH_FILE, CHECK],
+        options: &[HASH_OFFSET, ROOT_HASH_FILE, CHECK, FEC, FEC_ROOTS],
     },
     CommandRow {
         name: "load",

@@ -1,3 +1,5 @@
 mod CopyLemmas
 mod EndingLemmas
+mod LayingLemmas
 mod MendLemmas
+mod ReadLemmas

@@ -40,7 +40,7 @@ pub record MendsOpened {S D : Type 0} (w : Calls S D) (p : Places) (o : Opened D
   pub hash_dev : D
   pub data_copies : List D
   pub hash_copies : List D
-  pub mends : MendsWhole (plan_of p root) (world_of w o) (world (w.state data_dev) (w.state hash_dev) (map w.state data_copies) (map w.state hash_copies)) old new
+  pub mends : MendsWhole (plan_of p root) false (world_of w o) (world (w.state data_dev) (w.state hash_dev) (map w.state data_copies) (map w.state hash_copies)) old new
   pub back : GivesBack p.write w p o.parts data_dev hash_dev
 
 -- the fault with which a repair ends that isn't one to the end
@@ -56,7 +56,7 @@ pub record HalfMendsOpened {S D : Type 0} (w : Calls S D) (p : Places) (o : Open
   pub hash_copies : List D
   pub cause : RepairFault
   pub is : fault ≡ fault_of cause
-  pub half : HalfMends (plan_of p root) (world_of w o) (world (w.state data_dev) (w.state hash_dev) (map w.state data_copies) (map w.state hash_copies)) old new cause
+  pub half : HalfMends (plan_of p root) false (world_of w o) (world (w.state data_dev) (w.state hash_dev) (map w.state data_copies) (map w.state hash_copies)) old new cause
   pub back : GivesBack p.write w p o.parts data_dev hash_dev
 
 -- ---- from the words on

@@ -3,3 +3,5 @@ pub mod Copies
 pub mod Openings
 pub mod Mends
 pub mod Commands
+pub mod Parity
+pub mod ByParity

@@ -1,9 +1,9 @@
 -- What a repair of two devices did, up to their media.
-use Rattle.std.specs.Prelude.{◌≡◌, ◌⊎◌, ℕ, Bool, false, IsTrue, List, Option}
+use Rattle.std.specs.Prelude.{◌≡◌, ◌⊎◌, ℕ, Bool, true, false, IsTrue, List, Option}
 use Rattle.block_device.specs.Device.{Device}
 use Rattle.tree_repair.specs.declared.fault.RepairFault.{RepairFault}
 use Rattle.tree_repair.specs.declared.repair.Plan.{Plan}
-use Rattle.tree_repair.specs.Repairs.{IsRepair, IsUnrepaired}
+use Rattle.tree_repair.specs.Repairs.{IsUnrepairedBy, Repairs}
 use Rattle.tree_repair.specs.Runs.{World}
 
 -- both hold what they held
@@ -16,19 +16,19 @@ pub record IsOnMedium (write : Bool) (data_dev hash_dev : Device) : Type 0 where
   pub data_clean : IsTrue write → data_dev.dirty ≡ false
   pub hash_clean : IsTrue write → hash_dev.dirty ≡ false
 
--- the image was gone over, and what was written is on the media
-pub record MendsWhole (plan : Plan) (w w' : World) (old new : Option (List ℕ)) : Type 0 where
+-- the image was gone over, with parity or without, and what was written is on the media
+pub record MendsWhole (plan : Plan) (parity : Bool) (w w' : World) (old new : Option (List ℕ)) : Type 0 where
   pub mid : World
-  pub repair : IsRepair plan w mid old new
+  pub repair : Repairs plan parity w mid old new true
   pub kept : KeepsImages mid.data_dev mid.hash_dev w'.data_dev w'.hash_dev
   pub data_copies_are : w'.data_copies ≡ mid.data_copies
   pub hash_copies_are : w'.hash_copies ≡ mid.hash_copies
   pub on_medium : IsOnMedium plan.write w'.data_dev w'.hash_dev
 
 -- or it wasn't to the end, or not all is on the media: good blocks alone were written all the same
-pub record HalfMends (plan : Plan) (w w' : World) (old new : Option (List ℕ)) (fault : RepairFault) : Type 0 where
+pub record HalfMends (plan : Plan) (parity : Bool) (w w' : World) (old new : Option (List ℕ)) (fault : RepairFault) : Type 0 where
   pub mid : World
-  pub run : IsUnrepaired plan w mid old new fault ⊎ IsRepair plan w mid old new
+  pub run : IsUnrepairedBy plan parity w mid old new fault ⊎ Repairs plan parity w mid old new true
   pub kept : KeepsImages mid.data_dev mid.hash_dev w'.data_dev w'.hash_dev
   pub data_copies_are : w'.data_copies ≡ mid.data_copies
   pub hash_copies_are : w'.hash_copies ≡ mid.hash_copies

@@ -1,11 +1,16 @@
 //! The program's command `repair`: paths, a root and a writer in, a written text or the fault that ends it out.
 #![tactic(auto)]
 
+mod by_parity;
 mod copies;
+mod fault;
 mod mending;
 mod opening;
 mod pair;
+mod parity;
 mod repair;
 
+pub use by_parity::repair_by_parity;
+pub use fault::ParityRepairFault;
 pub use pair::RepairPlaces;
 pub use repair::repair_images;

@@ -22,8 +22,8 @@ pub(crate) fn mend<D: SyncDev, H: SyncDev, C: BlockDev, W: Write>(
 ) -> Result<(), RepairFault>
     requires first { plan.copy_first ≤ 2 ^ 55 }
     requires allowed { IsAllowed plan.write (D.state data_dev.old) (H.state hash_dev.old) }
-    ensures ok { OnOk result (MendsWhole plan (world (D.state data_dev.old) (H.state hash_dev.old) (map C.state data_copies.old) (map C.state hash_copies.old)) (world (D.state data_dev.new) (H.state hash_dev.new) (map C.state data_copies.new) (map C.state hash_copies.new)) (W.contents writer.old.inner) (W.contents writer.new.inner)) }
-    ensures err { IfErr result (HalfMends plan (world (D.state data_dev.old) (H.state hash_dev.old) (map C.state data_copies.old) (map C.state hash_copies.old)) (world (D.state data_dev.new) (H.state hash_dev.new) (map C.state data_copies.new) (map C.state hash_copies.new)) (W.contents writer.old.inner) (W.contents writer.new.inner)) }
+    ensures ok { OnOk result (MendsWhole plan false (world (D.state data_dev.old) (H.state hash_dev.old) (map C.state data_copies.old) (map C.state hash_copies.old)) (world (D.state data_dev.new) (H.state hash_dev.new) (map C.state data_copies.new) (map C.state hash_copies.new)) (W.contents writer.old.inner) (W.contents writer.new.inner)) }
+    ensures err { IfErr result (HalfMends plan false (world (D.state data_dev.old) (H.state hash_dev.old) (map C.state data_copies.old) (map C.state hash_copies.old)) (world (D.state data_dev.new) (H.state hash_dev.new) (map C.state data_copies.new) (map C.state hash_copies.new)) (W.contents writer.old.inner) (W.contents writer.new.inner)) }
 {
     let write = plan.write;
     repair_image(
@@ -39,8 +39,8 @@ pub(crate) fn mend<D: SyncDev, H: SyncDev, C: BlockDev, W: Write>(
     Ok(())
 }
 
-// Has what was written put on the media of both.
-fn sync_both<D: SyncDev, H: SyncDev>(
+/// Has what was written put on the media of both.
+pub(crate) fn sync_both<D: SyncDev, H: SyncDev>(
     data_dev: &mut D,
     hash_dev: &mut H,
     write: bool,

@@ -1,7 +1,8 @@
 //! The command `repair`: blocks that aren't good are sought in copies, and what is still lost is told.
 ghost use Rattle.std.specs.Prelude.{◌≡◌, ◌≤◌, ◌^◌, IfErr, OnOk};
 ghost use Rattle.image_files.specs.Opener.{IsFresh, calls};
-ghost use Rattle.repair_commands.specs.Commands.{GivesBack, HalfMendsOpened, IsMendingEnd, IsRepairEnd, MendsFiles, MendsOpened, RepairsFiles, fault_of};
+ghost use Rattle.repair_commands.specs.Commands.{GivesBack, HalfMendsOpened, IsMendingEnd, IsRepairEnd, MendsFiles, MendsOpened, RepairsFiles, fault_of, surveyed};
+ghost use Rattle.tree_commands.specs.Surveys.{IsSurveyFilesEnd, PrintsGood};
 ghost use Rattle.repair_commands.specs.Pairs.{places_of};
 
 use crate::mending::mend;
@@ -34,6 +35,21 @@ pub fn repair_images<'a, I: Images, S: Watchers, W: Write>(
     ensures err { IfErr result (IsRepairEnd (calls I.relations I.Dev.state images.old images.new) (places_of places.entry) copies.now root.now (W.contents writer.old.inner) (W.contents writer.new.inner) writer.new.failed) }
 {
     mend_images(alloc, images, places, copies, root, writer)?;
+    say_lost(alloc, images, watchers, places, root, writer)
+}
+
+/// Prints what `verify --all` prints of the same images.
+pub(crate) fn say_lost<'a, I: Images, S: Watchers, W: Write>(
+    alloc: Global,
+    images: &mut I,
+    watchers: &S,
+    places: RepairPlaces<'a>,
+    root: &Digest,
+    writer: &mut Counted<W>,
+) -> Result<(), TreeFault<'a>>
+    ensures ok { OnOk result (PrintsGood false (calls I.relations I.Dev.state images.old images.new) (surveyed (places_of places.entry)) root.now (W.contents writer.old.inner) (W.contents writer.new.inner)) }
+    ensures err { IfErr result (IsSurveyFilesEnd false (calls I.relations I.Dev.state images.old images.new) (surveyed (places_of places.entry)) root.now (W.contents writer.old.inner) (W.contents writer.new.inner) writer.new.failed) }
+{
     let RepairPlaces {
         data,
         hash,
@@ -120,8 +136,8 @@ fn mend_opened<'a, I: Images, W: Write>(
     }
 }
 
-// Gives both parts back, where anything may be written.
-fn give_back<'a, I: Images>(
+/// Gives both parts back, where anything may be written.
+pub(crate) fn give_back<'a, I: Images>(
     images: &mut I,
     places: RepairPlaces<'a>,
     parts: Parts,
@@ -137,7 +153,8 @@ fn give_back<'a, I: Images>(
     images.close_part(places.hash, parts.hash_part, hash_dev);
 }
 
-fn fault_of<'a>(fault: RepairFault) -> TreeFault<'a>
+/// The fault with which a repair ends that isn't one to the end.
+pub(crate) fn fault_of<'a>(fault: RepairFault) -> TreeFault<'a>
     ensures { result ≡ fault_of fault }
 {
     match fault {

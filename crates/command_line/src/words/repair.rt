@@ -6,13 +6,14 @@ ghost use Rattle.command_line.specs.FormatOptions.{option_texts, texts_of};
 ghost use Rattle.command_line.specs.words.Repair.{repair_said};
 
 use crate::fault::WordsFault;
+use crate::fec_file::{FecFile, fec_choice_of};
 use crate::further::Further;
 use crate::image_copies::{ImageCopy, copies_of};
 use crate::option_words::OptionWords;
 use crate::values::{RootWord, offset_of, root_first};
 use std::alloc::Global;
 
-/// A verity image is repaired from copies of it, or only looked at where `check` is said.
+/// A verity image is repaired from copies of it and by parity, or only looked at where `check` is said.
 #[derive(Drop)]
 pub struct RepairWords<'a> {
     pub data_path: &'a str,
@@ -20,10 +21,11 @@ pub struct RepairWords<'a> {
     pub root: RootWord<'a>,
     pub hash_offset: u64,
     pub check: bool,
+    pub fec: Option<FecFile<'a>>,
     pub copies: Vec<ImageCopy<'a>>,
 }
 
-/// `[--check] [--hash-offset BYTES] [--root-hash-file FILE] DATA HASH [ROOT] [COPY..]`
+/// `[--check] [--fec FILE [--fec-roots N]] [--hash-offset BYTES] [--root-hash-file FILE] DATA HASH [ROOT] [COPY..]`
 #[tactic(auto, unfolding(crate::specs::words::Repair::repair_said))]
 pub fn repair_of<'a>(
     alloc: Global,
@@ -38,6 +40,9 @@ pub fn repair_of<'a>(
     let Some(hash_offset) = offset_of(options.hash_offset) else {
         return Err(WordsFault::Usage);
     };
+    let Some(fec) = fec_choice_of(options.fec, options.fec_roots) else {
+        return Err(WordsFault::Usage);
+    };
     let Some((root, rest)) = root_first(options.root_hash_file, behind) else {
         return Err(WordsFault::Usage);
     };
@@ -48,6 +53,7 @@ pub fn repair_of<'a>(
             root,
             hash_offset,
             check: options.check,
+            fec,
             copies,
         })),
         Err(fault) => Err(fault),

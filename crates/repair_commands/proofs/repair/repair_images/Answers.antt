@@ -9,12 +9,12 @@ returns-in_err-mend_images-clause-err g c =
 
 pub returns-clause-ok : goal.returns-clause-ok
 returns-clause-ok g c =
-    on_ok_weaker c.survey_images.result
+    on_ok_weaker c.say_lost.result
     (λ surveyed. record { mended = c.mend_images.new.images; between = g.W.Write.contents c.mend_images.new.writer.inner; mends = c.in_ok-mend_images.ensures.ok; surveys = surveyed })
-    c.survey_images.ensures.ok
+    c.say_lost.ensures.ok
 
 pub returns-clause-err : goal.returns-clause-err
 returns-clause-err g c =
-    IfErr-weaker c.survey_images.result _ _
+    IfErr-weaker c.say_lost.result _ _
     (λ fault ends. inr (record { mended = c.mend_images.new.images; between = g.W.Write.contents c.mend_images.new.writer.inner; mends = c.in_ok-mend_images.ensures.ok; ends = ends }))
-    c.survey_images.ensures.err
+    c.say_lost.ensures.err

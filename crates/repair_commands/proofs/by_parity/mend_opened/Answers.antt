@@ -1,0 +1,35 @@
+use Rattle.std.proofs.Common.{IsTrue, subst, sym}
+use Rattle.std.proofs.lemmas.Result.{IfErr-weaker, on_ok_weaker}
+use Rattle.repair_commands.proofs.by_parity.mend_opened.Goals as goal
+
+pub mend_laid_out-ended-requires-clause-allowed : goal.mend_laid_out-ended-requires-clause-allowed
+mend_laid_out-ended-requires-clause-allowed g c = record {
+  data_writable = λ write. subst IsTrue (sym c.requires.data_fresh.may_write) write;
+  hash_writable = λ write. subst IsTrue (sym c.requires.hash_fresh.may_write) write;
+}
+
+pub returns-clause-ok : goal.returns-clause-ok
+returns-clause-ok g c =
+    on_ok_weaker c.mend_laid_out-ended.result
+    (λ mends. record {
+      data_dev = c.mend_laid_out-ended.new.data_dev;
+      hash_dev = c.mend_laid_out-ended.new.hash_dev;
+      data_copies = c.mend_laid_out-ended.new.data_copies;
+      hash_copies = c.mend_laid_out-ended.new.hash_copies;
+      mends = mends;
+      back = c.give_back.ensures;
+    })
+    (rw (← c.as_mut_slice.ensures.value, ← c.as_mut_slice-2.ensures.value) c.mend_laid_out-ended.ensures.ok)
+
+pub returns-clause-err : goal.returns-clause-err
+returns-clause-err g c =
+    IfErr-weaker c.mend_laid_out-ended.result _ _
+    (λ fault half. record {
+      data_dev = c.mend_laid_out-ended.new.data_dev;
+      hash_dev = c.mend_laid_out-ended.new.hash_dev;
+      data_copies = c.mend_laid_out-ended.new.data_copies;
+      hash_copies = c.mend_laid_out-ended.new.hash_copies;
+      half = half;
+      back = c.give_back.ensures;
+    })
+    (rw (← c.as_mut_slice.ensures.value, ← c.as_mut_slice-2.ensures.value) c.mend_laid_out-ended.ensures.err)

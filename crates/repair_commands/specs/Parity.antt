@@ -1,0 +1,69 @@
+-- The file of an image's parity, and how parity lies across the image, by its superblock.
+use Rattle.std.specs.Prelude.{◌≡◌, ◌≢◌, ℕ, ◌<◌, ◌≤◌, false, List, Option}
+use Rattle.block_device.specs.declared.file_id.FileId.{FileId}
+use Rattle.block_device.specs.Device.{Device}
+use Rattle.command_line.specs.FecFiles.{FecRecord}
+use Rattle.fec_area.specs.declared.layout.Layout.{Layout}
+use Rattle.fec_area.specs.Layouts.{IsLaidOn, IsLayoutOf, parity_sectors}
+use Rattle.image_files.specs.declared.opening.UnopenedFile.{UnopenedFile}
+use Rattle.image_files.specs.Apart.{OpensApart, RefusesApart}
+use Rattle.image_files.specs.Opener.{Calls}
+use Rattle.tree_commands.specs.declared.fault.TreeFault.TheVariants as trees
+use Rattle.tree_survey.specs.declared.fault.SurveyFault.TheVariants as survey
+use Rattle.tree_survey.specs.Causes.{AreImages, IsImageCause}
+use Rattle.verity_format.specs.declared.verifying.VerifyFault.{VerifyFault}
+use Rattle.verity_format.specs.Blocks.{IsFullRead}
+use Rattle.verity_format.specs.Superblock.{SuperRecord, shape_of}
+use Rattle.repair_commands.specs.declared.fault.ParityRepairFault.{ParityRepairFault}
+use Rattle.repair_commands.specs.declared.fault.ParityRepairFault.TheVariants.{BlockSizes, TooSmall, Tree}
+use Rattle.repair_commands.specs.declared.opening.Opened.{Opened}
+use Rattle.repair_commands.specs.declared.parity.Parity.{Parity}
+use Rattle.repair_commands.specs.Pairs.{Places, uses_of}
+
+-- the parity's file was opened for reading; it is none of the two that are repaired, where these may be written
+pub record OpensParity {S D : Type 0} (w : Calls S D) (p : Places) (o : Opened D) (fec : FecRecord) (parity : Parity D) : Type 0 where
+  pub id : Option FileId
+  pub opened : OpensApart w (uses_of p o.parts o.pair) fec.path false (record { device = parity.device; id = id })
+  pub roots_are : parity.roots ≡ fec.roots
+
+abbrev pub FailsToOpenParity : {S D : Type 0} → Calls S D → Places → Opened D → FecRecord → UnopenedFile → Type 0
+FailsToOpenParity w p o fec file = RefusesApart w (uses_of p o.parts o.pair) fec.path false file
+
+-- ---- its layout
+
+-- a superblock was read, data and tree lie on the devices, and so parity with so many bytes in a codeword lies across them
+pub record LiesAcross (data_dev hash_dev : Device) (roots : ℕ) (layout : Layout) : Type 0 where
+  pub super : SuperRecord
+  pub images : AreImages data_dev hash_dev super
+  pub is : IsLayoutOf (shape_of super) hash_dev.size roots layout
+  pub laid : IsLaidOn layout data_dev hash_dev
+
+-- and the parity has room on its own device; of the hash device one sector was read
+pub record LaysOut (data_dev hash_dev parity_dev : Device) (roots : ℕ) (hash_dev' : Device) (layout : Layout) : Type 0 where
+  pub lies : LiesAcross data_dev hash_dev roots layout
+  pub room : parity_sectors layout ≤ parity_dev.size
+  pub read : IsFullRead hash_dev 1 hash_dev'
+
+-- it hasn't
+pub record IsShort (data_dev hash_dev parity_dev : Device) (roots needed : ℕ) : Type 0 where
+  pub layout : Layout
+  pub lies : LiesAcross data_dev hash_dev roots layout
+  pub short : parity_dev.size < parity_sectors layout
+  pub is : needed ≡ parity_sectors layout
+
+-- data and hash blocks have different sizes
+pub record HasOtherSizes (data_dev hash_dev : Device) : Type 0 where
+  pub super : SuperRecord
+  pub images : AreImages data_dev hash_dev super
+  pub differ : super.data_block ≢ super.hash_block
+
+-- why there is no layout: there is no image, or one of these
+abbrev pub IsUnlaid : Device → Device → Device → ℕ → Device → ParityRepairFault → Type 0
+IsUnlaid data_dev hash_dev parity_dev roots hash_dev' (Tree (trees.Survey fault)) = IsImageCause data_dev hash_dev hash_dev' fault
+IsUnlaid data_dev hash_dev parity_dev roots hash_dev' (Tree fault) = ⊥
+IsUnlaid data_dev hash_dev parity_dev roots hash_dev' BlockSizes = HasOtherSizes data_dev hash_dev
+IsUnlaid data_dev hash_dev parity_dev roots hash_dev' (TooSmall needed) = IsShort data_dev hash_dev parity_dev roots needed
+
+-- a fault of the image
+abbrev pub unread : VerifyFault → ParityRepairFault
+unread fault = Tree (trees.Survey (survey.Image fault))

@@ -1,0 +1,46 @@
+//! Why a repair by parity ends early.
+ghost use Rattle.std.specs.Prelude.{◌≡◌};
+ghost use Rattle.repair_commands.specs.declared.fault.ParityRepairFault.TheVariants as parity_repair_fault;
+
+use tree_commands::TreeFault;
+use tree_repair::RepairFault;
+use verity_format::VerifyFault;
+
+/// Why a repair by parity ends early.
+#[derive(Clone, Copy, Debug, PartialEq, Eq)]
+pub enum ParityRepairFault<'a> {
+    /// As a repair without parity does.
+    Tree(TreeFault<'a>),
+    /// Data and hash blocks have different sizes: no parity lies across them.
+    BlockSizes,
+    /// The parity's file has fewer sectors of 512 bytes than are needed.
+    TooSmall { needed: u64 },
+}
+
+impl<'a> From<TreeFault<'a>> for ParityRepairFault<'a> {
+    ghost from_gives = { λ fault given. given ≡ parity_repair_fault.Tree fault };
+
+    fn from(fault: TreeFault<'a>) -> Self {
+        ParityRepairFault::Tree(fault)
+    }
+}
+
+impl From<RepairFault> for ParityRepairFault<'_> {
+    ghost use Rattle.repair_commands.specs.Commands.{fault_of};
+
+    ghost from_gives = { λ fault given. given ≡ parity_repair_fault.Tree (fault_of fault) };
+
+    fn from(fault: RepairFault) -> Self {
+        ParityRepairFault::Tree(crate::repair::fault_of(fault))
+    }
+}
+
+impl From<VerifyFault> for ParityRepairFault<'_> {
+    ghost use Rattle.repair_commands.specs.Parity.{unread};
+
+    ghost from_gives = { λ fault given. given ≡ unread fault };
+
+    fn from(fault: VerifyFault) -> Self {
+        ParityRepairFault::Tree(TreeFault::from(fault))
+    }
+}

@@ -1,0 +1,75 @@
+//! The parity of an image in a file, and how it lies across the image.
+ghost use Rattle.std.specs.Prelude.{◌≡◌, ◌≤◌, IfErr, IfOk};
+ghost use Rattle.command_line.specs.FecFiles.{fec_record};
+ghost use Rattle.image_files.specs.Opener.{calls};
+ghost use Rattle.verity_format.specs.Blocks.{IsOnlyRead};
+ghost use Rattle.repair_commands.specs.Pairs.{places_of};
+ghost use Rattle.repair_commands.specs.Parity.{FailsToOpenParity, IsUnlaid, LaysOut, OpensParity};
+
+use crate::fault::ParityRepairFault;
+use crate::opening::Opened;
+use crate::pair::{RepairPlaces, part_use};
+use block_device::BlockDev;
+use command_line::FecFile;
+use fec_area::Layout;
+use image_files::{Images, UnopenedFile, open_apart};
+use verity_format::{VerifyFault, data_sectors, read_superblock, tree_sectors};
+
+/// The device that holds it, and how many bytes of it a codeword has.
+#[derive(Drop)]
+pub(crate) struct Parity<D> {
+    pub device: D,
+    pub roots: u32,
+}
+
+/// Opens its file for reading, which is none of the two that are repaired, where anything may be written.
+pub(crate) fn open_parity<'a, I: Images>(
+    images: &mut I,
+    places: RepairPlaces<'a>,
+    opened: &Opened<I::Dev>,
+    fec: &FecFile<'a>,
+) -> Result<Parity<I::Dev>, UnopenedFile<'a>>
+    ensures ok { IfOk result (OpensParity (calls I.relations I.Dev.state images.old images.new) (places_of places.entry) opened.now (fec_record fec.now)) }
+    ensures err { IfErr result (FailsToOpenParity (calls I.relations I.Dev.state images.old images.new) (places_of places.entry) opened.now (fec_record fec.now)) }
+{
+    let write = places.write;
+    let files = [
+        part_use(&opened.pair.data_image, write, opened.parts.data_part),
+        part_use(&opened.pair.hash_image, write, opened.parts.hash_part),
+    ];
+    let image = open_apart(images, &files, fec.path, false)?;
+    Ok(Parity {
+        device: image.device,
+        roots: fec.roots,
+    })
+}
+
+/// How it lies across the image, whose superblock is read.
+pub(crate) fn lay_out<'a, D: BlockDev, H: BlockDev, P: BlockDev>(
+    data_dev: &D,
+    hash_dev: &mut H,
+    parity: &Parity<P>,
+) -> Result<Layout, ParityRepairFault<'a>>
+    requires some { 2 ≤ parity.now.roots }
+    requires few { parity.now.roots ≤ 24 }
+    ensures read { IsOnlyRead (H.state hash_dev.old) (H.state hash_dev.new) }
+    ensures ok { IfOk result (LaysOut (D.state data_dev.now) (H.state hash_dev.old) (P.state parity.now.device) parity.now.roots (H.state hash_dev.new)) }
+    ensures err { IfErr result (IsUnlaid (D.state data_dev.now) (H.state hash_dev.old) (P.state parity.now.device) parity.now.roots (H.state hash_dev.new)) }
+{
+    let superblock = read_superblock(hash_dev)?;
+    let shape = superblock.shape();
+    if data_dev.sectors() < data_sectors(&shape) {
+        return Err(ParityRepairFault::from(VerifyFault::TooSmall));
+    }
+    if hash_dev.sectors() < tree_sectors(&shape) {
+        return Err(ParityRepairFault::from(VerifyFault::TooSmall));
+    }
+    let Some(layout) = Layout::of(&shape, hash_dev.sectors(), parity.roots as usize) else {
+        return Err(ParityRepairFault::BlockSizes);
+    };
+    let needed = layout.parity_sectors();
+    if parity.device.sectors() < needed {
+        return Err(ParityRepairFault::TooSmall { needed });
+    }
+    Ok(layout)
+}

@@ -1,0 +1,62 @@
+"""`format --fec` and `verify --fec`: the parity of an image in a file of its own."""
+
+from files import REFUSED, Stop
+from parity import covered, parity_of, sectors_of_parity
+from stack import SECTOR
+from verity import read_superblock
+
+FAULT = 3
+
+
+def check_parity(tree, area, parity, roots):
+    """Data and hash blocks have one size, and the parity's file has the sectors that it needs."""
+    check_one_size(tree.data_block, tree.hash_block)
+    needed = sectors_of_parity(area, tree.data_block, roots)
+    if len(parity) // SECTOR < needed:
+        raise Stop(b"refused 25 FecTooSmall needed %d" % needed)
+
+
+def check_one_size(data_block, hash_block):
+    if data_block != hash_block:
+        raise Stop(b"refused 24 OtherBlockSizes")
+
+
+def laid_out(files, paths, fec, first, writable):
+    """The tree of an image that is there, what its parity covers, and the parity's file."""
+    files.opened.clear()
+    data, image = (files.image(path, False) for path in paths)
+    parity = files.image(fec[0], writable)
+    if first and image is data:
+        data = data[:first * SECTOR]
+    image = image[first * SECTOR:]
+    tree = read_superblock(image).tree()
+    if tree.data_sectors() > len(data) // SECTOR:
+        raise Stop(b"refused 9 TooSmall")
+    check_one_size(tree.data_block, tree.hash_block)
+    return tree, covered(data, image, tree.data_block, tree.blocks, tree.start), parity
+
+
+def protect(files, paths, fec, first, is_grown):
+    """Writes the parity of an image."""
+    if is_grown:
+        files.make(fec[0])
+    tree, area, parity = laid_out(files, paths, fec, first, True)
+    if is_grown:
+        parity.extend(bytes(max(0, sectors_of_parity(area, tree.data_block, fec[1]) * SECTOR - len(parity))))
+    check_parity(tree, area, parity, fec[1])
+    made = parity_of(area, tree.data_block, fec[1])
+    parity[:len(made)] = made
+
+
+def compared_parity(files, paths, fec, first):
+    """What is said of the parity in a file, and the status."""
+    try:
+        tree, area, parity = laid_out(files, paths, fec, first, False)
+        check_parity(tree, area, parity, fec[1])
+    except Stop as stop:
+        return stop.line, REFUSED
+    made, size = parity_of(area, tree.data_block, fec[1]), tree.data_block * fec[1]
+    for at in range(0, len(made), size):
+        if made[at:at + size] != parity[at:at + size]:
+            return b"parity differs in round %d" % (at // size), FAULT
+    return b"parity ok", 0

@@ -1,0 +1,163 @@
+#!/usr/bin/env python3
+"""Tries `dmstack repair --fec` on images with parity that veritysetup made and that are damaged at random.
+
+repaired_images.py [--cases N] [--seed S] [PROGRAM]: formats images by veritysetup, with 2 to 24 bytes of parity in a codeword,
+damages blocks of the data, of the tree and of the parity, and repairs them. Of damaged data those blocks must come back whose round
+has no more bad blocks than a codeword has bytes of parity, and whole parity; of a damaged tree over whole data all. No block may hold
+other bytes than the formatted ones or the damaged ones, --check may change none, and what ends with the status 0 veritysetup must
+verify, its parity too. Where veritysetup isn't installed it says so, and tries nothing (Debian: cryptsetup-bin).
+"""
+import argparse
+import os
+import random
+import re
+import shutil
+import subprocess
+import sys
+import tempfile
+
+passed = failed = 0
+
+
+def say(label, good, more=""):
+    global passed, failed
+    if good:
+        passed += 1
+    else:
+        failed += 1
+        print(f"{label}: not so {more}")
+
+
+def run(*words):
+    done = subprocess.run([str(it) for it in words], capture_output=True, timeout=120)
+    return done.returncode, done.stdout.decode()
+
+
+class Image:
+    """An image that veritysetup formatted, and the bytes of its three files."""
+
+    def __init__(self, dice):
+        self.block, self.roots = dice.choice([512, 1024, 2048, 4096]), dice.randint(2, 24)
+        self.blocks = dice.choice([dice.randint(2, 40), dice.randint(200, 300), dice.randint(400, 700)])
+        few = [bytes(self.block), dice.randbytes(self.block)]
+        pieces = [dice.choice(few) if dice.random() < 0.2 else dice.randbytes(self.block) for _ in range(self.blocks)]
+        write("data", b"".join(pieces))
+        area = self.blocks // (self.block // 32 - 1) + 8
+        write("hash", bytes((area + dice.choice([0, 0, 5])) * self.block))
+        write("parity", b"")
+        sizes = [f"--data-block-size={self.block}", f"--hash-block-size={self.block}"]
+        self.fec = ["--fec-device=parity", f"--fec-roots={self.roots}"]
+        made = run(VERITYSETUP, "format", *sizes, f"--salt={dice.randbytes(8).hex()}", *self.fec, "data", "hash")[1]
+        self.root = re.search("Root hash: *\t*([0-9a-f]{64})", made)[1]
+        self.files = {name: read(name) for name in ("data", "hash", "parity")}
+        covered = self.blocks + len(self.files["hash"]) // self.block - 1
+        self.rounds = -(-covered // (255 - self.roots))
+
+    def blocks_of(self, name, content):
+        size = self.block * self.roots if name == "parity" else self.block
+        return [content[at:at + size] for at in range(0, len(content), size)]
+
+    def damage(self, dice, name, places):
+        """Changes bytes of these blocks, of the parity those of these rounds."""
+        blocks = self.blocks_of(name, self.files[name])
+        for place in places:
+            changed = bytearray(blocks[place])
+            for at in dice.sample(range(len(changed)), dice.choice([1, 1, 30])):
+                changed[at] ^= dice.randint(1, 255)
+            blocks[place] = dice.randbytes(len(changed)) if dice.random() < 0.2 else bytes(changed)
+        write(name, b"".join(blocks))
+
+
+def read(name):
+    with open(name, "rb") as file:
+        return file.read()
+
+
+def write(name, content):
+    with open(name, "wb") as file:
+        file.write(content)
+
+
+def picked(dice, image):
+    """The data blocks that are damaged: about as many of a round as it has parity, or a run, or none."""
+    kind, count = dice.random(), image.blocks
+    if kind < 0.2:
+        return []
+    if kind < 0.4:
+        first = dice.randrange(count)
+        return list(range(first, min(count, first + dice.randint(1, image.rounds * image.roots + 1))))
+    found = []
+    for turn in dice.sample(range(image.rounds), dice.randint(1, image.rounds)):
+        members = range(turn, count, image.rounds)
+        found += dice.sample(members, min(len(members), dice.choice([1, 2, image.roots, image.roots + 1])))
+    return found
+
+
+def comes_back(image, bad, turns):
+    """The bad data blocks that parity makes again, where the tree is whole."""
+    counts = [sum(it % image.rounds == turn for it in bad) for turn in range(image.rounds)]
+    return sorted(it for it in bad if counts[it % image.rounds] <= image.roots and it % image.rounds not in turns)
+
+
+def tried(dice, label):
+    image = Image(dice)
+    bad = picked(dice, image)
+    tree = [1 + k for k in range(len(image.files["hash"]) // image.block - 1)] if dice.random() < 0.4 else []
+    tree = dice.sample(tree, min(len(tree), dice.choice([1, 1, 2, 4])))
+    turns = dice.sample(range(image.rounds), 1) if dice.random() < 0.2 else []
+    for name, places in (("data", bad), ("hash", tree), ("parity", turns)):
+        image.damage(dice, name, places)
+    before = {name: read(name) for name in image.files}
+    words = [PROGRAM, "repair", "--fec", "parity", "--fec-roots", image.roots]
+    looked = run(*words, "--check", "data", "hash", image.root)
+    say(f"{label}: --check changes nothing", all(read(name) == before[name] for name in before))
+    status, printed = run(*words, "data", "hash", image.root)
+    after = {name: read(name) for name in before}
+    judge(label, image, before, after, status)
+    if not tree:
+        wanted = comes_back(image, bad, turns)
+        lines = [f"data {it} parity" for it in wanted]
+        say(f"{label}: {len(wanted)} of {len(bad)} blocks come back", told(printed, "repaired") == lines, printed)
+        say(f"{label}: --check says so", told(looked[1], "repairable") == lines, looked[1])
+        say(f"{label}: the status", status == (0 if len(wanted) == len(bad) else 3), str(status))
+    elif not bad:
+        say(f"{label}: the tree is made again", status == 0, printed)
+
+
+def told(printed, word):
+    return [line.removeprefix(word + " ") for line in printed.splitlines() if line.startswith(word + " ")]
+
+
+def judge(label, image, before, after, status):
+    for name in ("data", "hash"):
+        rows = zip(*(image.blocks_of(name, it[name]) for it in (image.files, before, after)))
+        say(f"{label}: {name} has formatted and damaged blocks alone", all(now in (good, old) for good, old, now in rows))
+    say(f"{label}: the parity stays", after["parity"] == before["parity"])
+    if status == 0:
+        say(f"{label}: veritysetup verifies it", run(VERITYSETUP, "verify", "data", "hash", image.root)[0] == 0)
+        used = len(image.files["hash"])
+        if after["parity"] == image.files["parity"] and after["hash"][:used] == image.files["hash"]:
+            say(f"{label}: with its parity", run(VERITYSETUP, "verify", *image.fec, "data", "hash", image.root)[0] == 0)
+
+
+def main():
+    if not VERITYSETUP:
+        print("veritysetup isn't installed")
+        return 0
+    for number in range(WORDS.cases):
+        tried(random.Random(WORDS.seed * 1000003 + number), f"case {number} of seed {WORDS.seed}")
+    print(f"repaired images: {passed} passed, {failed} failed")
+    return 1 if failed or not passed else 0
+
+
+if __name__ == "__main__":
+    parser = argparse.ArgumentParser()
+    parser.add_argument("--cases", type=int, default=40)
+    parser.add_argument("--seed", type=int, default=1)
+    parser.add_argument("program", nargs="?", default=shutil.which("dmstack"))
+    WORDS = parser.parse_args()
+    PROGRAM = os.path.abspath(WORDS.program)
+    VERITYSETUP = shutil.which("veritysetup", path=os.environ.get("PATH", "") + ":/usr/sbin")
+    with tempfile.TemporaryDirectory() as room:
+        os.chdir(room)
+        sys.exit(main())
