@@ -30,7 +30,6 @@ use Rattle.request_queue.specs.declared.reply.Reply.{Reply}
 use Rattle.request_queue.specs.Flights.{FlightRecord}
 use Rattle.request_queue.specs.Laws.{KeepsChecked}
 use Rattle.request_queue.specs.Parts.{Part, EachPart, bytes_part, part_of_work, done_of, without_chains}
-use Rattle.request_queue.specs.Ranges.{range_at}
 use Rattle.request_queue.specs.Requests.{RequestRecord}
 use Rattle.request_queue.specs.Runs.{Turn, Run, last}
 use Rattle.request_queue.specs.World.{World, Event, submit, step, read_bytes, load, remove_device, run, sync, Step, Answers, BytesRead, ReadsBytes, Loads, Removes, Syncs, Serves, Ends, at_once, later, Runs, next_count}

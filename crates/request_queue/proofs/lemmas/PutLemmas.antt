@@ -1,5 +1,5 @@
 -- The pieces of writes that steps serve, and what they leave.
-use Rattle.std.proofs.Common.{◌≡◌, ℕ, ◌+◌, ◌/◌, false, true, List, [], ◌∷◌, ◌++◌, length, All, ap, sym, ◌∙◌, subst, Option, Some, Result, Ok, Err}
+use Rattle.std.proofs.Common.{◌≡◌, ℕ, ◌/◌, false, true, List, [], ◌∷◌, ◌++◌, length, All, ap, sym, ◌∙◌, subst, Option, Some, Result, Ok, Err}
 use Rattle.std.proofs.lemmas.List.Elements.{All-head, All-tail}
 use Rattle.block_device.specs.Device.{Device}
 use Rattle.dm_table.specs.declared.stack.Entry.{Entry}
