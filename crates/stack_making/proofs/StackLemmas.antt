@@ -1,11 +1,10 @@
 -- Stacks that are made of open leaves.
-use Rattle.std.proofs.Common.{◌≡◌, ℕ, map, ap, ◌∙◌, refl, Ok}
-use Rattle.std.specs.Prelude.{List}
+use Rattle.std.proofs.Common.{◌≡◌, ℕ, map, Ok}
 use Rattle.block_device.specs.Device.{Device}
-use Rattle.stack_rules.specs.Records.{Configuration, LeafRecord}
+use Rattle.stack_rules.specs.Records.{Configuration}
 use Rattle.stack_engine.specs.Pieces.{stack_over}
 use Rattle.stack_engine.specs.Stacks.{StackRecord}
-use Rattle.stack_making.specs.Configuration.{configuration_of, leaves_alone}
+use Rattle.stack_making.specs.Configuration.{configuration_of}
 use Rattle.stack_making.specs.StacksOfTexts.{IsStackOf}
 use Rattle.stack_opening.specs.declared.stack_file.OpenStack.{OpenStack}
 

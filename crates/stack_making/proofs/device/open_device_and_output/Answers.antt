@@ -11,3 +11,6 @@ pub returns-in_err-stack-clause-err : goal.returns-in_err-stack-clause-err
 returns-in_err-stack-clause-err g c =
     err-from c.from_residual-in_err-stack.result _ c.in_err-stack.field-0.0 c.from_residual-in_err-stack.ensures.1
     (inr (record { over = c.in_ok-over.over; image = c.in_ok-over.image; opened = c.in_ok-over.ensures.ok; fails = c.in_err-stack.ensures.err }))
+
+pub returns-clause-ok : goal.returns-clause-ok
+returns-clause-ok g c = record { over = c.in_ok-over.over; opened = c.in_ok-over.ensures.ok; has = c.in_ok-stack.ensures.ok }
