@@ -18,12 +18,15 @@ pub returns-in_default-clause-err : goal.returns-in_default-clause-err
 returns-in_default-clause-err g c =
     let at = c.config.ensures.value ∙ ap (λ (v : StackRecord). v.config) c.stack.ensures ∙ ap (λ (w : World). w.stack.config) c.new-queue.ensures.value in
     let none = subst (λ (n : List ℕ). HasNoExport c.config.result.now n) c.as_bytes.ensures.value c.in_default.ensures.none in
-    inl (refl, inr (record {
-      stack = c.in_ok-stack.stack;
-      loaded = c.in_ok-stack.ensures.ok;
-      none = subst (λ (x : Configuration). HasNoExport x c.args.device.name.now) at none;
-      is = refl;
-    }))
+    inl (
+      refl,
+      inr (record {
+        stack = c.in_ok-stack.stack;
+        loaded = c.in_ok-stack.ensures.ok;
+        none = subst (λ (x : Configuration). HasNoExport x c.args.device.name.now) at none;
+        is = refl;
+      }),
+    )
 
 pub returns-in_err-outcome-clause-err : goal.returns-in_err-outcome-clause-err
 returns-in_err-outcome-clause-err g c =
