@@ -1,2 +1,4 @@
+pub mod ByMap
 pub mod MapFiles
+pub mod MapTexts
 pub mod Turns

@@ -1,7 +1,7 @@
 -- Commands that end early.
 use Rattle.std.proofs.Common.{◌≡◌, ℕ, Bool, true, false, List, Option, refl, sym, subst}
 use Rattle.stack_commands.specs.declared.fault.CommandFault.{CommandFault}
-use Rattle.stack_commands.specs.declared.fault.CommandFault.TheVariants.{Usage, NoMemory, TooLong, Open, Outside, Leaves, Text, Load, Submit, Io, Verity, Fec, Partitions, Trees, Cat, Store, Lost, LostAsSaid, OutputTooSmall, OutputFailed, Map, Session, Service}
+use Rattle.stack_commands.specs.declared.fault.CommandFault.TheVariants.{Usage, NoMemory, Stack, Request, Io, Recovering, Stream, Verity, Fec, Partitions, Trees, LostAsSaid, Map, Session, Service}
 use Rattle.verity_commands.proofs.EndingLemmas.{quiet as verity-quiet}
 use Rattle.stack_commands.specs.Commands.{IsEndOr, IsTold, Told, is_usage}
 use Rattle.stack_commands.specs.Endings.{IsQuiet}
@@ -9,24 +9,16 @@ use Rattle.stack_commands.specs.Endings.{IsQuiet}
 pub quiet : (fault : CommandFault) (bytes : Option (List ℕ)) → IsQuiet fault bytes bytes
 quiet Usage bytes = refl
 quiet NoMemory bytes = refl
-quiet TooLong bytes = refl
-quiet (Open file) bytes = refl
-quiet (Outside path) bytes = refl
-quiet (Leaves fault) bytes = refl
-quiet (Text fault) bytes = refl
-quiet (Load refusal) bytes = refl
-quiet (Submit fault) bytes = refl
+quiet (Stack fault) bytes = refl
+quiet (Request fault) bytes = refl
 quiet (Io fault) bytes = refl
+quiet (Recovering fault) bytes = refl
+quiet (Stream fault) bytes = refl
 quiet (Verity fault) bytes = verity-quiet fault bytes
 quiet (Fec fault) bytes = refl
 quiet (Partitions fault) bytes = refl
 quiet (Trees fault) bytes = refl
-quiet (Cat fault) bytes = refl
-quiet (Store fault) bytes = refl
-quiet (Lost read lost) bytes = refl
 quiet LostAsSaid bytes = refl
-quiet (OutputTooSmall needed) bytes = refl
-quiet OutputFailed bytes = refl
 quiet (Map fault) bytes = refl
 quiet (Session fault) bytes = tt
 quiet (Service fault) bytes = refl

@@ -16,9 +16,11 @@ use Rattle.command_line.specs.Bindings.{BindingRecord}
 use Rattle.stack_commands.specs.Further.{FailsFurther, SucceedsFurther}
 use Rattle.verity_commands.specs.Endings as verity
 use Rattle.verity_commands.specs.Images.{FormatsFiles, IsFormatFilesCause, paths}
-use Rattle.stack_commands.specs.Uses.{IsUsageEnd, IsVerityEnd, Uses}
-use Rattle.stack_commands.specs.Recoveries.{CopyWords, IsCopyEnd, IsScanEnd, PrintsCopy, PrintsScan, copy_words}
-use Rattle.stack_commands.specs.StackCommands.{FailsToList, FailsToShow, IsClientEnd, IsServeEnd, IsStackEnd, IsWriteEnd, PrintsDevices, PrintsReply, PrintsWritten, PutWords, Serves, ServesClient, device_on, on, put_words}
+use Rattle.stack_commands.specs.Uses.{IsRecoveringEnd, IsUsageEnd, IsVerityEnd, Uses}
+use Rattle.recovery_commands.specs.Copies.{CopyWords, IsCopyEnd, PrintsCopy, copy_words}
+use Rattle.recovery_commands.specs.Scans.{IsScanEnd, PrintsScan}
+use Rattle.request_commands.specs.Writes.{PutWords, put_words}
+use Rattle.stack_commands.specs.StackCommands.{IsClientEnd, IsListEnd, IsReadEnd, IsServeEnd, IsWriteEnd, PrintsDevices, PrintsReply, PrintsWritten, Serves, ServesClient, device_on, on}
 
 -- what the commands on stacks name
 abbrev pub copy_on : List ℕ → List ℕ → List ℕ → List BindingRecord → CopyWords
@@ -44,8 +46,8 @@ Succeeds texts (further w) u = SucceedsFurther texts w u
 
 -- why each command ends early; of a line that can't be written it says that the writer failed
 abbrev pub IsCauseOf : {S D T G : Type 0} → OptionTexts → InvocationRecord → Uses S D T G → Bool → CommandFault → Type 0
-IsCauseOf texts (load stack bindings) u failed fault = IsStackEnd u.images (on stack bindings) (FailsToList failed) fault
-IsCauseOf texts (read cache stack name first count bindings) u failed fault = IsStackEnd u.images (on stack bindings) (FailsToShow u.images.state cache (a_read name first count) failed) fault
+IsCauseOf texts (load stack bindings) u failed fault = IsListEnd u.images (on stack bindings) failed fault
+IsCauseOf texts (read cache stack name first count bindings) u failed fault = IsReadEnd u.images (on stack bindings) cache (a_read name first count) failed fault
 IsCauseOf texts (write cache stack name first source bindings) u failed fault = IsWriteEnd u.images (put_on stack cache source (a_write name first) bindings) failed fault
 IsCauseOf texts (session cache bindings) u failed fault = ⊥
 IsCauseOf texts (nbd cache stack name bindings) u failed fault = ⊥
@@ -62,8 +64,8 @@ IsCauseOf texts (further w) u failed fault = ⊥
 abbrev pub Fails : {S D T G : Type 0} → OptionTexts → InvocationRecord → Uses S D T G → Bool → CommandFault → Type 0
 Fails texts (session cache bindings) u failed fault = IsServeEnd u.images cache bindings u.old u.new failed fault
 Fails texts (nbd cache stack name bindings) u failed fault = IsClientEnd u.images (device_on stack name cache bindings) u.old u.new failed fault
-Fails texts (scan stack name bindings) u failed fault = IsScanEnd u.images (device_on stack name 64 bindings) u.old.output u.new.output failed fault
-Fails texts (copy stack name out bindings) u failed fault = IsCopyEnd u.images (copy_on stack name out bindings) u.old.output u.new.output failed fault
+Fails texts (scan stack name bindings) u failed fault = IsRecoveringEnd (IsScanEnd u.images (device_on stack name 64 bindings) u.old.output u.new.output failed) fault
+Fails texts (copy stack name out bindings) u failed fault = IsRecoveringEnd (IsCopyEnd u.images (copy_on stack name out bindings) u.old.output u.new.output failed) fault
 Fails texts (further w) u failed fault = FailsFurther texts w u failed fault
 Fails texts invocation u failed fault = IsCauseOf texts invocation u failed fault × IsQuiet fault u.old.output u.new.output
 

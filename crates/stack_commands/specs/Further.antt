@@ -20,16 +20,18 @@ use Rattle.stack_commands.specs.declared.fault.CommandFault.{CommandFault}
 use Rattle.stack_commands.specs.declared.fault.CommandFault.TheVariants.{Fec, Partitions, Usage}
 use Rattle.stack_commands.specs.Endings.{IsQuiet, IsUnwritten}
 use Rattle.stack_commands.specs.MappedCopies.{IsMappedCopyEnd, IsMappedScanEnd, PrintsMappedCopy, PrintsMappedScan, ScansByMap}
-use Rattle.stack_commands.specs.Recoveries.{CopyWords, IsCopyEnd, IsScanEnd, PrintsCopy, PrintsScan, Scans, copy_words}
+use Rattle.recovery_commands.specs.Copies.{CopyWords, IsCopyEnd, PrintsCopy, copy_words}
+use Rattle.recovery_commands.specs.Scans.{IsScanEnd, PrintsScan, Scans}
+use Rattle.stack_making.specs.NamedDevices.{DeviceWords}
+use Rattle.stack_streams.specs.StoredFiles.{FileWords, IsFileEnd, PrintsFileStored, file_words}
+use Rattle.stack_streams.specs.Streaming.{IsBytesEnd, IsStoringEnd, PrintsBytes, PrintsStored}
 use Rattle.stack_commands.specs.ScanObjects.{IsMappedObjectEnd, IsScanObjectEnd, PrintsScanObject}
 use Rattle.stack_commands.specs.ManyExports.{IsExportsEnd, ServesExports}
-use Rattle.stack_commands.specs.StackCommands.{DeviceWords, FailsToList, IsStackEnd, PrintsDevices, device_on, on}
-use Rattle.stack_commands.specs.StoredFiles.{FileWords, IsFileEnd, PrintsFileStored, file_words}
-use Rattle.stack_commands.specs.Streaming.{IsBytesEnd, IsStoringEnd, PrintsBytes, PrintsStored}
+use Rattle.stack_commands.specs.StackCommands.{IsListEnd, PrintsDevices, device_on, on}
 use Rattle.verity_commands.specs.Placed.{DumpsAt, FormatsAt, IsDumpEnd, IsFormatEnd, IsTableEnd, PrintsEntry}
 use Rattle.verity_commands.specs.Trees.{FormatsTree, IsFormatTreeEnd, IsTableTreeEnd, IsVerifyTreeEnd, PrintsTreeEntry, VerifiesTree}
 use Rattle.stack_commands.specs.Repairing.{IsRepairWordsEnd, RepairsImage}
-use Rattle.stack_commands.specs.Uses.{IsTreesEnd, IsVerityEnd, Uses}
+use Rattle.stack_commands.specs.Uses.{IsRecoveringEnd, IsStreamEnd, IsTreesEnd, IsVerityEnd, Uses}
 use Rattle.stack_commands.specs.Verifying.{ChecksImage, IsCheckEnd}
 
 -- ---- partitions, and trees that are compared
@@ -50,7 +52,7 @@ abbrev pub ListsDevices : {S D : Type 0} → Calls S D → LoadRecord → Option
 ListsDevices w l old new = PrintsDevices l.json w (on l.stack l.bindings) old new
 
 abbrev pub IsLoadWordsEnd : {S D : Type 0} → Calls S D → LoadRecord → Option (List ℕ) → Option (List ℕ) → Bool → CommandFault → Type 0
-IsLoadWordsEnd w l old new failed fault = IsStackEnd w (on l.stack l.bindings) (FailsToList failed) fault × IsQuiet fault old new
+IsLoadWordsEnd w l old new failed fault = IsListEnd w (on l.stack l.bindings) failed fault × IsQuiet fault old new
 
 -- ---- bytes of a device
 
@@ -58,7 +60,7 @@ abbrev pub CatsSectors : {S D : Type 0} → Calls S D → CatRecord → Option (
 CatsSectors w c old new = PrintsBytes w (device_on c.stack c.name c.cache c.bindings) c.first c.count old new
 
 abbrev pub IsCatEnd : {S D : Type 0} → Calls S D → CatRecord → Option (List ℕ) → Option (List ℕ) → Bool → CommandFault → Type 0
-IsCatEnd w c old new failed fault = IsBytesEnd w (device_on c.stack c.name c.cache c.bindings) c.first c.count old new failed fault
+IsCatEnd w c old new failed fault = IsStreamEnd (IsBytesEnd w (device_on c.stack c.name c.cache c.bindings) c.first c.count old new failed) fault
 
 -- the source `-` is the input; another one is a file, and nothing is read of the input then
 abbrev pub BySource : StoreRecord → Type 0 → Type 0 → Type 0
@@ -74,8 +76,8 @@ StoresSectors w s old new = BySource s
 
 abbrev pub IsStoreEnd : {S D : Type 0} → Calls S D → StoreRecord → Streams → Streams → Bool → CommandFault → Type 0
 IsStoreEnd w s old new failed fault = BySource s
-    (IsStoringEnd w (device_on s.stack s.name s.cache s.bindings) s.first old new failed fault)
-    ((new.input ≡ old.input) × IsFileEnd w (stored_words s) old.output new.output failed fault)
+    (IsStreamEnd (IsStoringEnd w (device_on s.stack s.name s.cache s.bindings) s.first old new failed) fault)
+    ((new.input ≡ old.input) × IsStreamEnd (IsFileEnd w (stored_words s) old.output new.output failed) fault)
 
 -- ---- each by its words
 
@@ -92,7 +94,7 @@ abbrev pub ScansSectors : {S D : Type 0} → Calls S D → ScanRecord → Option
 ScansSectors w s old new = ScansBy s.map s.json w (device_on s.stack s.name s.cache s.bindings) old new
 
 abbrev pub IsScanEndBy : {S D : Type 0} → Option (List ℕ) → Bool → Calls S D → DeviceWords → Option (List ℕ) → Option (List ℕ) → Bool → CommandFault → Type 0
-IsScanEndBy None false w words old new failed fault = IsScanEnd w words old new failed fault
+IsScanEndBy None false w words old new failed fault = IsRecoveringEnd (IsScanEnd w words old new failed) fault
 IsScanEndBy (Some map) false w words old new failed fault = IsMappedScanEnd w words map old new failed fault
 IsScanEndBy None true w words old new failed fault = IsScanObjectEnd w words old new failed fault
 IsScanEndBy (Some map) true w words old new failed fault = IsMappedObjectEnd w words map old new failed fault
@@ -111,7 +113,7 @@ abbrev pub CopiesSectors : {S D : Type 0} → Calls S D → CopyRecord → Optio
 CopiesSectors w c old new = CopiesBy c.map w (copied c) old new
 
 abbrev pub IsCopyEndBy : {S D : Type 0} → Option (List ℕ) → Calls S D → CopyWords → Option (List ℕ) → Option (List ℕ) → Bool → CommandFault → Type 0
-IsCopyEndBy None w words old new failed fault = IsCopyEnd w words old new failed fault
+IsCopyEndBy None w words old new failed fault = IsRecoveringEnd (IsCopyEnd w words old new failed) fault
 IsCopyEndBy (Some map) w words old new failed fault = IsMappedCopyEnd w words map old new failed fault
 
 abbrev pub IsCopyWordsEnd : {S D : Type 0} → Calls S D → CopyRecord → Option (List ℕ) → Option (List ℕ) → Bool → CommandFault → Type 0

@@ -11,12 +11,13 @@ use Rattle.request_queue.specs.World.{World}
 use Rattle.stack_engine.specs.Stacks.{StackRecord}
 use Rattle.stack_meaning.specs.declared.fault.IoFault.{IoFault}
 use Rattle.stack_opening.specs.OpenStacks.{StackWords}
+use Rattle.stack_making.specs.Closings.{GivesBack}
+use Rattle.stack_making.specs.StacksOfTexts.{FailsToLoadFile, Loads}
+use Rattle.request_commands.specs.Requests.{new_world}
 use Rattle.stack_commands.specs.declared.fault.CommandFault.{CommandFault}
-use Rattle.stack_commands.specs.declared.fault.CommandFault.TheVariants.{Service}
-use Rattle.stack_commands.specs.Closings.{GivesBack}
-use Rattle.stack_commands.specs.Requests.{new_world}
-use Rattle.stack_commands.specs.StackCommands.{IsStackEnd, IsSyncEnd, Loads}
-use Rattle.stack_commands.specs.StacksOfTexts.{FailsToLoad}
+use Rattle.stack_commands.specs.declared.fault.CommandFault.TheVariants.{NoMemory, Service}
+use Rattle.stack_commands.specs.StackCommands.{IsSyncEnd}
+use Rattle.stack_commands.specs.Uses.{IsStackEnd}
 
 -- the exports of a stack are its devices under their names, in their order
 pub record AreOffered (stack : StackRecord) (exports : List ExportRecord) : Type 0 where
@@ -30,8 +31,7 @@ pub record ServesExports {S D : Type 0} (w : Calls S D) (words : StackWords) (ca
   pub exports : List ExportRecord
   pub last : World
   pub between : S
-  pub loaded : Loads (record w { new = between }) words stack
-  pub cached : stack.capacity ≡ cache
+  pub loaded : Loads (record w { new = between }) words cache stack
   pub offered : AreOffered stack exports
   pub served : IsService exports (new_world stack) last old new outcome
   pub back : GivesBack (record w { old = between }) words.bindings last.stack.leaves synced
@@ -44,8 +44,14 @@ pub record FailsToServeExports {S D : Type 0} (w : Calls S D) (words : StackWord
   pub is : fault ≡ Service service
   pub written : service ≡ service_fault.WriteFault → failed ≡ true
 
+-- the stack was made, and memory ran out before its devices were listed
+pub record FailsToOffer {S D : Type 0} (w : Calls S D) (words : StackWords) (cache : ℕ) (fault : CommandFault) : Type 0 where
+  pub stack : StackRecord
+  pub loaded : Loads w words cache stack
+  pub is : fault ≡ NoMemory
+
 -- The service ends early: nothing was served; or by its own fault; or all was served, and then an image isn't synced.
 abbrev pub IsExportsEnd : {S D : Type 0} → Calls S D → StackWords → ℕ → Streams → Streams → Bool → CommandFault → Type 0
 IsExportsEnd w words cache old new failed fault =
-    ((new ≡ old) × IsStackEnd w words FailsToLoad fault)
+    ((new ≡ old) × (IsStackEnd (FailsToLoadFile w words) fault ⊎ FailsToOffer w words cache fault))
     ⊎ (FailsToServeExports w words cache old new failed fault ⊎ IsSyncEnd (ServesExports w words cache old new (Ok tt)) fault)

@@ -7,11 +7,19 @@ use Rattle.rescue_files.specs.declared.fault.RescueFault.{RescueFault}
 use Rattle.stack_engine.specs.Stacks.{StackRecord}
 use Rattle.stack_recovery.specs.declared.recovery.Counts.{Counts}
 use Rattle.stack_recovery.specs.Recoveries.{Sides, sides}
+use Rattle.rescue_files.specs.declared.by_map.UnkeptMap.{UnkeptMap}
+use Rattle.rescue_files.specs.ByMap.{IsMapEnd, IsRescued, IsUnrescued, Moving, moving}
+use Rattle.recovery_commands.specs.Copies.{CopyWords, IsSeenAs, IsUncopied}
+use Rattle.recovery_commands.specs.Recovering.{IsCountsEnd, TellsCounts}
+use Rattle.stack_making.specs.NamedDevices.{DeviceWords, FailsToFindDevice, Finds, FindsOutput, Place}
 use Rattle.stack_commands.specs.declared.fault.CommandFault.{CommandFault}
-use Rattle.stack_commands.specs.ByMap.{IsMapEnd, IsRescued, IsUnrescued, Moving, moving}
-use Rattle.stack_commands.specs.Recoveries.{CopyWords, FailsToFind, Finds, FindsOutput, IsSeenAs, IsUncopied, Place}
-use Rattle.stack_commands.specs.Recovering.{IsCountsEnd, TellsCounts}
-use Rattle.stack_commands.specs.StackCommands.{DeviceWords, IsStackEnd}
+use Rattle.stack_commands.specs.declared.fault.CommandFault.TheVariants.{Map}
+use Rattle.stack_commands.specs.Uses.{IsRecoveringEnd, IsStackEnd}
+
+-- it isn't gone over to its end by the map
+abbrev pub IsUnkeptEnd : (UnkeptMap → Type 0) → CommandFault → Type 0
+IsUnkeptEnd Ends (Map end) = Ends end
+IsUnkeptEnd Ends fault = ⊥
 
 -- ---- `scan --map`
 
@@ -33,13 +41,13 @@ pub record PrintsMappedScan {S D : Type 0} (w : Calls S D) (words : DeviceWords)
   pub told : TellsCounts counts printed new
 
 -- the map isn't read, or the going over ended early
-pub record CutsScan {S D : Type 0} (w : Calls S D) (words : DeviceWords) (map : List ℕ) (old new : Option (List ℕ)) (failed : Bool) (fault : CommandFault) : Type 0 where
+pub record CutsScan {S D : Type 0} (w : Calls S D) (words : DeviceWords) (map : List ℕ) (old new : Option (List ℕ)) (failed : Bool) (end : UnkeptMap) : Type 0 where
   pub at : Place
   pub out : Device
   pub left : Sides
   pub between : S
   pub found : Finds (record w { new = between }) words at
-  pub fails : IsMapEnd map (IsUnrescued (record w { old = between }) map at.d (moving (sides at.stack out old) left) failed) fault
+  pub fails : IsMapEnd map (IsUnrescued (record w { old = between }) map at.d (moving (sides at.stack out old) left) failed) end
   pub same : left.printed ≡ new
 
 -- sectors are lost, or the counts can't be written
@@ -47,12 +55,12 @@ pub record LosesByMap {S D : Type 0} (w : Calls S D) (words : DeviceWords) (map 
   pub counts : Counts
   pub printed : Option (List ℕ)
   pub scanned : ScansByMap w words map old counts printed
-  pub ends : IsCountsEnd counts printed new failed fault
+  pub ends : IsRecoveringEnd (IsCountsEnd counts printed new failed) fault
 
 abbrev pub IsMappedScanEnd : {S D : Type 0} → Calls S D → DeviceWords → List ℕ → Option (List ℕ) → Option (List ℕ) → Bool → CommandFault → Type 0
 IsMappedScanEnd w words map old new failed fault =
-    ((new ≡ old) × IsStackEnd w words.words (FailsToFind w.state words.name) fault)
-    ⊎ (CutsScan w words map old new failed fault ⊎ LosesByMap w words map old new failed fault)
+    ((new ≡ old) × IsStackEnd (FailsToFindDevice w words) fault)
+    ⊎ (IsUnkeptEnd (CutsScan w words map old new failed) fault ⊎ LosesByMap w words map old new failed fault)
 
 -- ---- `copy --map`
 
@@ -80,7 +88,7 @@ pub record MapCopies {S D : Type 0} (w : Calls S D) (words : CopyWords) (map : L
   pub left : StackRecord
   pub between : S
   pub behind : S
-  pub found : FindsOutput (record w { new = between }) words at image
+  pub found : FindsOutput (record w { new = between }) words.words words.out at image
   pub copied : CopiesByMap words.differing (record w { old = between; new = behind }) map at.d (moving (sides at.stack (w.state image.device) old) (sides left (w.state image') printed)) counts
   pub back : w.relations.takes behind words.out image' w.new
 
@@ -91,15 +99,15 @@ pub record PrintsMappedCopy {S D : Type 0} (w : Calls S D) (words : CopyWords) (
   pub told : TellsCounts counts printed new
 
 -- it ended early, and what then stood in the image was given back
-pub record CutsCopy {S D : Type 0} (w : Calls S D) (words : CopyWords) (map : List ℕ) (old new : Option (List ℕ)) (failed : Bool) (fault : CommandFault) : Type 0 where
+pub record CutsCopy {S D : Type 0} (w : Calls S D) (words : CopyWords) (map : List ℕ) (old new : Option (List ℕ)) (failed : Bool) (end : UnkeptMap) : Type 0 where
   pub at : Place
   pub image : OpenImage D
   pub image' : D
   pub left : StackRecord
   pub between : S
   pub behind : S
-  pub found : FindsOutput (record w { new = between }) words at image
-  pub fails : IsMapEnd map (CutsCopying words.differing (record w { old = between; new = behind }) map at.d (moving (sides at.stack (w.state image.device) old) (sides left (w.state image') new)) failed) fault
+  pub found : FindsOutput (record w { new = between }) words.words words.out at image
+  pub fails : IsMapEnd map (CutsCopying words.differing (record w { old = between; new = behind }) map at.d (moving (sides at.stack (w.state image.device) old) (sides left (w.state image') new)) failed) end
   pub back : w.relations.takes behind words.out image' w.new
 
 -- sectors are lost, or the counts can't be written
@@ -107,8 +115,8 @@ pub record LosesInMapCopy {S D : Type 0} (w : Calls S D) (words : CopyWords) (ma
   pub counts : Counts
   pub printed : Option (List ℕ)
   pub copied : MapCopies w words map old counts printed
-  pub ends : IsCountsEnd counts printed new failed fault
+  pub ends : IsRecoveringEnd (IsCountsEnd counts printed new failed) fault
 
 abbrev pub IsMappedCopyEnd : {S D : Type 0} → Calls S D → CopyWords → List ℕ → Option (List ℕ) → Option (List ℕ) → Bool → CommandFault → Type 0
 IsMappedCopyEnd w words map old new failed fault =
-    ((new ≡ old) × IsUncopied w words fault) ⊎ (CutsCopy w words map old new failed fault ⊎ LosesInMapCopy w words map old new failed fault)
+    ((new ≡ old) × IsRecoveringEnd (IsUncopied w words.words words.out) fault) ⊎ (IsUnkeptEnd (CutsCopy w words map old new failed) fault ⊎ LosesInMapCopy w words map old new failed fault)

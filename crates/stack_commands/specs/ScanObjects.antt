@@ -10,30 +10,29 @@ use Rattle.stack_recovery.specs.declared.lost_run.LostRun.{LostRun}
 use Rattle.stack_recovery.specs.declared.recovery.Counts.{Counts}
 use Rattle.stack_recovery.specs.Texts.{runs_text}
 use Rattle.stack_session.specs.declared.fault.SessionFault.TheVariants.{WriteFault}
-use Rattle.stack_commands.specs.declared.by_map.UnkeptMap.{UnkeptMap}
+use Rattle.rescue_files.specs.declared.by_map.UnkeptMap.{UnkeptMap}
+use Rattle.recovery_commands.specs.Scans.{IsLostEnd, Scans}
+use Rattle.stack_making.specs.NamedDevices.{DeviceWords, FailsToFindDevice}
 use Rattle.stack_commands.specs.declared.fault.CommandFault.{CommandFault}
-use Rattle.stack_commands.specs.declared.fault.CommandFault.TheVariants.{LostAsSaid, Map, NoMemory, Session}
-use Rattle.stack_commands.specs.MappedCopies.{CutsScan, ScansByMap}
-use Rattle.stack_commands.specs.Recoveries.{FailsToFind, FailsToScan, Scans}
-use Rattle.stack_commands.specs.StackCommands.{DeviceWords, IsStackEnd}
+use Rattle.stack_commands.specs.declared.fault.CommandFault.TheVariants.{LostAsSaid, NoMemory, Session}
+use Rattle.stack_commands.specs.MappedCopies.{CutsScan, IsUnkeptEnd, ScansByMap}
+use Rattle.stack_commands.specs.Uses.{IsRecoveringEnd, IsStackEnd}
 
 -- a run that isn't kept in memory is want of it
-abbrev pub unkept_map : UnkeptMap → RescueFault → CommandFault
-unkept_map end rescue.Write = NoMemory
-unkept_map end fault = Map end
+abbrev pub unkept_fault : RescueFault → RescueFault
+unkept_fault rescue.Write = rescue.NoMemory
+unkept_fault fault = fault
 
-abbrev pub unkept : CommandFault → CommandFault
-unkept (Session fault) = NoMemory
-unkept (Map end) = unkept_map end end.fault
-unkept fault = fault
+abbrev pub unkept : UnkeptMap → UnkeptMap
+unkept end = record { path = end.path; fault = unkept_fault end.fault }
 
 -- what was gone over said these runs, and one object was printed of them and of the counts
 abbrev pub PrintsLost : List LostRun → Counts → Option (List ℕ) → Option (List ℕ) → Type 0
 PrintsLost runs counts old new = Appends old new (json_line (lost_json runs counts))
 
--- that cause, as a command's end
-abbrev pub IsUnkept : (CommandFault → Type 0) → CommandFault → Type 0
-IsUnkept Ends fault = (cause : CommandFault) × Ends cause × (fault ≡ unkept cause)
+-- that cause, of a map
+abbrev pub IsUnkept : (UnkeptMap → Type 0) → UnkeptMap → Type 0
+IsUnkept Ends end = (cause : UnkeptMap) × Ends cause × (end ≡ unkept cause)
 
 -- ---- of a way to go over a device, which says what it printed before and after
 
@@ -61,22 +60,21 @@ pub record LosesInObject (Gone : Way) (old new : Option (List ℕ)) (failed : Bo
   pub gone : Gone (Some []) counts (Some (runs_text runs))
   pub ends : IsObjectEnd runs counts old new failed fault
 
--- it ended early, and no run that was kept is told
-pub record CutsObject (Cuts : Option (List ℕ) → Option (List ℕ) → Bool → CommandFault → Type 0) (fault : CommandFault) : Type 0 where
-  pub kept : Option (List ℕ)
-  pub failed : Bool
-  pub cause : CommandFault
-  pub cuts : Cuts (Some []) kept failed cause
-  pub is : fault ≡ unkept cause
-
 -- ---- without a map file, and with one
 
 abbrev pub IsScanObjectEnd : {S D : Type 0} → Calls S D → DeviceWords → Option (List ℕ) → Option (List ℕ) → Bool → CommandFault → Type 0
 IsScanObjectEnd w words old new failed fault =
-    ((new ≡ old) × (IsStackEnd w words.words (FailsToFind w.state words.name) fault ⊎ CutsObject (FailsToScan w words) fault))
-    ⊎ LosesInObject (Scans w words) old new failed fault
+    ((new ≡ old) × IsRecoveringEnd (IsLostEnd w words) fault) ⊎ LosesInObject (Scans w words) old new failed fault
+
+-- it ended early, and no run that was kept is told
+pub record CutsObject {S D : Type 0} (w : Calls S D) (words : DeviceWords) (map : List ℕ) (end : UnkeptMap) : Type 0 where
+  pub kept : Option (List ℕ)
+  pub failed : Bool
+  pub cause : UnkeptMap
+  pub cuts : CutsScan w words map (Some []) kept failed cause
+  pub is : end ≡ unkept cause
 
 abbrev pub IsMappedObjectEnd : {S D : Type 0} → Calls S D → DeviceWords → List ℕ → Option (List ℕ) → Option (List ℕ) → Bool → CommandFault → Type 0
 IsMappedObjectEnd w words map old new failed fault =
-    ((new ≡ old) × (IsStackEnd w words.words (FailsToFind w.state words.name) fault ⊎ CutsObject (CutsScan w words map) fault))
+    ((new ≡ old) × (IsStackEnd (FailsToFindDevice w words) fault ⊎ IsUnkeptEnd (CutsObject w words map) fault))
     ⊎ LosesInObject (ScansByMap w words map) old new failed fault

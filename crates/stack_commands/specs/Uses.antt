@@ -1,9 +1,13 @@
 -- What a command uses, and ends that several commands have.
 use Rattle.stack_commands.specs.declared.fault.CommandFault.{CommandFault}
-use Rattle.stack_commands.specs.declared.fault.CommandFault.TheVariants.{NoMemory, Trees, Usage, Verity}
+use Rattle.stack_commands.specs.declared.fault.CommandFault.TheVariants.{NoMemory, Recovering, Request, Stack, Stream, Trees, Usage, Verity}
 use Rattle.counted_io.specs.Streams.{Streams}
 use Rattle.image_commands.specs.Drawing.{Drawing}
 use Rattle.image_files.specs.Opener.{Calls}
+use Rattle.recovery_commands.specs.declared.fault.RecoveringFault.{RecoveringFault}
+use Rattle.request_commands.specs.declared.fault.RequestFault.{RequestFault}
+use Rattle.stack_making.specs.declared.fault.StackFault.{StackFault}
+use Rattle.stack_streams.specs.declared.fault.StreamFault.{StreamFault}
 use Rattle.tree_commands.specs.declared.fault.TreeFault.{TreeFault}
 use Rattle.verity_commands.specs.declared.fault.VerityFault.{VerityFault}
 
@@ -12,6 +16,26 @@ abbrev pub IsUsageEnd : CommandFault → Type 0 → Type 0
 IsUsageEnd Usage Cause = Cause
 IsUsageEnd NoMemory Cause = Unit {0}
 IsUsageEnd fault Cause = ⊥
+
+-- a command on stacks ended so before it had one
+abbrev pub IsStackEnd : (StackFault → Type 0) → CommandFault → Type 0
+IsStackEnd Ends (Stack fault) = Ends fault
+IsStackEnd Ends fault = ⊥
+
+-- a request ended so
+abbrev pub IsRequestEnd : (RequestFault → Type 0) → CommandFault → Type 0
+IsRequestEnd Ends (Request fault) = Ends fault
+IsRequestEnd Ends fault = ⊥
+
+-- a command that goes over a device ended so
+abbrev pub IsRecoveringEnd : (RecoveringFault → Type 0) → CommandFault → Type 0
+IsRecoveringEnd Ends (Recovering fault) = Ends fault
+IsRecoveringEnd Ends fault = ⊥
+
+-- a command on the bytes of a device ended so
+abbrev pub IsStreamEnd : (StreamFault → Type 0) → CommandFault → Type 0
+IsStreamEnd Ends (Stream fault) = Ends fault
+IsStreamEnd Ends fault = ⊥
 
 -- a command on verity images ended so
 abbrev pub IsVerityEnd : (VerityFault → Type 0) → CommandFault → Type 0

@@ -2,22 +2,20 @@
 ghost use Rattle.std.specs.Prelude.{◌≡◌};
 ghost use Rattle.stack_commands.specs.declared.fault.CommandFault.TheVariants as command_fault;
 ghost use Rattle.stack_session.specs.declared.fault.SessionFault.TheVariants as session_fault;
-ghost use Rattle.stack_commands.specs.Endings.{load_ending, opening_ending, text_ending, words_ending};
+ghost use Rattle.stack_commands.specs.Endings.{words_ending};
 
-use crate::by_map::UnkeptMap;
 use command_line::WordsFault;
 use counted_io::WriteFault;
-use dm_table::{ParseFault, TextFault};
 use fec_commands::FecFault;
-use image_files::UnopenedFile;
 use nbd_server::ServiceFault;
 use partition_commands::PartitionsFault;
-use request_queue::SubmitFault;
+use recovery_commands::RecoveringFault;
+use request_commands::RequestFault;
+use rescue_files::UnkeptMap;
 use stack_engine::IoFault;
-use stack_loader::{ConfigFault, LoadFault, Refusal};
-use stack_opening::OpeningFault;
+use stack_making::StackFault;
 use stack_session::SessionFault;
-use stack_streams::{CatFault, StoreFault};
+use stack_streams::StreamFault;
 use std::alloc::{AllocError, AllocFailed};
 use tree_commands::TreeFault;
 use verity_commands::VerityFault;
@@ -29,22 +27,16 @@ pub enum CommandFault<'a> {
     Usage,
     /// Memory ran out.
     NoMemory,
-    /// A stack file has more than 1 MiB.
-    TooLong,
-    /// A file isn't opened, or can't be read.
-    Open(UnopenedFile<'a>),
-    /// A binding's part isn't inside the file under this path.
-    Outside(&'a str),
-    /// The leaves aren't taken.
-    Leaves(ConfigFault),
-    /// The stack text has a fault.
-    Text(TextFault),
-    /// The stack isn't loaded.
-    Load(Refusal),
-    /// The sectors can't be asked for.
-    Submit(SubmitFault),
-    /// The stack answered a fault.
+    /// There is no stack, or no such device.
+    Stack(StackFault<'a>),
+    /// A request of a stack isn't served.
+    Request(RequestFault<'a>),
+    /// What was written to the leaves isn't on their media.
     Io(IoFault),
+    /// A command that goes over a device ended early.
+    Recovering(RecoveringFault<'a>),
+    /// A command on the bytes of a device ended early.
+    Stream(StreamFault<'a>),
     /// A command on verity images ended early.
     Verity(VerityFault<'a>),
     /// A command on an image with parity ended early.
@@ -53,18 +45,8 @@ pub enum CommandFault<'a> {
     Partitions(PartitionsFault<'a>),
     /// A command on hash trees ended early.
     Trees(TreeFault<'a>),
-    /// Not all sectors of a device were written out.
-    Cat(CatFault),
-    /// Not all bytes were stored.
-    Store(StoreFault),
-    /// So many sectors of a device were had, and so many are lost.
-    Lost { read: u64, lost: u64 },
     /// Sectors of a device are lost, as an object said.
     LostAsSaid,
-    /// The image to which a device is copied has fewer sectors than the device.
-    OutputTooSmall { needed: u64 },
-    /// The image to which a device is copied failed.
-    OutputFailed,
     /// A map file isn't read, or what stands by it isn't all gone over.
     Map(UnkeptMap<'a>),
     /// The session failed, or a line can't be written.
@@ -100,33 +82,19 @@ impl From<WordsFault> for CommandFault<'_> {
     }
 }
 
-impl From<ConfigFault> for CommandFault<'_> {
-    ghost from_gives = { λ fault given. given ≡ command_fault.Leaves fault };
+impl<'a> From<StackFault<'a>> for CommandFault<'a> {
+    ghost from_gives = { λ fault given. given ≡ command_fault.Stack fault };
 
-    fn from(fault: ConfigFault) -> Self {
-        CommandFault::Leaves(fault)
+    fn from(fault: StackFault<'a>) -> Self {
+        CommandFault::Stack(fault)
     }
 }
 
-impl From<ParseFault> for CommandFault<'_> {
-    ghost from_gives = { λ fault given. given ≡ text_ending fault };
+impl<'a> From<RequestFault<'a>> for CommandFault<'a> {
+    ghost from_gives = { λ fault given. given ≡ command_fault.Request fault };
 
-    fn from(fault: ParseFault) -> Self {
-        match fault {
-            ParseFault::Text(fault) => CommandFault::Text(fault),
-            ParseFault::NoMemory => CommandFault::NoMemory,
-        }
-    }
-}
-
-impl From<LoadFault> for CommandFault<'_> {
-    ghost from_gives = { λ fault given. given ≡ load_ending fault };
-
-    fn from(fault: LoadFault) -> Self {
-        match fault {
-            LoadFault::Refused(refusal) => CommandFault::Load(refusal),
-            LoadFault::NoMemory => CommandFault::NoMemory,
-        }
+    fn from(fault: RequestFault<'a>) -> Self {
+        CommandFault::Request(fault)
     }
 }
 
@@ -138,16 +106,27 @@ impl From<IoFault> for CommandFault<'_> {
     }
 }
 
-impl<'a> From<OpeningFault<'a>> for CommandFault<'a> {
-    ghost from_gives = { λ fault given. given ≡ opening_ending fault };
+impl<'a> From<RecoveringFault<'a>> for CommandFault<'a> {
+    ghost from_gives = { λ fault given. given ≡ command_fault.Recovering fault };
 
-    fn from(fault: OpeningFault<'a>) -> Self {
-        match fault {
-            OpeningFault::NoMemory => CommandFault::NoMemory,
-            OpeningFault::TooLong => CommandFault::TooLong,
-            OpeningFault::Open(file) => CommandFault::Open(file),
-            OpeningFault::Outside(path) => CommandFault::Outside(path),
-        }
+    fn from(fault: RecoveringFault<'a>) -> Self {
+        CommandFault::Recovering(fault)
+    }
+}
+
+impl<'a> From<StreamFault<'a>> for CommandFault<'a> {
+    ghost from_gives = { λ fault given. given ≡ command_fault.Stream fault };
+
+    fn from(fault: StreamFault<'a>) -> Self {
+        CommandFault::Stream(fault)
+    }
+}
+
+impl<'a> From<UnkeptMap<'a>> for CommandFault<'a> {
+    ghost from_gives = { λ fault given. given ≡ command_fault.Map fault };
+
+    fn from(fault: UnkeptMap<'a>) -> Self {
+        CommandFault::Map(fault)
     }
 }
 

@@ -15,19 +15,13 @@ ghost use Rattle.image_files.specs.Opener.{calls};
 ghost use Rattle.stack_commands.specs.Further.{CatsSectors, CopiesSectors, FailsFurther, IsCatEnd, IsCopyWordsEnd, IsExportsWordsEnd, IsLoadWordsEnd, IsPageEnd, IsScanWordsEnd, IsStoreEnd, ListsDevices, ScansSectors, ServesDevices, StoresSectors, SucceedsFurther};
 ghost use Rattle.stack_commands.specs.Uses.{uses};
 
-use crate::cat::{Wanted, cat_device};
-use crate::copy::{Output, copy_device};
-use crate::device::NamedDevice;
 use crate::fault::CommandFault;
 use crate::load::load_stack_file;
 use crate::mapped_copy::copy_by_map;
 use crate::mapped_scan::scan_by_map;
 use crate::nbd::serve_exports;
 use crate::repair::repair_image;
-use crate::scan::scan_device;
 use crate::scan_object::{scan_to_object, scan_to_object_by_map};
-use crate::store::{Target, store_device};
-use crate::store_file::store_file;
 use crate::verify::check_image;
 use crate::words::stack_file;
 use command_line::{
@@ -40,6 +34,9 @@ use image_files::Images;
 use manual_pages::{page_of, print_page, print_version};
 use partition_commands::invoke_partitions;
 use progress::Progress;
+use recovery_commands::{Output, copy_device, scan_device};
+use stack_making::NamedDevice;
+use stack_streams::{Target, Wanted, cat_device, store_device, store_file};
 use std::alloc::Global;
 use std::io::{Read, Write};
 use tree_commands::invoke_diff;
@@ -166,7 +163,7 @@ fn invoke_cat<'a, I: Images, W: Write, P: Progress>(
         cache,
     };
     let file = stack_file(stack, &bindings);
-    cat_device(alloc, images, file, wanted, writer, progress)
+    Ok(cat_device(alloc, images, file, wanted, writer, progress)?)
 }
 
 // SOURCE is `-`, the input, or a file.
@@ -196,9 +193,9 @@ fn invoke_store<'a, I: Images, S: Read, W: Write, P: Progress>(
     let target = Target { name, first, cache };
     let file = stack_file(stack, &bindings);
     if source == "-" {
-        store_device(alloc, images, file, target, reader, writer, progress)
+        Ok(store_device(alloc, images, file, target, reader, writer, progress)?)
     } else {
-        store_file(alloc, images, file, target, source, writer, progress)
+        Ok(store_file(alloc, images, file, target, source, writer, progress)?)
     }
 }
 
@@ -235,7 +232,7 @@ fn invoke_scan<'a, I: Images, W: Write, P: Progress>(
         };
     }
     match map {
-        None => scan_device(alloc, images, file, device, writer, progress),
+        None => Ok(scan_device(alloc, images, file, device, writer, progress)?),
         Some(map) => scan_by_map(alloc, images, file, device, map, writer, progress),
     }
 }
@@ -270,7 +267,7 @@ fn invoke_copy<'a, I: Images, W: Write, P: Progress>(
         differing,
     };
     match map {
-        None => copy_device(alloc, images, file, device, output, writer, progress),
+        None => Ok(copy_device(alloc, images, file, device, output, writer, progress)?),
         Some(map) => copy_by_map(alloc, images, file, device, output, map, writer, progress),
     }
 }

@@ -4,23 +4,23 @@ ghost use Rattle.image_files.specs.Opener.{calls};
 ghost use Rattle.stack_rules.specs.Names.{mapped, size};
 ghost use Rattle.stack_recovery.specs.Recoveries.{sides};
 ghost use Rattle.stack_opening.specs.OpenStacks.{stack_words};
-ghost use Rattle.stack_commands.specs.ByMap.{IsMapEnd, moving};
+ghost use Rattle.stack_making.specs.NamedDevices.{device_words};
+ghost use Rattle.rescue_files.specs.ByMap.{IsMapEnd, moving};
+ghost use Rattle.recovery_commands.specs.Copies.{copy_words};
 ghost use Rattle.stack_commands.specs.MappedCopies.{CopiesByMap, CutsCopying, IsMappedCopyEnd, PrintsMappedCopy};
-ghost use Rattle.stack_commands.specs.Recoveries.{copy_words};
-ghost use Rattle.stack_commands.specs.StackCommands.{device_words};
 
-use crate::by_map::rescue_by_map;
-use crate::copy::Output;
-use crate::device::{NamedDevice, load_device, tell_counts};
 use crate::fault::CommandFault;
 use block_device::{BlockDev, SyncDev};
 use counted_io::Counted;
 use differing_device::Differing;
 use image_files::{Images, OpenImage};
 use progress::Progress;
+use recovery_commands::{Output, open_with_room, tell_counts};
+use rescue_files::{UnkeptMap, rescue_by_map};
 use stack_config::DevId;
 use stack_engine::Stack;
-use stack_opening::{StackFile, open_with_output};
+use stack_making::NamedDevice;
+use stack_opening::StackFile;
 use stack_recovery::Counts;
 use std::alloc::Global;
 use std::io::Write;
@@ -41,23 +41,18 @@ pub fn copy_by_map<'a, I: Images, W: Write, P: Progress>(
     ensures err { IfErr result (IsMappedCopyEnd (calls I.relations I.Dev.state images.old images.new) (copy_words (device_words (stack_words file.entry) device.entry.name.now device.entry.cache) output.entry.path.now output.entry.differing) map.now (W.contents writer.old.inner) (W.contents writer.new.inner) writer.new.failed) }
 {
     let Output { path, differing } = output;
-    let (over, image) = open_with_output(alloc, images, file, path)?;
+    let (mut stack, device, image) = open_with_room(alloc, images, file, device, path)?;
     let OpenImage {
         device: image,
         id: _,
     } = image;
-    let (mut stack, device) = load_device(alloc, over, device.name, device.cache)?;
-    let needed = stack.config().sectors(device);
-    if image.sectors() < needed {
-        return Err(CommandFault::OutputTooSmall { needed });
-    }
     let (image, outcome) = copy_in_turns(
         alloc, images, &mut stack, device, image, differing, map, writer, progress,
     );
     images.close(path, image);
     match outcome {
-        Ok(counts) => tell_counts(counts, writer),
-        Err(fault) => Err(fault),
+        Ok(counts) => Ok(tell_counts(counts, writer)?),
+        Err(end) => Err(CommandFault::Map(end)),
     }
 }
 
@@ -72,7 +67,7 @@ fn copy_in_turns<'a, I: Images, D: BlockDev, O: SyncDev + Drop, W: Write, P: Pro
     map: &'a str,
     writer: &mut Counted<W>,
     progress: &mut P,
-) -> (O, Result<Counts, CommandFault<'a>>)
+) -> (O, Result<Counts, UnkeptMap<'a>>)
     requires device { device.0 < length stack.old.config.devices }
     requires room { size stack.old.config (mapped device.0) ≤ (O.state image).size }
     requires allowed { IsTrue (O.state image).may_write }

@@ -1,18 +1,19 @@
 //! The command `scan` with a map file.
 ghost use Rattle.std.specs.Prelude.{OnOk, IfErr};
 ghost use Rattle.image_files.specs.Opener.{calls};
+ghost use Rattle.stack_making.specs.NamedDevices.{device_words};
 ghost use Rattle.stack_opening.specs.OpenStacks.{stack_words};
 ghost use Rattle.stack_commands.specs.MappedCopies.{IsMappedScanEnd, PrintsMappedScan};
-ghost use Rattle.stack_commands.specs.StackCommands.{device_words};
 
-use crate::by_map::rescue_by_map;
-use crate::device::{NamedDevice, load_device, tell_counts};
 use crate::fault::CommandFault;
 use block_device::BlockDev;
 use counted_io::Counted;
 use image_files::Images;
 use progress::Progress;
-use stack_opening::{StackFile, open_stack};
+use recovery_commands::tell_counts;
+use rescue_files::rescue_by_map;
+use stack_making::{NamedDevice, open_device};
+use stack_opening::StackFile;
 use stack_recovery::Discard;
 use std::alloc::Global;
 use std::io::Write;
@@ -31,11 +32,10 @@ pub fn scan_by_map<'a, I: Images, W: Write, P: Progress>(
     ensures ok { OnOk result (PrintsMappedScan (calls I.relations I.Dev.state images.old images.new) (device_words (stack_words file.entry) device.entry.name.now device.entry.cache) map.now (W.contents writer.old.inner) (W.contents writer.new.inner)) }
     ensures err { IfErr result (IsMappedScanEnd (calls I.relations I.Dev.state images.old images.new) (device_words (stack_words file.entry) device.entry.name.now device.entry.cache) map.now (W.contents writer.old.inner) (W.contents writer.new.inner) writer.new.failed) }
 {
-    let over = open_stack(alloc, images, file)?;
-    let (mut stack, device) = load_device(alloc, over, device.name, device.cache)?;
+    let (mut stack, device) = open_device(alloc, images, file, device)?;
     let mut out = Discard::new(stack.config().sectors(device));
     let counts = rescue_by_map(
         alloc, images, &mut stack, device, &mut out, map, writer, progress,
     )?;
-    tell_counts(counts, writer)
+    Ok(tell_counts(counts, writer)?)
 }

@@ -1,17 +1,11 @@
 //! The command `nbd`: serves a device, or each device, of a stack to a client of the NBD protocol.
-ghost use Rattle.std.specs.Prelude.{◌≡◌, ◌≤◌, ◌^◌, length, map, Ok, OnOk, IfOk, IfErr};
+ghost use Rattle.std.specs.Prelude.{map, Ok, OnOk, IfErr};
 ghost use Rattle.counted_io.specs.Streams.{streams};
 ghost use Rattle.command_line.specs.Bindings.{binding_record};
 ghost use Rattle.image_files.specs.Opener.{calls};
-ghost use Rattle.stack_meaning.specs.Leaves.{ServeLeaves};
-ghost use Rattle.stack_engine.specs.Stacks.{StackRecord};
-ghost use Rattle.stack_commands.specs.StacksOfTexts.{FailsToLoad, IsStackOf};
-ghost use Rattle.stack_commands.specs.Requests.{new_world};
 ghost use Rattle.stack_commands.specs.StackCommands.{IsClientEnd, ServesClient, device_on, on};
 ghost use Rattle.stack_commands.specs.ManyExports.{IsExportsEnd, ServesExports};
 
-use crate::closing::sync_and_close;
-use crate::configuration::load_stack;
 use crate::fault::CommandFault;
 use block_device::BlockDev;
 use command_line::{Binding, ServedDevice};
@@ -19,8 +13,9 @@ use counted_io::Counted;
 use image_files::Images;
 use nbd_protocol::{Export, exports_of, names_of};
 use nbd_server::serve;
-use request_queue::{Queue, SubmitFault};
-use stack_opening::{OpenStack, StackFile, open_stack};
+use request_queue::Queue;
+use stack_making::{StackFault, open_loaded, sync_and_close};
+use stack_opening::StackFile;
 use std::alloc::Global;
 use std::io::{Read, Write};
 
@@ -41,10 +36,10 @@ pub fn serve_client<'a, I: Images, R: Read, W: Write>(
         path: device.stack,
         bindings,
     };
-    let over = open_stack(alloc, images, file)?;
-    let mut queue = queue_over(alloc, over, device.cache)?;
+    let stack = open_loaded(alloc, images, file, device.cache)?;
+    let mut queue = Queue::new(alloc, stack);
     let Some(export) = Export::of(queue.stack().config(), device.name.as_bytes()) else {
-        return Err(CommandFault::Submit(SubmitFault::NoSuchDevice));
+        return Err(CommandFault::Stack(StackFault::NoSuchDevice));
     };
     let outcome = serve(alloc, &mut queue, &[export], reader, writer);
     let synced = sync_and_close(images, bindings, queue.into_stack());
@@ -70,8 +65,8 @@ pub fn serve_exports<'a, I: Images, R: Read, W: Write>(
         path: stack,
         bindings,
     };
-    let over = open_stack(alloc, images, file)?;
-    let mut queue = queue_over(alloc, over, cache)?;
+    let stack = open_loaded(alloc, images, file, cache)?;
+    let mut queue = Queue::new(alloc, stack);
     let config = queue.stack().config();
     let names = names_of(alloc, config)?;
     let listed = names.as_slice();
@@ -81,19 +76,4 @@ pub fn serve_exports<'a, I: Images, R: Read, W: Write>(
     let synced = sync_and_close(images, bindings, queue.into_stack());
     outcome?;
     Ok(synced?)
-}
-
-// A new queue over the stack that the text makes of the leaves.
-fn queue_over<'a, D: BlockDev + Drop>(
-    alloc: Global,
-    over: OpenStack<D>,
-    cache: u32,
-) -> Result<Queue<D>, CommandFault<'a>>
-    requires text { length over.text.bytes.items ≤ 2 ^ 20 }
-    requires served { ServeLeaves over.leaves.items (map D.state over.devices.items) }
-    ensures ok { IfOk result (λ queue. (stack : StackRecord) × IsStackOf D.state over stack × (stack.capacity ≡ cache) × (queue ≡ new_world stack)) }
-    ensures err { IfErr result (FailsToLoad over) }
-{
-    let stack = load_stack(alloc, over, cache)?;
-    Ok(Queue::new(alloc, stack))
 }

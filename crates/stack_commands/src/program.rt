@@ -8,15 +8,12 @@ ghost use Rattle.image_files.specs.Opener.{calls};
 ghost use Rattle.stack_commands.specs.Commands.{EndsEarly, Fails, IsDone, IsRunEnd, Succeeds, is_cat, is_usage, told_to};
 ghost use Rattle.stack_commands.specs.Uses.{uses};
 
-use crate::copy::{Output, copy_device};
-use crate::device::{CACHED_BLOCKS, NamedDevice};
 use crate::ending::end;
 use crate::fault::CommandFault;
 use crate::further::{FurtherLine, invoke_further};
 use crate::load::load_stack_file;
 use crate::nbd::serve_client;
 use crate::read::read_stack_file;
-use crate::scan::scan_device;
 use crate::serve::serve_lines;
 use crate::words::stack_file;
 use crate::write::write_stack_file;
@@ -27,12 +24,17 @@ use image_commands::Generators;
 use image_files::Images;
 use manual_pages::say_wrong_words;
 use progress::Progress;
+use recovery_commands::{Output, copy_device, scan_device};
+use stack_making::NamedDevice;
 use std::alloc::Global;
 use std::io::{Read, Write};
 use verity_commands::{VerityFault, invoke_on_images};
 use watched_device::Watchers;
 
 const DONE: u8 = 0;
+
+// How many hash blocks are kept where the words say no number.
+const CACHED_BLOCKS: u32 = 64;
 
 /// Runs the words behind the program's name, and answers the status: 0 done, 1 refused, 2 usage, 3 a fault of
 /// the stack or images that differ, 4 a client that breaks the NBD protocol.
@@ -168,7 +170,7 @@ fn invoke<'a, I: Images, G: Generators + Progress + Watchers, S: Read, W: Write>
                 name,
                 cache: CACHED_BLOCKS,
             };
-            scan_device(alloc, images, file, device, writer, generators)
+            Ok(scan_device(alloc, images, file, device, writer, generators)?)
         }
         Invocation::Copy {
             stack,
@@ -185,7 +187,7 @@ fn invoke<'a, I: Images, G: Generators + Progress + Watchers, S: Read, W: Write>
                 path: out,
                 differing: false,
             };
-            copy_device(alloc, images, file, device, output, writer, generators)
+            Ok(copy_device(alloc, images, file, device, output, writer, generators)?)
         }
         Invocation::Nbd { device, bindings } => {
             serve_client(alloc, images, device, bindings.as_slice(), reader, writer)

@@ -3,27 +3,26 @@ ghost use Rattle.std.specs.Prelude.{◌≡◌, ◌≤◌, ◌<◌, length, Some,
 ghost use Rattle.image_files.specs.Opener.{calls};
 ghost use Rattle.stack_opening.specs.OpenStacks.{stack_words};
 ghost use Rattle.stack_rules.specs.Names.{mapped, size};
-ghost use Rattle.stack_recovery.specs.Recoveries.{Recovers, sides};
+ghost use Rattle.stack_making.specs.NamedDevices.{device_words};
+ghost use Rattle.stack_recovery.specs.Recoveries.{sides};
 ghost use Rattle.stack_recovery.specs.Texts.{runs_text};
-ghost use Rattle.stack_commands.specs.ByMap.{IsMapEnd, IsRescued, IsUnrescued, moving};
-ghost use Rattle.stack_commands.specs.Recovering.{IsRecoverEnd};
+ghost use Rattle.rescue_files.specs.ByMap.{IsMapEnd, IsRescued, IsUnrescued, moving};
+ghost use Rattle.recovery_commands.specs.Scans.{Scans};
 ghost use Rattle.stack_commands.specs.MappedCopies.{ScansByMap};
-ghost use Rattle.stack_commands.specs.Recoveries.{Scans};
-ghost use Rattle.stack_commands.specs.ScanObjects.{IsMappedObjectEnd, IsObjectEnd, IsScanObjectEnd, IsUnkept, PrintsLost, PrintsScanObject, unkept, unkept_map};
-ghost use Rattle.stack_commands.specs.StackCommands.{device_words};
+ghost use Rattle.stack_commands.specs.ScanObjects.{IsMappedObjectEnd, IsObjectEnd, IsScanObjectEnd, IsUnkept, PrintsLost, PrintsScanObject, unkept, unkept_fault};
 
-use crate::by_map::{UnkeptMap, rescue_by_map};
-use crate::device::{NamedDevice, load_device, recover_device};
 use crate::fault::CommandFault;
 use block_device::BlockDev;
 use counted_io::Counted;
 use image_files::Images;
 use progress::Progress;
-use rescue_files::RescueFault;
+use recovery_commands::find_lost;
+use rescue_files::{RescueFault, UnkeptMap, rescue_by_map};
 use stack_config::DevId;
 use stack_engine::Stack;
 use stack_json::lost_line;
-use stack_opening::{StackFile, open_stack};
+use stack_making::{NamedDevice, open_device};
+use stack_opening::StackFile;
 use stack_recovery::{Counts, Discard, KeptRuns, LostRun};
 use std::alloc::Global;
 use std::io::Write;
@@ -41,12 +40,8 @@ pub fn scan_to_object<'a, I: Images, W: Write, P: Progress>(
     ensures ok { OnOk result (PrintsScanObject (Scans (calls I.relations I.Dev.state images.old images.new) (device_words (stack_words file.entry) device.entry.name.now device.entry.cache)) (W.contents writer.old.inner) (W.contents writer.new.inner)) }
     ensures err { IfErr result (IsScanObjectEnd (calls I.relations I.Dev.state images.old images.new) (device_words (stack_words file.entry) device.entry.name.now device.entry.cache) (W.contents writer.old.inner) (W.contents writer.new.inner) writer.new.failed) }
 {
-    let over = open_stack(alloc, images, file)?;
-    let (mut stack, device) = load_device(alloc, over, device.name, device.cache)?;
-    let mut out = Discard::new(stack.config().sectors(device));
-    let mut kept = KeptRuns::new(alloc);
-    let counts = keep_runs(&mut stack, device, &mut out, &mut kept, progress)?;
-    say_lost(alloc, kept.runs.as_slice(), counts, writer)
+    let (runs, counts) = find_lost(alloc, images, file, device, progress)?;
+    say_lost(alloc, runs.as_slice(), counts, writer)
 }
 
 /// The same with `--map FILE`: reads the sectors that weren't had, as the map file says, and keeps the map.
@@ -62,8 +57,7 @@ pub fn scan_to_object_by_map<'a, I: Images, W: Write, P: Progress>(
     ensures ok { OnOk result (PrintsScanObject (ScansByMap (calls I.relations I.Dev.state images.old images.new) (device_words (stack_words file.entry) device.entry.name.now device.entry.cache) map.now) (W.contents writer.old.inner) (W.contents writer.new.inner)) }
     ensures err { IfErr result (IsMappedObjectEnd (calls I.relations I.Dev.state images.old images.new) (device_words (stack_words file.entry) device.entry.name.now device.entry.cache) map.now (W.contents writer.old.inner) (W.contents writer.new.inner) writer.new.failed) }
 {
-    let over = open_stack(alloc, images, file)?;
-    let (mut stack, device) = load_device(alloc, over, device.name, device.cache)?;
+    let (mut stack, device) = open_device(alloc, images, file, device)?;
     let mut out = Discard::new(stack.config().sectors(device));
     let mut kept = KeptRuns::new(alloc);
     let counts = keep_runs_by_map(
@@ -72,26 +66,7 @@ pub fn scan_to_object_by_map<'a, I: Images, W: Write, P: Progress>(
     say_lost(alloc, kept.runs.as_slice(), counts, writer)
 }
 
-// Goes over the device, and keeps its lost runs.
-fn keep_runs<'a, D: BlockDev + Drop, P: Progress>(
-    stack: &mut Stack<D>,
-    device: DevId,
-    out: &mut Discard,
-    kept: &mut KeptRuns,
-    progress: &mut P,
-) -> Result<Counts, CommandFault<'a>>
-    requires device { device.0 < length stack.old.config.devices }
-    requires room { size stack.old.config (mapped device.0) ≤ (⟦<Discard as BlockDev>⟧.state out.old).size }
-    ensures ok { IfOk result (λ counts. Recovers device.0 (sides stack.old (⟦<Discard as BlockDev>⟧.state out.old) (Some (runs_text kept.old.runs.items))) counts (sides stack.new (⟦<Discard as BlockDev>⟧.state out.new) (Some (runs_text kept.new.runs.items)))) }
-    ensures err { IfErr result (IsUnkept (IsRecoverEnd device.0 (sides stack.old (⟦<Discard as BlockDev>⟧.state out.old) (Some (runs_text kept.old.runs.items))) (sides stack.new (⟦<Discard as BlockDev>⟧.state out.new) (Some (runs_text kept.new.runs.items))) kept.new.refused)) }
-{
-    match recover_device(stack, device, out, kept, progress) {
-        Ok(counts) => Ok(counts),
-        Err(fault) => Err(unkept(fault)),
-    }
-}
-
-// The same by a map file.
+// Goes over the device by a map file, and keeps its lost runs.
 fn keep_runs_by_map<'a, I: Images, D: BlockDev, P: Progress>(
     alloc: Global,
     images: &mut I,
@@ -101,7 +76,7 @@ fn keep_runs_by_map<'a, I: Images, D: BlockDev, P: Progress>(
     map: &'a str,
     kept: &mut KeptRuns,
     progress: &mut P,
-) -> Result<Counts, CommandFault<'a>>
+) -> Result<Counts, UnkeptMap<'a>>
     requires device { device.0 < length stack.old.config.devices }
     requires room { size stack.old.config (mapped device.0) ≤ (⟦<Discard as BlockDev>⟧.state out.old).size }
     ensures ok { IfOk result (IsRescued (calls I.relations I.Dev.state images.old images.new) map.now device.0 (moving (sides stack.old (⟦<Discard as BlockDev>⟧.state out.old) (Some (runs_text kept.old.runs.items))) (sides stack.new (⟦<Discard as BlockDev>⟧.state out.new) (Some (runs_text kept.new.runs.items))))) }
@@ -109,27 +84,25 @@ fn keep_runs_by_map<'a, I: Images, D: BlockDev, P: Progress>(
 {
     match rescue_by_map(alloc, images, stack, device, out, map, kept, progress) {
         Ok(counts) => Ok(counts),
-        Err(fault) => Err(unkept(fault)),
+        Err(end) => Err(unkept(end)),
     }
 }
 
 // Where a run isn't kept, memory ran out.
-fn unkept<'a>(fault: CommandFault<'a>) -> CommandFault<'a>
-    ensures { result ≡ unkept fault.entry }
+fn unkept<'a>(end: UnkeptMap<'a>) -> UnkeptMap<'a>
+    ensures { result ≡ unkept end.entry }
 {
-    match fault {
-        CommandFault::Session(_) => CommandFault::NoMemory,
-        CommandFault::Map(end) => unkept_map(end),
-        other => other,
-    }
+    let UnkeptMap { path, fault } = end;
+    let fault = unkept_fault(fault);
+    UnkeptMap { path, fault }
 }
 
-fn unkept_map<'a>(end: UnkeptMap<'a>) -> CommandFault<'a>
-    ensures { result ≡ unkept_map end.entry end.entry.fault }
+fn unkept_fault(fault: RescueFault) -> RescueFault
+    ensures { result ≡ unkept_fault fault }
 {
-    match end.fault {
-        RescueFault::Write => CommandFault::NoMemory,
-        _ => CommandFault::Map(end),
+    match fault {
+        RescueFault::Write => RescueFault::NoMemory,
+        other => other,
     }
 }
 

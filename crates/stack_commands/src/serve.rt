@@ -5,16 +5,13 @@ ghost use Rattle.command_line.specs.Bindings.{binding_record};
 ghost use Rattle.image_files.specs.Opener.{calls};
 ghost use Rattle.stack_commands.specs.StackCommands.{IsServeEnd, Serves};
 
-use crate::closing::sync_and_close;
 use crate::fault::CommandFault;
 use block_device::BlockDev;
 use command_line::Binding;
 use counted_io::Counted;
 use image_files::Images;
 use request_queue::Queue;
-use stack_engine::Stack;
-use stack_loader::config_over;
-use stack_opening::{OpenLeaves, open_all};
+use stack_making::{open_leaves, sync_and_close};
 use stack_session::session;
 use std::alloc::Global;
 use std::io::{Read, Write};
@@ -33,11 +30,7 @@ pub fn serve_lines<'a, I: Images, R: Read, W: Write>(
     ensures ok { OnOk result (Serves (calls I.relations I.Dev.state images.old images.new) cache (map binding_record bindings.now) (streams (R.remaining reader.old.inner) (W.contents writer.old.inner)) (streams (R.remaining reader.new.inner) (W.contents writer.new.inner)) (Ok tt) (Ok tt)) }
     ensures err { IfErr result (IsServeEnd (calls I.relations I.Dev.state images.old images.new) cache (map binding_record bindings.now) (streams (R.remaining reader.old.inner) (W.contents writer.old.inner)) (streams (R.remaining reader.new.inner) (W.contents writer.new.inner)) writer.new.failed) }
 {
-    let OpenLeaves { leaves, devices } = open_all(alloc, images, &[], bindings)?;
-    let config = config_over(alloc, leaves)?;
-    let Ok(stack) = Stack::new(alloc, config, devices, cache) else {
-        return Err(CommandFault::NoMemory);
-    };
+    let stack = open_leaves(alloc, images, bindings, cache)?;
     let mut queue = Queue::new(alloc, stack);
     let outcome = session(alloc, &mut queue, reader, writer);
     let synced = sync_and_close(images, bindings, queue.into_stack());

@@ -1,21 +1,18 @@
-//! The command `write`: loads a stack, and writes a file's bytes to one of its devices.
-ghost use Rattle.std.specs.Prelude.{◌≡◌, map, OnOk, IfOk, IfErr};
+//! The command `write`: writes a file's bytes to a device.
+ghost use Rattle.std.specs.Prelude.{OnOk, IfErr};
 ghost use Rattle.image_files.specs.Opener.{calls};
-ghost use Rattle.stack_commands.specs.Endings.{IsQuiet};
 ghost use Rattle.stack_opening.specs.OpenStacks.{stack_words};
-ghost use Rattle.stack_commands.specs.Requests.{FailsToServe, IsServed, write_request};
-ghost use Rattle.stack_commands.specs.StackCommands.{IsWriteEnd, PrintsWritten, put_words};
+ghost use Rattle.request_commands.specs.Requests.{write_request};
+ghost use Rattle.request_commands.specs.Writes.{put_words};
+ghost use Rattle.stack_commands.specs.Endings.{IsQuiet};
+ghost use Rattle.stack_commands.specs.StackCommands.{IsWriteEnd, PrintsWritten};
 
-use crate::closing::{close_stack, sync_and_close};
-use crate::configuration::load_stack;
 use crate::fault::CommandFault;
-use crate::request::serve_request;
-use block_device::BlockDev;
 use command_line::Transfer;
 use counted_io::Counted;
 use image_files::Images;
-use request_queue::{Queue, Reply, Request};
-use stack_opening::{StackFile, open_with_source};
+use request_commands::write_source;
+use stack_opening::StackFile;
 use stack_session::say_written;
 use std::alloc::Global;
 use std::io::Write;
@@ -35,38 +32,6 @@ pub fn write_stack_file<'a, I: Images, W: Write>(
     ensures err { IfErr result (IsWriteEnd (calls I.relations I.Dev.state images.old images.new) (put_words (stack_words file.entry) cache transfer.entry.source.now (write_request transfer.entry)) writer.new.failed) }
     ensures quiet { IfErr result (λ fault. IsQuiet fault (W.contents writer.old.inner) (W.contents writer.new.inner)) }
 {
-    let (over, source) = open_with_source(alloc, images, file, transfer.source)?;
-    let stack = load_stack(alloc, over, cache)?;
-    let mut queue = Queue::new(alloc, stack);
-    let outcome = store(alloc, &mut queue, transfer, source.bytes);
-    let stack = queue.into_stack();
-    match outcome {
-        Ok(_reply) => {
-            sync_and_close(images, file.bindings, stack)?;
-            Ok(say_written(writer)?)
-        }
-        Err(fault) => {
-            close_stack(images, file.bindings, stack);
-            Err(fault)
-        }
-    }
-}
-
-// Writes the bytes to the device from its first sector on.
-fn store<'a, D: BlockDev + Drop>(
-    alloc: Global,
-    queue: &mut Queue<D>,
-    transfer: Transfer<'_>,
-    bytes: Vec<u8>,
-) -> Result<Reply, CommandFault<'a>>
-    ensures ok { IfOk result (λ reply. IsServed queue.old (write_request transfer.entry bytes.items) reply queue.new) }
-    ensures err { IfErr result (λ fault. FailsToServe queue.old (write_request transfer.entry bytes.items) fault queue.new) }
-{
-    let device = Vec::from_slice(alloc, transfer.name.as_bytes())?;
-    let request = Request::Write {
-        device,
-        first: transfer.first,
-        bytes,
-    };
-    serve_request(queue, request)
+    write_source(alloc, images, file, cache, transfer)?;
+    Ok(say_written(writer)?)
 }

@@ -1,4 +1,6 @@
 mod CatLemmas
 mod FillLemmas
 mod ImageLemmas
+mod OpeningLemmas
 mod StoreLemmas
+mod StreamingLemmas

@@ -1,9 +1,13 @@
 //! Why a stream ends early.
 ghost use Rattle.std.specs.Prelude.{◌≡◌};
+ghost use Rattle.stack_making.specs.Endings.{opening_ending};
 ghost use Rattle.stack_streams.specs.declared.fault.CatFault.TheVariants as cat_fault;
+ghost use Rattle.stack_streams.specs.declared.fault.StreamFault.TheVariants as stream_fault;
 
 use counted_io::WriteFault;
 use stack_engine::IoFault;
+use stack_making::StackFault;
+use stack_opening::OpeningFault;
 use thiserror::Error;
 
 /// Why not all sectors are written out.
@@ -54,4 +58,41 @@ pub enum StoreCause {
 pub struct StoreFault {
     pub written: u64,
     pub cause: StoreCause,
+}
+
+/// Why a command that reads or stores the bytes of a device ends early.
+#[derive(Clone, Copy, Debug, PartialEq, Eq)]
+pub enum StreamFault<'a> {
+    /// There is no such device, or the file that is stored isn't opened.
+    Stack(StackFault<'a>),
+    /// Not all sectors were written out.
+    Cat(CatFault),
+    /// Not all bytes were stored.
+    Store(StoreFault),
+    /// All were, and a line can't be written.
+    Write,
+}
+
+impl<'a> From<OpeningFault<'a>> for StreamFault<'a> {
+    ghost from_gives = { λ fault given. given ≡ stream_fault.Stack (opening_ending fault) };
+
+    fn from(fault: OpeningFault<'a>) -> Self {
+        StreamFault::Stack(StackFault::from(fault))
+    }
+}
+
+impl<'a> From<StackFault<'a>> for StreamFault<'a> {
+    ghost from_gives = { λ fault given. given ≡ stream_fault.Stack fault };
+
+    fn from(fault: StackFault<'a>) -> Self {
+        StreamFault::Stack(fault)
+    }
+}
+
+impl From<WriteFault> for StreamFault<'_> {
+    ghost from_gives = { λ _ given. given ≡ stream_fault.Write };
+
+    fn from(_fault: WriteFault) -> Self {
+        StreamFault::Write
+    }
 }

@@ -11,6 +11,3 @@ returns-in-Service g c = rw c.in-Service.is (record { ok = Appends-nil (g.W.Writ
 
 pub returns-in-LostAsSaid : goal.returns-in-LostAsSaid
 returns-in-LostAsSaid g c = rw c.in-LostAsSaid.is (record { ok = Appends-nil (g.W.Write.contents c.args.writer.now.inner); kept = refl; failed = tt })
-
-pub returns-in-OutputFailed : goal.returns-in-OutputFailed
-returns-in-OutputFailed g c = rw c.in-OutputFailed.is c.put-in-OutputFailed.ensures.writes

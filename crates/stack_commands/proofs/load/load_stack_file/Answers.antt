@@ -1,18 +1,18 @@
-use Rattle.std.proofs.Common.{inr, refl, []}
+use Rattle.std.proofs.Common.{inl, inr}
 use Rattle.std.proofs.lemmas.Result.{IfErr-weaker, on_ok_weaker}
+use Rattle.stack_commands.specs.declared.fault.CommandFault.TheVariants.{Stack}
+use Rattle.stack_commands.proofs.OpeningLemmas.{err-from}
 use Rattle.stack_commands.proofs.load.load_stack_file.Goals as goal
 
+pub returns-in_err-config-clause-err : goal.returns-in_err-config-clause-err
+returns-in_err-config-clause-err g c =
+    err-from c.from_residual.result _ (Stack c.in_err-config.field-0.0) c.from_residual.ensures.1 (inl c.in_err-config.ensures.err)
+
 pub returns-clause-ok : goal.returns-clause-ok
-returns-clause-ok g c = on_ok_weaker c.load.result (λ done. record {
-  stack = record { config = done.0; leaves = _; capacity = 0; kept = [] };
-  loaded = record {
-    over = c.in_ok-text.field-0;
-    opened = c.in_ok-text.ensures.ok;
-    made = record { makes = rw c.as_slice.ensures.value at done.1; leaves = refl };
-  };
-  printed = done.2;
-}) c.load.ensures.ok
+returns-clause-ok g c =
+    on_ok_weaker c.say_configuration.result (λ printed. record { config = c.in_ok-config.config; made = c.in_ok-config.ensures.ok; printed = printed }) c.say_configuration.ensures.ok
 
 pub returns-clause-err : goal.returns-clause-err
 returns-clause-err g c =
-    IfErr-weaker c.load.result _ _ (λ fault fails. inr (c.in_ok-text.field-0, c.in_ok-text.ensures.ok, rw c.as_slice.ensures.value at fails)) c.load.ensures.err
+    IfErr-weaker c.say_configuration.result _ _
+    (λ fault fails. inr (record { config = c.in_ok-config.config; made = c.in_ok-config.ensures.ok; why = fails })) c.say_configuration.ensures.err

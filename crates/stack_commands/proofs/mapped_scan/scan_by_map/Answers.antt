@@ -1,12 +1,10 @@
 use Rattle.std.proofs.Common.{inl, inr, refl, ap, ◌∙◌, arith}
-use Rattle.std.proofs.lemmas.Result.{IfErr-weaker, on_ok_weaker}
 use Rattle.stack_rules.specs.Names.{mapped, size}
 use Rattle.stack_rules.specs.Records.{Configuration}
 use Rattle.stack_config.proofs.lemmas.LoadedLineLemmas.{size-most}
-use Rattle.stack_commands.specs.Endings.{opening_ending}
-use Rattle.stack_commands.specs.Recoveries.{place_of}
+use Rattle.stack_making.specs.NamedDevices.{place_of}
+use Rattle.stack_commands.specs.declared.fault.CommandFault.TheVariants.{Map, Recovering, Stack}
 use Rattle.stack_commands.proofs.OpeningLemmas.{err-from}
-use Rattle.stack_commands.proofs.RecoveryLemmas.{finds}
 use Rattle.stack_commands.proofs.mapped_scan.scan_by_map.Goals as goal
 
 pub new-out-requires : goal.new-out-requires
@@ -15,56 +13,53 @@ new-out-requires g c =
     let is = c.sectors.ensures ∙ ap (λ (x : Configuration). size x (mapped c.in_ok-stack.device.0)) c.config.ensures.value in
     omega (arith, is, size-most config c.config.ensures.sound.loaded (mapped c.in_ok-stack.device.0))
 
-pub returns-in_err-over-clause-err : goal.returns-in_err-over-clause-err
-returns-in_err-over-clause-err g c =
-    err-from c.from_residual.result _ (opening_ending c.in_err-over.field-0.0) c.from_residual.ensures.1 (inl (refl, inl (c.in_err-over.field-0.0, refl, c.in_err-over.ensures.err)))
-
 pub returns-in_err-stack-clause-err : goal.returns-in_err-stack-clause-err
 returns-in_err-stack-clause-err g c =
-    err-from c.from_residual-in_err-stack.result _ c.in_err-stack.field-0.0 c.from_residual-in_err-stack.ensures.1
-    (inl (refl, inr (c.in_ok-over.over, c.in_ok-over.ensures.ok, c.in_err-stack.ensures.err)))
+    err-from c.from_residual.result _ (Stack c.in_err-stack.field-0.0) c.from_residual.ensures.1 (inl (refl, c.in_err-stack.ensures.err))
 
 pub returns-in_err-counts-clause-err : goal.returns-in_err-counts-clause-err
 returns-in_err-counts-clause-err g c =
-    err-from c.from_residual-in_err-counts.result _ c.in_err-counts.field-0.0 c.from_residual-in_err-counts.ensures.1
+    err-from c.from_residual-in_err-counts.result _ (Map c.in_err-counts.field-0.0) c.from_residual-in_err-counts.ensures.1
     (inr (inl (record {
       at = place_of c.in_ok-stack.stack c.in_ok-stack.device.0;
       out = _;
       left = _;
-      between = c.open_stack.new.images;
-      found = finds _ _ c.in_ok-over.over _ c.in_ok-over.ensures.ok c.in_ok-stack.ensures.ok c.in_ok-stack.ensures.cached;
+      between = c.open_device.new.images;
+      found = c.in_ok-stack.ensures.ok;
       fails = c.in_err-counts.ensures.err;
       same = refl;
     })))
 
-pub returns-clause-ok : goal.returns-clause-ok
-returns-clause-ok g c = on_ok_weaker c.tell_counts.result (λ told. record {
+pub returns-in_ok-tell_counts-clause-ok : goal.returns-in_ok-tell_counts-clause-ok
+returns-in_ok-tell_counts-clause-ok g c = record {
   counts = c.in_ok-counts.counts;
   printed = _;
   scanned = record {
     at = place_of c.in_ok-stack.stack c.in_ok-stack.device.0;
     out = _;
     left = _;
-    between = c.open_stack.new.images;
-    found = finds _ _ c.in_ok-over.over _ c.in_ok-over.ensures.ok c.in_ok-stack.ensures.ok c.in_ok-stack.ensures.cached;
+    between = c.open_device.new.images;
+    found = c.in_ok-stack.ensures.ok;
     rescued = c.in_ok-counts.ensures.ok;
     same = refl;
   };
-  told = told;
-}) c.tell_counts.ensures.ok
+  told = c.in_ok-tell_counts.ensures.ok;
+}
 
-pub returns-clause-err : goal.returns-clause-err
-returns-clause-err g c = IfErr-weaker c.tell_counts.result _ _ (λ fault ends. inr (inr (record {
-  counts = c.in_ok-counts.counts;
-  printed = _;
-  scanned = record {
-    at = place_of c.in_ok-stack.stack c.in_ok-stack.device.0;
-    out = _;
-    left = _;
-    between = c.open_stack.new.images;
-    found = finds _ _ c.in_ok-over.over _ c.in_ok-over.ensures.ok c.in_ok-stack.ensures.ok c.in_ok-stack.ensures.cached;
-    rescued = c.in_ok-counts.ensures.ok;
-    same = refl;
-  };
-  ends = ends;
-}))) c.tell_counts.ensures.err
+pub returns-in_err-tell_counts-clause-err : goal.returns-in_err-tell_counts-clause-err
+returns-in_err-tell_counts-clause-err g c =
+    err-from c.from_residual-in_err-tell_counts.result _ (Recovering c.in_err-tell_counts.field-0.0) c.from_residual-in_err-tell_counts.ensures.1
+    (inr (inr (record {
+      counts = c.in_ok-counts.counts;
+      printed = _;
+      scanned = record {
+        at = place_of c.in_ok-stack.stack c.in_ok-stack.device.0;
+        out = _;
+        left = _;
+        between = c.open_device.new.images;
+        found = c.in_ok-stack.ensures.ok;
+        rescued = c.in_ok-counts.ensures.ok;
+        same = refl;
+      };
+      ends = c.in_err-tell_counts.ensures.err;
+    })))

@@ -1,44 +1,44 @@
 use Rattle.std.proofs.Common.{ℕ, List, ap, ◌∙◌, subst, inl, inr, refl, Some}
 use Rattle.std.specs.Borrow.{Bor}
-use Rattle.stack_commands.specs.declared.fault.CommandFault.TheVariants.{Io, Service}
+use Rattle.stack_commands.specs.declared.fault.CommandFault.TheVariants.{Io, Service, Stack}
 use Rattle.stack_rules.specs.Records.{Configuration}
 use Rattle.stack_engine.specs.Stacks.{StackRecord}
 use Rattle.request_queue.specs.World.{World}
 use Rattle.nbd_protocol.specs.Exports.{HasNoExport, IsExport, export_record}
-use Rattle.stack_commands.specs.Endings.{opening_ending}
 use Rattle.stack_commands.proofs.OpeningLemmas.{err-from}
 use Rattle.nbd_protocol.proofs.lemmas.ExportLemmas.{only-export}
 use Rattle.stack_commands.proofs.ServeLemmas.{client-served}
 use Rattle.stack_commands.proofs.nbd.serve_client.Goals as goal
 
-pub returns-in_err-over-clause-err : goal.returns-in_err-over-clause-err
-returns-in_err-over-clause-err g c =
-    err-from c.from_residual.result _ (opening_ending c.in_err-over.field-0.0) c.from_residual.ensures.1 (inl (refl, inl (c.in_err-over.field-0.0, refl, c.in_err-over.ensures.err)))
-
-pub returns-in_err-queue-clause-err : goal.returns-in_err-queue-clause-err
-returns-in_err-queue-clause-err g c =
-    err-from c.from_residual-in_err-queue.result _ c.in_err-queue.field-0.0 c.from_residual-in_err-queue.ensures.1
-    (inl (refl, inr (c.in_ok-over.over, c.in_ok-over.ensures.ok, inl c.in_err-queue.ensures.err)))
+pub returns-in_err-stack-clause-err : goal.returns-in_err-stack-clause-err
+returns-in_err-stack-clause-err g c =
+    err-from c.from_residual.result _ (Stack c.in_err-stack.field-0.0) c.from_residual.ensures.1 (inl (refl, inl c.in_err-stack.ensures.err))
 
 pub returns-in_default-clause-err : goal.returns-in_default-clause-err
 returns-in_default-clause-err g c =
-    let made = c.in_ok-queue.ensures.ok in
-    let at = c.config.ensures.value ∙ ap (λ (v : StackRecord). v.config) c.stack.ensures ∙ ap (λ (w : World). w.stack.config) made.3 in
+    let at = c.config.ensures.value ∙ ap (λ (v : StackRecord). v.config) c.stack.ensures ∙ ap (λ (w : World). w.stack.config) c.new-queue.ensures.value in
     let none = subst (λ (n : List ℕ). HasNoExport c.config.result.now n) c.as_bytes.ensures.value c.in_default.ensures.none in
-    inl (refl, inr (c.in_ok-over.over, c.in_ok-over.ensures.ok, inr (record { stack = made.0; made = made.1; none = subst (λ (x : Configuration). HasNoExport x c.args.device.name.now) at none; is = refl })))
+    inl (
+      refl,
+      inr (record {
+        stack = c.in_ok-stack.stack;
+        loaded = c.in_ok-stack.ensures.ok;
+        none = subst (λ (x : Configuration). HasNoExport x c.args.device.name.now) at none;
+        is = refl;
+      }),
+    )
 
 pub returns-in_err-outcome-clause-err : goal.returns-in_err-outcome-clause-err
 returns-in_err-outcome-clause-err g c =
     let e = export_record c.in-Some.export in
-    let made = c.in_ok-queue.ensures.ok in
     let at = c.config.ensures.value ∙ ap (λ (v : StackRecord). v.config) c.stack.ensures in
     let named = ap (λ (b : Bor (List ℕ)). b.now) c.in-Some.ensures.some.1 ∙ c.as_bytes.ensures.value in
     err-from c.from_residual-in_err-outcome.result _ (Service c.in_err-outcome.field-0.0) c.from_residual-in_err-outcome.ensures.1
     (inr (inl (record {
       service = c.in_err-outcome.field-0.0;
       synced = c.sync_and_close-synced.result;
-      served = client-served _ c.open_stack.new.images _ c.in_ok-over.over made.0 c.in_ok-queue.queue c.serve-outcome.new.queue e _ _ _ _
-          c.in_ok-over.ensures.ok made.1 made.2 made.3 (subst (λ (x : Configuration). IsExport x e) at c.in-Some.ensures.some.0) named c.in_err-outcome.ensures.service (rw c.into_stack.ensures at c.sync_and_close-synced.ensures);
+      served = client-served _ c.open_loaded.new.images _ c.in_ok-stack.stack c.new-queue.result c.serve-outcome.new.queue e _ _ _ _
+          c.in_ok-stack.ensures.ok c.new-queue.ensures.value (subst (λ (x : Configuration). IsExport x e) at c.in-Some.ensures.some.0) named c.in_err-outcome.ensures.service (rw c.into_stack.ensures at c.sync_and_close-synced.ensures);
       is = refl;
       written = λ is. c.in_err-outcome.ensures.writer.failed (ap Some is);
     })))
@@ -46,23 +46,21 @@ returns-in_err-outcome-clause-err g c =
 pub returns-in_err-synced-clause-err : goal.returns-in_err-synced-clause-err
 returns-in_err-synced-clause-err g c =
     let e = export_record c.in-Some.export in
-    let made = c.in_ok-queue.ensures.ok in
     let at = c.config.ensures.value ∙ ap (λ (v : StackRecord). v.config) c.stack.ensures in
     let named = ap (λ (b : Bor (List ℕ)). b.now) c.in-Some.ensures.some.1 ∙ c.as_bytes.ensures.value in
     err-from c.from_residual-in_err-synced.result _ (Io c.in_err-synced.field-0.0) c.from_residual-in_err-synced.ensures.1
     (inr (inr (
-    client-served _ c.open_stack.new.images _ c.in_ok-over.over made.0 c.in_ok-queue.queue c.serve-outcome.new.queue e _ _ _ _
-    c.in_ok-over.ensures.ok made.1 made.2 made.3 (subst (λ (x : Configuration). IsExport x e) at c.in-Some.ensures.some.0) named c.in_ok-outcome.ensures.service (rw c.into_stack.ensures at c.in_err-synced.ensures)
+    client-served _ c.open_loaded.new.images _ c.in_ok-stack.stack c.new-queue.result c.serve-outcome.new.queue e _ _ _ _
+    c.in_ok-stack.ensures.ok c.new-queue.ensures.value (subst (λ (x : Configuration). IsExport x e) at c.in-Some.ensures.some.0) named c.in_ok-outcome.ensures.service (rw c.into_stack.ensures at c.in_err-synced.ensures)
     )))
 
 pub returns-clause-ok : goal.returns-clause-ok
 returns-clause-ok g c =
     let e = export_record c.in-Some.export in
-    let made = c.in_ok-queue.ensures.ok in
     let at = c.config.ensures.value ∙ ap (λ (v : StackRecord). v.config) c.stack.ensures in
     let named = ap (λ (b : Bor (List ℕ)). b.now) c.in-Some.ensures.some.1 ∙ c.as_bytes.ensures.value in
-    client-served _ c.open_stack.new.images _ c.in_ok-over.over made.0 c.in_ok-queue.queue c.serve-outcome.new.queue e _ _ _ _
-    c.in_ok-over.ensures.ok made.1 made.2 made.3 (subst (λ (x : Configuration). IsExport x e) at c.in-Some.ensures.some.0) named c.in_ok-outcome.ensures.service (rw c.into_stack.ensures at c.in_ok-synced.ensures)
+    client-served _ c.open_loaded.new.images _ c.in_ok-stack.stack c.new-queue.result c.serve-outcome.new.queue e _ _ _ _
+    c.in_ok-stack.ensures.ok c.new-queue.ensures.value (subst (λ (x : Configuration). IsExport x e) at c.in-Some.ensures.some.0) named c.in_ok-outcome.ensures.service (rw c.into_stack.ensures at c.in_ok-synced.ensures)
 
 pub serve-outcome-requires : goal.serve-outcome-requires
 serve-outcome-requires g c =

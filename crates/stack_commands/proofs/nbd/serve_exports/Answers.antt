@@ -2,33 +2,29 @@ use Rattle.std.proofs.Common.{ℕ, List, ap, sym, ◌∙◌, map, subst, inl, in
 use Rattle.std.specs.Global.{Global}
 use Rattle.std.specs.Prelude.{Vec}
 use Rattle.nbd_protocol.specs.declared.export.Export.{Export}
-use Rattle.stack_commands.specs.declared.fault.CommandFault.TheVariants.{Io, NoMemory, Service}
+use Rattle.stack_commands.specs.declared.fault.CommandFault.TheVariants.{Io, NoMemory, Service, Stack}
 use Rattle.stack_rules.specs.Records.{Configuration}
 use Rattle.stack_engine.specs.Stacks.{StackRecord}
 use Rattle.nbd_protocol.specs.Exports.{export_records}
 use Rattle.nbd_protocol.specs.Offers.{AreNames, Offers}
 use Rattle.nbd_protocol.proofs.lemmas.ExportLemmas.{offers-exports}
-use Rattle.stack_commands.specs.Endings.{opening_ending}
 use Rattle.stack_commands.proofs.OpeningLemmas.{err-from}
 use Rattle.stack_commands.proofs.ServeLemmas.{exports-served}
 use Rattle.stack_commands.proofs.nbd.serve_exports.Goals as goal
 
-pub returns-in_err-over-clause-err : goal.returns-in_err-over-clause-err
-returns-in_err-over-clause-err g c =
-    err-from c.from_residual.result _ (opening_ending c.in_err-over.field-0.0) c.from_residual.ensures.1 (inl (refl, inl (c.in_err-over.field-0.0, refl, c.in_err-over.ensures.err)))
-
-pub returns-in_err-queue-clause-err : goal.returns-in_err-queue-clause-err
-returns-in_err-queue-clause-err g c =
-    err-from c.from_residual-in_err-queue.result _ c.in_err-queue.field-0.0 c.from_residual-in_err-queue.ensures.1
-    (inl (refl, inr (c.in_ok-over.over, c.in_ok-over.ensures.ok, c.in_err-queue.ensures.err)))
+pub returns-in_err-stack-clause-err : goal.returns-in_err-stack-clause-err
+returns-in_err-stack-clause-err g c =
+    err-from c.from_residual.result _ (Stack c.in_err-stack.field-0.0) c.from_residual.ensures.1 (inl (refl, inl c.in_err-stack.ensures.err))
 
 pub returns-in_err-names-clause-err : goal.returns-in_err-names-clause-err
 returns-in_err-names-clause-err g c =
-    err-from c.from_residual-in_err-names.result _ NoMemory c.from_residual-in_err-names.ensures.1 (inl (refl, inr (c.in_ok-over.over, c.in_ok-over.ensures.ok, inr refl)))
+    err-from c.from_residual-in_err-names.result _ NoMemory c.from_residual-in_err-names.ensures.1
+    (inl (refl, inr (record { stack = c.in_ok-stack.stack; loaded = c.in_ok-stack.ensures.ok; is = refl })))
 
 pub returns-in_err-exports-clause-err : goal.returns-in_err-exports-clause-err
 returns-in_err-exports-clause-err g c =
-    err-from c.from_residual-in_err-exports.result _ NoMemory c.from_residual-in_err-exports.ensures.1 (inl (refl, inr (c.in_ok-over.over, c.in_ok-over.ensures.ok, inr refl)))
+    err-from c.from_residual-in_err-exports.result _ NoMemory c.from_residual-in_err-exports.ensures.1
+    (inl (refl, inr (record { stack = c.in_ok-stack.stack; loaded = c.in_ok-stack.ensures.ok; is = refl })))
 
 pub serve-outcome-requires : goal.serve-outcome-requires
 serve-outcome-requires g c =
@@ -41,7 +37,6 @@ serve-outcome-requires g c =
 pub returns-in_err-outcome-clause-err : goal.returns-in_err-outcome-clause-err
 returns-in_err-outcome-clause-err g c =
     let at = c.config-config.ensures.value ∙ ap (λ (v : StackRecord). v.config) c.stack.ensures in
-    let made = c.in_ok-queue.ensures.ok in
     let names = map (λ (n : Vec ℕ Global). n.items) c.as_slice-listed.result.now in
     let es = export_records c.as_slice-offered.result.now in
     let said = subst (λ (l : List (Vec ℕ Global)). AreNames c.config-config.result.now.devices (map (λ n. n.items) l)) (sym c.as_slice-listed.ensures.value) c.in_ok-names.ensures in
@@ -52,8 +47,8 @@ returns-in_err-outcome-clause-err g c =
     (inr (inl (record {
       service = c.in_err-outcome.field-0.0;
       synced = c.sync_and_close-synced.result;
-      served = exports-served _ c.open_stack.new.images _ _ c.in_ok-over.over made.0 c.in_ok-queue.queue c.serve-outcome.new.queue names es _ _ _ _
-          c.in_ok-over.ensures.ok made.1 made.2 made.3 named offered c.in_err-outcome.ensures.service (rw c.into_stack.ensures at c.sync_and_close-synced.ensures);
+      served = exports-served _ c.open_loaded.new.images _ _ c.in_ok-stack.stack c.new-queue.result c.serve-outcome.new.queue names es _ _ _ _
+          c.in_ok-stack.ensures.ok c.new-queue.ensures.value named offered c.in_err-outcome.ensures.service (rw c.into_stack.ensures at c.sync_and_close-synced.ensures);
       is = refl;
       written = λ is. c.in_err-outcome.ensures.writer.failed (ap Some is);
     })))
@@ -61,7 +56,6 @@ returns-in_err-outcome-clause-err g c =
 pub returns-in_err-synced-clause-err : goal.returns-in_err-synced-clause-err
 returns-in_err-synced-clause-err g c =
     let at = c.config-config.ensures.value ∙ ap (λ (v : StackRecord). v.config) c.stack.ensures in
-    let made = c.in_ok-queue.ensures.ok in
     let names = map (λ (n : Vec ℕ Global). n.items) c.as_slice-listed.result.now in
     let es = export_records c.as_slice-offered.result.now in
     let said = subst (λ (l : List (Vec ℕ Global)). AreNames c.config-config.result.now.devices (map (λ n. n.items) l)) (sym c.as_slice-listed.ensures.value) c.in_ok-names.ensures in
@@ -70,19 +64,18 @@ returns-in_err-synced-clause-err g c =
     let offered = subst (λ (x : Configuration). Offers x names es) at held in
     err-from c.from_residual-in_err-synced.result _ (Io c.in_err-synced.field-0.0) c.from_residual-in_err-synced.ensures.1
     (inr (inr (
-    exports-served _ c.open_stack.new.images _ _ c.in_ok-over.over made.0 c.in_ok-queue.queue c.serve-outcome.new.queue names es _ _ _ _
-    c.in_ok-over.ensures.ok made.1 made.2 made.3 named offered c.in_ok-outcome.ensures.service (rw c.into_stack.ensures at c.in_err-synced.ensures)
+    exports-served _ c.open_loaded.new.images _ _ c.in_ok-stack.stack c.new-queue.result c.serve-outcome.new.queue names es _ _ _ _
+    c.in_ok-stack.ensures.ok c.new-queue.ensures.value named offered c.in_ok-outcome.ensures.service (rw c.into_stack.ensures at c.in_err-synced.ensures)
     )))
 
 pub returns-clause-ok : goal.returns-clause-ok
 returns-clause-ok g c =
     let at = c.config-config.ensures.value ∙ ap (λ (v : StackRecord). v.config) c.stack.ensures in
-    let made = c.in_ok-queue.ensures.ok in
     let names = map (λ (n : Vec ℕ Global). n.items) c.as_slice-listed.result.now in
     let es = export_records c.as_slice-offered.result.now in
     let said = subst (λ (l : List (Vec ℕ Global)). AreNames c.config-config.result.now.devices (map (λ n. n.items) l)) (sym c.as_slice-listed.ensures.value) c.in_ok-names.ensures in
     let named = subst (λ (x : Configuration). AreNames x.devices names) at said in
     let held = subst (λ (l : List Export). Offers c.config-config.result.now names (export_records l)) (sym c.as_slice-offered.ensures.value) c.in_ok-exports.ensures in
     let offered = subst (λ (x : Configuration). Offers x names es) at held in
-    exports-served _ c.open_stack.new.images _ _ c.in_ok-over.over made.0 c.in_ok-queue.queue c.serve-outcome.new.queue names es _ _ _ _
-    c.in_ok-over.ensures.ok made.1 made.2 made.3 named offered c.in_ok-outcome.ensures.service (rw c.into_stack.ensures at c.in_ok-synced.ensures)
+    exports-served _ c.open_loaded.new.images _ _ c.in_ok-stack.stack c.new-queue.result c.serve-outcome.new.queue names es _ _ _ _
+    c.in_ok-stack.ensures.ok c.new-queue.ensures.value named offered c.in_ok-outcome.ensures.service (rw c.into_stack.ensures at c.in_ok-synced.ensures)

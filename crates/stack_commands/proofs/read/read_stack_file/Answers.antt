@@ -1,17 +1,14 @@
-use Rattle.std.proofs.Common.{inr}
-use Rattle.std.proofs.lemmas.Result.{IfErr-weaker, on_ok_weaker}
+use Rattle.std.proofs.Common.{inl, inr, refl}
+use Rattle.stack_session.specs.declared.fault.SessionFault.TheVariants.{WriteFault}
+use Rattle.stack_commands.specs.declared.fault.CommandFault.TheVariants.{Request, Session}
+use Rattle.stack_commands.proofs.OpeningLemmas.{err-from}
 use Rattle.stack_commands.proofs.read.read_stack_file.Goals as goal
 
-pub returns-clause-ok : goal.returns-clause-ok
-returns-clause-ok g c = on_ok_weaker c.read.result (λ done. record {
-  stack = done.0;
-  reply = done.1;
-  after = done.2;
-  loaded = record { over = c.in_ok-over.over; opened = c.in_ok-over.ensures.ok; made = done.3 };
-  cached = done.4;
-  served = done.5;
-  printed = done.6;
-}) c.read.ensures.ok
+pub returns-in_err-reply-clause-err : goal.returns-in_err-reply-clause-err
+returns-in_err-reply-clause-err g c =
+    err-from c.from_residual.result _ (Request c.in_err-reply.field-0.0) c.from_residual.ensures.1 (inl c.in_err-reply.ensures.err)
 
-pub returns-clause-err : goal.returns-clause-err
-returns-clause-err g c = IfErr-weaker c.read.result _ _ (λ fault fails. inr (c.in_ok-over.over, c.in_ok-over.ensures.ok, fails)) c.read.ensures.err
+pub returns-in_err-say_reply-clause-err : goal.returns-in_err-say_reply-clause-err
+returns-in_err-say_reply-clause-err g c =
+    err-from c.from_residual-in_err-say_reply.result _ (Session WriteFault) c.from_residual-in_err-say_reply.ensures.1
+    (inr (c.in_ok-reply.reply, c.in_ok-reply.ensures.ok, (refl, c.in_err-say_reply.ensures.failed)))

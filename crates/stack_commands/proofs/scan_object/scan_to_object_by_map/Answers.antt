@@ -4,11 +4,10 @@ use Rattle.image_files.specs.Opener.{calls}
 use Rattle.stack_rules.specs.Names.{mapped, size}
 use Rattle.stack_rules.specs.Records.{Configuration}
 use Rattle.stack_config.proofs.lemmas.LoadedLineLemmas.{size-most}
-use Rattle.stack_commands.specs.Endings.{opening_ending}
-use Rattle.stack_commands.specs.Recoveries.{place_of}
+use Rattle.stack_making.specs.NamedDevices.{place_of}
+use Rattle.stack_commands.specs.declared.fault.CommandFault.TheVariants.{Map, Stack}
 use Rattle.stack_commands.proofs.KeptLemmas.{rescued-none, unrescued-none}
 use Rattle.stack_commands.proofs.OpeningLemmas.{err-from}
-use Rattle.stack_commands.proofs.RecoveryLemmas.{finds}
 use Rattle.stack_commands.proofs.scan_object.scan_to_object_by_map.Goals as goal
 
 pub new-out-requires : goal.new-out-requires
@@ -17,19 +16,13 @@ new-out-requires g c =
     let is = c.sectors.ensures ∙ ap (λ (x : Configuration). size x (mapped c.in_ok-stack.device.0)) c.config.ensures.value in
     omega (arith, is, size-most config c.config.ensures.sound.loaded (mapped c.in_ok-stack.device.0))
 
-pub returns-in_err-over-clause-err : goal.returns-in_err-over-clause-err
-returns-in_err-over-clause-err g c =
-    err-from c.from_residual.result _ (opening_ending c.in_err-over.field-0.0) c.from_residual.ensures.1
-    (inl (refl, inl (inl (c.in_err-over.field-0.0, refl, c.in_err-over.ensures.err))))
-
 pub returns-in_err-stack-clause-err : goal.returns-in_err-stack-clause-err
 returns-in_err-stack-clause-err g c =
-    err-from c.from_residual-in_err-stack.result _ c.in_err-stack.field-0.0 c.from_residual-in_err-stack.ensures.1
-    (inl (refl, inl (inr (c.in_ok-over.over, c.in_ok-over.ensures.ok, c.in_err-stack.ensures.err))))
+    err-from c.from_residual.result _ (Stack c.in_err-stack.field-0.0) c.from_residual.ensures.1 (inl (refl, inl c.in_err-stack.ensures.err))
 
 pub returns-in_err-counts-clause-err : goal.returns-in_err-counts-clause-err
 returns-in_err-counts-clause-err g c =
-    err-from c.from_residual-in_err-counts.result _ c.in_err-counts.field-0.0 c.from_residual-in_err-counts.ensures.1
+    err-from c.from_residual-in_err-counts.result _ (Map c.in_err-counts.field-0.0) c.from_residual-in_err-counts.ensures.1
     (inl (
       refl,
       inr (record {
@@ -40,9 +33,9 @@ returns-in_err-counts-clause-err g c =
           at = place_of c.in_ok-stack.stack c.in_ok-stack.device.0;
           out = _;
           left = _;
-          between = c.open_stack.new.images;
-          found = finds _ _ c.in_ok-over.over _ c.in_ok-over.ensures.ok c.in_ok-stack.ensures.ok c.in_ok-stack.ensures.cached;
-          fails = unrescued-none (calls g.I.Images.relations g.I.Dev.BlockDev.state c.open_stack.new.images c.keep_runs_by_map.new.images) _ c.in_ok-stack.device.0
+          between = c.open_device.new.images;
+          found = c.in_ok-stack.ensures.ok;
+          fails = unrescued-none (calls g.I.Images.relations g.I.Dev.BlockDev.state c.open_device.new.images c.keep_runs_by_map.new.images) _ c.in_ok-stack.device.0
               _ _ _ _ c.keep_runs_by_map.new.kept.refused _ c.new-kept.ensures.runs c.in_err-counts.ensures.err.1;
           same = refl;
         };
@@ -58,8 +51,8 @@ returns-clause-ok g c = on_ok_weaker c.say_lost.result (λ said. record {
     at = place_of c.in_ok-stack.stack c.in_ok-stack.device.0;
     out = _;
     left = _;
-    between = c.open_stack.new.images;
-    found = finds _ _ c.in_ok-over.over _ c.in_ok-over.ensures.ok c.in_ok-stack.ensures.ok c.in_ok-stack.ensures.cached;
+    between = c.open_device.new.images;
+    found = c.in_ok-stack.ensures.ok;
     rescued = rescued-none _ _ _ _ _ _ _ _ c.new-kept.ensures.runs c.in_ok-counts.ensures.ok;
     same = refl;
   };
@@ -75,8 +68,8 @@ returns-clause-err g c = IfErr-weaker c.say_lost.result _ _ (λ fault ends. inr 
     at = place_of c.in_ok-stack.stack c.in_ok-stack.device.0;
     out = _;
     left = _;
-    between = c.open_stack.new.images;
-    found = finds _ _ c.in_ok-over.over _ c.in_ok-over.ensures.ok c.in_ok-stack.ensures.ok c.in_ok-stack.ensures.cached;
+    between = c.open_device.new.images;
+    found = c.in_ok-stack.ensures.ok;
     rescued = rescued-none _ _ _ _ _ _ _ _ c.new-kept.ensures.runs c.in_ok-counts.ensures.ok;
     same = refl;
   };

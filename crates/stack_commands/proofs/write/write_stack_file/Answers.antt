@@ -1,70 +1,14 @@
-use Rattle.std.proofs.Common.{inl, inr, refl, subst}
-use Rattle.request_queue.specs.World.{World}
-use Rattle.stack_commands.specs.declared.fault.CommandFault.TheVariants.{Io, Session}
+use Rattle.std.proofs.Common.{inl, inr, refl}
 use Rattle.stack_session.specs.declared.fault.SessionFault.TheVariants.{WriteFault}
-use Rattle.stack_commands.specs.Endings.{opening_ending}
-use Rattle.stack_commands.specs.Requests.{FailsToServe, write_request}
+use Rattle.stack_commands.specs.declared.fault.CommandFault.TheVariants.{Request, Session}
 use Rattle.stack_commands.proofs.OpeningLemmas.{err-from}
-use Rattle.stack_commands.proofs.WriteLemmas.{puts}
 use Rattle.stack_commands.proofs.write.write_stack_file.Goals as goal
 
-pub returns-in_err-over-clause-err : goal.returns-in_err-over-clause-err
-returns-in_err-over-clause-err g c =
-    err-from c.from_residual.result _ (opening_ending c.in_err-over.field-0.0) c.from_residual.ensures.1 (inl (c.in_err-over.field-0.0, refl, c.in_err-over.ensures.err))
+pub returns-in_err-write_source-clause-err : goal.returns-in_err-write_source-clause-err
+returns-in_err-write_source-clause-err g c =
+    err-from c.from_residual.result _ (Request c.in_err-write_source.field-0.0) c.from_residual.ensures.1 (inl c.in_err-write_source.ensures.err)
 
-pub returns-in_err-stack-clause-err : goal.returns-in_err-stack-clause-err
-returns-in_err-stack-clause-err g c =
-    err-from c.from_residual-in_err-stack.result _ c.in_err-stack.field-0.0 c.from_residual-in_err-stack.ensures.1
-    (inr (inl (record { over = c.in_ok-over.over; source = c.in_ok-over.source; opened = c.in_ok-over.ensures.ok; fails = c.in_err-stack.ensures.err })))
-
-pub returns-in-Err-clause-err : goal.returns-in-Err-clause-err
-returns-in-Err-clause-err g c =
-    inr (inr (inl (record {
-      over = c.in_ok-over.over;
-      source = c.in_ok-over.source;
-      stack = c.in_ok-stack.stack;
-      after = c.store-outcome.new.queue;
-      between = c.open_with_source.new.images;
-      opened = c.in_ok-over.ensures.ok;
-      made = c.in_ok-stack.ensures.ok;
-      cached = c.in_ok-stack.ensures.cached;
-      fails = subst (λ (w : World). FailsToServe w (write_request c.args.transfer c.in_ok-over.source.bytes.items) c.in-Err.fault c.store-outcome.new.queue) c.new-queue.ensures.value c.in-Err.ensures.err;
-      back = rw c.into_stack-stack.ensures at c.close_stack.ensures;
-    })))
-
-pub returns-in_err-sync_and_close-in-Ok-clause-err : goal.returns-in_err-sync_and_close-in-Ok-clause-err
-returns-in_err-sync_and_close-in-Ok-clause-err g c =
-    err-from c.from_residual-in_err-sync_and_close-in-Ok.result _ (Io c.in_err-sync_and_close-in-Ok.field-0.0) c.from_residual-in_err-sync_and_close-in-Ok.ensures.1
-    (inr (inr (inr (inl (record {
-      after = c.store-outcome.new.queue;
-      between = c.open_with_source.new.images;
-      put = puts _ _ c.in_ok-over.over c.in_ok-over.source c.in_ok-stack.stack c.new-queue.result c.store-outcome.new.queue c.in-Ok._reply
-          c.in_ok-over.ensures.ok c.in_ok-stack.ensures.ok c.in_ok-stack.ensures.cached c.new-queue.ensures.value c.in-Ok.ensures.ok;
-      back = rw c.into_stack-stack.ensures at c.in_err-sync_and_close-in-Ok.ensures;
-    })))))
-
-pub returns-in_err-say_written-in-Ok-clause-err : goal.returns-in_err-say_written-in-Ok-clause-err
-returns-in_err-say_written-in-Ok-clause-err g c =
-    err-from c.from_residual-in_err-say_written-in-Ok.result _ (Session WriteFault) c.from_residual-in_err-say_written-in-Ok.ensures.1
-    (inr (inr (inr (inr (
-      record {
-        after = c.store-outcome.new.queue;
-        between = c.open_with_source.new.images;
-        put = puts _ _ c.in_ok-over.over c.in_ok-over.source c.in_ok-stack.stack c.new-queue.result c.store-outcome.new.queue c.in-Ok._reply
-            c.in_ok-over.ensures.ok c.in_ok-stack.ensures.ok c.in_ok-stack.ensures.cached c.new-queue.ensures.value c.in-Ok.ensures.ok;
-        back = rw c.into_stack-stack.ensures at c.in_ok-sync_and_close-in-Ok.ensures;
-      },
-      (refl, c.in_err-say_written-in-Ok.ensures.failed),
-    )))))
-
-pub returns-in_ok-say_written-in-Ok-clause-ok : goal.returns-in_ok-say_written-in-Ok-clause-ok
-returns-in_ok-say_written-in-Ok-clause-ok g c = (
-  record {
-    after = c.store-outcome.new.queue;
-    between = c.open_with_source.new.images;
-    put = puts _ _ c.in_ok-over.over c.in_ok-over.source c.in_ok-stack.stack c.new-queue.result c.store-outcome.new.queue c.in-Ok._reply
-        c.in_ok-over.ensures.ok c.in_ok-stack.ensures.ok c.in_ok-stack.ensures.cached c.new-queue.ensures.value c.in-Ok.ensures.ok;
-    back = rw c.into_stack-stack.ensures at c.in_ok-sync_and_close-in-Ok.ensures;
-  },
-  c.in_ok-say_written-in-Ok.ensures.ok,
-)
+pub returns-in_err-say_written-clause-err : goal.returns-in_err-say_written-clause-err
+returns-in_err-say_written-clause-err g c =
+    err-from c.from_residual-in_err-say_written.result _ (Session WriteFault) c.from_residual-in_err-say_written.ensures.1
+    (inr (c.in_ok-write_source.ensures.ok, (refl, c.in_err-say_written.ensures.failed)))

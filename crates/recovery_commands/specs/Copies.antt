@@ -1,0 +1,105 @@
+-- What can be had of a device is copied to an image, and how that ends early.
+use Rattle.std.specs.Prelude.{◌≡◌, ◌⊎◌, ℕ, ◌<◌, Bool, true, false, List, Option}
+use Rattle.block_device.specs.Device.{Device, synced}
+use Rattle.differing_device.specs.Differing.{differing}
+use Rattle.image_files.specs.declared.images.OpenImage.{OpenImage}
+use Rattle.image_files.specs.Opener.{Calls}
+use Rattle.stack_rules.specs.Names.{mapped, size}
+use Rattle.stack_engine.specs.Stacks.{StackRecord}
+use Rattle.stack_making.specs.NamedDevices.{DeviceWords, FailsToFindOutput, FindsOutput, Place}
+use Rattle.stack_recovery.specs.declared.recovery.Counts.{Counts}
+use Rattle.stack_recovery.specs.Recoveries.{Recovers, Sides, sides}
+use Rattle.recovery_commands.specs.declared.fault.RecoveringFault.{RecoveringFault}
+use Rattle.recovery_commands.specs.declared.fault.RecoveringFault.TheVariants.{OutputTooSmall}
+use Rattle.recovery_commands.specs.Recovering.{IsCountsEnd, IsRecoverEnd, IsStackless, TellsCounts}
+
+-- a stack file, the name of one of its devices, bindings, the image to which it is copied, and whether only what differs
+-- is written
+pub record CopyWords : Type 0 where
+  pub words : DeviceWords
+  pub out : List ℕ
+  pub differing : Bool
+
+abbrev pub copy_words : DeviceWords → List ℕ → Bool → CopyWords
+copy_words words out differing = record { words = words; out = out; differing = differing }
+
+-- OUT's device as the copying sees it: with `--differing` one that reads before it writes, and counts for itself what it is
+-- asked for
+abbrev pub IsSeenAs : Bool → Device → Device → Type 0
+IsSeenAs false out seen = seen ≡ out
+IsSeenAs true out seen = seen ≡ differing out seen.reads seen.writes seen.dirty
+
+-- A device was gone over to a device that OUT is seen as, and that is on the medium: of the sides those of OUT itself are told.
+pub record CopiesTo (is_differing : Bool) (d : ℕ) (old : Sides) (counts : Counts) (new : Sides) : Type 0 where
+  pub seen : Device
+  pub left : Device
+  pub begun : IsSeenAs is_differing old.out seen
+  pub recovered : Recovers d (record old { out = seen }) counts (record new { out = left })
+  pub ended : IsSeenAs is_differing new.out (synced left)
+  pub on_medium : new.out.dirty ≡ false
+
+-- it was begun, and ended early
+pub record EndsCopying (is_differing : Bool) (d : ℕ) (old new : Sides) (failed : Bool) (fault : RecoveringFault) : Type 0 where
+  pub seen : Device
+  pub seen' : Device
+  pub begun : IsSeenAs is_differing old.out seen
+  pub fails : IsRecoverEnd d (record old { out = seen }) (record new { out = seen' }) failed fault
+  pub ended : IsSeenAs is_differing new.out seen'
+
+-- The device was gone over: a line was printed for each longest lost run, what was had went to OUT's image, and that was
+-- synced and given back.
+pub record Copies {S D : Type 0} (w : Calls S D) (words : CopyWords) (old : Option (List ℕ)) (counts : Counts) (printed : Option (List ℕ)) : Type 0 where
+  pub at : Place
+  pub image : OpenImage D
+  pub image' : D
+  pub left : StackRecord
+  pub between : S
+  pub found : FindsOutput (record w { new = between }) words.words words.out at image
+  pub copied : CopiesTo words.differing at.d (sides at.stack (w.state image.device) old) counts (sides left (w.state image') printed)
+  pub back : w.relations.takes between words.out image' w.new
+
+-- no sector is lost, and the counts were printed
+pub record PrintsCopy {S D : Type 0} (w : Calls S D) (words : CopyWords) (old new : Option (List ℕ)) : Type 0 where
+  pub counts : Counts
+  pub printed : Option (List ℕ)
+  pub copied : Copies w words old counts printed
+  pub told : TellsCounts counts printed new
+
+-- it has so many sectors, which are more than the image has
+abbrev pub IsTooSmall : Device → ℕ → RecoveringFault → Type 0
+IsTooSmall image sectors (OutputTooSmall needed) = (needed ≡ sectors) × (image.size < sectors)
+IsTooSmall image sectors fault = ⊥
+
+-- the device has no room in the image
+pub record FindsNoRoom {S D : Type 0} (w : Calls S D) (words : DeviceWords) (out : List ℕ) (fault : RecoveringFault) : Type 0 where
+  pub at : Place
+  pub image : OpenImage D
+  pub found : FindsOutput w words out at image
+  pub small : IsTooSmall (w.state image.device) (size at.stack.config (mapped at.d)) fault
+
+-- that, or there is no such device
+abbrev pub IsUncopied : {S D : Type 0} → Calls S D → DeviceWords → List ℕ → RecoveringFault → Type 0
+IsUncopied w words out fault = IsStackless (FailsToFindOutput w words out) fault ⊎ FindsNoRoom w words out fault
+
+-- the copy was begun, ended early, and what then stood in the image was given back
+pub record FailsToCopy {S D : Type 0} (w : Calls S D) (words : CopyWords) (old new : Option (List ℕ)) (failed : Bool) (fault : RecoveringFault) : Type 0 where
+  pub at : Place
+  pub image : OpenImage D
+  pub image' : D
+  pub left : StackRecord
+  pub between : S
+  pub found : FindsOutput (record w { new = between }) words.words words.out at image
+  pub fails : EndsCopying words.differing at.d (sides at.stack (w.state image.device) old) (sides left (w.state image') new) failed fault
+  pub back : w.relations.takes between words.out image' w.new
+
+-- sectors are lost, or the counts can't be written
+pub record LosesInCopy {S D : Type 0} (w : Calls S D) (words : CopyWords) (old new : Option (List ℕ)) (failed : Bool) (fault : RecoveringFault) : Type 0 where
+  pub counts : Counts
+  pub printed : Option (List ℕ)
+  pub copied : Copies w words old counts printed
+  pub ends : IsCountsEnd counts printed new failed fault
+
+-- nothing is printed where it isn't begun
+abbrev pub IsCopyEnd : {S D : Type 0} → Calls S D → CopyWords → Option (List ℕ) → Option (List ℕ) → Bool → RecoveringFault → Type 0
+IsCopyEnd w words old new failed fault =
+    ((new ≡ old) × IsUncopied w words.words words.out fault) ⊎ (FailsToCopy w words old new failed fault ⊎ LosesInCopy w words old new failed fault)

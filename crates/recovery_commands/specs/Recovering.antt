@@ -1,0 +1,35 @@
+-- What the commands that go over a device have in common.
+use Rattle.std.specs.Prelude.{◌≡◌, ℕ, ◌<◌, ◌++◌, Bool, true, List, codes, decimal, Option}
+use Rattle.std.specs.Io.KnownBytes.{Appends}
+use Rattle.stack_making.specs.declared.fault.StackFault.{StackFault}
+use Rattle.stack_recovery.specs.declared.fault.RecoveryFault.TheVariants as recovery
+use Rattle.stack_recovery.specs.declared.recovery.Counts.{Counts}
+use Rattle.stack_recovery.specs.Recoveries.{IsRecoveryEnd, Sides}
+use Rattle.recovery_commands.specs.declared.fault.RecoveringFault.{RecoveringFault}
+use Rattle.recovery_commands.specs.declared.fault.RecoveringFault.TheVariants.{Lost, NoMemory, OutputFailed, Stack, Write}
+
+-- there is no such device
+abbrev pub IsStackless : (StackFault → Type 0) → RecoveringFault → Type 0
+IsStackless Fails (Stack fault) = Fails fault
+IsStackless Fails fault = ⊥
+
+-- how many sectors of a device were had, and how many are lost
+abbrev pub counts_text : ℕ → ℕ → List ℕ
+counts_text read lost = codes "read " ++ (decimal read ++ (codes " lost " ++ (decimal lost ++ codes "\n")))
+
+-- the ends of a recovery as a command's
+abbrev pub IsRecoverEnd : ℕ → Sides → Sides → Bool → RecoveringFault → Type 0
+IsRecoverEnd d old new failed NoMemory = IsRecoveryEnd d old new failed recovery.NoMemory
+IsRecoverEnd d old new failed OutputFailed = IsRecoveryEnd d old new failed recovery.Output
+IsRecoverEnd d old new failed Write = failed ≡ true
+IsRecoverEnd d old new failed fault = ⊥
+
+-- no sector is lost, and the counts were printed
+abbrev pub TellsCounts : Counts → Option (List ℕ) → Option (List ℕ) → Type 0
+TellsCounts counts old new = (counts.lost ≡ 0) × Appends old new (counts_text counts.read 0)
+
+-- some are lost, or the line can't be written
+abbrev pub IsCountsEnd : Counts → Option (List ℕ) → Option (List ℕ) → Bool → RecoveringFault → Type 0
+IsCountsEnd counts old new failed (Lost read lost) = (read ≡ counts.read) × (lost ≡ counts.lost) × (0 < counts.lost) × (new ≡ old)
+IsCountsEnd counts old new failed Write = failed ≡ true
+IsCountsEnd counts old new failed fault = ⊥

@@ -1,0 +1,70 @@
+-- Which sectors of a device are lost, and how the going over ends early.
+use Rattle.std.specs.Prelude.{◌≡◌, ◌⊎◌, ℕ, Bool, IsTrue, List, [], Option, Some}
+use Rattle.block_device.specs.Device.{Device}
+use Rattle.image_files.specs.Opener.{Calls}
+use Rattle.stack_making.specs.NamedDevices.{DeviceWords, FailsToFindDevice, Finds, Place}
+use Rattle.stack_recovery.specs.declared.recovery.Counts.{Counts}
+use Rattle.stack_recovery.specs.Recoveries.{Recovers, Sides, sides}
+use Rattle.recovery_commands.specs.declared.fault.RecoveringFault.{RecoveringFault}
+use Rattle.recovery_commands.specs.declared.fault.RecoveringFault.TheVariants.{NoMemory, Write}
+use Rattle.recovery_commands.specs.Recovering.{IsCountsEnd, IsRecoverEnd, IsStackless, TellsCounts}
+
+-- A device was gone over: a line was told for each longest lost run.
+pub record Scans {S D : Type 0} (w : Calls S D) (words : DeviceWords) (old : Option (List ℕ)) (counts : Counts) (printed : Option (List ℕ)) : Type 0 where
+  pub at : Place
+  pub out : Device
+  pub left : Sides
+  pub found : Finds w words at
+  pub recovered : Recovers at.d (sides at.stack out old) counts left
+  pub same : left.printed ≡ printed
+
+-- no sector is lost, and the counts were printed
+pub record PrintsScan {S D : Type 0} (w : Calls S D) (words : DeviceWords) (old new : Option (List ℕ)) : Type 0 where
+  pub counts : Counts
+  pub printed : Option (List ℕ)
+  pub scanned : Scans w words old counts printed
+  pub told : TellsCounts counts printed new
+
+-- it was begun, and ended early
+pub record FailsToScan {S D : Type 0} (w : Calls S D) (words : DeviceWords) (old new : Option (List ℕ)) (failed : Bool) (fault : RecoveringFault) : Type 0 where
+  pub at : Place
+  pub out : Device
+  pub left : Sides
+  pub found : Finds w words at
+  pub sure : IsTrue out.never_fails
+  pub fails : IsRecoverEnd at.d (sides at.stack out old) left failed fault
+  pub same : left.printed ≡ new
+
+-- sectors are lost, or the counts can't be written
+pub record LosesInScan {S D : Type 0} (w : Calls S D) (words : DeviceWords) (old new : Option (List ℕ)) (failed : Bool) (fault : RecoveringFault) : Type 0 where
+  pub counts : Counts
+  pub printed : Option (List ℕ)
+  pub scanned : Scans w words old counts printed
+  pub ends : IsCountsEnd counts printed new failed fault
+
+-- nothing is printed where there is no such device
+abbrev pub IsScanEnd : {S D : Type 0} → Calls S D → DeviceWords → Option (List ℕ) → Option (List ℕ) → Bool → RecoveringFault → Type 0
+IsScanEnd w words old new failed fault =
+    ((new ≡ old) × IsStackless (FailsToFindDevice w words) fault) ⊎ (FailsToScan w words old new failed fault ⊎ LosesInScan w words old new failed fault)
+
+-- ---- where the lost runs are kept in memory
+
+-- a run that isn't kept is want of memory
+abbrev pub unkept : RecoveringFault → RecoveringFault
+unkept Write = NoMemory
+unkept fault = fault
+
+-- that cause, as an end of the going over
+abbrev pub IsUnkept : (RecoveringFault → Type 0) → RecoveringFault → Type 0
+IsUnkept Ends fault = (cause : RecoveringFault) × Ends cause × (fault ≡ unkept cause)
+
+-- it ended early, and no run that was kept is told
+pub record CutsScan {S D : Type 0} (w : Calls S D) (words : DeviceWords) (fault : RecoveringFault) : Type 0 where
+  pub kept : Option (List ℕ)
+  pub failed : Bool
+  pub cause : RecoveringFault
+  pub cuts : FailsToScan w words (Some []) kept failed cause
+  pub is : fault ≡ unkept cause
+
+abbrev pub IsLostEnd : {S D : Type 0} → Calls S D → DeviceWords → RecoveringFault → Type 0
+IsLostEnd w words fault = IsStackless (FailsToFindDevice w words) fault ⊎ CutsScan w words fault

@@ -1,0 +1,69 @@
+//! The lost sectors of a device, kept in memory.
+ghost use Rattle.std.specs.Prelude.{◌≡◌, ◌≤◌, ◌<◌, [], length, Some, IfOk, IfErr};
+ghost use Rattle.image_files.specs.Opener.{calls};
+ghost use Rattle.stack_rules.specs.Names.{mapped, size};
+ghost use Rattle.stack_opening.specs.OpenStacks.{stack_words};
+ghost use Rattle.stack_making.specs.NamedDevices.{device_words};
+ghost use Rattle.stack_recovery.specs.Recoveries.{Recovers, sides};
+ghost use Rattle.stack_recovery.specs.Texts.{runs_text};
+ghost use Rattle.recovery_commands.specs.Recovering.{IsRecoverEnd};
+ghost use Rattle.recovery_commands.specs.Scans.{IsLostEnd, IsUnkept, Scans, unkept};
+
+use crate::fault::RecoveringFault;
+use crate::recovering::recover_device;
+use block_device::BlockDev;
+use image_files::Images;
+use progress::Progress;
+use stack_config::DevId;
+use stack_engine::Stack;
+use stack_making::{NamedDevice, open_device};
+use stack_opening::StackFile;
+use stack_recovery::{Counts, Discard, KeptRuns, LostRun};
+use std::alloc::Global;
+
+/// Reads a device of a stack file over the bindings, and keeps which sectors are lost.
+pub fn find_lost<'a, I: Images, P: Progress>(
+    alloc: Global,
+    images: &mut I,
+    file: StackFile<'a, '_>,
+    device: NamedDevice<'_>,
+    progress: &mut P,
+) -> Result<(Vec<LostRun>, Counts), RecoveringFault<'a>>
+    ensures ok { IfOk result (λ found. Scans (calls I.relations I.Dev.state images.old images.new) (device_words (stack_words file.entry) device.entry.name.now device.entry.cache) (Some []) found.1 (Some (runs_text found.0.items))) }
+    ensures err { IfErr result (IsLostEnd (calls I.relations I.Dev.state images.old images.new) (device_words (stack_words file.entry) device.entry.name.now device.entry.cache)) }
+{
+    let (mut stack, device) = open_device(alloc, images, file, device)?;
+    let mut out = Discard::new(stack.config().sectors(device));
+    let mut kept = KeptRuns::new(alloc);
+    let counts = keep_runs(&mut stack, device, &mut out, &mut kept, progress)?;
+    Ok((kept.runs, counts))
+}
+
+// Goes over the device, and keeps its lost runs.
+fn keep_runs<'a, D: BlockDev + Drop, P: Progress>(
+    stack: &mut Stack<D>,
+    device: DevId,
+    out: &mut Discard,
+    kept: &mut KeptRuns,
+    progress: &mut P,
+) -> Result<Counts, RecoveringFault<'a>>
+    requires device { device.0 < length stack.old.config.devices }
+    requires room { size stack.old.config (mapped device.0) ≤ (⟦<Discard as BlockDev>⟧.state out.old).size }
+    ensures ok { IfOk result (λ counts. Recovers device.0 (sides stack.old (⟦<Discard as BlockDev>⟧.state out.old) (Some (runs_text kept.old.runs.items))) counts (sides stack.new (⟦<Discard as BlockDev>⟧.state out.new) (Some (runs_text kept.new.runs.items)))) }
+    ensures err { IfErr result (IsUnkept (IsRecoverEnd device.0 (sides stack.old (⟦<Discard as BlockDev>⟧.state out.old) (Some (runs_text kept.old.runs.items))) (sides stack.new (⟦<Discard as BlockDev>⟧.state out.new) (Some (runs_text kept.new.runs.items))) kept.new.refused)) }
+{
+    match recover_device(stack, device, out, kept, progress) {
+        Ok(counts) => Ok(counts),
+        Err(fault) => Err(unkept(fault)),
+    }
+}
+
+// Where a run isn't kept, memory ran out.
+fn unkept<'a>(fault: RecoveringFault<'a>) -> RecoveringFault<'a>
+    ensures { result ≡ unkept fault.entry }
+{
+    match fault {
+        RecoveringFault::Write => RecoveringFault::NoMemory,
+        other => other,
+    }
+}

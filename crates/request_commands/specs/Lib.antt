@@ -1,0 +1,3 @@
+pub mod Reads
+pub mod Requests
+pub mod Writes

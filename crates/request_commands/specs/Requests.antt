@@ -1,0 +1,42 @@
+-- Requests that are made of a stack.
+use Rattle.std.specs.Prelude.{◌≡◌, ℕ, List, [], Result, Ok, Err}
+use Rattle.command_line.specs.declared.invocation.Sectors.{Sectors}
+use Rattle.command_line.specs.declared.invocation.Transfer.{Transfer}
+use Rattle.stack_engine.specs.Stacks.{StackRecord}
+use Rattle.stack_meaning.specs.declared.fault.IoFault.{IoFault}
+use Rattle.request_queue.specs.declared.fault.SubmitFault.{SubmitFault}
+use Rattle.request_queue.specs.declared.reply.Reply.{Reply}
+use Rattle.request_queue.specs.Parts.{EachPart}
+use Rattle.request_queue.specs.Requests.{RequestRecord, a_read, a_write}
+use Rattle.request_queue.specs.WholeRuns.{RunAnswers}
+use Rattle.request_queue.specs.World.{Step, World, run, world}
+use Rattle.request_commands.specs.declared.fault.RequestFault.{RequestFault}
+use Rattle.request_commands.specs.declared.fault.RequestFault.TheVariants.{Io, NoMemory, Submit}
+
+-- a stack of which nothing was asked yet
+abbrev pub new_world : StackRecord → World
+new_world stack = world stack 0 []
+
+-- what is known of a request that is run: of each of its pieces, and of the whole
+pub record IsRun (w : World) (r : RequestRecord) (answer : Result (Result Reply IoFault) SubmitFault) (w' : World) : Type 0 where
+  pub each : Step EachPart w (run r answer) w'
+  pub whole : RunAnswers w r answer w'
+
+-- the request is served to its end, with that reply
+abbrev pub IsServed : World → RequestRecord → Reply → World → Type 0
+IsServed w r reply w' = IsRun w r (Ok (Ok reply)) w'
+
+-- why it isn't: it isn't begun, or the stack answered a fault, or memory ran out before
+abbrev pub FailsToServe : World → RequestRecord → RequestFault → World → Type 0
+FailsToServe w r (Submit fault) w' = IsRun w r (Err fault) w'
+FailsToServe w r (Io fault) w' = IsRun w r (Ok (Err fault)) w'
+FailsToServe w r NoMemory w' = w' ≡ w
+FailsToServe w r fault w' = ⊥
+
+-- the request for the sectors that are wanted
+abbrev pub read_request : Sectors → RequestRecord
+read_request sectors = a_read sectors.name.now sectors.first sectors.count
+
+-- the request to put bytes where a transfer's go
+abbrev pub write_request : Transfer → List ℕ → RequestRecord
+write_request transfer bytes = a_write transfer.name.now transfer.first bytes

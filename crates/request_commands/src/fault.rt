@@ -1,0 +1,63 @@
+//! Why a request isn't served.
+ghost use Rattle.std.specs.Prelude.{◌≡◌};
+ghost use Rattle.stack_making.specs.Endings.{opening_ending};
+ghost use Rattle.request_commands.specs.declared.fault.RequestFault.TheVariants as request_fault;
+
+use request_queue::SubmitFault;
+use stack_engine::IoFault;
+use stack_making::StackFault;
+use stack_opening::OpeningFault;
+use std::alloc::{AllocError, AllocFailed};
+
+/// Why a request of a stack isn't served.
+#[derive(Clone, Copy, Debug, PartialEq, Eq)]
+pub enum RequestFault<'a> {
+    /// Memory ran out before it was begun.
+    NoMemory,
+    /// There is no stack.
+    Stack(StackFault<'a>),
+    /// The sectors can't be asked for.
+    Submit(SubmitFault),
+    /// The stack answered a fault.
+    Io(IoFault),
+}
+
+impl From<AllocError> for RequestFault<'_> {
+    ghost from_gives = { λ _ fault. fault ≡ request_fault.NoMemory };
+
+    fn from(_error: AllocError) -> Self {
+        RequestFault::NoMemory
+    }
+}
+
+impl<T: Drop> From<AllocFailed<T>> for RequestFault<'_> {
+    ghost from_gives = { λ _ fault. fault ≡ request_fault.NoMemory };
+
+    fn from(_refused: AllocFailed<T>) -> Self {
+        RequestFault::NoMemory
+    }
+}
+
+impl<'a> From<OpeningFault<'a>> for RequestFault<'a> {
+    ghost from_gives = { λ fault given. given ≡ request_fault.Stack (opening_ending fault) };
+
+    fn from(fault: OpeningFault<'a>) -> Self {
+        RequestFault::Stack(StackFault::from(fault))
+    }
+}
+
+impl<'a> From<StackFault<'a>> for RequestFault<'a> {
+    ghost from_gives = { λ fault given. given ≡ request_fault.Stack fault };
+
+    fn from(fault: StackFault<'a>) -> Self {
+        RequestFault::Stack(fault)
+    }
+}
+
+impl From<IoFault> for RequestFault<'_> {
+    ghost from_gives = { λ fault given. given ≡ request_fault.Io fault };
+
+    fn from(fault: IoFault) -> Self {
+        RequestFault::Io(fault)
+    }
+}

@@ -1,0 +1,51 @@
+//! Sectors of a device are read by one request.
+ghost use Rattle.std.specs.Prelude.{IfOk, IfErr};
+ghost use Rattle.image_files.specs.Opener.{calls};
+ghost use Rattle.stack_opening.specs.OpenStacks.{stack_words};
+ghost use Rattle.request_commands.specs.Reads.{FailsToRead, ReadsSectors};
+ghost use Rattle.request_commands.specs.Requests.{FailsToServe, IsServed, read_request};
+
+use crate::fault::RequestFault;
+use crate::request::serve_request;
+use block_device::BlockDev;
+use command_line::Sectors;
+use image_files::Images;
+use request_queue::{Queue, Reply, Request};
+use stack_making::open_loaded;
+use stack_opening::StackFile;
+use std::alloc::Global;
+
+/// Sectors of a device of a stack file over the bindings, with a cache of so many hash blocks.
+pub fn read_sectors<'a, I: Images>(
+    alloc: Global,
+    images: &mut I,
+    file: StackFile<'a, '_>,
+    cache: u32,
+    sectors: Sectors<'_>,
+) -> Result<Reply, RequestFault<'a>>
+    ensures ok { IfOk result (ReadsSectors (calls I.relations I.Dev.state images.old images.new) (stack_words file.entry) cache (read_request sectors.entry)) }
+    ensures err { IfErr result (FailsToRead (calls I.relations I.Dev.state images.old images.new) (stack_words file.entry) cache (read_request sectors.entry)) }
+{
+    let stack = open_loaded(alloc, images, file, cache)?;
+    let mut queue = Queue::new(alloc, stack);
+    fetch(alloc, &mut queue, sectors)
+}
+
+// The sectors that are wanted.
+fn fetch<'a, D: BlockDev + Drop>(
+    alloc: Global,
+    queue: &mut Queue<D>,
+    sectors: Sectors<'_>,
+) -> Result<Reply, RequestFault<'a>>
+    ensures ok { IfOk result (λ reply. IsServed queue.old (read_request sectors.entry) reply queue.new) }
+    ensures err { IfErr result (λ fault. FailsToServe queue.old (read_request sectors.entry) fault queue.new) }
+{
+    let Sectors { name, first, count } = sectors;
+    let device = Vec::from_slice(alloc, name.as_bytes())?;
+    let request = Request::Read {
+        device,
+        first,
+        count,
+    };
+    serve_request(queue, request)
+}

@@ -1,0 +1,60 @@
+//! A file's bytes are written to a device by one request.
+ghost use Rattle.std.specs.Prelude.{OnOk, Ok, IfOk, IfErr};
+ghost use Rattle.image_files.specs.Opener.{calls};
+ghost use Rattle.stack_opening.specs.OpenStacks.{stack_words};
+ghost use Rattle.request_commands.specs.Requests.{FailsToServe, IsServed, write_request};
+ghost use Rattle.request_commands.specs.Writes.{IsPutEnd, PutsBack, put_words};
+
+use crate::fault::RequestFault;
+use crate::request::serve_request;
+use block_device::BlockDev;
+use command_line::Transfer;
+use image_files::Images;
+use request_queue::{Queue, Reply, Request};
+use stack_making::{close_stack, load_stack, sync_and_close};
+use stack_opening::{StackFile, open_with_source};
+use std::alloc::Global;
+
+/// The bytes of the source file to a device of a stack file over the bindings, whose images are synced and given back.
+pub fn write_source<'a, I: Images>(
+    alloc: Global,
+    images: &mut I,
+    file: StackFile<'a, '_>,
+    cache: u32,
+    transfer: Transfer<'a>,
+) -> Result<(), RequestFault<'a>>
+    ensures ok { OnOk result (PutsBack (calls I.relations I.Dev.state images.old images.new) (put_words (stack_words file.entry) cache transfer.entry.source.now (write_request transfer.entry)) (Ok tt)) }
+    ensures err { IfErr result (IsPutEnd (calls I.relations I.Dev.state images.old images.new) (put_words (stack_words file.entry) cache transfer.entry.source.now (write_request transfer.entry))) }
+{
+    let (over, source) = open_with_source(alloc, images, file, transfer.source)?;
+    let stack = load_stack(alloc, over, cache)?;
+    let mut queue = Queue::new(alloc, stack);
+    let outcome = store(alloc, &mut queue, transfer, source.bytes);
+    let stack = queue.into_stack();
+    match outcome {
+        Ok(_reply) => Ok(sync_and_close(images, file.bindings, stack)?),
+        Err(fault) => {
+            close_stack(images, file.bindings, stack);
+            Err(fault)
+        }
+    }
+}
+
+// Writes the bytes to the device from its first sector on.
+fn store<'a, D: BlockDev + Drop>(
+    alloc: Global,
+    queue: &mut Queue<D>,
+    transfer: Transfer<'_>,
+    bytes: Vec<u8>,
+) -> Result<Reply, RequestFault<'a>>
+    ensures ok { IfOk result (λ reply. IsServed queue.old (write_request transfer.entry bytes.items) reply queue.new) }
+    ensures err { IfErr result (λ fault. FailsToServe queue.old (write_request transfer.entry bytes.items) fault queue.new) }
+{
+    let device = Vec::from_slice(alloc, transfer.name.as_bytes())?;
+    let request = Request::Write {
+        device,
+        first: transfer.first,
+        bytes,
+    };
+    serve_request(queue, request)
+}

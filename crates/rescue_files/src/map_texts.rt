@@ -1,0 +1,59 @@
+//! What is printed of map files.
+ghost use Rattle.std.specs.Prelude.{◌≡◌};
+ghost use Rattle.counted_io.specs.Counted.{Writes};
+ghost use Rattle.rescue_files.specs.MapTexts.{map_fault_text, no_map_text, unreplaced_text};
+
+use crate::by_map::UnkeptMap;
+use crate::fault::RescueFault;
+use counted_io::{Counted, WriteFault};
+use image_files::UnopenedFile;
+use io_fault_text::{say_no_memory, say_refused, say_unopened};
+use rescue_map::MapFault;
+use std::io::Write;
+use text_files::ReplaceFault;
+
+/// One line, or none where the writer failed.
+pub fn say_map_fault<W: Write>(
+    writer: &mut Counted<W>,
+    map: UnkeptMap<'_>,
+) -> Result<(), WriteFault>
+    ensures { Writes W.contents writer.old writer.new (map_fault_text map.entry) result }
+{
+    let UnkeptMap { path, fault } = map;
+    match fault {
+        RescueFault::NoMemory => say_no_memory(writer),
+        RescueFault::Unread(fault) => say_unopened(writer, UnopenedFile { fault, path }),
+        RescueFault::TooLong => say_refused(writer, 30, "MapTooLong"),
+        RescueFault::NoMap(fault) => say_no_map(writer, fault),
+        RescueFault::Output => writer.put(b"refused 2 Device\n"),
+        RescueFault::Write => Ok(()),
+        RescueFault::Unwritten(fault) => say_unreplaced(writer, fault),
+    }
+}
+
+// Why a text isn't a map of the device.
+fn say_no_map<W: Write>(writer: &mut Counted<W>, fault: MapFault) -> Result<(), WriteFault>
+    ensures { Writes W.contents writer.old writer.new (no_map_text fault) result }
+{
+    match fault {
+        MapFault::NoMemory => say_no_memory(writer),
+        MapFault::Status => say_refused(writer, 24, "MapStatus"),
+        MapFault::Block => say_refused(writer, 25, "MapBlock"),
+        MapFault::PartSector => say_refused(writer, 26, "MapPartSector"),
+        MapFault::Gap => say_refused(writer, 27, "MapGap"),
+        MapFault::Overlap => say_refused(writer, 28, "MapOverlap"),
+        MapFault::Size => say_refused(writer, 29, "MapSize"),
+    }
+}
+
+// Why a map file isn't replaced.
+fn say_unreplaced<W: Write>(writer: &mut Counted<W>, fault: ReplaceFault) -> Result<(), WriteFault>
+    ensures { Writes W.contents writer.old writer.new (unreplaced_text fault) result }
+{
+    match fault {
+        ReplaceFault::NoMemory => say_no_memory(writer),
+        ReplaceFault::Write => say_refused(writer, 31, "MapWrite"),
+        ReplaceFault::Sync => say_refused(writer, 32, "MapSync"),
+        ReplaceFault::Rename => say_refused(writer, 33, "MapRename"),
+    }
+}

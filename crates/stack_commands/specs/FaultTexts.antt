@@ -1,0 +1,91 @@
+-- What is printed of faults of stacks, of requests, of devices that are gone over, and of their bytes; and the statuses.
+use Rattle.std.specs.Prelude.{ℕ, List, [], ◌++◌, codes, decimal}
+use Rattle.io_fault_text.specs.Opening.{open_text}
+use Rattle.io_fault_text.specs.Texts.{io_text, no_memory, refused_text}
+use Rattle.stack_meaning.specs.declared.fault.IoFault.{IoFault}
+use Rattle.stack_meaning.specs.declared.fault.IoFault.TheVariants as io
+use Rattle.stack_rules.specs.declared.refusal.ConfigFault.{ConfigFault}
+use Rattle.stack_rules.specs.declared.refusal.ConfigFault.TheVariants as config
+use Rattle.stack_rules.specs.FaultKinds.{config_number, config_name}
+use Rattle.stack_making.specs.declared.fault.StackFault.{StackFault}
+use Rattle.stack_making.specs.declared.fault.StackFault.TheVariants as stack
+use Rattle.request_queue.specs.declared.fault.SubmitFault.TheVariants.{NoSuchDevice}
+use Rattle.request_commands.specs.declared.fault.RequestFault.{RequestFault}
+use Rattle.request_commands.specs.declared.fault.RequestFault.TheVariants as request
+use Rattle.recovery_commands.specs.declared.fault.RecoveringFault.{RecoveringFault}
+use Rattle.recovery_commands.specs.declared.fault.RecoveringFault.TheVariants as recovering
+use Rattle.recovery_commands.specs.Recovering.{counts_text}
+use Rattle.stack_streams.specs.declared.fault.StreamFault.{StreamFault}
+use Rattle.stack_streams.specs.declared.fault.StreamFault.TheVariants as stream
+use Rattle.stack_streams.specs.StreamTexts.{cat_status, cat_text, store_status, store_text}
+use Rattle.stack_session.specs.Texts.{fault_text, refusal_text, submit_text}
+
+-- ---- of stacks
+
+-- a part that isn't inside its file
+abbrev pub outside_text : List ℕ → List ℕ
+outside_text path = codes "refused 23 OutsideFile " ++ (path ++ codes "\n")
+
+-- leaves that aren't taken
+abbrev pub config_text : ConfigFault → List ℕ
+config_text config.NoMemory = no_memory
+config_text fault = refused_text (config_number fault) (config_name fault)
+
+abbrev pub stack_text : StackFault → List ℕ
+stack_text stack.NoMemory = no_memory
+stack_text stack.TooLong = codes "refused input\n"
+stack_text (stack.Open file) = open_text file
+stack_text (stack.Outside path) = outside_text path.now
+stack_text (stack.Leaves fault) = config_text fault
+stack_text (stack.Text fault) = fault_text fault
+stack_text (stack.Load refusal) = refusal_text refusal
+stack_text stack.NoSuchDevice = submit_text NoSuchDevice
+
+-- ---- of requests
+
+abbrev pub request_text : RequestFault → List ℕ
+request_text request.NoMemory = no_memory
+request_text (request.Stack fault) = stack_text fault
+request_text (request.Submit fault) = submit_text fault
+request_text (request.Io fault) = io_text fault
+
+-- 3 for a fault of the stack
+abbrev pub io_status : IoFault → ℕ
+io_status io.NoMemory = 1
+io_status fault = 3
+
+abbrev pub request_status : RequestFault → ℕ
+request_status (request.Io fault) = io_status fault
+request_status fault = 1
+
+-- ---- of devices that are gone over
+
+-- an image to which a device isn't copied, with the sectors that it needs
+abbrev pub too_small_text : ℕ → List ℕ
+too_small_text needed = codes "refused 1 TooSmall needed " ++ (decimal needed ++ codes "\n")
+
+abbrev pub recovering_text : RecoveringFault → List ℕ
+recovering_text recovering.NoMemory = no_memory
+recovering_text (recovering.Stack fault) = stack_text fault
+recovering_text (recovering.Lost read lost) = counts_text read lost
+recovering_text (recovering.OutputTooSmall needed) = too_small_text needed
+recovering_text recovering.OutputFailed = codes "refused 2 Device\n"
+recovering_text recovering.Write = []
+
+-- 3 for lost sectors
+abbrev pub recovering_status : RecoveringFault → ℕ
+recovering_status (recovering.Lost read lost) = 3
+recovering_status fault = 1
+
+-- ---- of the bytes of a device
+
+abbrev pub stream_text : StreamFault → List ℕ
+stream_text (stream.Stack fault) = stack_text fault
+stream_text (stream.Cat fault) = cat_text fault
+stream_text (stream.Store fault) = store_text fault
+stream_text stream.Write = []
+
+abbrev pub stream_status : StreamFault → ℕ
+stream_status (stream.Cat fault) = cat_status fault
+stream_status (stream.Store fault) = store_status fault
+stream_status fault = 1

@@ -1,0 +1,151 @@
+//! What is printed of faults of stacks, of requests, of devices that are gone over, and of their bytes; and the statuses.
+ghost use Rattle.std.specs.Prelude.{◌≡◌};
+ghost use Rattle.counted_io.specs.Counted.{Writes};
+ghost use Rattle.stack_commands.specs.FaultTexts.{config_text, io_status, outside_text, recovering_status, recovering_text, request_status, request_text, stack_text, stream_status, stream_text, too_small_text};
+
+use counted_io::{Counted, WriteFault};
+use io_fault_text::{say_io_fault, say_no_memory, say_refused, say_unopened};
+use recovery_commands::{RecoveringFault, say_counts};
+use request_commands::RequestFault;
+use request_queue::SubmitFault;
+use stack_engine::IoFault;
+use stack_loader::ConfigFault;
+use stack_making::StackFault;
+use stack_session::{say_refusal, say_submit_fault, say_text_fault};
+use stack_streams::{StreamFault, cat_status, say_cat_fault, say_store_fault, store_status};
+use std::io::Write;
+
+const REFUSED: u8 = 1;
+
+const FAULT: u8 = 3;
+
+/// One line.
+pub fn say_stack_fault<W: Write>(
+    writer: &mut Counted<W>,
+    fault: StackFault<'_>,
+) -> Result<(), WriteFault>
+    ensures { Writes W.contents writer.old writer.new (stack_text fault.entry) result }
+{
+    match fault {
+        StackFault::NoMemory => say_no_memory(writer),
+        StackFault::TooLong => writer.put(b"refused input\n"),
+        StackFault::Open(file) => say_unopened(writer, file),
+        StackFault::Outside(path) => say_outside(writer, path),
+        StackFault::Leaves(fault) => say_config_fault(writer, fault),
+        StackFault::Text(fault) => say_text_fault(writer, fault),
+        StackFault::Load(refusal) => say_refusal(writer, refusal),
+        StackFault::NoSuchDevice => say_submit_fault(writer, SubmitFault::NoSuchDevice),
+    }
+}
+
+// `refused 23 OutsideFile PATH`
+fn say_outside<W: Write>(writer: &mut Counted<W>, path: &str) -> Result<(), WriteFault>
+    ensures { Writes W.contents writer.old writer.new (outside_text path.now) result }
+{
+    writer.print(format_args!("refused 23 OutsideFile {path}\n"))
+}
+
+// `refused K NAME`
+fn say_config_fault<W: Write>(writer: &mut Counted<W>, fault: ConfigFault) -> Result<(), WriteFault>
+    ensures { Writes W.contents writer.old writer.new (config_text fault) result }
+{
+    if fault == ConfigFault::NoMemory {
+        return say_no_memory(writer);
+    }
+    say_refused(writer, fault.number(), fault.name())
+}
+
+/// One line.
+pub fn say_request_fault<W: Write>(
+    writer: &mut Counted<W>,
+    fault: RequestFault<'_>,
+) -> Result<(), WriteFault>
+    ensures { Writes W.contents writer.old writer.new (request_text fault.entry) result }
+{
+    match fault {
+        RequestFault::NoMemory => say_no_memory(writer),
+        RequestFault::Stack(fault) => say_stack_fault(writer, fault),
+        RequestFault::Submit(fault) => say_submit_fault(writer, fault),
+        RequestFault::Io(fault) => say_io_fault(writer, fault),
+    }
+}
+
+/// 3 for a fault of the stack, else 1.
+pub fn request_status(fault: RequestFault<'_>) -> u8
+    ensures { result ≡ request_status fault.entry }
+{
+    match fault {
+        RequestFault::Io(fault) => io_status(fault),
+        _ => REFUSED,
+    }
+}
+
+/// 3, or 1 where memory ran out.
+pub fn io_status(fault: IoFault) -> u8
+    ensures { result ≡ io_status fault }
+{
+    match fault {
+        IoFault::NoMemory => REFUSED,
+        _ => FAULT,
+    }
+}
+
+/// One line, or none where the writer failed.
+pub fn say_recovering_fault<W: Write>(
+    writer: &mut Counted<W>,
+    fault: RecoveringFault<'_>,
+) -> Result<(), WriteFault>
+    ensures { Writes W.contents writer.old writer.new (recovering_text fault.entry) result }
+{
+    match fault {
+        RecoveringFault::NoMemory => say_no_memory(writer),
+        RecoveringFault::Stack(fault) => say_stack_fault(writer, fault),
+        RecoveringFault::Lost { read, lost } => say_counts(writer, read, lost),
+        RecoveringFault::OutputTooSmall { needed } => say_too_small(writer, needed),
+        RecoveringFault::OutputFailed => writer.put(b"refused 2 Device\n"),
+        RecoveringFault::Write => Ok(()),
+    }
+}
+
+// `refused 1 TooSmall needed N`
+fn say_too_small<W: Write>(writer: &mut Counted<W>, needed: u64) -> Result<(), WriteFault>
+    ensures { Writes W.contents writer.old writer.new (too_small_text needed) result }
+{
+    writer.print(format_args!("refused 1 TooSmall needed {needed}\n"))
+}
+
+/// 3 for lost sectors, else 1.
+pub fn recovering_status(fault: RecoveringFault<'_>) -> u8
+    ensures { result ≡ recovering_status fault.entry }
+{
+    match fault {
+        RecoveringFault::Lost { .. } => FAULT,
+        _ => REFUSED,
+    }
+}
+
+/// One line, two, or none where the writer failed.
+pub fn say_stream_fault<W: Write>(
+    writer: &mut Counted<W>,
+    fault: StreamFault<'_>,
+) -> Result<(), WriteFault>
+    ensures { Writes W.contents writer.old writer.new (stream_text fault.entry) result }
+{
+    match fault {
+        StreamFault::Stack(fault) => say_stack_fault(writer, fault),
+        StreamFault::Cat(fault) => say_cat_fault(writer, fault),
+        StreamFault::Store(fault) => say_store_fault(writer, fault),
+        StreamFault::Write => Ok(()),
+    }
+}
+
+/// 3 for a fault of the stack, else 1.
+pub fn stream_status(fault: StreamFault<'_>) -> u8
+    ensures { result ≡ stream_status fault.entry }
+{
+    match fault {
+        StreamFault::Cat(fault) => cat_status(fault),
+        StreamFault::Store(fault) => store_status(fault),
+        _ => REFUSED,
+    }
+}

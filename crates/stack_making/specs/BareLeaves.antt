@@ -1,0 +1,37 @@
+-- The stack of no mapped device over the leaves of bindings.
+use Rattle.std.specs.Prelude.{◌≡◌, ◌⊎◌, ℕ, List, [], map, Some}
+use Rattle.command_line.specs.Bindings.{BindingRecord}
+use Rattle.image_files.specs.Opener.{Calls}
+use Rattle.stack_rules.specs.Leaves.{first_fault}
+use Rattle.stack_rules.specs.Records.{LeafRecord}
+use Rattle.stack_engine.specs.Pieces.{stack_over}
+use Rattle.stack_engine.specs.Stacks.{StackRecord}
+use Rattle.stack_opening.specs.declared.leaves.OpenLeaves.{OpenLeaves}
+use Rattle.stack_opening.specs.Bindings.{AreBound}
+use Rattle.stack_opening.specs.Openings.{IsBindingEnd}
+use Rattle.stack_making.specs.declared.fault.StackFault.{StackFault}
+use Rattle.stack_making.specs.declared.fault.StackFault.TheVariants.{Leaves, NoMemory}
+use Rattle.stack_making.specs.Configuration.{leaves_alone}
+use Rattle.stack_making.specs.Endings.{IsOpeningEnd}
+
+-- the bindings' images were opened, and the stack stands on their leaves, with a cache of so many hash blocks
+pub record StandsOnLeaves {S D : Type 0} (w : Calls S D) (bindings : List BindingRecord) (cache : ℕ) (stack : StackRecord) : Type 0 where
+  pub over : OpenLeaves D
+  pub bound : AreBound w [] bindings over.leaves.items over.devices.items
+  pub is : stack ≡ stack_over (leaves_alone over.leaves.items) (map w.state over.devices.items) cache
+
+-- leaves are refused, or memory ran out
+abbrev pub RefusesLeaves : List LeafRecord → StackFault → Type 0
+RefusesLeaves leaves (Leaves fault) = first_fault leaves ≡ Some fault
+RefusesLeaves leaves NoMemory = Unit {0}
+RefusesLeaves leaves fault = ⊥
+
+-- those of the bindings were opened, and aren't taken
+pub record FailsToTake {S D : Type 0} (w : Calls S D) (bindings : List BindingRecord) (fault : StackFault) : Type 0 where
+  pub over : OpenLeaves D
+  pub bound : AreBound w [] bindings over.leaves.items over.devices.items
+  pub refused : RefusesLeaves over.leaves.items fault
+
+-- that, or an image isn't opened
+abbrev pub FailsToStand : {S D : Type 0} → Calls S D → List BindingRecord → StackFault → Type 0
+FailsToStand w bindings fault = IsOpeningEnd (IsBindingEnd w [] bindings) fault ⊎ FailsToTake w bindings fault

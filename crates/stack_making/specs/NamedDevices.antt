@@ -1,0 +1,76 @@
+-- A mapped device of a stack, by its name.
+use Rattle.std.specs.Prelude.{◌≡◌, ◌⊎◌, ℕ, List, Some, None, Ok}
+use Rattle.block_device.specs.Device.{Device}
+use Rattle.image_files.specs.declared.images.OpenImage.{OpenImage}
+use Rattle.image_files.specs.Opener.{Calls}
+use Rattle.stack_rules.specs.Names.{device_named}
+use Rattle.stack_rules.specs.Records.{Configuration}
+use Rattle.stack_engine.specs.Stacks.{StackRecord}
+use Rattle.stack_opening.specs.declared.stack_file.OpenStack.{OpenStack}
+use Rattle.stack_opening.specs.OpenStacks.{FailsToOpenOutput, OpensOutput, OpensStack, StackWords}
+use Rattle.stack_making.specs.declared.fault.StackFault.{StackFault}
+use Rattle.stack_making.specs.declared.fault.StackFault.TheVariants.{NoSuchDevice}
+use Rattle.stack_making.specs.Configuration.{configuration_of}
+use Rattle.stack_making.specs.Endings.{IsOpeningEnd}
+use Rattle.stack_making.specs.StacksOfTexts.{FailsBehind, FailsToLoad, IsStackOf, Loads}
+
+-- a mapped device of a stack
+pub record Place : Type 0 where
+  pub stack : StackRecord
+  pub d : ℕ
+
+abbrev pub place_of : StackRecord → ℕ → Place
+place_of stack d = record { stack = stack; d = d }
+
+-- the device of that name, of the stack that the text makes of the open leaves
+pub record HasDevice {D : Type 0} (state : D → Device) (name : List ℕ) (over : OpenStack D) (cache : ℕ) (at : Place) : Type 0 where
+  pub made : IsStackOf state over cache at.stack
+  pub named : device_named at.stack.config name ≡ Some at.d
+
+-- the text makes a configuration that has none of that name
+pub record IsUnnamed {D : Type 0} (name : List ℕ) (over : OpenStack D) (fault : StackFault) : Type 0 where
+  pub config : Configuration
+  pub makes : configuration_of over.leaves.items over.text.bytes.items ≡ Ok config
+  pub none : device_named config name ≡ None
+  pub is : fault ≡ NoSuchDevice
+
+-- that, or the text makes no stack
+abbrev pub FailsToFind : {D : Type 0} → List ℕ → OpenStack D → StackFault → Type 0
+FailsToFind name over fault = FailsToLoad over fault ⊎ IsUnnamed name over fault
+
+-- ---- of a stack file
+
+-- a stack file and bindings, the name of a device, and how many hash blocks are kept
+pub record DeviceWords : Type 0 where
+  pub words : StackWords
+  pub name : List ℕ
+  pub cache : ℕ
+
+abbrev pub device_words : StackWords → List ℕ → ℕ → DeviceWords
+device_words words name cache = record { words = words; name = name; cache = cache }
+
+-- the device of that name, of the stack that STACK's text makes of the bindings' leaves
+pub record Finds {S D : Type 0} (w : Calls S D) (words : DeviceWords) (at : Place) : Type 0 where
+  pub loaded : Loads w words.words words.cache at.stack
+  pub named : device_named at.stack.config words.name ≡ Some at.d
+
+abbrev pub FailsToFindDevice : {S D : Type 0} → Calls S D → DeviceWords → StackFault → Type 0
+FailsToFindDevice w words fault = FailsBehind w words.words (FailsToFind words.name) fault
+
+-- ---- beside an image that is copied to
+
+-- all was opened, and there is such a device
+pub record FindsOutput {S D : Type 0} (w : Calls S D) (words : DeviceWords) (out : List ℕ) (at : Place) (image : OpenImage D) : Type 0 where
+  pub over : OpenStack D
+  pub opened : OpensOutput w words.words out over image
+  pub has : HasDevice w.state words.name over words.cache at
+
+-- all is open, but the text makes no stack or there is no such device
+pub record FindsNone {S D : Type 0} (w : Calls S D) (words : DeviceWords) (out : List ℕ) (fault : StackFault) : Type 0 where
+  pub over : OpenStack D
+  pub image : OpenImage D
+  pub opened : OpensOutput w words.words out over image
+  pub fails : FailsToFind words.name over fault
+
+abbrev pub FailsToFindOutput : {S D : Type 0} → Calls S D → DeviceWords → List ℕ → StackFault → Type 0
+FailsToFindOutput w words out fault = IsOpeningEnd (FailsToOpenOutput w words.words out) fault ⊎ FindsNone w words out fault

@@ -1,0 +1,46 @@
+-- The stack that a text makes of open leaves, and of a stack file's bindings.
+use Rattle.std.specs.Prelude.{◌≡◌, ◌⊎◌, ℕ, map, Ok, Err}
+use Rattle.block_device.specs.Device.{Device}
+use Rattle.image_files.specs.Opener.{Calls}
+use Rattle.stack_rules.specs.Records.{Configuration}
+use Rattle.stack_engine.specs.Pieces.{stack_over}
+use Rattle.stack_engine.specs.Stacks.{StackRecord}
+use Rattle.stack_opening.specs.declared.stack_file.OpenStack.{OpenStack}
+use Rattle.stack_opening.specs.OpenStacks.{FailsToOpen, OpensStack, StackWords}
+use Rattle.stack_making.specs.declared.fault.StackFault.{StackFault}
+use Rattle.stack_making.specs.declared.fault.StackFault.TheVariants.{NoMemory}
+use Rattle.stack_making.specs.Configuration.{configuration_of}
+use Rattle.stack_making.specs.Endings.{IsOpeningEnd}
+
+-- the stack of the configuration that the text makes of the open leaves, over their devices, with a cache of so many hash
+-- blocks of which none is kept
+pub record IsStackOf {D : Type 0} (state : D → Device) (over : OpenStack D) (cache : ℕ) (stack : StackRecord) : Type 0 where
+  pub config : Configuration
+  pub makes : configuration_of over.leaves.items over.text.bytes.items ≡ Ok config
+  pub is : stack ≡ stack_over config (map state over.devices.items) cache
+
+-- the text makes none, or memory runs out
+abbrev pub FailsToLoad : {D : Type 0} → OpenStack D → StackFault → Type 0
+FailsToLoad over fault = (configuration_of over.leaves.items over.text.bytes.items ≡ Err fault) ⊎ (fault ≡ NoMemory)
+
+-- ---- of a stack file
+
+-- the configuration that STACK's text makes of the bindings' leaves
+pub record Configures {S D : Type 0} (w : Calls S D) (words : StackWords) (config : Configuration) : Type 0 where
+  pub over : OpenStack D
+  pub opened : OpensStack w words over
+  pub makes : configuration_of over.leaves.items over.text.bytes.items ≡ Ok config
+
+-- the stack that it makes of them
+pub record Loads {S D : Type 0} (w : Calls S D) (words : StackWords) (cache : ℕ) (stack : StackRecord) : Type 0 where
+  pub over : OpenStack D
+  pub opened : OpensStack w words over
+  pub made : IsStackOf w.state over cache stack
+
+-- what is named isn't opened, or this is said of what is open
+abbrev pub FailsBehind : {S D : Type 0} → Calls S D → StackWords → (OpenStack D → StackFault → Type 0) → StackFault → Type 0
+FailsBehind {S} {D} w words Fails fault =
+    IsOpeningEnd (FailsToOpen w words) fault ⊎ ((over : OpenStack D) × OpensStack w words over × Fails over fault)
+
+abbrev pub FailsToLoadFile : {S D : Type 0} → Calls S D → StackWords → StackFault → Type 0
+FailsToLoadFile w words fault = FailsBehind w words FailsToLoad fault

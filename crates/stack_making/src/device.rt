@@ -1,0 +1,85 @@
+//! A mapped device of a stack, by its name.
+ghost use Rattle.std.specs.Prelude.{◌≡◌, ◌≤◌, ◌<◌, ◌^◌, length, map, true, IfOk, IfErr};
+ghost use Rattle.image_files.specs.Opener.{calls};
+ghost use Rattle.stack_meaning.specs.Leaves.{ServeLeaves};
+ghost use Rattle.stack_opening.specs.OpenStacks.{stack_words};
+ghost use Rattle.stack_making.specs.NamedDevices.{FailsToFind, FailsToFindDevice, FailsToFindOutput, Finds, FindsOutput, HasDevice, device_words, place_of};
+
+use crate::configuration::configuration_of;
+use crate::fault::StackFault;
+use crate::stack::stack_on;
+use block_device::BlockDev;
+use image_files::{Images, OpenImage};
+use stack_config::DevId;
+use stack_engine::Stack;
+use stack_opening::{OpenStack, StackFile, open_stack, open_with_output};
+use std::alloc::Global;
+
+/// A mapped device by its name, and how many hash blocks are kept.
+#[derive(Clone, Copy, Debug, PartialEq, Eq)]
+pub struct NamedDevice<'a> {
+    pub name: &'a str,
+    pub cache: u32,
+}
+
+/// The stack that a stack file's text makes of the leaves of its bindings, and its device of that name.
+pub fn open_device<'a, I: Images>(
+    alloc: Global,
+    images: &mut I,
+    file: StackFile<'a, '_>,
+    device: NamedDevice<'_>,
+) -> Result<(Stack<I::Dev>, DevId), StackFault<'a>>
+    ensures ok { IfOk result (λ found. Finds (calls I.relations I.Dev.state images.old images.new) (device_words (stack_words file.entry) device.entry.name.now device.entry.cache) (place_of found.0 found.1.0)) }
+    ensures there { IfOk result (λ found. found.1.0 < length found.0.config.devices) }
+    ensures err { IfErr result (FailsToFindDevice (calls I.relations I.Dev.state images.old images.new) (device_words (stack_words file.entry) device.entry.name.now device.entry.cache)) }
+{
+    let over = open_stack(alloc, images, file)?;
+    find_device(alloc, over, device)
+}
+
+/// The same, and beside it an image that is copied to, which may not be the stack file.
+pub fn open_device_and_output<'a, I: Images>(
+    alloc: Global,
+    images: &mut I,
+    file: StackFile<'a, '_>,
+    device: NamedDevice<'_>,
+    out: &'a str,
+) -> Result<(Stack<I::Dev>, DevId, OpenImage<I::Dev>), StackFault<'a>>
+    ensures ok { IfOk result (λ found. FindsOutput (calls I.relations I.Dev.state images.old images.new) (device_words (stack_words file.entry) device.entry.name.now device.entry.cache) out.now (place_of found.0 found.1.0) found.2) }
+    ensures there { IfOk result (λ found. found.1.0 < length found.0.config.devices) }
+    ensures writable { IfOk result (λ found. (I.Dev.state found.2.device).may_write ≡ true) }
+    ensures err { IfErr result (FailsToFindOutput (calls I.relations I.Dev.state images.old images.new) (device_words (stack_words file.entry) device.entry.name.now device.entry.cache) out.now) }
+{
+    let (over, image) = open_with_output(alloc, images, file, out)?;
+    let (stack, device) = find_device(alloc, over, device)?;
+    Ok((stack, device, image))
+}
+
+/// The stack that a text makes of the open leaves, and its device of that name.
+pub fn find_device<'a, D: BlockDev + Drop>(
+    alloc: Global,
+    over: OpenStack<D>,
+    device: NamedDevice<'_>,
+) -> Result<(Stack<D>, DevId), StackFault<'a>>
+    requires text { length over.text.bytes.items ≤ 2 ^ 20 }
+    requires served { ServeLeaves over.leaves.items (map D.state over.devices.items) }
+    ensures ok { IfOk result (λ found. HasDevice D.state device.entry.name.now over device.entry.cache (place_of found.0 found.1.0)) }
+    ensures there { IfOk result (λ found. found.1.0 < length found.0.config.devices) }
+    ensures err { IfErr result (FailsToFind device.entry.name.now over) }
+{
+    let NamedDevice { name, cache } = device;
+    let OpenStack {
+        text,
+        leaves,
+        devices,
+    } = over;
+    let config = match configuration_of(alloc, leaves, text.bytes.as_slice()) {
+        Ok(config) => config,
+        Err(fault) => return Err(fault),
+    };
+    // A name that isn't there is told before any room is asked for the stack's cache.
+    match config.device(name.as_bytes()) {
+        Some(device) => Ok((stack_on(alloc, config, devices, cache)?, device)),
+        None => Err(StackFault::NoSuchDevice),
+    }
+}

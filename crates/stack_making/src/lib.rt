@@ -1,0 +1,15 @@
+//! The stack that the text of a stack file makes over the images of its bindings: loaded, a device of it found by its name, and the
+//! images given back.
+#![tactic(auto)]
+
+mod closing;
+mod configuration;
+mod device;
+mod fault;
+mod stack;
+
+pub use closing::{close_stack, sync_and_close};
+pub use configuration::open_configuration;
+pub use device::{NamedDevice, find_device, open_device, open_device_and_output};
+pub use fault::StackFault;
+pub use stack::{load_stack, open_leaves, open_loaded};

@@ -1,0 +1,89 @@
+//! Stacks of configurations, with a cache of so many hash blocks.
+ghost use Rattle.std.specs.Prelude.{◌≡◌, ◌≤◌, ◌^◌, length, map, IfOk, IfErr};
+ghost use Rattle.command_line.specs.Bindings.{binding_record};
+ghost use Rattle.image_files.specs.Opener.{calls};
+ghost use Rattle.stack_meaning.specs.Leaves.{ServeLeaves};
+ghost use Rattle.stack_engine.specs.Pieces.{stack_over};
+ghost use Rattle.stack_opening.specs.OpenStacks.{stack_words};
+ghost use Rattle.stack_making.specs.BareLeaves.{FailsToStand, StandsOnLeaves};
+ghost use Rattle.stack_making.specs.StacksOfTexts.{FailsToLoad, FailsToLoadFile, IsStackOf, Loads};
+
+use crate::configuration::configuration_of;
+use crate::fault::StackFault;
+use block_device::BlockDev;
+use command_line::Binding;
+use image_files::Images;
+use stack_config::Config;
+use stack_engine::Stack;
+use stack_loader::config_over;
+use stack_opening::{OpenLeaves, OpenStack, StackFile, open_all, open_stack};
+use std::alloc::Global;
+
+/// The stack that a stack file's text makes of the leaves of its bindings.
+pub fn open_loaded<'a, I: Images>(
+    alloc: Global,
+    images: &mut I,
+    file: StackFile<'a, '_>,
+    cache: u32,
+) -> Result<Stack<I::Dev>, StackFault<'a>>
+    ensures ok { IfOk result (Loads (calls I.relations I.Dev.state images.old images.new) (stack_words file.entry) cache) }
+    ensures err { IfErr result (FailsToLoadFile (calls I.relations I.Dev.state images.old images.new) (stack_words file.entry)) }
+{
+    let over = open_stack(alloc, images, file)?;
+    load_stack(alloc, over, cache)
+}
+
+/// The stack of no mapped device over the leaves of bindings alone.
+pub fn open_leaves<'a, I: Images>(
+    alloc: Global,
+    images: &mut I,
+    bindings: &[Binding<'a>],
+    cache: u32,
+) -> Result<Stack<I::Dev>, StackFault<'a>>
+    ensures ok { IfOk result (StandsOnLeaves (calls I.relations I.Dev.state images.old images.new) (map binding_record bindings.now) cache) }
+    ensures err { IfErr result (FailsToStand (calls I.relations I.Dev.state images.old images.new) (map binding_record bindings.now)) }
+{
+    let OpenLeaves { leaves, devices } = open_all(alloc, images, &[], bindings)?;
+    let config = config_over(alloc, leaves)?;
+    stack_on(alloc, config, devices, cache)
+}
+
+/// The stack that a text makes of the open leaves.
+pub fn load_stack<'a, D: BlockDev + Drop>(
+    alloc: Global,
+    over: OpenStack<D>,
+    cache: u32,
+) -> Result<Stack<D>, StackFault<'a>>
+    requires text { length over.text.bytes.items ≤ 2 ^ 20 }
+    requires served { ServeLeaves over.leaves.items (map D.state over.devices.items) }
+    ensures ok { IfOk result (IsStackOf D.state over cache) }
+    ensures err { IfErr result (FailsToLoad over) }
+{
+    let OpenStack {
+        text,
+        leaves,
+        devices,
+    } = over;
+    let config = match configuration_of(alloc, leaves, text.bytes.as_slice()) {
+        Ok(config) => config,
+        Err(fault) => return Err(fault),
+    };
+    stack_on(alloc, config, devices, cache)
+}
+
+/// The stack of a configuration over the devices of its leaves.
+pub fn stack_on<'a, D: BlockDev + Drop>(
+    alloc: Global,
+    config: Config,
+    devices: Vec<D>,
+    cache: u32,
+) -> Result<Stack<D>, StackFault<'a>>
+    requires { ServeLeaves config.leaves (map D.state devices.items) }
+    ensures ok { IfOk result (λ stack. stack ≡ stack_over config (map D.state devices.items) cache) }
+    ensures err { IfErr result (λ fault. fault ≡ StackFault.NoMemory) }
+{
+    match Stack::new(alloc, config, devices, cache) {
+        Ok(stack) => Ok(stack),
+        Err(_) => Err(StackFault::NoMemory),
+    }
+}

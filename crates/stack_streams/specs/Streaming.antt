@@ -1,0 +1,103 @@
+-- What `cat` and `store` do with a device's bytes, and how they end early.
+use Rattle.std.specs.Prelude.{◌≡◌, ◌⊎◌, ℕ, ◌-◌, Bool, true, List, Option, Some, None}
+use Rattle.std.specs.Io.KnownBytes.{Appends}
+use Rattle.counted_io.specs.Streams.{Streams}
+use Rattle.image_files.specs.Opener.{Calls}
+use Rattle.stack_rules.specs.Names.{mapped, size}
+use Rattle.stack_engine.specs.Stacks.{StackRecord}
+use Rattle.stack_streams.specs.declared.input.StorePlace.{StorePlace}
+use Rattle.stack_streams.specs.declared.output.SectorRange.{SectorRange}
+use Rattle.stack_streams.specs.Cats.{CatSide, IsCat, IsCatEnd, cat_side}
+use Rattle.stack_streams.specs.Stores.{IsStoreEnd, StoreSide, Stores, store_side}
+use Rattle.stack_streams.specs.declared.fault.StreamFault.{StreamFault}
+use Rattle.stack_streams.specs.declared.fault.StreamFault.TheVariants.{Cat, Stack, Store, Write}
+use Rattle.stack_streams.specs.StreamTexts.{stored_text}
+use Rattle.stack_making.specs.declared.fault.StackFault.{StackFault}
+use Rattle.stack_making.specs.Closings.{IsGivenBack}
+use Rattle.stack_making.specs.NamedDevices.{DeviceWords, FailsToFindDevice, Finds, Place}
+
+-- there is no such device
+abbrev pub IsStackless : (StackFault → Type 0) → StreamFault → Type 0
+IsStackless Fails (Stack fault) = Fails fault
+IsStackless Fails fault = ⊥
+
+-- a line can't be written: the writer failed
+abbrev pub IsUnwritten : Bool → StreamFault → Type 0
+IsUnwritten failed Write = failed ≡ true
+IsUnwritten failed fault = ⊥
+
+-- ---- `cat`
+
+-- how many sectors are wanted: all from the first one on where no count is said
+abbrev pub count_from : Option ℕ → ℕ → ℕ → ℕ
+count_from None first sectors = sectors - first
+count_from (Some count) first sectors = count
+
+-- which sectors of a device those are
+abbrev pub wanted_of : Place → ℕ → Option ℕ → SectorRange
+wanted_of at first count = record { first = first; count = count_from count first (size at.stack.config (mapped at.d)) }
+
+-- their bytes were written, and nothing else
+pub record PrintsBytes {S D : Type 0} (w : Calls S D) (words : DeviceWords) (first : ℕ) (count : Option ℕ) (old new : Option (List ℕ)) : Type 0 where
+  pub at : Place
+  pub left : StackRecord
+  pub found : Finds w words at
+  pub written : IsCat at.d first (wanted_of at first count).count (cat_side at.stack old) (cat_side left new)
+
+-- not all of them were
+abbrev pub IsCatFault : ℕ → SectorRange → CatSide → CatSide → Bool → StreamFault → Type 0
+IsCatFault d range old new failed (Cat fault) = IsCatEnd d range old new failed fault
+IsCatFault d range old new failed fault = ⊥
+
+pub record FailsToCat {S D : Type 0} (w : Calls S D) (words : DeviceWords) (first : ℕ) (count : Option ℕ) (old new : Option (List ℕ)) (failed : Bool) (fault : StreamFault) : Type 0 where
+  pub at : Place
+  pub left : StackRecord
+  pub found : Finds w words at
+  pub fails : IsCatFault at.d (wanted_of at first count) (cat_side at.stack old) (cat_side left new) failed fault
+
+-- nothing is written where the stack isn't loaded or has no such device
+abbrev pub IsBytesEnd : {S D : Type 0} → Calls S D → DeviceWords → ℕ → Option ℕ → Option (List ℕ) → Option (List ℕ) → Bool → StreamFault → Type 0
+IsBytesEnd w words first count old new failed fault =
+    ((new ≡ old) × IsStackless (FailsToFindDevice w words) fault) ⊎ FailsToCat w words first count old new failed fault
+
+-- ---- `store`
+
+-- from that sector on, whatever comes
+abbrev pub place_from : ℕ → StorePlace
+place_from first = record { first = first; length = None }
+
+-- All bytes of the input were written to the device, those of n sectors, and are on the media. What then stood in the images
+-- was given back.
+pub record StoresInput {S D : Type 0} (w : Calls S D) (words : DeviceWords) (first : ℕ) (old new : Streams) (n : ℕ) : Type 0 where
+  pub at : Place
+  pub left : StackRecord
+  pub between : S
+  pub found : Finds (record w { new = between }) words at
+  pub stored : Stores at.d first (store_side at.stack old.input) (store_side left new.input) n
+  pub back : IsGivenBack (record w { old = between }) words.words.bindings left.leaves
+
+pub record PrintsStored {S D : Type 0} (w : Calls S D) (words : DeviceWords) (first : ℕ) (old new : Streams) : Type 0 where
+  pub n : ℕ
+  pub stored : StoresInput w words first old new n
+  pub printed : Appends old.output new.output (stored_text n)
+
+-- not all were
+abbrev pub IsStoreFault : ℕ → StorePlace → StoreSide → StoreSide → StreamFault → Type 0
+IsStoreFault d place old new (Store fault) = IsStoreEnd d place old new (Unit {0}) fault
+IsStoreFault d place old new fault = ⊥
+
+-- and what then stood in the images was given back
+pub record FailsToStore {S D : Type 0} (w : Calls S D) (words : DeviceWords) (first : ℕ) (old new : Streams) (fault : StreamFault) : Type 0 where
+  pub at : Place
+  pub left : StackRecord
+  pub between : S
+  pub found : Finds (record w { new = between }) words at
+  pub fails : IsStoreFault at.d (place_from first) (store_side at.stack old.input) (store_side left new.input) fault
+  pub quiet : new.output ≡ old.output
+  pub back : IsGivenBack (record w { old = between }) words.words.bindings left.leaves
+
+-- nothing is read or written where the stack isn't loaded or has no such device; or the line can't be written
+abbrev pub IsStoringEnd : {S D : Type 0} → Calls S D → DeviceWords → ℕ → Streams → Streams → Bool → StreamFault → Type 0
+IsStoringEnd w words first old new failed fault =
+    ((new ≡ old) × IsStackless (FailsToFindDevice w words) fault)
+    ⊎ (FailsToStore w words first old new fault ⊎ ((n : ℕ) × StoresInput w words first old new n × IsUnwritten failed fault))

@@ -1,0 +1,63 @@
+//! The bytes of a stack file's device are written out, and nothing else.
+ghost use Rattle.std.specs.Prelude.{◌≡◌, OnOk, IfErr};
+ghost use Rattle.image_files.specs.Opener.{calls};
+ghost use Rattle.stack_opening.specs.OpenStacks.{stack_words};
+ghost use Rattle.stack_making.specs.NamedDevices.{device_words};
+ghost use Rattle.stack_streams.specs.Streaming.{IsBytesEnd, PrintsBytes, count_from};
+
+use crate::fault::StreamFault;
+use crate::output::{SectorRange, cat};
+use block_device::BlockDev;
+use counted_io::Counted;
+use image_files::Images;
+use progress::Progress;
+use stack_making::{NamedDevice, open_device};
+use stack_opening::StackFile;
+use std::alloc::Global;
+use std::io::Write;
+
+/// Sectors of a mapped device: all from the first one on where no count is said. How many blocks are cached.
+#[derive(Clone, Copy, Debug, PartialEq, Eq)]
+pub struct Wanted<'a> {
+    pub name: &'a str,
+    pub first: u64,
+    pub count: Option<u64>,
+    pub cache: u32,
+}
+
+fn count_from(count: Option<u64>, first: u64, sectors: u64) -> u64
+    ensures { result ≡ count_from count first sectors }
+{
+    match count {
+        Some(count) => count,
+        None => sectors.saturating_sub(first),
+    }
+}
+
+/// The bytes of a device of a stack file over the bindings.
+pub fn cat_device<'a, I: Images, W: Write, P: Progress>(
+    alloc: Global,
+    images: &mut I,
+    file: StackFile<'a, '_>,
+    wanted: Wanted<'a>,
+    writer: &mut Counted<W>,
+    progress: &mut P,
+) -> Result<(), StreamFault<'a>>
+    ensures ok { OnOk result (PrintsBytes (calls I.relations I.Dev.state images.old images.new) (device_words (stack_words file.entry) wanted.entry.name.now wanted.entry.cache) wanted.entry.first wanted.entry.count (W.contents writer.old.inner) (W.contents writer.new.inner)) }
+    ensures err { IfErr result (IsBytesEnd (calls I.relations I.Dev.state images.old images.new) (device_words (stack_words file.entry) wanted.entry.name.now wanted.entry.cache) wanted.entry.first wanted.entry.count (W.contents writer.old.inner) (W.contents writer.new.inner) writer.new.failed) }
+{
+    let Wanted {
+        name,
+        first,
+        count,
+        cache,
+    } = wanted;
+    let device = NamedDevice { name, cache };
+    let (mut stack, device) = open_device(alloc, images, file, device)?;
+    let count = count_from(count, first, stack.config().sectors(device));
+    let range = SectorRange { first, count };
+    match cat(&mut stack, device, range, writer, progress) {
+        Ok(()) => Ok(()),
+        Err(fault) => Err(StreamFault::Cat(fault)),
+    }
+}

@@ -1,0 +1,82 @@
+//! The sectors of a file are written to a stack file's device.
+ghost use Rattle.std.specs.Prelude.{◌≡◌, ◌<◌, false, length, IsOk, OnOk, IfOk, IfErr};
+ghost use Rattle.image_files.specs.Opener.{calls};
+ghost use Rattle.stack_opening.specs.OpenStacks.{stack_words};
+ghost use Rattle.stack_streams.specs.Images.{StoresImage};
+ghost use Rattle.stack_making.specs.NamedDevices.{device_words};
+ghost use Rattle.stack_streams.specs.StoredFiles.{IsFileEnd, IsWholeEnd, PrintsFileStored, file_words};
+
+use crate::device_in::Target;
+use crate::fault::{StoreCause, StoreFault, StreamFault};
+use crate::image::store_image;
+use crate::texts::say_stored;
+use block_device::{BlockDev, SyncDev};
+use counted_io::Counted;
+use image_files::{Images, OpenImage, UnopenedFile};
+use progress::Progress;
+use stack_config::DevId;
+use stack_engine::Stack;
+use stack_making::{NamedDevice, StackFault, close_stack, find_device};
+use stack_opening::{StackFile, open_with_input};
+use std::alloc::Global;
+use std::io::Write;
+
+/// All sectors of a file to a device of a stack file over the bindings, whose images are synced and given back before anything is printed. What doesn't fit is refused before anything
+/// is written.
+pub fn store_file<'a, I: Images, W: Write, P: Progress>(
+    alloc: Global,
+    images: &mut I,
+    file: StackFile<'a, '_>,
+    target: Target<'a>,
+    source: &'a str,
+    writer: &mut Counted<W>,
+    progress: &mut P,
+) -> Result<(), StreamFault<'a>>
+    ensures ok { OnOk result (PrintsFileStored (calls I.relations I.Dev.state images.old images.new) (file_words (device_words (stack_words file.entry) target.entry.name.now target.entry.cache) source.now target.entry.first) (W.contents writer.old.inner) (W.contents writer.new.inner)) }
+    ensures err { IfErr result (IsFileEnd (calls I.relations I.Dev.state images.old images.new) (file_words (device_words (stack_words file.entry) target.entry.name.now target.entry.cache) source.now target.entry.first) (W.contents writer.old.inner) (W.contents writer.new.inner) writer.new.failed) }
+{
+    let Target { name, first, cache } = target;
+    let (over, image) = open_with_input(alloc, images, file, source)?;
+    let part = match images.has_part_sector(source) {
+        Ok(part) => part,
+        Err(fault) => {
+            let path = source;
+            return Err(StreamFault::Stack(StackFault::Open(UnopenedFile { fault, path })));
+        }
+    };
+    let OpenImage {
+        device: mut image,
+        id: _,
+    } = image;
+    let device = NamedDevice { name, cache };
+    let (mut stack, device) = find_device(alloc, over, device)?;
+    let outcome = store_whole(&mut stack, device, first, &mut image, part, progress);
+    close_stack(images, file.bindings, stack);
+    match outcome {
+        Ok(written) => Ok(say_stored(writer, written)?),
+        Err(fault) => Err(StreamFault::Store(fault)),
+    }
+}
+
+// Writes all sectors of an image to the device. One that ends inside a sector is refused.
+fn store_whole<D: SyncDev + Drop, S: BlockDev, P: Progress>(
+    stack: &mut Stack<D>,
+    device: DevId,
+    first: u64,
+    source: &mut S,
+    part: bool,
+    progress: &mut P,
+) -> Result<u64, StoreFault>
+    requires { device.0 < length stack.old.config.devices }
+    ensures ok { IfOk result (StoresImage device.0 first stack.old (S.state source.old) stack.new) }
+    ensures whole { IsOk result → part ≡ false }
+    ensures err { IfErr result (IsWholeEnd part device.0 first stack.old (S.state source.old) stack.new (S.state source.new)) }
+{
+    if part {
+        return Err(StoreFault {
+            written: 0,
+            cause: StoreCause::Length,
+        });
+    }
+    store_image(stack, device, first, source, progress)
+}
