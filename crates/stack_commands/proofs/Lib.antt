@@ -1,6 +1,7 @@
 pub mod EndingLemmas
 pub mod KeptLemmas
 pub mod OpeningLemmas
+mod RepairingLemmas
 pub mod ServeLemmas
 pub mod UsageLemmas
 pub mod VerityLemmas
