@@ -1,14 +1,14 @@
 #!/usr/bin/env python3
 """Tries `dmstack nbd` with the NBD clients that are installed.
 
-nbd_clients.py [--no-speed] [PROGRAM]: copies devices out with nbdcopy and qemu-img and compares them, copies an image in through a
-`crypt` line and reads it back by another stack, writes bytes and zeros with qemu-io across the ends of sectors, with FUA
-too, reads a verity volume with one changed block, also by chunks, and single bytes in each strict mode of libnbd, copies each device
-of a stack out by its name, looks at the map of a sparse stack and that copies of it stay sparse, looks by strace at what is synced
-when a write with FUA or a flush is answered, makes, fills and checks a file system through a `crypt` line, and prints the speed over
-each kind of line, over four connections and over one, beside nbdkit's and beside `scan`'s. What isn't installed, or not allowed
-(sockets, ptrace, FUSE), is named and left out, and where nothing is left the status is 0 too (Debian: libnbd-bin, python3-libnbd,
-nbdfuse, qemu-utils, socat, nbdkit, strace, e2fsprogs, fuse3).
+nbd_clients.py [--no-speed] [PROGRAM]: copies devices out with nbdcopy and qemu-img and compares them, copies an image in through
+a `crypt` line and reads it back by another stack, writes bytes and zeros with qemu-io across the ends of sectors, with FUA too,
+reads a verity volume with one changed block, also by chunks, and single bytes in each strict mode of libnbd, copies each device
+of a stack out by its name, looks at the map of a sparse stack and that copies of it stay sparse, looks by strace at what is
+synced when a write with FUA or a flush is answered, makes, fills and checks a file system through a `crypt` line, and prints the
+speed over each kind of line, over four connections and over one, beside nbdkit's and beside `scan`'s. What isn't installed, or
+not allowed (sockets, ptrace, FUSE), is named and left out, and where nothing is left the status is 0 too (Debian: libnbd-bin,
+python3-libnbd, nbdfuse, qemu-utils, socat, nbdkit, strace, e2fsprogs, fuse3).
 """
 import argparse
 import json
@@ -226,6 +226,7 @@ if __name__ == "__main__":
     parser.add_argument("program", nargs="?", default=shutil.which("dmstack"))
     WORDS = parser.parse_args()
     nbd_served.program = os.path.abspath(WORDS.program)
+    os.environ["PATH"] += ":/usr/sbin:/sbin"
     with tempfile.TemporaryDirectory() as room:
         os.chdir(room)
         sys.exit(main())
