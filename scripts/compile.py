@@ -19,13 +19,13 @@ for it in (signal.SIGINT, signal.SIGTERM):
     signal.signal(it, signal.SIG_DFL)
 
 sys.dont_write_bytecode = True
-from kit import TOP, begin, crate_of, module, program
+from kit import TOP, begin, crate_of, module, program, with_hints
 
 PROGRAM = "dmstack"
 # As fast as -O3, and made in four fifths of its time.
 HOW = "-O2"
-# Of the disk, in MB; what is made takes a tenth.
-ROOM = 200
+# Of the disk, in MB; what is made takes half.
+ROOM = 400
 START = time.monotonic()
 
 
@@ -41,11 +41,12 @@ def compiled(made, cpu):
         return f"{folder} has {free} MB free, and {ROOM} are needed"
     tell("compiling the program without its proofs, in about two minutes; ./prove proves it")
     with tempfile.TemporaryDirectory(prefix="making-", dir=folder) as room:
-        kept, why = module(crate_of(PROGRAM), room)
+        crate = crate_of(PROGRAM)
+        kept, why = module(crate, room)
         if not kept:
             return why
         tell(f"half way, after {time.monotonic() - START:.0f} s: the sources are read and translated")
-        os.replace(program(kept, HOW, room, cpu), made)
+        os.replace(program(with_hints(kept, crate, HOW, room), HOW, room, cpu), made)
     return ""
 
 

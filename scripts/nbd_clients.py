@@ -4,11 +4,11 @@
 nbd_clients.py [--no-speed] [PROGRAM]: copies devices out with nbdcopy and qemu-img and compares them, copies an image in through
 a `crypt` line and reads it back by another stack, writes bytes and zeros with qemu-io across the ends of sectors, with FUA too,
 reads a verity volume with one changed block, also by chunks, and single bytes in each strict mode of libnbd, copies each device
-of a stack out by its name, looks at the map of a sparse stack and that copies of it stay sparse, looks by strace at what is
-synced when a write with FUA or a flush is answered, makes, fills and checks a file system through a `crypt` line, and prints the
-speed over each kind of line, over four connections and over one, beside nbdkit's and beside `scan`'s. What isn't installed, or
-not allowed (sockets, ptrace, FUSE), is named and left out, and where nothing is left the status is 0 too (Debian: libnbd-bin,
-python3-libnbd, nbdfuse, qemu-utils, socat, nbdkit, strace, e2fsprogs, fuse3).
+of a stack out by its name, looks at the map of a sparse stack, that copies of it stay sparse, and that reads of it tell of holes,
+looks by strace at what is synced when a write with FUA or a flush is answered, makes, fills and checks a file system through a
+`crypt` line, and prints the speed over each kind of line, over four connections and over one, beside nbdkit's and beside
+`scan`'s. What isn't installed, or not allowed (sockets, ptrace, FUSE), is named and left out, and where nothing is left the
+status is 0 too (Debian: libnbd-bin, python3-libnbd, nbdfuse, qemu-utils, socat, nbdkit, strace, e2fsprogs, fuse3).
 """
 import argparse
 import json
@@ -87,6 +87,25 @@ def sparse():
                 say(f"sparse: {client}", done.returncode == 0 and open("thin", "rb").read() == wanted, done.stderr.decode())
                 say(f"sparse: {client} leaves holes", os.stat("thin").st_blocks * 512 <= len(data) + 65536, str(os.stat("thin").st_blocks))
                 os.remove("thin")
+
+
+def holes_read():
+    """Bytes of that stack, read in chunks: each hole lies on a `zero` line, and no chunk of data lies on one alone."""
+    nbd = libnbd()
+    data = open("part", "rb").read()
+    wanted = data[: 1 << 20] + bytes(100000 * 512) + data[1 << 20 :] + bytes(26976 * 512)
+    zeros = [(1 << 20, 102048 * 512), (104096 * 512, len(wanted))]
+    handle = nbd.NBD()
+    handle.connect_command(words_for("holes", "s", "D=ro:" + os.path.abspath("part")))
+    for offset, length in ((0, 1 << 20), (1 << 20, 8 << 20), ((1 << 20) - 9, 700), (5, 3 << 20), (102048 * 512 - 700, 900), (102000 * 512 + 1, 2 << 20), (len(wanted) - 1000, 1000), (0, 32 << 20)):
+        told = []
+        found = handle.pread_structured(length, offset, lambda part, at, status, error: told.append((at, at + len(part), status)) or 0)
+        say(f"holes: bytes at {offset}", found == wanted[offset : offset + length])
+        say(f"holes: in rising order at {offset}", [at for at, _, _ in told] + [offset + length] == [offset] + [end for _, end, _ in told], str(told))
+        for at, end, status in told:
+            alone = any(low <= at and end <= high for low, high in zeros)
+            say(f"holes: {at} to {end}", status == (nbd.READ_HOLE if alone else nbd.READ_DATA), str(status))
+    handle.shutdown()
 
 
 def copied_in(data):
@@ -208,6 +227,7 @@ def main():
     attempt(each_of_all, data, ["D=rw:" + os.path.abspath("data"), verity[1]])
     attempt(copied_in, data)
     attempt(sparse)
+    attempt(holes_read)
     attempt(changed_block, data)
     attempt(any_bytes, data)
     attempt(syncs)

@@ -28,7 +28,7 @@ EXPORT_NAME, ABORT, LIST, STARTTLS, INFO, GO, STRUCTURED, LIST_META, SET_META, E
 ACK, SERVER, REP_INFO, REP_META = 1, 2, 3, 4
 UNSUPPORTED, INVALID, UNKNOWN, TOO_BIG = (2**31 + n for n in (1, 3, 6, 9))
 READ, WRITE, DISC, FLUSH, TRIM, CACHE, ZEROES, STATUS = 0, 1, 2, 3, 4, 5, 6, 7
-NONE, OFFSET_DATA, BLOCK_STATUS, ERROR, ERROR_OFFSET = 0, 1, 5, 0x8001, 0x8002
+NONE, OFFSET_DATA, OFFSET_HOLE, BLOCK_STATUS, ERROR, ERROR_OFFSET = 0, 1, 2, 5, 0x8001, 0x8002
 HOLE_AND_ZERO = 3
 EPERM, EIO, ENOMEM, EINVAL, ENOSPC = 1, 5, 12, 22, 28
 MOST = 32 << 20
@@ -123,19 +123,34 @@ class Export:
     def data(self, at, end, cookie, done=1):
         return chunk(OFFSET_DATA, struct.pack(">Q", at) + self.content[at:end], cookie, done)
 
+    def is_zeros(self, sector):
+        return any(low <= sector < high for low, high in self.zeros)
+
+    def hole_end(self, at, stop):
+        """Where the hole ends that a byte lies in: it lies on `zero` lines alone."""
+        while at < stop and self.is_zeros(at // SECTOR):
+            at = min(stop, at - at % SECTOR + SECTOR)
+        return at
+
     def pieces(self, offset, length, cookie, again):
-        """A piece that fails is read sector by sector, up to the one that fails."""
+        """A piece that fails is read sector by sector, up to the one that fails; what begins with zeros, by a hole."""
         at, end = offset, offset + length
+        slow = end if again else offset
         while at < end:
-            stop = min(end, at - at % PIECE + PIECE)
-            step = SECTOR if again or self.fails(at, stop - at) else PIECE
-            while at < stop:
-                behind = min(stop, at - at % step + step)
-                if self.fails(at, behind - at):
-                    yield chunk(ERROR_OFFSET, struct.pack(">IHQ", EIO, 0, at), cookie)
-                    return
-                yield self.data(at, behind, cookie, int(behind == end))
+            step = SECTOR if at < slow else PIECE
+            stop = min(end, at - at % step + step)
+            behind = self.hole_end(at, stop)
+            if behind > at:
+                yield chunk(OFFSET_HOLE, struct.pack(">QI", at, behind - at), cookie, int(behind == end))
                 at = behind
+            elif not self.fails(at, stop - at):
+                yield self.data(at, stop, cookie, int(stop == end))
+                at = stop
+            elif step == PIECE and at // SECTOR < (stop - 1) // SECTOR:
+                slow = stop
+            else:
+                yield chunk(ERROR_OFFSET, struct.pack(">IHQ", EIO, 0, at), cookie)
+                return
 
     def status(self, offset, length, one=False):
         """The extents of some bytes: those of zero lines are holes, by ranges of sectors."""
@@ -143,7 +158,7 @@ class Export:
             return failed(EINVAL)
         extents = []
         for at in range(offset, offset + length):
-            zeros = any(low <= at // SECTOR < high for low, high in self.zeros)
+            zeros = self.is_zeros(at // SECTOR)
             if extents and extents[-1][1] == zeros:
                 extents[-1][0] += 1
             else:
@@ -377,7 +392,7 @@ def chunks(runner):
         fields = struct.pack(">QH", len(e.content), e.bits(True)) + (b"" if bits & 2 else bytes(124))
         sent = flags(bits) + option(STRUCTURED) + option(EXPORT_NAME, b"low") + request(READ, 5, 600)
         runner.run("structured before EXPORT_NAME", "low", sent, GREETING + option_reply(STRUCTURED, ACK) + fields + e.chunks(5, 600))
-    for name in ("low", "kept", "file"):
+    for name in ("low", "kept", "file", "sparse", "over"):
         e = exports()[name]
         size = len(e.content)
         sent, wanted = begun_in_chunks(e)
@@ -407,6 +422,7 @@ def chunks(runner):
             wanted += e.chunks(offset, length) + e.chunks(offset, length, df=True)
     runner.run("reads of holed in chunks", "holed", sent, wanted)
     large_chunks(runner)
+    large_holes(runner)
 
 
 def large_chunks(runner):
@@ -432,6 +448,34 @@ def large_chunks(runner):
         served = subprocess.run([runner.program, "nbd", "large", "l", "F=ro:F"], input=sent + request(DISC), capture_output=True, timeout=60)
         at = next((k for k, (a, b) in enumerate(zip(served.stdout, wanted)) if a != b), min(len(served.stdout), len(wanted)))
         runner.count(f"large reads with {lost} lost", served.stdout == wanted and served.returncode == 0 and not served.stderr, f"differs at {at}")
+
+
+def large_holes(runner):
+    """READs of several pieces over zeros, data and a sector that fails: where a piece begins with zeros, they are a hole."""
+    for lines in (
+        (("zero", 2304),),
+        (("linear", 3), ("zero", 697), ("linear", 400), ("error", 1), ("zero", 199), ("linear", 1004)),
+        (("zero", 512), ("linear", 512), ("zero", 1), ("linear", 511), ("zero", 768)),
+        (("zero", 5), ("error", 1), ("zero", 6), ("linear", 1), ("zero", 1), ("error", 1), ("zero", 2289)),
+    ):
+        at, text, content, spans = 0, [], b"", {"zero": [], "error": [], "linear": []}
+        for kind, count in lines:
+            text.append(f"{at} {count} {kind}" + (f" F {at}" if kind == "linear" else ""))
+            content += bytes(count * SECTOR) if kind != "linear" else b"".join(struct.pack(">I", k) for k in range(at * 128, (at + count) * 128))
+            spans[kind].append((at, at + count))
+            at += count
+        open("holes", "w").write("h,,,ro," + ",".join(text))
+        open("F", "wb").write(b"".join(struct.pack(">I", k) for k in range(at * 128)))
+        e = Export("h", content, lost=spans["error"], zeros=spans["zero"])
+        sent, wanted = begun_in_chunks(e)
+        for offset in (0, 1, 511, 512, 3 * SECTOR - 1, 3 * SECTOR, 5 * SECTOR, 13 * SECTOR, PIECE - 1, PIECE, 2 * PIECE - 3, 4 * PIECE + 1):
+            for length in (1, 511, 512, 513, 1025, 700 * SECTOR, PIECE - 1, PIECE, PIECE + 1, 3 * PIECE, len(content) - offset):
+                if offset + length <= len(content):
+                    sent += request(READ, offset, length, offset) + request(READ, offset, length, offset, bits=DF)
+                    wanted += e.chunks(offset, length, offset) + e.chunks(offset, length, offset, df=True)
+        served = subprocess.run([runner.program, "nbd", "holes", "h", "F=ro:F"], input=sent + request(DISC), capture_output=True, timeout=60)
+        at = next((k for k, (a, b) in enumerate(zip(served.stdout, wanted)) if a != b), min(len(served.stdout), len(wanted)))
+        runner.count(f"reads of {lines}", served.stdout == wanted and served.returncode == 0 and not served.stderr, f"differs at {at}")
 
 
 def gone(runner):

@@ -17,7 +17,7 @@ SEND_DF, CAN_MULTI_CONN, SEND_CACHE = 128, 256, 1024
 READ, WRITE, DISCONNECT, FLUSH, TRIM, CACHE, WRITE_ZEROES, BLOCK_STATUS = range(8)
 FUA, NO_HOLE, DF, REQ_ONE = 1, 2, 4, 8
 # The types of chunks, and the flag of the last one.
-NONE, OFFSET_DATA, STATUS, ERROR, ERROR_OFFSET, LAST = 0, 1, 5, 0x8001, 0x8002, 1
+NONE, OFFSET_DATA, OFFSET_HOLE, STATUS, ERROR, ERROR_OFFSET, LAST = 0, 1, 2, 5, 0x8001, 0x8002, 1
 CONTEXT, CONTEXT_NAME, NAMESPACE = 1, b"base:allocation", b"base:"
 HOLE_OF_ZEROS = 3
 MOST_EXTENTS, MOST_JOINED = 1024, 4096
@@ -230,11 +230,19 @@ class Service:
         self.replies.add(asked, octets)
 
     def pieces(self, at, end):
-        """The chunks of a READ, piece by piece: one that fails is read sector by sector, up to the one that fails."""
+        """The chunks of a READ, piece by piece; the zeros with which one begins are a hole.
+
+        One that fails is read sector by sector, up to the one that fails.
+        """
         slow = at
         while at < end:
             step = SECTOR if at < slow else PIECE
             behind = min(end, at - at % step + step)
+            hole = self.zeros_end(at, behind)
+            if hole > at:
+                yield hole == end, OFFSET_HOLE, struct.pack(">QI", at, hole - at)
+                at = hole
+                continue
             try:
                 octets = self.read(at, behind - at)
             except Fault:
@@ -245,6 +253,15 @@ class Service:
                 continue
             yield behind == end, OFFSET_DATA, struct.pack(">Q", at) + octets
             at = behind
+
+    def zeros_end(self, at, end):
+        """Where the sectors end, from that of the byte on, that the lines alone make zeros."""
+        first = behind = at // SECTOR
+        for zeros, count in self.stack.zero_runs(self.device, first, -(-end // SECTOR) - first):
+            if not zeros:
+                break
+            behind += count
+        return at if behind == first else min(behind * SECTOR, end)
 
     def chunk(self, command, offset, error, answer):
         """The type and the payload of the only chunk of a reply."""

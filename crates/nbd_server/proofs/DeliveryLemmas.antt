@@ -14,12 +14,12 @@ use Rattle.nbd_protocol.specs.Exports.{ExportRecord}
 use Rattle.nbd_protocol.specs.declared.request_error.RequestError.{RequestError}
 use Rattle.nbd_server.specs.Replies.{RequestOutcome}
 use Rattle.nbd_server.specs.Sectors.{FailsToFetch, EndsIn, HasNoBuffer}
-use Rattle.nbd_server.specs.Status.{touched}
+use Rattle.nbd_server.specs.Status.{TouchZeros, touched}
 use Rattle.nbd_server.specs.Transmission.{ReadsBytes}
 use Rattle.nbd_server.specs.Premises.{AreBytesOf, IsRest}
-use Rattle.nbd_chunks.specs.Chunks.{data_chunk, error_at_chunk}
+use Rattle.nbd_chunks.specs.Chunks.{data_chunk, error_at_chunk, hole_chunk}
 use Rattle.stack_rules.specs.Records.{Configuration}
-use Rattle.nbd_server.specs.Delivery.{AnswersPiece, Delivers, delivers_none, delivers_more, DeliversAll, DeliversPart, GoesOn, IsBegun, IsDelivered, IsLost, IsPiece, IsPutOff, IsSent, IsStuck, ReadsPiece, at_first}
+use Rattle.nbd_server.specs.Delivery.{AnswersPiece, Delivers, delivers_none, delivers_more, DeliversAll, DeliversPart, GoesOn, IsBegun, IsDelivered, IsHole, IsLost, IsPiece, IsPutOff, IsSent, IsStuck, ReadsPiece, at_first}
 use Rattle.nbd_server.specs.declared.delivery.Delivery.{Delivery}
 use Rattle.nbd_server.specs.declared.delivery.Progress.{Progress}
 
@@ -49,11 +49,13 @@ put_off-behind done slow sectors several single = elim (cases_lt done slow) [ in
 module _ (e : ExportRecord) (d : Delivery) where
   goes-led : (p : Progress) (w : World) (chunk : List ℕ) (next : Progress) (w' : World) → GoesOn e d p w chunk next w' → IsLed EachPart w w'
   goes-led p w chunk next w' (inl s) = read-led e w (d.offset + p.done) s.size (Ok s.content) w' s.reads
-  goes-led p w chunk next w' (inr s) = read-led e w (d.offset + p.done) s.size (Err s.error) w' s.reads
+  goes-led p w chunk next w' (inr (inl s)) = read-led e w (d.offset + p.done) s.size (Err s.error) w' s.reads
+  goes-led p w chunk next w' (inr (inr s)) = subst (λ (v : World). IsLed EachPart w v) (sym s.same) (led-none EachPart w)
 
   pub goes-config : (p : Progress) (w : World) (chunk : List ℕ) (next : Progress) (w' : World) → GoesOn e d p w chunk next w' → w'.stack.config ≡ w.stack.config
   goes-config p w chunk next w' (inl s) = read-config e w (d.offset + p.done) s.size (Ok s.content) w' s.reads
-  goes-config p w chunk next w' (inr s) = read-config e w (d.offset + p.done) s.size (Err s.error) w' s.reads
+  goes-config p w chunk next w' (inr (inl s)) = read-config e w (d.offset + p.done) s.size (Err s.error) w' s.reads
+  goes-config p w chunk next w' (inr (inr s)) = ap (λ (v : World). v.stack.config) s.same
 
   lost-led : (p : Progress) (w : World) (chunk : List ℕ) (w' : World) → IsLost e d p w chunk w' → IsLed EachPart w w'
   lost-led p w chunk w' s = read-led e w (d.offset + p.done) s.size (Err s.error) w' s.reads
@@ -64,20 +66,35 @@ module _ (e : ExportRecord) (d : Delivery) where
   -- a piece is behind the one before it, and done or put off once
   pub goes-inside : (p : Progress) (w : World) (chunk : List ℕ) (next : Progress) (w' : World) → GoesOn e d p w chunk next w' → next.done ≤ d.count
   goes-inside p w chunk next w' (inl s) = subst (λ (n : Progress). n.done ≤ d.count) (sym s.next_is) s.piece.inside
-  goes-inside p w chunk next w' (inr s) = subst (λ (n : Progress). n.done ≤ d.count) (sym s.next_is) (omega (arith, s.piece.inside))
+  goes-inside p w chunk next w' (inr (inr s)) = subst (λ (n : Progress). n.done ≤ d.count) (sym s.next_is) s.piece.inside
+  goes-inside p w chunk next w' (inr (inl s)) = subst (λ (n : Progress). n.done ≤ d.count) (sym s.next_is) (omega (arith, s.piece.inside))
 
   pub goes-smaller : (p : Progress) (w : World) (chunk : List ℕ) (next : Progress) (w' : World) → GoesOn e d p w chunk next w'
       → 2 * (d.count - next.done) + (1 - (next.slow - next.done)) < 2 * (d.count - p.done) + (1 - (p.slow - p.done))
   goes-smaller p w chunk next w' (inl s) =
       subst (λ (n : Progress). 2 * (d.count - n.done) + (1 - (n.slow - n.done)) < 2 * (d.count - p.done) + (1 - (p.slow - p.done))) (sym s.next_is) (omega (arith, s.piece.inside, s.piece.some))
-  goes-smaller p w chunk next w' (inr s) =
+  goes-smaller p w chunk next w' (inr (inl s)) =
       subst (λ (n : Progress). 2 * (d.count - n.done) + (1 - (n.slow - n.done)) < 2 * (d.count - p.done) + (1 - (p.slow - p.done))) (sym s.next_is) (omega (arith, s.piece.some, put_off-behind p.done p.slow (touched (d.offset + p.done) s.size) s.several s.piece.single))
+  goes-smaller p w chunk next w' (inr (inr s)) =
+      subst (λ (n : Progress). 2 * (d.count - n.done) + (1 - (n.slow - n.done)) < 2 * (d.count - p.done) + (1 - (p.slow - p.done))) (sym s.next_is) (omega (arith, s.piece.inside, s.piece.some))
 
 -- ---- what comes of a piece
 
 -- bytes up to the end of a sector lie in it
 pub single-touched : (at place size room : ℕ) → at ≡ place → 0 < size → size ≤ room → at % 512 + room ≤ 512 → touched place size ≡ 1
 single-touched at place size room is some few within = omega (arith, is, some, few, within)
+
+-- the beginning of a piece is one
+touched-part : (place size part : ℕ) → 0 < part → part ≤ size → touched place size ≡ 1 → touched place part ≡ 1
+touched-part place size part some few one = omega (arith, some, few, one)
+
+pub piece-part : (d : Delivery) (p : Progress) (size part : ℕ) → IsPiece d p size → 0 < part → part ≤ size → IsPiece d p part
+piece-part d p size part piece some few = record {
+  some = some;
+  few = omega (arith, few, piece.few);
+  inside = omega (arith, few, piece.inside);
+  single = λ below. touched-part (d.offset + p.done) size part some few (piece.single below);
+}
 
 -- what is left of it has small places
 pub rest-left : (c : Configuration) (e : ExportRecord) (d : Delivery) (p : Progress) → AreBytesOf c e d.offset d.count → p.done ≤ d.count → IsRest d p
@@ -104,11 +121,30 @@ module _ (e : ExportRecord) (d : Delivery) (p : Progress) (w w' : World) (size a
         → AnswersPiece e d p w w' old new (Some (record { done = p.done + size; slow = p.slow }))
     piece-sent n is content reads a = (data_chunk (p.done + n == d.count) d.cookie (d.offset + p.done) content, sent-goes n is content reads, a)
 
+    hole-goes : TouchZeros w.stack.config e at size → w' ≡ w
+        → GoesOn e d p w (hole_chunk (p.done + size == d.count) d.cookie (d.offset + p.done) size) (record { done = p.done + size; slow = p.slow }) w'
+    hole-goes zeros same = inr (inr (record {
+      size = size;
+      piece = piece;
+      zeros = subst (λ (k : ℕ). TouchZeros w.stack.config e k size) place zeros;
+      chunk_is = refl;
+      next_is = refl;
+      same = same;
+    }))
+
+    -- it is a hole
+    pub piece-hole : TouchZeros w.stack.config e at size → w' ≡ w → Appends old new (hole_chunk (p.done + size == d.count) d.cookie (d.offset + p.done) size)
+        → AnswersPiece e d p w w' old new (Some (record { done = p.done + size; slow = p.slow }))
+    piece-hole zeros same a = (hole_chunk (p.done + size == d.count) d.cookie (d.offset + p.done) size, hole-goes zeros same, a)
+
+    pub hole-stuck : TouchZeros w.stack.config e at size → w' ≡ w → ReadsPiece e d p w w'
+    hole-stuck zeros same = inl (hole_chunk (p.done + size == d.count) d.cookie (d.offset + p.done) size, record { done = p.done + size; slow = p.slow }, hole-goes zeros same)
+
     -- it wasn't, and lies in several sectors
     pub piece-put_off : (error : RequestError) → ReadsBytes e w at size (Err error) w' → 1 < touched at size → new ≡ old → AnswersPiece e d p w w' old new (Some (record { done = p.done; slow = p.done + size }))
     piece-put_off error reads several same = (
       [],
-      inr (record {
+      inr (inl (record {
         size = size;
         error = error;
         piece = piece;
@@ -116,7 +152,7 @@ module _ (e : ExportRecord) (d : Delivery) (p : Progress) (w w' : World) (size a
         reads = subst (λ (k : ℕ). ReadsBytes e w k size (Err error) w') place reads;
         silent = refl;
         next_is = refl;
-      }),
+      })),
       subst (λ (o : Option (List ℕ)). Appends old o []) (sym same) (Appends-nil old),
     )
 

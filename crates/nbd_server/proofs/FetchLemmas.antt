@@ -12,6 +12,7 @@ use Rattle.stack_meaning.specs.Meaning.{said_at}
 use Rattle.stack_meaning.specs.Reading.{MeetVerity}
 use Rattle.stack_lines.proofs.lemmas.TouchLemmas.{touches-as}
 use Rattle.stack_engine.specs.Bytes.{EachBytes}
+use Rattle.stack_engine.specs.KeptBlocks.{ReadKeeps}
 use Rattle.request_queue.specs.declared.fault.BytesFault.{BytesFault}
 use Rattle.request_queue.specs.declared.fault.BytesFault.TheVariants.{Failed}
 use Rattle.request_queue.specs.declared.fault.SubmitFault.{SubmitFault}
@@ -22,6 +23,7 @@ use Rattle.request_queue.specs.Ranges.{bytes_range, range_at, range_of, range_in
 use Rattle.request_queue.specs.WholeRuns.{ReadsWhole}
 use Rattle.request_queue.specs.World.{World, Step, read_bytes}
 use Rattle.request_queue.proofs.lemmas.BytesLemmas.{bytes-at}
+use Rattle.request_queue.proofs.lemmas.KeptLemmas.{bytes-kept}
 use Rattle.request_queue.proofs.lemmas.LedLemmas.{led-none, led-one}
 use Rattle.nbd_protocol.specs.declared.request_error.RequestError.TheVariants.{NoMemory}
 use Rattle.nbd_protocol.specs.Exports.{ExportRecord}
@@ -64,25 +66,26 @@ tests-pass false true e x fault one two three h = let clash : true ≡ false = t
 tests-pass false false false x fault one two three h = let clash : false ≡ true = three in cc
 tests-pass false false true x fault one two three h = let clash : Ok x ≡ Err fault = h in cc
 
-whole-ok : (w w' : World) (d first count len : ℕ) (bytes : List ℕ) → EachBytes w.stack d first count (Ok bytes) w'.stack → Step EachPart w (read_bytes d first len (Ok (Ok bytes))) w' → IsFetched w d first count bytes w'
-whole-ok w w' d first count len bytes p s = record {
+whole-ok : (w w' : World) (d first count len : ℕ) (bytes : List ℕ) → EachBytes w.stack d first count (Ok bytes) w'.stack → ReadKeeps w.stack d first count w'.stack → Step EachPart w (read_bytes d first len (Ok (Ok bytes))) w' → IsFetched w d first count bytes w'
+whole-ok w w' d first count len bytes p kept s = record {
   chains = p.any.may.chains;
-  read = record { config = p.any.config; capacity = p.any.capacity; moved = p.any.moved; may = p.any.may.read; touches = touches-as (Ok _) tt p.any.touches; exact = λ steady. (p.steady steady).exact };
+  read = record { config = p.any.config; capacity = p.any.capacity; moved = p.any.moved; may = p.any.may.read; touches = touches-as (Ok _) tt p.any.touches; kept = kept; exact = λ steady. (p.steady steady).exact };
   good = p.any.may.good;
   led = led-one EachPart w (read_bytes d first len (Ok (Ok bytes))) w' s;
 }
 
-whole-err : (w w' : World) (d first count : ℕ) (fault : IoFault) → EachBytes w.stack d first count (Err fault) w'.stack → ReadsWhole w.stack (range_at d first count) (Err fault) w'.stack
-whole-err w w' d first count (io.Stack fault) p = record { config = p.any.config; capacity = p.any.capacity; moved = p.any.moved; may = p.any.may; touches = touches-as (Err _) p.any.touches.fault p.any.touches; exact = λ steady. (p.steady steady).exact }
-whole-err w w' d first count (io.Device i) p = record { config = p.any.config; capacity = p.any.capacity; moved = p.any.moved; may = p.any.may; touches = touches-as (Err _) p.any.touches.fault p.any.touches; exact = λ steady. tt }
-whole-err w w' d first count io.NoMemory p = record { config = p.any.config; capacity = p.any.capacity; moved = p.any.moved; may = tt; touches = touches-as (Err io.NoMemory) tt p.any.touches; exact = λ steady. tt }
+whole-err : (w w' : World) (d first count : ℕ) (fault : IoFault) → EachBytes w.stack d first count (Err fault) w'.stack → ReadKeeps w.stack d first count w'.stack → ReadsWhole w.stack (range_at d first count) (Err fault) w'.stack
+whole-err w w' d first count (io.Stack fault) p kept = record { config = p.any.config; capacity = p.any.capacity; moved = p.any.moved; may = p.any.may; touches = touches-as (Err _) p.any.touches.fault p.any.touches; kept = kept; exact = λ steady. (p.steady steady).exact }
+whole-err w w' d first count (io.Device i) p kept = record { config = p.any.config; capacity = p.any.capacity; moved = p.any.moved; may = p.any.may; touches = touches-as (Err _) p.any.touches.fault p.any.touches; kept = kept; exact = λ steady. tt }
+whole-err w w' d first count io.NoMemory p kept = record { config = p.any.config; capacity = p.any.capacity; moved = p.any.moved; may = tt; touches = touches-as (Err io.NoMemory) tt p.any.touches; kept = kept; exact = λ steady. tt }
 
 module _ (w w' : World) (d first count len : ℕ) (all : len ≡ count * 512) where
   sectors-are : len / 512 ≡ count
   sectors-are = omega (arith, all)
 
   pub fetched : (bytes : List ℕ) → Step EachPart w (read_bytes d first len (Ok (Ok bytes))) w' → IsFetched w d first count bytes w'
-  fetched bytes s = whole-ok w w' d first count len bytes (subst (λ (n : ℕ). EachBytes w.stack d first n (Ok bytes) w'.stack) sectors-are (bytes-at w d first len (Ok bytes) w' s)) s
+  fetched bytes s = whole-ok w w' d first count len bytes (subst (λ (n : ℕ). EachBytes w.stack d first n (Ok bytes) w'.stack) sectors-are (bytes-at w d first len (Ok bytes) w' s))
+      (subst (λ (n : ℕ). ReadKeeps w.stack d first n w'.stack) sectors-are (bytes-kept w d first len (Ok bytes) w' s)) s
 
   pub unfetched : (fault : IoFault) → (failed_by fault ≡ failed_by io.NoMemory → MeetVerity (said_at w.stack.config (mapped d)) first (len / 512)) → Step EachPart w (read_bytes d first len (Ok (Err fault))) w' → FailsToFetch w d first count (error_of fault) w'
   unfetched fault cause s = record {
@@ -90,7 +93,8 @@ module _ (w w' : World) (d first count len : ℕ) (all : len ≡ count * 512) wh
       fault = fault;
       told = refl;
       cause = λ e. subst (λ (n : ℕ). MeetVerity (said_at w.stack.config (mapped d)) first n) sectors-are (cause (ap failed_by e));
-      read = whole-err w w' d first count fault (subst (λ (n : ℕ). EachBytes w.stack d first n (Err fault) w'.stack) sectors-are (bytes-at w d first len (Err fault) w' s));
+      read = whole-err w w' d first count fault (subst (λ (n : ℕ). EachBytes w.stack d first n (Err fault) w'.stack) sectors-are (bytes-at w d first len (Err fault) w' s))
+          (subst (λ (n : ℕ). ReadKeeps w.stack d first n w'.stack) sectors-are (bytes-kept w d first len (Err fault) w' s));
     });
     led = led-one EachPart w (read_bytes d first len (Ok (Err fault))) w' s;
   }

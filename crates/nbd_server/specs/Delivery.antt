@@ -1,5 +1,5 @@
 -- A READ that is answered piece by piece, each by a chunk as soon as it is read (in the protocol's document "Structured
--- reply types": OFFSET_DATA and ERROR_OFFSET).
+-- reply types": OFFSET_DATA, OFFSET_HOLE and ERROR_OFFSET).
 use Rattle.std.specs.Prelude.{◌≡◌, ◌⊎◌, ◌<◌, ◌≤◌, ℕ, ◌+◌, ◌/◌, ◌%◌, ◌==◌, ◌&&◌, Bool, not, nat_lt, List, [], ◌++◌, Option, Some, None, Result, Ok, Err, if◌then◌else◌}
 use Rattle.std.specs.Io.KnownBytes.{Appends}
 use Rattle.request_queue.specs.World.{World}
@@ -10,8 +10,8 @@ use Rattle.nbd_protocol.specs.declared.header.Command.TheVariants.{Read}
 use Rattle.nbd_protocol.specs.declared.header.Header.{Header}
 use Rattle.nbd_protocol.specs.declared.phase.Agreement.{Agreement}
 use Rattle.nbd_protocol.specs.declared.request_error.RequestError.{RequestError}
-use Rattle.nbd_chunks.specs.Chunks.{data_chunk, error_at_chunk}
-use Rattle.nbd_server.specs.Status.{touched}
+use Rattle.nbd_chunks.specs.Chunks.{data_chunk, error_at_chunk, hole_chunk}
+use Rattle.nbd_server.specs.Status.{TouchZeros, touched}
 use Rattle.nbd_server.specs.Transmission.{ReadsBytes}
 use Rattle.nbd_server.specs.declared.delivery.Delivery.{Delivery}
 use Rattle.nbd_server.specs.declared.delivery.Progress.{Progress}
@@ -75,9 +75,18 @@ pub record IsLost (e : ExportRecord) (d : Delivery) (p : Progress) (w : World) (
   pub reads : ReadsBytes e w (d.offset + p.done) size (Err error) w'
   pub chunk_is : chunk ≡ error_at_chunk d.cookie (d.offset + p.done) error
 
+-- They are zeros because of the lines, whatever the leaves hold: nothing is read, and a chunk says so.
+pub record IsHole (e : ExportRecord) (d : Delivery) (p : Progress) (w : World) (chunk : List ℕ) (next : Progress) (w' : World) : Type 0 where
+  pub size : ℕ
+  pub piece : IsPiece d p size
+  pub zeros : TouchZeros w.stack.config e (d.offset + p.done) size
+  pub chunk_is : chunk ≡ hole_chunk (p.done + size == d.count) d.cookie (d.offset + p.done) size
+  pub next_is : next ≡ record { done = p.done + size; slow = p.slow }
+  pub same : w' ≡ w
+
 -- a piece behind which the reply goes on
 abbrev pub GoesOn : ExportRecord → Delivery → Progress → World → List ℕ → Progress → World → Type 0
-GoesOn e d p w chunk next w' = IsSent e d p w chunk next w' ⊎ IsPutOff e d p w chunk next w'
+GoesOn e d p w chunk next w' = IsSent e d p w chunk next w' ⊎ (IsPutOff e d p w chunk next w' ⊎ IsHole e d p w chunk next w')
 
 -- what came of a piece whose chunk was written: how far the reply is then, or it ended at a sector that is lost
 abbrev pub AnswersPiece : ExportRecord → Delivery → Progress → World → World → Option (List ℕ) → Option (List ℕ) → Option Progress → Type 0

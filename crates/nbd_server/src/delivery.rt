@@ -2,16 +2,17 @@
 ghost use Rattle.std.specs.Prelude.{◌≡◌, ◌<◌, ◌≤◌, ◌+◌, ◌%◌, ◌^◌, ◌==◌, true, IsTrue, IfOk, IfSome, OnErr};
 ghost use Rattle.counted_io.specs.Counted.{Writes, WritesSome};
 ghost use Rattle.nbd_protocol.specs.Exports.{export_record};
-ghost use Rattle.nbd_chunks.specs.Chunks.{data_chunk};
+ghost use Rattle.nbd_chunks.specs.Chunks.{data_chunk, hole_chunk};
 ghost use Rattle.nbd_server.specs.Premises.{AreBytesOf, IsNextPiece, IsRest};
 ghost use Rattle.nbd_server.specs.Transmission.{data_of};
 ghost use Rattle.nbd_server.specs.Delivery.{AnswersPiece, IsDelivered, IsPiece, IsStuck, ReadsPiece, delivery_of, has_df, most_piece};
 
 use crate::byte_range::{read_bytes, touched};
 use crate::reply::Data;
+use crate::status::status_at;
 use block_device::BlockDev;
 use counted_io::{Counted, WriteFault};
-use nbd_chunks::{say_data, say_error_at};
+use nbd_chunks::{say_data, say_error_at, say_hole};
 use nbd_protocol::{Agreement, Command, Export, Header, RequestError};
 use request_queue::Queue;
 use std::alloc::Global;
@@ -120,7 +121,25 @@ fn say_piece<W: Write>(
     writer.flush()
 }
 
-// Reads the next piece, and answers it. `None`: it lies in a sector that can't be read, and the reply has ended.
+// Says that so many bytes are zeros, and hands that on.
+fn say_zeros<W: Write>(
+    writer: &mut Counted<W>,
+    delivery: Delivery,
+    progress: Progress,
+    size: u32,
+) -> Result<(), WriteFault>
+    requires rest { IsRest delivery progress }
+    requires piece { IsPiece delivery progress size }
+    ensures { Writes W.contents writer.old writer.new
+        (hole_chunk (progress.done + size == delivery.count) delivery.cookie (delivery.offset + progress.done) size) result }
+{
+    let done = progress.done + size;
+    let at = delivery.at(progress);
+    say_hole(writer, done == delivery.count, delivery.cookie, at, size)?;
+    writer.flush()
+}
+
+// Reads a piece, and answers it. `None`: it lies in a sector that can't be read, and the reply has ended.
 fn deliver_piece<D: BlockDev, W: Write>(
     alloc: Global,
     queue: &mut Queue<D>,
@@ -159,9 +178,38 @@ fn deliver_piece<D: BlockDev, W: Write>(
     }
 }
 
+// Answers the next piece: its beginning unread, where the lines alone make that zeros.
+fn deliver_next<D: BlockDev, W: Write>(
+    alloc: Global,
+    queue: &mut Queue<D>,
+    export: &Export<'_>,
+    delivery: Delivery,
+    progress: Progress,
+    writer: &mut Counted<W>,
+) -> Result<Option<Progress>, WriteFault>
+    requires bytes { AreBytesOf queue.old.stack.config (export_record export.now) delivery.offset delivery.count }
+    requires some { progress.done < delivery.count }
+    ensures ok { IfOk result (AnswersPiece (export_record export.now) delivery progress queue.old queue.new (W.contents writer.old.inner) (W.contents writer.new.inner)) }
+    ensures err { OnErr result (ReadsPiece (export_record export.now) delivery progress queue.old queue.new) }
+    ensures kept { IfOk result (λ _. writer.new.failed ≡ writer.old.failed) }
+    ensures failed { OnErr result (writer.new.failed ≡ true) }
+{
+    let size = delivery.piece_len(progress);
+    let at = delivery.at(progress);
+    let status = status_at(queue.stack().config(), export, at, size);
+    if status.zeros {
+        say_zeros(writer, delivery, progress, status.count)?;
+        return Ok(Some(Progress {
+            done: progress.done + status.count,
+            slow: progress.slow,
+        }));
+    }
+    deliver_piece(alloc, queue, export, delivery, progress, writer)
+}
+
 /// Answers a READ piece by piece, each as soon as it is read, up to the first sector that can't be read.
 ///
-/// A piece that fails is read again sector by sector.
+/// A piece that fails is read again sector by sector. What is zeros because of the lines is a hole, and isn't read.
 pub(crate) fn deliver<D: BlockDev, W: Write>(
     alloc: Global,
     queue: &mut Queue<D>,
@@ -175,7 +223,7 @@ pub(crate) fn deliver<D: BlockDev, W: Write>(
 {
     let mut progress = Progress { done: 0, slow: 0 };
     'pieces: while progress.done < delivery.count {
-        match deliver_piece(alloc, queue, export, delivery, progress, writer)? {
+        match deliver_next(alloc, queue, export, delivery, progress, writer)? {
             Some(next) => progress = next,
             None => return Ok(()),
         }

@@ -35,8 +35,8 @@ impl BlockStatus {
     }
 }
 
-// The status of bytes from a place on, of so many at most.
-fn status_at(config: &Config, export: &Export<'_>, at: u64, left: u32) -> BlockStatus
+/// The status of bytes from a place on, of so many at most.
+pub(crate) fn status_at(config: &Config, export: &Export<'_>, at: u64, left: u32) -> BlockStatus
     requires loaded { IsLoaded config.now }
     requires bytes { AreBytesOf config.now (export_record export.now) at left }
     requires some { 0 < left }

@@ -1,16 +1,14 @@
 -- Parity laid out across two devices.
-use Rattle.std.proofs.Common.{◌≡◌, ℕ, ◌+◌, ◌*◌, ◌/◌, ◌≤◌, ap, ◌∙◌, arith, inl}
+use Rattle.std.proofs.Common.{◌≡◌, ℕ, ◌+◌, ◌*◌, ◌/◌, ◌≤◌, List, ap, ◌∙◌, subst, arith}
 use Rattle.std.proofs.Math.Nat.{div-mul-le_self}
 use Rattle.block_device.specs.Device.{Device}
 use Rattle.fec_area.specs.declared.layout.Layout.{Layout}
 use Rattle.fec_area.specs.Layouts.{IsLaidOn, IsLayout, IsLayoutOf}
 use Rattle.tree_shape.specs.Shape.{ShapeRecord}
-use Rattle.tree_survey.specs.declared.fault.SurveyFault.TheVariants.{Image}
-use Rattle.tree_survey.specs.Causes.{IsImageCause}
-use Rattle.verity_format.specs.declared.verifying.VerifyFault.{VerifyFault}
-use Rattle.verity_format.specs.declared.verifying.VerifyFault.TheVariants.{Super, TooSmall, Device as DeviceFailed, NoMemory}
-use Rattle.verity_format.specs.Image.{data_sectors}
-use Rattle.verity_format.specs.Verifying.{IsReadCause}
+use Rattle.verity_format.specs.Image.{data_sectors, tree_sectors}
+use Rattle.verity_format.specs.Superblock.{SuperRecord, shape_of}
+use Rattle.verity_format.specs.Verifying.{IsReadFrom}
+use Rattle.repair_commands.specs.Parity.{LiesAcross}
 
 -- where the devices have room for the data and for the hash device's blocks
 pub laid-on : (s : ShapeRecord) (sectors roots : ℕ) (l : Layout) (d h : Device) → IsLayoutOf s sectors roots l → IsLayout l → data_sectors s ≤ d.size → sectors ≤ h.size → IsLaidOn l d h
@@ -24,9 +22,12 @@ laid-on s sectors roots l d h is valid data_room hash_room =
       hash_room = omega (arith, hash_is, div-mul-le_self sectors k, hash_room);
     }
 
--- there is no superblock
-pub super-cause : (d h h' : Device) (fault : VerifyFault) → IsReadCause h h' fault → IsImageCause d h h' (Image fault)
-super-cause d h h' TooSmall cause = inl cause
-super-cause d h h' DeviceFailed cause = cause
-super-cause d h h' NoMemory cause = cause
-super-cause d h h' (Super f) cause = cause
+-- and where the superblock was read of whose tree that is
+pub lies-across : (super : SuperRecord) (sector : List ℕ) (d h : Device) (l : Layout) (roots sectors : ℕ) → IsReadFrom h sector super → sectors ≡ h.size → IsLayoutOf (shape_of super) sectors roots l → IsLayout l
+    → data_sectors (shape_of super) ≤ d.size → tree_sectors (shape_of super) ≤ h.size → LiesAcross d h roots l
+lies-across super sector d h l roots sectors from size made valid data_fits tree_fits = record {
+  super = super;
+  images = record { sector = sector; from = from; data_fits = data_fits; tree_fits = tree_fits };
+  is = subst (λ (n : ℕ). IsLayoutOf (shape_of super) n roots l) size made;
+  laid = laid-on (shape_of super) sectors roots l d h made valid data_fits (omega (arith, size));
+}

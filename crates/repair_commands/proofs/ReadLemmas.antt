@@ -1,11 +1,11 @@
 -- What is said behind a reading of the hash device is said of it before.
-use Rattle.std.proofs.Common.{◌≡◌, ◌⊎◌, ◌≤◌, ◌<◌, ℕ, Bool, true, IsTrue, List, [], ◌∷◌, Option, refl, ap, ◌∙◌, subst, inl, inr}
+use Rattle.std.proofs.Common.{◌⊎◌, ◌≤◌, ◌<◌, ℕ, Bool, true, List, [], ◌∷◌, Option, refl, ap, ◌∙◌, subst, inl, inr}
 use Rattle.block_device.specs.Device.{Device}
 use Rattle.tree_path.proofs.lemmas.DeviceLemmas.{failed-then, only_read-none, only_read-then, steady-then}
 use Rattle.tree_repair.specs.declared.fault.RepairFault.{RepairFault}
 use Rattle.tree_repair.specs.declared.fault.RepairFault.TheVariants.{Image, Write}
 use Rattle.tree_repair.specs.declared.repair.Plan.{Plan}
-use Rattle.tree_repair.specs.Repairs.{IsImageCause, IsUnrepairedBy, Repairs}
+use Rattle.tree_repair.specs.Repairs.{IsImageCause, IsUnrepairedBy, Repairs, job_of}
 use Rattle.tree_repair.specs.Runs.{IsWorldRead, Job, Runs, Visit, World, world}
 use Rattle.tree_repair.specs.Sources.{AreEachRead}
 use Rattle.tree_survey.specs.Causes.{AreCut, AreImages}
@@ -23,53 +23,58 @@ each-none ds = record { count = refl; each = λ j inside d. only_read-none _ }
 pub world-read : (d h h' : Device) (cs es : List Device) → IsOnlyRead h h' → IsWorldRead (world d h cs es) (world d h' cs es)
 world-read d h h' cs es read = record { data_read = only_read-none d; hash_read = read; data_copies_read = each-none cs; hash_copies_read = each-none es }
 
-module _ {d h h' : Device} (read : IsOnlyRead h h') where
-  sector-behind : (sector : List ℕ) → IsFirstSector h' sector → IsFirstSector h sector
-  sector-behind sector first steady = first (steady-then read.same steady) ∙ ap (λ (image : List (List ℕ)). block_at image 512 0) (read.image steady)
+sector-behind : {h h' : Device} (sector : List ℕ) → IsOnlyRead h h' → IsFirstSector h' sector → IsFirstSector h sector
+sector-behind sector read first steady = first (steady-then read.same steady) ∙ ap (λ (image : List (List ℕ)). block_at image 512 0) (read.image steady)
 
-  from-behind : (sector : List ℕ) (s : SuperRecord) → IsReadFrom h' sector s → IsReadFrom h sector s
-  from-behind sector s from = record { some = subst (λ (n : ℕ). 0 < n) read.same.size from.some; first = sector-behind sector from.first; carried = from.carried }
+from-behind : {h h' : Device} (sector : List ℕ) (s : SuperRecord) → IsOnlyRead h h' → IsReadFrom h' sector s → IsReadFrom h sector s
+from-behind sector s read from = record { some = subst (λ (n : ℕ). 0 < n) read.same.size from.some; first = sector-behind sector read from.first; carried = from.carried }
 
-  images-behind : (s : SuperRecord) → AreImages d h' s → AreImages d h s
-  images-behind s images = record {
-    sector = images.sector;
-    from = from-behind images.sector s images.from;
-    data_fits = images.data_fits;
-    tree_fits = subst (λ (n : ℕ). tree_sectors (shape_of s) ≤ n) read.same.size images.tree_fits;
-  }
+images-behind : {d h h' : Device} (s : SuperRecord) → IsOnlyRead h h' → AreImages d h' s → AreImages d h s
+images-behind s read images = record {
+  sector = images.sector;
+  from = from-behind images.sector s read images.from;
+  data_fits = images.data_fits;
+  tree_fits = subst (λ (n : ℕ). tree_sectors (shape_of s) ≤ n) read.same.size images.tree_fits;
+}
 
-  cut-behind : AreCut d h' → AreCut d h
-  cut-behind cut = record { s = cut.s; sector = cut.sector; from = from-behind cut.sector cut.s cut.from; past = rw read.same.size at cut.past }
+cut-behind : {d h h' : Device} → IsOnlyRead h h' → AreCut d h' → AreCut d h
+cut-behind read cut = record { s = cut.s; sector = cut.sector; from = from-behind cut.sector cut.s read cut.from; past = rw read.same.size at cut.past }
 
-  module _ {cs es : List Device} where
-    read-behind : (w' : World) → IsWorldRead (world d h' cs es) w' → IsWorldRead (world d h cs es) w'
-    read-behind w' behind = record {
-      data_read = behind.data_read;
-      hash_read = only_read-then read behind.hash_read;
-      data_copies_read = behind.data_copies_read;
-      hash_copies_read = behind.hash_copies_read;
-    }
+read-behind : {d h h' : Device} {cs es : List Device} (w' : World) → IsOnlyRead h h' → IsWorldRead (world d h' cs es) w' → IsWorldRead (world d h cs es) w'
+read-behind w' read behind = record {
+  data_read = behind.data_read;
+  hash_read = only_read-then read behind.hash_read;
+  data_copies_read = behind.data_copies_read;
+  hash_copies_read = behind.hash_copies_read;
+}
 
-    runs-behind : (j : Job) (visits : List Visit) (w' : World) → Runs j visits (world d h' cs es) w' → Runs j visits (world d h cs es) w'
-    runs-behind j [] w' runs = read-behind w' runs
-    runs-behind j (v ∷ more) w' (a, (b, (behind, rest))) = (a, (b, (read-behind a behind, rest)))
+runs-behind : (d h h' : Device) (cs es : List Device) (j : Job) (visits : List Visit) (w' : World) → IsOnlyRead h h' → Runs j visits (world d h' cs es) w' → Runs j visits (world d h cs es) w'
+runs-behind d h h' cs es j [] w' read runs = read-behind w' read runs
+runs-behind d h h' cs es j (v ∷ more) w' read (a, (b, (behind, rest))) = (a, (b, (read-behind a read behind, rest)))
 
-    repairs-behind : (plan : Plan) (parity : Bool) (w' : World) (old new : Option (List ℕ)) (ok : Bool) → Repairs plan parity (world d h' cs es) w' old new ok → Repairs plan parity (world d h cs es) w' old new ok
-    repairs-behind plan parity w' old new ok repairs = record {
-      s = repairs.s;
-      images = images-behind repairs.s repairs.images;
-      run = record { visits = repairs.run.visits; runs = runs-behind _ repairs.run.visits w' repairs.run.runs; done = repairs.run.done; printed = repairs.run.printed };
-    }
+repairs-behind : {d h h' : Device} {cs es : List Device} (plan : Plan) (parity : Bool) (w' : World) (old new : Option (List ℕ)) (ok : Bool) → IsOnlyRead h h'
+    → Repairs plan parity (world d h' cs es) w' old new ok → Repairs plan parity (world d h cs es) w' old new ok
+repairs-behind {d} {h} {h'} {cs} {es} plan parity w' old new ok read repairs = record {
+  s = repairs.s;
+  images = images-behind repairs.s read repairs.images;
+  run = record {
+    visits = repairs.run.visits;
+    runs = runs-behind d h h' cs es (job_of repairs.s plan parity) repairs.run.visits w' read repairs.run.runs;
+    done = repairs.run.done;
+    printed = repairs.run.printed;
+  };
+}
 
-    pub mends-behind : (plan : Plan) (parity : Bool) (w' : World) (old new : Option (List ℕ)) → MendsWhole plan parity (world d h' cs es) w' old new → MendsWhole plan parity (world d h cs es) w' old new
-    mends-behind plan parity w' old new mends = record {
-      mid = mends.mid;
-      repair = repairs-behind plan parity mends.mid old new _ mends.repair;
-      kept = mends.kept;
-      data_copies_are = mends.data_copies_are;
-      hash_copies_are = mends.hash_copies_are;
-      on_medium = mends.on_medium;
-    }
+pub mends-behind : {d h h' : Device} {cs es : List Device} (plan : Plan) (parity : Bool) (w' : World) (old new : Option (List ℕ)) → IsOnlyRead h h'
+    → MendsWhole plan parity (world d h' cs es) w' old new → MendsWhole plan parity (world d h cs es) w' old new
+mends-behind plan parity w' old new read mends = record {
+  mid = mends.mid;
+  repair = repairs-behind plan parity mends.mid old new true read mends.repair;
+  kept = mends.kept;
+  data_copies_are = mends.data_copies_are;
+  hash_copies_are = mends.hash_copies_are;
+  on_medium = mends.on_medium;
+}
 
 -- why there was no image, where the reading before didn't fail
 cause-behind : (d h h' h'' : Device) (fault : RepairFault) → IsFullRead h 1 h' → IsImageCause d h' h'' fault → IsImageCause d h h'' fault
@@ -77,19 +82,19 @@ cause-behind d h h' h'' (Image TooSmall) full (inl none) = inl (rw full.read.sam
 cause-behind d h h' h'' (Image TooSmall) full (inr cut) = inr (cut-behind full.read cut)
 cause-behind d h h' h'' (Image DeviceFailed) full failed = failed-then h h' h'' full.failures failed
 cause-behind d h h' h'' (Image NoMemory) full never = absurd never
-cause-behind d h h' h'' (Image (Super f)) full (some, (sector, (first, is))) = (rw full.read.same.size at some, (sector, (sector-behind full.read sector first, is)))
+cause-behind d h h' h'' (Image (Super f)) full (some, (sector, (first, is))) = (rw full.read.same.size at some, (sector, (sector-behind sector full.read first, is)))
 cause-behind d h h' h'' Write full never = absurd never
 
 unrepaired-behind : (plan : Plan) (parity : Bool) (d h h' : Device) (cs es : List Device) (w' : World) (old new : Option (List ℕ)) (fault : RepairFault) → IsFullRead h 1 h'
     → IsUnrepairedBy plan parity (world d h' cs es) w' old new fault → IsUnrepairedBy plan parity (world d h cs es) w' old new fault
-unrepaired-behind plan parity d h h' cs es w' old new fault full (inl (behind, cause)) = inl (read-behind full.read w' behind, cause-behind d h h' w'.hash_dev fault full cause)
-unrepaired-behind plan parity d h h' cs es w' old new fault full (inr repairs) = inr (repairs-behind full.read plan parity w' old new _ repairs)
+unrepaired-behind plan parity d h h' cs es w' old new fault full (inl (behind, cause)) = inl (read-behind w' full.read behind, cause-behind d h h' w'.hash_dev fault full cause)
+unrepaired-behind plan parity d h h' cs es w' old new fault full (inr repairs) = inr (repairs-behind plan parity w' old new _ full.read repairs)
 
 half-run : (plan : Plan) (parity : Bool) (d h h' : Device) (cs es : List Device) (w' : World) (old new : Option (List ℕ)) (fault : RepairFault) → IsFullRead h 1 h'
     → (IsUnrepairedBy plan parity (world d h' cs es) w' old new fault ⊎ Repairs plan parity (world d h' cs es) w' old new true)
     → (IsUnrepairedBy plan parity (world d h cs es) w' old new fault ⊎ Repairs plan parity (world d h cs es) w' old new true)
 half-run plan parity d h h' cs es w' old new fault full (inl ended) = inl (unrepaired-behind plan parity d h h' cs es w' old new fault full ended)
-half-run plan parity d h h' cs es w' old new fault full (inr repairs) = inr (repairs-behind full.read plan parity w' old new _ repairs)
+half-run plan parity d h h' cs es w' old new fault full (inr repairs) = inr (repairs-behind plan parity w' old new _ full.read repairs)
 
 pub half-behind : (plan : Plan) (parity : Bool) (d h h' : Device) (cs es : List Device) (w' : World) (old new : Option (List ℕ)) (fault : RepairFault) → IsFullRead h 1 h'
     → HalfMends plan parity (world d h' cs es) w' old new fault → HalfMends plan parity (world d h cs es) w' old new fault

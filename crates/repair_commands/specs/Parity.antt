@@ -1,5 +1,5 @@
 -- The file of an image's parity, and how parity lies across the image, by its superblock.
-use Rattle.std.specs.Prelude.{◌≡◌, ◌≢◌, ℕ, ◌<◌, ◌≤◌, false, List, Option}
+use Rattle.std.specs.Prelude.{◌≡◌, ◌≢◌, ℕ, ◌<◌, ◌≤◌, false, Option}
 use Rattle.block_device.specs.declared.file_id.FileId.{FileId}
 use Rattle.block_device.specs.Device.{Device}
 use Rattle.command_line.specs.FecFiles.{FecRecord}

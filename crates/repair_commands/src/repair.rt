@@ -1,5 +1,5 @@
 //! The command `repair`: blocks that aren't good are sought in copies, and what is still lost is told.
-ghost use Rattle.std.specs.Prelude.{◌≡◌, ◌≤◌, ◌^◌, IfErr, OnOk};
+ghost use Rattle.std.specs.Prelude.{◌≡◌, ◌≤◌, ◌^◌, false, IfErr, OnOk};
 ghost use Rattle.image_files.specs.Opener.{IsFresh, calls};
 ghost use Rattle.repair_commands.specs.Commands.{GivesBack, HalfMendsOpened, IsMendingEnd, IsRepairEnd, MendsFiles, MendsOpened, RepairsFiles, fault_of, surveyed};
 ghost use Rattle.tree_commands.specs.Surveys.{IsSurveyFilesEnd, PrintsGood};

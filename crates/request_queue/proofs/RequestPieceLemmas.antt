@@ -1,19 +1,22 @@
--- One piece of a request and a sync, as steps of the world.
-use Rattle.std.proofs.Common.{◌≡◌, ◌<◌, ◌≤◌, ◌-◌, ℕ, List, map, get_or, set, refl, ap, sym, ◌∙◌, subst, arith, Some, Result, Ok, Err}
+-- One piece of a request, a read at once that failed and a sync, as steps of the world.
+use Rattle.std.proofs.Common.{◌≡◌, ◌<◌, ◌≤◌, ◌-◌, ◌/◌, ℕ, List, map, get_or, set, refl, ap, sym, ◌∙◌, subst, arith, Some, Result, Ok, Err}
 use Rattle.std.specs.Prelude.{IfErr, OnOk, position, remove}
-use Rattle.block_device.specs.Device.{Device, synced}
-use Rattle.stack_rules.specs.Records.{Configuration}
+use Rattle.block_device.specs.Device.{synced}
 use Rattle.stack_meaning.specs.declared.fault.IoFault.{IoFault}
+use Rattle.stack_engine.specs.Bytes.{EachBytes}
+use Rattle.stack_engine.specs.KeptBlocks.{ReadKeeps}
 use Rattle.stack_engine.specs.Stacks.{StackRecord, AnswerRecord}
 use Rattle.stack_engine.specs.Syncs.{FailsToSync}
 use Rattle.stack_engine.proofs.lemmas.PieceLemmas.{same-stack}
+use Rattle.request_queue.specs.declared.range.SectorRange.{SectorRange}
 use Rattle.request_queue.specs.declared.reply.Progress.TheVariants.{More, Done}
 use Rattle.request_queue.specs.declared.reply.Reply.{Reply}
 use Rattle.request_queue.specs.Flights.{FlightRecord, IsSoundFlight, reply_to, has_ticket}
 use Rattle.request_queue.specs.Parts.{EachPart, Asks, part_of_work, done_of}
-use Rattle.request_queue.specs.Ranges.{piece_len}
-use Rattle.request_queue.specs.World.{World, world, Serves, Syncs, IsSoundWorld}
+use Rattle.request_queue.specs.Ranges.{bytes_range, piece_len, range_at}
+use Rattle.request_queue.specs.World.{World, world, BytesRead, Serves, Syncs, IsSoundWorld}
 use Rattle.request_queue.specs.Serving.{NextPiece, FailedPiece}
+use Rattle.request_queue.proofs.lemmas.BytesLemmas.{bytes_range-ok}
 use Rattle.request_queue.proofs.lemmas.PartLemmas.{any-keeps, each-any}
 use Rattle.request_queue.proofs.FlightLemmas.{place-inside, at-place, remove-set, sound-next, sound-set, sound-remove}
 
@@ -81,6 +84,18 @@ pub sound-done : (v v' : StackRecord) (given : ℕ) (fs fs' : List FlightRecord)
     → NextPiece v f v' f' → fs' ≡ remove (set fs i f') i → IsSoundWorld v.config given fs → IsSoundWorld v'.config given fs'
 sound-done v v' given fs fs' i f f' p r s =
     subst (λ l. IsSoundWorld v'.config given l) (sym (r ∙ remove-set fs i f')) (sound-remove v.config v'.config given fs i (same-config v v' f (Ok p.got) p.answered) s)
+
+-- ---- a read at once
+
+pub bytes-failed : (v v' : StackRecord) (given : ℕ) (fs : List FlightRecord) (d first size : ℕ) (range : SectorRange) (fault : IoFault) → Ok range ≡ bytes_range v.config d first size
+    → EachBytes v d first (size / 512) (Err fault) v' → ReadKeeps v d first (size / 512) v' → BytesRead EachPart (world v given fs) d first size (Err fault) (world v' given fs)
+bytes-failed v v' given fs d first size range fault found each kept = record {
+  range = range_at d first (size / 512);
+  admits = sym found ∙ ap Ok (sym (bytes_range-ok v.config d first size range (sym found)));
+  stack = v';
+  asks = record { answered = each; kept = kept };
+  leaves = refl;
+}
 
 -- ---- a sync
 

@@ -6,6 +6,7 @@ pub mod PremiseLemmas
 pub mod BudgetLemmas
 pub mod ChainLemmas
 pub mod BytesLemmas
+pub mod KeptLemmas
 pub mod ServedLemmas
 pub mod WholeRunLemmas
 pub mod LedLemmas

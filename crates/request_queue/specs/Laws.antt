@@ -5,6 +5,7 @@ use Rattle.stack_meaning.specs.declared.fault.IoFault.{IoFault}
 use Rattle.stack_meaning.specs.Leaves.{AreSteady}
 use Rattle.stack_rules.specs.Names.{mapped}
 use Rattle.stack_lines.specs.Touches.{leaves_of}
+use Rattle.stack_engine.specs.KeptBlocks.{AreChecked}
 use Rattle.stack_engine.specs.Stacks.{StackRecord, AnswerRecord}
 use Rattle.request_queue.specs.declared.reply.Progress.TheVariants.{More, Done}
 use Rattle.request_queue.specs.declared.reply.Reply.{Reply}
@@ -117,10 +118,17 @@ pub record TurnLaw (w : World) (x : Turn) : Type 0 where
   pub others : (t : ℕ) → t ≤ w.given → is_step t x.event ≡ false → flight_of x.after t ≡ flight_of w t
   pub refused : is_refusal x.event ≡ true → x.after ≡ w
 
+-- What turns left of the hash blocks that a stack keeps: as many may be kept as before, no more are, and no two under one
+-- key; and each has the digest that it is kept under.
+pub record KeepsChecked (v v' : StackRecord) : Type 0 where
+  pub capacity : v'.capacity ≡ v.capacity
+  pub checked : AreChecked v'
+
 -- What holds of every run from a world on. Each chain that an answer hands out is good for its verity line, whatever
 -- the leaves answered, and where it is unlike the data formatted for that line it shows a collision. The bytes of a read
 -- at once are such as some chains allow of which the same holds. Any list of calls leaves the sectors of steady leaves
--- as they were that none of its writes reaches.
+-- as they were that none of its writes reaches. Behind any list of calls each kept hash block was checked, whatever the
+-- leaves answered.
 pub record QueueLaw (w : World) : Type 0 where
   pub requests : (before : List Turn) → Run EachPart w before → (r : RequestRecord) (t : ℕ) (v : World) → (b : Begins (last w before) r t v)
       → (turns : List Turn) → Run EachPart v turns → RequestLaw (last w before) r t b.range v turns
@@ -132,3 +140,4 @@ pub record QueueLaw (w : World) : Type 0 where
       → AreVerified (last w before).stack.config d first (size / 512) got
   pub images : (before : List Turn) → Run EachPart w before → (turns : List Turn) → Run EachPart (last w before) turns
       → StaysBut (changes (last w before) turns) (last w before).stack.leaves (last (last w before) turns).stack.leaves
+  pub kept : (turns : List Turn) → Run EachPart w turns → KeepsChecked w.stack (last w turns).stack

@@ -2,6 +2,7 @@
 use Rattle.std.specs.Prelude.{ℕ, ◌-◌, ◌*◌, List, [], take, drop, Result, Ok, Err}
 use Rattle.stack_meaning.specs.declared.fault.IoFault.{IoFault}
 use Rattle.stack_engine.specs.Bytes.{AnyBytes, SteadyBytes, EachBytes}
+use Rattle.stack_engine.specs.KeptBlocks.{AreChecked, ReadKeeps}
 use Rattle.stack_engine.specs.Pieces.{AnyPiece, SteadyPiece, EachPiece}
 use Rattle.stack_engine.specs.WritePieces.{AnyWrite, SteadyWrite, EachWrite}
 use Rattle.stack_engine.specs.Stacks.{StackRecord, AnswerRecord}
@@ -34,23 +35,50 @@ abbrev pub without_chains : Result (List ℕ) IoFault → Result AnswerRecord Io
 without_chains (Ok bytes) = Ok (record { bytes = bytes; chains = [] })
 without_chains (Err fault) = Err fault
 
+-- ---- what is answered
+
 -- whatever the leaves answer
-abbrev pub AnyPart : PartRelation
-AnyPart v d first (read_part n) answer v' = AnyPiece v d first n answer v'
-AnyPart v d first (bytes_part n) answer v' = AnyBytes v d first n (bytes_read answer) v'
-AnyPart v d first (write_part bytes) answer v' = AnyWrite v d first bytes (ending answer) v'
+abbrev pub AnyAnswer : PartRelation
+AnyAnswer v d first (read_part n) answer v' = AnyPiece v d first n answer v'
+AnyAnswer v d first (bytes_part n) answer v' = AnyBytes v d first n (bytes_read answer) v'
+AnyAnswer v d first (write_part bytes) answer v' = AnyWrite v d first bytes (ending answer) v'
 
 -- over steady leaves: what the stack means
-abbrev pub SteadyPart : PartRelation
-SteadyPart v d first (read_part n) answer v' = SteadyPiece v d first n answer v'
-SteadyPart v d first (bytes_part n) answer v' = SteadyBytes v d first n (bytes_read answer) v'
-SteadyPart v d first (write_part bytes) answer v' = SteadyWrite v d first bytes (ending answer) v'
+abbrev pub SteadyAnswer : PartRelation
+SteadyAnswer v d first (read_part n) answer v' = SteadyPiece v d first n answer v'
+SteadyAnswer v d first (bytes_part n) answer v' = SteadyBytes v d first n (bytes_read answer) v'
+SteadyAnswer v d first (write_part bytes) answer v' = SteadyWrite v d first bytes (ending answer) v'
 
 -- both
+abbrev pub EachAnswer : PartRelation
+EachAnswer v d first (read_part n) answer v' = EachPiece v d first n answer v'
+EachAnswer v d first (bytes_part n) answer v' = EachBytes v d first n (bytes_read answer) v'
+EachAnswer v d first (write_part bytes) answer v' = EachWrite v d first bytes (ending answer) v'
+
+-- ---- and what is kept
+
+-- What a part leaves of the kept hash blocks, whatever it was answered. Which ones a write forgets is said of its answer.
+abbrev pub PartKeeps : StackRecord → ℕ → ℕ → Part → StackRecord → Type 0
+PartKeeps v d first (read_part n) v' = ReadKeeps v d first n v'
+PartKeeps v d first (bytes_part n) v' = ReadKeeps v d first n v'
+PartKeeps v d first (write_part bytes) v' = AreChecked v'
+
+-- a part is answered as the relation says, and the kept hash blocks are left as they may be
+pub record ServesPart (answers : PartRelation) (v : StackRecord) (d first : ℕ) (part : Part) (answer : Result AnswerRecord IoFault) (v' : StackRecord) : Type 0 where
+  pub answered : answers v d first part answer v'
+  pub kept : PartKeeps v d first part v'
+
+-- whatever the leaves answer, over steady leaves, and both
+abbrev pub AnyPart : PartRelation
+AnyPart = ServesPart AnyAnswer
+
+abbrev pub SteadyPart : PartRelation
+SteadyPart = ServesPart SteadyAnswer
+
 abbrev pub EachPart : PartRelation
-EachPart v d first (read_part n) answer v' = EachPiece v d first n answer v'
-EachPart v d first (bytes_part n) answer v' = EachBytes v d first n (bytes_read answer) v'
-EachPart v d first (write_part bytes) answer v' = EachWrite v d first bytes (ending answer) v'
+EachPart = ServesPart EachAnswer
+
+-- ---- requests in flight
 
 -- the next n sectors of a request, after as many as are done
 abbrev pub part_of_work : WorkRecord → ℕ → ℕ → Part

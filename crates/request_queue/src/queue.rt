@@ -67,6 +67,7 @@ impl<D: BlockDev> Queue<D> {
         forged_answers_collide();
         forged_bytes_collide();
         let _loaded = stack.config();
+        let _kept = stack.cached();
         Queue {
             alloc,
             stack,

@@ -2,8 +2,7 @@
 use Rattle.std.proofs.Common.{◌≡◌, ℕ, zero, suc, ◌<◌, ◌+◌, ◌-◌, ◌*◌, ◌/◌, ◌%◌, ◌^◌, List, [], ◌∷◌, length, slice_index, bit_or, arith, refl, subst}
 use Rattle.std.specs.Simd.Lanes.{zip2}
 use Rattle.std.specs.Int.{rotate_right, w32}
-use Rattle.std.specs.Prelude.{slice_set}
-use Rattle.sha256_lanes.specs.Lanes.{word_of_lane, state_of_lane, words_of_lane}
+use Rattle.sha256_lanes.specs.Lanes.{word_of_lane, state_of_lane}
 
 pub below_eight : (P : ℕ → Type 0) → P 0 → P 1 → P 2 → P 3 → P 4 → P 5 → P 6 → P 7 → (j : ℕ) → j < 8 → P j
 below_eight P p0 p1 p2 p3 p4 p5 p6 p7 zero h = p0
@@ -59,35 +58,6 @@ below_sixteen P a0 a1 a2 a3 a4 a5 a6 a7 b0 b1 b2 b3 b4 b5 b6 b7 k h =
     subst P place (below_two (λ row. (col : ℕ) → col < 8 → P (8 * row + col))
     (below_eight _ a0 a1 a2 a3 a4 a5 a6 a7) (below_eight _ b0 b1 b2 b3 b4 b5 b6 b7)
     (k / 8) (omega arith) (k % 8) (omega arith))
-
--- word k of message j
-pub slice_index-words_of_lane : (x : List (List ℕ)) (j k : ℕ) → k < 16 → slice_index (words_of_lane j x) k ≡ word_of_lane x k j
-slice_index-words_of_lane x j = below_sixteen _ refl refl refl refl refl refl refl refl refl refl refl refl refl refl refl refl
-
-pub sixteen_words : (P : List (List ℕ) → Type 0) → ((a0 a1 a2 a3 a4 a5 a6 a7 a8 a9 a10 a11 a12 a13 a14 a15 : List ℕ) → P (a0 ∷ a1 ∷ a2 ∷ a3 ∷ a4 ∷ a5 ∷ a6 ∷ a7 ∷ a8 ∷ a9 ∷ a10 ∷ a11 ∷ a12 ∷ a13 ∷ a14 ∷ a15 ∷ [])) → (xs : List (List ℕ)) → length xs ≡ 16 → P xs
-sixteen_words P p (a0 ∷ a1 ∷ a2 ∷ a3 ∷ a4 ∷ a5 ∷ a6 ∷ a7 ∷ a8 ∷ a9 ∷ a10 ∷ a11 ∷ a12 ∷ a13 ∷ a14 ∷ a15 ∷ []) h = p a0 a1 a2 a3 a4 a5 a6 a7 a8 a9 a10 a11 a12 a13 a14 a15
-sixteen_words P p ([]) h = absurd (omega arith)
-sixteen_words P p (a0 ∷ []) h = absurd (omega arith)
-sixteen_words P p (a0 ∷ a1 ∷ []) h = absurd (omega arith)
-sixteen_words P p (a0 ∷ a1 ∷ a2 ∷ []) h = absurd (omega arith)
-sixteen_words P p (a0 ∷ a1 ∷ a2 ∷ a3 ∷ []) h = absurd (omega arith)
-sixteen_words P p (a0 ∷ a1 ∷ a2 ∷ a3 ∷ a4 ∷ []) h = absurd (omega arith)
-sixteen_words P p (a0 ∷ a1 ∷ a2 ∷ a3 ∷ a4 ∷ a5 ∷ []) h = absurd (omega arith)
-sixteen_words P p (a0 ∷ a1 ∷ a2 ∷ a3 ∷ a4 ∷ a5 ∷ a6 ∷ []) h = absurd (omega arith)
-sixteen_words P p (a0 ∷ a1 ∷ a2 ∷ a3 ∷ a4 ∷ a5 ∷ a6 ∷ a7 ∷ []) h = absurd (omega arith)
-sixteen_words P p (a0 ∷ a1 ∷ a2 ∷ a3 ∷ a4 ∷ a5 ∷ a6 ∷ a7 ∷ a8 ∷ []) h = absurd (omega arith)
-sixteen_words P p (a0 ∷ a1 ∷ a2 ∷ a3 ∷ a4 ∷ a5 ∷ a6 ∷ a7 ∷ a8 ∷ a9 ∷ []) h = absurd (omega arith)
-sixteen_words P p (a0 ∷ a1 ∷ a2 ∷ a3 ∷ a4 ∷ a5 ∷ a6 ∷ a7 ∷ a8 ∷ a9 ∷ a10 ∷ []) h = absurd (omega arith)
-sixteen_words P p (a0 ∷ a1 ∷ a2 ∷ a3 ∷ a4 ∷ a5 ∷ a6 ∷ a7 ∷ a8 ∷ a9 ∷ a10 ∷ a11 ∷ []) h = absurd (omega arith)
-sixteen_words P p (a0 ∷ a1 ∷ a2 ∷ a3 ∷ a4 ∷ a5 ∷ a6 ∷ a7 ∷ a8 ∷ a9 ∷ a10 ∷ a11 ∷ a12 ∷ []) h = absurd (omega arith)
-sixteen_words P p (a0 ∷ a1 ∷ a2 ∷ a3 ∷ a4 ∷ a5 ∷ a6 ∷ a7 ∷ a8 ∷ a9 ∷ a10 ∷ a11 ∷ a12 ∷ a13 ∷ []) h = absurd (omega arith)
-sixteen_words P p (a0 ∷ a1 ∷ a2 ∷ a3 ∷ a4 ∷ a5 ∷ a6 ∷ a7 ∷ a8 ∷ a9 ∷ a10 ∷ a11 ∷ a12 ∷ a13 ∷ a14 ∷ []) h = absurd (omega arith)
-sixteen_words P p (a0 ∷ a1 ∷ a2 ∷ a3 ∷ a4 ∷ a5 ∷ a6 ∷ a7 ∷ a8 ∷ a9 ∷ a10 ∷ a11 ∷ a12 ∷ a13 ∷ a14 ∷ a15 ∷ a ∷ xs) h = absurd (omega arith)
-
--- a word written into the ring is written into each message's ring
-pub words_of_lane-set : (j : ℕ) (y : List ℕ) (x : List (List ℕ)) → length x ≡ 16 → (k : ℕ) → k < 16 → words_of_lane j (slice_set x k y) ≡ slice_set (words_of_lane j x) k (slice_index y j)
-words_of_lane-set j y = sixteen_words (λ x. (k : ℕ) → k < 16 → words_of_lane j (slice_set x k y) ≡ slice_set (words_of_lane j x) k (slice_index y j)) (λ a0 a1 a2 a3 a4 a5 a6 a7 a8 a9 a10 a11 a12 a13 a14 a15.
-    below_sixteen _ refl refl refl refl refl refl refl refl refl refl refl refl refl refl refl refl)
 
 -- working variable k of message j
 pub slice_index-state_of_lane : (x : List (List ℕ)) (j k : ℕ) → k < 8 → slice_index (state_of_lane j x) k ≡ word_of_lane x k j

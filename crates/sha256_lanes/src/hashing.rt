@@ -8,9 +8,16 @@ use crate::message::message_blocks;
 use crate::rounds;
 use std::simd::prelude::*;
 
-// Takes message block `index` of each message into its lane.
+// Takes message block `index` of each message into its lane, with room for its schedule's words.
 #[inline(always)]
-fn take_in(state: &mut [u32x8; 8], prefix: &[u8], blocks: &[u8], size: usize, index: usize)
+fn take_in(
+    state: &mut [u32x8; 8],
+    words: &mut [u32x8; 64],
+    prefix: &[u8],
+    blocks: &[u8],
+    size: usize,
+    index: usize,
+)
     requires blocks { length blocks.now ≡ 8 * size }
     requires room { length prefix.now + size + 136 < 2 ^ 64 }
     requires inside { index < (length prefix.now + size + 72) / 64 }
@@ -19,10 +26,10 @@ fn take_in(state: &mut [u32x8; 8], prefix: &[u8], blocks: &[u8], size: usize, in
     let at = index * 64;
     if prefix.len() <= at && at + 64 <= prefix.len() + size {
         let from = at - prefix.len();
-        rounds::compress(state, blocks, from, size);
+        rounds::compress(state, words, blocks, from, size);
     } else {
         let bytes = message_blocks(prefix, blocks, size, index);
-        rounds::compress(state, &bytes, 0, 64);
+        rounds::compress(state, words, &bytes, 0, 64);
     }
 }
 
@@ -42,8 +49,9 @@ pub fn digest_eight(prefix: &[u8], blocks: &[u8], size: usize) -> [[u8; 32]; 8]
         u32x8::splat(0x1f83d9ab),
         u32x8::splat(0x5be0cd19),
     ];
+    let mut words = [u32x8::splat(0); 64];
     for index in 0..count {
-        take_in(&mut state, prefix, blocks, size, index);
+        take_in(&mut state, &mut words, prefix, blocks, size, index);
     }
     digests(&state)
 }

@@ -5,7 +5,9 @@ ghost use Rattle.command_line.specs.words.Repair.{repair_record};
 ghost use Rattle.image_files.specs.Opener.{calls};
 ghost use Rattle.stack_commands.specs.Repairing.{IsParityWordsEnd, IsRepairWordsEnd, RepairsImage, parity_fault};
 ghost use Rattle.repair_commands.specs.ByParity.{RepairsByParity};
+ghost use Rattle.repair_commands.specs.Commands.{IsRepairEnd, RepairsFiles};
 ghost use Rattle.repair_commands.specs.Pairs.{places_of};
+ghost use Rattle.stack_commands.specs.Uses.{IsTreesEnd};
 
 use crate::fault::CommandFault;
 use command_line::{FecFile, ImageCopy, RepairWords};
@@ -20,8 +22,8 @@ use tree_shape::Digest;
 use verity_commands::{VerityFault, root_in, sector_at};
 use watched_device::Watchers;
 
-/// `repair [--check] [--fec FILE [--fec-roots N]] [--hash-offset BYTES] [--root-hash-file FILE] DATA HASH [ROOT] [COPY ..]`: the root is known before an
-/// image is opened.
+/// `repair [--check] [--fec FILE [--fec-roots N]] [--hash-offset BYTES] [--root-hash-file FILE] DATA HASH [ROOT] [COPY ..]`: the root
+/// is known before an image is opened.
 pub fn repair_image<'a, I: Images, S: Watchers, W: Write>(
     alloc: Global,
     images: &mut I,
@@ -44,13 +46,30 @@ pub fn repair_image<'a, I: Images, S: Watchers, W: Write>(
     };
     let copies = words.copies.as_slice();
     match &words.fec {
-        None => Ok(repair_images(alloc, images, watchers, places, copies, &root, writer)?),
-        Some(fec) => repair_with(alloc, images, watchers, places, fec, copies, &root, writer),
+        None => by_copies(alloc, images, watchers, places, copies, &root, writer),
+        Some(fec) => by_parity(alloc, images, watchers, places, fec, copies, &root, writer),
     }
 }
 
-// The same with parity, of which a codeword may have 2 to 24 bytes.
-fn repair_with<'a, I: Images, S: Watchers, W: Write>(
+// Without parity.
+fn by_copies<'a, I: Images, S: Watchers, W: Write>(
+    alloc: Global,
+    images: &mut I,
+    watchers: &S,
+    places: RepairPlaces<'a>,
+    copies: &[ImageCopy<'a>],
+    root: &Digest,
+    writer: &mut Counted<W>,
+) -> Result<(), CommandFault<'a>>
+    requires { places.hash_first ≤ 2 ^ 55 }
+    ensures ok { OnOk result (RepairsFiles (calls I.relations I.Dev.state images.old images.new) (places_of places.entry) copies.now root.now (W.contents writer.old.inner) (W.contents writer.new.inner)) }
+    ensures err { IfErr result (IsTreesEnd (IsRepairEnd (calls I.relations I.Dev.state images.old images.new) (places_of places.entry) copies.now root.now (W.contents writer.old.inner) (W.contents writer.new.inner) writer.new.failed)) }
+{
+    Ok(repair_images(alloc, images, watchers, places, copies, root, writer)?)
+}
+
+// By parity too, of which a codeword has 2 to 24 bytes.
+fn by_parity<'a, I: Images, S: Watchers, W: Write>(
     alloc: Global,
     images: &mut I,
     watchers: &S,
@@ -73,7 +92,7 @@ fn repair_with<'a, I: Images, S: Watchers, W: Write>(
     }
 }
 
-// Its texts and statuses are those of the other commands on parity.
+// The texts and statuses of its faults are those of the other commands on parity.
 fn parity_fault(fault: ParityRepairFault<'_>) -> CommandFault<'_>
     ensures { result ≡ parity_fault fault.entry }
 {

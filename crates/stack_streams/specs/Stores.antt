@@ -49,6 +49,7 @@ pub record HasStored (d first n : ℕ) (old new : StoreSide) : Type 0 where
 pub record IsSynced (old new : StackRecord) : Type 0 where
   pub config : new.config ≡ old.config
   pub capacity : new.capacity ≡ old.capacity
+  pub kept : new.kept ≡ old.kept
   pub leaves : new.leaves ≡ map synced old.leaves
 
 -- all bytes of the reader were written, those of n sectors, and put on the media
@@ -77,7 +78,7 @@ pub record IsWriteStop (d first n : ℕ) (old new : StoreSide) (fault : IoFault)
 
 -- all was written, and a leaf couldn't be synced
 abbrev pub IsUnsynced : StoreCause → StackRecord → StackRecord → Type 0
-IsUnsynced (cause.Sync fault) old new = (new.config ≡ old.config) × (new.capacity ≡ old.capacity) × FailsToSync old.leaves new.leaves fault
+IsUnsynced (cause.Sync fault) old new = (new.config ≡ old.config) × (new.capacity ≡ old.capacity) × (new.kept ≡ old.kept) × FailsToSync old.leaves new.leaves fault
 IsUnsynced other old new = ⊥
 
 -- why it ended early behind so many sectors, where the reader may be broken

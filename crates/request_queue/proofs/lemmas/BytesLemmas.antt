@@ -194,8 +194,8 @@ bytes-at w d first size answer w' s =
     (subst (λ (x : SectorRange). EachBytes w.stack x.device.0 x.first x.count answer s.stack) (sym same) (asked answer s))
   where
     asked : (answer : Result (List ℕ) IoFault) (s : BytesRead EachPart w d first size answer w') → EachBytes w.stack s.range.device.0 s.range.first s.range.count answer s.stack
-    asked (Ok bytes) s = s.asks
-    asked (Err fault) s = s.asks
+    asked (Ok bytes) s = s.asks.answered
+    asked (Err fault) s = s.asks.answered
 
 -- ---- chains
 

@@ -116,7 +116,7 @@ module _ (good : AnsweredChainsAreGood) (forged : ForgedAnswersCollide) where
   -- a request after one piece more
   work-verified : (v : StackRecord) (d first done n : ℕ) (work : WorkRecord) (got : AnswerRecord) (v' : StackRecord) → IsLoaded v.config → AnyPart v d first (part_of_work work done n) (Ok got) v'
       → AllVerified v.config (work_chains work) → AllVerified v.config (work_chains (next_work work got))
-  work-verified v d first done n (reads old) got v' loaded p all = All-append (IsVerified v.config) old.chains got.chains all (piece-verified v.config loaded (mapped d) first n got p.may)
+  work-verified v d first done n (reads old) got v' loaded p all = All-append (IsVerified v.config) old.chains got.chains all (piece-verified v.config loaded (mapped d) first n got p.answered.may)
   work-verified v d first done n (writes bytes) got v' loaded p all = all
 
   module _ (w : World) (honest : IsHonest w) (i : ℕ) (f : FlightRecord) (own : HasVerified w.stack.config f) where

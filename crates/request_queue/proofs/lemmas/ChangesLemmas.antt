@@ -117,9 +117,9 @@ front-stays v d first front bytes result v' few p =
 
 part-stays : (v : StackRecord) (d first : ℕ) (part : Part) (answer : Result AnswerRecord IoFault) (v' : StackRecord) → AnyPart v d first part answer v'
     → Stays (part_changes v.config d first part) (part_touches v.config d first part) v.leaves v'.leaves
-part-stays v d first (read_part n) answer v' p = stays-read _ (untouched-beneath v.config d p.touches) p.moved
-part-stays v d first (bytes_part n) answer v' p = stays-read _ (untouched-beneath v.config d p.touches) p.moved
-part-stays v d first (write_part bytes) answer v' p = stays-others p.moved.moved.fixed p.moved.others
+part-stays v d first (read_part n) answer v' p = stays-read _ (untouched-beneath v.config d p.answered.touches) p.answered.moved
+part-stays v d first (bytes_part n) answer v' p = stays-read _ (untouched-beneath v.config d p.answered.touches) p.answered.moved
+part-stays v d first (write_part bytes) answer v' p = stays-others p.answered.moved.moved.fixed p.answered.moved.others
 
 -- ---- one event
 
@@ -188,7 +188,7 @@ bytes-stay these w d first size (Err fault) w' s = world-stays these _ w w' s.1
 bytes-stay these w d first size (Ok answer) w' s =
     leaves-to these (leaves_beneath w.stack.config d) w.stack.leaves s.stack w.given w.in_flight w' s.leaves
     (subst (λ k. Stays these (leaves_beneath w.stack.config k) w.stack.leaves s.stack.leaves) (ap (λ (x : SectorRange). x.device.0) (sym (bytes_range-ok w.stack.config d first size s.range s.admits)))
-    (stays-read these (untouched-beneath w.stack.config s.range.device.0 s.asks.any.touches) s.asks.any.moved))
+    (stays-read these (untouched-beneath w.stack.config s.range.device.0 s.asks.answered.any.touches) s.asks.answered.any.moved))
 
 -- what an event may leave
 abbrev EventStays : World → Event → World → Type 0

@@ -1,5 +1,5 @@
 -- The pieces of writes that steps serve, and what they leave.
-use Rattle.std.proofs.Common.{◌≡◌, ℕ, ◌+◌, ◌/◌, false, true, List, [], ◌∷◌, ◌++◌, length, All, ap, sym, ◌∙◌, subst, Option, Some, Result, Ok, Err}
+use Rattle.std.proofs.Common.{◌≡◌, ℕ, ◌/◌, false, true, List, [], ◌∷◌, ◌++◌, length, All, ap, sym, ◌∙◌, subst, Option, Some, Result, Ok, Err}
 use Rattle.std.proofs.lemmas.List.Elements.{All-head, All-tail}
 use Rattle.block_device.specs.Device.{Device}
 use Rattle.dm_table.specs.declared.stack.Entry.{Entry}
@@ -74,9 +74,9 @@ write-puts v d first bytes result v' p =
     }) all_put
 
 part-puts : (v : StackRecord) (d first : ℕ) (part : Part) (answer : Result AnswerRecord IoFault) (v' : StackRecord) → EachPart v d first part answer v' → Leave (part_pieces v.config d first part (ending answer)) v v'
-part-puts v d first (read_part n) answer v' p = none-put (images-kept p.any.moved)
-part-puts v d first (bytes_part n) answer v' p = none-put (images-kept p.any.moved)
-part-puts v d first (write_part bytes) answer v' p = write-puts v d first bytes (ending answer) v' p
+part-puts v d first (read_part n) answer v' p = none-put (images-kept p.answered.any.moved)
+part-puts v d first (bytes_part n) answer v' p = none-put (images-kept p.answered.any.moved)
+part-puts v d first (write_part bytes) answer v' p = write-puts v d first bytes (ending answer) v' p.answered
 
 -- ---- one event
 
@@ -104,7 +104,7 @@ same-world w w' e = same-leaves w.stack w'.stack (ap (λ (x : World). x.stack.le
 
 bytes-put : (w : World) (d first size : ℕ) (reply : Result (Result (List ℕ) IoFault) SubmitFault) (w' : World) → ReadsBytes EachPart w d first size reply w' → Leave [] w.stack w'.stack
 bytes-put w d first size (Err fault) w' s = same-world w w' s.1
-bytes-put w d first size (Ok answer) w' s = none-put (ap (λ (x : World). steady_images x.stack.leaves) s.leaves ∙ images-kept s.asks.any.moved)
+bytes-put w d first size (Ok answer) w' s = none-put (ap (λ (x : World). steady_images x.stack.leaves) s.leaves ∙ images-kept s.asks.answered.any.moved)
 
 loads-put : (w : World) (text : List Entry) (reply : Result Unit (Held LoadFault)) (w' : World) → Loads w text reply w' → Leave [] w.stack w'.stack
 loads-put w text (Ok done) w' s = same-leaves w.stack w'.stack (ap (λ (x : World). x.stack.leaves) s.leaves)

@@ -1,4 +1,5 @@
 -- What holds of every run of a queue.
+use Rattle.stack_engine.specs.KeptBlocks.{AreChecked}
 use Rattle.stack_engine.specs.Laws.{AnsweredChainsAreGood, ForgedAnswersCollide, ForgedBytesCollide}
 use Rattle.request_queue.specs.Laws.{QueueLaw}
 use Rattle.request_queue.specs.Runs.{last}
@@ -7,12 +8,13 @@ use Rattle.request_queue.proofs.lemmas.BudgetLemmas.{InOrder}
 use Rattle.request_queue.proofs.lemmas.BytesLemmas.{bytes-verified}
 use Rattle.request_queue.proofs.lemmas.ChainLemmas.{IsHonest, honest-run, honest-turn}
 use Rattle.request_queue.proofs.lemmas.ChangesLemmas.{images-stay}
+use Rattle.request_queue.proofs.lemmas.KeptLemmas.{run-keeps}
 use Rattle.request_queue.proofs.lemmas.PremiseLemmas.{run-any, step-any}
 use Rattle.request_queue.proofs.lemmas.ServedLemmas.{order-kept, request-law, run-law, turn-law}
 
--- every run from a world whose tickets are in order, and which holds verified chains
-pub queue-law : AnsweredChainsAreGood → ForgedAnswersCollide → ForgedBytesCollide → (w : World) → InOrder w → IsHonest w → QueueLaw w
-queue-law good forged unlike w order honest = record {
+-- every run from a world whose tickets are in order, which holds verified chains, and whose kept hash blocks were checked
+pub queue-law : AnsweredChainsAreGood → ForgedAnswersCollide → ForgedBytesCollide → (w : World) → InOrder w → IsHonest w → AreChecked w.stack → QueueLaw w
+queue-law good forged unlike w order honest checked = record {
   requests = λ before done r t v b turns each. request-law (last w before) r t v turns (order-kept w before order done) b each;
   runs = λ before done r answer w' s. run-law (last w before) r answer w' (order-kept w before order done) s;
   turns = λ before done x s. turn-law (last w before) x (order-kept w before order done) s;
@@ -22,4 +24,5 @@ queue-law good forged unlike w order honest = record {
       bytes-verified unlike (last w before) (honest-run good forged w before honest (run-any w before done)).loaded d first size got w' s;
   images = λ before done turns each.
       images-stay good forged (last w before) turns (honest-run good forged w before honest (run-any w before done)) (order-kept w before order done) each;
+  kept = λ turns each. run-keeps w turns checked each;
 }

@@ -8,6 +8,7 @@ use Rattle.stack_rules.specs.Names.{mapped}
 use Rattle.stack_rules.specs.Rules.{IsLoaded}
 use Rattle.stack_meaning.specs.declared.fault.IoFault.{IoFault}
 use Rattle.stack_meaning.specs.declared.fault.IoFault.TheVariants as io
+use Rattle.stack_engine.specs.KeptBlocks.{ReadKeeps}
 use Rattle.stack_engine.specs.Pieces.{EachPiece}
 use Rattle.stack_engine.specs.WritePieces.{EachWrite, WritesInPieces}
 use Rattle.stack_meaning.specs.Reading.{Gets}
@@ -22,12 +23,12 @@ use Rattle.request_queue.specs.declared.reply.Reply.{Reply}
 use Rattle.request_queue.specs.declared.reply.Reply.TheVariants.{Sectors, Written}
 use Rattle.request_queue.specs.Requests.{RequestRecord, a_read, a_write}
 use Rattle.request_queue.specs.Flights.{FlightRecord, reads, writes, first_flight, next_flight, next_work, joint_answer, nothing, reply_to}
-use Rattle.request_queue.specs.Parts.{EachPart, Asks, ending, part_of_work, done_of}
-use Rattle.request_queue.specs.Ranges.{piece_len}
+use Rattle.request_queue.specs.Parts.{EachPart, Asks, ending, read_part, part_of_work, done_of}
 use Rattle.request_queue.specs.World.{World, Serves, Begins, Ends, at_once, later, next_count}
 use Rattle.request_queue.specs.Runs.{flight_of}
 use Rattle.request_queue.specs.WholeRuns.{ReadsWhole, WritesWhole, Whole, RunAnswers}
 use Rattle.request_queue.proofs.lemmas.AdmissionLemmas.{admission-whole}
+use Rattle.request_queue.proofs.lemmas.KeptLemmas.{KeepsSame, keeps-then}
 use Rattle.request_queue.proofs.lemmas.PremiseLemmas.{serves-any}
 use Rattle.request_queue.proofs.lemmas.BudgetLemmas.{InOrder, has-served, newly, piece_len-within}
 use Rattle.request_queue.proofs.lemmas.ServedLemmas.{same-flight, after-more}
@@ -47,31 +48,31 @@ pub record ReadSoFar (base : StackRecord) (range : SectorRange) (t : ℕ) (w : W
   pub work : f.work ≡ reads got
   pub gets : Gets (pieces_expected base.config (mapped range.device.0) range.first done) base.leaves w.stack.leaves (Ok got)
   pub touches : TouchesOnly (leaves_of base.config (mapped range.device.0)) base.leaves w.stack.leaves (Ok got)
+  pub keeps : KeepsSame base range.device.0 range.first done w.stack
 
 -- what a piece did to the leaves
 abbrev IsPiece : Configuration → ℕ → ℕ → ℕ → List Device → List Device → Result AnswerRecord IoFault → Type 0
 IsPiece c d first n old new answer = Gets (piece_expected c (mapped d) first n) old new answer × TouchesOnly (leaves_of c (mapped d)) old new answer
 
--- the piece that a step of it reads
-piece-of : (base : StackRecord) (range : SectorRange) (t : ℕ) (w w' : World) (u : ReadSoFar base range t w) (f : FlightRecord) (answer : Result AnswerRecord IoFault) (stack : StackRecord) → f ≡ u.f → stack ≡ w'.stack
-    → Asks EachPart w.stack f answer stack → IsPiece base.config range.device.0 (range.first + u.done) (next_count w f) w.stack.leaves w'.stack.leaves answer
-piece-of base range t w w' u f answer stack same now p =
+-- the piece that a step of it reads, behind the sectors that are read
+read-part : (base : StackRecord) (range : SectorRange) (t : ℕ) (w w' : World) (u : ReadSoFar base range t w) (f : FlightRecord) (answer : Result AnswerRecord IoFault) (stack : StackRecord) → f ≡ u.f → stack ≡ w'.stack
+    → Asks EachPart w.stack f answer stack → EachPart w.stack range.device.0 (range.first + u.done) (read_part (next_count w f)) answer w'.stack
+read-part base range t w w' u f answer stack same now p =
     let n = next_count w f in
     let work : f.work ≡ reads u.got = ap (λ (x : FlightRecord). x.work) same ∙ u.work in
-    let piece : EachPiece w.stack f.rest.device.0 f.rest.first n answer stack = subst (λ x. EachPart w.stack f.rest.device.0 f.rest.first (part_of_work x (done_of f) n) answer stack) work p in
     let device : f.rest.device.0 ≡ range.device.0 = ap (λ (x : FlightRecord). x.rest.device.0) same ∙ ap (λ d. d.0) u.device in
     let first : f.rest.first ≡ range.first + u.done = ap (λ (x : FlightRecord). x.rest.first) same ∙ u.at in
-    subst (λ (x : StackRecord). IsPiece base.config range.device.0 (range.first + u.done) n w.stack.leaves x.leaves answer) now
-    (subst (λ c. IsPiece c range.device.0 (range.first + u.done) n w.stack.leaves stack.leaves answer) u.config
-    (subst (λ s. IsPiece w.stack.config range.device.0 s n w.stack.leaves stack.leaves answer) first
-    (subst (λ d. IsPiece w.stack.config d f.rest.first n w.stack.leaves stack.leaves answer) device
-    (piece-got f.rest.device.0 f.rest.first n answer piece, piece.any.touches))))
+    subst (λ (x : StackRecord). EachPart w.stack range.device.0 (range.first + u.done) (read_part n) answer x) now
+    (subst (λ s. EachPart w.stack range.device.0 s (read_part n) answer stack) first
+    (subst (λ d. EachPart w.stack d f.rest.first (read_part n) answer stack) device
+    (subst (λ x. EachPart w.stack f.rest.device.0 f.rest.first (part_of_work x (done_of f) n) answer stack) work p)))
 
-piece-capacity : (v v' : StackRecord) (f : FlightRecord) (answer : Result AnswerRecord IoFault) {got : AnswerRecord} (stack : StackRecord) → f.work ≡ reads got → stack ≡ v' → Asks EachPart v f answer stack → v'.capacity ≡ v.capacity
-piece-capacity v v' f answer {got = got} stack work now p =
-    let n = piece_len v.config f.rest in
-    let piece : EachPiece v f.rest.device.0 f.rest.first n answer stack = subst (λ x. EachPart v f.rest.device.0 f.rest.first (part_of_work x (done_of f) n) answer stack) work p in
-    subst (λ (x : StackRecord). x.capacity ≡ v.capacity) now piece.any.capacity
+-- over the configuration that the read began with
+piece-of : (base : StackRecord) (range : SectorRange) (t : ℕ) (w w' : World) (u : ReadSoFar base range t w) (n : ℕ) (answer : Result AnswerRecord IoFault)
+    → EachPiece w.stack range.device.0 (range.first + u.done) n answer w'.stack → IsPiece base.config range.device.0 (range.first + u.done) n w.stack.leaves w'.stack.leaves answer
+piece-of base range t w w' u n answer piece =
+    subst (λ c. IsPiece c range.device.0 (range.first + u.done) n w.stack.leaves w'.stack.leaves answer) u.config
+    (piece-got range.device.0 (range.first + u.done) n answer piece, piece.any.touches)
 
 further : (base : StackRecord) (range : SectorRange) (t : ℕ) (w w' : World) → ReadSoFar base range t w → Serves EachPart w t More w' → ReadSoFar base range t w'
 further base range t w w' u s =
@@ -79,7 +80,8 @@ further base range t w w' u s =
     let same = same-flight EachPart t w w' u.f u.order u.there More s in
     let n = next_count w s.f in
     let most : n ≤ s.f.rest.count = piece_len-within w.stack.config s.f.rest in
-    let piece = piece-of base range t w w' u s.f (Ok s.answers.got) s.answers.stack same (sym (ap (λ (y : World). y.stack) s.answers.leaves)) s.answers.asks in
+    let part = read-part base range t w w' u s.f (Ok s.answers.got) s.answers.stack same (sym (ap (λ (y : World). y.stack) s.answers.leaves)) s.answers.asks in
+    let piece = piece-of base range t w w' u n (Ok s.answers.got) part.answered in
     let first : s.f.rest.first ≡ range.first + u.done = ap (λ (x : FlightRecord). x.rest.first) same ∙ u.at in
     let count : s.f.rest.count ≡ u.f.rest.count = ap (λ (x : FlightRecord). x.rest.count) same in
     record {
@@ -87,7 +89,7 @@ further base range t w w' u s =
       there = after-more EachPart t w w' u.f u.order u.there s;
       order = own.order;
       config = own.config ∙ u.config;
-      capacity = piece-capacity w.stack w'.stack s.f (Ok s.answers.got) s.answers.stack (ap (λ (x : FlightRecord). x.work) same ∙ u.work) (sym (ap (λ (y : World). y.stack) s.answers.leaves)) s.answers.asks ∙ u.capacity;
+      capacity = part.answered.any.capacity ∙ u.capacity;
       device = ap (λ (x : FlightRecord). x.rest.device) same ∙ u.device;
       done = u.done + n;
       at = omega (arith, first);
@@ -96,11 +98,12 @@ further base range t w w' u s =
       work = ap (λ work. next_work work s.answers.got) (ap (λ (x : FlightRecord). x.work) same ∙ u.work);
       gets = more-pieces base.config (mapped range.device.0) range.first u.done n {before = u.got} u.gets {answer = s.answers.got} piece.0;
       touches = touches-as (Ok _) tt (touches-then u.touches piece.1);
+      keeps = (keeps-then base w.stack w'.stack range.device.0 range.first u.done n (u.done + n) u.config (omega arith) u.keeps part.kept).same;
     }
 
 whole-of : {v v' : StackRecord} (range : SectorRange) (answer : Result AnswerRecord IoFault) → v'.config ≡ v.config → v'.capacity ≡ v.capacity → Gets (pieces_expected v.config (mapped range.device.0) range.first range.count) v.leaves v'.leaves answer
-    → TouchesOnly (leaves_of v.config (mapped range.device.0)) v.leaves v'.leaves answer → ReadsWhole v range answer v'
-whole-of range answer config capacity p touches = record { config = config; capacity = capacity; moved = p.moved; may = p.may; touches = touches; exact = p.exact }
+    → TouchesOnly (leaves_of v.config (mapped range.device.0)) v.leaves v'.leaves answer → ReadKeeps v range.device.0 range.first range.count v' → ReadsWhole v range answer v'
+whole-of range answer config capacity p touches kept = record { config = config; capacity = capacity; moved = p.moved; may = p.may; touches = touches; kept = kept; exact = p.exact }
 
 -- its last step
 read-over : (base : StackRecord) (range : SectorRange) (t : ℕ) (name : List ℕ) (first count : ℕ) (answer : Result Reply IoFault) (w w' : World) → ReadSoFar base range t w → Serves EachPart w t (Done answer) w'
@@ -113,11 +116,13 @@ read-over base range t name first count (Ok reply) w w' u s =
     let last : u.done + n ≡ range.count = omega (arith, s.answers.last, ap (λ (x : FlightRecord). x.rest.count) same, u.left) in
     let work : next_work s.f.work s.answers.got ≡ reads all = ap (λ work. next_work work s.answers.got) (ap (λ (x : FlightRecord). x.work) same ∙ u.work) in
     let is : reply ≡ Sectors all = s.answers.replies ∙ ap reply_to work in
-    let piece = piece-of base range t w w' u s.f (Ok s.answers.got) s.answers.stack same (sym (ap (λ (y : World). y.stack) s.answers.leaves)) s.answers.asks in
+    let part = read-part base range t w w' u s.f (Ok s.answers.got) s.answers.stack same (sym (ap (λ (y : World). y.stack) s.answers.leaves)) s.answers.asks in
+    let piece = piece-of base range t w w' u n (Ok s.answers.got) part.answered in
     let gets = more-pieces base.config (mapped range.device.0) range.first u.done n {before = u.got} u.gets {answer = s.answers.got} piece.0 in
-    let capacity : w'.stack.capacity ≡ w.stack.capacity = piece-capacity w.stack w'.stack s.f (Ok s.answers.got) s.answers.stack (ap (λ (x : FlightRecord). x.work) same ∙ u.work) (sym (ap (λ (y : World). y.stack) s.answers.leaves)) s.answers.asks in
     let whole : ReadsWhole base range (Ok all) w'.stack =
-    whole-of {v = base} {v' = w'.stack} range (Ok all) (own.config ∙ u.config) (capacity ∙ u.capacity) (subst (λ k. Gets (pieces_expected base.config (mapped range.device.0) range.first k) base.leaves w'.stack.leaves (Ok all)) last gets) (touches-as (Ok all) tt (touches-then u.touches piece.1)) in
+    whole-of {v = base} {v' = w'.stack} range (Ok all) (own.config ∙ u.config) (part.answered.any.capacity ∙ u.capacity)
+    (subst (λ k. Gets (pieces_expected base.config (mapped range.device.0) range.first k) base.leaves w'.stack.leaves (Ok all)) last gets) (touches-as (Ok all) tt (touches-then u.touches piece.1))
+    (keeps-then base w.stack w'.stack range.device.0 range.first u.done n range.count u.config (omega (arith, last)) u.keeps part.kept) in
     subst (λ x. Whole (a_read name first count) base range (Ok x) w'.stack) (sym is) whole
 read-over base range t name first count (Err fault) w w' u s =
     let own = has-served w t (Done (Err fault)) w' u.order (serves-any w t (Done (Err fault)) w' s) in
@@ -125,11 +130,12 @@ read-over base range t name first count (Err fault) w w' u s =
     let n = next_count w s.f in
     let most : n ≤ s.f.rest.count = piece_len-within w.stack.config s.f.rest in
     let inside : u.done + n ≤ range.count = omega (arith, most, ap (λ (x : FlightRecord). x.rest.count) same, u.left) in
-    let piece = piece-of base range t w w' u s.f (Err fault) s.answers.stack same (sym (ap (λ (y : World). y.stack) s.answers.leaves)) s.answers.asks in
-    let capacity : w'.stack.capacity ≡ w.stack.capacity = piece-capacity w.stack w'.stack s.f (Err fault) s.answers.stack (ap (λ (x : FlightRecord). x.work) same ∙ u.work) (sym (ap (λ (y : World). y.stack) s.answers.leaves)) s.answers.asks in
-    whole-of {v = base} {v' = w'.stack} range (Err fault) (own.config ∙ u.config) (capacity ∙ u.capacity)
+    let part = read-part base range t w w' u s.f (Err fault) s.answers.stack same (sym (ap (λ (y : World). y.stack) s.answers.leaves)) s.answers.asks in
+    let piece = piece-of base range t w w' u n (Err fault) part.answered in
+    whole-of {v = base} {v' = w'.stack} range (Err fault) (own.config ∙ u.config) (part.answered.any.capacity ∙ u.capacity)
     (fault-pieces base.config (mapped range.device.0) range.first u.done n {before = u.got} u.gets range.count fault inside piece.0)
     (touches-then u.touches piece.1)
+    (keeps-then base w.stack w'.stack range.device.0 range.first u.done n range.count u.config inside u.keeps part.kept)
 
 read-ends : (base : StackRecord) (range : SectorRange) (t : ℕ) (name : List ℕ) (first count : ℕ) (answer : Result Reply IoFault) (w w' : World) → ReadSoFar base range t w → Ends EachPart t answer w w'
     → Whole (a_read name first count) base range answer w'.stack
@@ -157,6 +163,7 @@ read-begun w name first count t v order b =
           (no-pieces w.stack.config (mapped b.range.device.0) b.range.first w.stack.leaves);
       touches = subst (λ (x : StackRecord). TouchesOnly (leaves_of w.stack.config (mapped b.range.device.0)) w.stack.leaves x.leaves (Ok nothing)) (sym new.stack)
           (touches-none (leaves_of w.stack.config (mapped b.range.device.0)) w.stack.leaves (Ok nothing) tt);
+      keeps = λ none. ap (λ (x : StackRecord). x.kept) new.stack;
     }
 
 -- ---- writes
@@ -189,7 +196,7 @@ written-part base range bytes t w w' u f answer stack same now p =
     let done : done_of f ≡ u.done = omega (arith, first, start) in
     let device : f.rest.device.0 ≡ range.device.0 = ap (λ (x : FlightRecord). x.rest.device.0) same ∙ ap (λ d. d.0) u.device in
     let piece : EachWrite w.stack f.rest.device.0 f.rest.first (next_bytes bytes (done_of f) n) (ending answer) stack =
-    subst (λ x. EachPart w.stack f.rest.device.0 f.rest.first (part_of_work x (done_of f) n) answer stack) work p in
+    (subst (λ x. EachPart w.stack f.rest.device.0 f.rest.first (part_of_work x (done_of f) n) answer stack) work p).answered in
     subst (λ (x : StackRecord). EachWrite w.stack range.device.0 (range.first + u.done) (next_bytes bytes u.done n) (ending answer) x) now
     (subst (λ k. EachWrite w.stack range.device.0 (range.first + u.done) (next_bytes bytes k n) (ending answer) stack) done
     (subst (λ k. EachWrite w.stack range.device.0 k (next_bytes bytes (done_of f) n) (ending answer) stack) first

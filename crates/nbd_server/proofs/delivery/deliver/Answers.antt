@@ -10,8 +10,8 @@ pieces-init g c = record {
   kept = refl;
 }
 
-pub deliver_piece-requires-clause-bytes : goal.deliver_piece-requires-clause-bytes
-deliver_piece-requires-clause-bytes g c = c.pieces.invariant.underway.bytes
+pub deliver_next-requires-clause-bytes : goal.deliver_next-requires-clause-bytes
+deliver_next-requires-clause-bytes g c = c.pieces.invariant.underway.bytes
 
 pub returns-in_err-next-clause-reply : goal.returns-in_err-next-clause-reply
 returns-in_err-next-clause-reply g c =
@@ -22,17 +22,17 @@ pub returns-in_err-next-clause-stuck : goal.returns-in_err-next-clause-stuck
 returns-in_err-next-clause-stuck g c =
     let old = g.W.Write.contents c.args.writer.now.inner in
     let mid = g.W.Write.contents c.pieces.writer.inner in
-    let new = g.W.Write.contents c.deliver_piece.new.writer.inner in
+    let new = g.W.Write.contents c.deliver_next.new.writer.inner in
     let p = err_from_is_err_and c.from_residual.result c.from_residual.ensures.1 in
-    rw p.1 (underway-stuck (export_record c.args.export.now) c.args.delivery c.args.queue.now c.pieces.progress c.pieces.queue c.deliver_piece.new.queue old mid new c.pieces.invariant.underway c.in_err-next.ensures.err)
+    rw p.1 (underway-stuck (export_record c.args.export.now) c.args.delivery c.args.queue.now c.pieces.progress c.pieces.queue c.deliver_next.new.queue old mid new c.pieces.invariant.underway c.in_err-next.ensures.err)
 
 pub returns-in-None-clause-reply : goal.returns-in-None-clause-reply
 returns-in-None-clause-reply g c =
     let old = g.W.Write.contents c.args.writer.now.inner in
     let mid = g.W.Write.contents c.pieces.writer.inner in
-    let new = g.W.Write.contents c.deliver_piece.new.writer.inner in
+    let new = g.W.Write.contents c.deliver_next.new.writer.inner in
     record {
-      ok = underway-lost (export_record c.args.export.now) c.args.delivery c.args.queue.now c.pieces.progress c.pieces.queue c.deliver_piece.new.queue old mid new c.pieces.invariant.underway (rw c.in-None.is at c.in_ok-next.ensures.ok);
+      ok = underway-lost (export_record c.args.export.now) c.args.delivery c.args.queue.now c.pieces.progress c.pieces.queue c.deliver_next.new.queue old mid new c.pieces.invariant.underway (rw c.in-None.is at c.in_ok-next.ensures.ok);
       kept = c.in_ok-next.ensures.kept ∙ c.pieces.invariant.kept;
       failed = tt;
     }
@@ -41,16 +41,16 @@ pub pieces-preserved : goal.pieces-preserved
 pieces-preserved g c =
     let old = g.W.Write.contents c.args.writer.now.inner in
     let mid = g.W.Write.contents c.pieces.writer.inner in
-    let new = g.W.Write.contents c.deliver_piece.new.writer.inner in
+    let new = g.W.Write.contents c.deliver_next.new.writer.inner in
     record {
-      underway = underway-more (export_record c.args.export.now) c.args.delivery c.args.queue.now c.pieces.progress c.pieces.queue c.deliver_piece.new.queue old mid new c.pieces.invariant.underway c.in-Some.next (rw c.in-Some.is at c.in_ok-next.ensures.ok);
+      underway = underway-more (export_record c.args.export.now) c.args.delivery c.args.queue.now c.pieces.progress c.pieces.queue c.deliver_next.new.queue old mid new c.pieces.invariant.underway c.in-Some.next (rw c.in-Some.is at c.in_ok-next.ensures.ok);
       kept = c.in_ok-next.ensures.kept ∙ c.pieces.invariant.kept;
     }
 
 pub pieces-smaller : goal.pieces-smaller
 pieces-smaller g c =
     let a = rw c.in-Some.is at c.in_ok-next.ensures.ok in
-    goes-smaller (export_record c.args.export.now) c.args.delivery c.pieces.progress c.pieces.queue a.0 c.in-Some.next c.deliver_piece.new.queue a.1
+    goes-smaller (export_record c.args.export.now) c.args.delivery c.pieces.progress c.pieces.queue a.0 c.in-Some.next c.deliver_next.new.queue a.1
 
 pub returns-clause-reply : goal.returns-clause-reply
 returns-clause-reply g c = record {

@@ -1,5 +1,4 @@
 use Rattle.std.proofs.Common.{refl, inl, inr, map}
-use Rattle.tree_repair.specs.Runs.{world}
 use Rattle.repair_commands.specs.declared.fault.ParityRepairFault.TheVariants.{Tree}
 use Rattle.repair_commands.specs.Commands.{fault_of}
 use Rattle.repair_commands.proofs.EndingLemmas.{err-from}
@@ -30,5 +29,5 @@ returns-clause-ok g c = record {
   layout = c.in_ok-layout.layout;
   read_dev = g.H.BlockDev.state c.lay_out.new.hash_dev;
   lays = c.in_ok-layout.ensures.ok;
-  mends = mends-behind c.lay_out.ensures.read c.args.plan _ _ _ _ c.in_ok-mend_with_parity.ensures.ok;
+  mends = mends-behind c.args.plan _ _ _ _ c.lay_out.ensures.read c.in_ok-mend_with_parity.ensures.ok;
 }

@@ -2,8 +2,8 @@ use Rattle.std.proofs.Common.{refl}
 use Rattle.repair_commands.proofs.EndingLemmas.{err-from}
 use Rattle.repair_commands.proofs.parity.open_parity.Goals as goal
 
-pub returns-in-Ok-clause-ok : goal.returns-in-Ok-clause-ok
-returns-in-Ok-clause-ok g c = record { id = c.in_ok-image.image.id; opened = rw (c.part_use.ensures, c.part_use-2.ensures) at c.in_ok-image.ensures.ok; roots_are = refl }
+pub returns-clause-ok : goal.returns-clause-ok
+returns-clause-ok g c = record { id = c.in_ok-image.image.id; opened = rw (c.part_use.ensures, c.part_use-2.ensures) at c.in_ok-image.ensures.ok; roots_are = refl }
 
 pub returns-in_err-image-clause-err : goal.returns-in_err-image-clause-err
 returns-in_err-image-clause-err g c =

@@ -1,0 +1,17 @@
+use Rattle.std.proofs.Common.{◌≡◌, Ok, Err, length, subst}
+use Rattle.std.proofs.lemmas.Result.{err_from_is_err_and}
+use Rattle.request_queue.specs.Parts.{EachPart}
+use Rattle.request_queue.specs.Ranges.{bytes_range}
+use Rattle.request_queue.specs.World.{BytesRead, world}
+use Rattle.request_queue.proofs.RequestPieceLemmas.{bytes-failed}
+use Rattle.request_queue.proofs.queue.Queue.read_bytes.Goals as goal
+
+pub returns-in_err-read_pieces-clause-step : goal.returns-in_err-read_pieces-clause-step
+returns-in_err-read_pieces-clause-step g c =
+    let q = c.self.inside in
+    let size = length c.args.out.now in
+    let fault = c.in_err-read_pieces.field-0.0 in
+    let p = err_from_is_err_and c.from_residual-in_err-read_pieces.result c.from_residual-in_err-read_pieces.ensures.1 in
+    let range : Ok c.in_ok-bytes_range.field-0 ≡ bytes_range q.stack.config c.args.device.0 c.args.first size = rw c.config.ensures.value at c.in_ok-bytes_range.ensures.value in
+    rw (p.1, p.2) (subst (λ w. BytesRead EachPart w c.args.device.0 c.args.first size (Err fault) (world c.read_pieces.new.stack q.given q.flights.items)) c.self.view_is
+    (bytes-failed q.stack c.read_pieces.new.stack q.given q.flights.items c.args.device.0 c.args.first size c.in_ok-bytes_range.field-0 fault range c.in_err-read_pieces.ensures.each c.in_err-read_pieces.ensures.kept))
