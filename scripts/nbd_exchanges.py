@@ -869,6 +869,7 @@ def small_replies():
     return e, {
         "NONE": (request(READ, 700, 0), e.chunks(700, 0)),
         "OFFSET_DATA": (request(READ, 507, 9), e.chunks(507, 9)),
+        "OFFSET_HOLE": (request(READ, 2600, 700), e.chunks(2600, 700)),
         "ERROR_OFFSET": (request(READ, 1030, 9), e.chunks(1030, 9)),
         "BLOCK_STATUS": (request(STATUS, 500, 3000), e.status(500, 3000)),
     }
