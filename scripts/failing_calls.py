@@ -3,16 +3,16 @@
 
     failing_calls.py [--program FILE] [NAME..]
 
-A case is as scripts/case.sh says (`before` may import the modules of scripts/model), and stands for as many runs as the
-program makes allocations, positioned reads and writes and syncs of its files, and, where it has the file `streams`, reads of
-its input and of texts and writes of its output: in each run one of them fails. (In further runs a read or a write moves one
-byte, or is interrupted: no answer shows it.) A session must answer, up to the line that met the failure,
-what it answers without one; that line is refused (`no memory`, or the fault of the right device); and the lines behind it, and
-the files at the end, are what the model of scripts/model says over the files as the failure left them, in which each sector
-holds what it held before that line or what the line was to write. (A line `moved` counts what the files were asked for, that
-line included, so the leaves are files.) Another command must name the failure, and answer, when it is made again, as without one;
-a format that met one before its sync leaves no superblock. A `repair` may also seek elsewhere what it couldn't read: each block
-that it names is good then, and each other one as it was, and made again it ends with a whole image.
+A case is as scripts/case.sh says (`before` may import the modules of scripts/model), and stands for as many runs as the program
+makes allocations, positioned reads and writes and syncs of its files, and, where it has the file `streams`, reads of its input
+and of texts and writes of its output: in each run one of them fails. (In further runs a read or a write moves one byte, or is
+interrupted: no answer shows it.) A session must answer, up to the line that met the failure, what it answers without one; that
+line is refused (`no memory`, or the fault of the right device); and the lines behind it, and the files at the end, are what the
+model of scripts/model says over the files as the failure left them, in which each sector holds what it held before that line or
+what the line was to write. (A line `moved` counts what the files were asked for, that line included, so the leaves are files.)
+Another command must name the failure, and answer, when it is made again, as without one; a format that met one before its sync
+leaves no superblock, and one that met it at its parity (`--fec`) the whole image. A `repair` may also seek elsewhere what it
+couldn't read: each block that it names is good then, and each other one as it was, and made again it ends with a whole image.
 
 Where a case has the file `kinds`, calls of these kinds alone fail. Where it has the file `calls`, this has a line for each
 positioned read and write and each sync, in their order: which call it is, of which leaf, how many sectors were asked for by then,
@@ -284,6 +284,26 @@ def check_unfinished(case):
         raise Wrong("a superblock stands there")
 
 
+def behind_the_image(case, kind, what, output):
+    """Where a format or a verify with --fec has done what is done without, and met the failure at its parity: the status and the
+    output. The parity's calls are all of this kind; a format has left the whole image by then."""
+    parity = next((it.partition(b"=")[2] for it in case.words if it.startswith(b"--fec=")), None)
+    if parity is None:
+        return None
+    told = b"matches\n" if case.words[0] == b"verify" else b""
+    whole = case.words[0] != b"format" or read_file(f"{case.room}/files/{case.words[-1].decode()}") == case.image
+    if kind == "memory":
+        return (1, told + b"no memory") if whole and output == told + b"no memory\n" else None
+    # the superblock is read again, before the parity is laid out
+    at_parity = os.path.basename(what[1]) == parity
+    again = what[0] == b"read" and not at_parity and output == told + b"refused 10 Device\n"
+    if not at_parity and not again and output != told + b"refused 27 FecDevice\n":
+        return None
+    if not whole:
+        raise Wrong("the image isn't whole before its parity")
+    return 1, told + (b"refused 10 Device" if again else b"refused 27 FecDevice")
+
+
 def check_command(case, plain, kind, ran):
     output, status, what = ran
     if kind == "memory" and ran[:2] == plain[:2]:
@@ -305,11 +325,13 @@ def check_command(case, plain, kind, ran):
         wanted = (1, b"no memory")
         if kind == "device":
             wanted = REFUSED_DEVICE[case.words[0]]
+        behind = behind_the_image(case, kind, what, output)
+        wanted = behind or wanted
         if b"%d" in wanted[1]:
             wanted = wanted[0], wanted[1] % case.leaf(what[1])
         if (status, output) != (wanted[0], wanted[1] + b"\n"):
             raise Wrong(f"status {status}, {output[-200:]}")
-        if case.words[0] == b"format" and what[0] != b"sync":
+        if case.words[0] == b"format" and what[0] != b"sync" and not behind:
             check_unfinished(case)
     again = case.run(again=True)
     if again[:2] != plain[:2]:
@@ -336,6 +358,8 @@ def sweep(case, kind, check):
 def check_case(case):
     """How many calls of each kind failed."""
     plain = case.run()
+    if case.words[0] == b"format":
+        case.image = read_file(f"{case.room}/files/{case.words[-1].decode()}")
     if not case.is_session():
         if case.words[0] not in (b"format", *RECOVERIES) and plain[1] != 0:
             raise Wrong(f"without a failure: status {plain[1]}, {plain[0][-200:]}")
