@@ -231,6 +231,48 @@ if mount -t tmpfs -o size=32k,mode=777 tmpfs full 2> mount_errors; then
     truncate -s 1048576 full/image data
     ran 1 'refused 5 Device' "$program" format $sizes data full/image
     check 'no superblock stands before a tree that was not written' cmp -n 512 full/image /dev/zero
+    # A parity that has no room: it is the file that is named, and the tree before it is whole.
+    rm full/image
+    filled 6 2048 > data
+    cp data kept
+    truncate -s 131072 tree made
+    root=$("$program" format $sizes data made | sed -n 's/^root //p')
+    truncate -s 1048576 full/parity
+    ran 1 'refused 27 FecDevice' "$program" format $sizes --fec full/parity --fec-roots 24 data tree
+    check 'the data image is as it was' cmp data kept
+    check 'the tree before a parity that was not written is whole' cmp tree made
+    ran 3 $'matches\nparity differs in round 2' "$program" verify --fec full/parity --fec-roots 24 data tree "$root"
+    ran 0 matches "$program" verify data tree "$root"
+    mount -o remount,size=256k full
+    ran 0 "$(printf 'root %s\nsalt -\nuuid 00000000-0000-0000-0000-000000000001\nblocks 2048' "$root")" "$program" format $sizes --fec full/parity --fec-roots 24 data tree
+    ran 0 $'matches\nparity ok' "$program" verify --fec full/parity --fec-roots 24 data tree "$root"
+    rm full/parity
+    mount -o remount,size=32k full
+    # A repair that has no room, of an image whose last blocks were never written: those that are named are whole, the others as
+    # they were, and once there is room it goes on. By a copy, and by parity.
+    python3 -c 'import sys; sys.stdout.buffer.write(b"".join(bytes([k + 1]) * 4096 for k in range(8)))' > whole
+    truncate -s 8192 tree
+    truncate -s 16384 parity
+    root=$("$program" format --salt=- --fec parity --fec-roots 4 whole tree | sed -n 's/^root //p')
+    cp tree kept
+    cp parity parity_kept
+    for source in copy\ 1 parity; do
+        words=(full/image tree "$root" whole whole)
+        [ "$source" != parity ] || words=(--fec parity --fec-roots 4 full/image tree "$root")
+        head -c 16384 whole > full/image
+        truncate -s 32768 full/image
+        head -c 12288 whole > full/filling
+        ran 1 "repaired data 4 $source"$'\nrefused 10 Device' "$program" repair "${words[@]}"
+        check "$source: the block that is named is whole" cmp -n 20480 full/image whole
+        check "$source: the others are as they were" cmp -i 20480:0 -n 12288 full/image /dev/zero
+        rm full/filling
+        ran 0 "$(printf 'repaired data %s\n' "5 $source" "6 $source" "7 $source"; echo 'good 8 changed 0 unknown 0')" "$program" repair "${words[@]}"
+        check "$source: the image is whole" cmp full/image whole
+        check "$source: the tree is as it was" cmp tree kept
+        check "$source: the parity is as it was" cmp parity parity_kept
+        rm full/image
+    done
+    truncate -s 0 full/image
     # A copy that has no room: the image is named, what is copied is as it was, and once there is room the same copy is whole.
     rm full/image
     truncate -s 65536 full/image

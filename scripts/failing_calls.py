@@ -3,19 +3,21 @@
 
     failing_calls.py [--program FILE] [NAME..]
 
-A case is as scripts/case.sh says (`before` may import the modules of scripts/model), and stands for as many runs as the
-program makes allocations, positioned reads and writes and syncs of its files, and, where it has the file `streams`, reads of
-its input and of texts and writes of its output: in each run one of them fails. (In further runs a read or a write moves one
-byte, or is interrupted: no answer shows it.) A session must answer, up to the line that met the failure,
-what it answers without one; that line is refused (`no memory`, or the fault of the right device); and the lines behind it, and
-the files at the end, are what the model of scripts/model says over the files as the failure left them, in which each sector
-holds what it held before that line or what the line was to write. (A line `moved` counts what the files were asked for, that
-line included, so the leaves are files.) Another command must name the failure, and answer, when it is made again, as without one;
-a format that met one before its sync leaves no superblock.
+A case is as scripts/case.sh says (`before` may import the modules of scripts/model), and stands for as many runs as the program
+makes allocations, positioned reads and writes and syncs of its files, and, where it has the file `streams`, reads of its input
+and of texts and writes of its output: in each run one of them fails. (In further runs a read or a write moves one byte, or is
+interrupted: no answer shows it.) A session must answer, up to the line that met the failure, what it answers without one; that
+line is refused (`no memory`, or the fault of the right device); and the lines behind it, and the files at the end, are what the
+model of scripts/model says over the files as the failure left them, in which each sector holds what it held before that line or
+what the line was to write. (A line `moved` counts what the files were asked for, that line included, so the leaves are files.)
+Another command must name the failure, and answer, when it is made again, as without one; a format that met one before its sync
+leaves no superblock, and one that met it at its parity (`--fec`) the whole image. A `repair` may also seek elsewhere what it
+couldn't read: each block that it names is good then, and each other one as it was, and made again it ends with a whole image.
 
-Where a case has the file `calls`, this has a line for each positioned read and write and each sync, in their order: which call
-it is, of which leaf, how many sectors were asked for by then, read and written, and, where it fails, the sums (FNV-1a in 32
-bits) of what all leaves hold afterwards. scripts/failing_writes.py writes such cases.
+Where a case has the file `kinds`, calls of these kinds alone fail. Where it has the file `calls`, this has a line for each
+positioned read and write and each sync, in their order: which call it is, of which leaf, how many sectors were asked for by then,
+read and written, and, where it fails, the sums (FNV-1a in 32 bits) of what all leaves hold afterwards. scripts/failing_writes.py
+writes such cases.
 """
 import argparse
 import copy
@@ -32,6 +34,7 @@ sys.path.insert(0, f"{TOP}/scripts/model")
 from command_line import Files, binding, bound, cut_words, features_without  # noqa: E402
 from configuration import Refused  # noqa: E402
 from failing_recovery import Recovery, Unlike as Wrong  # noqa: E402
+from failing_repair import Repair  # noqa: E402
 from session import Session  # noqa: E402
 from stack import Fault  # noqa: E402
 
@@ -81,9 +84,11 @@ class Case:
             path = {**os.environ, "PYTHONPATH": f"{TOP}/scripts/model", "PYTHONDONTWRITEBYTECODE": "1"}
             subprocess.run(["bash", f"{self.folder}/before"], cwd=self.start, env=path, check=True)
         # Refusals of memory that no answer shows: std asks ahead for room for the words, and asks again where it is refused.
-        self.unseen, self.recovery = 0, None
+        self.unseen, self.recovery, self.repair = 0, None, None
         self.kinds = ["memory", "device", "short", "interrupted"]
         self.kinds += ["input", "text", "output"] * os.path.exists(f"{self.folder}/streams")
+        if os.path.exists(f"{self.folder}/kinds"):
+            self.kinds = read_file(f"{self.folder}/kinds").decode().split()
         # Where a checked block can't be kept for want of memory, the answer is that of the block as it was read.
         before = read_file(f"{self.folder}/before") if os.path.exists(f"{self.folder}/before") else b""
         self.may_keep = b" verity " in self.given + before and b"--cache=0" not in self.words
@@ -279,6 +284,26 @@ def check_unfinished(case):
         raise Wrong("a superblock stands there")
 
 
+def behind_the_image(case, kind, what, output):
+    """Where a format or a verify with --fec has done what is done without, and met the failure at its parity: the status and the
+    output. The parity's calls are all of this kind; a format has left the whole image by then."""
+    parity = next((it.partition(b"=")[2] for it in case.words if it.startswith(b"--fec=")), None)
+    if parity is None:
+        return None
+    told = b"matches\n" if case.words[0] == b"verify" else b""
+    whole = case.words[0] != b"format" or read_file(f"{case.room}/files/{case.words[-1].decode()}") == case.image
+    if kind == "memory":
+        return (1, told + b"no memory") if whole and output == told + b"no memory\n" else None
+    # the superblock is read again, before the parity is laid out
+    at_parity = os.path.basename(what[1]) == parity
+    again = what[0] == b"read" and not at_parity and output == told + b"refused 10 Device\n"
+    if not at_parity and not again and output != told + b"refused 27 FecDevice\n":
+        return None
+    if not whole:
+        raise Wrong("the image isn't whole before its parity")
+    return 1, told + (b"refused 10 Device" if again else b"refused 27 FecDevice")
+
+
 def check_command(case, plain, kind, ran):
     output, status, what = ran
     if kind == "memory" and ran[:2] == plain[:2]:
@@ -287,6 +312,8 @@ def check_command(case, plain, kind, ran):
         if ran[:2] != plain[:2]:
             raise Wrong(f"status {status}, {output[-200:]}")
         return None
+    if case.repair:
+        return case.repair.check(kind, what, output, status)
     if kind == "device" and case.recovery:
         case.recovery.check_failure(what[1], output, status)
     elif kind == "memory" and case.recovery:
@@ -298,11 +325,13 @@ def check_command(case, plain, kind, ran):
         wanted = (1, b"no memory")
         if kind == "device":
             wanted = REFUSED_DEVICE[case.words[0]]
+        behind = behind_the_image(case, kind, what, output)
+        wanted = behind or wanted
         if b"%d" in wanted[1]:
             wanted = wanted[0], wanted[1] % case.leaf(what[1])
         if (status, output) != (wanted[0], wanted[1] + b"\n"):
             raise Wrong(f"status {status}, {output[-200:]}")
-        if case.words[0] == b"format" and what[0] != b"sync":
+        if case.words[0] == b"format" and what[0] != b"sync" and not behind:
             check_unfinished(case)
     again = case.run(again=True)
     if again[:2] != plain[:2]:
@@ -329,11 +358,15 @@ def sweep(case, kind, check):
 def check_case(case):
     """How many calls of each kind failed."""
     plain = case.run()
+    if case.words[0] == b"format":
+        case.image = read_file(f"{case.room}/files/{case.words[-1].decode()}")
     if not case.is_session():
         if case.words[0] not in (b"format", *RECOVERIES) and plain[1] != 0:
             raise Wrong(f"without a failure: status {plain[1]}, {plain[0][-200:]}")
         if case.words[0] in RECOVERIES:
             case.recovery = Recovery(case, plain[0])
+        if case.words[0] == b"repair":
+            case.repair = Repair(case, plain[0], cut_words(case.words[1:], "repair")[1])
         return {kind: sweep(case, kind, lambda kind, _, ran: check_command(case, plain, kind, ran)) for kind in case.kinds}
     model = Modelled(case)
     if plain[1] != 0 or not all_allow(model.output(), lines_of(plain[0])):
@@ -361,8 +394,8 @@ def main():
             os.mkdir(room)
             try:
                 met = check_case(Case(name, program, room, library))
-                if not met["memory"]:
-                    raise Wrong("no allocation failed")
+                if not next(iter(met.values())):
+                    raise Wrong("no call failed")
                 print(f"{name}: " + ", ".join(f"{kind} {count}" for kind, count in met.items()), flush=True)
                 passed += 1
             except Wrong as wrong:

@@ -1,81 +1,32 @@
 #!/usr/bin/env python3
 """Tries `dmstack nbd` with the NBD clients that are installed.
 
-nbd_clients.py [PROGRAM]: copies devices out with nbdcopy and qemu-img and compares them, copies an image in through a
-`crypt` line and reads it back by another stack, writes bytes and zeros with qemu-io across the ends of sectors, with FUA
-too, reads a verity volume with one changed block, also by chunks, copies each device of a stack out by its name, looks at the map of a
-sparse stack, that copies of it stay sparse, and that reads of it tell of holes, and prints the speed over each kind of line, over four connections and over one, beside nbdkit's and beside `scan`'s. What isn't installed is named and left out (Debian: libnbd-bin, python3-libnbd, qemu-utils, socat, nbdkit).
+nbd_clients.py [--no-speed] [PROGRAM]: copies devices out with nbdcopy and qemu-img and compares them, copies an image in through
+a `crypt` line and reads it back by another stack, writes bytes and zeros with qemu-io across the ends of sectors, with FUA too,
+reads a verity volume with one changed block, also by chunks, and single bytes in each strict mode of libnbd, copies each device
+of a stack out by its name, looks at the map of a sparse stack, that copies of it stay sparse, and that reads of it tell of holes,
+looks by strace at what is synced when a write with FUA or a flush is answered, makes, fills and checks a file system through a
+`crypt` line, and prints the speed over each kind of line, over four connections and over one, beside nbdkit's and beside
+`scan`'s. What isn't installed, or not allowed (sockets, ptrace, FUSE), is named and left out, and where nothing is left the
+status is 0 too (Debian: libnbd-bin, python3-libnbd, nbdfuse, qemu-utils, socat, nbdkit, strace, e2fsprogs, fuse3).
 """
+import argparse
 import json
 import os
 import random
-import shlex
 import shutil
-import subprocess
 import sys
 import tempfile
-import time
+
+sys.dont_write_bytecode = True
+
+import nbd_served  # noqa: E402
+from nbd_file_system import file_system_copied, file_system_mounted  # noqa: E402
+from nbd_served import Served, attempt, encrypted, libnbd, needs, run, say, volume, words_for  # noqa: E402
+from nbd_speed import speed  # noqa: E402
+from nbd_syncs import syncs  # noqa: E402
 
 BLOCK = 4096
-passed = failed = 0
-
-
-def say(label, good, more=""):
-    global passed, failed
-    if good:
-        passed += 1
-    else:
-        failed += 1
-        print(f"{label}: differs {more}")
-
-
-def run(*words, **options):
-    return subprocess.run(words, capture_output=True, timeout=120, **options)
-
-
-class Served:
-    """A Unix socket at which each connection is served by a program of its own."""
-
-    def __init__(self, words):
-        self.path = os.path.join(os.getcwd(), "socket")
-        # The words stand in a file: socat cuts its own at each colon.
-        script = os.path.join(os.getcwd(), "serve")
-        with open(script, "w") as file:
-            file.write("#!/bin/sh\nexec " + shlex.join(words) + "\n")
-        os.chmod(script, 0o755)
-        self.child = subprocess.Popen(["socat", "-b", "1048576", f"UNIX-LISTEN:{self.path},fork", f"EXEC:{script}"])
-        while not os.path.exists(self.path):
-            time.sleep(0.01)
-
-    def __enter__(self):
-        return "nbd+unix:///?socket=" + self.path
-
-    def __exit__(self, *_):
-        self.child.terminate()
-        self.child.wait()
-        if os.path.exists(self.path):
-            os.remove(self.path)
-
-
-def format_data(size):
-    """The hash image of the data image, and a stack with its root digest, made by the program."""
-    open("hash", "wb").write(bytes(size // 64 + 65536))
-    made = run(PROGRAM, "format", "--salt", "00ff", "data", "hash").stdout.decode()
-    root = next(word for word in made.split() if len(word) == 64)
-    line = run(PROGRAM, "table", "hash", root, "D", "H").stdout.decode().strip()
-    open("verity", "w").write(f"v,,,ro,{line}")
-
-
-def volume(size):
-    """A data image and its hash image."""
-    data = random.Random(7).randbytes(size)
-    open("data", "wb").write(data)
-    format_data(size)
-    return data
-
-
-def words_for(stack, name, *bindings):
-    return [PROGRAM, "nbd", os.path.abspath(stack), name, *bindings]
 
 
 def whole(label, words, wanted):
@@ -99,7 +50,7 @@ def each_of_all(data, bindings):
     size = len(data) // 512
     open("both", "w").write(open("verity").read() + f";l,,,rw,0 {size // 2} linear D 0;z,,,ro,0 {size} zero")
     wanted = {"v": data, "l": data[: len(data) // 2], "z": bytes(len(data))}
-    with Served([PROGRAM, "nbd", "--all", os.path.abspath("both"), *bindings]) as uri:
+    with Served([nbd_served.program, "nbd", "--all", os.path.abspath("both"), *bindings]) as uri:
         socket = uri.split("=")[1]
         if shutil.which("nbdinfo"):
             told = json.loads(run("nbdinfo", "--list", "--json", uri).stdout or "{}")
@@ -140,11 +91,7 @@ def sparse():
 
 def holes_read():
     """Bytes of that stack, read in chunks: each hole lies on a `zero` line, and no chunk of data lies on one alone."""
-    try:
-        import nbd
-    except ImportError:
-        print("python3-libnbd isn't installed")
-        return
+    nbd = libnbd()
     data = open("part", "rb").read()
     wanted = data[: 1 << 20] + bytes(100000 * 512) + data[1 << 20 :] + bytes(26976 * 512)
     zeros = [(1 << 20, 102048 * 512), (104096 * 512, len(wanted))]
@@ -163,16 +110,13 @@ def holes_read():
 
 def copied_in(data):
     """An image is copied in through a `crypt` line, changed across sectors' ends, and read back by another stack."""
-    key = "".join(f"{k:02x}" for k in range(64))
-    sectors = len(data) // 512
-    open("secret", "wb").write(bytes(len(data)))
+    needs("socat", "nbdcopy")
+    words = encrypted(len(data))
     open("plain", "wb").write(data)
-    open("crypt", "w").write(f"c,,,rw,0 {sectors} crypt aes-xts-plain64 {key} 0 B 0")
     wanted = bytearray(data)
-    with Served(words_for("crypt", "c", "B=rw:" + os.path.abspath("secret"))) as uri:
-        if shutil.which("nbdcopy"):
-            done = run("nbdcopy", "plain", uri)
-            say("copy in: nbdcopy", done.returncode == 0, done.stderr.decode())
+    with Served(words) as uri:
+        done = run("nbdcopy", "plain", uri)
+        say("copy in: nbdcopy", done.returncode == 0, done.stderr.decode())
         if shutil.which("qemu-io"):
             for offset, length, byte in ((511, 2, 0x11), (1000, 5000, 0x22), (len(data) - 700, 700, 0x33)):
                 done = run("qemu-io", "-f", "raw", "-c", f"write -P {byte} {offset} {length}", "-c", "flush", "nbd:unix:" + uri.split("=")[1])
@@ -186,64 +130,14 @@ def copied_in(data):
             say("qemu-io writes with FUA", done.returncode == 0, done.stderr.decode())
             wanted[99:108] = bytes([68]) * 9
     say("copy in: the image is encrypted", open("secret", "rb").read() != bytes(wanted))
-    with Served(words_for("crypt", "c", "B=rw:" + os.path.abspath("secret"))) as uri:
+    with Served(words) as uri:
         done = run("nbdcopy", uri, "back")
         say("copy in: read back by another stack", done.returncode == 0 and open("back", "rb").read() == bytes(wanted), done.stderr.decode())
 
 
-def nbdcopy_seconds(words, connections=4):
-    """How long nbdcopy takes to read a whole service, where that offers several connections over as many."""
-    with Served(words) as uri:
-        start = time.monotonic()
-        done = run("nbdcopy", f"--connections={connections}", uri, "null:")
-        taken = time.monotonic() - start
-    say("speed: nbdcopy", done.returncode == 0, done.stderr.decode())
-    return taken
-
-
-def scan_seconds(words):
-    """How long `scan` takes to read the device of a service, which is what a service does beneath the protocol."""
-    start = time.monotonic()
-    done = run(PROGRAM, "scan", *words[2:])
-    taken = time.monotonic() - start
-    say("speed: scan", done.returncode == 0, done.stdout.decode())
-    return taken
-
-
-def speed():
-    """nbdcopy of 256 MiB over lines of each kind, beside nbdkit's of the same file, all through socat, and beside `scan`."""
-    size = 256 << 20
-    sectors = size // 512
-    open("data", "wb").write(random.Random(3).randbytes(1 << 20) * 256)
-    format_data(size)
-    key = "".join(f"{k:02x}" for k in range(64))
-    data, hash = "D=ro:" + os.path.abspath("data"), "H=ro:" + os.path.abspath("hash")
-    services = {"nbdkit": ["nbdkit", "-s", "-r", "file", os.path.abspath("data")], "verity": words_for("verity", "v", data, hash)}
-    lines = {"linear": "linear D 0", "crypt": f"crypt aes-xts-plain64 {key} 0 D 0", "crypt by 4,096 bytes": f"crypt aes-xts-plain64 {key} 0 D 0 1 sector_size:4096"}
-    for place, (name, line) in enumerate(lines.items()):
-        open(f"fast{place}", "w").write(f"f,,,ro,0 {sectors} {line}")
-        services[name] = words_for(f"fast{place}", "f", data)
-    copied, scanned, alone = ({name: [] for name in services} for _ in range(3))
-    for _ in range(5):
-        for name, words in services.items():
-            copied[name].append(nbdcopy_seconds(words))
-            alone[name].append(nbdcopy_seconds(words, 1))
-            if name != "nbdkit":
-                scanned[name].append(scan_seconds(words))
-    least = min(copied["nbdkit"])
-    for name in services:
-        taken = min(copied[name])
-        beneath = f"; scan's time is {min(scanned[name]) / taken:.2f} of it" if scanned[name] else ""
-        print(f"256 MiB, {name}: {taken:.2f} s, {256 / taken:.0f} MiB/s, over one connection {min(alone[name]):.2f} s; nbdkit's time is {least / taken:.2f} of it{beneath}")
-
-
 def changed_block(data):
     """A volume with one changed block: an error at its place and nowhere else."""
-    try:
-        import nbd
-    except ImportError:
-        print("python3-libnbd isn't installed")
-        return
+    nbd = libnbd()
     bad = 37
     image = bytearray(data)
     image[bad * BLOCK + 99] ^= 1
@@ -292,30 +186,67 @@ def chunks_of(handle, data, offset, length, bad):
     say(f"chunks of {length} bytes at {offset}", good and b"".join(part for _, part in parts) == wanted, str(found))
 
 
+def any_bytes(data):
+    """Bytes at any place by libnbd, which refuses by itself what a service doesn't offer, in each of its strict modes."""
+    nbd = libnbd()
+    image = bytearray(data[: 64 * BLOCK])
+    open("bytes", "wb").write(image)
+    open("writable", "w").write(f"l,,,rw,0 {len(image) // 512} linear B 0")
+    strict = [getattr(nbd, it) for it in dir(nbd) if it.startswith("STRICT_")]
+    for mode in [0, *strict]:
+        handle = nbd.NBD()
+        handle.set_strict_mode(mode)
+        handle.add_meta_context("base:allocation")
+        handle.connect_command(words_for("writable", "l", "B=rw:" + os.path.abspath("bytes")))
+        label = f"strict mode {mode:#x}"
+        say(f"{label}: block sizes", [handle.get_block_size(it) for it in (nbd.SIZE_MINIMUM, nbd.SIZE_PREFERRED, nbd.SIZE_MAXIMUM)] == [1, 4096, 32 << 20])
+        for offset, length in ((511, 2), (0, 1), (1023, 1), (513, 4096), (len(image) - 3, 3)):
+            say(f"{label}: {length} bytes at {offset}", handle.pread(length, offset) == image[offset : offset + length])
+            written = bytes((mode + it) % 251 for it in range(length))
+            handle.pwrite(written, offset, nbd.CMD_FLAG_FUA)
+            image[offset : offset + length] = written
+            handle.zero(1, offset)
+            image[offset] = 0
+            handle.trim(length, offset)
+            handle.cache(length, offset)
+            told = []
+            handle.block_status(length, offset, lambda _, at, entries, error: told.extend(entries) or 0)
+            say(f"{label}: extents at {offset}", told == [length, 0], str(told))
+            say(f"{label}: written at {offset}", handle.pread(length, offset) == image[offset : offset + length])
+        handle.flush()
+        handle.shutdown()
+        say(f"{label}: the image", open("bytes", "rb").read() == image)
+
+
 def main():
     data = volume(8 << 20)
     verity = ["D=ro:" + os.path.abspath("data"), "H=ro:" + os.path.abspath("hash")]
     open("linear", "w").write(f"l,,,ro,0 {len(data) // 512} linear D 0")
-    if shutil.which("socat"):
-        whole("linear", words_for("linear", "l", verity[0]), data)
-        whole("verity", words_for("verity", "v", *verity), data)
-        each_of_all(data, ["D=rw:" + os.path.abspath("data"), verity[1]])
-        copied_in(data)
-        sparse()
-        holes_read()
-    else:
-        print("socat isn't installed")
-    changed_block(data)
-    if all(shutil.which(it) for it in ("socat", "nbdkit", "nbdcopy")):
-        speed()
-    else:
-        print("nbdkit isn't installed")
-    print(f"clients: {passed} passed, {failed} failed")
-    return 1 if failed or not passed else 0
+    attempt(whole, "linear", words_for("linear", "l", verity[0]), data)
+    attempt(whole, "verity", words_for("verity", "v", *verity), data)
+    attempt(each_of_all, data, ["D=rw:" + os.path.abspath("data"), verity[1]])
+    attempt(copied_in, data)
+    attempt(sparse)
+    attempt(holes_read)
+    attempt(changed_block, data)
+    attempt(any_bytes, data)
+    attempt(syncs)
+    attempt(file_system_copied)
+    attempt(file_system_mounted)
+    if not WORDS.no_speed:
+        attempt(speed, limit=1200)
+    failed, passed = nbd_served.failed, nbd_served.passed
+    print(f"clients: {passed} passed, {failed} failed" if failed or passed else "clients: nothing is installed that could try it")
+    return 1 if failed else 0
 
 
 if __name__ == "__main__":
-    PROGRAM = os.path.abspath(sys.argv[1]) if len(sys.argv) > 1 else shutil.which("dmstack")
+    parser = argparse.ArgumentParser()
+    parser.add_argument("--no-speed", action="store_true")
+    parser.add_argument("program", nargs="?", default=shutil.which("dmstack"))
+    WORDS = parser.parse_args()
+    nbd_served.program = os.path.abspath(WORDS.program)
+    os.environ["PATH"] += ":/usr/sbin:/sbin"
     with tempfile.TemporaryDirectory() as room:
         os.chdir(room)
         sys.exit(main())

@@ -7,10 +7,15 @@ together field by field, and an export is a run of bytes; what is encrypted is w
 how many agree, and the exchanges that don't.
 """
 import os
+import random
+import resource
+import signal
 import struct
 import subprocess
 import sys
 import tempfile
+import threading
+import time
 
 sys.dont_write_bytecode = True
 sys.path.insert(0, os.path.join(os.path.dirname(os.path.realpath(__file__)), "model"))
@@ -803,6 +808,169 @@ def talks(chunked, failing=None, error=EIO):
     return sent, wanted, bytes(e.content), kinds
 
 
+def ahead(runner):
+    """A client that sends 10,000 requests before it reads a reply: each is answered, in its turn, and nobody waits for ever."""
+    for chunked in (False, True):
+        dice, e = random.Random(5), exports()["file"]
+        size = len(e.content)
+        sent, wanted = begun_in_chunks(e) if chunked else begun(e)
+        asked, told = [sent], [wanted]
+        for cookie in range(10000):
+            kind, offset = dice.choices((READ, WRITE, ZEROES, FLUSH), (80, 15, 4, 1))[0], dice.randrange(size)
+            length = 0 if kind == FLUSH else dice.randrange(min(600, size - offset))
+            data = dice.randbytes(length) if kind == WRITE else b""
+            asked.append(request(kind, 0 if kind == FLUSH else offset, length, cookie, data=data))
+            if kind == READ:
+                told.append(e.chunks(offset, length, cookie) if chunked else e.read(offset, length)[:8] + struct.pack(">Q", cookie) + e.read(offset, length)[16:])
+            else:
+                e.content[offset : offset + length] = data if kind == WRITE else bytes(length)
+                told.append(reply(cookie=cookie))
+        sent_ahead(runner, f"10,000 requests ahead{', in chunks' if chunked else ''}", b"".join(asked), b"".join(told), bytes(e.content))
+
+
+def sent_ahead(runner, label, sent, wanted, after):
+    """The first reply is read where the client's writes have stood still for half a second, as nothing is read meanwhile."""
+    open("F", "wb").write(exports()["file"].content)
+    open("stack", "w").write(STACK)
+    words = [runner.program, "nbd", "stack", "file", "R=ramp:8", "Z=zero:4", "F=rw:F"]
+    served = subprocess.Popen(words, bufsize=0, stdin=subprocess.PIPE, stdout=subprocess.PIPE, stderr=subprocess.PIPE)
+    at = 0
+
+    def write():
+        nonlocal at
+        with served.stdin as it:
+            while at < len(sent):
+                at += os.write(it.fileno(), sent[at : at + 4096])
+
+    limit, writer = threading.Timer(60, served.kill), threading.Thread(target=write, daemon=True)
+    limit.start()
+    writer.start()
+    before, still = -1, 0
+    while still < 10 and writer.is_alive():
+        time.sleep(0.05)
+        before, still = at, still + 1 if at == before else 0
+    runner.count(f"{label}: the writes wait", at < len(sent), f"all {at} bytes were taken")
+    with served.stdout, served.stderr:
+        found, said = served.stdout.read(), served.stderr.read()
+    writer.join(60)
+    status = served.wait()
+    limit.cancel()
+    runner.count(label, found == wanted and status == 0 and not said, f"status {status}, {len(found)} of {len(wanted)} bytes, {said[:80]!r}")
+    runner.count(f"{label}: the image", open("F", "rb").read() == after)
+
+
+PATCHED = "p,,,rw,0 2 linear F 0,2 1 error,3 2 linear F 3,5 3 zero"
+
+
+def small_replies():
+    """A short reply of each kind of chunk over that device, the request for it, and the device as a write left it before."""
+    e = Export("p", exports()["file"].content[: 5 * SECTOR] + bytes(3 * SECTOR), writable=True, lost=[(2, 3)], zeros=[(5, 8)])
+    e.write(509, b"across")
+    return e, {
+        "NONE": (request(READ, 700, 0), e.chunks(700, 0)),
+        "OFFSET_DATA": (request(READ, 507, 9), e.chunks(507, 9)),
+        "OFFSET_HOLE": (request(READ, 2600, 700), e.chunks(2600, 700)),
+        "ERROR_OFFSET": (request(READ, 1030, 9), e.chunks(1030, 9)),
+        "BLOCK_STATUS": (request(STATUS, 500, 3000), e.status(500, 3000)),
+    }
+
+
+def gone_within(runner):
+    """A client that goes away at each byte of a small reply: the write before it stands whole, the one behind it if it was begun."""
+    open("patched", "w").write(PATCHED)
+    e, replies = small_replies()
+    sent, told = begun_in_chunks(e, True)
+    sent, told = sent + request(WRITE, 509, 6, data=b"across"), told + reply()
+    first = exports()["file"].content
+    first[509:515] = b"across"
+    second = bytearray(first)
+    second[1:5] = b"next"
+    for kind, (asked, answer) in replies.items():
+        given, whole = sent + asked + request(WRITE, 1, 4, data=b"next"), told + answer
+        for taken in range(len(whole) - len(answer), len(whole) + 1):
+            gone_behind(runner, f"gone within {kind}", given, whole + reply(), taken, (bytes(first), bytes(second)))
+        for taken in range(len(whole) - len(answer) - len(reply()), len(whole) + len(reply())):
+            cut_behind(runner, f"cut within {kind}", given, whole + reply(), taken, bytes(second if taken >= len(whole) else first))
+
+
+def gone_behind(runner, label, sent, whole, taken, images):
+    """The client takes so many bytes and closes both its ends; the service may have put more into the pipe by then."""
+    open("F", "wb").write(exports()["file"].content)
+    served = subprocess.Popen([runner.program, "nbd", "patched", "p", "F=rw:F"], bufsize=0, stdin=subprocess.PIPE, stdout=subprocess.PIPE, stderr=subprocess.PIPE)
+    with served.stderr:
+        with served.stdout, served.stdin:
+            served.stdin.write(sent)
+            found = b""
+            while len(found) < taken and (more := served.stdout.read(taken - len(found))):
+                found += more
+        said = served.stderr.read()
+    status = served.wait(60)
+    good = found == whole[:taken] and status in (0, 1) and not said
+    runner.count(f"{label} behind {taken} bytes", good and open("F", "rb").read() in images[status == 0 :], f"status {status}, {said[:80]!r}")
+
+
+def cut_behind(runner, label, sent, whole, taken, after):
+    """No more than so many bytes can be written: the output is a file that may have no more behind the place where it begins."""
+    start = 8 * SECTOR
+
+    def limited():
+        signal.signal(signal.SIGXFSZ, signal.SIG_IGN)
+        resource.setrlimit(resource.RLIMIT_FSIZE, (start + taken, start + taken))
+
+    open("F", "wb").write(exports()["file"].content)
+    with open("out", "wb+") as out:
+        out.seek(start)
+        done = subprocess.run([runner.program, "nbd", "patched", "p", "F=rw:F"], input=sent, stdout=out, stderr=subprocess.PIPE, timeout=60, preexec_fn=limited)
+        out.seek(start)
+        found = out.read()
+    good = found == whole[:taken] and done.returncode == 1 and not done.stderr
+    runner.count(f"{label} behind {taken} bytes", good and open("F", "rb").read() == after, f"status {done.returncode}, {len(found)} bytes")
+
+
+def forced(runner):
+    """Writes with FUA where each sync fails in turn: the reply is that of an error, and comes behind the write, which stands."""
+    library = os.path.join(os.getcwd(), "fail.so")
+    source = os.path.join(os.path.dirname(os.path.realpath(__file__)), "fail_calls.c")
+    subprocess.run(["cc", "-shared", "-fPIC", "-O2", "-o", library, source, "-ldl"], check=True)
+    open("stack", "w").write(STACK)
+    e = exports()["file"]
+    sent, told = begun(e)
+    # offset, length, what is written (zeros where it is None), and whether with FUA
+    rows = [(512, 1024, b"w", True), (509, 6, b"x", True), (0, 700, None, True), (3000, 8, b"y", False), (2048, 512, None, True), (3583, 1, b"z", True), (4000, 96, b"v", False)]
+    put, syncs, answers = 0, [], []
+    for number, (offset, length, letter, is_forced) in enumerate(rows):
+        data = letter * length if letter else bytes(length)
+        sent += request(WRITE, offset, length, bits=is_forced and FUA, data=data) if letter else request(ZEROES, offset, length, bits=is_forced and FUA)
+        sent += request(READ, 0, 8 * SECTOR)
+        put += (offset + length - 1) // SECTOR - offset // SECTOR + 1
+        syncs += [(put, 2 * number)] * is_forced
+        answers += [e.write(offset, data), e.read(0, 8 * SECTOR)]
+    syncs.append((put, None))
+    found = 0
+    for number in range(1, 10000):
+        open("F", "wb").write(exports()["file"].content)
+        if os.path.exists("met"):
+            os.remove("met")
+        more = {"LD_PRELOAD": library, "FAIL": str(number), "FAIL_KIND": "device", "FAIL_MET": "met"}
+        words = [runner.program, "nbd", "stack", "file", "R=ramp:8", "Z=zero:4", "F=rw:F"]
+        done = subprocess.run(words, input=sent, env={**os.environ, **more}, capture_output=True, timeout=60)
+        if not os.path.exists("met"):
+            break
+        call = open("met").read().split()
+        if call[0] != "sync" or found == len(syncs):
+            found += call[0] == "sync"
+            continue
+        put, place = syncs[found]
+        found += 1
+        # the sync at the end is that of the third binding
+        last = place is None
+        wanted = told + b"".join(reply(EIO) if k == place else it for k, it in enumerate(answers)) + b"fault 3 Device 3\n" * last
+        good = done.stdout == wanted and done.returncode == (3 if last else 0) and not done.stderr and int(call[2]) == put
+        runner.count(f"sync {found} fails", good, f"status {done.returncode}, {len(done.stdout)} of {len(wanted)} bytes, behind {call[2]} sectors of {put}")
+        runner.count(f"sync {found} fails: the image", open("F", "rb").read() == bytes(e.content))
+    runner.count("each sync failed", found == len(syncs), f"{found} of {len(syncs)}")
+
+
 def failures(runner):
     for chunked in (False, True):
         failures_of(runner, chunked)
@@ -853,7 +1021,7 @@ def main():
     runner = Runner(os.path.abspath(given) if os.path.exists(given) else given)
     with tempfile.TemporaryDirectory() as room:
         os.chdir(room)
-        for part in (handshakes, many_exports, transmissions, chunks, gone, contexts, statuses, writes, zeroes, long_runs, crypt, cuts, failures, refusals):
+        for part in (handshakes, many_exports, transmissions, chunks, gone, contexts, statuses, writes, zeroes, long_runs, crypt, cuts, ahead, gone_within, forced, failures, refusals):
             part(runner)
     print(f"exchanges: {runner.passed} passed, {runner.failed} failed")
     return 1 if runner.failed or not runner.passed else 0

@@ -1,0 +1,153 @@
+"""Services that NBD clients are tried with: what is installed of these, what is counted, and sockets with a service behind each."""
+import os
+import random
+import shlex
+import shutil
+import signal
+import socket
+import subprocess
+import sys
+import time
+
+passed = failed = 0
+program = ""
+# Of a part that is tried, and of a command, in seconds.
+LIMIT, WAITED = 150, 120
+
+
+class Left(Exception):
+    """Why a part is left out: something isn't installed, or not allowed."""
+
+
+def say(label, good, more=""):
+    global passed, failed
+    if good:
+        passed += 1
+    else:
+        failed += 1
+        print(f"{label}: differs {more}", flush=True)
+
+
+def run(*words, **options):
+    return subprocess.run([str(it) for it in words], capture_output=True, **{"timeout": WAITED, "stdin": subprocess.DEVNULL, **options})
+
+
+def needs(*tools):
+    for it in tools:
+        if not shutil.which(it):
+            raise Left(f"{it} isn't installed")
+
+
+def libnbd():
+    """libnbd's module, also where another Python than the system's runs."""
+    sys.path.append("/usr/lib/python3/dist-packages")
+    try:
+        import nbd
+    except ImportError:
+        raise Left("python3-libnbd isn't installed") from None
+    finally:
+        sys.path.pop()
+    return nbd
+
+
+def attempt(part, *words, limit=LIMIT):
+    """Tries a part in its time, or says why it is left out."""
+
+    def late(*_):
+        raise TimeoutError
+
+    signal.signal(signal.SIGALRM, late)
+    signal.alarm(limit)
+    try:
+        part(*words)
+    except Left as left:
+        print(f"{part.__name__}: left out, since {left}", flush=True)
+    except (TimeoutError, subprocess.TimeoutExpired):
+        say(part.__name__, False, "it takes too long")
+    finally:
+        signal.alarm(0)
+
+
+def sockets_are_allowed():
+    """Whether a Unix socket can be made here, and gone to."""
+    try:
+        with socket.socket(socket.AF_UNIX) as one, socket.socket(socket.AF_UNIX) as other:
+            one.bind(os.path.abspath("socket"))
+            one.listen()
+            other.connect(os.path.abspath("socket"))
+        return True
+    except OSError:
+        return False
+    finally:
+        if os.path.exists("socket"):
+            os.remove("socket")
+
+
+class Served:
+    """A Unix socket at which each connection is served by a program of its own."""
+
+    def __init__(self, words):
+        needs("socat")
+        if not sockets_are_allowed():
+            raise Left("no Unix socket can be made")
+        self.path = os.path.join(os.getcwd(), "socket")
+        # The words stand in a file: socat cuts its own at each colon.
+        script = os.path.join(os.getcwd(), "serve")
+        with open(script, "w") as file:
+            file.write("#!/bin/sh\nexec " + shlex.join(words) + "\n")
+        os.chmod(script, 0o755)
+        self.child = subprocess.Popen(["socat", "-b", "1048576", f"UNIX-LISTEN:{self.path},fork", f"EXEC:{script}"], stderr=subprocess.DEVNULL)
+        while not self.listens():
+            if self.child.poll() is not None:
+                raise Left("socat doesn't listen")
+            time.sleep(0.01)
+
+    def listens(self):
+        """Whether clients are taken: the socket is there a moment earlier. The system's list of sockets tells it by a flag."""
+        if not os.path.exists(self.path):
+            return False
+        try:
+            found = [it.split() for it in open("/proc/net/unix") if it.rstrip().endswith(" " + self.path)]
+        except OSError:
+            found = []
+        if not found:
+            time.sleep(0.5)
+        return not found or any(int(it[3], 16) & 0x10000 for it in found)
+
+    def __enter__(self):
+        return "nbd+unix:///?socket=" + self.path
+
+    def __exit__(self, *_):
+        self.child.terminate()
+        self.child.wait()
+        if os.path.exists(self.path):
+            os.remove(self.path)
+
+
+def format_data(size):
+    """The hash image of the data image, and a stack with its root digest, made by the program."""
+    open("hash", "wb").write(bytes(size // 64 + 65536))
+    made = run(program, "format", "--salt", "00ff", "data", "hash").stdout.decode()
+    root = next(word for word in made.split() if len(word) == 64)
+    line = run(program, "table", "hash", root, "D", "H").stdout.decode().strip()
+    open("verity", "w").write(f"v,,,ro,{line}")
+
+
+def volume(size):
+    """A data image and its hash image."""
+    data = random.Random(7).randbytes(size)
+    open("data", "wb").write(data)
+    format_data(size)
+    return data
+
+
+def encrypted(size):
+    """An image with that many zero bytes, a stack of one `crypt` line over it, and the words of its service."""
+    key = "".join(f"{k:02x}" for k in range(64))
+    open("secret", "wb").write(bytes(size))
+    open("crypt", "w").write(f"c,,,rw,0 {size // 512} crypt aes-xts-plain64 {key} 0 B 0")
+    return words_for("crypt", "c", "B=rw:" + os.path.abspath("secret"))
+
+
+def words_for(stack, name, *bindings):
+    return [program, "nbd", os.path.abspath(stack), name, *bindings]
