@@ -1,5 +1,5 @@
 -- Bytes of the export and the sectors that they touch.
-use Rattle.std.proofs.Common.{◌≡◌, ◌<◌, ◌≤◌, ℕ, ◌+◌, ◌-◌, ◌*◌, ◌/◌, ◌%◌, ◌^◌, ◌==◌, List, [], ◌∷◌, ◌++◌, length, take, drop, replicate, refl, ap, sym, ◌∙◌, subst, append-nil, append_assoc, arith, inl, inr, Result, Ok, Err}
+use Rattle.std.proofs.Common.{◌≡◌, ◌≢◌, ◌<◌, ◌≤◌, ℕ, ◌+◌, ◌-◌, ◌*◌, ◌/◌, ◌%◌, ◌^◌, ◌==◌, List, [], ◌∷◌, ◌++◌, length, take, drop, replicate, refl, ap, sym, ◌∙◌, subst, append-nil, append_assoc, arith, inl, inr, Result, Ok, Err}
 use Rattle.std.specs.Prelude.{◌&&◌, Bool, true, false, not, nat_le, nat_lt, IfErr, IfOk, OnOk, if◌then◌else◌}
 use Rattle.std.proofs.lemmas.List.{length-append, length-drop, length-replicate, length-take, length-take-le, drop_all}
 use Rattle.std.proofs.Math.Seq.{take-append-add}
@@ -14,6 +14,7 @@ use Rattle.nbd_server.specs.declared.reply.Data.{Data}
 use Rattle.nbd_protocol.specs.declared.request_error.RequestError.TheVariants.{NotPermitted, Invalid, NoSpace}
 use Rattle.nbd_protocol.specs.Exports.{ExportRecord}
 use Rattle.nbd_protocol.specs.Headers.{cache_command, command_of, flush_command, has_fua, has_offered, payload_len, most_length, read_command, status_command, trim_command, write_command, zero_command}
+use Rattle.nbd_server.specs.Premises.{IsBare}
 use Rattle.nbd_server.specs.Sectors.{IsStored, FailsToStore}
 use Rattle.nbd_server.specs.Replies.{RequestOutcome}
 use Rattle.nbd_server.specs.Status.{touched}
@@ -138,6 +139,18 @@ module _ (offset length : ℕ) (fua : Bool) where
 pub served-write : (e : ExportRecord) (a : Agreement) (w w' : World) (h : Header) (offset length : ℕ) (fua : Bool) (payload : List ℕ) (outcome : RequestOutcome) → command_of e a h ≡ Ok (Write offset length fua)
     → Settles fua (WritesGiven e w offset payload) outcome w' → Serves e a w h payload outcome w'
 served-write e a w w' h offset length fua payload outcome command p = subst (λ c. ServesCommand e w c payload outcome w') (sym command) p
+
+-- ---- commands that no bytes follow
+
+pub bare-other : (command : Command) → ((offset length : ℕ) (fua : Bool) → command ≢ Write offset length fua) → IsBare command
+bare-other (Write offset length fua) other = other offset length fua refl
+bare-other command other = tt
+
+-- it is served alike, whatever bytes are beside it
+pub served-bare : (e : ExportRecord) (w w' : World) (command : Command) (payload : List ℕ) (outcome : RequestOutcome) → IsBare command
+    → ServesCommand e w (Ok command) [] outcome w' → ServesCommand e w (Ok command) payload outcome w'
+served-bare e w w' (Write offset length fua) payload outcome bare p = absurd bare
+served-bare e w w' command payload outcome bare p = p
 
 -- ---- with FUA
 

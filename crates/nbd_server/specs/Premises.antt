@@ -4,6 +4,8 @@ use Rattle.stack_rules.specs.Names.{mapped, size}
 use Rattle.stack_rules.specs.Records.{Configuration}
 use Rattle.nbd_protocol.specs.Exports.{AreExports, ExportRecord, IsExport, export_records}
 use Rattle.nbd_protocol.specs.declared.export.Export.{Export}
+use Rattle.nbd_protocol.specs.declared.header.Command.{Command}
+use Rattle.nbd_protocol.specs.declared.header.Command.TheVariants.{Write}
 use Rattle.nbd_server.specs.Transmission.{room_behind}
 use Rattle.nbd_server.specs.Delivery.{IsPiece}
 use Rattle.nbd_server.specs.declared.delivery.Delivery.{Delivery}
@@ -28,6 +30,11 @@ pub record IsGoing (c : Configuration) (exports : List Export) (phase : Phase) :
 pub record AreBytesOf (c : Configuration) (e : ExportRecord) (offset count : ℕ) : Type 0 where
   pub export : IsExport c e
   pub within : offset + count ≤ e.size
+
+-- no bytes follow the command
+abbrev pub IsBare : Command → Type 0
+IsBare (Write offset length fua) = ⊥
+IsBare command = Unit {0}
 
 -- so many sectors of the export, from the first on
 pub record AreSectorsOf (c : Configuration) (e : ExportRecord) (first count : ℕ) : Type 0 where

@@ -1,13 +1,13 @@
 //! The requests of the transmission phase.
-ghost use Rattle.std.specs.Prelude.{◌≡◌, ◌<◌, ◌≤◌, ◌+◌, ◌^◌, ℕ, List, length, replicate, IfOk, IfErr};
+ghost use Rattle.std.specs.Prelude.{◌≡◌, ◌<◌, ◌≤◌, ◌+◌, ◌^◌, ℕ, List, [], length, replicate, Ok, IfOk, IfErr};
 ghost use Rattle.std.specs.Io.KnownBytes.{Consumes};
 ghost use Rattle.counted_io.specs.Streams.{streams};
 ghost use Rattle.nbd_protocol.specs.Exports.{ExportRecord, IsExport, export_at, export_record};
-ghost use Rattle.nbd_protocol.specs.Headers.{most_length, payload_len};
-ghost use Rattle.nbd_server.specs.Premises.{AreBytesOf};
+ghost use Rattle.nbd_protocol.specs.Headers.{IsWithin, most_length, payload_len};
+ghost use Rattle.nbd_server.specs.Premises.{AreBytesOf, IsBare};
 ghost use Rattle.nbd_server.specs.Service.{Turns};
 ghost use Rattle.nbd_protocol.specs.Streaming.{HasRead, HasWritten, IsShort, fault_of};
-ghost use Rattle.nbd_server.specs.Transmission.{Flushes, IsSendable, IsServed, ReadsBytes, Settles, Stays, TellsStatus, WritesGiven, WritesSome, outcome_of, written};
+ghost use Rattle.nbd_server.specs.Transmission.{Flushes, IsSendable, IsServed, ReadsBytes, ServesCommand, Settles, Stays, TellsStatus, WritesGiven, WritesSome, outcome_of, written};
 ghost use Rattle.nbd_protocol.specs.declared.phase.Phase.TheVariants.{Serving};
 
 use crate::byte_range::{read_bytes, touched, write_bytes, write_zeros};
@@ -126,6 +126,37 @@ fn tell_status<D: SyncDev>(
     Ok(Data::all(told))
 }
 
+// Serves a command that no bytes follow.
+fn serve_bare<D: SyncDev>(
+    alloc: Global,
+    queue: &mut Queue<D>,
+    export: &Export<'_>,
+    command: Command,
+) -> Result<Data, RequestError>
+    requires export { IsExport queue.old.stack.config (export_record export.now) }
+    requires within { IsWithin (export_record export.now) command }
+    requires bare { IsBare command }
+    ensures value { ServesCommand (export_record export.now) queue.old (Ok command) [] (outcome_of result) queue.new }
+    ensures inside { IsSendable result }
+{
+    match command {
+        Command::Read { offset, length } => read(alloc, queue, export, offset, length),
+        Command::Flush => flush(alloc, queue),
+        Command::Status {
+            offset,
+            length,
+            one,
+        } => tell_status(alloc, queue, export, offset, length, one),
+        Command::Hint => Ok(Data::none(alloc)),
+        Command::Zero {
+            offset,
+            length,
+            fua,
+        } => zero(alloc, queue, export, offset, length, fua),
+        Command::Write { .. } => unreachable!(),
+    }
+}
+
 // Serves a request, of which the bytes of a write are still to come.
 fn serve_request<D: SyncDev, R: Read>(
     alloc: Global,
@@ -140,54 +171,26 @@ fn serve_request<D: SyncDev, R: Read>(
     ensures err { IfErr result (λ fault. IsShort (payload_len header) (R.remaining reader.old.inner) (R.remaining reader.new.inner) fault × (queue.new ≡ queue.old)) }
     ensures reader { HasRead 0 reader.old reader.new (fault_of result) }
 {
-    // Bytes follow a write alone.
-    match header.command(export, agreed) {
+    let command = match header.command(export, agreed) {
+        Ok(command) => command,
         Err(error) => {
             skip(reader, header.payload_len())?;
-            Ok(Err(error))
+            return Ok(Err(error));
         }
-        Ok(Command::Read { offset, length }) => {
-            skip(reader, header.payload_len())?;
-            Ok(read(alloc, queue, export, offset, length))
-        }
-        Ok(Command::Flush) => {
-            skip(reader, header.payload_len())?;
-            Ok(flush(alloc, queue))
-        }
-        Ok(
-            Command::Status {
-                offset,
-                length,
-                one,
-            },
-        ) => {
-            skip(reader, header.payload_len())?;
-            Ok(tell_status(alloc, queue, export, offset, length, one))
-        }
-        Ok(Command::Hint) => {
-            skip(reader, header.payload_len())?;
-            Ok(Ok(Data::none(alloc)))
-        }
-        Ok(
-            Command::Zero {
-                offset,
-                length,
-                fua,
-            },
-        ) => {
-            skip(reader, header.payload_len())?;
-            Ok(zero(alloc, queue, export, offset, length, fua))
-        }
-        Ok(
-            Command::Write {
-                offset,
-                length,
-                fua,
-            },
-        ) => match take_write(alloc, queue, export, offset, length, reader)? {
+    };
+    match command {
+        Command::Write {
+            offset,
+            length,
+            fua,
+        } => match take_write(alloc, queue, export, offset, length, reader)? {
             Ok(()) => Ok(settle(alloc, queue, fua)),
             Err(error) => Ok(Err(error)),
         },
+        _ => {
+            skip(reader, header.payload_len())?;
+            Ok(serve_bare(alloc, queue, export, command))
+        }
     }
 }
 
