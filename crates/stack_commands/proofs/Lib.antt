@@ -3,6 +3,7 @@ pub mod ConfigurationLemmas
 pub mod EndingLemmas
 pub mod KeptLemmas
 pub mod OpeningLemmas
+mod RepairingLemmas
 pub mod RecoveryLemmas
 pub mod ServeLemmas
 pub mod StackLemmas
