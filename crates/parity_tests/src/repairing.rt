@@ -1,4 +1,7 @@
 //! Images repaired by the parity that is veritysetup's.
+ghost use Rattle.std.specs.Prelude.{◌≤◌, ◌^◌};
+ghost use Rattle.fec_area.specs.Layouts.{IsLayout};
+
 use crate::damages::{DAMAGES, Damage};
 use crate::parity::{CASES, Protected, protect};
 use crate::restoring::{overwrite, place_of, spoil};
@@ -123,7 +126,10 @@ fn mend<R: Abort>(
     layout: &Layout,
     parity: Vec<u8>,
     plan: Plan,
-) -> Result<Vec<u8>, Fail> {
+) -> Result<Vec<u8>, Fail>
+    requires layout { IsLayout layout.now }
+    requires first { plan.copy_first ≤ 2 ^ 55 }
+{
     let (copy_data, copy_hash) = copy.into_devices(false);
     let mut data_copies = [copy_data];
     let mut hash_copies = [copy_hash];
