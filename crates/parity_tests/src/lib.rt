@@ -2,6 +2,8 @@
 #![tactic(auto)]
 
 #[cfg(test)]
+mod damages;
+#[cfg(test)]
 mod parity;
 #[cfg(test)]
 mod remaking;

@@ -24,7 +24,7 @@ pub(crate) struct Case {
     pub(crate) digest: &'static str,
 }
 
-pub(crate) static CASES: [Case; 9] = [
+pub(crate) static CASES: [Case; 15] = [
     Case {
         block: 512,
         blocks: 300,
@@ -108,6 +108,62 @@ pub(crate) static CASES: [Case; 9] = [
         hash: 36,
         parity: 6,
         digest: "b0d0f0348e1ed2fa5b3df03199a7d9244388ca19436f71bf8da495dafb282b14",
+    },
+    // 253 covered blocks are one round of codewords with two bytes of parity, and 254 are two
+    Case {
+        block: 512,
+        blocks: 237,
+        roots: 2,
+        data: 237,
+        hash: 17,
+        parity: 2,
+        digest: "3480c4e819691e849fa6cafce064fc11264c26167d94941dbf87b0a89a7a18cd",
+    },
+    Case {
+        block: 512,
+        blocks: 238,
+        roots: 2,
+        data: 238,
+        hash: 17,
+        parity: 4,
+        digest: "2984406d0293ba53ab7ba0d027b6514da91e9cf5fd7c04c4645e6838e8c0be90",
+    },
+    Case {
+        block: 512,
+        blocks: 237,
+        roots: 2,
+        data: 237,
+        hash: 18,
+        parity: 4,
+        digest: "8f638a17c8225e1b98ac7164dca467c7248a47d29d446335713ff6f4db56c82d",
+    },
+    // 231 with 24 bytes, and 232
+    Case {
+        block: 512,
+        blocks: 216,
+        roots: 24,
+        data: 216,
+        hash: 16,
+        parity: 24,
+        digest: "b8e910f03695326d9142c099497c340183c33037f059eaf3a948cf763e62cabb",
+    },
+    Case {
+        block: 512,
+        blocks: 217,
+        roots: 24,
+        data: 217,
+        hash: 16,
+        parity: 48,
+        digest: "6ef6b74ad08efbe00bb5fc821c598a80312d7459651dbc0db51caf2cfddda7f2",
+    },
+    Case {
+        block: 512,
+        blocks: 216,
+        roots: 24,
+        data: 216,
+        hash: 17,
+        parity: 48,
+        digest: "429d3dcc1f5129985e407bdd326cb2d3de1928a47619dc2629e7a5994f6af19f",
     },
 ];
 

@@ -1,6 +1,10 @@
 //! Images repaired by the parity that is veritysetup's.
+ghost use Rattle.std.specs.Prelude.{◌≤◌, ◌^◌};
+ghost use Rattle.fec_area.specs.Layouts.{IsLayout};
+
+use crate::damages::{DAMAGES, Damage};
 use crate::parity::{CASES, Protected, protect};
-use crate::restoring::{overwrite, place_of};
+use crate::restoring::{overwrite, place_of, spoil};
 use block_device::{BlockDev, MemoryDev};
 use counted_io::Counted;
 use fec_area::Layout;
@@ -8,137 +12,47 @@ use std::alloc::{AllocError, Global};
 use std::process::Abort;
 use std::test::Fail;
 use tree_repair::{Plan, repair_with_parity};
+use tree_shape::Digest;
+use tree_survey::survey_image;
 
-/// Blocks of an image that are overwritten, those of them that are whole in a copy, and what is printed then.
-struct Damage {
-    case: usize,
-    lost: &'static [u64],
-    copied: &'static [u64],
-    parity: bool,
-    write: bool,
-    whole: bool,
-    lines: &'static str,
+/// The bytes of an image.
+#[derive(Drop)]
+struct Image {
+    data: Vec<u8>,
+    hash: Vec<u8>,
 }
 
-// Case 0 has 300 data blocks, case 3 has 232, and case 8 has 500; then follow the hash blocks, from the top one on. Two rounds
-// cover them, of the blocks with even and with odd numbers, and three in case 8. A codeword has two bytes of parity, and
-// eight in case 3.
-static DAMAGES: [Damage; 10] = [
-    // a whole image, and data blocks
-    Damage {
-        case: 0,
-        lost: &[],
-        copied: &[],
-        parity: false,
-        write: true,
-        whole: true,
-        lines: "",
-    },
-    Damage {
-        case: 0,
-        lost: &[4, 7, 298],
-        copied: &[],
-        parity: false,
-        write: true,
-        whole: true,
-        lines: "repaired data 4 parity\nrepaired data 7 parity\nrepaired data 298 parity\n",
-    },
-    // the top block, which is made again, and data blocks
-    Damage {
-        case: 0,
-        lost: &[300, 5, 7],
-        copied: &[],
-        parity: false,
-        write: true,
-        whole: true,
-        lines: "repaired hash 2 0 remade\nrepaired data 5 parity\nrepaired data 7 parity\n",
-    },
-    // one that isn't, and a hash block and a data block beneath it that are met in the next pass
-    Damage {
-        case: 3,
-        lost: &[232, 233, 17],
-        copied: &[],
-        parity: false,
-        write: true,
-        whole: true,
-        lines: "repaired hash 1 0 parity\nrepaired hash 0 0 remade\nrepaired data 17 parity\n",
-    },
-    // the same with three levels, in three passes
-    Damage {
-        case: 8,
-        lost: &[500, 501, 505, 1],
-        copied: &[],
-        parity: false,
-        write: true,
-        whole: true,
-        lines: "repaired hash 2 0 parity\nrepaired hash 1 0 parity\nrepaired hash 0 2 remade\nrepaired data 1 parity\n",
-    },
-    // one more than parity brings back, and the same where a copy has one
-    Damage {
-        case: 0,
-        lost: &[0, 4, 298],
-        copied: &[],
-        parity: false,
-        write: true,
-        whole: false,
-        lines: "",
-    },
-    Damage {
-        case: 0,
-        lost: &[0, 4, 298],
-        copied: &[4],
-        parity: false,
-        write: true,
-        whole: true,
-        lines: "repaired data 4 copy 1\nrepaired data 0 parity\nrepaired data 298 parity\n",
-    },
-    // parity that is overwritten too
-    Damage {
-        case: 0,
-        lost: &[4],
-        copied: &[],
-        parity: true,
-        write: true,
-        whole: false,
-        lines: "",
-    },
-    // nothing may be written
-    Damage {
-        case: 0,
-        lost: &[4, 7],
-        copied: &[7],
-        parity: false,
-        write: false,
-        whole: false,
-        lines: "repairable data 7 copy 1\nrepairable data 4 parity\n",
-    },
-    Damage {
-        case: 3,
-        lost: &[232, 233, 17],
-        copied: &[],
-        parity: false,
-        write: false,
-        whole: false,
-        lines: "repairable hash 1 0 parity\n",
-    },
-];
-
-/// Overwrites blocks of an image.
-fn overwrite_all(
-    layout: &Layout,
-    blocks: &[u64],
-    data: &mut [u8],
-    hash: &mut [u8],
-) -> Result<(), Fail> {
-    for index in blocks {
-        let (in_tree, first) = place_of(layout, *index);
-        if in_tree {
-            overwrite(hash, first, layout.block as usize)?;
-        } else {
-            overwrite(data, first, layout.block as usize)?;
+impl Image {
+    /// The same with these blocks overwritten.
+    fn overwritten(&self, alloc: Global, layout: &Layout, blocks: &[u64]) -> Result<Image, Fail> {
+        let mut data = copy_of(alloc, &self.data)?;
+        let mut hash = copy_of(alloc, &self.hash)?;
+        let size = layout.block as usize;
+        for index in blocks {
+            let (in_tree, first) = place_of(layout, *index);
+            if in_tree {
+                overwrite(&mut hash, first, size)?;
+            } else {
+                overwrite(&mut data, first, size)?;
+            }
         }
+        Ok(Image { data, hash })
     }
-    Ok(())
+
+    /// Its devices.
+    fn into_devices(self, writable: bool) -> (MemoryDev, MemoryDev) {
+        let Image { data, hash } = self;
+        (
+            MemoryDev::new(data, writable),
+            MemoryDev::new(hash, writable),
+        )
+    }
+
+    /// Whether the devices have these bytes.
+    fn is_on(&self, data: MemoryDev, hash: MemoryDev) -> bool {
+        let same = data.into_bytes().as_slice() == self.data.as_slice();
+        same && hash.into_bytes().as_slice() == self.hash.as_slice()
+    }
 }
 
 fn copy_of(alloc: Global, bytes: &[u8]) -> Result<Vec<u8>, AllocError> {
@@ -147,7 +61,19 @@ fn copy_of(alloc: Global, bytes: &[u8]) -> Result<Vec<u8>, AllocError> {
     Ok(copy)
 }
 
-/// Repairs the image that is damaged, and compares what it is then and what was printed.
+/// What is told of an image: its blocks that aren't good.
+fn told_of(
+    alloc: Global,
+    data: &mut MemoryDev,
+    hash: &mut MemoryDev,
+    root: &Digest,
+) -> Result<Vec<u8>, Fail> {
+    let mut writer = Counted::new(Vec::new(alloc));
+    survey_image(alloc, data, hash, root, &mut writer)?;
+    Ok(writer.into_inner())
+}
+
+/// Repairs the image that is damaged, and compares what was printed, what is told of it then, and what stands there.
 fn repairs<R: Abort>(rt: &R, alloc: Global, row: &Damage) -> Result<(), Fail> {
     let case = CASES.get(row.case).ok_or("no case")?;
     let Protected {
@@ -157,53 +83,73 @@ fn repairs<R: Abort>(rt: &R, alloc: Global, row: &Damage) -> Result<(), Fail> {
         layout,
         root,
     } = protect(rt, alloc, case)?;
-    let whole_data = data.into_bytes();
-    let whole_hash = hash.into_bytes();
-    let mut data_bytes = copy_of(alloc, &whole_data)?;
-    let mut hash_bytes = copy_of(alloc, &whole_hash)?;
-    overwrite_all(&layout, row.lost, &mut data_bytes, &mut hash_bytes)?;
-    let mut parity_bytes = parity.into_bytes();
-    if row.parity {
-        overwrite(&mut parity_bytes, 0, 1)?;
-    }
-    let mut parity = MemoryDev::new(parity_bytes, false);
+    let whole = Image {
+        data: data.into_bytes(),
+        hash: hash.into_bytes(),
+    };
+    let damaged = whole.overwritten(alloc, &layout, row.lost)?;
+    let wanted = whole.overwritten(alloc, &layout, row.still)?;
     // the copy has what isn't damaged once more
-    let mut copy_data = copy_of(alloc, &data_bytes)?;
-    let mut copy_hash = copy_of(alloc, &hash_bytes)?;
-    overwrite_all(&layout, row.copied, &mut copy_data, &mut copy_hash)?;
-    let mut data_copies = Vec::new(alloc);
-    data_copies.push(MemoryDev::new(copy_data, false))?;
-    let mut hash_copies = Vec::new(alloc);
-    hash_copies.push(MemoryDev::new(copy_hash, false))?;
-    let mut data = MemoryDev::new(data_bytes, true);
-    let mut hash = MemoryDev::new(hash_bytes, true);
+    let copy = damaged.overwritten(alloc, &layout, row.copied)?;
+    let mut parity_bytes = parity.into_bytes();
+    spoil(&mut parity_bytes, row.spoiled)?;
     let plan = Plan {
         root,
         copy_first: 0,
         write: row.write,
     };
-    let mut writer = Counted::new(Vec::new(alloc));
-    assert!(rt; data.writable());
-    assert!(rt; hash.writable());
-    assert!(rt; layout.is_laid_on(&data, &hash));
-    let done = repair_with_parity(
+    let (mut data, mut hash) = damaged.into_devices(true);
+    let printed = mend(
+        rt,
         alloc,
         &mut data,
         &mut hash,
-        data_copies.as_mut_slice(),
-        hash_copies.as_mut_slice(),
+        copy,
         &layout,
-        &mut parity,
+        parity_bytes,
+        plan,
+    )?;
+    assert!(rt; printed.as_slice() == row.lines.as_bytes());
+    let told = told_of(alloc, &mut data, &mut hash, &root)?;
+    assert!(rt; told.as_slice() == row.told.as_bytes());
+    assert!(rt; wanted.is_on(data, hash));
+    Ok(())
+}
+
+/// Repairs an image by one copy and its parity, and gives what was printed.
+fn mend<R: Abort>(
+    rt: &R,
+    alloc: Global,
+    data: &mut MemoryDev,
+    hash: &mut MemoryDev,
+    copy: Image,
+    layout: &Layout,
+    parity: Vec<u8>,
+    plan: Plan,
+) -> Result<Vec<u8>, Fail>
+    requires layout { IsLayout layout.now }
+    requires first { plan.copy_first ≤ 2 ^ 55 }
+{
+    let (copy_data, copy_hash) = copy.into_devices(false);
+    let mut data_copies = [copy_data];
+    let mut hash_copies = [copy_hash];
+    let mut parity_dev = MemoryDev::new(parity, false);
+    let mut writer = Counted::new(Vec::new(alloc));
+    assert!(rt; data.writable());
+    assert!(rt; hash.writable());
+    assert!(rt; layout.is_laid_on(data, hash));
+    repair_with_parity(
+        alloc,
+        data,
+        hash,
+        &mut data_copies,
+        &mut hash_copies,
+        layout,
+        &mut parity_dev,
         plan,
         &mut writer,
-    );
-    assert!(rt; done.is_ok());
-    let same = data.into_bytes().as_slice() == whole_data.as_slice();
-    let same_tree = hash.into_bytes().as_slice() == whole_hash.as_slice();
-    assert!(rt; (same && same_tree) == row.whole);
-    let printed = writer.into_inner();
-    assert!(rt; printed.as_slice() == row.lines.as_bytes());
-    Ok(())
+    )?;
+    Ok(writer.into_inner())
 }
 
 #[test]

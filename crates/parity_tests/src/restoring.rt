@@ -15,30 +15,32 @@ enum Wanted {
     Fault(RestoreFault),
 }
 
-/// Blocks of an image that are overwritten, those of them that are known, and one of them.
+/// Blocks of an image that are overwritten, those of them that are known, bytes of its parity that are overwritten too, and
+/// what comes of the first of these blocks.
 struct Loss {
     case: usize,
     lost: &'static [u64],
     known: &'static [u64],
-    parity: bool,
+    spoiled: &'static [usize],
     wanted: Wanted,
 }
 
-// The first case has 322 covered blocks, from 300 on in the tree, of which the top one is 300, and two rounds.
-static LOSSES: [Loss; 9] = [
+// Case 0 has 322 covered blocks, from 300 on in the tree, of which the top one is 300, and two rounds. The tree begins at 231
+// in case 2, at 232 in case 3, at 216 in case 12 and at 217 in case 13; cases 2 and 12 have one round, the others two.
+static LOSSES: [Loss; 18] = [
     // a data block, and two of a round
     Loss {
         case: 0,
         lost: &[7],
         known: &[],
-        parity: false,
+        spoiled: &[],
         wanted: Wanted::Back,
     },
     Loss {
         case: 0,
         lost: &[298, 0],
         known: &[0, 298],
-        parity: false,
+        spoiled: &[],
         wanted: Wanted::Back,
     },
     // the top block and a data block, beside two lost ones of the other round
@@ -46,7 +48,7 @@ static LOSSES: [Loss; 9] = [
         case: 0,
         lost: &[300, 4, 5, 321],
         known: &[4, 5, 321],
-        parity: false,
+        spoiled: &[],
         wanted: Wanted::Back,
     },
     // a block that isn't known as lost
@@ -54,7 +56,7 @@ static LOSSES: [Loss; 9] = [
         case: 0,
         lost: &[300, 4],
         known: &[],
-        parity: false,
+        spoiled: &[],
         wanted: Wanted::Other,
     },
     // more than there is parity for
@@ -62,7 +64,7 @@ static LOSSES: [Loss; 9] = [
         case: 0,
         lost: &[0, 4, 298],
         known: &[298, 4],
-        parity: false,
+        spoiled: &[],
         wanted: Wanted::Fault(RestoreFault::TooManyLost { count: 3 }),
     },
     // parity that was overwritten
@@ -70,30 +72,127 @@ static LOSSES: [Loss; 9] = [
         case: 0,
         lost: &[4],
         known: &[],
-        parity: true,
+        spoiled: &[0],
         wanted: Wanted::Other,
     },
-    // eight and 24 blocks of one round
+    // that of the other round: a round's parity has 1,024 bytes
+    Loss {
+        case: 0,
+        lost: &[7],
+        known: &[],
+        spoiled: &[0],
+        wanted: Wanted::Back,
+    },
+    Loss {
+        case: 0,
+        lost: &[4],
+        known: &[],
+        spoiled: &[1024],
+        wanted: Wanted::Back,
+    },
+    Loss {
+        case: 0,
+        lost: &[7],
+        known: &[],
+        spoiled: &[1024],
+        wanted: Wanted::Other,
+    },
+    // eight blocks of one round
     Loss {
         case: 2,
         lost: &[246, 0, 1, 2, 3, 231, 232, 100],
         known: &[100, 246, 0, 1, 2, 3, 231, 232],
-        parity: false,
+        spoiled: &[],
         wanted: Wanted::Back,
     },
     Loss {
         case: 2,
         lost: &[246, 0, 1, 2, 3, 231, 232, 100, 101],
         known: &[100, 101, 246, 0, 1, 2, 3, 231, 232],
-        parity: false,
+        spoiled: &[],
         wanted: Wanted::Fault(RestoreFault::TooManyLost { count: 9 }),
+    },
+    // of two rounds, a data block, beside lost blocks and parity of the other one
+    Loss {
+        case: 3,
+        lost: &[17, 1, 3, 5, 7, 233, 247, 101, 0, 232],
+        known: &[0, 232, 17, 1, 3, 5, 7, 233, 247, 101],
+        spoiled: &[0],
+        wanted: Wanted::Back,
+    },
+    // 24, the top block first
+    Loss {
+        case: 12,
+        lost: &[
+            216, 0, 1, 2, 3, 4, 5, 6, 7, 100, 101, 102, 103, 104, 105, 106, 107, 224, 225, 226,
+            227, 228, 229, 230,
+        ],
+        known: &[
+            216, 0, 1, 2, 3, 4, 5, 6, 7, 100, 101, 102, 103, 104, 105, 106, 107, 224, 225, 226,
+            227, 228, 229, 230,
+        ],
+        spoiled: &[],
+        wanted: Wanted::Back,
+    },
+    Loss {
+        case: 12,
+        lost: &[
+            216, 0, 1, 2, 3, 4, 5, 6, 7, 100, 101, 102, 103, 104, 105, 106, 107, 224, 225, 226,
+            227, 228, 229, 230, 50,
+        ],
+        known: &[
+            216, 0, 1, 2, 3, 4, 5, 6, 7, 100, 101, 102, 103, 104, 105, 106, 107, 224, 225, 226,
+            227, 228, 229, 230, 50,
+        ],
+        spoiled: &[],
+        wanted: Wanted::Fault(RestoreFault::TooManyLost { count: 25 }),
+    },
+    // of two rounds, a hash block and a data block, beside parity of the other one
+    Loss {
+        case: 13,
+        lost: &[
+            229, 1, 3, 5, 7, 9, 11, 13, 15, 17, 19, 21, 23, 25, 27, 29, 31, 101, 103, 215, 217,
+            219, 223, 231,
+        ],
+        known: &[
+            229, 1, 3, 5, 7, 9, 11, 13, 15, 17, 19, 21, 23, 25, 27, 29, 31, 101, 103, 215, 217,
+            219, 223, 231,
+        ],
+        spoiled: &[0],
+        wanted: Wanted::Back,
+    },
+    Loss {
+        case: 13,
+        lost: &[
+            1, 229, 3, 5, 7, 9, 11, 13, 15, 17, 19, 21, 23, 25, 27, 29, 31, 101, 103, 215, 217,
+            219, 223, 231,
+        ],
+        known: &[
+            1, 229, 3, 5, 7, 9, 11, 13, 15, 17, 19, 21, 23, 25, 27, 29, 31, 101, 103, 215, 217,
+            219, 223, 231,
+        ],
+        spoiled: &[0],
+        wanted: Wanted::Back,
+    },
+    Loss {
+        case: 13,
+        lost: &[
+            1, 229, 3, 5, 7, 9, 11, 13, 15, 17, 19, 21, 23, 25, 27, 29, 31, 101, 103, 215, 217,
+            219, 223, 231,
+        ],
+        known: &[
+            1, 229, 3, 5, 7, 9, 11, 13, 15, 17, 19, 21, 23, 25, 27, 29, 31, 101, 103, 215, 217,
+            219, 223, 231,
+        ],
+        spoiled: &[12288],
+        wanted: Wanted::Other,
     },
     // all blocks of a small image
     Loss {
         case: 7,
         lost: &[5, 0, 1, 2, 3, 4],
         known: &[0, 1, 2, 3, 4, 5],
-        parity: false,
+        spoiled: &[],
         wanted: Wanted::Back,
     },
 ];
@@ -116,6 +215,14 @@ pub(crate) fn overwrite(bytes: &mut [u8], first: usize, size: usize) -> Result<(
     let block = bytes.get_mut(first..end).ok_or("no block")?;
     for byte in block.iter_mut() {
         *byte ^= 0x5a;
+    }
+    Ok(())
+}
+
+/// Overwrites bytes of parity.
+pub(crate) fn spoil(parity: &mut [u8], places: &[usize]) -> Result<(), Fail> {
+    for place in places {
+        overwrite(parity, *place, 1)?;
     }
     Ok(())
 }
@@ -148,9 +255,7 @@ fn loses<R: Abort>(rt: &R, alloc: Global, loss: &Loss) -> Result<(), Fail> {
             overwrite(&mut data_bytes, first, size)?;
         }
     }
-    if loss.parity {
-        overwrite(&mut parity_bytes, 0, 1)?;
-    }
+    spoil(&mut parity_bytes, loss.spoiled)?;
     let mut data = MemoryDev::new(data_bytes, false);
     let mut hash = MemoryDev::new(hash_bytes, false);
     let mut parity = MemoryDev::new(parity_bytes, false);
