@@ -1,7 +1,6 @@
 //! The messages of the NBD protocol: what a client asks for, and what it is told before its requests.
 #![tactic(auto)]
 
-mod contexts;
 mod export;
 mod exports;
 mod fault;
@@ -9,19 +8,15 @@ mod header;
 mod intake;
 mod numbers;
 mod offers;
-mod option;
-mod option_reply;
 mod phase;
 mod request_error;
 
 pub use export::Export;
 pub use exports::{asked, export_at};
 pub use fault::ServiceFault;
-pub use header::{BLOCK_STATUS, Command, DISCONNECT, Header};
+pub use header::{BLOCK_STATUS, Command, DISCONNECT, Header, MOST_LENGTH};
 pub use intake::{fill, fill_part, skip, take_sectors, zeros};
-pub use numbers::{number32, put16, put32, put64};
+pub use numbers::{number16, number32, put16, put32, put64};
 pub use offers::{exports_of, names_of};
-pub use option::{ABORT, EXPORT_NAME, names_export, phase_after, say_answer, terms_after_long};
-pub use option_reply::{Refusal, acknowledge, refuse};
 pub use phase::{Agreement, Phase, Terms};
 pub use request_error::RequestError;

@@ -20,7 +20,7 @@ use Rattle.nbd_protocol.specs.declared.phase.Phase.TheVariants.{Greeted, Hagglin
 use Rattle.nbd_protocol.specs.declared.header.Header.{Header}
 use Rattle.nbd_protocol.specs.Numbers.{number32}
 use Rattle.nbd_protocol.specs.Exports.{ExportRecord, HasShortName, asked, export_at, most_name, no_export, place_of}
-use Rattle.nbd_protocol.specs.Handshake.{answer_to, answer_to_long, most_data, names_export, phase_after, phase_after_long}
+use Rattle.nbd_options.specs.Handshake.{answer_to, answer_to_long, most_data, names_export, phase_after, phase_after_long}
 use Rattle.nbd_protocol.specs.Headers.{command_of, header_of, is_chunked, payload_len, request_magic}
 use Rattle.nbd_server.specs.Causes.{Breaks, IsCut, IsCutWithin, IsNaming}
 use Rattle.nbd_protocol.specs.Streaming.{IsShort, Spoken, Stops, TakesInto}

@@ -7,7 +7,7 @@ use Rattle.request_queue.specs.World.{World}
 use Rattle.counted_io.specs.Streams.{Streams}
 use Rattle.nbd_protocol.specs.Numbers.{number32}
 use Rattle.nbd_protocol.specs.Exports.{ExportRecord, asked, export_at}
-use Rattle.nbd_protocol.specs.Handshake.{greeting, answer_to, answer_to_long, phase_after, phase_after_long, names_export, most_data}
+use Rattle.nbd_options.specs.Handshake.{greeting, answer_to, answer_to_long, phase_after, phase_after_long, names_export, most_data}
 use Rattle.nbd_protocol.specs.Headers.{header_of, payload_len, request_magic}
 use Rattle.nbd_server.specs.Causes.{Breaks}
 use Rattle.nbd_protocol.specs.Streaming.{Spoken}

@@ -8,10 +8,11 @@ ghost use Rattle.nbd_protocol.specs.Streaming.{HasRead, HasWritten, IsShort, Tak
 ghost use Rattle.nbd_protocol.specs.declared.phase.Phase.TheVariants.{Greeted, Haggling};
 
 use counted_io::Counted;
-use nbd_protocol::{
-    ABORT, EXPORT_NAME, Export, Phase, Refusal, ServiceFault, Terms, acknowledge, fill, fill_part,
-    names_export, number32, phase_after, refuse, say_answer, skip, terms_after_long,
+use nbd_options::{
+    ABORT, EXPORT_NAME, Refusal, acknowledge, names_export, phase_after, refuse, say_answer,
+    terms_after_long,
 };
+use nbd_protocol::{Export, Phase, ServiceFault, Terms, fill, fill_part, number32, skip};
 use std::io::{Read, Write};
 
 // The most bytes of an option's data.

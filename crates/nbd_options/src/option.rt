@@ -2,15 +2,12 @@
 ghost use Rattle.std.specs.Prelude.{◌≡◌, true};
 ghost use Rattle.counted_io.specs.Counted.{Writes};
 ghost use Rattle.nbd_protocol.specs.Exports.{HaveShortNames, asked, export_records};
-ghost use Rattle.nbd_protocol.specs.Handshake.{answer_to, fields_at, info_reply, is_info, is_place, name_in, names_export, phase_after, serving_at, structured_reply, terms_after, terms_after_long, told_at, wanted_in};
+ghost use Rattle.nbd_options.specs.Handshake.{answer_to, fields_at, info_reply, is_info, is_place, name_in, names_export, phase_after, serving_at, structured_reply, terms_after, terms_after_long, told_at, wanted_in};
 
 use crate::contexts::{LIST_META_CONTEXT, SET_META_CONTEXT, say_contexts, status_after};
-use crate::export::Export;
-use crate::exports::{asked, export_at};
-use crate::numbers::{number16, number32};
 use crate::option_reply::{LIST, Refusal, acknowledge, refuse, say_export, say_list, say_told};
-use crate::phase::{Agreement, Phase, Terms};
 use counted_io::{Counted, WriteFault};
+use nbd_protocol::{Agreement, Export, Phase, Terms, asked, export_at, number16, number32};
 use std::io::Write;
 
 /// The option that ends the handshake and has no reply but the export's.

@@ -2,14 +2,11 @@
 ghost use Rattle.std.specs.Prelude.{◌≡◌, flat_map};
 ghost use Rattle.counted_io.specs.Counted.{Writes};
 ghost use Rattle.nbd_protocol.specs.Exports.{HaveShortNames, HasShortName, export_record, export_records};
-ghost use Rattle.nbd_protocol.specs.OptionReplies.{acknowledged, refused, reply_head, reply_magic};
-ghost use Rattle.nbd_protocol.specs.Handshake.{export_fields, export_info, list_reply, many_zeros, name_field, server_reply, size_info, told, wanted_sizes, wants_sizes};
+ghost use Rattle.nbd_options.specs.OptionReplies.{acknowledged, refused, reply_head, reply_magic};
+ghost use Rattle.nbd_options.specs.Handshake.{export_fields, export_info, list_reply, many_zeros, name_field, server_reply, size_info, told, wanted_sizes, wants_sizes};
 
-use crate::export::Export;
-use crate::header::MOST_LENGTH;
-use crate::numbers::{put16, put32, put64};
-use crate::phase::Terms;
 use counted_io::{Counted, WriteFault};
+use nbd_protocol::{Export, MOST_LENGTH, Terms, put16, put32, put64};
 use std::io::Write;
 
 const MAGIC: [u8; 8] = [0, 3, 0xe8, 0x89, 4, 0x55, 0x65, 0xa9];

@@ -2,8 +2,8 @@ use Rattle.std.proofs.Common.{◌≡◌, map, take}
 use Rattle.std.specs.Prelude.{flat_map}
 use Rattle.std.specs.Io.KnownBytes.{Appends}
 use Rattle.nbd_protocol.specs.Exports.{export_record}
-use Rattle.nbd_protocol.specs.Handshake.{server_reply}
-use Rattle.nbd_protocol.proofs.option_reply.say_servers.Given as goal
+use Rattle.nbd_options.specs.Handshake.{server_reply}
+use Rattle.nbd_options.proofs.option_reply.say_servers.Given as goal
 
 -- the exports so far were named
 abbrev pub invariant-loop-export : goal.invariant-loop-export

@@ -4,9 +4,9 @@ use Rattle.std.specs.Prelude.{ℕ, zero, suc, ◌+◌, ◌==◌, ◌&&◌, ◌||
 use Rattle.std.specs.Str.{bytes_eq}
 use Rattle.nbd_protocol.specs.Numbers.{number32, bytes32}
 use Rattle.nbd_protocol.specs.Exports.{ExportRecord, asked}
-use Rattle.nbd_protocol.specs.OptionReplies.{acknowledged, refused, reply_head}
+use Rattle.nbd_options.specs.OptionReplies.{acknowledged, refused, reply_head}
 use Rattle.nbd_protocol.specs.declared.phase.Terms.{Terms}
-use Rattle.nbd_protocol.specs.declared.option_reply.Refusal.TheVariants.{Invalid, Unknown}
+use Rattle.nbd_options.specs.declared.option_reply.Refusal.TheVariants.{Invalid, Unknown}
 
 -- LIST_META_CONTEXT, and SET_META_CONTEXT
 abbrev pub list_context : ℕ

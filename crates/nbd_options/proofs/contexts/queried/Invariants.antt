@@ -1,6 +1,6 @@
 use Rattle.std.proofs.Common.{◌≡◌}
-use Rattle.nbd_protocol.specs.Contexts.{queried}
-use Rattle.nbd_protocol.proofs.contexts.queried.Given as goal
+use Rattle.nbd_options.specs.Contexts.{queried}
+use Rattle.nbd_options.proofs.contexts.queried.Given as goal
 
 -- what the queries so far leave to ask of the rest
 abbrev pub invariant-strings : goal.invariant-strings

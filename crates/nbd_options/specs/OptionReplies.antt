@@ -1,8 +1,8 @@
 -- Replies to options.
 use Rattle.std.specs.Prelude.{ℕ, List, [], ◌∷◌, ◌++◌}
 use Rattle.nbd_protocol.specs.Numbers.{bytes32}
-use Rattle.nbd_protocol.specs.declared.option_reply.Refusal.{Refusal}
-use Rattle.nbd_protocol.specs.declared.option_reply.Refusal.TheVariants.{Unsupported, Invalid, Unknown, TooBig}
+use Rattle.nbd_options.specs.declared.option_reply.Refusal.{Refusal}
+use Rattle.nbd_options.specs.declared.option_reply.Refusal.TheVariants.{Unsupported, Invalid, Unknown, TooBig}
 
 unfoldable pub reply_magic : List ℕ
 reply_magic = 0 ∷ 3 ∷ 0xe8 ∷ 0x89 ∷ 4 ∷ 0x55 ∷ 0x65 ∷ 0xa9 ∷ []

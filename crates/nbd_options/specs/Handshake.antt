@@ -1,14 +1,14 @@
 -- The handshake: the greeting, the client's flags, and the options that it haggles over.
 use Rattle.std.specs.Prelude.{ℕ, ◌+◌, ◌*◌, ◌==◌, ◌&&◌, ◌||◌, not, nat_le, Bool, false, List, [], ◌∷◌, ◌++◌, flat_map, length, take, drop, replicate, codes, is_some, Option, Some, None, if◌then◌else◌}
 use Rattle.nbd_protocol.specs.Numbers.{number16, number32, bytes16, bytes32, bytes64}
-use Rattle.nbd_protocol.specs.OptionReplies.{acknowledged, refused, reply_head}
-use Rattle.nbd_protocol.specs.Contexts.{contexts_reply, status_after, list_context, set_context}
+use Rattle.nbd_options.specs.OptionReplies.{acknowledged, refused, reply_head}
+use Rattle.nbd_options.specs.Contexts.{contexts_reply, status_after, list_context, set_context}
 use Rattle.nbd_protocol.specs.Exports.{ExportRecord, asked, export_at, transmission_flags}
 use Rattle.nbd_protocol.specs.Headers.{most_length}
 use Rattle.nbd_protocol.specs.declared.phase.Terms.{Terms}
 use Rattle.nbd_protocol.specs.declared.phase.Phase.{Phase}
 use Rattle.nbd_protocol.specs.declared.phase.Phase.TheVariants.{Haggling, Serving, Over}
-use Rattle.nbd_protocol.specs.declared.option_reply.Refusal.TheVariants.{Unsupported, Invalid, Unknown, TooBig}
+use Rattle.nbd_options.specs.declared.option_reply.Refusal.TheVariants.{Unsupported, Invalid, Unknown, TooBig}
 
 -- "NBDMAGIC", "IHAVEOPT", and the flags for the fixed newstyle and for no zeros
 abbrev pub greeting : List ℕ

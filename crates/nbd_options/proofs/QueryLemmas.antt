@@ -1,7 +1,7 @@
 -- Queries, one after another.
 use Rattle.std.proofs.Common.{◌≡◌, ℕ, suc, List, Option, None, Some, ap}
 use Rattle.std.specs.Prelude.{IfSome, ◌||◌, not, Bool, true, false, if◌then◌else◌}
-use Rattle.nbd_protocol.specs.Contexts.{behind_string, ended, is_string, names_context, queried, string_in}
+use Rattle.nbd_options.specs.Contexts.{behind_string, ended, is_string, names_context, queried, string_in}
 
 pub query-step : (listing found : Bool) (n : ℕ) (rest : List ℕ) → is_string rest ≡ true → queried listing found (suc n) rest ≡ queried listing (found || names_context listing (string_in rest)) n (behind_string rest)
 unfolding queried

@@ -1,7 +1,7 @@
 use Rattle.std.proofs.Common.{◌≡◌, ◌∙◌, ◌-◌, ℕ, suc, ap, sym, arith}
-use Rattle.nbd_protocol.specs.Contexts.{queried}
-use Rattle.nbd_protocol.proofs.QueryLemmas.{query-step, query-none, query-end}
-use Rattle.nbd_protocol.proofs.contexts.queried.Goals as goal
+use Rattle.nbd_options.specs.Contexts.{queried}
+use Rattle.nbd_options.proofs.QueryLemmas.{query-step, query-none, query-end}
+use Rattle.nbd_options.proofs.contexts.queried.Goals as goal
 
 pub returns-then-not-is_string : goal.returns-then-not-is_string
 returns-then-not-is_string c =

@@ -1,6 +1,6 @@
 use Rattle.std.proofs.Common.{◌≡◌, length}
-use Rattle.nbd_protocol.specs.Handshake.{wants_sizes}
-use Rattle.nbd_protocol.proofs.option_reply.wants_sizes.Given as goal
+use Rattle.nbd_options.specs.Handshake.{wants_sizes}
+use Rattle.nbd_options.proofs.option_reply.wants_sizes.Given as goal
 
 -- no fact so far was the block sizes
 abbrev pub invariant-facts : goal.invariant-facts

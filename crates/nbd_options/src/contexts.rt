@@ -2,15 +2,12 @@
 ghost use Rattle.std.specs.Prelude.{◌≡◌, ◌≤◌, ◌||◌, false, length, true, IfSome};
 ghost use Rattle.std.specs.Str.{bytes_eq};
 ghost use Rattle.counted_io.specs.Counted.{Writes};
-ghost use Rattle.nbd_protocol.specs.Contexts.{behind_string, context_name, context_namespace, context_number, context_of, contexts_at, contexts_reply, ended, is_of_all, is_string, named_context, names_context, queried, selected, status_after, string_in, told_context, wanted_of, wants_context};
+ghost use Rattle.nbd_options.specs.Contexts.{behind_string, context_name, context_namespace, context_number, context_of, contexts_at, contexts_reply, ended, is_of_all, is_string, named_context, names_context, queried, selected, status_after, string_in, told_context, wanted_of, wants_context};
 ghost use Rattle.nbd_protocol.specs.Exports.{asked, export_records};
 
-use crate::export::Export;
-use crate::exports::asked;
-use crate::numbers::{number32, put32};
 use crate::option_reply::{Refusal, acknowledge, refuse, say_head};
-use crate::phase::Terms;
 use counted_io::{Counted, WriteFault};
+use nbd_protocol::{Export, Terms, asked, number32, put32};
 use std::io::Write;
 
 /// The option that asks which contexts there are.

@@ -1,0 +1,3 @@
+pub mod OptionReplies
+pub mod Contexts
+pub mod Handshake
