@@ -12,7 +12,7 @@ import time
 passed = failed = 0
 program = ""
 # Of a part that is tried, and of a command, in seconds.
-LIMIT, WAITED = 150, 120
+LIMIT, WAITED = 400, 300
 
 
 class Left(Exception):
