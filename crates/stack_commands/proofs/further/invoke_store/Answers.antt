@@ -5,11 +5,11 @@ use Rattle.stack_commands.specs.declared.fault.CommandFault.TheVariants.{Stream}
 use Rattle.stack_commands.proofs.OpeningLemmas.{err-from}
 use Rattle.stack_commands.proofs.further.invoke_store.Goals as goal
 
-pub returns-in_err-store_device-then-eq-clause-err : goal.returns-in_err-store_device-then-eq-clause-err
-returns-in_err-store_device-then-eq-clause-err g c =
+pub returns-in_err-store_device-clause-err : goal.returns-in_err-store_device-clause-err
+returns-in_err-store_device-clause-err g c =
     let same = (bytes_eq-Decides _ _).0 (sym c.eq.ensures ∙ c.if-eq.true) in
-    err-from c.from_residual.result _ (Stream c.in_err-store_device-then-eq.field-0.0) c.from_residual.ensures.1
-    (inl (same, rw c.stack_file-file.ensures at c.in_err-store_device-then-eq.ensures.err))
+    err-from c.from_residual.result _ (Stream c.in_err-store_device.field-0.0) c.from_residual.ensures.1
+    (inl (same, rw c.stack_file-file.ensures at c.in_err-store_device.ensures.err))
 
 pub returns-in_err-store_file-clause-err : goal.returns-in_err-store_file-clause-err
 returns-in_err-store_file-clause-err g c =

@@ -8,8 +8,8 @@ pub returns-in_err-stack-clause-err : goal.returns-in_err-stack-clause-err
 returns-in_err-stack-clause-err g c =
     err-from c.from_residual.result _ (Recovering c.in_err-stack.field-0.0) c.from_residual.ensures.1 (inl (refl, c.in_err-stack.ensures.err))
 
-pub returns-in-Err-clause-err : goal.returns-in-Err-clause-err
-returns-in-Err-clause-err g c = inr (inl (record {
+pub returns-clause-err : goal.returns-clause-err
+returns-clause-err g c = inr (inl (record {
   at = place_of c.in_ok-stack.stack c.in_ok-stack.device.0;
   image = c.in_ok-stack.image;
   image' = c.copy_in_turns-image.result.0;
@@ -21,8 +21,8 @@ returns-in-Err-clause-err g c = inr (inl (record {
   back = c.close.ensures;
 }))
 
-pub returns-in_ok-tell_counts-in-Ok-clause-ok : goal.returns-in_ok-tell_counts-in-Ok-clause-ok
-returns-in_ok-tell_counts-in-Ok-clause-ok g c = record {
+pub returns-in-Ok-clause-ok : goal.returns-in-Ok-clause-ok
+returns-in-Ok-clause-ok g c = record {
   counts = c.in-Ok.counts;
   printed = _;
   copied = record {

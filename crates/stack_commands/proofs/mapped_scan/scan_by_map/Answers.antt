@@ -30,8 +30,8 @@ returns-in_err-counts-clause-err g c =
       same = refl;
     })))
 
-pub returns-in_ok-tell_counts-clause-ok : goal.returns-in_ok-tell_counts-clause-ok
-returns-in_ok-tell_counts-clause-ok g c = record {
+pub returns-clause-ok : goal.returns-clause-ok
+returns-clause-ok g c = record {
   counts = c.in_ok-counts.counts;
   printed = _;
   scanned = record {

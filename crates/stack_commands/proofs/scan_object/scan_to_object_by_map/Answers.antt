@@ -36,7 +36,7 @@ returns-in_err-counts-clause-err g c =
           between = c.open_device.new.images;
           found = c.in_ok-stack.ensures.ok;
           fails = unrescued-none (calls g.I.Images.relations g.I.Dev.BlockDev.state c.open_device.new.images c.keep_runs_by_map.new.images) _ c.in_ok-stack.device.0
-              _ _ _ _ c.keep_runs_by_map.new.kept.refused _ c.new-kept.ensures.runs c.in_err-counts.ensures.err.1;
+              _ _ _ _ c.keep_runs_by_map.new.kept.refused c.in_err-counts.ensures.err.0 c.new-kept.ensures.runs c.in_err-counts.ensures.err.1;
           same = refl;
         };
         is = c.in_err-counts.ensures.err.2;
