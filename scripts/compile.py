@@ -46,7 +46,12 @@ def compiled(made, cpu):
         if not kept:
             return why
         tell(f"half way, after {time.monotonic() - START:.0f} s: the sources are read and translated")
-        os.replace(program(with_hints(kept, crate, HOW, room), HOW, room, cpu), made)
+        try:
+            ready = program(with_hints(kept, crate, HOW, room), HOW, room, cpu)
+        except subprocess.CalledProcessError:
+            tell("the hints on inlining aren't taken: the program is slower")
+            ready = program(kept, HOW, room, cpu)
+        os.replace(ready, made)
     return ""
 
 

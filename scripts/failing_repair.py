@@ -69,7 +69,7 @@ class Repair:
         if kind == "output":
             good = status == 1 and b"\n".join(self.plain + [b""]).startswith(output)
         elif kind == "text":
-            good = status == 1 and not mended and rest[0].startswith(b"refused ")
+            good = status == 1 and not mended and rest[:1] != [] and rest[0].startswith(b"refused ")
         elif kind == "memory":
             good = status == 1 and rest == [b"no memory"] and self.mended[:len(mended)] == mended
         elif what[0] == b"read":

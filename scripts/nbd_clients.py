@@ -66,6 +66,13 @@ def each_of_all(data, bindings):
             say("all: qemu-img", done.returncode == 0 and open("converted", "rb").read() == data, done.stderr.decode())
 
 
+def holes_are_kept():
+    """Whether the file system here has holes."""
+    with open("hollow", "wb") as file:
+        file.truncate(1 << 20)
+    return os.stat("hollow").st_blocks * 512 < 1 << 20
+
+
 def sparse():
     """A stack with holes: its map is told, and copies of it have holes there."""
     data = random.Random(9).randbytes(2 << 20)
@@ -85,7 +92,8 @@ def sparse():
             if shutil.which(client):
                 done = run(*words)
                 say(f"sparse: {client}", done.returncode == 0 and open("thin", "rb").read() == wanted, done.stderr.decode())
-                say(f"sparse: {client} leaves holes", os.stat("thin").st_blocks * 512 <= len(data) + 65536, str(os.stat("thin").st_blocks))
+                if holes_are_kept():
+                    say(f"sparse: {client} leaves holes", os.stat("thin").st_blocks * 512 <= len(data) + 65536, str(os.stat("thin").st_blocks))
                 os.remove("thin")
 
 

@@ -897,6 +897,8 @@ def gone_behind(runner, label, sent, whole, taken, images):
     """The client takes so many bytes and closes both its ends; the service may have put more into the pipe by then."""
     open("F", "wb").write(exports()["file"].content)
     served = subprocess.Popen([runner.program, "nbd", "patched", "p", "F=rw:F"], bufsize=0, stdin=subprocess.PIPE, stdout=subprocess.PIPE, stderr=subprocess.PIPE)
+    limit = threading.Timer(60, served.kill)
+    limit.start()
     with served.stderr:
         with served.stdout, served.stdin:
             served.stdin.write(sent)
@@ -905,6 +907,7 @@ def gone_behind(runner, label, sent, whole, taken, images):
                 found += more
         said = served.stderr.read()
     status = served.wait(60)
+    limit.cancel()
     good = found == whole[:taken] and status in (0, 1) and not said
     runner.count(f"{label} behind {taken} bytes", good and open("F", "rb").read() in images[status == 0 :], f"status {status}, {said[:80]!r}")
 

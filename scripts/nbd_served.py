@@ -47,14 +47,23 @@ def libnbd():
         raise Left("python3-libnbd isn't installed") from None
     finally:
         sys.path.pop()
+    lacks = [it for it in ("set_strict_mode", "get_block_size", "pread_structured", "can_multi_conn") if not hasattr(nbd.NBD, it)]
+    if lacks:
+        raise Left(f"python3-libnbd has no {lacks[0]}")
+    if not sockets_are_allowed():
+        raise Left("no Unix socket can be made")
     return nbd
+
+
+class Late(Exception):
+    """A part takes longer than it may."""
 
 
 def attempt(part, *words, limit=LIMIT):
     """Tries a part in its time, or says why it is left out."""
 
     def late(*_):
-        raise TimeoutError
+        raise Late
 
     signal.signal(signal.SIGALRM, late)
     signal.alarm(limit)
@@ -62,7 +71,7 @@ def attempt(part, *words, limit=LIMIT):
         part(*words)
     except Left as left:
         print(f"{part.__name__}: left out, since {left}", flush=True)
-    except (TimeoutError, subprocess.TimeoutExpired):
+    except (Late, subprocess.TimeoutExpired):
         say(part.__name__, False, "it takes too long")
     finally:
         signal.alarm(0)

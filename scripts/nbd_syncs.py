@@ -3,6 +3,7 @@ flush, is answered."""
 import os
 import re
 import struct
+import time
 
 from nbd_served import Left, Served, needs, run, say, words_for
 
@@ -49,6 +50,15 @@ def seen(path):
     return [(command, flags, count) for (command, flags, _), (_, count) in zip(asked, answers)]
 
 
+def wait_for(path):
+    """Waits until the traced service has ended, which may be after its client has."""
+    for _ in range(600):
+        with open(path) as trace:
+            if "+++ " in trace.read():
+                return
+        time.sleep(0.05)
+
+
 def syncs():
     """qemu-io writes with FUA and without, and flushes, over a device that lies on two files."""
     needs("socat", "strace", "qemu-io")
@@ -58,13 +68,14 @@ def syncs():
         open(f"half.{it}", "wb").write(bytes(1 << 20))
     open("halves", "w").write("h,,,rw,0 2048 linear A 0,2048 2048 linear B 0")
     words = words_for("halves", "h", *(f"{it}=rw:{os.path.abspath(f'half.{it}')}" for it in "AB"))
-    traced = ["strace", "-qq", "-o", os.path.abspath("trace"), "-xx", "-s", "4194304", "-e", f"trace={CALLS}", *words]
+    traced = ["strace", "-q", "-o", os.path.abspath("trace"), "-xx", "-s", "4194304", "-e", f"trace={CALLS}", *words]
     across = (1 << 20) - 700
     with Served(traced) as uri:
         made = ["write -P 1 0 4096", "write -P 2 1048576 4096", "flush", f"write -P 3 {across} 5000", "flush"]
         made += ["write -P 4 100 9", "write -f -P 5 513 700", f"write -f -P 6 {across} 1500", "write -z 8192 700", f"write -z -f {across} 2000", "flush"]
         done = run("qemu-io", "-t", "writeback", "-f", "raw", *(it for one in made for it in ("-c", one)), "nbd:unix:" + uri.split("=")[1])
         say("syncs: qemu-io", done.returncode == 0, done.stderr.decode())
+        wait_for("trace")
     found = seen("trace")
     forced = [it for it in found if it[0] in (WRITE, ZEROES) and it[1] & 1]
     flushed = [it for it in found if it[0] == FLUSH]
