@@ -14,6 +14,8 @@ import sys
 import tempfile
 import time
 
+from repaired_images import read, write
+
 BLOCK, BLOCKS, SLOTS = 1024, 16384, 32
 ROOTS, LOST = 24, 10
 CUTS = 12
@@ -24,16 +26,6 @@ FIRST = (18, 2, 1)
 
 class Unlike(Exception):
     """What a repair left that it may not."""
-
-
-def read(name):
-    with open(name, "rb") as it:
-        return it.read()
-
-
-def write(name, content):
-    with open(name, "wb") as it:
-        it.write(content)
 
 
 def damaged(content, places):
