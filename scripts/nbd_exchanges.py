@@ -32,8 +32,8 @@ NONE, OFFSET_DATA, OFFSET_HOLE, BLOCK_STATUS, ERROR, ERROR_OFFSET = 0, 1, 2, 5, 
 HOLE_AND_ZERO = 3
 EPERM, EIO, ENOMEM, EINVAL, ENOSPC = 1, 5, 12, 22, 28
 MOST = 32 << 20
-# where a piece of a READ ends that is answered piece by piece
-PIECE = 256 << 10
+# where a piece of a READ ends that is answered piece by piece, and the blocks of zeros at its ends that are holes
+PIECE, BLOCK = 256 << 10, 4096
 
 GREETING = MAGIC + OPTION_MAGIC + struct.pack(">H", 3)
 
@@ -126,6 +126,21 @@ class Export:
     def is_zeros(self, sector):
         return any(low <= sector < high for low, high in self.zeros)
 
+    def shown(self, at, stop, cookie, last):
+        """A piece that was read: a hole where it is zeros, and where whole blocks at its beginning or its end are."""
+        piece = bytes(self.content[at:stop])
+        begin = len(piece) - len(piece.lstrip(b"\0"))
+        behind = len(piece) - len(piece.rstrip(b"\0"))
+        if begin < len(piece):
+            begin, behind = begin - begin % BLOCK, behind - behind % BLOCK
+        else:
+            behind = 0
+        cuts = [(OFFSET_HOLE, at, at + begin), (OFFSET_DATA, at + begin, stop - behind), (OFFSET_HOLE, stop - behind, stop)]
+        cuts = [cut for cut in cuts if cut[1] < cut[2]]
+        for kind, low, high in cuts:
+            done = int(last and high == stop)
+            yield self.data(low, high, cookie, done) if kind == OFFSET_DATA else chunk(kind, struct.pack(">QI", low, high - low), cookie, done)
+
     def hole_end(self, at, stop):
         """Where the hole ends that a byte lies in: it lies on `zero` lines alone."""
         while at < stop and self.is_zeros(at // SECTOR):
@@ -133,7 +148,7 @@ class Export:
         return at
 
     def pieces(self, offset, length, cookie, again):
-        """A piece that fails is read sector by sector, up to the one that fails; what begins with zeros, by a hole."""
+        """A piece that fails is read sector by sector, up to the one that fails; `zero` lines at its beginning are a hole."""
         at, end = offset, offset + length
         slow = end if again else offset
         while at < end:
@@ -144,7 +159,7 @@ class Export:
                 yield chunk(OFFSET_HOLE, struct.pack(">QI", at, behind - at), cookie, int(behind == end))
                 at = behind
             elif not self.fails(at, stop - at):
-                yield self.data(at, stop, cookie, int(stop == end))
+                yield from self.shown(at, stop, cookie, stop == end)
                 at = stop
             elif step == PIECE and at // SECTOR < (stop - 1) // SECTOR:
                 slow = stop
@@ -423,6 +438,7 @@ def chunks(runner):
     runner.run("reads of holed in chunks", "holed", sent, wanted)
     large_chunks(runner)
     large_holes(runner)
+    large_zeros(runner)
 
 
 def large_chunks(runner):
@@ -476,6 +492,33 @@ def large_holes(runner):
         served = subprocess.run([runner.program, "nbd", "holes", "h", "F=ro:F"], input=sent + request(DISC), capture_output=True, timeout=60)
         at = next((k for k, (a, b) in enumerate(zip(served.stdout, wanted)) if a != b), min(len(served.stdout), len(wanted)))
         runner.count(f"reads of {lines}", served.stdout == wanted and served.returncode == 0 and not served.stderr, f"differs at {at}")
+
+
+def large_zeros(runner):
+    """READs of several pieces of a file that holds zeros, at the ends of pieces and beside them, in whole blocks and others."""
+    data, block = bytes(1 + k % 255 for k in range(BLOCK)), bytes(BLOCK)
+    for spans in (
+        (bytes(3 * PIECE),),
+        (bytes(PIECE), data, bytes(PIECE - BLOCK - 1), b"x", bytes(PIECE)),
+        (block, data, bytes(PIECE - 3 * BLOCK), data, data, block, data, bytes(PIECE - 3 * BLOCK)),
+        (b"x", bytes(PIECE - 1), bytes(PIECE - 1), b"x", bytes(BLOCK - 1), b"x", bytes(PIECE - BLOCK - SECTOR), data[:SECTOR]),
+        (bytes(SECTOR), data, bytes(3 * SECTOR)),
+        (bytes(2 * BLOCK - SECTOR), data[:SECTOR], bytes(BLOCK + SECTOR)),
+    ):
+        content = b"".join(spans)
+        size = len(content)
+        open("zeros", "w").write(f"z,,,ro,0 {size // SECTOR} linear F 0")
+        open("F", "wb").write(content)
+        e = Export("z", content)
+        sent, wanted = begun_in_chunks(e)
+        for offset in (0, 1, SECTOR, BLOCK - 1, BLOCK, 2 * BLOCK + 3, PIECE - BLOCK, PIECE - 1, PIECE, 2 * PIECE - 3):
+            for length in (1, SECTOR, BLOCK - 1, BLOCK, BLOCK + 1, 3 * BLOCK, PIECE - 1, PIECE, 2 * PIECE, size - offset):
+                if 0 < length and offset + length <= size:
+                    sent += request(READ, offset, length, offset) + request(READ, offset, length, offset, bits=DF)
+                    wanted += e.chunks(offset, length, offset) + e.chunks(offset, length, offset, df=True)
+        served = subprocess.run([runner.program, "nbd", "zeros", "z", "F=ro:F"], input=sent + request(DISC), capture_output=True, timeout=60)
+        at = next((k for k, (a, b) in enumerate(zip(served.stdout, wanted)) if a != b), min(len(served.stdout), len(wanted)))
+        runner.count(f"reads of zeros in {len(spans)} spans of a file", served.stdout == wanted and served.returncode == 0 and not served.stderr, f"differs at {at}")
 
 
 def gone(runner):

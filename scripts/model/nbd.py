@@ -23,8 +23,8 @@ HOLE_OF_ZEROS = 3
 MOST_EXTENTS, MOST_JOINED = 1024, 4096
 EPERM, EIO, EINVAL, ENOSPC = 1, 5, 22, 28
 MOST_OF_AN_OPTION, MOST_OF_A_REQUEST = 65536, 32 * 1024 * 1024
-# Where the pieces of a READ end.
-PIECE = 256 * 1024
+# Where the pieces of a READ end, and the blocks at the ends of one that are holes where they are zeros.
+PIECE, BLOCK = 256 * 1024, 4096
 DONE, BROKEN = 0, 4
 
 
@@ -230,7 +230,7 @@ class Service:
         self.replies.add(asked, octets)
 
     def pieces(self, at, end):
-        """The chunks of a READ, piece by piece; the zeros with which one begins are a hole.
+        """The chunks of a READ, piece by piece; the zeros of lines with which one begins are a hole, and aren't read.
 
         One that fails is read sector by sector, up to the one that fails.
         """
@@ -251,7 +251,7 @@ class Service:
                     return
                 slow = behind
                 continue
-            yield behind == end, OFFSET_DATA, struct.pack(">Q", at) + octets
+            yield from told(at, octets, behind == end)
             at = behind
 
     def zeros_end(self, at, end):
@@ -336,6 +336,25 @@ class Service:
             count = self.stack.piece(self.device, at, end - at)
             self.stack.write_run(self.device, at, sectors[place:place + count * SECTOR])
             at += count
+
+
+def told(at, octets, last):
+    """The chunks of a piece that was read: zeros alone are a hole; of others, the whole blocks of zeros at either end."""
+    begin, end = 0, len(octets)
+    if any(octets):
+        while not any(octets[begin:begin + BLOCK]):
+            begin += BLOCK
+        while end - BLOCK > begin and not any(octets[end - BLOCK:end]):
+            end -= BLOCK
+    else:
+        begin = end
+    chunks = [(OFFSET_HOLE, struct.pack(">QI", at, begin))] if begin else []
+    if begin < end:
+        chunks.append((OFFSET_DATA, struct.pack(">Q", at + begin) + octets[begin:end]))
+    if end < len(octets):
+        chunks.append((OFFSET_HOLE, struct.pack(">QI", at + end, len(octets) - end)))
+    for number, (kind, payload) in enumerate(chunks, 1):
+        yield last and number == len(chunks), kind, payload
 
 
 def framed(cookie, last, kind, told):

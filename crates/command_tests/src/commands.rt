@@ -121,7 +121,7 @@ const REPAIR: Row = Row {
     ..READ
 };
 
-static ROWS: [Row; 28] = [
+static ROWS: [Row; 30] = [
     WRITE,
     // The write fails, and then the sync: what was written is given back.
     Row {
@@ -188,15 +188,18 @@ static ROWS: [Row; 28] = [
         ..FORMAT
     },
     REPAIR,
-    // The block isn't written, or not put on its medium.
+    // The block is looked at with its row, and alone: where it can't be read it is one that isn't good.
+    Row { call: 1, ..REPAIR },
+    Row { call: 2, ..REPAIR },
+    // It isn't written, or not put on its medium.
     Row {
-        call: 2,
+        call: 3,
         status: 1,
         printed: b"refused 10 Device\n",
         ..REPAIR
     },
     Row {
-        call: 3,
+        call: 4,
         status: 1,
         printed: b"repaired data 0 copy 1\nrefused 10 Device\n",
         ..REPAIR

@@ -1,12 +1,12 @@
 -- What is found of parity on a device.
-use Rattle.std.specs.Prelude.{◌≡◌, ℕ, ◌<◌, ◌≤◌, IsTrue, List, Option, Some, None}
+use Rattle.std.specs.Prelude.{◌≡◌, ℕ, ◌<◌, IsTrue, List, Option, Some, None}
 use Rattle.block_device.specs.Device.{Device}
-use Rattle.reed_solomon.specs.Factors.{AreProducts, parity_places}
 use Rattle.verity_format.specs.Blocks.{block_at}
+use Rattle.fec_area.specs.declared.code.Code.{Code}
 use Rattle.fec_area.specs.declared.layout.Layout.{Layout}
 use Rattle.fec_area.specs.declared.writing.ParityFault.{ParityFault}
 use Rattle.fec_area.specs.declared.writing.ParityFault.TheVariants.{TooSmall, ReadOnly, Device as DeviceFailed, NoMemory}
-use Rattle.fec_area.specs.Layouts.{IsLaidOn, IsParityOf, IsProtected, parity_sectors, round_bytes, rounds}
+use Rattle.fec_area.specs.Layouts.{IsParityOf, IsProtected, parity_sectors, round_bytes, rounds}
 use Rattle.fec_area.specs.Writing.{HasAnyFailed}
 
 -- each round's parity stands there, or this round's, the first, doesn't
@@ -19,18 +19,22 @@ IsFound l data_image hash_image parity_image (Some round) =
 abbrev pub IsChecked : Layout → Device → Device → Device → Option ℕ → Type 0
 IsChecked l data_dev hash_dev parity_dev found = IsTrue data_dev.steady → IsTrue hash_dev.steady → IsTrue parity_dev.steady → IsFound l data_dev.image hash_dev.image parity_dev.image found
 
--- what checking rounds stands on
-pub record CanCheckRounds (l : Layout) (data_dev hash_dev parity_dev : Device) (products : List ℕ) (block parity stored : ℕ) : Type 0 where
-  pub laid : IsLaidOn l data_dev hash_dev
-  pub products_are : AreProducts (parity_places l.roots) products
-  pub block_is : block ≡ l.block
-  pub parity_is : parity ≡ round_bytes l
-  pub stored_is : stored ≡ round_bytes l
-  pub room : parity_sectors l ≤ parity_dev.size
-
 -- why parity wasn't checked
 abbrev pub IsCheckCause : Layout → Device → Device → Device → Device → Device → Device → ParityFault → Type 0
 IsCheckCause l data_dev hash_dev parity_dev data_dev' hash_dev' parity_dev' (TooSmall needed) = (needed ≡ parity_sectors l) × (parity_dev.size < needed) × (parity_dev' ≡ parity_dev)
 IsCheckCause l data_dev hash_dev parity_dev data_dev' hash_dev' parity_dev' ReadOnly = ⊥
 IsCheckCause l data_dev hash_dev parity_dev data_dev' hash_dev' parity_dev' DeviceFailed = HasAnyFailed data_dev hash_dev parity_dev data_dev' hash_dev' parity_dev'
 IsCheckCause l data_dev hash_dev parity_dev data_dev' hash_dev' parity_dev' NoMemory = parity_dev' ≡ parity_dev
+
+-- ---- a call, by what a proof sees of the three devices: as they were before, and then after
+
+-- this was found of the parity
+abbrev pub Checks : {D H P : Type 0} → Layout → (D → Device) → (H → Device) → (P → Device) → D → H → P → Option ℕ → Type 0
+Checks l data_state hash_state parity_state d h p = IsChecked l (data_state d) (hash_state h) (parity_state p)
+
+abbrev pub ChecksBy : {D H P : Type 0} → Code → (D → Device) → (H → Device) → (P → Device) → D → H → P → Option ℕ → Type 0
+ChecksBy code data_state hash_state parity_state d h p = IsChecked code.layout.now (data_state d) (hash_state h) (parity_state p)
+
+-- it wasn't compared, for this reason
+abbrev pub FailsToCheck : {D H P : Type 0} → Layout → (D → Device) → (H → Device) → (P → Device) → D → H → P → D → H → P → ParityFault → Type 0
+FailsToCheck l data_state hash_state parity_state d h p d' h' p' = IsCheckCause l (data_state d) (hash_state h) (parity_state p) (data_state d') (hash_state h') (parity_state p')

@@ -24,6 +24,10 @@ covered l data_image hash_image j =
     else if nat_lt j (covered_blocks l) then block_at hash_image l.block (l.hash_first + (j - l.data_blocks))
     else []
 
+-- over steady devices the bytes are covered block j
+abbrev pub IsCovered : Layout → Device → Device → ℕ → List ℕ → Type 0
+IsCovered l data_dev hash_dev j bytes = IsTrue data_dev.steady → IsTrue hash_dev.steady → bytes ≡ covered l data_dev.image hash_dev.image j
+
 -- the byte of the message at place i, of codeword c of a round; past the last block it is 0
 abbrev pub message : Layout → List (List ℕ) → List (List ℕ) → ℕ → ℕ → ℕ → ℕ
 message l data_image hash_image round c i = slice_index (covered l data_image hash_image (i * rounds l + round)) c

@@ -1,12 +1,12 @@
 -- A lost block that is made again.
-use Rattle.std.specs.Prelude.{◌≡◌, ◌==◌, ◌&&◌, ℕ, ◌+◌, ◌-◌, ◌*◌, ◌/◌, ◌%◌, ◌<◌, ◌≤◌, Bool, not, IsTrue, List, length, nat_lt, slice_index, EachIndex, count_by}
+use Rattle.std.specs.Prelude.{◌≡◌, ◌==◌, ◌&&◌, ℕ, ◌+◌, ◌-◌, ◌/◌, ◌%◌, ◌<◌, Bool, not, IsTrue, List, length, nat_lt, slice_index, EachIndex, count_by}
 use Rattle.block_device.specs.Device.{Device}
-use Rattle.reed_solomon.specs.Factors.{AreProducts}
 use Rattle.verity_format.specs.Blocks.{block_at}
+use Rattle.fec_area.specs.declared.code.Gap.{Gap}
 use Rattle.fec_area.specs.declared.layout.Layout.{Layout}
 use Rattle.fec_area.specs.declared.restoring.RestoreFault.{RestoreFault}
 use Rattle.fec_area.specs.declared.restoring.RestoreFault.TheVariants.{TooManyLost, TooSmall, Device as DeviceFailed, NoMemory}
-use Rattle.fec_area.specs.Layouts.{IsLaidOn, IsLayout, IsParityOf, IsProtected, covered, covered_blocks, message, parity_sectors, round_bytes, rounds}
+use Rattle.fec_area.specs.Layouts.{IsLayout, IsParityOf, IsProtected, covered, covered_blocks, message, parity_sectors, round_bytes, rounds}
 use Rattle.fec_area.specs.Rounds.{IsFormerly}
 use Rattle.fec_area.specs.Writing.{HasAnyFailed}
 
@@ -55,6 +55,15 @@ IsRestoreCause l lost index data_dev hash_dev parity_dev data_dev' hash_dev' par
 IsRestoreCause l lost index data_dev hash_dev parity_dev data_dev' hash_dev' parity_dev' DeviceFailed = HasAnyFailed data_dev hash_dev parity_dev data_dev' hash_dev' parity_dev'
 IsRestoreCause l lost index data_dev hash_dev parity_dev data_dev' hash_dev' parity_dev' NoMemory = AreUnasked data_dev hash_dev parity_dev data_dev' hash_dev' parity_dev'
 
+-- over steady devices the bytes are the lost block
+abbrev pub MakesAgain : Layout → Device → Device → Device → List ℕ → ℕ → List ℕ → Type 0
+MakesAgain l data_dev hash_dev parity_dev lost index bytes =
+    IsTrue data_dev.steady → IsTrue hash_dev.steady → IsTrue parity_dev.steady → IsMadeAgain l data_dev.image hash_dev.image parity_dev.image lost index bytes
+
+-- why a block wasn't made again, by what a proof sees of the three devices: as they were before the call, and then after it
+abbrev pub FailsToRestore : {D H P : Type 0} → Layout → List ℕ → ℕ → (D → Device) → (H → Device) → (P → Device) → D → H → P → D → H → P → RestoreFault → Type 0
+FailsToRestore l lost index data_state hash_state parity_state d h p d' h' p' = IsRestoreCause l lost index (data_state d) (hash_state h) (parity_state p) (data_state d') (hash_state h') (parity_state p')
+
 -- ---- its parts
 
 -- the places of the blocks of its round that are lost, its own the first
@@ -70,18 +79,11 @@ IsFirstRestored l data_image hash_image round parity places bytes =
     (former_data former_hash : List (List ℕ)) → IsFormerly l data_image hash_image former_data former_hash round parity places
     → EachIndex bytes (λ c. slice_index bytes c ≡ message l former_data former_hash round c (slice_index places 0))
 
--- what restoring the first of a round's lost blocks stands on
-pub record CanRestoreFirst (l : Layout) (data_dev hash_dev parity_dev : Device) (places products : List ℕ) (round block parity sums : ℕ) : Type 0 where
-  pub laid : IsLaidOn l data_dev hash_dev
-  pub room : parity_sectors l ≤ parity_dev.size
-  pub some : 0 < length places
-  pub within : EachIndex places (λ k. slice_index places k < 255 - l.roots)
-  pub enough : length places ≤ l.roots
-  pub products_are : AreProducts places products
-  pub round_is : round < rounds l
-  pub block_is : block ≡ l.block
-  pub parity_is : parity ≡ round_bytes l
-  pub sums_are : sums ≡ l.block * length places
+-- over steady devices they are it by the parity on the third one
+abbrev pub RestoresFirst : Gap → Device → Device → Device → List ℕ → Type 0
+RestoresFirst gap data_dev hash_dev parity_dev bytes =
+    IsTrue data_dev.steady → IsTrue hash_dev.steady → IsTrue parity_dev.steady
+    → IsFirstRestored gap.code.layout.now data_dev.image hash_dev.image gap.round (block_at parity_dev.image (round_bytes gap.code.layout.now) gap.round) gap.places.now bytes
 
 -- ---- the law
 

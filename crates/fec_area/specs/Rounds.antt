@@ -1,8 +1,11 @@
 -- Rounds of codewords, summed up place by place.
-use Rattle.std.specs.Prelude.{◌≡◌, ◌⊎◌, ℕ, ◌+◌, ◌-◌, ◌*◌, ◌/◌, ◌%◌, ◌<◌, ◌≤◌, ◌≢◌, List, length, slice_index, EachIndex, bit_xor}
+use Rattle.std.specs.Prelude.{◌≡◌, ◌⊎◌, ℕ, ◌+◌, ◌-◌, ◌*◌, ◌/◌, ◌%◌, ◌<◌, ◌≤◌, ◌≢◌, IsTrue, List, length, slice_index, EachIndex, bit_xor}
 use Rattle.block_device.specs.Device.{Device, HasFailed}
+use Rattle.verity_format.specs.Blocks.{AreOnlyRead}
 use Rattle.reed_solomon.specs.Factors.{AreProducts, parity_places}
 use Rattle.reed_solomon.specs.Field.{product}
+use Rattle.fec_area.specs.declared.code.Code.{Code}
+use Rattle.fec_area.specs.declared.code.Gap.{Gap}
 use Rattle.fec_area.specs.declared.layout.Layout.{Layout}
 use Rattle.fec_area.specs.Layouts.{IsLaidOn, IsParityOf, covered, message, round_bytes, rounds}
 
@@ -15,38 +18,67 @@ pub record AreUnfailed (data_dev hash_dev data_dev' hash_dev' : Device) : Type 0
 abbrev pub HasOneFailed : Device → Device → Device → Device → Type 0
 HasOneFailed data_dev hash_dev data_dev' hash_dev' = HasFailed data_dev data_dev' ⊎ HasFailed hash_dev hash_dev'
 
+-- ---- calls, by what a proof sees of the two devices: as they were before, and then after
+
+-- both were only read
+abbrev pub OnlyReads : {D H : Type 0} → (D → Device) → (H → Device) → D → H → D → H → Type 0
+OnlyReads data_state hash_state d h d' h' = AreOnlyRead (data_state d) (hash_state h) (data_state d') (hash_state h')
+
+-- neither failed
+abbrev pub NeitherFails : {D H : Type 0} → (D → Device) → (H → Device) → D → H → D → H → Type 0
+NeitherFails data_state hash_state d h d' h' = AreUnfailed (data_state d) (hash_state h) (data_state d') (hash_state h')
+
+-- one of them failed
+abbrev pub OneFails : {D H : Type 0} → (D → Device) → (H → Device) → D → H → D → H → Type 0
+OneFails data_state hash_state d h d' h' = HasOneFailed (data_state d) (hash_state h) (data_state d') (hash_state h')
+
+-- ---- a place
+
 -- What adding up the bytes of a round at one place stands on: so many sums for each codeword, and as many factors for each place.
-pub record CanAdd (l : Layout) (data_dev hash_dev : Device) (count : ℕ) (products : List ℕ) (round block sums : ℕ) : Type 0 where
-  pub laid : IsLaidOn l data_dev hash_dev
-  pub few : count ≤ 255
-  pub products_are : length products ≡ 255 * count
-  pub round_is : round < rounds l
-  pub block_is : block ≡ l.block
-  pub sums_are : sums ≡ l.block * count
+pub record CanAdd (code : Code) (data_dev hash_dev : Device) (round : ℕ) (block sums : List ℕ) : Type 0 where
+  pub laid : IsLaidOn code.layout.now data_dev hash_dev
+  pub few : code.count ≤ 255
+  pub products_are : length code.products.now ≡ 255 * code.count
+  pub round_is : round < rounds code.layout.now
+  pub block_is : length block ≡ code.layout.now.block
+  pub sums_are : length sums ≡ code.layout.now.block * code.count
 
 -- To the sums the products of the bytes at one place were added, each to those of its codeword.
 pub record IsPlaceAdded (l : Layout) (data_image hash_image : List (List ℕ)) (count : ℕ) (products : List ℕ) (round place : ℕ) (old new : List ℕ) : Type 0 where
   pub sums : EachIndex new (λ m. slice_index new m ≡ bit_xor (slice_index old m) (product (slice_index products (place * count + m % count)) (message l data_image hash_image round (m / count) place)))
   pub bytes : (c : ℕ) → message l data_image hash_image round c place < 256
 
--- what summing up a round's parity stands on
-pub record CanSum (l : Layout) (data_dev hash_dev : Device) (products : List ℕ) (round block parity : ℕ) : Type 0 where
-  pub laid : IsLaidOn l data_dev hash_dev
-  pub products_are : AreProducts (parity_places l.roots) products
-  pub round_is : round < rounds l
-  pub block_is : block ≡ l.block
-  pub parity_is : parity ≡ round_bytes l
+-- over steady devices
+abbrev pub Adds : {D H : Type 0} → Code → (D → Device) → (H → Device) → D → H → ℕ → ℕ → List ℕ → List ℕ → Type 0
+Adds code data_state hash_state d h round place old new =
+    IsTrue (data_state d).steady → IsTrue (hash_state h).steady
+    → IsPlaceAdded code.layout.now (data_state d).image (hash_state h).image code.count code.products.now round place old new
+
+-- ---- a round
+
+-- what summing up the parity of rounds stands on
+pub record CanSum (code : Code) (data_dev hash_dev : Device) (block parity : List ℕ) : Type 0 where
+  pub laid : IsLaidOn code.layout.now data_dev hash_dev
+  pub count_is : code.count ≡ code.layout.now.roots
+  pub products_are : AreProducts (parity_places code.layout.now.roots) code.products.now
+  pub block_is : length block ≡ code.layout.now.block
+  pub parity_is : length parity ≡ round_bytes code.layout.now
+
+-- over steady devices these bytes are the round's parity
+abbrev pub SumsUp : Code → Device → Device → ℕ → List ℕ → Type 0
+SumsUp code data_dev hash_dev round parity = IsTrue data_dev.steady → IsTrue hash_dev.steady → IsParityOf code.layout.now data_dev.image hash_dev.image round parity
 
 -- what restoring a round's lost blocks stands on
-pub record CanRestore (l : Layout) (data_dev hash_dev : Device) (lost products : List ℕ) (round block parity sums : ℕ) : Type 0 where
-  pub laid : IsLaidOn l data_dev hash_dev
-  pub lost_are : EachIndex lost (λ k. slice_index lost k < 255 - l.roots)
-  pub enough : length lost ≤ l.roots
-  pub products_are : AreProducts lost products
-  pub round_is : round < rounds l
-  pub block_is : block ≡ l.block
-  pub parity_is : parity ≡ round_bytes l
-  pub sums_are : sums ≡ l.block * length lost
+pub record CanRestore (gap : Gap) (data_dev hash_dev : Device) (parity block sums : List ℕ) : Type 0 where
+  pub laid : IsLaidOn gap.code.layout.now data_dev hash_dev
+  pub lost_are : EachIndex gap.places.now (λ k. slice_index gap.places.now k < 255 - gap.code.layout.now.roots)
+  pub enough : length gap.places.now ≤ gap.code.layout.now.roots
+  pub count_is : gap.code.count ≡ length gap.places.now
+  pub products_are : AreProducts gap.places.now gap.code.products.now
+  pub round_is : gap.round < rounds gap.code.layout.now
+  pub block_is : length block ≡ gap.code.layout.now.block
+  pub parity_is : length parity ≡ round_bytes gap.code.layout.now
+  pub sums_are : length sums ≡ gap.code.layout.now.block * length gap.places.now
 
 -- Another image with this parity, whose covered blocks of the round are those of this one but at the lost places.
 pub record IsFormerly (l : Layout) (data_image hash_image former_data former_hash : List (List ℕ)) (round : ℕ) (parity lost : List ℕ) : Type 0 where
@@ -58,3 +90,8 @@ abbrev pub AreRestored : Layout → List (List ℕ) → List (List ℕ) → ℕ 
 AreRestored l data_image hash_image round parity lost sums =
     (former_data former_hash : List (List ℕ)) → IsFormerly l data_image hash_image former_data former_hash round parity lost
     → (c k : ℕ) → c < l.block → k < length lost → slice_index sums (c * length lost + k) ≡ message l former_data former_hash round c (slice_index lost k)
+
+-- over steady devices
+abbrev pub Restores : Gap → Device → Device → List ℕ → List ℕ → Type 0
+Restores gap data_dev hash_dev parity sums =
+    IsTrue data_dev.steady → IsTrue hash_dev.steady → AreRestored gap.code.layout.now data_dev.image hash_dev.image gap.round parity gap.places.now sums

@@ -1,11 +1,10 @@
 -- Parity that is written.
-use Rattle.std.specs.Prelude.{◌≡◌, ◌⊎◌, ℕ, ◌<◌, ◌≤◌, false, IsTrue, List}
+use Rattle.std.specs.Prelude.{◌≡◌, ◌⊎◌, ◌<◌, false, IsTrue}
 use Rattle.block_device.specs.Device.{Device, HasFailed}
 use Rattle.fec_area.specs.declared.layout.Layout.{Layout}
 use Rattle.fec_area.specs.declared.writing.ParityFault.{ParityFault}
 use Rattle.fec_area.specs.declared.writing.ParityFault.TheVariants.{TooSmall, ReadOnly, Device as DeviceFailed, NoMemory}
-use Rattle.reed_solomon.specs.Factors.{AreProducts, parity_places}
-use Rattle.fec_area.specs.Layouts.{IsLaidOn, IsProtected, parity_sectors, round_bytes}
+use Rattle.fec_area.specs.Layouts.{IsProtected, parity_sectors}
 use Rattle.fec_area.specs.Rounds.{AreUnfailed, HasOneFailed}
 
 -- the parity stands on its device, and no device failed
@@ -18,18 +17,23 @@ pub record IsParityWritten (l : Layout) (data_dev hash_dev parity_dev data_dev' 
 abbrev pub HasAnyFailed : Device → Device → Device → Device → Device → Device → Type 0
 HasAnyFailed data_dev hash_dev parity_dev data_dev' hash_dev' parity_dev' = HasOneFailed data_dev hash_dev data_dev' hash_dev' ⊎ HasFailed parity_dev parity_dev'
 
--- what writing rounds stands on
-pub record CanWriteRounds (l : Layout) (data_dev hash_dev parity_dev : Device) (products : List ℕ) (block parity : ℕ) : Type 0 where
-  pub laid : IsLaidOn l data_dev hash_dev
-  pub products_are : AreProducts (parity_places l.roots) products
-  pub block_is : block ≡ l.block
-  pub parity_is : parity ≡ round_bytes l
-  pub room : parity_sectors l ≤ parity_dev.size
-  pub allowed : IsTrue parity_dev.may_write
-
 -- why parity wasn't written, or not all of it
 abbrev pub IsParityCause : Layout → Device → Device → Device → Device → Device → Device → ParityFault → Type 0
 IsParityCause l data_dev hash_dev parity_dev data_dev' hash_dev' parity_dev' (TooSmall needed) = (needed ≡ parity_sectors l) × (parity_dev.size < needed) × (parity_dev' ≡ parity_dev)
 IsParityCause l data_dev hash_dev parity_dev data_dev' hash_dev' parity_dev' ReadOnly = (parity_dev.may_write ≡ false) × (parity_dev' ≡ parity_dev)
 IsParityCause l data_dev hash_dev parity_dev data_dev' hash_dev' parity_dev' DeviceFailed = HasAnyFailed data_dev hash_dev parity_dev data_dev' hash_dev' parity_dev'
 IsParityCause l data_dev hash_dev parity_dev data_dev' hash_dev' parity_dev' NoMemory = parity_dev' ≡ parity_dev
+
+-- ---- calls, by what a proof sees of the three devices: as they were before, and then after
+
+-- one of them failed
+abbrev pub AnyFails : {D H P : Type 0} → (D → Device) → (H → Device) → (P → Device) → D → H → P → D → H → P → Type 0
+AnyFails data_state hash_state parity_state d h p d' h' p' = HasAnyFailed (data_state d) (hash_state h) (parity_state p) (data_state d') (hash_state h') (parity_state p')
+
+-- the parity was written, and none failed
+abbrev pub WritesParity : {D H P : Type 0} → Layout → (D → Device) → (H → Device) → (P → Device) → D → H → P → D → H → P → Type 0
+WritesParity l data_state hash_state parity_state d h p d' h' p' = IsParityWritten l (data_state d) (hash_state h) (parity_state p) (data_state d') (hash_state h') (parity_state p')
+
+-- it wasn't, or not all of it, for this reason
+abbrev pub FailsToWrite : {D H P : Type 0} → Layout → (D → Device) → (H → Device) → (P → Device) → D → H → P → D → H → P → ParityFault → Type 0
+FailsToWrite l data_state hash_state parity_state d h p d' h' p' = IsParityCause l (data_state d) (hash_state h) (parity_state p) (data_state d') (hash_state h') (parity_state p')

@@ -1,16 +1,18 @@
 //! Parity compared with what stands on a device.
-ghost use Rattle.std.specs.Prelude.{◌≡◌, IfErr, IfOk, OnErr, length};
+ghost use Rattle.std.specs.Prelude.{◌≡◌, ◌≤◌, IfErr, IfOk, OnErr, length};
 ghost use Rattle.std.specs.Str.{bytes_eq};
-ghost use Rattle.verity_format.specs.Blocks.{AreOnlyRead, IsOnlyRead};
-ghost use Rattle.fec_area.specs.Checking.{CanCheckRounds, IsCheckCause, IsChecked};
-ghost use Rattle.fec_area.specs.Layouts.{IsLaidOn};
-ghost use Rattle.fec_area.specs.Writing.{HasAnyFailed};
+ghost use Rattle.verity_format.specs.Blocks.{IsOnlyRead};
+ghost use Rattle.fec_area.specs.Checking.{Checks, ChecksBy, FailsToCheck};
+ghost use Rattle.fec_area.specs.Layouts.{IsLaidOn, parity_sectors, round_bytes};
+ghost use Rattle.fec_area.specs.Rounds.{CanSum, OnlyReads};
+ghost use Rattle.fec_area.specs.Writing.{AnyFails};
 
+use crate::code::Code;
 use crate::layout::Layout;
 use crate::round::sum_parity;
 use crate::writing::{ParityFault, zeros};
 use block_device::{BlockDev, DeviceFault};
-use reed_solomon::{Products, parity_products};
+use reed_solomon::parity_products;
 use std::alloc::Global;
 
 /// The first round whose parity isn't the one on its device, from the beginning of that on; `None` where each is.
@@ -24,10 +26,10 @@ pub fn check_parity<D: BlockDev, H: BlockDev, P: BlockDev>(
     parity_dev: &mut P,
 ) -> Result<Option<u64>, ParityFault>
     requires { IsLaidOn layout.now (D.state data_dev.old) (H.state hash_dev.old) }
-    ensures read { AreOnlyRead (D.state data_dev.old) (H.state hash_dev.old) (D.state data_dev.new) (H.state hash_dev.new) }
+    ensures read { OnlyReads D.state H.state data_dev.old hash_dev.old data_dev.new hash_dev.new }
     ensures parity { IsOnlyRead (P.state parity_dev.old) (P.state parity_dev.new) }
-    ensures ok { IfOk result (IsChecked layout.now (D.state data_dev.old) (H.state hash_dev.old) (P.state parity_dev.old)) }
-    ensures err { IfErr result (IsCheckCause layout.now (D.state data_dev.old) (H.state hash_dev.old) (P.state parity_dev.old) (D.state data_dev.new) (H.state hash_dev.new) (P.state parity_dev.new)) }
+    ensures ok { IfOk result (Checks layout.now D.state H.state P.state data_dev.old hash_dev.old parity_dev.old) }
+    ensures err { IfErr result (FailsToCheck layout.now D.state H.state P.state data_dev.old hash_dev.old parity_dev.old data_dev.new hash_dev.new parity_dev.new) }
 {
     let needed = layout.parity_sectors();
     if parity_dev.sectors() < needed {
@@ -37,9 +39,13 @@ pub fn check_parity<D: BlockDev, H: BlockDev, P: BlockDev>(
     let mut block = zeros(alloc, layout.block as usize)?;
     let mut parity = zeros(alloc, layout.round_bytes())?;
     let mut stored = zeros(alloc, layout.round_bytes())?;
-    let found = check_rounds(
+    let code = Code {
         layout,
-        &products,
+        count: layout.roots,
+        products: &products,
+    };
+    let found = check_rounds(
+        &code,
         data_dev,
         hash_dev,
         parity_dev,
@@ -52,8 +58,7 @@ pub fn check_parity<D: BlockDev, H: BlockDev, P: BlockDev>(
 
 // Sums up each round and compares its parity.
 fn check_rounds<D: BlockDev, H: BlockDev, P: BlockDev>(
-    layout: &Layout,
-    products: &[Products],
+    code: &Code<'_>,
     data_dev: &mut D,
     hash_dev: &mut H,
     parity_dev: &mut P,
@@ -61,15 +66,17 @@ fn check_rounds<D: BlockDev, H: BlockDev, P: BlockDev>(
     parity: &mut [u8],
     stored: &mut [u8],
 ) -> Result<Option<u64>, DeviceFault>
-    requires { CanCheckRounds layout.now (D.state data_dev.old) (H.state hash_dev.old) (P.state parity_dev.old) products.now (length block.old) (length parity.old) (length stored.old) }
-    ensures read { AreOnlyRead (D.state data_dev.old) (H.state hash_dev.old) (D.state data_dev.new) (H.state hash_dev.new) }
+    requires sums { CanSum code.now (D.state data_dev.old) (H.state hash_dev.old) block.old parity.old }
+    requires room { parity_sectors code.now.layout.now ≤ (P.state parity_dev.old).size }
+    requires stored { length stored.old ≡ round_bytes code.now.layout.now }
+    ensures read { OnlyReads D.state H.state data_dev.old hash_dev.old data_dev.new hash_dev.new }
     ensures parity { IsOnlyRead (P.state parity_dev.old) (P.state parity_dev.new) }
-    ensures ok { IfOk result (IsChecked layout.now (D.state data_dev.old) (H.state hash_dev.old) (P.state parity_dev.old)) }
-    ensures err { OnErr result (HasAnyFailed (D.state data_dev.old) (H.state hash_dev.old) (P.state parity_dev.old) (D.state data_dev.new) (H.state hash_dev.new) (P.state parity_dev.new)) }
+    ensures ok { IfOk result (ChecksBy code.now D.state H.state P.state data_dev.old hash_dev.old parity_dev.old) }
+    ensures err { OnErr result (AnyFails D.state H.state P.state data_dev.old hash_dev.old parity_dev.old data_dev.new hash_dev.new parity_dev.new) }
 {
     let sectors = (stored.len() / 512) as u64;
-    for round in 0..layout.rounds() {
-        sum_parity(layout, products, data_dev, hash_dev, round, block, parity)?;
+    for round in 0..code.layout.rounds() {
+        sum_parity(code, round, data_dev, hash_dev, block, parity)?;
         parity_dev.read(round * sectors, stored)?;
         if !is_same(parity, stored) {
             return Ok(Some(round));

@@ -1,8 +1,7 @@
 //! The blocks that parity covers, read from two devices.
-ghost use Rattle.std.specs.Prelude.{◌≡◌, ◌<◌, ℕ, IsTrue, OnOk, OnErr, length, slice_index};
-ghost use Rattle.verity_format.specs.Blocks.{AreOnlyRead};
-ghost use Rattle.fec_area.specs.Layouts.{IsLaidOn, covered, covered_blocks};
-ghost use Rattle.fec_area.specs.Rounds.{AreUnfailed, HasOneFailed};
+ghost use Rattle.std.specs.Prelude.{◌≡◌, ◌<◌, ℕ, OnOk, OnErr, length, slice_index};
+ghost use Rattle.fec_area.specs.Layouts.{IsCovered, IsLaidOn, covered_blocks};
+ghost use Rattle.fec_area.specs.Rounds.{NeitherFails, OneFails, OnlyReads};
 
 use crate::layout::Layout;
 use block_device::{BlockDev, DeviceFault};
@@ -19,11 +18,11 @@ pub(crate) fn read_covered<D: BlockDev, H: BlockDev>(
     requires laid { IsLaidOn layout.now (D.state data_dev.old) (H.state hash_dev.old) }
     requires index { index < covered_blocks layout.now }
     requires size { length block.old ≡ layout.now.block }
-    ensures read { AreOnlyRead (D.state data_dev.old) (H.state hash_dev.old) (D.state data_dev.new) (H.state hash_dev.new) }
-    ensures ok { OnOk result (AreUnfailed (D.state data_dev.old) (H.state hash_dev.old) (D.state data_dev.new) (H.state hash_dev.new)) }
-    ensures bytes { OnOk result (IsTrue (D.state data_dev.old).steady → IsTrue (H.state hash_dev.old).steady → block.new ≡ covered layout.now (D.state data_dev.old).image (H.state hash_dev.old).image index) }
+    ensures read { OnlyReads D.state H.state data_dev.old hash_dev.old data_dev.new hash_dev.new }
+    ensures ok { OnOk result (NeitherFails D.state H.state data_dev.old hash_dev.old data_dev.new hash_dev.new) }
+    ensures bytes { OnOk result (IsCovered layout.now (D.state data_dev.old) (H.state hash_dev.old) index block.new) }
     ensures fits { (k : ℕ) → slice_index block.new k < 256 }
-    ensures err { OnErr result (HasOneFailed (D.state data_dev.old) (H.state hash_dev.old) (D.state data_dev.new) (H.state hash_dev.new)) }
+    ensures err { OnErr result (OneFails D.state H.state data_dev.old hash_dev.old data_dev.new hash_dev.new) }
 {
     let sectors = u64::from(layout.block / 512);
     if index < layout.data_blocks {

@@ -49,7 +49,8 @@ impl Layout {
     /// Whether the covered blocks lie on the two devices.
     pub fn is_laid_on<D: BlockDev, H: BlockDev>(&self, data_dev: &D, hash_dev: &H) -> bool
         requires { IsLayout self.now }
-        ensures { IsTrue result → IsLaidOn self.now (D.state data_dev.now) (H.state hash_dev.now) }
+        ensures laid { IsTrue result → IsLaidOn self.now (D.state data_dev.now) (H.state hash_dev.now) }
+        ensures told { IsLaidOn self.now (D.state data_dev.now) (H.state hash_dev.now) → IsTrue result }
     {
         let sectors = u64::from(self.block / 512);
         let data = self.data_blocks * sectors;

@@ -3,6 +3,7 @@
 #![tactic(auto)]
 
 mod checking;
+mod code;
 mod covered;
 pub mod laws;
 mod layout;
@@ -13,5 +14,4 @@ mod writing;
 pub use checking::check_parity;
 pub use layout::Layout;
 pub use restoring::{RestoreFault, restore_block};
-pub use round::{restore_blocks, sum_parity};
 pub use writing::{ParityFault, write_parity};

@@ -1,15 +1,17 @@
 //! A lost block, made again from the other blocks of its round and the parity.
-ghost use Rattle.std.specs.Prelude.{◌≡◌, ◌<◌, ◌≤◌, ◌/◌, IfErr, IfOk, IsTrue, OnErr, OnOk, length};
-ghost use Rattle.verity_format.specs.Blocks.{AreOnlyRead, IsOnlyRead, block_at};
-ghost use Rattle.fec_area.specs.Layouts.{IsLaidOn, IsLayout, covered_blocks, round_bytes};
-ghost use Rattle.fec_area.specs.Restoring.{AreLostPlaces, CanRestoreFirst, IsFirstRestored, IsMadeAgain, IsRestoreCause, is_beside};
-ghost use Rattle.fec_area.specs.Writing.{HasAnyFailed};
+ghost use Rattle.std.specs.Prelude.{◌≡◌, ◌<◌, ◌≤◌, ◌/◌, IfErr, IfOk, OnErr, OnOk, length};
+ghost use Rattle.verity_format.specs.Blocks.{IsOnlyRead};
+ghost use Rattle.fec_area.specs.Layouts.{IsLaidOn, IsLayout, covered_blocks, parity_sectors};
+ghost use Rattle.fec_area.specs.Restoring.{AreLostPlaces, FailsToRestore, MakesAgain, RestoresFirst, is_beside};
+ghost use Rattle.fec_area.specs.Rounds.{CanRestore, OnlyReads};
+ghost use Rattle.fec_area.specs.Writing.{AnyFails};
 
+use crate::code::{Code, Gap};
 use crate::layout::Layout;
 use crate::round::{restore_blocks, take_column};
 use crate::writing::zeros;
 use block_device::{BlockDev, DeviceFault};
-use reed_solomon::{Products, restoring_products};
+use reed_solomon::restoring_products;
 use std::alloc::{AllocError, Global};
 use thiserror::Error;
 
@@ -67,10 +69,10 @@ pub fn restore_block<D: BlockDev, H: BlockDev, P: BlockDev>(
     requires laid { IsLaidOn layout.now (D.state data_dev.old) (H.state hash_dev.old) }
     requires index { index < covered_blocks layout.now }
     requires size { length block.old ≡ layout.now.block }
-    ensures read { AreOnlyRead (D.state data_dev.old) (H.state hash_dev.old) (D.state data_dev.new) (H.state hash_dev.new) }
+    ensures read { OnlyReads D.state H.state data_dev.old hash_dev.old data_dev.new hash_dev.new }
     ensures parity { IsOnlyRead (P.state parity_dev.old) (P.state parity_dev.new) }
-    ensures bytes { OnOk result (IsTrue (D.state data_dev.old).steady → IsTrue (H.state hash_dev.old).steady → IsTrue (P.state parity_dev.old).steady → IsMadeAgain layout.now (D.state data_dev.old).image (H.state hash_dev.old).image (P.state parity_dev.old).image lost.now index block.new) }
-    ensures err { IfErr result (IsRestoreCause layout.now lost.now index (D.state data_dev.old) (H.state hash_dev.old) (P.state parity_dev.old) (D.state data_dev.new) (H.state hash_dev.new) (P.state parity_dev.new)) }
+    ensures bytes { OnOk result (MakesAgain layout.now (D.state data_dev.old) (H.state hash_dev.old) (P.state parity_dev.old) lost.now index block.new) }
+    ensures err { IfErr result (FailsToRestore layout.now lost.now index D.state H.state P.state data_dev.old hash_dev.old parity_dev.old data_dev.new hash_dev.new parity_dev.new) }
 {
     let needed = layout.parity_sectors();
     if parity_dev.sectors() < needed {
@@ -85,14 +87,21 @@ pub fn restore_block<D: BlockDev, H: BlockDev, P: BlockDev>(
     let mut parity = zeros(alloc, layout.round_bytes())?;
     let mut sums = zeros(alloc, layout.block as usize * count)?;
     let round = index % layout.rounds();
-    restore_first(
+    let code = Code {
         layout,
-        &places,
-        &products,
+        count,
+        products: &products,
+    };
+    let gap = Gap {
+        code,
+        round,
+        places: &places,
+    };
+    restore_first(
+        &gap,
         data_dev,
         hash_dev,
         parity_dev,
-        round,
         &mut parity,
         &mut sums,
         block,
@@ -134,28 +143,25 @@ fn is_beside(layout: &Layout, index: u64, other: u64) -> bool
 
 // Sums up the lost blocks of a round, and takes out the first one.
 fn restore_first<D: BlockDev, H: BlockDev, P: BlockDev>(
-    layout: &Layout,
-    places: &[usize],
-    products: &[Products],
+    gap: &Gap<'_>,
     data_dev: &mut D,
     hash_dev: &mut H,
     parity_dev: &mut P,
-    round: u64,
     parity: &mut [u8],
     sums: &mut [u8],
     block: &mut [u8],
 ) -> Result<(), DeviceFault>
-    requires { CanRestoreFirst layout.now (D.state data_dev.old) (H.state hash_dev.old) (P.state parity_dev.old) places.now products.now round (length block.old) (length parity.old) (length sums.old) }
-    ensures read { AreOnlyRead (D.state data_dev.old) (H.state hash_dev.old) (D.state data_dev.new) (H.state hash_dev.new) }
+    requires can { CanRestore gap.now (D.state data_dev.old) (H.state hash_dev.old) parity.old block.old sums.old }
+    requires some { 0 < length gap.now.places.now }
+    requires room { parity_sectors gap.now.code.layout.now ≤ (P.state parity_dev.old).size }
+    ensures read { OnlyReads D.state H.state data_dev.old hash_dev.old data_dev.new hash_dev.new }
     ensures parity { IsOnlyRead (P.state parity_dev.old) (P.state parity_dev.new) }
-    ensures first { OnOk result (IsTrue (D.state data_dev.old).steady → IsTrue (H.state hash_dev.old).steady → IsTrue (P.state parity_dev.old).steady → IsFirstRestored layout.now (D.state data_dev.old).image (H.state hash_dev.old).image round (block_at (P.state parity_dev.old).image (round_bytes layout.now) round) places.now block.new) }
-    ensures err { OnErr result (HasAnyFailed (D.state data_dev.old) (H.state hash_dev.old) (P.state parity_dev.old) (D.state data_dev.new) (H.state hash_dev.new) (P.state parity_dev.new)) }
+    ensures first { OnOk result (RestoresFirst gap.now (D.state data_dev.old) (H.state hash_dev.old) (P.state parity_dev.old) block.new) }
+    ensures err { OnErr result (AnyFails D.state H.state P.state data_dev.old hash_dev.old parity_dev.old data_dev.new hash_dev.new parity_dev.new) }
 {
     let sectors = (parity.len() / 512) as u64;
-    parity_dev.read(round * sectors, parity)?;
-    restore_blocks(
-        layout, places, products, data_dev, hash_dev, round, parity, block, sums,
-    )?;
-    take_column(sums, places.len(), 0, block);
+    parity_dev.read(gap.round * sectors, parity)?;
+    restore_blocks(gap, data_dev, hash_dev, parity, block, sums)?;
+    take_column(sums, gap.places.len(), 0, block);
     Ok(())
 }

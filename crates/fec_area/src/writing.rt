@@ -2,14 +2,16 @@
 ghost use Rattle.std.specs.Prelude.{◌≡◌, ◌<◌, ◌≤◌, IsTrue, IfErr, OnErr, OnOk, IfOk, length, replicate};
 ghost use Rattle.block_device.specs.Device.{HasFailed};
 ghost use Rattle.reed_solomon.specs.Factors.{AreProducts, parity_places};
-ghost use Rattle.verity_format.specs.Blocks.{AreOnlyRead, IsOnlyWritten};
+ghost use Rattle.verity_format.specs.Blocks.{IsOnlyWritten};
 ghost use Rattle.fec_area.specs.Layouts.{IsLaidOn, parity_sectors, round_bytes, rounds};
-ghost use Rattle.fec_area.specs.Writing.{CanWriteRounds, HasAnyFailed, IsParityCause, IsParityWritten};
+ghost use Rattle.fec_area.specs.Rounds.{CanSum, OnlyReads};
+ghost use Rattle.fec_area.specs.Writing.{AnyFails, FailsToWrite, WritesParity};
 
+use crate::code::Code;
 use crate::layout::Layout;
 use crate::round::sum_parity;
 use block_device::{BlockDev, DeviceFault};
-use reed_solomon::{Products, parity_products};
+use reed_solomon::parity_products;
 use std::alloc::{AllocError, Global};
 use thiserror::Error;
 
@@ -61,10 +63,10 @@ pub fn write_parity<D: BlockDev, H: BlockDev, P: BlockDev>(
     parity_dev: &mut P,
 ) -> Result<(), ParityFault>
     requires { IsLaidOn layout.now (D.state data_dev.old) (H.state hash_dev.old) }
-    ensures read { AreOnlyRead (D.state data_dev.old) (H.state hash_dev.old) (D.state data_dev.new) (H.state hash_dev.new) }
+    ensures read { OnlyReads D.state H.state data_dev.old hash_dev.old data_dev.new hash_dev.new }
     ensures written { IsOnlyWritten (P.state parity_dev.old) (parity_sectors layout.now) (P.state parity_dev.new) }
-    ensures ok { OnOk result (IsParityWritten layout.now (D.state data_dev.old) (H.state hash_dev.old) (P.state parity_dev.old) (D.state data_dev.new) (H.state hash_dev.new) (P.state parity_dev.new)) }
-    ensures err { IfErr result (IsParityCause layout.now (D.state data_dev.old) (H.state hash_dev.old) (P.state parity_dev.old) (D.state data_dev.new) (H.state hash_dev.new) (P.state parity_dev.new)) }
+    ensures ok { OnOk result (WritesParity layout.now D.state H.state P.state data_dev.old hash_dev.old parity_dev.old data_dev.new hash_dev.new parity_dev.new) }
+    ensures err { IfErr result (FailsToWrite layout.now D.state H.state P.state data_dev.old hash_dev.old parity_dev.old data_dev.new hash_dev.new parity_dev.new) }
 {
     let needed = layout.parity_sectors();
     if parity_dev.sectors() < needed {
@@ -76,9 +78,13 @@ pub fn write_parity<D: BlockDev, H: BlockDev, P: BlockDev>(
     let products = parity_products(alloc, layout.roots)?;
     let mut block = zeros(alloc, layout.block as usize)?;
     let mut parity = zeros(alloc, layout.round_bytes())?;
-    write_rounds(
+    let code = Code {
         layout,
-        &products,
+        count: layout.roots,
+        products: &products,
+    };
+    write_rounds(
+        &code,
         data_dev,
         hash_dev,
         parity_dev,
@@ -97,23 +103,24 @@ pub(crate) fn zeros(alloc: Global, size: usize) -> Result<Vec<u8>, AllocError>
 
 // Sums up each round and writes its parity.
 fn write_rounds<D: BlockDev, H: BlockDev, P: BlockDev>(
-    layout: &Layout,
-    products: &[Products],
+    code: &Code<'_>,
     data_dev: &mut D,
     hash_dev: &mut H,
     parity_dev: &mut P,
     block: &mut [u8],
     parity: &mut [u8],
 ) -> Result<(), DeviceFault>
-    requires { CanWriteRounds layout.now (D.state data_dev.old) (H.state hash_dev.old) (P.state parity_dev.old) products.now (length block.old) (length parity.old) }
-    ensures read { AreOnlyRead (D.state data_dev.old) (H.state hash_dev.old) (D.state data_dev.new) (H.state hash_dev.new) }
-    ensures written { IsOnlyWritten (P.state parity_dev.old) (parity_sectors layout.now) (P.state parity_dev.new) }
-    ensures ok { OnOk result (IsParityWritten layout.now (D.state data_dev.old) (H.state hash_dev.old) (P.state parity_dev.old) (D.state data_dev.new) (H.state hash_dev.new) (P.state parity_dev.new)) }
-    ensures err { OnErr result (HasAnyFailed (D.state data_dev.old) (H.state hash_dev.old) (P.state parity_dev.old) (D.state data_dev.new) (H.state hash_dev.new) (P.state parity_dev.new)) }
+    requires sums { CanSum code.now (D.state data_dev.old) (H.state hash_dev.old) block.old parity.old }
+    requires room { parity_sectors code.now.layout.now ≤ (P.state parity_dev.old).size }
+    requires allowed { IsTrue (P.state parity_dev.old).may_write }
+    ensures read { OnlyReads D.state H.state data_dev.old hash_dev.old data_dev.new hash_dev.new }
+    ensures written { IsOnlyWritten (P.state parity_dev.old) (parity_sectors code.now.layout.now) (P.state parity_dev.new) }
+    ensures ok { OnOk result (WritesParity code.now.layout.now D.state H.state P.state data_dev.old hash_dev.old parity_dev.old data_dev.new hash_dev.new parity_dev.new) }
+    ensures err { OnErr result (AnyFails D.state H.state P.state data_dev.old hash_dev.old parity_dev.old data_dev.new hash_dev.new parity_dev.new) }
 {
     let sectors = (parity.len() / 512) as u64;
-    for round in 0..layout.rounds() {
-        sum_parity(layout, products, data_dev, hash_dev, round, block, parity)?;
+    for round in 0..code.layout.rounds() {
+        sum_parity(code, round, data_dev, hash_dev, block, parity)?;
         parity_dev.write(round * sectors, parity)?;
     }
     Ok(())

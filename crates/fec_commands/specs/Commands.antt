@@ -1,12 +1,19 @@
 -- What `format --fec` and `verify --fec` do and print, and how they end early.
-use Rattle.std.specs.Prelude.{◌≡◌, ◌⊎◌, ℕ, Bool, true, List, [], Option, Some}
+use Rattle.std.specs.Prelude.{◌≡◌, ◌⊎◌, ℕ, Bool, true, List, [], Option, Some, Vec}
+use Rattle.std.specs.Global.{Global}
 use Rattle.std.specs.Io.KnownBytes.{Appends}
-use Rattle.command_line.specs.FormatOptions.{OptionTexts}
-use Rattle.command_line.specs.words.Format.{FormatRecord}
+use Rattle.block_device.specs.Device.{Device}
+use Rattle.command_line.specs.declared.option_words.OptionWords.{OptionWords}
+use Rattle.command_line.specs.declared.words.fec_format.FecFormatWords.{FecFormatWords}
+use Rattle.command_line.specs.declared.words.fec_verify.FecVerifyWords.{FecVerifyWords}
+use Rattle.command_line.specs.declared.words.format.FormatWords.{FormatWords}
+use Rattle.command_line.specs.FormatOptions.{OptionTexts, option_texts}
+use Rattle.command_line.specs.words.Format.{FormatRecord, format_record}
 use Rattle.command_line.specs.words.Verify.{VerifyRecord}
+use Rattle.counted_io.specs.Counted.{CountedRecord}
 use Rattle.image_commands.specs.Drawing.{Drawing}
 use Rattle.image_commands.specs.Places.{TwoPlaces}
-use Rattle.image_files.specs.Opener.{Calls}
+use Rattle.image_files.specs.Opener.{Calls, Opener, calls}
 use Rattle.verity_commands.specs.declared.fault.VerityFault.{VerityFault}
 use Rattle.verity_commands.specs.Endings.{IsUnsaid}
 use Rattle.verity_commands.specs.Placed.{FormatsAt, IsFormatEnd, IsVerifyEnd, VerifiesAt}
@@ -15,8 +22,8 @@ use Rattle.fec_commands.specs.declared.fault.FecFault.{FecFault}
 use Rattle.fec_commands.specs.declared.fault.FecFault.TheVariants.{BlockSizes, Verity}
 use Rattle.fec_commands.specs.Checking.{IsCheckEnd, IsFecQuiet, PrintsOk}
 use Rattle.fec_commands.specs.FecFaults.{kept_fault, unwritten}
-use Rattle.command_line.specs.words.FecFormat.{FecFormatRecord}
-use Rattle.command_line.specs.words.FecVerify.{FecVerifyRecord}
+use Rattle.command_line.specs.words.FecFormat.{FecFormatRecord, fec_format_record}
+use Rattle.command_line.specs.words.FecVerify.{FecVerifyRecord, fec_verify_record}
 use Rattle.fec_commands.specs.Growing.{IsProtectionEnd, Protects}
 use Rattle.fec_commands.specs.Sizes.{says_two_sizes}
 
@@ -114,3 +121,28 @@ pub record EndsUnlikeParity {S D : Type 0} (w : Calls S D) (v : FecVerifyRecord)
 abbrev pub IsVerifyFecEnd : {S D : Type 0} → Calls S D → FecVerifyRecord → Option (List ℕ) → Option (List ℕ) → Bool → FecFault → Type 0
 IsVerifyFecEnd w v old new failed fault =
     (EndsUnsaid w fault × (new ≡ old)) ⊎ (EndsUnverified w v old new failed fault ⊎ EndsUnlikeParity w v old new failed fault)
+
+-- ---- the same by the program's own words, the opener and the writer, each before and after, and what makes generators
+
+-- a `format` whose text is kept in memory
+abbrev pub KeepsText : {S D T G : Type 0} → OptionWords → FormatWords → Opener S D → (D → Device) → S → S → Drawing T G → Vec ℕ Global → Type 0
+KeepsText options words relations state old new d text = FormatsAt (option_texts options) (calls relations state old new) d (format_record words) (Some []) (Some text.items)
+
+abbrev pub FailsToKeep : {S D T G : Type 0} → OptionWords → FormatWords → Opener S D → (D → Device) → S → S → Drawing T G → VerityFault → Type 0
+FailsToKeep options words relations state old new d = IsKeptEnd (option_texts options) (calls relations state old new) d (format_record words)
+
+-- `format --fec`
+abbrev pub FormatsByWords : {S D T G W : Type 0} → OptionWords → FecFormatWords → Opener S D → (D → Device) → S → S → Drawing T G → (W → Option (List ℕ)) → CountedRecord W → CountedRecord W → Type 0
+FormatsByWords options words relations state old new d contents writer writer' =
+    FormatsFec (option_texts options) (calls relations state old new) d (fec_format_record words) (contents writer.inner) (contents writer'.inner)
+
+abbrev pub FailsToFormat : {S D T G W : Type 0} → OptionWords → FecFormatWords → Opener S D → (D → Device) → S → S → Drawing T G → (W → Option (List ℕ)) → CountedRecord W → CountedRecord W → FecFault → Type 0
+FailsToFormat options words relations state old new d contents writer writer' =
+    IsFormatFecEnd (option_texts options) (calls relations state old new) d (fec_format_record words) (contents writer.inner) (contents writer'.inner) writer'.failed
+
+-- `verify --fec`
+abbrev pub VerifiesByWords : {S D W : Type 0} → FecVerifyWords → Opener S D → (D → Device) → S → S → (W → Option (List ℕ)) → CountedRecord W → CountedRecord W → Type 0
+VerifiesByWords words relations state old new contents writer writer' = VerifiesFec (calls relations state old new) (fec_verify_record words) (contents writer.inner) (contents writer'.inner)
+
+abbrev pub FailsToVerify : {S D W : Type 0} → FecVerifyWords → Opener S D → (D → Device) → S → S → (W → Option (List ℕ)) → CountedRecord W → CountedRecord W → FecFault → Type 0
+FailsToVerify words relations state old new contents writer writer' = IsVerifyFecEnd (calls relations state old new) (fec_verify_record words) (contents writer.inner) (contents writer'.inner) writer'.failed

@@ -7,11 +7,14 @@ use Rattle.image_files.specs.Apart.{OpensApart, RefusesApart}
 use Rattle.image_files.specs.FileUses.{image_use}
 use Rattle.image_files.specs.Opened.{Opens, Refuses}
 use Rattle.image_files.specs.OneFile.{is_one_file}
-use Rattle.image_files.specs.Opener.{Calls}
-use Rattle.image_commands.specs.Places.{TwoPlaces}
+use Rattle.block_device.specs.Device.{Device}
+use Rattle.image_files.specs.Opener.{Calls, Opener, calls}
+use Rattle.image_commands.specs.declared.places.ImagePlaces.{ImagePlaces}
+use Rattle.image_commands.specs.Places.{TwoPlaces, two_places}
 use Rattle.fec_commands.specs.declared.image.Extent.{Extent}
 use Rattle.fec_commands.specs.declared.image.ThreeImages.{ThreeImages}
-use Rattle.command_line.specs.FecFiles.{FecRecord}
+use Rattle.command_line.specs.declared.fec_file.FecFile.{FecFile}
+use Rattle.command_line.specs.FecFiles.{FecRecord, fec_record}
 
 -- two files that are only read
 abbrev pub uses_of : {D : Type 0} → OpenImage D → OpenImage D → List FileUse
@@ -55,3 +58,8 @@ data_end three first = if nat_lt 0 first && is_one_file three.«data».id three.
 -- where the data end and the hash image begins, and the bytes of parity in a codeword
 abbrev pub extent_of : {D : Type 0} → TwoPlaces → FecRecord → ThreeImages D → Extent
 extent_of places fec three = record { end = data_end three places.first; first = places.first; roots = fec.roots }
+
+-- a relation of the opener's calls, the places of the images and the parity's file: by the opener before and after the calls, and by
+-- the program's own words for the others
+abbrev pub Does : {S D : Type 0} {T : Type 1} → (Calls S D → TwoPlaces → FecRecord → T) → Opener S D → (D → Device) → S → S → ImagePlaces → FecFile → T
+Does relation relations state old new places fec = relation (calls relations state old new) (two_places places) (fec_record fec)

@@ -1,9 +1,7 @@
 //! The parity of a verity image, compared with that in a file.
 ghost use Rattle.std.specs.Prelude.{◌≡◌, IfErr, IfOk, OnOk};
-ghost use Rattle.image_files.specs.Opener.{calls};
-ghost use Rattle.image_commands.specs.Places.{two_places};
 ghost use Rattle.fec_commands.specs.Checking.{ChecksBehind, IsCheckEnd, IsCheckingEnd, IsFecQuiet, PrintsOk};
-ghost use Rattle.command_line.specs.FecFiles.{fec_record};
+ghost use Rattle.fec_commands.specs.Images.{Does};
 ghost use Rattle.fec_commands.specs.Layings.{IsRoots};
 
 use crate::fault::FecFault;
@@ -28,8 +26,8 @@ pub(crate) fn check_image<'a, I: Images, W: Write>(
     writer: &mut Counted<W>,
 ) -> Result<(), FecFault<'a>>
     requires { IsRoots fec.now.roots }
-    ensures ok { OnOk result (PrintsOk (calls I.relations I.Dev.state images.old images.new) (two_places places.now) (fec_record fec.now) (W.contents writer.old.inner) (W.contents writer.new.inner)) }
-    ensures err { IfErr result (IsCheckEnd (calls I.relations I.Dev.state images.old images.new) (two_places places.now) (fec_record fec.now) writer.new.failed) }
+    ensures ok { OnOk result (Does PrintsOk I.relations I.Dev.state images.old images.new places.now fec.now (W.contents writer.old.inner) (W.contents writer.new.inner)) }
+    ensures err { IfErr result (Does IsCheckEnd I.relations I.Dev.state images.old images.new places.now fec.now writer.new.failed) }
     ensures quiet { IfErr result (λ fault. IsFecQuiet fault (W.contents writer.old.inner) (W.contents writer.new.inner)) }
 {
     let three = open_three(images, places, fec, false)?;

@@ -1,12 +1,11 @@
 //! The parity of a verity image, written to a file that is made, or made longer, where it has too few sectors.
 ghost use Rattle.std.specs.Prelude.{◌≡◌, true, Err, IfErr, IfSome, OnOk};
 ghost use Rattle.image_files.specs.Opener.{calls};
-ghost use Rattle.image_commands.specs.Places.{two_places};
 ghost use Rattle.fec_area.specs.declared.writing.ParityFault.TheVariants as parity_fault;
 ghost use Rattle.fec_commands.specs.declared.fault.FecFault.TheVariants as fec_fault;
 ghost use Rattle.verity_commands.specs.Growing.{Grows};
 ghost use Rattle.fec_commands.specs.Growing.{IsProtectionEnd, IsUnmade, Protects};
-ghost use Rattle.command_line.specs.FecFiles.{fec_record};
+ghost use Rattle.fec_commands.specs.Images.{Does};
 ghost use Rattle.fec_commands.specs.Layings.{IsRoots};
 
 use crate::fault::FecFault;
@@ -50,8 +49,8 @@ pub(crate) fn protect_growing<'a, I: Images>(
     fec: &FecFile<'a>,
 ) -> Result<(), FecFault<'a>>
     requires { IsRoots fec.now.roots }
-    ensures ok { OnOk result (Protects true (calls I.relations I.Dev.state images.old images.new) (two_places places.now) (fec_record fec.now)) }
-    ensures err { IfErr result (IsProtectionEnd true (calls I.relations I.Dev.state images.old images.new) (two_places places.now) (fec_record fec.now)) }
+    ensures ok { OnOk result (Does (Protects true) I.relations I.Dev.state images.old images.new places.now fec.now) }
+    ensures err { IfErr result (Does (IsProtectionEnd true) I.relations I.Dev.state images.old images.new places.now fec.now) }
 {
     make_room(images, fec.path, 0)?;
     let tried = protect_image(alloc, images, places, fec);

@@ -1,10 +1,8 @@
 //! A verity image and the file of its parity, open, and how parity lies across the image.
 ghost use Rattle.std.specs.Prelude.{◌≡◌, ◌&&◌, nat_le, nat_lt, IfErr, IfOk};
-ghost use Rattle.image_files.specs.Opener.{IsFresh, calls};
-ghost use Rattle.image_commands.specs.Places.{two_places};
+ghost use Rattle.image_files.specs.Opener.{IsFresh};
 ghost use Rattle.fec_area.specs.Layouts.{IsLayout};
-ghost use Rattle.command_line.specs.FecFiles.{fec_record};
-ghost use Rattle.fec_commands.specs.Images.{FailsToOpenThree, OpensThree, data_end};
+ghost use Rattle.fec_commands.specs.Images.{Does, FailsToOpenThree, OpensThree, data_end};
 ghost use Rattle.fec_commands.specs.Layings.{IsLayoutEnd, IsRoots, LaysOut};
 
 use crate::fault::FecFault;
@@ -48,9 +46,9 @@ pub(crate) fn open_three<'a, I: Images>(
     fec: &FecFile<'a>,
     writable: bool,
 ) -> Result<ThreeImages<I::Dev>, UnopenedFile<'a>>
-    ensures ok { IfOk result (OpensThree (calls I.relations I.Dev.state images.old images.new) (two_places places.now) (fec_record fec.now) writable) }
+    ensures ok { IfOk result (Does OpensThree I.relations I.Dev.state images.old images.new places.now fec.now writable) }
     ensures fresh { IfOk result (λ three. IsFresh (I.Dev.state three.parity.device) writable) }
-    ensures err { IfErr result (FailsToOpenThree (calls I.relations I.Dev.state images.old images.new) (two_places places.now) (fec_record fec.now) writable) }
+    ensures err { IfErr result (Does FailsToOpenThree I.relations I.Dev.state images.old images.new places.now fec.now writable) }
 {
     let data = open_image(images, places.data, false)?;
     let hash = open_image(images, places.hash, false)?;

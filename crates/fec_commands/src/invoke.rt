@@ -1,14 +1,9 @@
 //! The commands on images with parity by their words.
 ghost use Rattle.std.specs.Prelude.{IfErr, OnOk};
-ghost use Rattle.command_line.specs.FormatOptions.{option_texts};
 ghost use Rattle.image_commands.specs.Drawing.{drawing};
-ghost use Rattle.image_commands.specs.Places.{two_places};
-ghost use Rattle.image_files.specs.Opener.{calls};
-ghost use Rattle.fec_commands.specs.Commands.{FormatsFec, IsFormatFecEnd, IsVerifyFecEnd, VerifiesFec};
+ghost use Rattle.fec_commands.specs.Commands.{FailsToFormat, FailsToVerify, FormatsByWords, VerifiesByWords};
 ghost use Rattle.fec_commands.specs.Growing.{IsProtectionEnd, Protects};
-ghost use Rattle.command_line.specs.FecFiles.{fec_record};
-ghost use Rattle.command_line.specs.words.FecFormat.{fec_format_record};
-ghost use Rattle.command_line.specs.words.FecVerify.{fec_verify_record};
+ghost use Rattle.fec_commands.specs.Images.{Does};
 ghost use Rattle.fec_commands.specs.Layings.{IsRoots};
 
 use crate::check::check_image;
@@ -37,8 +32,8 @@ pub fn invoke_format_fec<'a, I: Images, G: Generators + Watchers, W: Write>(
     options: &OptionWords<'a>,
     writer: &mut Counted<W>,
 ) -> Result<(), FecFault<'a>>
-    ensures ok { OnOk result (FormatsFec (option_texts options.now) (calls I.relations I.Dev.state images.old images.new) (drawing G.gives G.Generator.stream generators.old generators.new) (fec_format_record words.now) (W.contents writer.old.inner) (W.contents writer.new.inner)) }
-    ensures err { IfErr result (IsFormatFecEnd (option_texts options.now) (calls I.relations I.Dev.state images.old images.new) (drawing G.gives G.Generator.stream generators.old generators.new) (fec_format_record words.now) (W.contents writer.old.inner) (W.contents writer.new.inner) writer.new.failed) }
+    ensures ok { OnOk result (FormatsByWords options.now words.now I.relations I.Dev.state images.old images.new (drawing G.gives G.Generator.stream generators.old generators.new) W.contents writer.old writer.new) }
+    ensures err { IfErr result (FailsToFormat options.now words.now I.relations I.Dev.state images.old images.new (drawing G.gives G.Generator.stream generators.old generators.new) W.contents writer.old writer.new) }
 {
     if !is_roots(words.fec.roots) {
         return Err(FecFault::Verity(VerityFault::Usage));
@@ -66,8 +61,8 @@ pub fn invoke_verify_fec<'a, I: Images, S: Watchers, W: Write>(
     words: &FecVerifyWords<'a>,
     writer: &mut Counted<W>,
 ) -> Result<(), FecFault<'a>>
-    ensures ok { OnOk result (VerifiesFec (calls I.relations I.Dev.state images.old images.new) (fec_verify_record words.now) (W.contents writer.old.inner) (W.contents writer.new.inner)) }
-    ensures err { IfErr result (IsVerifyFecEnd (calls I.relations I.Dev.state images.old images.new) (fec_verify_record words.now) (W.contents writer.old.inner) (W.contents writer.new.inner) writer.new.failed) }
+    ensures ok { OnOk result (VerifiesByWords words.now I.relations I.Dev.state images.old images.new W.contents writer.old writer.new) }
+    ensures err { IfErr result (FailsToVerify words.now I.relations I.Dev.state images.old images.new W.contents writer.old writer.new) }
 {
     if !is_roots(words.fec.roots) {
         return Err(FecFault::Verity(VerityFault::Usage));
@@ -90,8 +85,8 @@ fn protect<'a, I: Images>(
     grow: bool,
 ) -> Result<(), FecFault<'a>>
     requires { IsRoots fec.now.roots }
-    ensures ok { OnOk result (Protects grow (calls I.relations I.Dev.state images.old images.new) (two_places places.now) (fec_record fec.now)) }
-    ensures err { IfErr result (IsProtectionEnd grow (calls I.relations I.Dev.state images.old images.new) (two_places places.now) (fec_record fec.now)) }
+    ensures ok { OnOk result (Does (Protects grow) I.relations I.Dev.state images.old images.new places.now fec.now) }
+    ensures err { IfErr result (Does (IsProtectionEnd grow) I.relations I.Dev.state images.old images.new places.now fec.now) }
 {
     if grow {
         return protect_growing(alloc, images, places, fec);

@@ -1,12 +1,8 @@
 //! The text of a `format`, kept in memory until the parity stands.
-ghost use Rattle.std.specs.Prelude.{◌≡◌, [], Some, IfErr, IfOk};
-ghost use Rattle.command_line.specs.FormatOptions.{option_texts};
-ghost use Rattle.command_line.specs.words.Format.{format_record};
+ghost use Rattle.std.specs.Prelude.{◌≡◌, IfErr, IfOk};
 ghost use Rattle.image_commands.specs.Drawing.{drawing};
-ghost use Rattle.image_files.specs.Opener.{calls};
-ghost use Rattle.verity_commands.specs.Placed.{FormatsAt};
 ghost use Rattle.fec_commands.specs.FecFaults.{kept_fault, kept_image};
-ghost use Rattle.fec_commands.specs.Commands.{IsKeptEnd};
+ghost use Rattle.fec_commands.specs.Commands.{FailsToKeep, KeepsText};
 
 use command_line::{FormatWords, OptionWords};
 use counted_io::Counted;
@@ -24,8 +20,8 @@ pub(crate) fn format_kept<'a, I: Images, G: Generators + Watchers>(
     words: &FormatWords<'a>,
     options: &OptionWords<'a>,
 ) -> Result<Vec<u8>, VerityFault<'a>>
-    ensures ok { IfOk result (λ text. FormatsAt (option_texts options.now) (calls I.relations I.Dev.state images.old images.new) (drawing G.gives G.Generator.stream generators.old generators.new) (format_record words.now) (Some []) (Some text.items)) }
-    ensures err { IfErr result (IsKeptEnd (option_texts options.now) (calls I.relations I.Dev.state images.old images.new) (drawing G.gives G.Generator.stream generators.old generators.new) (format_record words.now)) }
+    ensures ok { IfOk result (KeepsText options.now words.now I.relations I.Dev.state images.old images.new (drawing G.gives G.Generator.stream generators.old generators.new)) }
+    ensures err { IfErr result (FailsToKeep options.now words.now I.relations I.Dev.state images.old images.new (drawing G.gives G.Generator.stream generators.old generators.new)) }
 {
     let mut kept = Counted::new(Vec::new(alloc));
     match invoke_format(alloc, images, generators, words, options, &mut kept) {

@@ -1,10 +1,8 @@
 //! The parity of a verity image, written to a file.
 ghost use Rattle.std.specs.Prelude.{◌≡◌, IfErr, OnOk};
-ghost use Rattle.image_files.specs.Opener.{calls};
-ghost use Rattle.image_commands.specs.Places.{two_places};
-ghost use Rattle.verity_format.specs.Blocks.{AreOnlyRead};
 ghost use Rattle.fec_area.specs.Layouts.{IsLaidOn};
-ghost use Rattle.command_line.specs.FecFiles.{fec_record};
+ghost use Rattle.fec_area.specs.Rounds.{OnlyReads};
+ghost use Rattle.fec_commands.specs.Images.{Does};
 ghost use Rattle.fec_commands.specs.Layings.{IsRoots};
 ghost use Rattle.fec_commands.specs.Protecting.{IsParityEnd, IsProtectEnd, IsSealed, IsSealingEnd, ProtectsBehind, ProtectsImage};
 
@@ -27,8 +25,8 @@ pub(crate) fn protect_image<'a, I: Images>(
     fec: &FecFile<'a>,
 ) -> Result<(), FecFault<'a>>
     requires { IsRoots fec.now.roots }
-    ensures ok { OnOk result (ProtectsImage (calls I.relations I.Dev.state images.old images.new) (two_places places.now) (fec_record fec.now)) }
-    ensures err { IfErr result (IsProtectEnd (calls I.relations I.Dev.state images.old images.new) (two_places places.now) (fec_record fec.now)) }
+    ensures ok { OnOk result (Does ProtectsImage I.relations I.Dev.state images.old images.new places.now fec.now) }
+    ensures err { IfErr result (Does IsProtectEnd I.relations I.Dev.state images.old images.new places.now fec.now) }
 {
     let three = open_three(images, places, fec, true)?;
     let extent = Extent {
@@ -83,7 +81,7 @@ fn write_synced<D: BlockDev, H: BlockDev, P: SyncDev>(
     parity_dev: &mut P,
 ) -> Result<(), ParityFault>
     requires { IsLaidOn layout.now (D.state data_dev.old) (H.state hash_dev.old) }
-    ensures read { AreOnlyRead (D.state data_dev.old) (H.state hash_dev.old) (D.state data_dev.new) (H.state hash_dev.new) }
+    ensures read { OnlyReads D.state H.state data_dev.old hash_dev.old data_dev.new hash_dev.new }
     ensures ok { OnOk result (IsSealed layout.now (D.state data_dev.old) (H.state hash_dev.old) (P.state parity_dev.old) (P.state parity_dev.new)) }
     ensures err { IfErr result (IsSealingEnd layout.now (D.state data_dev.old) (H.state hash_dev.old) (P.state parity_dev.old) (P.state parity_dev.new)) }
 {

@@ -1,5 +1,5 @@
 -- Requests of the transmission phase: 28 bytes each.
-use Rattle.std.specs.Prelude.{◌<◌, ◌≤◌, ℕ, ◌+◌, ◌*◌, ◌%◌, ◌==◌, ◌&&◌, ◌||◌, Bool, not, nat_le, nat_lt, List, Result, Ok, Err, if◌then◌else◌}
+use Rattle.std.specs.Prelude.{◌<◌, ◌≤◌, ℕ, ◌+◌, ◌*◌, ◌%◌, ◌==◌, ◌&&◌, ◌||◌, Bool, IsTrue, not, nat_le, nat_lt, List, Result, Ok, Err, if◌then◌else◌}
 use Rattle.stack_meaning.specs.declared.fault.IoFault.{IoFault}
 use Rattle.stack_meaning.specs.declared.fault.IoFault.TheVariants as io
 use Rattle.nbd_protocol.specs.Numbers.{number16, number32, number64}
@@ -78,11 +78,11 @@ status_command e h =
     else if nat_lt e.size (h.offset + h.length) then Err Invalid
     else Ok (Status h.offset h.length (nat_le 8 h.flags))
 
--- the bytes that are asked for end within the export, and those of a read are few
+-- The bytes that are asked for end within the export, and those of a read are few; what changes them may be written.
 abbrev pub IsWithin : ExportRecord → Command → Type 0
 IsWithin e (Read offset length) = (offset + length ≤ e.size) × (length ≤ most_length)
-IsWithin e (Write offset length fua) = offset + length ≤ e.size
-IsWithin e (Zero offset length fua) = offset + length ≤ e.size
+IsWithin e (Write offset length fua) = (offset + length ≤ e.size) × IsTrue e.writable
+IsWithin e (Zero offset length fua) = (offset + length ≤ e.size) × IsTrue e.writable
 IsWithin e Hint = Unit {0}
 IsWithin e Flush = Unit {0}
 IsWithin e (Status offset length one) = (offset + length ≤ e.size) × (0 < length)

@@ -1,5 +1,5 @@
 //! Requests of the transmission phase.
-ghost use Rattle.std.specs.Prelude.{◌≡◌, ◌<◌, ◌≤◌, ◌+◌, IfOk, length, nat_lt};
+ghost use Rattle.std.specs.Prelude.{◌≡◌, ◌<◌, ◌≤◌, ◌+◌, IfOk, IsTrue, length, nat_lt};
 ghost use Rattle.nbd_protocol.specs.Exports.{export_record};
 ghost use Rattle.nbd_protocol.specs.Headers.{IsWithin, cache_command, changing, command_of, flush_command, has_fua, has_offered, header_of, is_chunked, own_flag, payload_len, read_command, status_command, trim_command, write_command, zero_command};
 
@@ -233,7 +233,7 @@ impl Header {
         command: Command,
     ) -> Result<Command, RequestError>
         ensures value { result ≡ changing (export_record export.now) self past command }
-        ensures within { IfOk result (λ _. self.offset + self.length ≤ export.now.size) }
+        ensures within { IfOk result (λ _. (self.offset + self.length ≤ export.now.size) × IsTrue export.now.writable) }
     {
         let Header { offset, length, .. } = self;
         if !export.writable {

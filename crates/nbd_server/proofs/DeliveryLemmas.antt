@@ -1,10 +1,11 @@
 -- A READ that is answered piece by piece.
-use Rattle.std.proofs.Common.{◌≡◌, ◌<◌, ◌≤◌, ℕ, ◌+◌, ◌-◌, ◌*◌, ◌/◌, ◌%◌, ◌^◌, List, [], ◌++◌, length, refl, ap, sym, ◌∙◌, subst, arith, inl, inr, Option, Some, None, Result, Ok, Err}
-use Rattle.std.specs.Prelude.{◌⊎◌, ◌==◌, ◌||◌, ◌&&◌, Bool, true, false, not, nat_lt, if◌then◌else◌}
+use Rattle.std.proofs.Common.{◌≡◌, ◌<◌, ◌≤◌, ℕ, ◌+◌, ◌-◌, ◌*◌, ◌/◌, ◌%◌, List, [], ◌++◌, drop, length, refl, ap, sym, ◌∙◌, subst, arith, inl, inr, Option, Some, None, Result, Ok, Err}
+use Rattle.std.specs.Prelude.{◌⊎◌, ◌==◌, false}
 use Rattle.std.specs.Io.KnownBytes.{Appends, Keeps}
 use Rattle.std.proofs.KnownBytes.{Appends-kept, Appends-nil, Appends-trans}
 use Rattle.std.proofs.lemmas.Bool.{cases_lt}
-use Rattle.counted_io.specs.Counted.{CountedRecord, Grows, Writes, Writing}
+use Rattle.std.proofs.lemmas.List.{length-drop, length-take-le}
+use Rattle.counted_io.specs.Counted.{CountedRecord, Grows, Writes, WritesSome, Writing}
 use Rattle.counted_io.specs.declared.fault.WriteFault.{WriteFault}
 use Rattle.request_queue.specs.Parts.{EachPart}
 use Rattle.request_queue.specs.Runs.{IsLed}
@@ -17,11 +18,15 @@ use Rattle.nbd_server.specs.Sectors.{FailsToFetch, EndsIn, HasNoBuffer}
 use Rattle.nbd_server.specs.Status.{TouchZeros, touched}
 use Rattle.nbd_server.specs.Transmission.{ReadsBytes}
 use Rattle.nbd_server.specs.Premises.{AreBytesOf, IsRest}
-use Rattle.nbd_chunks.specs.Chunks.{data_chunk, error_at_chunk, hole_chunk}
+use Rattle.nbd_chunks.specs.Chunks.{error_at_chunk, hole_chunk}
+use Rattle.nbd_server.specs.Content.{Tells}
 use Rattle.stack_rules.specs.Records.{Configuration}
-use Rattle.nbd_server.specs.Delivery.{AnswersPiece, Delivers, delivers_none, delivers_more, DeliversAll, DeliversPart, GoesOn, IsBegun, IsDelivered, IsHole, IsLost, IsPiece, IsPutOff, IsSent, IsStuck, ReadsPiece, at_first}
+use Rattle.nbd_server.specs.Delivery.{AnswersPiece, Delivers, delivers_none, delivers_more, DeliversPart, GoesOn, IsDelivered, IsLost, IsPiece, IsStuck, ReadsPiece, at_first}
 use Rattle.nbd_server.specs.declared.delivery.Delivery.{Delivery}
 use Rattle.nbd_server.specs.declared.delivery.Progress.{Progress}
+use Rattle.nbd_server.specs.declared.reply.Data.{Data}
+use Rattle.nbd_server.specs.Transmission.{data_of}
+use Rattle.nbd_server.proofs.ContentLemmas.{some-told}
 
 -- ---- one read
 
@@ -96,6 +101,10 @@ piece-part d p size part piece some few = record {
   single = λ below. touched-part (d.offset + p.done) size part some few (piece.single below);
 }
 
+-- the bytes of a piece that was read
+pub part-size : (content : Data) → content.start + content.length ≤ length content.bytes.items → length (data_of content) ≡ content.length
+part-size content inside = length-take-le content.length (drop content.start content.bytes.items) (omega (arith, length-drop content.start content.bytes.items, inside))
+
 -- what is left of it has small places
 pub rest-left : (c : Configuration) (e : ExportRecord) (d : Delivery) (p : Progress) → AreBytesOf c e d.offset d.count → p.done ≤ d.count → IsRest d p
 rest-left c e d p bytes inside = record { inside = inside; small = omega (arith, bytes.within, bytes.export.fits) }
@@ -105,21 +114,21 @@ module _ (e : ExportRecord) (d : Delivery) (p : Progress) (w w' : World) (size a
   piece-bytes c bytes = record { export = bytes.export; within = omega (arith, bytes.within, piece.inside, place) }
 
   module _ (old new : Option (List ℕ)) where
-    sent-goes : (n : ℕ) → n ≡ size → (content : List ℕ) → ReadsBytes e w at size (Ok content) w'
-        → GoesOn e d p w (data_chunk (p.done + n == d.count) d.cookie (d.offset + p.done) content) (record { done = p.done + size; slow = p.slow }) w'
-    sent-goes n is content reads = inl (record {
+    sent-goes : (n : ℕ) → n ≡ size → (content chunk : List ℕ) → ReadsBytes e w at size (Ok content) w' → Tells d.cookie (p.done + n == d.count) (d.offset + p.done) content chunk
+        → GoesOn e d p w chunk (record { done = p.done + size; slow = p.slow }) w'
+    sent-goes n is content chunk reads told = inl (record {
       size = size;
       content = content;
       piece = piece;
       reads = subst (λ (k : ℕ). ReadsBytes e w k size (Ok content) w') place reads;
-      chunk_is = ap (λ (k : ℕ). data_chunk (p.done + k == d.count) d.cookie (d.offset + p.done) content) is;
+      told = subst (λ (k : ℕ). Tells d.cookie (p.done + k == d.count) (d.offset + p.done) content chunk) is told;
       next_is = refl;
     })
 
     -- it was read
-    pub piece-sent : (n : ℕ) → n ≡ size → (content : List ℕ) → ReadsBytes e w at size (Ok content) w' → Appends old new (data_chunk (p.done + n == d.count) d.cookie (d.offset + p.done) content)
+    pub piece-sent : (n : ℕ) → n ≡ size → (content : List ℕ) → ReadsBytes e w at size (Ok content) w' → Grows old new (Tells d.cookie (p.done + n == d.count) (d.offset + p.done) content)
         → AnswersPiece e d p w w' old new (Some (record { done = p.done + size; slow = p.slow }))
-    piece-sent n is content reads a = (data_chunk (p.done + n == d.count) d.cookie (d.offset + p.done) content, sent-goes n is content reads, a)
+    piece-sent n is content reads a = (a.text, sent-goes n is content a.text reads a.holds, a.written)
 
     hole-goes : TouchZeros w.stack.config e at size → w' ≡ w
         → GoesOn e d p w (hole_chunk (p.done + size == d.count) d.cookie (d.offset + p.done) size) (record { done = p.done + size; slow = p.slow }) w'
@@ -168,8 +177,10 @@ module _ (e : ExportRecord) (d : Delivery) (p : Progress) (w w' : World) (size a
     }
 
     -- the writer failed
-    pub sent-stuck : (content : List ℕ) → ReadsBytes e w at size (Ok content) w' → ReadsPiece e d p w w'
-    sent-stuck content reads = inl (data_chunk (p.done + size == d.count) d.cookie (d.offset + p.done) content, record { done = p.done + size; slow = p.slow }, sent-goes size refl content reads)
+    pub sent-stuck : (content : List ℕ) → 0 < length content → ReadsBytes e w at size (Ok content) w' → ReadsPiece e d p w w'
+    sent-stuck content some reads =
+        let told = some-told d.cookie (p.done + size == d.count) (d.offset + p.done) content some in
+        inl (told.text, record { done = p.done + size; slow = p.slow }, sent-goes size refl content told.text reads told.tells)
 
     pub lost-stuck : (error : RequestError) → ReadsBytes e w at size (Err error) w' → touched at size ≤ 1 → ReadsPiece e d p w w'
     lost-stuck error reads few = inr (error_at_chunk d.cookie at error, piece-lost error reads few)
@@ -231,7 +242,16 @@ pub underway-all : (e : ExportRecord) (d : Delivery) (first : World) (p : Progre
     → Grows old new (λ reply. IsDelivered e d first reply w)
 underway-all e d first p w old new u all = record { text = u.written; holds = inl (record { last = p; pieces = u.pieces; all = omega (arith, u.inside, all) }); written = u.appended }
 
--- ---- a chunk that is handed on
+-- ---- chunks that are handed on
+
+pub some-flushed : {T : Type 0} (contents : T → Option (List ℕ)) (P : List ℕ → Type 0) (old mid new : CountedRecord T) (result : Result Unit WriteFault) → Grows (contents old.inner) (contents mid.inner) P → mid.failed ≡ old.failed
+    → Writing mid new result (Keeps (contents mid.inner) (contents new.inner) × (new.pending ≡ false)) → WritesSome contents old new P result
+some-flushed contents P old mid new (Ok done) a k p = record {
+  ok = record { text = a.text; holds = a.holds; written = Appends-kept (contents old.inner) (contents mid.inner) (contents new.inner) a.text a.written p.ok.0 };
+  kept = p.kept ∙ k;
+  failed = tt;
+}
+some-flushed contents P old mid new (Err fault) a k p = record { ok = tt; kept = tt; failed = p.failed }
 
 pub then-flushed : {T : Type 0} (contents : T → Option (List ℕ)) (old mid new : CountedRecord T) (text : List ℕ) (result : Result Unit WriteFault) → Appends (contents old.inner) (contents mid.inner) text → mid.failed ≡ old.failed
     → Writing mid new result (Keeps (contents mid.inner) (contents new.inner) × (new.pending ≡ false)) → Writes contents old new text result

@@ -1,9 +1,9 @@
 -- Sectors that are read at once.
-use Rattle.std.proofs.Common.{◌≡◌, ◌<◌, ◌≤◌, ℕ, ◌+◌, ◌-◌, ◌*◌, ◌/◌, ◌%◌, ◌^◌, List, [], length, refl, ap, sym, ◌∙◌, subst, arith, inl, inr, Some, None, Result, Ok, Err}
+use Rattle.std.proofs.Common.{◌≡◌, ◌<◌, ◌≤◌, ℕ, ◌+◌, ◌-◌, ◌*◌, ◌/◌, ◌%◌, ◌^◌, List, [], length, refl, ap, subst, arith, inl, inr, Some, Result, Ok, Err}
 use Rattle.std.specs.Int.{div_ceil}
 use Rattle.std.specs.Str.{bytes_eq}
 use Rattle.std.proofs.lemmas.List.Quantifiers.{position-Some}
-use Rattle.std.specs.Prelude.{Bool, true, false, Option, not, nat_le, if◌then◌else◌, nat_lt, ◌||◌, ◌==◌}
+use Rattle.std.specs.Prelude.{Bool, true, false, not, nat_le, if◌then◌else◌, nat_lt, ◌==◌}
 use Rattle.stack_rules.specs.Names.{device_named, mapped, size}
 use Rattle.stack_rules.specs.Records.{Configuration}
 use Rattle.stack_meaning.specs.declared.fault.IoFault.{IoFault}
@@ -19,7 +19,7 @@ use Rattle.request_queue.specs.declared.fault.SubmitFault.{SubmitFault}
 use Rattle.request_queue.specs.declared.fault.SubmitFault.TheVariants.{NoSuchDevice, OutOfRange, Length}
 use Rattle.request_queue.specs.declared.range.SectorRange.{SectorRange}
 use Rattle.request_queue.specs.Parts.{EachPart}
-use Rattle.request_queue.specs.Ranges.{bytes_range, range_at, range_of, range_in, most_count}
+use Rattle.request_queue.specs.Ranges.{bytes_range, range_at}
 use Rattle.request_queue.specs.WholeRuns.{ReadsWhole}
 use Rattle.request_queue.specs.World.{World, Step, read_bytes}
 use Rattle.request_queue.proofs.lemmas.BytesLemmas.{bytes-at}
@@ -32,23 +32,6 @@ use Rattle.nbd_protocol.specs.Headers.{error_of}
 use Rattle.nbd_server.specs.Sectors.{IsFetched, FailsToFetch}
 use Rattle.nbd_server.specs.Status.{touched}
 use Rattle.nbd_server.specs.Transmission.{room_behind}
-
--- ---- which sectors a request is for
-
-tests-ok : (a b : Bool) (x range : SectorRange) → (if a then Err OutOfRange else if b then Err Length else Ok x) ≡ Ok range → x ≡ range
-tests-ok true b x range h = let clash : Err OutOfRange ≡ Ok range = h in cc
-tests-ok false true x range h = let clash : Err Length ≡ Ok range = h in cc
-tests-ok false false x range h = let same : Ok x ≡ Ok range = h in cc
-
-in-ok : (c : Configuration) (o : Option ℕ) (d first count : ℕ) (range : SectorRange) → o ≡ Some d → range_in c o first count ≡ Ok range → range_at d first count ≡ range
-in-ok c None d first count range is h = let clash : None ≡ Some d = is in cc
-in-ok c (Some e) d first count range is h =
-    let same : e ≡ d = cc in
-    ap (λ x. range_at x first count) (sym same) ∙ tests-ok (nat_lt (size c (mapped e)) (first + count)) ((count == 0) || nat_lt most_count count) (range_at e first count) range h
-
-pub named-range : (c : Configuration) (name : List ℕ) (d first count : ℕ) (range : SectorRange) → device_named c name ≡ Some d → range_of c name first count ≡ Ok range → range_at d first count ≡ range
-unfolding range_of
-named-range c name d first count range is h = in-ok c (device_named c name) d first count range is h
 
 -- ---- one read
 
@@ -69,15 +52,15 @@ tests-pass false false true x fault one two three h = let clash : Ok x ≡ Err f
 whole-ok : (w w' : World) (d first count len : ℕ) (bytes : List ℕ) → EachBytes w.stack d first count (Ok bytes) w'.stack → ReadKeeps w.stack d first count w'.stack → Step EachPart w (read_bytes d first len (Ok (Ok bytes))) w' → IsFetched w d first count bytes w'
 whole-ok w w' d first count len bytes p kept s = record {
   chains = p.any.may.chains;
-  read = record { config = p.any.config; capacity = p.any.capacity; moved = p.any.moved; may = p.any.may.read; touches = touches-as (Ok _) tt p.any.touches; kept = kept; exact = λ steady. (p.steady steady).exact };
+  read = record { config = p.any.config; capacity = p.any.capacity; moved = p.any.moved; may = p.any.may.read; touches = touches-as (Ok _) tt p.any.touches; fails = p.any.fails; kept = kept; exact = λ steady. (p.steady steady).exact };
   good = p.any.may.good;
   led = led-one EachPart w (read_bytes d first len (Ok (Ok bytes))) w' s;
 }
 
 whole-err : (w w' : World) (d first count : ℕ) (fault : IoFault) → EachBytes w.stack d first count (Err fault) w'.stack → ReadKeeps w.stack d first count w'.stack → ReadsWhole w.stack (range_at d first count) (Err fault) w'.stack
-whole-err w w' d first count (io.Stack fault) p kept = record { config = p.any.config; capacity = p.any.capacity; moved = p.any.moved; may = p.any.may; touches = touches-as (Err _) p.any.touches.fault p.any.touches; kept = kept; exact = λ steady. (p.steady steady).exact }
-whole-err w w' d first count (io.Device i) p kept = record { config = p.any.config; capacity = p.any.capacity; moved = p.any.moved; may = p.any.may; touches = touches-as (Err _) p.any.touches.fault p.any.touches; kept = kept; exact = λ steady. tt }
-whole-err w w' d first count io.NoMemory p kept = record { config = p.any.config; capacity = p.any.capacity; moved = p.any.moved; may = tt; touches = touches-as (Err io.NoMemory) tt p.any.touches; kept = kept; exact = λ steady. tt }
+whole-err w w' d first count (io.Stack fault) p kept = record { config = p.any.config; capacity = p.any.capacity; moved = p.any.moved; may = p.any.may; touches = touches-as (Err _) p.any.touches.fault p.any.touches; fails = p.any.fails; kept = kept; exact = λ steady. (p.steady steady).exact }
+whole-err w w' d first count (io.Device i) p kept = record { config = p.any.config; capacity = p.any.capacity; moved = p.any.moved; may = p.any.may; touches = touches-as (Err _) p.any.touches.fault p.any.touches; fails = p.any.fails; kept = kept; exact = λ steady. tt }
+whole-err w w' d first count io.NoMemory p kept = record { config = p.any.config; capacity = p.any.capacity; moved = p.any.moved; may = tt; touches = touches-as (Err io.NoMemory) tt p.any.touches; fails = p.any.fails; kept = kept; exact = λ steady. tt }
 
 module _ (w w' : World) (d first count len : ℕ) (all : len ≡ count * 512) where
   sectors-are : len / 512 ≡ count

@@ -1,4 +1,5 @@
 pub mod ByteLemmas
+pub mod ContentLemmas
 pub mod DeliveryLemmas
 pub mod FetchLemmas
 pub mod ServiceLemmas

@@ -17,7 +17,7 @@ use Rattle.nbd_protocol.specs.Headers.{command_of, header_of}
 use Rattle.nbd_server.specs.Replies.{RequestOutcome}
 use Rattle.nbd_server.specs.Transmission.{FailsToReadEnds, Flushes, IsFramed, ReadsBytes, ServesCommand, Settles, WritesBytes, WritesGiven, WritesSome, room_behind}
 use Rattle.nbd_server.specs.Service.{BeginsMessage, Conversation, begins, goes_on, IsLast, IsServed, Replies, TakesMessage}
-use Rattle.nbd_server.specs.Delivery.{IsDelivered, delivery_of}
+use Rattle.nbd_server.specs.Delivery.{delivery_of}
 use Rattle.nbd_server.specs.declared.delivery.Delivery.{Delivery}
 use Rattle.nbd_server.proofs.DeliveryLemmas.{read-led, delivered-led, pieces-led}
 

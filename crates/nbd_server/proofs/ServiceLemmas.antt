@@ -20,20 +20,19 @@ use Rattle.nbd_protocol.specs.Exports.{AreExports, ExportRecord, asked, export_a
 use Rattle.nbd_protocol.specs.declared.export.Export.{Export}
 use Rattle.nbd_protocol.specs.Numbers.{number32}
 use Rattle.nbd_protocol.specs.Headers.{command_of, header_of}
-use Rattle.nbd_server.specs.Sectors.{FailsToFetch, EndsIn, HasNoBuffer, EndsPut, StopsPut}
+use Rattle.nbd_server.specs.Sectors.{EndsPut, StopsPut}
 use Rattle.nbd_server.specs.Replies.{RequestOutcome}
-use Rattle.nbd_server.specs.Status.{touched}
-use Rattle.nbd_server.specs.Transmission.{FailsToReadEnds, Flushes, IsFramed, ReadsBytes, ServesCommand, Settles, WritesBytes, WritesGiven, WritesSome, room_behind}
+use Rattle.nbd_server.specs.Transmission.{FailsToReadEnds, Flushes, IsFramed, ServesCommand, Settles, WritesBytes, WritesGiven, WritesSome, room_behind}
 use Rattle.nbd_options.specs.Handshake.{greeting, is_info, name_in, phase_after, serving_at, terms_after, terms_after_long}
 use Rattle.nbd_protocol.proofs.lemmas.ExportLemmas.{asked-inside}
 use Rattle.nbd_server.specs.Premises.{IsPlaced}
 use Rattle.nbd_server.specs.Causes.{Breaks}
 use Rattle.nbd_protocol.specs.Streaming.{Spoken}
 use Rattle.nbd_protocol.specs.declared.header.Header.{Header}
-use Rattle.nbd_server.specs.Delivery.{IsDelivered, delivery_of}
+use Rattle.nbd_server.specs.Delivery.{delivery_of}
 use Rattle.nbd_server.specs.declared.delivery.Delivery.{Delivery}
 use Rattle.nbd_server.specs.Service.{AnswersOption, BeginsMessage, Conversation, begins, goes_on, Turns, IsInterrupted, IsService, IsLast, IsServed, IsUnanswered, Replies, TakesMessage}
-use Rattle.nbd_server.proofs.DeliveryLemmas.{delivered-config, fetch-config, read-config}
+use Rattle.nbd_server.proofs.DeliveryLemmas.{delivered-config, read-config}
 use Rattle.nbd_server.proofs.RunLemmas.{begun-led, talk-led}
 use Rattle.request_queue.proofs.lemmas.LedLemmas.{led-then}
 

@@ -1,28 +1,37 @@
--- Sectors that are put by one run after another.
-use Rattle.std.proofs.Common.{◌≡◌, ◌≤◌, ℕ, ◌+◌, ◌-◌, ◌*◌, ◌/◌, ◌%◌, List, [], ◌++◌, length, take, drop, replicate, refl, ap, sym, ◌∙◌, subst, append_assoc, append-nil, arith, inl, inr, Some, Result, Ok, Err}
-use Rattle.std.specs.Prelude.{◌⊎◌, IfErr, OnOk}
-use Rattle.std.proofs.lemmas.List.{drop-replicate, length-append, length-replicate, length-take-le, take-append-drop, take-append-le, take-replicate}
-use Rattle.std.proofs.Math.Seq.{take-append-add, take-add}
-use Rattle.stack_rules.specs.Names.{device_named}
+-- Sectors that are put at once, and zeros by one run after another.
+use Rattle.std.proofs.Common.{◌≡◌, ◌<◌, ◌≤◌, ℕ, ◌+◌, ◌-◌, ◌*◌, ◌/◌, ◌%◌, ◌==◌, nat_lt, Bool, true, false, List, [], ◌++◌, length, take, drop, replicate, refl, ap, sym, ◌∙◌, subst, append_assoc, append-nil, arith, inl, inr, Result, Ok, Err}
+use Rattle.std.specs.Int.{div_ceil}
+use Rattle.std.specs.Prelude.{◌⊎◌, IfErr, IsTrue, OnOk, not, nat_le, if◌then◌else◌}
+use Rattle.std.proofs.lemmas.List.{drop-replicate, length-append, length-replicate, take-append-drop, take-append-le, take-replicate}
+use Rattle.std.proofs.Math.Seq.{take-append-add}
+use Rattle.stack_rules.specs.Names.{mapped, may_write, size}
+use Rattle.stack_rules.specs.Records.{Configuration}
 use Rattle.stack_meaning.specs.declared.fault.IoFault.{IoFault}
 use Rattle.stack_meaning.specs.declared.fault.IoFault.TheVariants as io
 use Rattle.stack_engine.specs.Stacks.{StackRecord}
 use Rattle.stack_engine.specs.WritePieces.{AnyWrite, EachWrite, InTurn, WritesInPieces, nothing, next, ends}
 use Rattle.stack_engine.proofs.lemmas.WritePieceLemmas.{any-then, write-none}
+use Rattle.request_queue.specs.declared.fault.SubmitFault.{SubmitFault}
+use Rattle.request_queue.specs.declared.fault.SubmitFault.TheVariants.{NoSuchDevice, OutOfRange, Length, ReadOnly}
 use Rattle.request_queue.specs.declared.range.SectorRange.{SectorRange}
-use Rattle.request_queue.specs.declared.reply.Reply.TheVariants.{Written}
+use Rattle.request_queue.specs.AtOnce.{BytesWritten, write_range}
 use Rattle.request_queue.specs.Parts.{EachPart}
-use Rattle.request_queue.specs.Ranges.{range_at, range_of}
-use Rattle.request_queue.specs.Requests.{a_write, sector_count, sectors_for}
-use Rattle.request_queue.specs.WholeRuns.{WritesWhole, RunAnswers}
-use Rattle.request_queue.specs.World.{World, Step, admission, is_full, run}
-use Rattle.request_queue.proofs.lemmas.AdmissionLemmas.{admission-whole, unless-ok, writable-ok}
+use Rattle.request_queue.specs.Ranges.{bytes_range, range_at}
+use Rattle.request_queue.specs.Requests.{writable_sectors}
+use Rattle.request_queue.specs.Runs.{IsLed}
+use Rattle.request_queue.specs.WholeRuns.{WritesWhole}
+use Rattle.request_queue.specs.World.{World}
+use Rattle.request_queue.proofs.lemmas.AdmissionLemmas.{writable-ok}
+use Rattle.request_queue.proofs.lemmas.AtOnceLemmas.{steps-led}
+use Rattle.request_queue.proofs.lemmas.BytesLemmas.{bytes_range-ok}
+use Rattle.request_queue.proofs.lemmas.LedLemmas.{led-none, led-then}
 use Rattle.nbd_protocol.specs.declared.request_error.RequestError.{RequestError}
 use Rattle.nbd_protocol.specs.declared.request_error.RequestError.TheVariants.{NoMemory, InputOutput}
+use Rattle.nbd_protocol.specs.Exports.{ExportRecord, IsExport}
 use Rattle.nbd_protocol.specs.Headers.{error_of}
+use Rattle.nbd_server.specs.Premises.{AreSectors}
 use Rattle.nbd_server.specs.Sectors.{IsStored, FailsToStore, EndsPut, StopsPut}
-use Rattle.nbd_server.proofs.FetchLemmas.{named-range}
-use Rattle.request_queue.proofs.lemmas.LedLemmas.{led-none, led-one, led-then}
+use Rattle.nbd_server.proofs.FetchLemmas.{named-below}
 
 abbrev pub ended : IoFault → Result Unit IoFault
 ended fault = Err fault
@@ -72,38 +81,57 @@ store-stops w d first bytes w' same =
     subst (λ (x : World). FailsToStore w d first bytes NoMemory x) (sym same)
     (record { cause = inr (refl, 0, omega arith, stored-none w d first); led = led-none EachPart w })
 
-module _ (w : World) (name : List ℕ) (d first : ℕ) (bytes : List ℕ) (found : device_named w.stack.config name ≡ Some d) (w' : World) where
-  write-range : (range : SectorRange) → admission w (a_write name first bytes) ≡ Ok range → range_at d first (sector_count bytes) ≡ range
-  write-range range h =
+module _ (w : World) (d first : ℕ) (bytes : List ℕ) (w' : World) where
+  range-is : (range : SectorRange) → write_range w.stack.config d first bytes ≡ Ok range → range_at d first (length bytes / 512) ≡ range
+  range-is range h =
       let c = w.stack.config in
-      named-range c name d first (sector_count bytes) range found
-      (writable-ok c bytes (range_of c name first (sector_count bytes)) range (unless-ok (is_full w) (sectors_for c (a_write name first bytes)) range h)).0
+      bytes_range-ok c d first (length bytes) range (writable-ok c bytes (bytes_range c d first (length bytes)) range h).0
 
-  at-place : (some : List ℕ) (result : Result Unit IoFault) (range : SectorRange) → admission w (a_write name first bytes) ≡ Ok range
+  at-place : (some : List ℕ) (result : Result Unit IoFault) (range : SectorRange) → write_range w.stack.config d first bytes ≡ Ok range
       → WritesInPieces w.stack range.device.0 range.first some result w'.stack → WritesInPieces w.stack d first some result w'.stack
-  at-place some result range h p = subst (λ (r : SectorRange). WritesInPieces w.stack r.device.0 r.first some result w'.stack) (sym (write-range range h)) p
+  at-place some result range h p = subst (λ (r : SectorRange). WritesInPieces w.stack r.device.0 r.first some result w'.stack) (sym (range-is range h)) p
 
-  pub run-stored : RunAnswers w (a_write name first bytes) (Ok (Ok Written)) w' → Step EachPart w (run (a_write name first bytes) (Ok (Ok Written))) w' → IsStored w d first bytes w'
-  run-stored p s = record { put = at-place bytes (Ok tt) p.0 p.1 p.2; led = led-one EachPart w (run (a_write name first bytes) (Ok (Ok Written))) w' s }
+  pub stored-all : BytesWritten w d first bytes (Ok tt) w' → IsStored w d first bytes w'
+  stored-all s = record { put = at-place bytes (Ok tt) s.range s.admits s.whole; led = steps-led d first w bytes (Ok tt) w' s.steps }
 
-  put-fails : (fault : IoFault) (range : SectorRange) → admission w (a_write name first bytes) ≡ Ok range → Step EachPart w (run (a_write name first bytes) (Ok (Err fault))) w'
+  put-fails : (fault : IoFault) (range : SectorRange) → write_range w.stack.config d first bytes ≡ Ok range → IsLed EachPart w w'
       → WritesWhole w.stack range bytes (Err fault) w'.stack → EndsPut w d first bytes (error_of fault) w' ⊎ StopsPut w d first bytes (error_of fault) w'
-  put-fails (io.Stack fault) range h s p = inl (refl, io.Stack fault, refl, at-place bytes (Err (io.Stack fault)) range h p)
-  put-fails (io.Device i) range h s p = inl (refl, io.Device i, refl, at-place bytes (Err (io.Device i)) range h p)
-  put-fails io.NoMemory range h s p =
-      let front = take (512 * p.0) bytes in
-      inr (
-        refl,
-        p.0,
-        omega (arith, p.1, admission-whole w name first bytes range h),
-        record { put = at-place front (Ok tt) range h p.2; led = led-one EachPart w (run (a_write name first bytes) (Ok (Err io.NoMemory))) w' s },
-      )
+  put-fails (io.Stack fault) range h led p = inl (refl, io.Stack fault, refl, at-place bytes (Err (io.Stack fault)) range h p)
+  put-fails (io.Device i) range h led p = inl (refl, io.Device i, refl, at-place bytes (Err (io.Device i)) range h p)
+  put-fails io.NoMemory range h led p =
+      let count : length bytes / 512 ≡ range.count = ap (λ (r : SectorRange). r.count) (range-is range h) in
+      inr (refl, p.0, omega (arith, p.1, count), record { put = at-place (take (512 * p.0) bytes) (Ok tt) range h p.2; led = led })
 
-  pub run-unstored : (fault : IoFault) → RunAnswers w (a_write name first bytes) (Ok (Err fault)) w' → Step EachPart w (run (a_write name first bytes) (Ok (Err fault))) w' → FailsToStore w d first bytes (error_of fault) w'
-  run-unstored fault p s = record {
-    cause = put-fails fault p.0 p.1 s p.2;
-    led = led-one EachPart w (run (a_write name first bytes) (Ok (Err fault))) w' s;
-  }
+  pub unstored : (fault : IoFault) → BytesWritten w d first bytes (Err fault) w' → FailsToStore w d first bytes (error_of fault) w'
+  unstored fault s =
+      let led = steps-led d first w bytes (Err fault) w' s.steps in
+      record { cause = put-fails fault s.range s.admits led s.whole; led = led }
+
+-- ---- why none is refused
+
+last-tests : (e m : Bool) (x : SectorRange) (fault : SubmitFault) → e ≡ true → m ≡ true → (if not e then Err Length else if not m then Err ReadOnly else Ok x) ≡ Err fault → ⊥
+last-tests false m x fault whole may h = let clash : false ≡ true = whole in cc
+last-tests true false x fault whole may h = let clash : false ≡ true = may in cc
+last-tests true true x fault whole may h = let clash : Ok x ≡ Err fault = h in cc
+
+module _ (c : Configuration) (bytes : List ℕ) (x : SectorRange) (fault : SubmitFault) (whole : (length bytes % 512 == 0) ≡ true) (may : IsTrue (may_write c (mapped x.device.0))) where
+  all-tests : (a b e : Bool) → a ≡ false → b ≡ false → e ≡ true → writable_sectors c bytes (if a then Err NoSuchDevice else if b then Err OutOfRange else if not e then Err Length else Ok x) ≡ Err fault → ⊥
+  all-tests true b e one two three h = let clash : true ≡ false = one in cc
+  all-tests false true e one two three h = let clash : true ≡ false = two in cc
+  all-tests false false false one two three h = let clash : false ≡ true = three in cc
+  all-tests false false true one two three h = last-tests (length bytes % 512 == 0) (may_write c (mapped x.device.0)) x fault whole may h
+
+-- sectors of an export that may be written are written, or fail
+pub not-refused : (c : Configuration) (e : ExportRecord) (first : ℕ) (bytes : List ℕ) (fault : SubmitFault) → IsExport c e → AreSectors e first bytes → write_range c e.device first bytes ≡ Err fault → ⊥
+not-refused c e first bytes fault export sectors h =
+    let there : e.device < length c.devices = named-below c e.name e.device export.found in
+    let one : nat_le (length c.devices) e.device ≡ false = grind (arith, there) in
+    let count : div_ceil (length bytes) 512 ≡ length bytes / 512 = omega (arith, sectors.whole) in
+    let inside : first + length bytes / 512 ≤ size c (mapped e.device) = omega (arith, sectors.inside, sectors.whole, export.size) in
+    let two : nat_lt (size c (mapped e.device)) (first + div_ceil (length bytes) 512) ≡ false = grind (arith, inside, count) in
+    let three : (length bytes % 512 == 0) ≡ true = grind (arith, sectors.whole) in
+    all-tests c bytes (range_at e.device first (length bytes / 512)) fault three (sym export.writable ∙ sectors.allowed)
+    (nat_le (length c.devices) e.device) (nat_lt (size c (mapped e.device)) (first + div_ceil (length bytes) 512)) (length bytes % 512 == 0) one two three h
 
 -- ---- runs one after another
 
@@ -134,39 +162,6 @@ module _ (w v w' : World) (d first : ℕ) (x y z : List ℕ) (even : length x % 
 
   pub stored-fails : (error : RequestError) → FailsToStore v d (first + length x / 512) y error w' → FailsToStore w d first (x ++ (y ++ z)) error w'
   stored-fails error q = record { cause = cause-more error q.cause; led = led-then EachPart w v w' p.led q.led }
-
--- ---- the runs of some bytes
-
-module _ (w v w' : World) (d first : ℕ) (bytes : List ℕ) (done part : ℕ) (within : done ≤ length bytes) (whole : done % 512 ≡ 0) (p : IsStored w d first (take done bytes) v) where
-  front-length : length (take done bytes) ≡ done
-  front-length = length-take-le done bytes within
-
-  start : first + done / 512 ≡ first + length (take done bytes) / 512
-  start = omega (arith, front-length)
-
-  even : length (take done bytes) % 512 ≡ 0
-  even = omega (arith, front-length, whole)
-
-  as-part : done + part - done ≡ part
-  as-part = omega arith
-
-  -- the next run
-  pub stored-next : IsStored v d (first + done / 512) (take (done + part - done) (drop done bytes)) w' → IsStored w d first (take (done + part) bytes) w'
-  stored-next q =
-      let y = take part (drop done bytes) in
-      subst (λ l. IsStored w d first l w') (sym (take-add done part bytes))
-      (stored-more w v w' d first (take done bytes) y even p
-      (subst (λ k. IsStored v d k y w') start (subst (λ n. IsStored v d (first + done / 512) (take n (drop done bytes)) w') as-part q)))
-
-  -- the next run, which isn't put
-  pub stored-stops : (error : RequestError) → FailsToStore v d (first + done / 512) (take (done + part - done) (drop done bytes)) error w' → FailsToStore w d first bytes error w'
-  stored-stops error q =
-      let y = take part (drop done bytes) in
-      let z = drop part (drop done bytes) in
-      let all : take done bytes ++ (y ++ z) ≡ bytes = ap (λ l. take done bytes ++ l) (take-append-drop part (drop done bytes)) ∙ take-append-drop done bytes in
-      subst (λ l. FailsToStore w d first l error w') all
-      (stored-fails w v w' d first (take done bytes) y z even p error
-      (subst (λ k. FailsToStore v d k y error w') start (subst (λ n. FailsToStore v d (first + done / 512) (take n (drop done bytes)) error w') as-part q)))
 
 -- ---- what is put, and what is left
 

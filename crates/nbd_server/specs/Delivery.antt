@@ -1,4 +1,4 @@
--- A READ that is answered piece by piece, each by a chunk as soon as it is read (in the protocol's document "Structured
+-- A READ that is answered piece by piece, each by chunks as soon as it is read (in the protocol's document "Structured
 -- reply types": OFFSET_DATA, OFFSET_HOLE and ERROR_OFFSET).
 use Rattle.std.specs.Prelude.{◌≡◌, ◌⊎◌, ◌<◌, ◌≤◌, ℕ, ◌+◌, ◌/◌, ◌%◌, ◌==◌, ◌&&◌, Bool, not, nat_lt, List, [], ◌++◌, Option, Some, None, Result, Ok, Err, if◌then◌else◌}
 use Rattle.std.specs.Io.KnownBytes.{Appends}
@@ -10,7 +10,8 @@ use Rattle.nbd_protocol.specs.declared.header.Command.TheVariants.{Read}
 use Rattle.nbd_protocol.specs.declared.header.Header.{Header}
 use Rattle.nbd_protocol.specs.declared.phase.Agreement.{Agreement}
 use Rattle.nbd_protocol.specs.declared.request_error.RequestError.{RequestError}
-use Rattle.nbd_chunks.specs.Chunks.{data_chunk, error_at_chunk, hole_chunk}
+use Rattle.nbd_chunks.specs.Chunks.{error_at_chunk, hole_chunk}
+use Rattle.nbd_server.specs.Content.{Tells}
 use Rattle.nbd_server.specs.Status.{TouchZeros, touched}
 use Rattle.nbd_server.specs.Transmission.{ReadsBytes}
 use Rattle.nbd_server.specs.declared.delivery.Delivery.{Delivery}
@@ -47,13 +48,13 @@ pub record IsPiece (d : Delivery) (p : Progress) (size : ℕ) : Type 0 where
   pub inside : p.done + size ≤ d.count
   pub single : p.done < p.slow → touched (d.offset + p.done) size ≡ 1
 
--- they were read, and are a chunk, which says whether it is the last
+-- they were read, and are told by chunks as data and holes, the last of which says whether it is that of the reply
 pub record IsSent (e : ExportRecord) (d : Delivery) (p : Progress) (w : World) (chunk : List ℕ) (next : Progress) (w' : World) : Type 0 where
   pub size : ℕ
   pub content : List ℕ
   pub piece : IsPiece d p size
   pub reads : ReadsBytes e w (d.offset + p.done) size (Ok content) w'
-  pub chunk_is : chunk ≡ data_chunk (p.done + size == d.count) d.cookie (d.offset + p.done) content
+  pub told : Tells d.cookie (p.done + size == d.count) (d.offset + p.done) content chunk
   pub next_is : next ≡ record { done = p.done + size; slow = p.slow }
 
 -- They lie in several sectors and couldn't be read: nothing is said of them, and they are read again sector by sector.

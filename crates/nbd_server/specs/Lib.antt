@@ -2,6 +2,7 @@ pub mod Sectors
 pub mod Replies
 pub mod Status
 pub mod Transmission
+pub mod Content
 pub mod Delivery
 pub mod Causes
 pub mod Service

@@ -1,5 +1,5 @@
 -- What the calls on a client's messages stand on.
-use Rattle.std.specs.Prelude.{◌≡◌, ◌≢◌, ◌<◌, ◌≤◌, ℕ, ◌+◌, ◌/◌, ◌%◌, ◌^◌, List, length}
+use Rattle.std.specs.Prelude.{◌≡◌, ◌≢◌, ◌<◌, ◌≤◌, ℕ, ◌+◌, ◌*◌, ◌%◌, ◌^◌, IsTrue, List, length}
 use Rattle.stack_rules.specs.Names.{mapped, size}
 use Rattle.stack_rules.specs.Records.{Configuration}
 use Rattle.nbd_protocol.specs.Exports.{AreExports, ExportRecord, IsExport, export_records}
@@ -47,10 +47,11 @@ pub record HaveSizes (offset count : ℕ) (front back : List ℕ) : Type 0 where
   pub before : length front ≡ offset % 512
   pub behind : length back ≡ room_behind offset count
 
--- the bytes of whole sectors, whose numbers are small
-pub record AreSectors (first : ℕ) (bytes : List ℕ) : Type 0 where
+-- the bytes of whole sectors of an export that may be written, from the first on
+pub record AreSectors (e : ExportRecord) (first : ℕ) (bytes : List ℕ) : Type 0 where
   pub whole : length bytes % 512 ≡ 0
-  pub small : first + length bytes / 512 ≤ 2 ^ 60
+  pub inside : 512 * first + length bytes ≤ e.size
+  pub allowed : IsTrue e.writable
 
 -- zeros of a request, with less than a sector before them and behind them
 pub record HaveEnds (z : Zeros) : Type 0 where

@@ -1,4 +1,4 @@
--- Sectors of the export, read at once and written by runs of the queue.
+-- Sectors of the export, read and written at once.
 use Rattle.std.specs.Prelude.{◌≡◌, ◌⊎◌, ◌≤◌, ℕ, ◌*◌, All, List, length, take, Ok, Err}
 use Rattle.stack_rules.specs.Names.{mapped}
 use Rattle.stack_meaning.specs.declared.fault.IoFault.{IoFault}
@@ -55,7 +55,7 @@ abbrev pub EndsPut : World → ℕ → ℕ → List ℕ → RequestError → Wor
 EndsPut w d first bytes error w' =
     (error ≡ InputOutput) × (fault : IoFault) × (error_of fault ≡ InputOutput) × WritesInPieces w.stack d first bytes (Err fault) w'.stack
 
--- memory ran out, or the queue was full, after the first of them were put and no others
+-- memory ran out after the first of them were put and no others
 abbrev pub StopsPut : World → ℕ → ℕ → List ℕ → RequestError → World → Type 0
 StopsPut w d first bytes error w' = (error ≡ NoMemory) × (k : ℕ) × (512 * k ≤ length bytes) × IsStored w d first (take (512 * k) bytes) w'
 

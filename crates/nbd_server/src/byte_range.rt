@@ -1,5 +1,5 @@
 //! Bytes of the export, read and written by the sectors that they touch.
-ghost use Rattle.std.specs.Prelude.{◌≡◌, ◌<◌, ◌≤◌, ◌+◌, ◌*◌, ◌%◌, ◌^◌, drop, length, replicate, take, Ok, IfErr, IfOk};
+ghost use Rattle.std.specs.Prelude.{◌≡◌, ◌<◌, ◌≤◌, ◌+◌, ◌*◌, ◌%◌, ◌^◌, drop, length, replicate, take, Ok, IfErr, IfOk, IsTrue};
 ghost use Rattle.nbd_protocol.specs.Exports.{export_record};
 ghost use Rattle.nbd_server.specs.Premises.{AreBytesOf, HaveSizes};
 ghost use Rattle.nbd_server.specs.Status.{touched};
@@ -82,6 +82,7 @@ pub(crate) fn write_bytes<D: BlockDev>(
 ) -> Result<(), RequestError>
     requires bytes { AreBytesOf queue.old.stack.config (export_record export.now) offset len }
     requires room { length bytes.old ≡ 512 * touched offset len }
+    requires allowed { IsTrue export.now.writable }
     ensures { WritesBytes (export_record export.now) queue.old offset (take len (drop (offset % 512) bytes.old)) (written result) queue.new }
 {
     let ends = read_ends(alloc, queue, export, offset, len)?;
@@ -89,7 +90,7 @@ pub(crate) fn write_bytes<D: BlockDev>(
     let end = start + len as usize;
     bytes[..start].copy_from_slice(ends.before.part());
     bytes[end..].copy_from_slice(ends.behind.part());
-    store(alloc, queue, export, offset / 512, bytes)
+    store(queue, export, offset / 512, bytes)
 }
 
 /// Writes as many zeros to bytes of the export.
@@ -100,7 +101,8 @@ pub(crate) fn write_zeros<D: BlockDev>(
     offset: u64,
     len: u32,
 ) -> Result<(), RequestError>
-    requires { AreBytesOf queue.old.stack.config (export_record export.now) offset len }
+    requires bytes { AreBytesOf queue.old.stack.config (export_record export.now) offset len }
+    requires allowed { IsTrue export.now.writable }
     ensures { WritesSome (export_record export.now) queue.old offset (replicate len 0) (written result) queue.new }
 {
     if len == 0 {

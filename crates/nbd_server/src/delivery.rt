@@ -2,17 +2,19 @@
 ghost use Rattle.std.specs.Prelude.{◌≡◌, ◌<◌, ◌≤◌, ◌+◌, ◌%◌, ◌^◌, ◌==◌, true, IsTrue, IfOk, IfSome, OnErr};
 ghost use Rattle.counted_io.specs.Counted.{Writes, WritesSome};
 ghost use Rattle.nbd_protocol.specs.Exports.{export_record};
-ghost use Rattle.nbd_chunks.specs.Chunks.{data_chunk, hole_chunk};
+ghost use Rattle.nbd_chunks.specs.Chunks.{hole_chunk};
+ghost use Rattle.nbd_server.specs.Content.{Tells};
 ghost use Rattle.nbd_server.specs.Premises.{AreBytesOf, IsNextPiece, IsRest};
 ghost use Rattle.nbd_server.specs.Transmission.{data_of};
 ghost use Rattle.nbd_server.specs.Delivery.{AnswersPiece, IsDelivered, IsPiece, IsStuck, ReadsPiece, delivery_of, has_df, most_piece};
 
 use crate::byte_range::{read_bytes, touched};
+use crate::content::say_content;
 use crate::reply::Data;
 use crate::status::status_at;
 use block_device::BlockDev;
 use counted_io::{Counted, WriteFault};
-use nbd_chunks::{say_data, say_error_at, say_hole};
+use nbd_chunks::{say_error_at, say_hole};
 use nbd_protocol::{Agreement, Command, Export, Header, RequestError};
 use request_queue::Queue;
 use std::alloc::Global;
@@ -103,7 +105,7 @@ fn room_at(at: u64, single: bool) -> u64
     LARGE - at % LARGE
 }
 
-// Writes the bytes of a piece, and hands them on.
+// Tells the bytes of a piece, and hands that on.
 fn say_piece<W: Write>(
     writer: &mut Counted<W>,
     delivery: Delivery,
@@ -111,13 +113,13 @@ fn say_piece<W: Write>(
     content: &Data,
 ) -> Result<(), WriteFault>
     requires { IsNextPiece delivery progress content.now }
-    ensures { Writes W.contents writer.old writer.new
-        (data_chunk (progress.done + content.now.length == delivery.count) delivery.cookie (delivery.offset + progress.done) (data_of content.now)) result }
+    ensures { WritesSome W.contents writer.old writer.new
+        (Tells delivery.cookie (progress.done + content.now.length == delivery.count) (delivery.offset + progress.done) (data_of content.now)) result }
 {
     let done = progress.done + content.length as u32;
     let at = delivery.at(progress);
     let last = done == delivery.count;
-    say_data(writer, last, delivery.cookie, at, content.part())?;
+    say_content(writer, last, delivery.cookie, at, content.part())?;
     writer.flush()
 }
 
@@ -209,7 +211,8 @@ fn deliver_next<D: BlockDev, W: Write>(
 
 /// Answers a READ piece by piece, each as soon as it is read, up to the first sector that can't be read.
 ///
-/// A piece that fails is read again sector by sector. What is zeros because of the lines is a hole, and isn't read.
+/// A piece that fails is read again sector by sector. Zeros are told as holes; those of `zero` lines with which a piece
+/// begins aren't read.
 pub(crate) fn deliver<D: BlockDev, W: Write>(
     alloc: Global,
     queue: &mut Queue<D>,

@@ -2,6 +2,7 @@
 #![tactic(auto)]
 
 mod byte_range;
+mod content;
 mod delivery;
 mod fetch;
 mod haggling;

@@ -1,6 +1,5 @@
 //! Puts sectors of the export.
-ghost use Rattle.std.specs.Prelude.{◌≡◌, ◌≤◌, ◌+◌, ◌/◌, ◌%◌, ◌^◌, Some, length, IfErr, OnOk};
-ghost use Rattle.stack_rules.specs.Names.{device_named};
+ghost use Rattle.std.specs.Prelude.{◌≡◌, ◌≤◌, ◌+◌, ◌/◌, ◌%◌, ◌^◌, length, IfErr, OnOk};
 ghost use Rattle.nbd_server.specs.Sectors.{FailsToStore, IsStored};
 ghost use Rattle.nbd_protocol.specs.Exports.{IsExport, export_record};
 ghost use Rattle.nbd_server.specs.Premises.{AreSectors, HaveEnds};
@@ -9,78 +8,29 @@ ghost use Rattle.nbd_server.specs.Zeros.{zeros_of};
 use crate::zeros::Zeros;
 use block_device::BlockDev;
 use nbd_protocol::{Export, RequestError};
-use request_queue::{Queue, Reply, Request, RunFault};
+use request_queue::{BytesFault, Queue};
 use std::alloc::Global;
 
-// The most bytes of one run: 2,048 sectors.
+// The most bytes of one run of zeros: 2,048 sectors.
 const MOST_BYTES: usize = 1048576;
 
-// One run, of bytes that it keeps.
-fn put_run<D: BlockDev>(
-    alloc: Global,
-    queue: &mut Queue<D>,
-    export: &Export<'_>,
-    first: u64,
-    bytes: Vec<u8>,
-) -> Result<(), RequestError>
-    requires { IsExport queue.old.stack.config (export_record export.now) }
-    ensures ok { OnOk result (IsStored queue.old export.now.device.0 first bytes.items queue.new) }
-    ensures err { IfErr result (λ error. FailsToStore queue.old export.now.device.0 first bytes.items error queue.new) }
-{
-    let device = Vec::from_slice(alloc, export.name)?;
-    let request = Request::Write {
-        device,
-        first,
-        bytes,
-    };
-    match queue.run(request) {
-        Ok(Reply::Written) => Ok(()),
-        Ok(Reply::Sectors(_answer)) => unreachable!(),
-        Err(RunFault::Submit(_, request)) => {
-            drop(request);
-            Err(RequestError::NoMemory)
-        }
-        Err(RunFault::Io(fault)) => Err(RequestError::from(fault)),
-    }
-}
-
-// One run.
-fn write_run<D: BlockDev>(
-    alloc: Global,
-    queue: &mut Queue<D>,
-    export: &Export<'_>,
-    first: u64,
-    bytes: &[u8],
-) -> Result<(), RequestError>
-    requires { IsExport queue.old.stack.config (export_record export.now) }
-    ensures ok { OnOk result (IsStored queue.old export.now.device.0 first bytes.now queue.new) }
-    ensures err { IfErr result (λ error. FailsToStore queue.old export.now.device.0 first bytes.now error queue.new) }
-{
-    let bytes = Vec::from_slice(alloc, bytes)?;
-    put_run(alloc, queue, export, first, bytes)
-}
-
-/// Puts the bytes of sectors from `first` on, by runs one after another, up to the first that fails.
+/// Puts the bytes of sectors from `first` on, up to the first piece that fails.
 pub(crate) fn store<D: BlockDev>(
-    alloc: Global,
     queue: &mut Queue<D>,
     export: &Export<'_>,
     first: u64,
     bytes: &[u8],
 ) -> Result<(), RequestError>
     requires export { IsExport queue.old.stack.config (export_record export.now) }
-    requires sectors { AreSectors first bytes.now }
+    requires sectors { AreSectors (export_record export.now) first bytes.now }
     ensures ok { OnOk result (IsStored queue.old export.now.device.0 first bytes.now queue.new) }
     ensures err { IfErr result (λ error. FailsToStore queue.old export.now.device.0 first bytes.now error queue.new) }
 {
-    let mut done = 0;
-    'runs: while done < bytes.len() {
-        let part = (bytes.len() - done).min(MOST_BYTES);
-        let at = first + (done / 512) as u64;
-        write_run(alloc, queue, export, at, &bytes[done..done + part])?;
-        done += part;
+    match queue.write_bytes(export.device, first, bytes) {
+        Ok(()) => Ok(()),
+        Err(BytesFault::Failed(fault)) => Err(RequestError::from(fault)),
+        Err(BytesFault::Refused(_fault)) => unreachable!(),
     }
-    Ok(())
 }
 
 // One run of zeros and what stands around them.
@@ -93,11 +43,12 @@ fn zero_run<D: BlockDev>(
 ) -> Result<(), RequestError>
     requires export { IsExport queue.old.stack.config (export_record export.now) }
     requires ends { HaveEnds zeros.now }
+    requires sectors { AreSectors (export_record export.now) first (zeros_of zeros.now) }
     ensures ok { OnOk result (IsStored queue.old export.now.device.0 first (zeros_of zeros.now) queue.new) }
     ensures err { IfErr result (λ error. FailsToStore queue.old export.now.device.0 first (zeros_of zeros.now) error queue.new) }
 {
     let bytes = zeros.bytes(alloc)?;
-    put_run(alloc, queue, export, first, bytes)
+    store(queue, export, first, bytes.as_slice())
 }
 
 /// Puts zeros and what stands around them as `store` puts bytes, one run of them in memory at a time.
@@ -110,7 +61,7 @@ pub(crate) fn store_zeros<D: BlockDev>(
 ) -> Result<(), RequestError>
     requires export { IsExport queue.old.stack.config (export_record export.now) }
     requires ends { HaveEnds zeros.now }
-    requires sectors { AreSectors first (zeros_of zeros.now) }
+    requires sectors { AreSectors (export_record export.now) first (zeros_of zeros.now) }
     ensures ok { OnOk result (IsStored queue.old export.now.device.0 first (zeros_of zeros.now) queue.new) }
     ensures err { IfErr result (λ error. FailsToStore queue.old export.now.device.0 first (zeros_of zeros.now) error queue.new) }
 {

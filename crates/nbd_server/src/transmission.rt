@@ -1,5 +1,5 @@
 //! The requests of the transmission phase.
-ghost use Rattle.std.specs.Prelude.{◌≡◌, ◌<◌, ◌≤◌, ◌+◌, ◌^◌, ℕ, List, [], length, replicate, Ok, IfOk, IfErr};
+ghost use Rattle.std.specs.Prelude.{◌≡◌, ◌<◌, ◌≤◌, ◌+◌, ◌^◌, ℕ, List, [], length, replicate, Ok, IfOk, IfErr, IsTrue};
 ghost use Rattle.std.specs.Io.KnownBytes.{Consumes};
 ghost use Rattle.counted_io.specs.Streams.{streams};
 ghost use Rattle.nbd_protocol.specs.Exports.{ExportRecord, IsExport, export_at, export_record};
@@ -51,7 +51,8 @@ fn take_write<D: BlockDev, R: Read>(
     len: u32,
     reader: &mut Counted<R>,
 ) -> Result<Result<(), RequestError>, ServiceFault>
-    requires { AreBytesOf queue.old.stack.config (export_record export.now) offset len }
+    requires bytes { AreBytesOf queue.old.stack.config (export_record export.now) offset len }
+    requires allowed { IsTrue export.now.writable }
     ensures ok { IfOk result (λ outcome. (payload : List ℕ) × (length payload ≡ len) × Consumes (R.remaining reader.old.inner) (R.remaining reader.new.inner) payload
         × WritesGiven (export_record export.now) queue.old offset payload (written outcome) queue.new) }
     ensures err { IfErr result (λ fault. IsShort len (R.remaining reader.old.inner) (R.remaining reader.new.inner) fault × (queue.new ≡ queue.old)) }
@@ -99,7 +100,8 @@ fn zero<D: SyncDev>(
     len: u32,
     fua: bool,
 ) -> Result<Data, RequestError>
-    requires { AreBytesOf queue.old.stack.config (export_record export.now) offset len }
+    requires bytes { AreBytesOf queue.old.stack.config (export_record export.now) offset len }
+    requires allowed { IsTrue export.now.writable }
     ensures value { Settles fua (WritesSome (export_record export.now) queue.old offset (replicate len 0)) (outcome_of result) queue.new }
     ensures inside { IsSendable result }
 {

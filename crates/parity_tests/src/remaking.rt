@@ -4,7 +4,7 @@ use counted_io::Counted;
 use std::alloc::Global;
 use std::process::Abort;
 use std::test::Fail;
-use tree_repair::{Plan, repair_image};
+use tree_repair::{DamagedImage, Plan, repair_image};
 use tree_shape::{Algorithm, Salt};
 use verity_format::{Superblock, format};
 
@@ -164,8 +164,6 @@ fn repaired<R: Abort>(rt: &R, alloc: Global, case: &Case) -> Result<(), Fail> {
     lose(rt, &mut hash, case.lost)?;
     lose(rt, &mut wanted, case.still)?;
     let mut writer = Counted::new(Vec::new(alloc));
-    let mut copies: [MemoryDev; 0] = [];
-    let mut others: [MemoryDev; 0] = [];
     let plan = Plan {
         root,
         copy_first: 0,
@@ -173,16 +171,20 @@ fn repaired<R: Abort>(rt: &R, alloc: Global, case: &Case) -> Result<(), Fail> {
     };
     assert!(rt; data.writable());
     assert!(rt; hash.writable());
-    let done = repair_image(
-        alloc,
-        &mut data,
-        &mut hash,
-        &mut copies,
-        &mut others,
-        plan,
-        &mut writer,
-    );
+    let mut image: DamagedImage<MemoryDev, MemoryDev, MemoryDev> = DamagedImage {
+        data,
+        hash,
+        data_copies: Vec::new(alloc),
+        hash_copies: Vec::new(alloc),
+    };
+    let done = repair_image(alloc, &mut image, plan, &mut writer);
     assert!(rt; done.is_ok());
+    let DamagedImage {
+        data: _,
+        hash,
+        data_copies: _,
+        hash_copies: _,
+    } = image;
     assert!(rt; writer.into_inner().as_slice() == case.lines.as_bytes());
     assert!(rt; hash.into_bytes() == wanted.into_bytes());
     Ok(())

@@ -11,7 +11,7 @@ use fec_area::Layout;
 use std::alloc::{AllocError, Global};
 use std::process::Abort;
 use std::test::Fail;
-use tree_repair::{Plan, repair_with_parity};
+use tree_repair::{DamagedImage, Plan, repair_with_parity};
 use tree_shape::Digest;
 use tree_survey::survey_image;
 
@@ -98,17 +98,23 @@ fn repairs<R: Abort>(rt: &R, alloc: Global, row: &Damage) -> Result<(), Fail> {
         copy_first: 0,
         write: row.write,
     };
-    let (mut data, mut hash) = damaged.into_devices(true);
-    let printed = mend(
-        rt,
-        alloc,
-        &mut data,
-        &mut hash,
-        copy,
-        &layout,
-        parity_bytes,
-        plan,
-    )?;
+    let (data, hash) = damaged.into_devices(true);
+    let (copy_data, copy_hash) = copy.into_devices(false);
+    let mut image = DamagedImage {
+        data,
+        hash,
+        data_copies: Vec::new(alloc),
+        hash_copies: Vec::new(alloc),
+    };
+    image.data_copies.push(copy_data)?;
+    image.hash_copies.push(copy_hash)?;
+    let printed = mend(rt, alloc, &mut image, &layout, parity_bytes, plan)?;
+    let DamagedImage {
+        mut data,
+        mut hash,
+        data_copies: _,
+        hash_copies: _,
+    } = image;
     assert!(rt; printed.as_slice() == row.lines.as_bytes());
     let told = told_of(alloc, &mut data, &mut hash, &root)?;
     assert!(rt; told.as_slice() == row.told.as_bytes());
@@ -116,13 +122,11 @@ fn repairs<R: Abort>(rt: &R, alloc: Global, row: &Damage) -> Result<(), Fail> {
     Ok(())
 }
 
-/// Repairs an image by one copy and its parity, and gives what was printed.
+/// Repairs an image by its copies and its parity, and gives what was printed.
 fn mend<R: Abort>(
     rt: &R,
     alloc: Global,
-    data: &mut MemoryDev,
-    hash: &mut MemoryDev,
-    copy: Image,
+    image: &mut DamagedImage<MemoryDev, MemoryDev, MemoryDev>,
     layout: &Layout,
     parity: Vec<u8>,
     plan: Plan,
@@ -130,25 +134,12 @@ fn mend<R: Abort>(
     requires layout { IsLayout layout.now }
     requires first { plan.copy_first ≤ 2 ^ 55 }
 {
-    let (copy_data, copy_hash) = copy.into_devices(false);
-    let mut data_copies = [copy_data];
-    let mut hash_copies = [copy_hash];
     let mut parity_dev = MemoryDev::new(parity, false);
     let mut writer = Counted::new(Vec::new(alloc));
-    assert!(rt; data.writable());
-    assert!(rt; hash.writable());
-    assert!(rt; layout.is_laid_on(data, hash));
-    repair_with_parity(
-        alloc,
-        data,
-        hash,
-        &mut data_copies,
-        &mut hash_copies,
-        layout,
-        &mut parity_dev,
-        plan,
-        &mut writer,
-    )?;
+    assert!(rt; image.data.writable());
+    assert!(rt; image.hash.writable());
+    assert!(rt; layout.is_laid_on(&image.data, &image.hash));
+    repair_with_parity(alloc, image, layout, &mut parity_dev, plan, &mut writer)?;
     Ok(writer.into_inner())
 }
 

@@ -6,11 +6,14 @@ use Rattle.image_files.specs.declared.images.OpenImage.{OpenImage}
 use Rattle.image_files.specs.Opener.{Calls}
 use Rattle.stack_rules.specs.Names.{mapped, size}
 use Rattle.stack_engine.specs.Stacks.{StackRecord}
-use Rattle.stack_making.specs.NamedDevices.{DeviceWords, FailsToFindOutput, FindsOutput, Place}
+use Rattle.stack_making.specs.declared.device.NamedDevice.{NamedDevice}
+use Rattle.stack_making.specs.NamedDevices.{DeviceWords, FailsToFindOutput, FindsOutput, Place, words_for}
+use Rattle.stack_opening.specs.declared.stack_file.StackFile.{StackFile}
 use Rattle.stack_recovery.specs.declared.recovery.Counts.{Counts}
-use Rattle.stack_recovery.specs.Recoveries.{Recovers, Sides, sides}
+use Rattle.stack_recovery.specs.Recoveries.{Parties, Recovers, Sides, seen, sides}
 use Rattle.recovery_commands.specs.declared.fault.RecoveringFault.{RecoveringFault}
 use Rattle.recovery_commands.specs.declared.fault.RecoveringFault.TheVariants.{OutputTooSmall}
+use Rattle.recovery_commands.specs.declared.output.Output.{Output}
 use Rattle.recovery_commands.specs.Recovering.{IsCountsEnd, IsRecoverEnd, IsStackless, TellsCounts}
 
 -- a stack file, the name of one of its devices, bindings, the image to which it is copied, and whether only what differs
@@ -22,6 +25,9 @@ pub record CopyWords : Type 0 where
 
 abbrev pub copy_words : DeviceWords → List ℕ → Bool → CopyWords
 copy_words words out differing = record { words = words; out = out; differing = differing }
+
+abbrev pub words_to_copy : StackFile → NamedDevice → Output → CopyWords
+words_to_copy file device output = copy_words (words_for file device) output.path.now output.differing
 
 -- OUT's device as the copying sees it: with `--differing` one that reads before it writes, and counts for itself what it is
 -- asked for
@@ -38,6 +44,11 @@ pub record CopiesTo (is_differing : Bool) (d : ℕ) (old : Sides) (counts : Coun
   pub ended : IsSeenAs is_differing new.out (synced left)
   pub on_medium : new.out.dirty ≡ false
 
+-- a device was gone over to another one, and what this left was put on the medium
+abbrev pub RecoversOnto : {O L : Type 0} → (O → Device) → (L → Option (List ℕ)) → ℕ → Parties O L → Parties O L → Counts → Type 0
+RecoversOnto state told d old new counts =
+    (left : Device) × Recovers d (seen state told old) counts (sides new.stack left (told new.listing)) × (state new.out ≡ synced left)
+
 -- it was begun, and ended early
 pub record EndsCopying (is_differing : Bool) (d : ℕ) (old new : Sides) (failed : Bool) (fault : RecoveringFault) : Type 0 where
   pub seen : Device
@@ -45,6 +56,13 @@ pub record EndsCopying (is_differing : Bool) (d : ℕ) (old new : Sides) (failed
   pub begun : IsSeenAs is_differing old.out seen
   pub fails : IsRecoverEnd d (record old { out = seen }) (record new { out = seen' }) failed fault
   pub ended : IsSeenAs is_differing new.out seen'
+
+-- both, as a call sees them
+abbrev pub CopiesBy : {O L : Type 0} → (O → Device) → (L → Option (List ℕ)) → Bool → ℕ → Parties O L → Parties O L → Counts → Type 0
+CopiesBy state told is_differing d old new counts = CopiesTo is_differing d (seen state told old) counts (seen state told new)
+
+abbrev pub EndsCopyingBy : {O L : Type 0} → (O → Device) → (L → Option (List ℕ)) → (L → Bool) → Bool → ℕ → Parties O L → Parties O L → RecoveringFault → Type 0
+EndsCopyingBy state told failed is_differing d old new fault = EndsCopying is_differing d (seen state told old) (seen state told new) (failed new.listing) fault
 
 -- The device was gone over: a line was printed for each longest lost run, what was had went to OUT's image, and that was
 -- synced and given back.

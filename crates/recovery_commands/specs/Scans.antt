@@ -3,8 +3,10 @@ use Rattle.std.specs.Prelude.{◌≡◌, ◌⊎◌, ℕ, Bool, IsTrue, List, [],
 use Rattle.block_device.specs.Device.{Device}
 use Rattle.image_files.specs.Opener.{Calls}
 use Rattle.stack_making.specs.NamedDevices.{DeviceWords, FailsToFindDevice, Finds, Place}
+use Rattle.stack_recovery.specs.declared.listing.KeptRuns.{KeptRuns}
 use Rattle.stack_recovery.specs.declared.recovery.Counts.{Counts}
 use Rattle.stack_recovery.specs.Recoveries.{Recovers, Sides, sides}
+use Rattle.stack_recovery.specs.Texts.{runs_text}
 use Rattle.recovery_commands.specs.declared.fault.RecoveringFault.{RecoveringFault}
 use Rattle.recovery_commands.specs.declared.fault.RecoveringFault.TheVariants.{NoMemory, Write}
 use Rattle.recovery_commands.specs.Recovering.{IsCountsEnd, IsRecoverEnd, IsStackless, TellsCounts}
@@ -48,6 +50,13 @@ IsScanEnd w words old new failed fault =
     ((new ≡ old) × IsStackless (FailsToFindDevice w words) fault) ⊎ (FailsToScan w words old new failed fault ⊎ LosesInScan w words old new failed fault)
 
 -- ---- where the lost runs are kept in memory
+
+-- the text of the runs that are kept, and whether one couldn't be
+abbrev pub kept_text : KeptRuns → Option (List ℕ)
+kept_text kept = Some (runs_text kept.runs.items)
+
+abbrev pub is_refused : KeptRuns → Bool
+is_refused kept = kept.refused
 
 -- a run that isn't kept is want of memory
 abbrev pub unkept : RecoveringFault → RecoveringFault

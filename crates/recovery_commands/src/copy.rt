@@ -1,13 +1,10 @@
 //! What can be had of a device is copied to an image.
 ghost use Rattle.std.specs.Prelude.{false, ◌≡◌, ◌≤◌, ◌<◌, length, IsTrue, OnOk, IfOk, IfErr};
-ghost use Rattle.block_device.specs.Device.{Device, synced};
 ghost use Rattle.image_files.specs.Opener.{calls};
 ghost use Rattle.stack_rules.specs.Names.{mapped, size};
-ghost use Rattle.stack_recovery.specs.Recoveries.{Recovers, sides};
-ghost use Rattle.stack_opening.specs.OpenStacks.{stack_words};
-ghost use Rattle.stack_making.specs.NamedDevices.{device_words};
-ghost use Rattle.recovery_commands.specs.Copies.{CopiesTo, EndsCopying, IsCopyEnd, PrintsCopy, copy_words};
-ghost use Rattle.recovery_commands.specs.Recovering.{IsRecoverEnd};
+ghost use Rattle.stack_recovery.specs.Recoveries.{parties};
+ghost use Rattle.recovery_commands.specs.Copies.{CopiesBy, EndsCopyingBy, IsCopyEnd, PrintsCopy, RecoversOnto, words_to_copy};
+ghost use Rattle.recovery_commands.specs.Recovering.{EndsPrinting, EndsRecovering, Printing, contents_of, has_failed};
 
 use crate::fault::RecoveringFault;
 use crate::output::{Output, open_with_room};
@@ -36,8 +33,8 @@ pub fn copy_device<'a, I: Images, W: Write, P: Progress>(
     writer: &mut Counted<W>,
     progress: &mut P,
 ) -> Result<(), RecoveringFault<'a>>
-    ensures ok { OnOk result (PrintsCopy (calls I.relations I.Dev.state images.old images.new) (copy_words (device_words (stack_words file.entry) device.entry.name.now device.entry.cache) output.entry.path.now output.entry.differing) (W.contents writer.old.inner) (W.contents writer.new.inner)) }
-    ensures err { IfErr result (IsCopyEnd (calls I.relations I.Dev.state images.old images.new) (copy_words (device_words (stack_words file.entry) device.entry.name.now device.entry.cache) output.entry.path.now output.entry.differing) (W.contents writer.old.inner) (W.contents writer.new.inner) writer.new.failed) }
+    ensures ok { OnOk result (Printing W.contents writer.old writer.new (PrintsCopy (calls I.relations I.Dev.state images.old images.new) (words_to_copy file.entry device.entry output.entry))) }
+    ensures err { IfErr result (EndsPrinting W.contents writer.old writer.new (IsCopyEnd (calls I.relations I.Dev.state images.old images.new) (words_to_copy file.entry device.entry output.entry))) }
 {
     let Output { path, differing } = output;
     let (mut stack, device, image) = open_with_room(alloc, images, file, device, path)?;
@@ -65,8 +62,8 @@ fn copy_to<'a, D: BlockDev + Drop, O: SyncDev + Drop, W: Write, P: Progress>(
     requires device { device.0 < length stack.old.config.devices }
     requires room { size stack.old.config (mapped device.0) ≤ (O.state image).size }
     requires allowed { IsTrue (O.state image).may_write }
-    ensures ok { IfOk result.1 (λ counts. CopiesTo differing device.0 (sides stack.old (O.state image) (W.contents writer.old.inner)) counts (sides stack.new (O.state result.0) (W.contents writer.new.inner))) }
-    ensures err { IfErr result.1 (EndsCopying differing device.0 (sides stack.old (O.state image) (W.contents writer.old.inner)) (sides stack.new (O.state result.0) (W.contents writer.new.inner)) writer.new.failed) }
+    ensures ok { IfOk result.1 (CopiesBy O.state (contents_of W.contents) differing device.0 (parties stack.old image writer.old) (parties stack.new result.0 writer.new)) }
+    ensures err { IfErr result.1 (EndsCopyingBy O.state (contents_of W.contents) has_failed differing device.0 (parties stack.old image writer.old) (parties stack.new result.0 writer.new)) }
 {
     if differing {
         let mut compared = Differing::new(image);
@@ -89,9 +86,9 @@ fn copy_compared<'a, D: BlockDev + Drop, O: SyncDev + Drop, W: Write, P: Progres
     requires device { device.0 < length stack.old.config.devices }
     requires room { size stack.old.config (mapped device.0) ≤ (O.state out.old.inner).size }
     requires allowed { IsTrue (O.state out.old.inner).may_write }
-    ensures ok { IfOk result (λ counts. (left : Device) × Recovers device.0 (sides stack.old (⟦<Differing<O> as BlockDev>⟧.state out.old) (W.contents writer.old.inner)) counts (sides stack.new left (W.contents writer.new.inner)) × (⟦<Differing<O> as BlockDev>⟧.state out.new ≡ synced left)) }
+    ensures ok { IfOk result (RecoversOnto ⟦<Differing<O> as BlockDev>⟧.state (contents_of W.contents) device.0 (parties stack.old out.old writer.old) (parties stack.new out.new writer.new)) }
     ensures medium { IfOk result (λ counts. (O.state out.new.inner).dirty ≡ false) }
-    ensures err { IfErr result (IsRecoverEnd device.0 (sides stack.old (⟦<Differing<O> as BlockDev>⟧.state out.old) (W.contents writer.old.inner)) (sides stack.new (⟦<Differing<O> as BlockDev>⟧.state out.new) (W.contents writer.new.inner)) writer.new.failed) }
+    ensures err { IfErr result (EndsRecovering ⟦<Differing<O> as BlockDev>⟧.state (contents_of W.contents) has_failed device.0 (parties stack.old out.old writer.old) (parties stack.new out.new writer.new)) }
 {
     let found = recover_device(stack, device, out, writer, progress)?;
     let kept = out.sync();
@@ -112,12 +109,12 @@ fn copy_sectors<'a, D: BlockDev + Drop, O: SyncDev, W: Write, P: Progress>(
     requires device { device.0 < length stack.old.config.devices }
     requires room { size stack.old.config (mapped device.0) ≤ (O.state out.old).size }
     requires allowed { IsTrue (O.state out.old).may_write }
-    ensures ok { IfOk result (λ counts. (image : Device) × Recovers device.0 (sides stack.old (O.state out.old) (W.contents writer.old.inner)) counts (sides stack.new image (W.contents writer.new.inner)) × (O.state out.new ≡ synced image)) }
-    ensures err { IfErr result (IsRecoverEnd device.0 (sides stack.old (O.state out.old) (W.contents writer.old.inner)) (sides stack.new (O.state out.new) (W.contents writer.new.inner)) writer.new.failed) }
+    ensures ok { IfOk result (RecoversOnto O.state (contents_of W.contents) device.0 (parties stack.old out.old writer.old) (parties stack.new out.new writer.new)) }
+    ensures err { IfErr result (EndsRecovering O.state (contents_of W.contents) has_failed device.0 (parties stack.old out.old writer.old) (parties stack.new out.new writer.new)) }
 {
     let counts = recover_device(stack, device, out, writer, progress)?;
     match out.sync() {
         Ok(()) => Ok(counts),
-        Err(_) => Err(RecoveringFault::OutputFailed),
+        Err(_unsynced) => Err(RecoveringFault::OutputFailed),
     }
 }

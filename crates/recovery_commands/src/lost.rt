@@ -2,12 +2,11 @@
 ghost use Rattle.std.specs.Prelude.{◌≡◌, ◌≤◌, ◌<◌, [], length, Some, IfOk, IfErr};
 ghost use Rattle.image_files.specs.Opener.{calls};
 ghost use Rattle.stack_rules.specs.Names.{mapped, size};
-ghost use Rattle.stack_opening.specs.OpenStacks.{stack_words};
-ghost use Rattle.stack_making.specs.NamedDevices.{device_words};
-ghost use Rattle.stack_recovery.specs.Recoveries.{Recovers, sides};
+ghost use Rattle.stack_making.specs.NamedDevices.{words_for};
+ghost use Rattle.stack_recovery.specs.Recoveries.{RecoversBy, parties};
 ghost use Rattle.stack_recovery.specs.Texts.{runs_text};
-ghost use Rattle.recovery_commands.specs.Recovering.{IsRecoverEnd};
-ghost use Rattle.recovery_commands.specs.Scans.{IsLostEnd, IsUnkept, Scans, unkept};
+ghost use Rattle.recovery_commands.specs.Recovering.{EndsRecovering};
+ghost use Rattle.recovery_commands.specs.Scans.{IsLostEnd, IsUnkept, Scans, is_refused, kept_text, unkept};
 
 use crate::fault::RecoveringFault;
 use crate::recovering::recover_device;
@@ -29,8 +28,8 @@ pub fn find_lost<'a, I: Images, P: Progress>(
     device: NamedDevice<'_>,
     progress: &mut P,
 ) -> Result<(Vec<LostRun>, Counts), RecoveringFault<'a>>
-    ensures ok { IfOk result (λ found. Scans (calls I.relations I.Dev.state images.old images.new) (device_words (stack_words file.entry) device.entry.name.now device.entry.cache) (Some []) found.1 (Some (runs_text found.0.items))) }
-    ensures err { IfErr result (IsLostEnd (calls I.relations I.Dev.state images.old images.new) (device_words (stack_words file.entry) device.entry.name.now device.entry.cache)) }
+    ensures ok { IfOk result (λ found. Scans (calls I.relations I.Dev.state images.old images.new) (words_for file.entry device.entry) (Some []) found.1 (Some (runs_text found.0.items))) }
+    ensures err { IfErr result (IsLostEnd (calls I.relations I.Dev.state images.old images.new) (words_for file.entry device.entry)) }
 {
     let (mut stack, device) = open_device(alloc, images, file, device)?;
     let mut out = Discard::new(stack.config().sectors(device));
@@ -49,8 +48,8 @@ fn keep_runs<'a, D: BlockDev + Drop, P: Progress>(
 ) -> Result<Counts, RecoveringFault<'a>>
     requires device { device.0 < length stack.old.config.devices }
     requires room { size stack.old.config (mapped device.0) ≤ (⟦<Discard as BlockDev>⟧.state out.old).size }
-    ensures ok { IfOk result (λ counts. Recovers device.0 (sides stack.old (⟦<Discard as BlockDev>⟧.state out.old) (Some (runs_text kept.old.runs.items))) counts (sides stack.new (⟦<Discard as BlockDev>⟧.state out.new) (Some (runs_text kept.new.runs.items)))) }
-    ensures err { IfErr result (IsUnkept (IsRecoverEnd device.0 (sides stack.old (⟦<Discard as BlockDev>⟧.state out.old) (Some (runs_text kept.old.runs.items))) (sides stack.new (⟦<Discard as BlockDev>⟧.state out.new) (Some (runs_text kept.new.runs.items))) kept.new.refused)) }
+    ensures ok { IfOk result (RecoversBy ⟦<Discard as BlockDev>⟧.state kept_text device.0 (parties stack.old out.old kept.old) (parties stack.new out.new kept.new)) }
+    ensures err { IfErr result (IsUnkept (EndsRecovering ⟦<Discard as BlockDev>⟧.state kept_text is_refused device.0 (parties stack.old out.old kept.old) (parties stack.new out.new kept.new))) }
 {
     match recover_device(stack, device, out, kept, progress) {
         Ok(counts) => Ok(counts),

@@ -2,8 +2,8 @@
 ghost use Rattle.std.specs.Prelude.{◌≤◌, ◌<◌, length, IsTrue, IfOk, IfErr, OnOk};
 ghost use Rattle.counted_io.specs.Counted.{Writes};
 ghost use Rattle.stack_rules.specs.Names.{mapped, size};
-ghost use Rattle.stack_recovery.specs.Recoveries.{Recovers, sides};
-ghost use Rattle.recovery_commands.specs.Recovering.{IsCountsEnd, IsRecoverEnd, TellsCounts, counts_text};
+ghost use Rattle.stack_recovery.specs.Recoveries.{RecoversBy, parties};
+ghost use Rattle.recovery_commands.specs.Recovering.{EndsPrinting, EndsRecovering, IsCountsEnd, Printing, TellsCounts, counts_text};
 
 use crate::fault::RecoveringFault;
 use block_device::BlockDev;
@@ -25,8 +25,8 @@ pub fn recover_device<'a, D: BlockDev + Drop, O: BlockDev, L: Listing, P: Progre
     requires device { device.0 < length stack.old.config.devices }
     requires room { size stack.old.config (mapped device.0) ≤ (O.state out.old).size }
     requires allowed { IsTrue (O.state out.old).may_write }
-    ensures ok { IfOk result (λ counts. Recovers device.0 (sides stack.old (O.state out.old) (L.told listing.old)) counts (sides stack.new (O.state out.new) (L.told listing.new))) }
-    ensures err { IfErr result (IsRecoverEnd device.0 (sides stack.old (O.state out.old) (L.told listing.old)) (sides stack.new (O.state out.new) (L.told listing.new)) (L.failed listing.new)) }
+    ensures ok { IfOk result (RecoversBy O.state L.told device.0 (parties stack.old out.old listing.old) (parties stack.new out.new listing.new)) }
+    ensures err { IfErr result (EndsRecovering O.state L.told L.failed device.0 (parties stack.old out.old listing.old) (parties stack.new out.new listing.new)) }
 {
     match recover_with(stack, device, out, listing, progress) {
         Ok(counts) => Ok(counts),
@@ -41,8 +41,8 @@ pub fn tell_counts<'a, W: Write>(
     counts: Counts,
     writer: &mut Counted<W>,
 ) -> Result<(), RecoveringFault<'a>>
-    ensures ok { OnOk result (TellsCounts counts (W.contents writer.old.inner) (W.contents writer.new.inner)) }
-    ensures err { IfErr result (IsCountsEnd counts (W.contents writer.old.inner) (W.contents writer.new.inner) writer.new.failed) }
+    ensures ok { OnOk result (Printing W.contents writer.old writer.new (TellsCounts counts)) }
+    ensures err { IfErr result (EndsPrinting W.contents writer.old writer.new (IsCountsEnd counts)) }
 {
     let Counts { read, lost } = counts;
     if lost > 0 {

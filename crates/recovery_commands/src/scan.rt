@@ -1,8 +1,8 @@
 //! Which sectors of a device are lost.
 ghost use Rattle.std.specs.Prelude.{OnOk, IfErr};
 ghost use Rattle.image_files.specs.Opener.{calls};
-ghost use Rattle.stack_opening.specs.OpenStacks.{stack_words};
-ghost use Rattle.stack_making.specs.NamedDevices.{device_words};
+ghost use Rattle.stack_making.specs.NamedDevices.{words_for};
+ghost use Rattle.recovery_commands.specs.Recovering.{EndsPrinting, Printing};
 ghost use Rattle.recovery_commands.specs.Scans.{IsScanEnd, PrintsScan};
 
 use crate::fault::RecoveringFault;
@@ -26,8 +26,8 @@ pub fn scan_device<'a, I: Images, W: Write, P: Progress>(
     writer: &mut Counted<W>,
     progress: &mut P,
 ) -> Result<(), RecoveringFault<'a>>
-    ensures ok { OnOk result (PrintsScan (calls I.relations I.Dev.state images.old images.new) (device_words (stack_words file.entry) device.entry.name.now device.entry.cache) (W.contents writer.old.inner) (W.contents writer.new.inner)) }
-    ensures err { IfErr result (IsScanEnd (calls I.relations I.Dev.state images.old images.new) (device_words (stack_words file.entry) device.entry.name.now device.entry.cache) (W.contents writer.old.inner) (W.contents writer.new.inner) writer.new.failed) }
+    ensures ok { OnOk result (Printing W.contents writer.old writer.new (PrintsScan (calls I.relations I.Dev.state images.old images.new) (words_for file.entry device.entry))) }
+    ensures err { IfErr result (EndsPrinting W.contents writer.old writer.new (IsScanEnd (calls I.relations I.Dev.state images.old images.new) (words_for file.entry device.entry))) }
 {
     let (mut stack, device) = open_device(alloc, images, file, device)?;
     let mut out = Discard::new(stack.config().sectors(device));

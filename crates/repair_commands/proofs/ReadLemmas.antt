@@ -6,8 +6,9 @@ use Rattle.tree_repair.specs.declared.fault.RepairFault.{RepairFault}
 use Rattle.tree_repair.specs.declared.fault.RepairFault.TheVariants.{Image, Write}
 use Rattle.tree_repair.specs.declared.repair.Plan.{Plan}
 use Rattle.tree_repair.specs.Repairs.{IsImageCause, IsUnrepairedBy, Repairs, job_of}
-use Rattle.tree_repair.specs.Runs.{IsWorldRead, Job, Runs, Visit, World, world}
+use Rattle.tree_repair.specs.Runs.{Job, Runs, Visit}
 use Rattle.tree_repair.specs.Sources.{AreEachRead}
+use Rattle.tree_repair.specs.Worlds.{IsWorldRead, World, world}
 use Rattle.tree_survey.specs.Causes.{AreCut, AreImages}
 use Rattle.verity_format.specs.declared.verifying.VerifyFault.TheVariants.{Super, TooSmall, Device as DeviceFailed, NoMemory}
 use Rattle.verity_format.specs.Blocks.{IsFullRead, IsOnlyRead, block_at}

@@ -1,6 +1,7 @@
 -- What `repair --fec FILE` did to files, and how it ended.
 use Rattle.std.specs.Prelude.{◌≡◌, ◌⊎◌, ℕ, Bool, true, false, List, Option, map}
 use Rattle.block_device.specs.Device.{Device}
+use Rattle.counted_io.specs.Counted.{CountedRecord}
 use Rattle.command_line.specs.declared.image_copies.ImageCopy.{ImageCopy}
 use Rattle.command_line.specs.FecFiles.{FecRecord}
 use Rattle.fec_area.specs.declared.layout.Layout.{Layout}
@@ -11,7 +12,7 @@ use Rattle.tree_commands.specs.declared.fault.TreeFault.TheVariants.{Open}
 use Rattle.tree_commands.specs.Surveys.{IsSurveyFilesEnd, PrintsGood}
 use Rattle.tree_repair.specs.declared.fault.RepairFault.{RepairFault}
 use Rattle.tree_repair.specs.declared.repair.Plan.{Plan}
-use Rattle.tree_repair.specs.Runs.{IsWorldRead, World, world}
+use Rattle.tree_repair.specs.Worlds.{IsWorldRead, World, world}
 use Rattle.repair_commands.specs.declared.fault.ParityRepairFault.{ParityRepairFault}
 use Rattle.repair_commands.specs.declared.fault.ParityRepairFault.TheVariants.{Tree}
 use Rattle.repair_commands.specs.declared.opening.Opened.{Opened}
@@ -45,6 +46,13 @@ pub record EndsUnlaid (parity_dev : Device) (roots : ℕ) (w w' : World) (old ne
 
 abbrev pub HalfMendsByParity : Plan → Device → ℕ → World → World → Option (List ℕ) → Option (List ℕ) → ParityRepairFault → Type 0
 HalfMendsByParity plan parity_dev roots w w' old new fault = EndsUnlaid parity_dev roots w w' old new fault ⊎ EndsHalf plan w w' old new fault
+
+-- the same by a writer before and behind
+abbrev pub IsMendedByParity : {W : Type 0} → (W → Option (List ℕ)) → Plan → Device → ℕ → World → World → CountedRecord W → CountedRecord W → Type 0
+IsMendedByParity contents plan parity_dev roots w w' old new = MendsByParity plan parity_dev roots w w' (contents old.inner) (contents new.inner)
+
+abbrev pub IsHalfByParity : {W : Type 0} → (W → Option (List ℕ)) → Plan → Device → ℕ → World → World → CountedRecord W → CountedRecord W → ParityRepairFault → Type 0
+IsHalfByParity contents plan parity_dev roots w w' old new fault = HalfMendsByParity plan parity_dev roots w w' (contents old.inner) (contents new.inner) fault
 
 -- ---- of files
 

@@ -1,10 +1,11 @@
 -- What a repair of two devices did, up to their media.
 use Rattle.std.specs.Prelude.{◌≡◌, ◌⊎◌, ℕ, Bool, true, false, IsTrue, List, Option}
 use Rattle.block_device.specs.Device.{Device}
+use Rattle.counted_io.specs.Counted.{CountedRecord}
 use Rattle.tree_repair.specs.declared.fault.RepairFault.{RepairFault}
 use Rattle.tree_repair.specs.declared.repair.Plan.{Plan}
 use Rattle.tree_repair.specs.Repairs.{IsUnrepairedBy, Repairs}
-use Rattle.tree_repair.specs.Runs.{World}
+use Rattle.tree_repair.specs.Worlds.{World}
 
 -- both hold what they held
 pub record KeepsImages (data_dev hash_dev data_dev' hash_dev' : Device) : Type 0 where
@@ -32,3 +33,11 @@ pub record HalfMends (plan : Plan) (parity : Bool) (w w' : World) (old new : Opt
   pub kept : KeepsImages mid.data_dev mid.hash_dev w'.data_dev w'.hash_dev
   pub data_copies_are : w'.data_copies ≡ mid.data_copies
   pub hash_copies_are : w'.hash_copies ≡ mid.hash_copies
+
+-- ---- the same by a writer before and behind
+
+abbrev pub IsMendedWhole : {W : Type 0} → (W → Option (List ℕ)) → Plan → Bool → World → World → CountedRecord W → CountedRecord W → Type 0
+IsMendedWhole contents plan parity w w' old new = MendsWhole plan parity w w' (contents old.inner) (contents new.inner)
+
+abbrev pub IsMendedHalf : {W : Type 0} → (W → Option (List ℕ)) → Plan → Bool → World → World → CountedRecord W → CountedRecord W → RepairFault → Type 0
+IsMendedHalf contents plan parity w w' old new fault = HalfMends plan parity w w' (contents old.inner) (contents new.inner) fault

@@ -1,12 +1,11 @@
 //! `repair --fec FILE`: what no copy has is made again by the parity in a file.
-ghost use Rattle.std.specs.Prelude.{◌≤◌, ◌^◌, true, IfErr, OnOk, map};
+ghost use Rattle.std.specs.Prelude.{◌≤◌, ◌^◌, true, IfErr, OnOk};
 ghost use Rattle.command_line.specs.FecFiles.{fec_record};
 ghost use Rattle.fec_area.specs.Layouts.{IsLaidOn};
 ghost use Rattle.image_files.specs.Opener.{IsFresh, calls};
 ghost use Rattle.tree_repair.specs.Repairs.{IsAllowed};
-ghost use Rattle.tree_repair.specs.Runs.{world};
-ghost use Rattle.repair_commands.specs.ByParity.{HalfMendsByParity, HalfMendsOpenedByParity, IsParityRepairEnd, MendsByParity, MendsOpenedByParity, RepairsByParity};
-ghost use Rattle.repair_commands.specs.Mends.{HalfMends, MendsWhole};
+ghost use Rattle.repair_commands.specs.ByParity.{HalfMendsOpenedByParity, IsHalfByParity, IsMendedByParity, IsParityRepairEnd, MendsOpenedByParity, RepairsByParity};
+ghost use Rattle.repair_commands.specs.Mends.{IsMendedHalf, IsMendedWhole};
 ghost use Rattle.repair_commands.specs.Pairs.{places_of};
 
 use crate::fault::ParityRepairFault;
@@ -19,11 +18,11 @@ use block_device::{BlockDev, SyncDev};
 use command_line::{FecFile, ImageCopy};
 use counted_io::Counted;
 use fec_area::Layout;
-use image_files::{Images, OpenImage};
+use image_files::Images;
 use std::alloc::Global;
 use std::io::Write;
 use tree_commands::TreeFault;
-use tree_repair::{Plan, RepairFault, repair_with_parity};
+use tree_repair::{DamagedImage, Plan, RepairFault, repair_with_parity};
 use tree_shape::Digest;
 use watched_device::Watchers;
 
@@ -76,18 +75,12 @@ fn mend_opened<'a, I: Images, W: Write>(
     let Opened {
         parts,
         pair: Pair {
-            data_image: OpenImage {
-                device: mut data_dev,
-                id: _,
-            },
-            hash_image: OpenImage {
-                device: mut hash_dev,
-                id: _,
-            },
+            data_image,
+            hash_image,
         },
         copies: Copies {
-            mut data_copies,
-            mut hash_copies,
+            data_copies,
+            hash_copies,
         },
     } = opened;
     let mut parity_open = parity;
@@ -96,27 +89,27 @@ fn mend_opened<'a, I: Images, W: Write>(
         copy_first: places.hash_first,
         write: places.write,
     };
-    let ended = mend_laid_out(
-        alloc,
-        &mut data_dev,
-        &mut hash_dev,
-        data_copies.as_mut_slice(),
-        hash_copies.as_mut_slice(),
-        &mut parity_open,
-        plan,
-        writer,
-    );
-    give_back(images, places, parts, data_dev, hash_dev);
+    let mut image = DamagedImage {
+        data: data_image.device,
+        hash: hash_image.device,
+        data_copies,
+        hash_copies,
+    };
+    let ended = mend_laid_out(alloc, &mut image, &mut parity_open, plan, writer);
+    let DamagedImage {
+        data,
+        hash,
+        data_copies: _,
+        hash_copies: _,
+    } = image;
+    give_back(images, places, parts, data, hash);
     ended
 }
 
 // Lays the parity out, repairs both by it too, and has what was written put on their media.
 fn mend_laid_out<'a, D: SyncDev, H: SyncDev, C: BlockDev, P: BlockDev, W: Write>(
     alloc: Global,
-    data_dev: &mut D,
-    hash_dev: &mut H,
-    data_copies: &mut [C],
-    hash_copies: &mut [C],
+    image: &mut DamagedImage<D, H, C>,
     parity: &mut Parity<P>,
     plan: Plan,
     writer: &mut Counted<W>,
@@ -124,55 +117,32 @@ fn mend_laid_out<'a, D: SyncDev, H: SyncDev, C: BlockDev, P: BlockDev, W: Write>
     requires first { plan.copy_first ≤ 2 ^ 55 }
     requires some { 2 ≤ parity.old.roots }
     requires few { parity.old.roots ≤ 24 }
-    requires allowed { IsAllowed plan.write (D.state data_dev.old) (H.state hash_dev.old) }
-    ensures ok { OnOk result (MendsByParity plan (P.state parity.old.device) parity.old.roots (world (D.state data_dev.old) (H.state hash_dev.old) (map C.state data_copies.old) (map C.state hash_copies.old)) (world (D.state data_dev.new) (H.state hash_dev.new) (map C.state data_copies.new) (map C.state hash_copies.new)) (W.contents writer.old.inner) (W.contents writer.new.inner)) }
-    ensures err { IfErr result (HalfMendsByParity plan (P.state parity.old.device) parity.old.roots (world (D.state data_dev.old) (H.state hash_dev.old) (map C.state data_copies.old) (map C.state hash_copies.old)) (world (D.state data_dev.new) (H.state hash_dev.new) (map C.state data_copies.new) (map C.state hash_copies.new)) (W.contents writer.old.inner) (W.contents writer.new.inner)) }
+    requires allowed { IsAllowed plan.write image.old.data_dev image.old.hash_dev }
+    ensures ok { OnOk result (IsMendedByParity W.contents plan (P.state parity.old.device) parity.old.roots image.old image.new writer.old writer.new) }
+    ensures err { IfErr result (IsHalfByParity W.contents plan (P.state parity.old.device) parity.old.roots image.old image.new writer.old writer.new) }
 {
-    let layout = lay_out(data_dev, hash_dev, parity)?;
-    mend_with_parity(
-        alloc,
-        data_dev,
-        hash_dev,
-        data_copies,
-        hash_copies,
-        &layout,
-        &mut parity.device,
-        plan,
-        writer,
-    )?;
+    let layout = lay_out(&image.data, &mut image.hash, parity)?;
+    mend_with_parity(alloc, image, &layout, &mut parity.device, plan, writer)?;
     Ok(())
 }
 
 // Repairs both by copies and parity, and has what was written put on their media.
 fn mend_with_parity<D: SyncDev, H: SyncDev, C: BlockDev, P: BlockDev, W: Write>(
     alloc: Global,
-    data_dev: &mut D,
-    hash_dev: &mut H,
-    data_copies: &mut [C],
-    hash_copies: &mut [C],
+    image: &mut DamagedImage<D, H, C>,
     layout: &Layout,
     parity_dev: &mut P,
     plan: Plan,
     writer: &mut Counted<W>,
 ) -> Result<(), RepairFault>
     requires first { plan.copy_first ≤ 2 ^ 55 }
-    requires allowed { IsAllowed plan.write (D.state data_dev.old) (H.state hash_dev.old) }
-    requires laid { IsLaidOn layout.now (D.state data_dev.old) (H.state hash_dev.old) }
-    ensures ok { OnOk result (MendsWhole plan true (world (D.state data_dev.old) (H.state hash_dev.old) (map C.state data_copies.old) (map C.state hash_copies.old)) (world (D.state data_dev.new) (H.state hash_dev.new) (map C.state data_copies.new) (map C.state hash_copies.new)) (W.contents writer.old.inner) (W.contents writer.new.inner)) }
-    ensures err { IfErr result (HalfMends plan true (world (D.state data_dev.old) (H.state hash_dev.old) (map C.state data_copies.old) (map C.state hash_copies.old)) (world (D.state data_dev.new) (H.state hash_dev.new) (map C.state data_copies.new) (map C.state hash_copies.new)) (W.contents writer.old.inner) (W.contents writer.new.inner)) }
+    requires allowed { IsAllowed plan.write image.old.data_dev image.old.hash_dev }
+    requires laid { IsLaidOn layout.now image.old.data_dev image.old.hash_dev }
+    ensures ok { OnOk result (IsMendedWhole W.contents plan true image.old image.new writer.old writer.new) }
+    ensures err { IfErr result (IsMendedHalf W.contents plan true image.old image.new writer.old writer.new) }
 {
     let write = plan.write;
-    repair_with_parity(
-        alloc,
-        data_dev,
-        hash_dev,
-        data_copies,
-        hash_copies,
-        layout,
-        parity_dev,
-        plan,
-        writer,
-    )?;
-    sync_both(data_dev, hash_dev, write)?;
+    repair_with_parity(alloc, image, layout, parity_dev, plan, writer)?;
+    sync_both(&mut image.data, &mut image.hash, write)?;
     Ok(())
 }

@@ -1,41 +1,29 @@
 //! The two devices repaired, and what was written put on their media.
-ghost use Rattle.std.specs.Prelude.{◌≡◌, ◌≤◌, ◌^◌, false, IfErr, IsTrue, OnOk, map};
+ghost use Rattle.std.specs.Prelude.{◌≡◌, ◌≤◌, ◌^◌, false, IfErr, IsTrue, OnOk};
 ghost use Rattle.tree_repair.specs.Repairs.{IsAllowed};
-ghost use Rattle.tree_repair.specs.Runs.{world};
-ghost use Rattle.repair_commands.specs.Mends.{HalfMends, IsOnMedium, KeepsImages, MendsWhole};
+ghost use Rattle.repair_commands.specs.Mends.{IsMendedHalf, IsMendedWhole, IsOnMedium, KeepsImages};
 
 use block_device::{BlockDev, DeviceFault, SyncDev};
 use counted_io::Counted;
 use std::alloc::Global;
 use std::io::Write;
-use tree_repair::{Plan, RepairFault, repair_image};
+use tree_repair::{DamagedImage, Plan, RepairFault, repair_image};
 
 /// Repairs both, and has what was written put on their media.
 pub(crate) fn mend<D: SyncDev, H: SyncDev, C: BlockDev, W: Write>(
     alloc: Global,
-    data_dev: &mut D,
-    hash_dev: &mut H,
-    data_copies: &mut [C],
-    hash_copies: &mut [C],
+    image: &mut DamagedImage<D, H, C>,
     plan: Plan,
     writer: &mut Counted<W>,
 ) -> Result<(), RepairFault>
     requires first { plan.copy_first ≤ 2 ^ 55 }
-    requires allowed { IsAllowed plan.write (D.state data_dev.old) (H.state hash_dev.old) }
-    ensures ok { OnOk result (MendsWhole plan false (world (D.state data_dev.old) (H.state hash_dev.old) (map C.state data_copies.old) (map C.state hash_copies.old)) (world (D.state data_dev.new) (H.state hash_dev.new) (map C.state data_copies.new) (map C.state hash_copies.new)) (W.contents writer.old.inner) (W.contents writer.new.inner)) }
-    ensures err { IfErr result (HalfMends plan false (world (D.state data_dev.old) (H.state hash_dev.old) (map C.state data_copies.old) (map C.state hash_copies.old)) (world (D.state data_dev.new) (H.state hash_dev.new) (map C.state data_copies.new) (map C.state hash_copies.new)) (W.contents writer.old.inner) (W.contents writer.new.inner)) }
+    requires allowed { IsAllowed plan.write image.old.data_dev image.old.hash_dev }
+    ensures ok { OnOk result (IsMendedWhole W.contents plan false image.old image.new writer.old writer.new) }
+    ensures err { IfErr result (IsMendedHalf W.contents plan false image.old image.new writer.old writer.new) }
 {
     let write = plan.write;
-    repair_image(
-        alloc,
-        data_dev,
-        hash_dev,
-        data_copies,
-        hash_copies,
-        plan,
-        writer,
-    )?;
-    sync_both(data_dev, hash_dev, write)?;
+    repair_image(alloc, image, plan, writer)?;
+    sync_both(&mut image.data, &mut image.hash, write)?;
     Ok(())
 }
 

@@ -10,11 +10,11 @@ use crate::opening::{Copies, Opened, open_all};
 use crate::pair::{Pair, Parts, RepairPlaces};
 use command_line::ImageCopy;
 use counted_io::Counted;
-use image_files::{Images, OpenImage};
+use image_files::Images;
 use std::alloc::Global;
 use std::io::Write;
 use tree_commands::{SurveyOrder, TreeFault, survey_images};
-use tree_repair::{Plan, RepairFault};
+use tree_repair::{DamagedImage, Plan, RepairFault};
 use tree_shape::Digest;
 use tree_survey::SurveyFault;
 use watched_device::Watchers;
@@ -101,18 +101,12 @@ fn mend_opened<'a, I: Images, W: Write>(
     let Opened {
         parts,
         pair: Pair {
-            data_image: OpenImage {
-                device: mut data_dev,
-                id: _,
-            },
-            hash_image: OpenImage {
-                device: mut hash_dev,
-                id: _,
-            },
+            data_image,
+            hash_image,
         },
         copies: Copies {
-            mut data_copies,
-            mut hash_copies,
+            data_copies,
+            hash_copies,
         },
     } = opened;
     let plan = Plan {
@@ -120,16 +114,20 @@ fn mend_opened<'a, I: Images, W: Write>(
         copy_first: places.hash_first,
         write: places.write,
     };
-    let ended = mend(
-        alloc,
-        &mut data_dev,
-        &mut hash_dev,
-        data_copies.as_mut_slice(),
-        hash_copies.as_mut_slice(),
-        plan,
-        writer,
-    );
-    give_back(images, places, parts, data_dev, hash_dev);
+    let mut image = DamagedImage {
+        data: data_image.device,
+        hash: hash_image.device,
+        data_copies,
+        hash_copies,
+    };
+    let ended = mend(alloc, &mut image, plan, writer);
+    let DamagedImage {
+        data,
+        hash,
+        data_copies: _,
+        hash_copies: _,
+    } = image;
+    give_back(images, places, parts, data, hash);
     match ended {
         Ok(()) => Ok(()),
         Err(fault) => Err(fault_of(fault)),

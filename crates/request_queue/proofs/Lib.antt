@@ -3,4 +3,5 @@ pub mod RangeLemmas
 pub mod FlightLemmas
 pub mod RequestPieceLemmas
 pub mod WriteLemmas
+pub mod WrittenPieceLemmas
 pub mod FinishLemmas

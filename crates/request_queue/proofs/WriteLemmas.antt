@@ -7,7 +7,7 @@ use Rattle.stack_rules.specs.Names.{mapped}
 use Rattle.stack_lines.specs.Touches.{leaves_of}
 use Rattle.stack_engine.specs.KeptBlocks.{AreChecked}
 use Rattle.stack_engine.specs.Stacks.{StackRecord}
-use Rattle.stack_engine.specs.WritePieces.{AnyWrite, SteadyWrite, EachWrite}
+use Rattle.stack_engine.specs.WritePieces.{ArePiece, AnyWrite, SteadyWrite, EachWrite}
 use Rattle.request_queue.specs.declared.range.SectorRange.{SectorRange}
 use Rattle.request_queue.specs.Flights.{writes, nothing}
 use Rattle.request_queue.specs.Serving.{PartDone}
@@ -19,11 +19,11 @@ part-bytes now items done count same =
     let start : done * 512 ≡ 512 * done = omega arith in
     ap (λ k. take k (drop (done * 512) now)) len ∙ ap (λ k. take (512 * count) (drop k now)) start ∙ ap (λ l. take (512 * count) (drop (512 * done) l)) same
 
-pub write-done : {v v' : StackRecord} {part : List ℕ} (piece : SectorRange) (done : ℕ) (items : List ℕ) (result : Result Unit IoFault) → AnyWrite v piece.device.0 piece.first part result v'
+pub write-done : {v v' : StackRecord} {part : List ℕ} (piece : SectorRange) (done : ℕ) (items : List ℕ) (result : Result Unit IoFault) → ArePiece part → AnyWrite v piece.device.0 piece.first part result v'
     → (AreSteady (leaves_of v.config (mapped piece.device.0)) v.leaves → SteadyWrite v piece.device.0 piece.first part result v') → AreChecked v' → part ≡ take (512 * piece.count) (drop (512 * done) items) → OnOk result (PartDone v piece done (writes items) v' (writes items))
-write-done piece done items (Err fault) any steady checked is = tt
-write-done {v} {v'} piece done items (Ok x) any steady checked is = record {
+write-done piece done items (Err fault) sized any steady checked is = tt
+write-done {v} {v'} piece done items (Ok x) sized any steady checked is = record {
   got = nothing;
-  answered = record { answered = subst (λ l. EachWrite v piece.device.0 piece.first l (Ok tt) v') is (record { any = any; steady = steady }); kept = checked };
+  answered = record { answered = subst (λ l. EachWrite v piece.device.0 piece.first l (Ok tt) v') is (record { piece = sized; any = any; steady = steady }); kept = checked };
   is = refl;
 }

@@ -10,6 +10,7 @@ pub mod KeptLemmas
 pub mod ServedLemmas
 pub mod WholeRunLemmas
 pub mod LedLemmas
+pub mod AtOnceLemmas
 pub mod ChangesLemmas
 pub mod AsStepsLemmas
 pub mod WaitingLemmas

@@ -5,13 +5,14 @@ use Rattle.request_queue.specs.declared.reply.Reply.{Reply}
 use Rattle.request_queue.specs.Laws.{answer_to}
 use Rattle.request_queue.specs.Requests.{RequestRecord}
 use Rattle.request_queue.specs.Runs.{Turn, last, is_step}
-use Rattle.request_queue.specs.World.{World, Event, submit, step, read_bytes, load, remove_device, run, sync}
+use Rattle.request_queue.specs.World.{World, Event, submit, step, read_bytes, write_piece, load, remove_device, run, sync}
 
 -- the event begins a request and serves it to its end
 abbrev pub is_run : Event → Bool
 is_run (submit r reply) = false
 is_run (step t reply) = false
 is_run (read_bytes d first bytes reply) = false
+is_run (write_piece d first bytes result) = false
 is_run (load text reply) = false
 is_run (remove_device name reply) = false
 is_run (run r (Ok answer)) = true

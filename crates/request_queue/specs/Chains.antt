@@ -19,7 +19,7 @@ use Rattle.request_queue.specs.declared.reply.Progress.{Progress}
 use Rattle.request_queue.specs.declared.reply.Progress.TheVariants.{More, Done}
 use Rattle.request_queue.specs.declared.reply.Reply.{Reply}
 use Rattle.request_queue.specs.declared.reply.Reply.TheVariants.{Sectors, Written}
-use Rattle.request_queue.specs.World.{Event, submit, step, read_bytes, load, remove_device, run, sync}
+use Rattle.request_queue.specs.World.{Event, submit, step, read_bytes, write_piece, load, remove_device, run, sync}
 
 -- ---- the chains that are handed out
 
@@ -41,6 +41,7 @@ chains_of (submit r reply) = []
 chains_of (step t (Ok progress)) = progress_chains progress
 chains_of (step t (Err none)) = []
 chains_of (read_bytes d first bytes reply) = []
+chains_of (write_piece d first bytes result) = []
 chains_of (load text reply) = []
 chains_of (remove_device name reply) = []
 chains_of (run r (Ok answer)) = answer_chains answer

@@ -12,7 +12,7 @@ use Rattle.request_queue.specs.Flights.{FlightRecord}
 use Rattle.request_queue.specs.Parts.{Part, read_part, bytes_part, write_part, part_of_work, done_of}
 use Rattle.request_queue.specs.Requests.{RequestRecord, a_read, a_write}
 use Rattle.request_queue.specs.Runs.{Turn, flight_of}
-use Rattle.request_queue.specs.World.{World, Event, step, run, admission, next_count}
+use Rattle.request_queue.specs.World.{World, Event, step, write_piece, run, admission, next_count}
 
 abbrev pub no_sectors : LeafSectors
 no_sectors = λ p. ⊥
@@ -36,6 +36,7 @@ run_changes w (a_write name first bytes) (Err fault) = no_sectors
 
 abbrev pub changes_of : World → Event → LeafSectors
 changes_of w (step t reply) = piece_changes w (flight_of w t)
+changes_of w (write_piece d first bytes result) = part_changes w.stack.config d first (write_part bytes)
 changes_of w (run r reply) = run_changes w r (admission w r)
 changes_of w e = no_sectors
 

@@ -17,7 +17,7 @@ use Rattle.request_queue.specs.Parts.{PartRelation, AnyPart, SteadyPart, EachPar
 use Rattle.request_queue.specs.Ranges.{IsCut, piece_len}
 use Rattle.request_queue.specs.Requests.{RequestRecord}
 use Rattle.request_queue.specs.Runs.{Turn, Run, last, total, is_step, flight_of, moved_for}
-use Rattle.request_queue.specs.World.{World, Event, submit, step, read_bytes, load, remove_device, run, sync, Step, Begins}
+use Rattle.request_queue.specs.World.{World, Event, submit, step, read_bytes, write_piece, load, remove_device, run, sync, Step, Begins}
 
 -- ---- the steps of one request in a run
 
@@ -41,6 +41,7 @@ end_of (step u (Ok More)) = None
 end_of (step u (Ok (Done answer))) = Some answer
 end_of (step u (Err none)) = None
 end_of (read_bytes d first bytes reply) = None
+end_of (write_piece d first bytes result) = None
 end_of (load text reply) = None
 end_of (remove_device name reply) = None
 end_of (run r reply) = None
@@ -97,7 +98,7 @@ pub record RunLaw (w : World) (r : RequestRecord) (answer : Result Reply IoFault
   pub answered : answer_to (w.given + 1) turns ≡ Some answer
   pub ends : last begun turns ≡ w'
 
--- The event is a refusal. A sync that fails is none: the leaf counts its failure.
+-- The event is a refusal. A sync or a piece that fails is none: the leaf counts its failure.
 abbrev pub is_refusal : Event → Bool
 is_refusal (submit r (Ok ticket)) = false
 is_refusal (submit r (Err fault)) = true
@@ -105,6 +106,7 @@ is_refusal (step t (Ok progress)) = false
 is_refusal (step t (Err none)) = true
 is_refusal (read_bytes d first bytes (Ok answer)) = false
 is_refusal (read_bytes d first bytes (Err fault)) = true
+is_refusal (write_piece d first bytes result) = false
 is_refusal (load text (Ok done)) = false
 is_refusal (load text (Err fault)) = true
 is_refusal (remove_device name (Ok done)) = false

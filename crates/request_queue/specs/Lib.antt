@@ -11,6 +11,7 @@ pub mod Chains
 pub mod Changes
 pub mod Laws
 pub mod WholeRuns
+pub mod AtOnce
 pub mod AsSteps
 pub mod Waiting
 pub mod Touching

@@ -6,7 +6,7 @@ use Rattle.stack_engine.specs.KeptBlocks.{AreChecked, ReadKeeps}
 use Rattle.stack_engine.specs.Pieces.{AnyPiece, SteadyPiece, EachPiece}
 use Rattle.stack_engine.specs.WritePieces.{AnyWrite, SteadyWrite, EachWrite}
 use Rattle.stack_engine.specs.Stacks.{StackRecord, AnswerRecord}
-use Rattle.request_queue.specs.Flights.{FlightRecord, WorkRecord, reads, writes}
+use Rattle.request_queue.specs.Flights.{FlightRecord, WorkRecord, nothing, reads, writes}
 use Rattle.request_queue.specs.Ranges.{piece_len}
 
 -- so many sectors are read, with their chains or the bytes alone, or these bytes are written
@@ -34,6 +34,11 @@ bytes_read (Err fault) = Err fault
 abbrev pub without_chains : Result (List ℕ) IoFault → Result AnswerRecord IoFault
 without_chains (Ok bytes) = Ok (record { bytes = bytes; chains = [] })
 without_chains (Err fault) = Err fault
+
+-- that of a write that ended so, which has neither
+abbrev pub without_bytes : Result Unit IoFault → Result AnswerRecord IoFault
+without_bytes (Ok done) = Ok nothing
+without_bytes (Err fault) = Err fault
 
 -- ---- what is answered
 

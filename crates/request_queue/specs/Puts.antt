@@ -17,7 +17,7 @@ use Rattle.request_queue.specs.declared.reply.Progress.TheVariants.{More, Done}
 use Rattle.request_queue.specs.Flights.{FlightRecord}
 use Rattle.request_queue.specs.Parts.{Part, read_part, bytes_part, write_part, part_of_work, done_of}
 use Rattle.request_queue.specs.Runs.{Turn, flight_of}
-use Rattle.request_queue.specs.World.{World, Event, step, next_count}
+use Rattle.request_queue.specs.World.{World, Event, step, write_piece, next_count}
 
 -- a piece of a write and how it ended: over that configuration, these bytes to a mapped device, from its sector first on
 pub record WrittenPiece : Type 0 where
@@ -47,6 +47,7 @@ piece_ending (Done (Err fault)) = Err fault
 
 abbrev pub pieces_in : World → Event → List WrittenPiece
 pieces_in w (step t (Ok progress)) = next_pieces w (flight_of w t) (piece_ending progress)
+pieces_in w (write_piece d first bytes result) = part_pieces w.stack.config d first (write_part bytes) result
 pieces_in w e = []
 
 -- those of one step after another

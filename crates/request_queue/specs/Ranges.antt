@@ -52,9 +52,9 @@ pub data IsCut (c : Configuration) : SectorRange → ℕ → Type 0 where
   last_piece : {range : SectorRange} → range.count ≤ piece_len c range → IsCut c range 1
   next_piece : {range : SectorRange} {n : ℕ} → piece_len c range < range.count → IsCut c (range_after range (piece_len c range)) n → IsCut c range (suc n)
 
--- ---- sectors that are read at once
+-- ---- sectors that are read or written at once
 
--- the sectors of so many bytes of mapped device d, from the first on, or the first reason why they aren't read
+-- the sectors of so many bytes of mapped device d, from the first on, or the first reason why they aren't read or written
 abbrev pub bytes_range : Configuration → ℕ → ℕ → ℕ → Result SectorRange SubmitFault
 bytes_range c d first bytes =
     if nat_le (length c.devices) d then Err NoSuchDevice
@@ -64,6 +64,7 @@ bytes_range c d first bytes =
 
 -- bytes of whole sectors, which lie inside their device
 pub record HaveSectors (c : Configuration) (d first bytes : ℕ) : Type 0 where
+  pub device : d < length c.devices
   pub whole : bytes % 512 ≡ 0
   pub inside : first + bytes / 512 ≤ size c (mapped d)
   pub fits : first + bytes / 512 < 2 ^ 64

@@ -5,7 +5,7 @@ use Rattle.stack_meaning.specs.Leaves.{reads_of, writes_of}
 use Rattle.stack_engine.specs.Stacks.{StackRecord}
 use Rattle.request_queue.specs.Flights.{FlightRecord, has_ticket, work_cost}
 use Rattle.request_queue.specs.Parts.{PartRelation}
-use Rattle.request_queue.specs.World.{World, Event, submit, step, read_bytes, load, remove_device, run, sync, Step}
+use Rattle.request_queue.specs.World.{World, Event, submit, step, read_bytes, write_piece, load, remove_device, run, sync, Step}
 
 -- an event, and the world that it leaves
 pub record Turn : Type 0 where
@@ -38,6 +38,7 @@ is_step t (submit r reply) = false
 is_step t (step u (Ok progress)) = u == t
 is_step t (step u (Err none)) = false
 is_step t (read_bytes d first bytes reply) = false
+is_step t (write_piece d first bytes result) = false
 is_step t (load text reply) = false
 is_step t (remove_device name reply) = false
 is_step t (run r reply) = false

@@ -10,7 +10,7 @@ use Rattle.request_queue.specs.Flights.{FlightRecord}
 use Rattle.request_queue.specs.Parts.{Part, read_part, bytes_part, write_part, part_of_work, done_of}
 use Rattle.request_queue.specs.Requests.{RequestRecord, a_read, a_write}
 use Rattle.request_queue.specs.Runs.{Turn, flight_of}
-use Rattle.request_queue.specs.World.{World, Event, submit, step, read_bytes, load, remove_device, run, sync, admission, next_count}
+use Rattle.request_queue.specs.World.{World, Event, submit, step, read_bytes, write_piece, load, remove_device, run, sync, admission, next_count}
 
 -- some leaves
 abbrev pub Leaves : Type 1
@@ -46,6 +46,7 @@ abbrev pub touches_of : World → Event → Leaves
 touches_of w (submit r reply) = no_leaves
 touches_of w (step t reply) = piece_touches w (flight_of w t)
 touches_of w (read_bytes d first bytes reply) = leaves_beneath w.stack.config d
+touches_of w (write_piece d first bytes result) = part_touches w.stack.config d first (write_part bytes)
 touches_of w (load text reply) = no_leaves
 touches_of w (remove_device name reply) = no_leaves
 touches_of w (run r reply) = run_touches w r (admission w r)

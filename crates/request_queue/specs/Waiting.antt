@@ -5,7 +5,7 @@ use Rattle.request_queue.specs.declared.fault.SubmitFault.{SubmitFault}
 use Rattle.request_queue.specs.declared.range.SectorRange.{SectorRange}
 use Rattle.request_queue.specs.Ranges.{piece_len, range_after}
 use Rattle.request_queue.specs.Runs.{Turn}
-use Rattle.request_queue.specs.World.{World, Event, submit, step, read_bytes, load, remove_device, run, sync, admission}
+use Rattle.request_queue.specs.World.{World, Event, submit, step, read_bytes, write_piece, load, remove_device, run, sync, admission}
 
 -- into how many pieces a range is cut that has at most so many sectors
 unfoldable pub pieces_within : ℕ → Configuration → SectorRange → ℕ
@@ -29,6 +29,7 @@ asked_by w (submit r (Ok ticket)) = pieces_asked w.stack.config (admission w r)
 asked_by w (submit r (Err fault)) = 0
 asked_by w (step t reply) = 0
 asked_by w (read_bytes d first bytes reply) = 0
+asked_by w (write_piece d first bytes result) = 0
 asked_by w (load text reply) = 0
 asked_by w (remove_device name reply) = 0
 asked_by w (run r (Ok answer)) = pieces_asked w.stack.config (admission w r)
@@ -41,6 +42,7 @@ served_by (submit r reply) = 0
 served_by (step t (Ok progress)) = 1
 served_by (step t (Err none)) = 0
 served_by (read_bytes d first bytes reply) = 0
+served_by (write_piece d first bytes result) = 0
 served_by (load text reply) = 0
 served_by (remove_device name reply) = 0
 served_by (run r reply) = 0

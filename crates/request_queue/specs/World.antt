@@ -1,10 +1,11 @@
 -- Worlds, and the steps between them.
-use Rattle.std.specs.Prelude.{◌≡◌, ◌≢◌, ◌⊎◌, ℕ, ◌+◌, ◌-◌, ◌^◌, ◌<◌, ◌≤◌, ◌||◌, ◌==◌, nat_le, Bool, List, [], ◌∷◌, ◌++◌, length, map, position, slice_get, set, remove, Some, None, Result, Ok, Err, All, if◌then◌else◌}
+use Rattle.std.specs.Prelude.{◌≡◌, ◌≢◌, ◌⊎◌, ℕ, ◌+◌, ◌-◌, ◌^◌, ◌<◌, ◌≤◌, ◌/◌, ◌||◌, ◌==◌, nat_le, Bool, IsTrue, List, [], ◌∷◌, ◌++◌, length, map, position, slice_get, set, remove, Some, None, Result, Ok, Err, All, if◌then◌else◌}
 use Rattle.block_device.specs.Device.{Device, synced}
 use Rattle.dm_table.specs.declared.stack.Entry.{Entry}
 use Rattle.stack_rules.specs.declared.refusal.LoadFault.{LoadFault}
 use Rattle.stack_rules.specs.declared.refusal.LoadFault.TheVariants as load_fault
 use Rattle.stack_rules.specs.declared.refusal.RemoveFault.{RemoveFault}
+use Rattle.stack_rules.specs.Names.{mapped, may_write, size}
 use Rattle.stack_rules.specs.Removal.{removal_fault, after_removal}
 use Rattle.stack_rules.specs.Records.{Configuration}
 use Rattle.stack_rules.specs.Rules.{first_refusal, IsLoaded, IsRefusal, after_load}
@@ -23,7 +24,7 @@ use Rattle.request_queue.specs.declared.reply.Reply.{Reply}
 use Rattle.request_queue.specs.Ranges.{bytes_range, piece_len}
 use Rattle.request_queue.specs.Requests.{RequestRecord, sectors_for}
 use Rattle.request_queue.specs.Flights.{FlightRecord, IsSoundFlight, first_flight, next_flight, reply_to, has_ticket}
-use Rattle.request_queue.specs.Parts.{PartRelation, Asks, bytes_part, without_chains}
+use Rattle.request_queue.specs.Parts.{PartRelation, Asks, bytes_part, write_part, without_bytes, without_chains}
 
 -- a stack, how many tickets were given, and the requests in flight in the order of their tickets
 pub record World : Type 0 where
@@ -131,6 +132,17 @@ abbrev pub ReadsBytes : PartRelation → World → ℕ → ℕ → ℕ → Resul
 ReadsBytes part w d first bytes (Ok answer) w' = BytesRead part w d first bytes answer w'
 ReadsBytes part w d first bytes (Err fault) w' = (bytes_range w.stack.config d first bytes ≡ Err fault) × (w' ≡ w)
 
+-- ---- writes at once
+
+-- A piece of sectors inside mapped device d, which may be written, was written from the first on, or ended in that fault.
+-- All requests stay in flight as they were.
+pub record PieceWritten (part : PartRelation) (w : World) (d first : ℕ) (bytes : List ℕ) (result : Result Unit IoFault) (w' : World) : Type 0 where
+  pub inside : first + length bytes / 512 ≤ size w.stack.config (mapped d)
+  pub allowed : IsTrue (may_write w.stack.config (mapped d))
+  pub stack : StackRecord
+  pub asks : part w.stack d first (write_part bytes) (without_bytes result) stack
+  pub leaves : w' ≡ world stack w.given w.in_flight
+
 -- ---- loads and removals
 
 -- the devices of a text are put in, and no rule refuses the configuration that stands then
@@ -196,11 +208,12 @@ Runs part w r (Err fault) w' = IsRefused w r fault w'
 
 -- ---- events
 
--- a call, and what it answered
+-- A call, and what it answered; of a write at once each piece, and how it ended.
 pub data Event : Type 0 where
   submit : RequestRecord → Result ℕ SubmitFault → Event
   step : ℕ → Result Progress NoSuchTicket → Event
   read_bytes : ℕ → ℕ → ℕ → Result (Result (List ℕ) IoFault) SubmitFault → Event
+  write_piece : ℕ → ℕ → List ℕ → Result Unit IoFault → Event
   load : List Entry → Result Unit (Held LoadFault) → Event
   remove_device : List ℕ → Result Unit (Held RemoveFault) → Event
   run : RequestRecord → Result (Result Reply IoFault) SubmitFault → Event
@@ -211,6 +224,7 @@ abbrev pub Step : PartRelation → World → Event → World → Type 0
 Step part w (submit r reply) w' = Submits w r reply w'
 Step part w (step ticket reply) w' = Steps part w ticket reply w'
 Step part w (read_bytes d first bytes reply) w' = ReadsBytes part w d first bytes reply w'
+Step part w (write_piece d first bytes result) w' = PieceWritten part w d first bytes result w'
 Step part w (load text reply) w' = Loads w text reply w'
 Step part w (remove_device name reply) w' = Removes w name reply w'
 Step part w (run r reply) w' = Runs part w r reply w'

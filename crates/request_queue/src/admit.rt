@@ -1,13 +1,13 @@
-//! Which requests are begun.
-ghost use Rattle.std.specs.Prelude.{◌≡◌, IfOk, length, Err, Ok};
+//! Which requests are begun, and which bytes written at once.
+ghost use Rattle.std.specs.Prelude.{◌≡◌, ◌<◌, IfOk, OnOk, length, Err, Ok};
+ghost use Rattle.request_queue.specs.AtOnce.{CanBeWritten, write_range};
 ghost use Rattle.request_queue.specs.Flights.{IsAdmissible, IsWorkOn, writes};
-ghost use Rattle.request_queue.specs.Ranges.{IsInside};
 ghost use Rattle.request_queue.specs.Requests.{request_record, sectors_for, writable_sectors};
 
 use crate::fault::SubmitFault;
-use crate::range::{SectorRange, range_of};
+use crate::range::{SectorRange, bytes_range, range_of};
 use crate::request::Request;
-use stack_config::Config;
+use stack_config::{Config, DevId};
 
 /// The sectors of a write, unless its bytes aren't whole sectors or its device may not be written.
 fn writable_sectors(
@@ -15,7 +15,7 @@ fn writable_sectors(
     bytes: &[u8],
     range: SectorRange,
 ) -> Result<SectorRange, SubmitFault>
-    requires { IsInside config.now range }
+    requires { range.device.0 < length config.now.devices }
     ensures value { result ≡ writable_sectors config.now bytes.now (Ok range) }
 {
     if !bytes.len().is_multiple_of(512) {
@@ -48,4 +48,18 @@ pub(crate) fn sectors_for(config: &Config, request: &Request) -> Result<SectorRa
             writable_sectors(config, bytes.as_slice(), range)
         }
     }
+}
+
+/// The sectors of the bytes of a device, or why they aren't written at once.
+pub(crate) fn write_range(
+    config: &Config,
+    device: DevId,
+    first: u64,
+    bytes: &[u8],
+) -> Result<SectorRange, SubmitFault>
+    ensures value { result ≡ write_range config.now device.0 first bytes.now }
+    ensures can { OnOk result (CanBeWritten config.now device.0 first bytes.now) }
+{
+    let range = bytes_range(config, device, first, bytes.len())?;
+    writable_sectors(config, bytes, range)
 }

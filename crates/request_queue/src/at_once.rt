@@ -1,12 +1,16 @@
-//! Sectors that are read at once, piece by piece.
-ghost use Rattle.std.specs.Prelude.{◌≡◌, ◌/◌, Err, length};
+//! Sectors that are read or written at once, piece by piece.
+ghost use Rattle.std.specs.Prelude.{◌≡◌, ◌≤◌, ◌<◌, ◌/◌, ◌%◌, Err, length};
 ghost use Rattle.stack_rules.specs.Names.{mapped};
 ghost use Rattle.stack_engine.specs.Bytes.{EachBytes};
 ghost use Rattle.stack_engine.specs.KeptBlocks.{ReadKeeps};
 ghost use Rattle.stack_meaning.specs.Meaning.{said_at};
 ghost use Rattle.stack_meaning.specs.Reading.{MeetVerity, buffer_answer};
-ghost use Rattle.request_queue.specs.Ranges.{HaveSectors};
+ghost use Rattle.stack_lines.specs.Writing.{SomeEncrypt};
+ghost use Rattle.request_queue.specs.AtOnce.{CanBeWritten, WritesBeside};
+ghost use Rattle.request_queue.specs.Ranges.{HaveSectors, range_at};
+ghost use Rattle.request_queue.specs.WholeRuns.{WritesWhole};
 
+use crate::range::{SectorRange, piece_len};
 use block_device::BlockDev;
 use stack_config::DevId;
 use stack_engine::{IoFault, Stack};
@@ -33,6 +37,45 @@ pub(crate) fn read_pieces<D: BlockDev>(
         let end = out.len().min(done + MOST_BYTES);
         let at = first + (done / 512) as u64;
         stack.read_bytes(device, at, &mut out[done..end])?;
+        done = end;
+    }
+    Ok(())
+}
+
+// How many of the bytes that are left the next piece has: it stays in one line, as that of a request does.
+fn piece_bytes<D: BlockDev>(stack: &Stack<D>, device: DevId, first: u64, left: usize) -> usize
+    requires sectors { HaveSectors stack.now.config device.0 first left }
+    requires some { 0 < left }
+    ensures whole { result % 512 ≡ 0 }
+    ensures some { 512 ≤ result }
+    ensures most { result ≤ 65536 }
+    ensures inside { result ≤ left }
+{
+    let rest = SectorRange {
+        device,
+        first,
+        count: (left.min(MOST_BYTES) / 512) as u64,
+    };
+    piece_len(stack.config(), rest) as usize * 512
+}
+
+/// Writes the bytes to the sectors of a device from `first` on, up to the first piece that fails.
+pub(crate) fn write_pieces<D: BlockDev>(
+    stack: &mut Stack<D>,
+    device: DevId,
+    first: u64,
+    bytes: &[u8],
+) -> Result<(), IoFault>
+    requires { CanBeWritten stack.old.config device.0 first bytes.now }
+    ensures whole { WritesWhole stack.old (range_at device.0 first (length bytes.now / 512)) bytes.now result stack.new }
+    ensures steps { WritesBeside device.0 first stack.old bytes.now result stack.new }
+    ensures memory { result ≡ Err IoFault.NoMemory → SomeEncrypt (said_at stack.old.config (mapped device.0)) first (length bytes.now / 512) }
+{
+    let mut done = 0;
+    'pieces: while done < bytes.len() {
+        let at = first + (done / 512) as u64;
+        let end = done + piece_bytes(stack, device, at, bytes.len() - done);
+        stack.write_piece(device, at, &bytes[done..end])?;
         done = end;
     }
     Ok(())

@@ -71,12 +71,13 @@ pub enum RunFault {
     Io(IoFault),
 }
 
-/// Why sectors aren't read at once.
+/// Why sectors aren't read or written at once.
 #[derive(Clone, Copy, Debug, PartialEq, Eq)]
 pub enum BytesFault {
-    /// They can't be asked for: `NoSuchDevice`, `OutOfRange`, or `Length` where the bytes aren't whole sectors.
+    /// They can't be asked for: `NoSuchDevice`, `OutOfRange`, `Length` where the bytes aren't whole sectors, or of a write
+    /// `ReadOnly`.
     Refused(SubmitFault),
-    /// Their read ended by a fault.
+    /// Their read or write ended by a fault.
     Failed(IoFault),
 }
 

@@ -2,7 +2,9 @@
 ghost use Rattle.std.specs.Prelude.{◌≡◌, ◌≢◌, ◌/◌, [], length, option_map, IfOk, IfErr, Ok, Err, None};
 ghost use Rattle.stack_meaning.specs.Meaning.{said_at};
 ghost use Rattle.stack_meaning.specs.Reading.{MeetVerity};
+ghost use Rattle.stack_lines.specs.Writing.{SomeEncrypt};
 ghost use Rattle.stack_rules.specs.Names.{mapped};
+ghost use Rattle.request_queue.specs.AtOnce.{WritesBytes};
 ghost use Rattle.request_queue.specs.Laws.{QueueLaw};
 ghost use Rattle.request_queue.specs.ListLaws.{ListsLaw};
 ghost use Rattle.request_queue.specs.Parts.{EachPart};
@@ -16,8 +18,8 @@ ghost use Rattle.request_queue.specs.declared.fault.BytesFault.{BytesFault};
 ghost use Rattle.request_queue.specs.declared.fault.SubmitFault.{SubmitFault};
 ghost use Rattle.request_queue.specs.declared.request.Request.{Request};
 
-use crate::admit::sectors_for;
-use crate::at_once::read_pieces;
+use crate::admit::{sectors_for, write_range};
+use crate::at_once::{read_pieces, write_pieces};
 use crate::fault::{BytesFault, Held, NoSuchTicket, RunFault, SubmitFault};
 use crate::flight::{Flight, first_of, place_of};
 use crate::range::{SectorRange, bytes_range};
@@ -55,8 +57,8 @@ impl<D: BlockDev> Model for Queue<D> {
 }
 
 impl<D: BlockDev> Queue<D> {
-    /// A queue with no request. Each call of it is a `Step` of its world, so that `law` and `lists` hold of every list
-    /// of calls.
+    /// A queue with no request. Each call of it is a `Step` of its world, and `write_bytes` one for each piece, so that
+    /// `law` and `lists` hold of every list of calls.
     pub fn new(alloc: Global, stack: Stack<D>) -> Queue<D>
         ensures value { result ≡ record { stack = stack; given = 0; in_flight = [] } }
         ensures law { QueueLaw result }
@@ -214,6 +216,18 @@ impl<D: BlockDev> Queue<D> {
     {
         bytes_range(self.stack.config(), device, first, out.len())?;
         read_pieces(&mut self.stack, device, first, out)?;
+        Ok(())
+    }
+
+    /// Writes the bytes of any number of whole sectors inside a device that may be written, from `first` on, at once and
+    /// whatever requests are in flight: piece by piece, each a step, up to the first that fails. What stands before that
+    /// one is written, and nothing behind it. It takes memory only where a `crypt` line is on the way.
+    pub fn write_bytes(&mut self, device: DevId, first: u64, bytes: &[u8]) -> Result<(), BytesFault>
+        ensures written { WritesBytes self.old device.0 first bytes.now result self.new }
+        ensures memory { result ≡ Err (BytesFault.Failed IoFault.NoMemory) → SomeEncrypt (said_at self.old.stack.config (mapped device.0)) first (length bytes.now / 512) }
+    {
+        write_range(self.stack.config(), device, first, bytes)?;
+        write_pieces(&mut self.stack, device, first, bytes)?;
         Ok(())
     }
 

@@ -45,7 +45,7 @@ pub(crate) fn range_of(
     })
 }
 
-/// The sectors of so many bytes of a device, or why they aren't read.
+/// The sectors of so many bytes of a device, or why they aren't read or written.
 pub(crate) fn bytes_range(
     config: &Config,
     device: DevId,

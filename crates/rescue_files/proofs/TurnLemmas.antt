@@ -11,7 +11,7 @@ use Rattle.rescue_files.specs.declared.fault.RescueFault.TheVariants.{NoMap, NoM
 use Rattle.rescue_files.specs.MapFiles.{recovery_ending}
 use Rattle.text_files.specs.declared.texts.ReplaceFault.{ReplaceFault}
 use Rattle.rescue_map.specs.declared.totals.Totals.{Totals}
-use Rattle.rescue_files.specs.Turns.{IsTurnsEnd, IsUnwritten, Kept, Progressed, RescuesInTurns, StopsIn, Turn, Turns, kept as kept_by, progressed}
+use Rattle.rescue_files.specs.Turns.{IsTurnsEnd, IsUnwritten, IsUnfailed, Kept, Progressed, RescuesInTurns, StopsIn, Turn, Turns, kept as kept_by, progressed}
 use Rattle.stack_recovery.specs.declared.fault.RecoveryFault.{RecoveryFault}
 use Rattle.stack_recovery.specs.declared.fault.RecoveryFault.TheVariants as recovery
 use Rattle.stack_recovery.specs.Recoveries.{IsRescueEnd, Rescues, Sides, is_had}
@@ -53,19 +53,19 @@ err-from (Err e) P fault is holds = subst P (sym is) holds
 
 pub stops-rescue : {S : Type 0} (k : Kept S) (now : Progressed S) (before : List Bool) (new : Sides) (failed : Bool) (fault : RecoveryFault)
     → IsRescueEnd before k.d now.sides new failed fault → StopsIn k now now.images new failed (recovery_ending fault)
-stops-rescue k now before new failed recovery.NoMemory e = refl
+stops-rescue k now before new failed recovery.NoMemory e = (refl, e.unfailed)
 stops-rescue k now before new failed recovery.Output e = (refl, e.1.0, e.1.1)
 stops-rescue k now before new failed recovery.Write e = (refl, e)
 
 pub stops-unwritten : {S : Type 0} (k : Kept S) (now : Progressed S) (text : List ℕ) (images : S) (new : Sides) (failed : Bool) (fault : RescueFault)
-    → IsUnwritten k.replaces k.path now.images text images fault → StopsIn k now images new failed fault
-stops-unwritten k now text images new failed NoMemory e = e
-stops-unwritten k now text images new failed (Unread cause) e = absurd e
-stops-unwritten k now text images new failed TooLong e = absurd e
-stops-unwritten k now text images new failed (NoMap cause) e = absurd e
-stops-unwritten k now text images new failed Output e = absurd e
-stops-unwritten k now text images new failed Write e = absurd e
-stops-unwritten k now text images new failed (Unwritten cause) e = (text, e)
+    → IsUnfailed now.sides new → IsUnwritten k.replaces k.path now.images text images fault → StopsIn k now images new failed fault
+stops-unwritten k now text images new failed NoMemory u e = (e, u)
+stops-unwritten k now text images new failed (Unread cause) u e = absurd e
+stops-unwritten k now text images new failed TooLong u e = absurd e
+stops-unwritten k now text images new failed (NoMap cause) u e = absurd e
+stops-unwritten k now text images new failed Output u e = absurd e
+stops-unwritten k now text images new failed Write u e = absurd e
+stops-unwritten k now text images new failed (Unwritten cause) u e = (text, e, u)
 
 -- the device stays one, of that size, which may be written
 pub rescued-out : (before : List Bool) (d : ℕ) (old : Sides) (rescued : Rescued) (new : Sides) → Rescues before d old rescued new → IsSameDevice old.out new.out

@@ -1,26 +1,33 @@
 -- A device that is gone over in turns, behind each of which its map is put in the place of the one before.
 use Rattle.std.specs.Prelude.{◌≡◌, ℕ, ◌+◌, ◌/◌, ◌≤◌, ◌==◌, max, Bool, true, IsTrue, List, replicate, Option, Some, None, Result, Ok, Err, if◌then◌else◌}
 use Rattle.std.specs.List.{list_all}
-use Rattle.block_device.specs.Device.{HasFailed, synced}
+use Rattle.block_device.specs.Device.{Device, HasFailed, synced}
 use Rattle.rescue_map.specs.declared.map.Run.{Run}
 use Rattle.rescue_map.specs.declared.splicing.Span.{Span}
 use Rattle.rescue_map.specs.Maps.{marks, spliced, totals_of}
 use Rattle.rescue_map.specs.MapText.{map_text}
 use Rattle.rescue_map.specs.declared.totals.Totals.{Totals}
 use Rattle.stack_recovery.specs.declared.rescued.Rescued.{Rescued}
-use Rattle.stack_recovery.specs.Recoveries.{Rescues, Sides, sides}
+use Rattle.stack_rules.specs.Names.{mapped, size}
+use Rattle.stack_recovery.specs.Recoveries.{Parties, Rescues, Sides, seen, sides}
 use Rattle.text_files.specs.declared.texts.ReplaceFault.{ReplaceFault}
+use Rattle.rescue_files.specs.declared.map_file.MapFile.{MapFile}
+use Rattle.rescue_files.specs.declared.turns.NextTurn.{NextTurn}
 use Rattle.rescue_files.specs.declared.fault.RescueFault.{RescueFault}
 use Rattle.rescue_files.specs.declared.fault.RescueFault.TheVariants.{NoMemory, Output, Unwritten, Write}
 
--- a device of so many sectors, the path of its map, and what puts bytes under a path
+-- what puts bytes under a path
+abbrev pub Replaces : Type 0 → Type 1
+Replaces S = S → List ℕ → List ℕ → Result (Unit {0}) ReplaceFault → S → Type 0
+
+-- a device of so many sectors, the path of its map, and what puts it there
 pub record Kept (S : Type 0) : Type 1 where
-  pub replaces : S → List ℕ → List ℕ → Result (Unit {0}) ReplaceFault → S → Type 0
+  pub replaces : Replaces S
   pub path : List ℕ
   pub d : ℕ
   pub sectors : ℕ
 
-abbrev pub kept : {S : Type 0} → (S → List ℕ → List ℕ → Result (Unit {0}) ReplaceFault → S → Type 0) → List ℕ → ℕ → ℕ → Kept S
+abbrev pub kept : {S : Type 0} → Replaces S → List ℕ → ℕ → ℕ → Kept S
 kept replaces path d sectors = record { replaces = replaces; path = path; d = d; sectors = sectors }
 
 -- the opener, the stack with what is copied and printed, and the map; the sectors before `at` are done
@@ -86,18 +93,22 @@ pub record RescuesInTurns {S : Type 0} (k : Kept S) (first : Progressed S) (imag
   pub counted : totals ≡ totals_of runs
 
 -- a map isn't put in the place of the one before: its text is refused, or memory ran out before
-abbrev pub IsUnwritten : {S : Type 0} → (S → List ℕ → List ℕ → Result (Unit {0}) ReplaceFault → S → Type 0) → List ℕ → S → List ℕ → S → RescueFault → Type 0
+abbrev pub IsUnwritten : {S : Type 0} → Replaces S → List ℕ → S → List ℕ → S → RescueFault → Type 0
 IsUnwritten replaces path old text new NoMemory = new ≡ old
 IsUnwritten replaces path old text new (Unwritten fault) = replaces old path text (Err fault) new
 IsUnwritten replaces path old text new other = ⊥
 
+-- the device to which is copied counts no further failure
+abbrev pub IsUnfailed : Sides → Sides → Type 0
+IsUnfailed old new = new.out.failures ≡ old.out.failures
+
 -- why the turn behind some ended early, where the last but one says whether the writer failed: the map that stands is the last
 -- one that was put in its place
 abbrev pub StopsIn : {S : Type 0} → Kept S → Progressed S → S → Sides → Bool → RescueFault → Type 0
-StopsIn k now images new failed NoMemory = images ≡ now.images
+StopsIn k now images new failed NoMemory = (images ≡ now.images) × IsUnfailed now.sides new
 StopsIn k now images new failed Output = (images ≡ now.images) × HasFailed now.sides.out new.out × (IsTrue now.sides.out.never_fails → ⊥)
 StopsIn k now images new failed Write = (images ≡ now.images) × (failed ≡ true)
-StopsIn k now images new failed (Unwritten fault) = (text : List ℕ) × k.replaces now.images k.path text (Err fault) images
+StopsIn k now images new failed (Unwritten fault) = (text : List ℕ) × k.replaces now.images k.path text (Err fault) images × IsUnfailed now.sides new
 StopsIn k now images new failed other = ⊥
 
 -- some turns were ended, and the next one wasn't
@@ -105,3 +116,23 @@ pub record IsTurnsEnd {S : Type 0} (k : Kept S) (first : Progressed S) (images :
   pub now : Progressed S
   pub turns : Turns k first now
   pub stops : StopsIn k now images new failed fault
+
+-- ---- as a call sees them
+
+-- a turn, which makes this map
+abbrev pub TakesTurn : {S O L : Type 0} → Replaces S → (O → Device) → (L → Option (List ℕ)) → ℕ → NextTurn → S → Parties O L → S → Parties O L → List Run → Type 0
+TakesTurn replaces state told d turn images old images' new map =
+    Turn (kept replaces turn.path.now d turn.sectors) (progressed images (seen state told old) turn.map.now turn.span.first) (progressed images' (seen state told new) map (turn.span.first + turn.span.count))
+
+abbrev pub StopsTurn : {S O L : Type 0} → Replaces S → (O → Device) → (L → Option (List ℕ)) → (L → Bool) → ℕ → NextTurn → S → Parties O L → S → Parties O L → RescueFault → Type 0
+StopsTurn replaces state told failed d turn images old images' new fault =
+    StopsIn (kept replaces turn.path.now d turn.sectors) (progressed images (seen state told old) turn.map.now turn.span.first) images' (seen state told new) (failed new.listing) fault
+
+-- all turns of a device by the map of a file
+abbrev pub RescuesByFile : {S O L : Type 0} → Replaces S → (O → Device) → (L → Option (List ℕ)) → ℕ → MapFile → S → Parties O L → S → Parties O L → Totals → Type 0
+RescuesByFile replaces state told d file images old images' new totals =
+    RescuesInTurns (kept replaces file.path.now d (size old.stack.config (mapped d))) (progressed images (seen state told old) file.map 0) images' (seen state told new) totals
+
+abbrev pub StopsByFile : {S O L : Type 0} → Replaces S → (O → Device) → (L → Option (List ℕ)) → (L → Bool) → ℕ → MapFile → S → Parties O L → S → Parties O L → RescueFault → Type 0
+StopsByFile replaces state told failed d file images old images' new fault =
+    IsTurnsEnd (kept replaces file.path.now d (size old.stack.config (mapped d))) (progressed images (seen state told old) file.map 0) images' (seen state told new) (failed new.listing) fault

@@ -1,10 +1,10 @@
 //! Goes over a mapped device in turns, and keeps its map.
 ghost use Rattle.std.specs.Prelude.{◌≡◌, ◌+◌, ◌≤◌, ◌<◌, length, IsTrue, IfOk, IfErr, OnOk};
-ghost use Rattle.rescue_map.specs.Maps.{marks, spliced};
+ghost use Rattle.rescue_map.specs.Maps.{marks};
 ghost use Rattle.rescue_map.specs.MapText.{map_text};
 ghost use Rattle.stack_rules.specs.Names.{mapped, size};
-ghost use Rattle.stack_recovery.specs.Recoveries.{sides};
-ghost use Rattle.rescue_files.specs.Turns.{IsSpan, IsTurnsEnd, IsUnwritten, RescuesInTurns, StopsIn, Turn, asked, kept, progressed, tried_before, turn_len};
+ghost use Rattle.stack_recovery.specs.Recoveries.{parties};
+ghost use Rattle.rescue_files.specs.Turns.{IsSpan, IsUnwritten, RescuesByFile, StopsByFile, StopsTurn, TakesTurn, asked, tried_before, turn_len};
 
 use crate::fault::RescueFault;
 use crate::map_file::MapFile;
@@ -92,9 +92,9 @@ fn take_turn<I: Images, D: BlockDev, O: SyncDev, L: Listing, P: Progress>(
     requires wanted { marks turn.wanted.now ≡ asked turn.span turn.sectors turn.map.now }
     requires room { size stack.old.config (mapped d.0) ≤ (O.state out.old).size }
     requires allowed { IsTrue (O.state out.old).may_write }
-    ensures ok { IfOk result (λ map. Turn (kept I.relations.replaces turn.entry.path.now d.0 turn.entry.sectors) (progressed images.old (sides stack.old (O.state out.old) (L.told listing.old)) turn.entry.map.now turn.entry.span.first) (progressed images.new (sides stack.new (O.state out.new) (L.told listing.new)) map (turn.entry.span.first + turn.entry.span.count))) }
+    ensures ok { IfOk result (TakesTurn I.relations.replaces O.state L.told d.0 turn.entry images.old (parties stack.old out.old listing.old) images.new (parties stack.new out.new listing.new)) }
     ensures sectors { IfOk result (λ map. length (marks map) ≡ turn.entry.sectors) }
-    ensures err { IfErr result (StopsIn (kept I.relations.replaces turn.entry.path.now d.0 turn.entry.sectors) (progressed images.old (sides stack.old (O.state out.old) (L.told listing.old)) turn.entry.map.now turn.entry.span.first) images.new (sides stack.new (O.state out.new) (L.told listing.new)) (L.failed listing.new)) }
+    ensures err { IfErr result (StopsTurn I.relations.replaces O.state L.told L.failed d.0 turn.entry images.old (parties stack.old out.old listing.old) images.new (parties stack.new out.new listing.new)) }
 {
     let rescued = rescue(alloc, stack, d, out, turn.wanted, listing, progress)?;
     out.sync()?;
@@ -126,8 +126,8 @@ pub fn rescue_in_turns<I: Images, D: BlockDev, O: SyncDev, L: Listing, P: Progre
     requires fits { length (marks file.map) ≡ size stack.old.config (mapped d.0) }
     requires room { size stack.old.config (mapped d.0) ≤ (O.state out.old).size }
     requires allowed { IsTrue (O.state out.old).may_write }
-    ensures ok { IfOk result (RescuesInTurns (kept I.relations.replaces file.entry.path.now d.0 (size stack.old.config (mapped d.0))) (progressed images.old (sides stack.old (O.state out.old) (L.told listing.old)) file.entry.map 0) images.new (sides stack.new (O.state out.new) (L.told listing.new))) }
-    ensures err { IfErr result (IsTurnsEnd (kept I.relations.replaces file.entry.path.now d.0 (size stack.old.config (mapped d.0))) (progressed images.old (sides stack.old (O.state out.old) (L.told listing.old)) file.entry.map 0) images.new (sides stack.new (O.state out.new) (L.told listing.new)) (L.failed listing.new)) }
+    ensures ok { IfOk result (RescuesByFile I.relations.replaces O.state L.told d.0 file.entry images.old (parties stack.old out.old listing.old) images.new (parties stack.new out.new listing.new)) }
+    ensures err { IfErr result (StopsByFile I.relations.replaces O.state L.told L.failed d.0 file.entry images.old (parties stack.old out.old listing.old) images.new (parties stack.new out.new listing.new)) }
 {
     let sectors = stack.config().sectors(d);
     let MapFile { path, mut map } = file;

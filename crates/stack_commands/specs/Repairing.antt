@@ -28,10 +28,10 @@ parity_fault (Tree fault) = Trees fault
 parity_fault BlockSizes = Fec fec.BlockSizes
 parity_fault (TooSmall needed) = Fec (fec.Parity (ParityTooSmall needed))
 
--- with parity a codeword may have 2 to 24 bytes of it, and then it ends as that repair does
+-- with parity a codeword may have 2 to 24 bytes of it, else nothing was printed; and then it ends as that repair does
 abbrev pub IsParityWordsEnd : {S D : Type 0} → Calls S D → Places → FecRecord → List ImageCopy → List ℕ → Option (List ℕ) → Option (List ℕ) → Bool → CommandFault → Type 0
 IsParityWordsEnd w p file copies root old new failed fault =
-    ((fault ≡ Usage) × ((file.roots < 2) ⊎ (24 < file.roots)))
+    ((fault ≡ Usage) × (((file.roots < 2) ⊎ (24 < file.roots)) × (new ≡ old)))
     ⊎ ((cause : ParityRepairFault) × ((fault ≡ parity_fault cause) × IsParityRepairEnd w p file copies root old new failed cause))
 
 -- by copies, or by parity too

@@ -21,7 +21,8 @@ use Rattle.stack_lines.specs.declared.source.Source.{Source}
 use Rattle.stack_lines.specs.declared.source.Source.TheVariants.{Below, Blocks}
 use Rattle.stack_lines.specs.Sources.{IsServed, source_said, source_place}
 use Rattle.stack_engine.specs.declared.path.Chains.TheVariants.{Dropped}
-use Rattle.stack_lines.specs.Touches.{TouchesOnly, leaves_of, source_leaves}
+use Rattle.stack_lines.specs.Touches.{AsksOnly, leaves_of, source_leaves}
+use Rattle.stack_lines.proofs.lemmas.AskLemmas.{asks-touched}
 use Rattle.stack_lines.proofs.lemmas.TouchLemmas.{one-within, served-within}
 use Rattle.stack_engine.specs.Bytes.{IsGoodChain, MayBeBytes, AnyBytes, EachBytes, FindsBytes}
 use Rattle.stack_engine.specs.Keeping.{ReadsBlocks}
@@ -140,8 +141,8 @@ may-bytes c lower first n (Err (io.Stack fault)) p = p.got.may
 may-bytes c lower first n (Err (io.Device i)) p = p.got.may
 may-bytes c lower first n (Err io.NoMemory) p = tt
 
-pub each-bytes : (c : Configuration) (d first n : ℕ) {old new : List Device} (answer : Result (List ℕ) IoFault) → FindsBytes (place_of c (mapped d)) c first n old new answer → TouchesOnly (leaves_of c (mapped d)) old new answer
+pub each-bytes : (c : Configuration) (d first n : ℕ) {old new : List Device} (answer : Result (List ℕ) IoFault) → FindsBytes (place_of c (mapped d)) c first n old new answer → AsksOnly (leaves_of c (mapped d)) old new answer
     → {before after : CacheRecord} → after.capacity ≡ before.capacity → EachBytes (stack_with c old before) d first n answer (stack_with c new after)
-each-bytes c d first n answer p touches {before = before} {after = after} capacity =
-    let any : AnyBytes (stack_with c _ before) d first n answer (stack_with c _ after) = record { config = refl; capacity = capacity; moved = p.got.moved; may = may-bytes c (mapped d) first n answer p; touches = touches } in
+each-bytes c d first n answer p asks {before = before} {after = after} capacity =
+    let any : AnyBytes (stack_with c _ before) d first n answer (stack_with c _ after) = record { config = refl; capacity = capacity; moved = p.got.moved; may = may-bytes c (mapped d) first n answer p; touches = asks-touched asks; fails = asks.ends } in
     record { any = any; steady = λ steady. record { any = any; exact = p.got.exact steady } }

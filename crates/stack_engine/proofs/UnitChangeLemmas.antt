@@ -27,7 +27,7 @@ use Rattle.stack_meaning.specs.Found.{FoundRecord}
 use Rattle.stack_meaning.specs.Meaning.{Said, crypt_said, said_at}
 use Rattle.stack_meaning.specs.Puts.{Put, stopped, read_put, encrypted_sectors, changed_unit, put_on}
 use Rattle.stack_meaning.specs.Leaves.{steady_images, fixed_part, AreSteady, Moves}
-use Rattle.stack_lines.specs.Touches.{leaves_of, source_leaves}
+use Rattle.stack_lines.specs.Touches.{EndsAtFailure, failures_behind, failures_of, leaves_of, source_leaves}
 use Rattle.stack_meaning.specs.Changes.{AllWhole, reached, KeepsOthers, AreWritten}
 use Rattle.stack_meaning.specs.Reading.{Ends, Answers, MeetVerity, IsPlain}
 use Rattle.stack_lines.specs.Sources.{LieInUnit, IsWholeOf, cost_beneath, source_said, ReadsSource}
@@ -251,8 +251,8 @@ module _ (c : Configuration) (b : BlockPart) (whole : WholeUnit) (bytes : List �
   -- it ended by a fault
   pub part-ended : {old new : List Device} {found after : List FoundRecord} (fault : IoFault) → AllWhole old
       → ReadsSource c (Units whole.from) whole.sectors (record { old = old; new = new; before = found; after = after }) (Err fault) → IsPlain (source_said c (Units whole.from)) 0 whole.sectors old new (Err fault)
-      → Writes (source_destination c (UnitPart b)) 0 (sectors_in bytes) old new (Err fault)
-  part-ended {old = old} {new = new} {after = after} fault all p q = record {
+      → EndsAtFailure {A = Unit {0}} old new (Err fault) → Writes (source_destination c (UnitPart b)) 0 (sectors_in bytes) old new (Err fault)
+  part-ended {old = old} {new = new} {after = after} fault all p q ends = record {
     moved = AreWritten-more (λ x h. h) (omega (arith, paid)) (read-moved (Err fault) (Err fault) p q);
     ends = read-ends old new after fault p.got.may (λ is. none-meets (q.memory (ap err_of is)));
     grown = λ is. none-meets (q.memory is);
@@ -260,6 +260,7 @@ module _ (c : Configuration) (b : BlockPart) (whole : WholeUnit) (bytes : List �
     stops = λ counted. read-stop fault p q counted;
     behind = λ steady counted. stop-here (source_destination c (UnitPart b)) 0 (sectors_in bytes) p.got.moved.moved.fixed (read-stop fault p q counted) (λ j h. absurd (omega (arith, h)));
     unread = λ none. absurd (none one-encrypts);
+    fails = ends;
   }
 
   -- ---- the write
@@ -285,11 +286,11 @@ module _ (c : Configuration) (b : BlockPart) (whole : WholeUnit) (bytes : List �
       p.got.moved.moved.fixed (read-others (Ok tt) (Ok plain) p q) stop
 
   pub part-written : {old mid new : List Device} {found after : List FoundRecord} {plain out : List ℕ} {result : Result Unit IoFault} → AllWhole old
-      → ReadsSource c (Units whole.from) whole.sectors (record { old = old; new = mid; before = found; after = after }) (Ok plain) → IsPlain (source_said c (Units whole.from)) 0 whole.sectors old mid (Ok tt)
+      → ReadsSource c (Units whole.from) whole.sectors (record { old = old; new = mid; before = found; after = after }) (Ok plain) → IsPlain (source_said c (Units whole.from)) 0 whole.sectors old mid (Ok tt) → failures_of mid ≡ failures_of old
       → out ≡ put_at plain (512 * (b.first % unit_sectors of.crypt)) bytes
       → Writes (source_destination c (Units whole.from)) 0 (sectors_in out) mid new result
       → Writes (source_destination c (UnitPart b)) 0 (sectors_in bytes) old new result
-  part-written {old = old} {mid = mid} {new = new} {plain = plain} {out = out} {result = result} all p q is w =
+  part-written {old = old} {mid = mid} {new = new} {plain = plain} {out = out} {result = result} all p q none_failed is w =
       let u : ℕ = unit_sectors of.crypt in
       let long : length plain ≡ 512 * u = p.got.may.len ∙ ap (λ (k : ℕ). 512 * k) of.sectors in
       let size : length out ≡ 512 * u = ap length is ∙ length-put plain (512 * (b.first % u)) bytes (512 * u) long (omega (arith, len, in_unit.0)) in
@@ -320,6 +321,7 @@ module _ (c : Configuration) (b : BlockPart) (whole : WholeUnit) (bytes : List �
         stops = stops-first outs result w.stops;
         behind = λ steady. behind-first outs result (w.moved.moved.fixed ∙ p.got.moved.moved.fixed) w.stops;
         unread = λ none. absurd (none one-encrypts);
+        fails = w.fails ∙ ap (failures_behind result) none_failed;
       }
     where
       stops-first : length (sectors_in out) ≡ whole.sectors → (result : Result Unit IoFault) → StopsAtFault (source_said c (Units whole.from)) 0 (length (sectors_in out)) mid new result → StopsAtFault (source_said c (UnitPart b)) 0 (length (sectors_in bytes)) old new result

@@ -116,6 +116,7 @@ module _ (c : Configuration) (b : BlockPart) (bytes : List ℕ) (n : ℕ) (crypt
     stops = stops-up result p.stops;
     behind = λ steady. behind-up result p.stops;
     unread = λ none. p.unread (λ some. none (some.0, omega (arith, some.1, count), all-encrypt (a + some.0)));
+    fails = p.fails;
   }
     where
       stops-up : (result : Result Unit IoFault) → StopsAtFault (said_at c lower) (unit_first crypt b.first + a) (length ys) old new result → StopsAtFault (source_said c (Units b)) a (length xs) old new result

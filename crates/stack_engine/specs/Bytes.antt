@@ -17,7 +17,7 @@ use Rattle.stack_meaning.specs.May.{MayRead, MayFault}
 use Rattle.stack_meaning.specs.Leaves.{steady_images, AreSteady, AreRead}
 use Rattle.stack_meaning.specs.Places.{Place, place_of, run_expected}
 use Rattle.stack_meaning.specs.Reading.{Ends, Answers, Gets}
-use Rattle.stack_lines.specs.Touches.{TouchesOnly, leaves_of}
+use Rattle.stack_lines.specs.Touches.{EndsAtFailure, TouchesOnly, leaves_of}
 use Rattle.stack_lines.specs.Walks.{HasVerity}
 use Rattle.stack_engine.specs.Stacks.{StackRecord}
 
@@ -40,6 +40,7 @@ pub record AnyBytes (w : StackRecord) (d first n : ℕ) (answer : Result (List �
   pub moved : AreRead w.leaves (n * read_cost w.config (mapped d)) w'.leaves
   pub may : Ends (MayBeBytes w.config (mapped d) first n) (MayFault w.config (mapped d) first n) w.leaves w'.leaves answer
   pub touches : TouchesOnly (leaves_of w.config (mapped d)) w.leaves w'.leaves answer
+  pub fails : EndsAtFailure w.leaves w'.leaves answer
 
 -- where the leaves beneath are steady: what the stack means
 pub record SteadyBytes (w : StackRecord) (d first n : ℕ) (answer : Result (List ℕ) IoFault) (w' : StackRecord) : Type 0 where

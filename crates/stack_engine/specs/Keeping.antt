@@ -1,5 +1,5 @@
 -- Chains that a read of data blocks keeps, or drops.
-use Rattle.std.specs.Prelude.{◌≡◌, ℕ, List, [], ◌∷◌, ◌++◌, Result}
+use Rattle.std.specs.Prelude.{◌≡◌, ℕ, List, [], ◌∷◌, ◌++◌, map, Result}
 use Rattle.stack_rules.specs.Records.{Configuration}
 use Rattle.stack_meaning.specs.declared.fault.IoFault.{IoFault}
 use Rattle.stack_meaning.specs.Found.{FoundRecord}
@@ -7,8 +7,13 @@ use Rattle.stack_meaning.specs.Places.{Read}
 use Rattle.stack_lines.specs.declared.source.BlockPart.{BlockPart}
 use Rattle.stack_lines.specs.declared.source.Source.TheVariants.{Blocks}
 use Rattle.stack_lines.specs.Sources.{ReadsSource}
+use Rattle.verified_cache.specs.Cache.{CachedBlock}
 use Rattle.stack_engine.specs.declared.path.Chains.{Chains}
 use Rattle.stack_engine.specs.declared.path.Chains.TheVariants.{Kept, Dropped}
+
+-- a data block of a part's line that was found, with its path from the root down
+abbrev pub one_found : BlockPart → ℕ → List ℕ → List CachedBlock → FoundRecord
+one_found part index content path = record { device = part.device.0; line = part.line; chain = record { index = index; content = content; path = map (λ b. b.bytes) path } }
 
 -- what is handed out with one more chain
 abbrev pub handed_out : Chains → List FoundRecord → FoundRecord → List FoundRecord

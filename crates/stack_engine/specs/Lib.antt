@@ -1,11 +1,14 @@
 pub mod Stacks
 pub mod KeptBlocks
 pub mod Premises
+pub mod Backings
 pub mod Keeping
 pub mod Uncut
 pub mod Pieces
 pub mod Bytes
 pub mod WritePieces
+pub mod ReadSteps
+pub mod WriteSteps
 pub mod Syncs
 pub mod Laws
 pub mod TableLines

@@ -6,11 +6,13 @@ use Rattle.stack_rules.specs.Names.{mapped}
 use Rattle.stack_rules.specs.Descend.{read_cost}
 use Rattle.stack_meaning.specs.declared.fault.IoFault.{IoFault}
 use Rattle.stack_meaning.specs.Outcomes.{span}
-use Rattle.stack_meaning.specs.Meaning.{sector}
+use Rattle.stack_meaning.specs.Meaning.{said_at, sector}
 use Rattle.stack_meaning.specs.May.{MayBe, MayFault}
 use Rattle.stack_meaning.specs.Leaves.{steady_images, AreSteady, AreRead}
-use Rattle.stack_meaning.specs.Reading.{Ends, Answers}
-use Rattle.stack_lines.specs.Touches.{TouchesOnly, leaves_of}
+use Rattle.stack_meaning.specs.Reading.{Ends, Answers, MeetVerity}
+use Rattle.stack_meaning.specs.Stops.{ReadStops}
+use Rattle.stack_lines.specs.Budgets.{budget}
+use Rattle.stack_lines.specs.Touches.{EndsAtFailure, TouchesOnly, leaves_of}
 use Rattle.stack_engine.specs.Stacks.{StackRecord, AnswerRecord}
 use Rattle.verified_cache.specs.Cache.{CacheRecord}
 
@@ -22,6 +24,22 @@ stack_with config leaves cache = record { config = config; leaves = leaves; capa
 abbrev pub stack_over : Configuration → List Device → ℕ → StackRecord
 stack_over config leaves capacity = stack_with config leaves (record { capacity = capacity; blocks = [] })
 
+-- the leaves beneath a mapped device are steady
+abbrev pub AreSteadyBeneath : StackRecord → ℕ → Type 0
+AreSteadyBeneath w d = AreSteady (leaves_of w.config (mapped d)) w.leaves
+
+-- a `verity` line is on the way of one of n sectors of mapped device d, from the first on
+abbrev pub MeetsVerity : StackRecord → ℕ → ℕ → ℕ → Type 0
+MeetsVerity w d first n = MeetVerity (said_at w.config (mapped d)) first n
+
+-- what their read costs at most, by the units and data blocks that it touches
+abbrev pub piece_budget : StackRecord → ℕ → ℕ → ℕ → ℕ
+piece_budget w d first n = budget w.config (mapped d) first n
+
+-- where no `verity` line is on their way: nothing behind the first fault is asked for
+abbrev pub PieceStops : {A : Type 0} → StackRecord → ℕ → ℕ → ℕ → Result A IoFault → StackRecord → Type 0
+PieceStops w d first n result w' = (MeetsVerity w d first n → ⊥) → ReadStops (said_at w.config (mapped d)) first n w.leaves w'.leaves result
+
 -- How a piece is answered, n sectors of mapped device d from the first on, with the stack that the answer leaves:
 -- whatever the leaves answer
 pub record AnyPiece (w : StackRecord) (d first n : ℕ) (answer : Result AnswerRecord IoFault) (w' : StackRecord) : Type 0 where
@@ -30,6 +48,7 @@ pub record AnyPiece (w : StackRecord) (d first n : ℕ) (answer : Result AnswerR
   pub moved : AreRead w.leaves (n * read_cost w.config (mapped d)) w'.leaves
   pub may : Ends (λ got. MayBe w.config (mapped d) first n got.bytes got.chains) (MayFault w.config (mapped d) first n) w.leaves w'.leaves answer
   pub touches : TouchesOnly (leaves_of w.config (mapped d)) w.leaves w'.leaves answer
+  pub fails : EndsAtFailure w.leaves w'.leaves answer
 
 -- where the leaves beneath are steady: what the stack means
 pub record SteadyPiece (w : StackRecord) (d first n : ℕ) (answer : Result AnswerRecord IoFault) (w' : StackRecord) : Type 0 where

@@ -11,9 +11,10 @@ use Rattle.stack_meaning.specs.Puts.{put_on}
 use Rattle.stack_meaning.specs.Leaves.{steady_images, AreSteady}
 use Rattle.stack_meaning.specs.Changes.{LeafSectors, reached, AreWritten, NoneRead, DifferWithin, AllWhole}
 use Rattle.stack_lines.specs.Writing.{AreSectors, SomeEncrypt, MayEnd, IsPut, destination_of, StopsAtFault, StopsBehindPut, sectors_in}
-use Rattle.stack_lines.specs.Touches.{leaves_of}
+use Rattle.stack_lines.specs.Touches.{EndsAtFailure, leaves_of}
 use Rattle.stack_lines.specs.Forgetting.{Forgets}
 use Rattle.stack_engine.specs.Stacks.{StackRecord}
+use Rattle.stack_engine.specs.Uncut.{CutsNone}
 
 -- the bytes of 1 to 128 whole sectors
 pub record ArePiece (bytes : List ℕ) : Type 0 where
@@ -23,6 +24,14 @@ pub record ArePiece (bytes : List ℕ) : Type 0 where
 -- the leaf sectors that n sectors of mapped device d from the first on reach
 abbrev pub piece_reached : Configuration → ℕ → ℕ → ℕ → LeafSectors
 piece_reached c d first n = reached (λ s. (said_at c (mapped d) s).reaches) first n
+
+-- a write encrypts some of n sectors of mapped device d, from the first on
+abbrev pub MeetsCrypt : StackRecord → ℕ → ℕ → ℕ → Type 0
+MeetsCrypt w d first n = SomeEncrypt (said_at w.config (mapped d)) first n
+
+-- where the write of these cuts no unit, nothing is read
+abbrev pub UncutPiece : StackRecord → ℕ → ℕ → ℕ → StackRecord → Type 0
+UncutPiece w d first n w' = CutsNone w.config (mapped d) first n → NoneRead w.leaves w'.leaves
 
 -- How a piece is written, these bytes to mapped device d from its sector first on, with the stack that it leaves:
 -- whatever the leaves answer
@@ -35,6 +44,7 @@ pub record AnyWrite (w : StackRecord) (d first : ℕ) (bytes : List ℕ) (result
   pub stops : StopsAtFault (said_at w.config (mapped d)) first (length bytes / 512) w.leaves w'.leaves result
   pub unread : (SomeEncrypt (said_at w.config (mapped d)) first (length bytes / 512) → ⊥) → NoneRead w.leaves w'.leaves
   pub forgets : Forgets w.config (leaves_of w.config (mapped d)) w.leaves w'.leaves w.kept w'.kept
+  pub fails : EndsAtFailure w.leaves w'.leaves result
   pub short : result ≡ Err io.NoMemory → w'.kept ≡ w.kept
 
 -- Where the leaves beneath are steady: what the put leaves, no leaf sector that isn't reached is changed, and what stands before the
@@ -45,8 +55,9 @@ pub record SteadyWrite (w : StackRecord) (d first : ℕ) (bytes : List ℕ) (res
   pub others : DifferWithin (piece_reached w.config d first (length bytes / 512)) (steady_images w.leaves) (steady_images w'.leaves)
   pub behind : StopsBehindPut (destination_of w.config (mapped d)) first (sectors_in bytes) w.leaves w'.leaves result
 
--- both
+-- both, of a piece
 pub record EachWrite (w : StackRecord) (d first : ℕ) (bytes : List ℕ) (result : Result Unit IoFault) (w' : StackRecord) : Type 0 where
+  pub piece : ArePiece bytes
   pub any : AnyWrite w d first bytes result w'
   pub steady : AreSteady (leaves_of w.config (mapped d)) w.leaves → SteadyWrite w d first bytes result w'
 

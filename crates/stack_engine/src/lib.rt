@@ -2,13 +2,13 @@
 #![tactic(auto)]
 
 mod answer;
+mod backing;
 mod buffer;
 mod bytes;
 mod counters;
 pub mod laws;
 mod path;
 mod read;
-mod reader;
 mod rows;
 mod stack;
 mod sync;

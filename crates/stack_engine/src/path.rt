@@ -1,7 +1,7 @@
 //! The hash blocks on the way to a data block, as they stand from the block before.
-ghost use Rattle.std.specs.Prelude.{◌≡◌, ◌<◌, ◌≤◌, ◌++◌, ◌∷◌, [], length, map, take, get_or, IsTrue, OnOk, OnErr};
+ghost use Rattle.std.specs.Prelude.{◌≡◌, ◌<◌, ◌≤◌, ◌++◌, ◌∷◌, [], length, take, get_or, IsTrue, OnOk, OnErr};
 ghost use Rattle.verified_cache.specs.Cache.{CachedBlock};
-ghost use Rattle.stack_engine.specs.Keeping.{handed_out};
+ghost use Rattle.stack_engine.specs.Keeping.{handed_out, one_found};
 
 use hash_tree::Chain;
 use stack_lines::BlockPart;
@@ -77,7 +77,7 @@ impl Chains {
         content: &[u8],
         found: &mut Vec<Found>,
     ) -> Result<(), AllocError>
-        ensures ok { OnOk result (found.new.items ≡ handed_out self found.old.items (record { device = part.device.0; line = part.line; chain = record { index = index; content = content.now; path = map (λ b. b.bytes) path.now } })) }
+        ensures ok { OnOk result (found.new.items ≡ handed_out self found.old.items (one_found part index content.now path.now)) }
         ensures err { OnErr result (found.new.items ≡ found.old.items) }
     {
         match self {
@@ -95,7 +95,7 @@ fn keep_chain(
     content: &[u8],
     found: &mut Vec<Found>,
 ) -> Result<(), AllocError>
-    ensures ok { OnOk result (found.new.items ≡ found.old.items ++ (record { device = part.device.0; line = part.line; chain = record { index = index; content = content.now; path = map (λ b. b.bytes) path.now } } ∷ [])) }
+    ensures ok { OnOk result (found.new.items ≡ found.old.items ++ (one_found part index content.now path.now ∷ [])) }
     ensures err { OnErr result (found.new.items ≡ found.old.items) }
 {
     let alloc = *found.allocator();

@@ -2,29 +2,26 @@
 ghost use Rattle.std.specs.Prelude.{◌≡◌, ◌≤◌, ◌<◌, ◌+◌, ◌*◌, ◌/◌, ◌%◌, List, length, map, take, get_or, All, OnOk, IfOk, IfErr, Err};
 ghost use Rattle.tree_shape.specs.Shape.{levels};
 ghost use Rattle.stack_rules.specs.Trees.{tree_of};
-ghost use Rattle.stack_meaning.specs.Blocks.{hash_sectors, hash_start};
-ghost use Rattle.stack_meaning.specs.Leaves.{AreRead};
 ghost use Rattle.stack_rules.specs.Names.{mapped, size};
 ghost use Rattle.stack_lines.specs.declared.source.Source.TheVariants.{Below};
 ghost use Rattle.stack_meaning.specs.Found.{FoundRecord};
-ghost use Rattle.stack_meaning.specs.Places.{place_of, run_expected};
 ghost use Rattle.stack_meaning.specs.Meaning.{said_at};
-ghost use Rattle.stack_meaning.specs.Reading.{Gets, Reads, IsPlain, MeetVerity, buffer_answer};
-ghost use Rattle.stack_lines.specs.Sources.{ReadsSource, source_said};
+ghost use Rattle.stack_meaning.specs.Reading.{Gets, Reads, IsPlain, buffer_answer};
+ghost use Rattle.stack_lines.specs.Sources.{ReadsSource};
 ghost use Rattle.stack_lines.specs.Extents.{LiesInside};
-ghost use Rattle.stack_lines.specs.Budgets.{ReadsAtMost, budget, source_budget};
-ghost use Rattle.stack_lines.specs.Touches.{TouchesOnly, leaves_of, source_leaves};
-ghost use Rattle.stack_lines.specs.Walks.{HasDataBlock, block_in, checked_expected, data_expected, GetsChain, IsWalked};
-ghost use Rattle.stack_lines.specs.Caches.{IsCached, KeepsCache, IsPlaceOf};
+ghost use Rattle.stack_lines.specs.Touches.{AsksOnly, leaves_of, source_leaves};
+ghost use Rattle.stack_lines.specs.Walks.{HasDataBlock};
+ghost use Rattle.stack_lines.specs.Caches.{IsCached, IsPlaceOf};
 ghost use Rattle.verified_cache.specs.Cache.{CachedBlock};
-ghost use Rattle.stack_engine.specs.Bytes.{GetsBytes};
-ghost use Rattle.stack_engine.specs.Stacks.{IsSound, IsStack};
-ghost use Rattle.stack_engine.specs.Premises.{FitsIn, CanRead};
+ghost use Rattle.stack_engine.specs.Stacks.{IsSound};
+ghost use Rattle.stack_engine.specs.Premises.{FitsIn};
+ghost use Rattle.stack_engine.specs.Backings.{leaves_in, IsBacking, Asks, StaysSound, did};
+ghost use Rattle.stack_engine.specs.ReadSteps.{CanFill, PlainFrom, SameFrom, SpentFrom, PlainAt, SameAt, SpentAt, GotAt, leaf_sectors, GetsBy, extent_wanted, data_wanted, way_wanted, ChainBy, WalkedBy, ReadsWay};
 ghost use Rattle.stack_engine.specs.Keeping.{ReadsBlocks};
 
+use crate::backing::Backing;
 use crate::buffer::{fill_zeros, zero_block, zero_sectors};
 use crate::path::{Chains, PathBlock, WantedBlock, put, stands};
-use crate::reader::Reader;
 use crate::rows::{NextBlock, read_as_far, row_len, settle};
 use block_device::BlockDev;
 use dm_table::Verity;
@@ -50,10 +47,10 @@ fn read_leaf<D: BlockDev>(
 ) -> Result<(), IoFault>
     requires sound { IsSound config.now (map D.state devices.old) }
     requires fits { FitsIn config.now (Below (Lower.Leaf leaf) first) out.old }
-    ensures got { (chains : List FoundRecord) → Gets (run_expected (place_of config.now (Lower.Leaf leaf)) chains first (length out.old / 512))
+    ensures got { (chains : List FoundRecord) → Gets (leaf_sectors config.now leaf first out.old chains)
         (map D.state devices.old) (map D.state devices.new) (buffer_answer result out.new) }
     ensures plain { IsPlain (said_at config.now (Lower.Leaf leaf)) first (length out.old / 512) (map D.state devices.old) (map D.state devices.new) result }
-    ensures touches { TouchesOnly (leaves_of config.now (Lower.Leaf leaf)) (map D.state devices.old) (map D.state devices.new) result }
+    ensures touches { AsksOnly (leaves_of config.now (Lower.Leaf leaf)) (map D.state devices.old) (map D.state devices.new) result }
 {
     match devices[leaf as usize].read(first, out) {
         Ok(()) => Ok(()),
@@ -65,25 +62,25 @@ fn read_leaf<D: BlockDev>(
 #[cycle(read)]
 fn read_lower<D: BlockDev>(
     config: &Config,
-    reader: &mut Reader<D>,
+    backing: &mut Backing<D>,
     lower: Lower,
     first: u64,
     out: &mut [u8],
     found: &mut Vec<Found>,
 ) -> Result<(), IoFault>
-    requires { CanRead config.now (map D.state reader.old.devices.items) reader.old.cache found.old.items (Below lower first) out.old }
+    requires { CanFill D.state config.now backing.old found.old.items (Below lower first) out.old }
     ensures reads { Reads config.now lower first (length out.old / 512)
-        (record { old = map D.state reader.old.devices.items; new = map D.state reader.new.devices.items; before = found.old.items; after = found.new.items })
+        (did D.state backing.old found.old.items backing.new found.new.items)
         (buffer_answer result out.new) }
-    ensures cached { KeepsCache config.now (map D.state reader.new.devices.items) reader.old.cache reader.new.cache }
-    ensures plain { IsPlain (said_at config.now lower) first (length out.old / 512) (map D.state reader.old.devices.items) (map D.state reader.new.devices.items) result }
-    ensures same { (MeetVerity (said_at config.now lower) first (length out.old / 512) → ⊥) → reader.new.cache ≡ reader.old.cache }
-    ensures touches { TouchesOnly (leaves_of config.now lower) (map D.state reader.old.devices.items) (map D.state reader.new.devices.items) result }
-    ensures spent { ReadsAtMost (budget config.now lower first (length out.old / 512)) (map D.state reader.old.devices.items) (map D.state reader.new.devices.items) }
+    ensures cached { StaysSound D.state config.now backing.old backing.new }
+    ensures plain { PlainAt D.state config.now lower first out.old backing.old backing.new result }
+    ensures same { SameAt config.now lower first out.old backing.old backing.new }
+    ensures touches { Asks D.state (leaves_of config.now lower) backing.old backing.new result }
+    ensures spent { SpentAt D.state config.now lower first out.old backing.old backing.new }
 {
     match lower {
-        Lower::Leaf(leaf) => read_leaf(config, reader.devices.as_mut_slice(), leaf, first, out),
-        Lower::Device(d) => read_device(config, reader, d, first, out, found),
+        Lower::Leaf(leaf) => read_leaf(config, backing.devices.as_mut_slice(), leaf, first, out),
+        Lower::Device(d) => read_device(config, backing, d, first, out, found),
     }
 }
 
@@ -91,32 +88,32 @@ fn read_lower<D: BlockDev>(
 #[cycle(read)]
 pub(crate) fn read_run<D: BlockDev>(
     config: &Config,
-    reader: &mut Reader<D>,
+    backing: &mut Backing<D>,
     source: Source,
     out: &mut [u8],
     found: &mut Vec<Found>,
 ) -> Result<(), IoFault>
-    requires { CanRead config.now (map D.state reader.old.devices.items) reader.old.cache found.old.items source out.old }
+    requires { CanFill D.state config.now backing.old found.old.items source out.old }
     ensures reads { ReadsSource config.now source (length out.old / 512)
-        (record { old = map D.state reader.old.devices.items; new = map D.state reader.new.devices.items; before = found.old.items; after = found.new.items })
+        (did D.state backing.old found.old.items backing.new found.new.items)
         (buffer_answer result out.new) }
-    ensures cached { KeepsCache config.now (map D.state reader.new.devices.items) reader.old.cache reader.new.cache }
-    ensures plain { IsPlain (source_said config.now source) 0 (length out.old / 512) (map D.state reader.old.devices.items) (map D.state reader.new.devices.items) result }
-    ensures same { (MeetVerity (source_said config.now source) 0 (length out.old / 512) → ⊥) → reader.new.cache ≡ reader.old.cache }
-    ensures touches { TouchesOnly (source_leaves config.now source) (map D.state reader.old.devices.items) (map D.state reader.new.devices.items) result }
-    ensures spent { ReadsAtMost (source_budget config.now source (length out.old / 512)) (map D.state reader.old.devices.items) (map D.state reader.new.devices.items) }
+    ensures cached { StaysSound D.state config.now backing.old backing.new }
+    ensures plain { PlainFrom D.state config.now source out.old backing.old backing.new result }
+    ensures same { SameFrom config.now source out.old backing.old backing.new }
+    ensures touches { Asks D.state (source_leaves config.now source) backing.old backing.new result }
+    ensures spent { SpentFrom D.state config.now source out.old backing.old backing.new }
 {
     match source {
-        Source::Below { lower, first } => read_lower(config, reader, lower, first, out, found),
-        Source::Units(part) => read_units(config, reader, part, out, found),
-        Source::UnitPart(part) => read_unit_part(config, reader, part, out, found),
+        Source::Below { lower, first } => read_lower(config, backing, lower, first, out, found),
+        Source::Units(part) => read_units(config, backing, part, out, found),
+        Source::UnitPart(part) => read_unit_part(config, backing, part, out, found),
         Source::Zeros => {
             fill_zeros(out);
             Ok(())
         }
         Source::Fails => Err(IoFault::Stack(Fault::ErrorTarget)),
-        Source::Block(part) => read_block(config, reader, part, out, found),
-        Source::Blocks(part) => read_blocks(config, reader, part, out, Chains::Kept, found),
+        Source::Block(part) => read_block(config, backing, part, out, found),
+        Source::Blocks(part) => read_blocks(config, backing, part, out, Chains::Kept, found),
     }
 }
 
@@ -124,24 +121,24 @@ pub(crate) fn read_run<D: BlockDev>(
 #[cycle(read)]
 pub(crate) fn read_units<D: BlockDev>(
     config: &Config,
-    reader: &mut Reader<D>,
+    backing: &mut Backing<D>,
     part: BlockPart,
     out: &mut [u8],
     found: &mut Vec<Found>,
 ) -> Result<(), IoFault>
-    requires { CanRead config.now (map D.state reader.old.devices.items) reader.old.cache found.old.items (Source.Units part) out.old }
+    requires { CanFill D.state config.now backing.old found.old.items (Source.Units part) out.old }
     ensures reads { ReadsSource config.now (Source.Units part) (length out.old / 512)
-        (record { old = map D.state reader.old.devices.items; new = map D.state reader.new.devices.items; before = found.old.items; after = found.new.items })
+        (did D.state backing.old found.old.items backing.new found.new.items)
         (buffer_answer result out.new) }
-    ensures cached { KeepsCache config.now (map D.state reader.new.devices.items) reader.old.cache reader.new.cache }
-    ensures plain { IsPlain (source_said config.now (Source.Units part)) 0 (length out.old / 512) (map D.state reader.old.devices.items) (map D.state reader.new.devices.items) result }
-    ensures same { (MeetVerity (source_said config.now (Source.Units part)) 0 (length out.old / 512) → ⊥) → reader.new.cache ≡ reader.old.cache }
-    ensures touches { TouchesOnly (leaves_of config.now (mapped part.device.0)) (map D.state reader.old.devices.items) (map D.state reader.new.devices.items) result }
-    ensures spent { ReadsAtMost (source_budget config.now (Source.Units part) (length out.old / 512)) (map D.state reader.old.devices.items) (map D.state reader.new.devices.items) }
+    ensures cached { StaysSound D.state config.now backing.old backing.new }
+    ensures plain { PlainFrom D.state config.now (Source.Units part) out.old backing.old backing.new result }
+    ensures same { SameFrom config.now (Source.Units part) out.old backing.old backing.new }
+    ensures touches { Asks D.state (leaves_of config.now (mapped part.device.0)) backing.old backing.new result }
+    ensures spent { SpentFrom D.state config.now (Source.Units part) out.old backing.old backing.new }
 {
     let crypt = crypt_at(config, part.device, part.line);
     let unit = unit_at(config, part, crypt);
-    match read_lower(config, reader, unit.lower, unit.first, out, found) {
+    match read_lower(config, backing, unit.lower, unit.first, out, found) {
         Ok(()) => {
             decrypt(config, part, crypt, unit.index, out);
             Ok(())
@@ -154,26 +151,26 @@ pub(crate) fn read_units<D: BlockDev>(
 #[cycle(read)]
 fn read_unit_part<D: BlockDev>(
     config: &Config,
-    reader: &mut Reader<D>,
+    backing: &mut Backing<D>,
     part: BlockPart,
     out: &mut [u8],
     found: &mut Vec<Found>,
 ) -> Result<(), IoFault>
-    requires { CanRead config.now (map D.state reader.old.devices.items) reader.old.cache found.old.items (Source.UnitPart part) out.old }
+    requires { CanFill D.state config.now backing.old found.old.items (Source.UnitPart part) out.old }
     ensures reads { ReadsSource config.now (Source.UnitPart part) (length out.old / 512)
-        (record { old = map D.state reader.old.devices.items; new = map D.state reader.new.devices.items; before = found.old.items; after = found.new.items })
+        (did D.state backing.old found.old.items backing.new found.new.items)
         (buffer_answer result out.new) }
-    ensures cached { KeepsCache config.now (map D.state reader.new.devices.items) reader.old.cache reader.new.cache }
-    ensures plain { IsPlain (source_said config.now (Source.UnitPart part)) 0 (length out.old / 512) (map D.state reader.old.devices.items) (map D.state reader.new.devices.items) result }
-    ensures same { (MeetVerity (source_said config.now (Source.UnitPart part)) 0 (length out.old / 512) → ⊥) → reader.new.cache ≡ reader.old.cache }
-    ensures touches { TouchesOnly (leaves_of config.now (mapped part.device.0)) (map D.state reader.old.devices.items) (map D.state reader.new.devices.items) result }
-    ensures spent { ReadsAtMost (source_budget config.now (Source.UnitPart part) (length out.old / 512)) (map D.state reader.old.devices.items) (map D.state reader.new.devices.items) }
+    ensures cached { StaysSound D.state config.now backing.old backing.new }
+    ensures plain { PlainFrom D.state config.now (Source.UnitPart part) out.old backing.old backing.new result }
+    ensures same { SameFrom config.now (Source.UnitPart part) out.old backing.old backing.new }
+    ensures touches { Asks D.state (leaves_of config.now (mapped part.device.0)) backing.old backing.new result }
+    ensures spent { SpentFrom D.state config.now (Source.UnitPart part) out.old backing.old backing.new }
 {
     let whole = whole_unit(config, part);
     let mut room = [0u8; MOST];
     let all = room.as_mut_slice();
     let unit = &mut all[..whole.sectors as usize * 512];
-    match read_units(config, reader, whole.from, unit, found) {
+    match read_units(config, backing, whole.from, unit, found) {
         Ok(()) => {
             take_sectors(unit, whole.within, out);
             Ok(())
@@ -186,20 +183,20 @@ fn read_unit_part<D: BlockDev>(
 #[cycle(read)]
 fn read_block<D: BlockDev>(
     config: &Config,
-    reader: &mut Reader<D>,
+    backing: &mut Backing<D>,
     part: BlockPart,
     out: &mut [u8],
     found: &mut Vec<Found>,
 ) -> Result<(), IoFault>
-    requires { CanRead config.now (map D.state reader.old.devices.items) reader.old.cache found.old.items (Source.Block part) out.old }
+    requires { CanFill D.state config.now backing.old found.old.items (Source.Block part) out.old }
     ensures reads { ReadsSource config.now (Source.Block part) (length out.old / 512)
-        (record { old = map D.state reader.old.devices.items; new = map D.state reader.new.devices.items; before = found.old.items; after = found.new.items })
+        (did D.state backing.old found.old.items backing.new found.new.items)
         (buffer_answer result out.new) }
-    ensures cached { KeepsCache config.now (map D.state reader.new.devices.items) reader.old.cache reader.new.cache }
-    ensures plain { IsPlain (source_said config.now (Source.Block part)) 0 (length out.old / 512) (map D.state reader.old.devices.items) (map D.state reader.new.devices.items) result }
-    ensures same { (MeetVerity (source_said config.now (Source.Block part)) 0 (length out.old / 512) → ⊥) → reader.new.cache ≡ reader.old.cache }
-    ensures touches { TouchesOnly (leaves_of config.now (mapped part.device.0)) (map D.state reader.old.devices.items) (map D.state reader.new.devices.items) result }
-    ensures spent { ReadsAtMost (source_budget config.now (Source.Block part) (length out.old / 512)) (map D.state reader.old.devices.items) (map D.state reader.new.devices.items) }
+    ensures cached { StaysSound D.state config.now backing.old backing.new }
+    ensures plain { PlainFrom D.state config.now (Source.Block part) out.old backing.old backing.new result }
+    ensures same { SameFrom config.now (Source.Block part) out.old backing.old backing.new }
+    ensures touches { Asks D.state (leaves_of config.now (mapped part.device.0)) backing.old backing.new result }
+    ensures spent { SpentFrom D.state config.now (Source.Block part) out.old backing.old backing.new }
 {
     let verity = verity_at(config, part.device, part.line);
     let sectors = u64::from(verity.data_block / 512);
@@ -212,7 +209,7 @@ fn read_block<D: BlockDev>(
         }
         None => {
             let tree = tree_at(config, part.device, part.line, verity);
-            match walk(config, reader, verity, &tree, index) {
+            match walk(config, backing, verity, &tree, index) {
                 Err(fault) => Err(fault),
                 Ok(chain) => {
                     let at = found.len();
@@ -239,21 +236,21 @@ fn read_block<D: BlockDev>(
 #[cycle(read)]
 pub(crate) fn read_blocks<D: BlockDev>(
     config: &Config,
-    reader: &mut Reader<D>,
+    backing: &mut Backing<D>,
     part: BlockPart,
     out: &mut [u8],
     chains: Chains,
     found: &mut Vec<Found>,
 ) -> Result<(), IoFault>
-    requires { CanRead config.now (map D.state reader.old.devices.items) reader.old.cache found.old.items (Source.Blocks part) out.old }
+    requires { CanFill D.state config.now backing.old found.old.items (Source.Blocks part) out.old }
     ensures reads { ReadsBlocks config.now part (length out.old / 512) chains
-        (record { old = map D.state reader.old.devices.items; new = map D.state reader.new.devices.items; before = found.old.items; after = found.new.items })
+        (did D.state backing.old found.old.items backing.new found.new.items)
         (buffer_answer result out.new) }
-    ensures cached { KeepsCache config.now (map D.state reader.new.devices.items) reader.old.cache reader.new.cache }
-    ensures plain { IsPlain (source_said config.now (Source.Blocks part)) 0 (length out.old / 512) (map D.state reader.old.devices.items) (map D.state reader.new.devices.items) result }
-    ensures same { (MeetVerity (source_said config.now (Source.Blocks part)) 0 (length out.old / 512) → ⊥) → reader.new.cache ≡ reader.old.cache }
-    ensures touches { TouchesOnly (leaves_of config.now (mapped part.device.0)) (map D.state reader.old.devices.items) (map D.state reader.new.devices.items) result }
-    ensures spent { ReadsAtMost (source_budget config.now (Source.Blocks part) (length out.old / 512)) (map D.state reader.old.devices.items) (map D.state reader.new.devices.items) }
+    ensures cached { StaysSound D.state config.now backing.old backing.new }
+    ensures plain { PlainFrom D.state config.now (Source.Blocks part) out.old backing.old backing.new result }
+    ensures same { SameFrom config.now (Source.Blocks part) out.old backing.old backing.new }
+    ensures touches { Asks D.state (leaves_of config.now (mapped part.device.0)) backing.old backing.new result }
+    ensures spent { SpentFrom D.state config.now (Source.Blocks part) out.old backing.old backing.new }
 {
     let verity = verity_at(config, part.device, part.line);
     let tree = tree_at(config, part.device, part.line, verity);
@@ -263,12 +260,12 @@ pub(crate) fn read_blocks<D: BlockDev>(
     let count = out.len() / size;
     let mut room = [Digest::new([0; Digest::SIZE]); 128];
     let made = room.as_mut_slice();
-    let mut path = Vec::new(reader.alloc);
+    let mut path = Vec::new(backing.alloc);
     let mut read = 0;
     let mut at = 0;
     'checks: while at < count {
         let index = first + at as u64;
-        let expected = match walk_path(config, reader, verity, &tree, index, &mut path) {
+        let expected = match walk_path(config, backing, verity, &tree, index, &mut path) {
             Err(first) => return Err(first),
             Ok(expected) => expected,
         };
@@ -285,7 +282,7 @@ pub(crate) fn read_blocks<D: BlockDev>(
         let from = at * size;
         let extent = data_extent(config, verity, &tree, index);
         let row = &mut out[from..from + many * size];
-        match read_beneath(config, reader, tree.data, extent.first, row) {
+        match read_beneath(config, backing, tree.data, extent.first, row) {
             Err(met) => return Err(met),
             Ok(()) => {}
         }
@@ -308,50 +305,48 @@ pub(crate) fn read_blocks<D: BlockDev>(
 #[cycle(read)]
 fn read_beneath<D: BlockDev>(
     config: &Config,
-    reader: &mut Reader<D>,
+    backing: &mut Backing<D>,
     lower: Lower,
     first: u64,
     out: &mut [u8],
 ) -> Result<(), IoFault>
-    requires stack { IsStack config.now (map D.state reader.old.devices.items) reader.old.cache }
+    requires stack { IsBacking D.state config.now backing.old }
     requires whole { length out.old % 512 ≡ 0 }
     requires inside { first + length out.old / 512 ≤ size config.now lower }
-    ensures reads { GetsBytes config.now lower first (length out.old / 512)
-        (map D.state reader.old.devices.items) (map D.state reader.new.devices.items) (buffer_answer result out.new) }
-    ensures cached { KeepsCache config.now (map D.state reader.new.devices.items) reader.old.cache reader.new.cache }
-    ensures touches { TouchesOnly (leaves_of config.now lower) (map D.state reader.old.devices.items) (map D.state reader.new.devices.items) result }
+    ensures reads { GotAt D.state config.now lower first out.old backing.old backing.new (buffer_answer result out.new) }
+    ensures cached { StaysSound D.state config.now backing.old backing.new }
+    ensures touches { Asks D.state (leaves_of config.now lower) backing.old backing.new result }
 {
     if out.is_empty() {
         return Ok(());
     }
-    let mut beneath = Vec::new(reader.alloc);
-    read_lower(config, reader, lower, first, out, &mut beneath)
+    let mut beneath = Vec::new(backing.alloc);
+    read_lower(config, backing, lower, first, out, &mut beneath)
 }
 
 /// The chain of a data block, from the root down to the first block that has another digest.
 #[cycle(read)]
 fn walk<D: BlockDev>(
     config: &Config,
-    reader: &mut Reader<D>,
+    backing: &mut Backing<D>,
     verity: &Verity,
     tree: &Tree,
     index: u64,
 ) -> Result<Chain, IoFault>
-    requires stack { IsStack config.now (map D.state reader.old.devices.items) reader.old.cache }
+    requires stack { IsBacking D.state config.now backing.old }
     requires block { HasDataBlock config.now verity.now tree.now index }
-    ensures reads { GetsChain (block_in config.now verity.now index)
-        (map D.state reader.old.devices.items) (map D.state reader.new.devices.items) result }
-    ensures cached { KeepsCache config.now (map D.state reader.new.devices.items) reader.old.cache reader.new.cache }
-    ensures touches { TouchesOnly (leaves_of config.now (mapped tree.now.device.0)) (map D.state reader.old.devices.items) (map D.state reader.new.devices.items) result }
+    ensures reads { ChainBy D.state config.now verity.now index backing.old backing.new result }
+    ensures cached { StaysSound D.state config.now backing.old backing.new }
+    ensures touches { Asks D.state (leaves_of config.now (mapped tree.now.device.0)) backing.old backing.new result }
 {
     let mut expected = verity.root;
-    let mut path: Vec<Vec<u8>> = Vec::new(reader.alloc);
+    let mut path: Vec<Vec<u8>> = Vec::new(backing.alloc);
     let mut level = tree.shape.levels();
     while level > 0 {
         level -= 1;
         let extent = hash_extent(config, verity, tree, level, index);
         let key = hash_key(tree, level, index);
-        match hash_block(config, reader, key, extent, &verity.salt, &expected) {
+        match hash_block(config, backing, key, extent, &verity.salt, &expected) {
             Err(first) => return Err(first),
             Ok(block) => {
                 expected = digest_in(block.as_slice(), tree.shape.slot_on_path(level, index));
@@ -362,7 +357,7 @@ fn walk<D: BlockDev>(
             }
         }
     }
-    match read_data(config, reader, verity, tree, index, &expected) {
+    match read_data(config, backing, verity, tree, index, &expected) {
         Err(fault) => Err(fault),
         Ok(content) => Ok(Chain {
             index,
@@ -376,57 +371,55 @@ fn walk<D: BlockDev>(
 #[cycle(read)]
 fn read_data<D: BlockDev>(
     config: &Config,
-    reader: &mut Reader<D>,
+    backing: &mut Backing<D>,
     verity: &Verity,
     tree: &Tree,
     index: u64,
     expected: &Digest,
 ) -> Result<Vec<u8>, IoFault>
-    requires stack { IsStack config.now (map D.state reader.old.devices.items) reader.old.cache }
+    requires stack { IsBacking D.state config.now backing.old }
     requires block { HasDataBlock config.now verity.now tree.now index }
-    ensures reads { Gets (data_expected (λ block. block.items) (block_in config.now verity.now index) expected.now)
-        (map D.state reader.old.devices.items) (map D.state reader.new.devices.items) result }
-    ensures cached { KeepsCache config.now (map D.state reader.new.devices.items) reader.old.cache reader.new.cache }
-    ensures touches { TouchesOnly (leaves_of config.now (mapped tree.now.device.0)) (map D.state reader.old.devices.items) (map D.state reader.new.devices.items) result }
+    ensures reads { GetsBy D.state (data_wanted config.now verity.now index expected.now) backing.old backing.new result }
+    ensures cached { StaysSound D.state config.now backing.old backing.new }
+    ensures touches { Asks D.state (leaves_of config.now (mapped tree.now.device.0)) backing.old backing.new result }
 {
     if is_ignored(config, verity, tree, expected) {
-        return match zero_block(reader.alloc, verity.data_block) {
+        return match zero_block(backing.alloc, verity.data_block) {
             Ok(block) => Ok(block),
             Err(_) => Err(IoFault::NoMemory),
         };
     }
     let extent = data_extent(config, verity, tree, index);
-    read_checked(config, reader, extent, &verity.salt, expected)
+    read_checked(config, backing, extent, &verity.salt, expected)
 }
 
 /// A hash block: the one that is kept under its key and that digest, or it is read, checked, and then kept.
 #[cycle(read)]
 fn hash_block<D: BlockDev>(
     config: &Config,
-    reader: &mut Reader<D>,
+    backing: &mut Backing<D>,
     key: Key,
     extent: Extent,
     salt: &Salt,
     expected: &Digest,
 ) -> Result<Vec<u8>, IoFault>
-    requires stack { IsStack config.now (map D.state reader.old.devices.items) reader.old.cache }
+    requires stack { IsBacking D.state config.now backing.old }
     requires key { IsPlaceOf config.now salt.now key extent }
-    ensures reads { Gets (checked_expected (λ block. block.items) (place_of config.now extent.lower) extent.first extent.sectors salt.now expected.now)
-        (map D.state reader.old.devices.items) (map D.state reader.new.devices.items) result }
-    ensures cached { KeepsCache config.now (map D.state reader.new.devices.items) reader.old.cache reader.new.cache }
-    ensures touches { TouchesOnly (leaves_of config.now extent.lower) (map D.state reader.old.devices.items) (map D.state reader.new.devices.items) result }
+    ensures reads { GetsBy D.state (extent_wanted config.now extent salt.now expected.now) backing.old backing.new result }
+    ensures cached { StaysSound D.state config.now backing.old backing.new }
+    ensures touches { Asks D.state (leaves_of config.now extent.lower) backing.old backing.new result }
 {
-    match reader.cache.copy_of(reader.alloc, key, expected) {
+    match backing.cache.copy_of(backing.alloc, key, expected) {
         Err(_) => Err(IoFault::NoMemory),
         Ok(Some(block)) => Ok(block),
-        Ok(None) => match read_checked(config, reader, extent, salt, expected) {
+        Ok(None) => match read_checked(config, backing, extent, salt, expected) {
             Err(fault) => Err(fault),
             Ok(block) => {
-                reader.cache.cover(extent.lower);
+                backing.cache.cover(extent.lower);
                 // Where memory is short the block isn't kept, and the answer is the same.
-                let _kept = reader
+                let _kept = backing
                     .cache
-                    .keep_copy(reader.alloc, key, *expected, block.as_slice());
+                    .keep_copy(backing.alloc, key, *expected, block.as_slice());
                 Ok(block)
             }
         },
@@ -437,24 +430,23 @@ fn hash_block<D: BlockDev>(
 #[cycle(read)]
 fn path_block<D: BlockDev>(
     config: &Config,
-    reader: &mut Reader<D>,
+    backing: &mut Backing<D>,
     verity: &Verity,
     tree: &Tree,
     path: &mut Vec<PathBlock>,
     wanted: &WantedBlock,
 ) -> Result<(), IoFault>
-    requires stack { IsStack config.now (map D.state reader.old.devices.items) reader.old.cache }
+    requires stack { IsBacking D.state config.now backing.old }
     requires block { HasDataBlock config.now verity.now tree.now wanted.now.block }
     requires level { wanted.now.level < levels (tree_of verity.now) }
-    requires held { All (IsCached config.now (map D.state reader.old.devices.items)) path.old.items }
+    requires held { All (IsCached config.now (leaves_in D.state backing.old)) path.old.items }
     requires at { wanted.now.at ≤ length path.old.items }
-    ensures reads { (x : CachedBlock) → Gets (checked_expected (λ block. block) (place_of config.now tree.now.hash) (hash_start verity.now wanted.now.level wanted.now.block) (hash_sectors verity.now) verity.now.salt wanted.now.digest)
-        (map D.state reader.old.devices.items) (map D.state reader.new.devices.items) (buffer_answer result ((get_or path.new.items wanted.now.at x).bytes)) }
+    ensures reads { (x : CachedBlock) → GetsBy D.state (way_wanted config.now verity.now tree.now wanted.now) backing.old backing.new (buffer_answer result ((get_or path.new.items wanted.now.at x).bytes)) }
     ensures there { OnOk result (wanted.now.at < length path.new.items) }
     ensures above { take wanted.now.at path.new.items ≡ take wanted.now.at path.old.items }
-    ensures held { All (IsCached config.now (map D.state reader.new.devices.items)) path.new.items }
-    ensures cached { KeepsCache config.now (map D.state reader.new.devices.items) reader.old.cache reader.new.cache }
-    ensures touches { TouchesOnly (leaves_of config.now tree.now.hash) (map D.state reader.old.devices.items) (map D.state reader.new.devices.items) result }
+    ensures held { All (IsCached config.now (leaves_in D.state backing.new)) path.new.items }
+    ensures cached { StaysSound D.state config.now backing.old backing.new }
+    ensures touches { Asks D.state (leaves_of config.now tree.now.hash) backing.old backing.new result }
 {
     let at = wanted.at;
     let digest = wanted.digest;
@@ -463,7 +455,7 @@ fn path_block<D: BlockDev>(
         return Ok(());
     }
     let extent = hash_extent(config, verity, tree, wanted.level, wanted.block);
-    match hash_block(config, reader, key, extent, &verity.salt, &digest) {
+    match hash_block(config, backing, key, extent, &verity.salt, &digest) {
         Err(fault) => Err(fault),
         Ok(bytes) => match put(path, at, PathBlock { key, digest, bytes }) {
             Err(_) => Err(IoFault::NoMemory),
@@ -476,21 +468,21 @@ fn path_block<D: BlockDev>(
 #[cycle(read)]
 fn walk_path<D: BlockDev>(
     config: &Config,
-    reader: &mut Reader<D>,
+    backing: &mut Backing<D>,
     verity: &Verity,
     tree: &Tree,
     index: u64,
     path: &mut Vec<PathBlock>,
 ) -> Result<Digest, IoFault>
-    requires stack { IsStack config.now (map D.state reader.old.devices.items) reader.old.cache }
+    requires stack { IsBacking D.state config.now backing.old }
     requires block { HasDataBlock config.now verity.now tree.now index }
-    requires held { All (IsCached config.now (map D.state reader.old.devices.items)) path.old.items }
-    ensures ok { IfOk result (λ expected. IsWalked (block_in config.now verity.now index) 0 expected (map (λ b. b.bytes) (take (levels (tree_of verity.now)) path.new.items)) (map D.state reader.old.devices.items) (map D.state reader.new.devices.items)) }
-    ensures err { IfErr result (λ fault. GetsChain (block_in config.now verity.now index) (map D.state reader.old.devices.items) (map D.state reader.new.devices.items) (Err fault)) }
-    ensures moved { AreRead (map D.state reader.old.devices.items) (levels (tree_of verity.now) * (hash_sectors verity.now * (block_in config.now verity.now index).on_hash.cost)) (map D.state reader.new.devices.items) }
-    ensures held { All (IsCached config.now (map D.state reader.new.devices.items)) path.new.items }
-    ensures cached { KeepsCache config.now (map D.state reader.new.devices.items) reader.old.cache reader.new.cache }
-    ensures touches { TouchesOnly (leaves_of config.now tree.now.hash) (map D.state reader.old.devices.items) (map D.state reader.new.devices.items) result }
+    requires held { All (IsCached config.now (leaves_in D.state backing.old)) path.old.items }
+    ensures ok { IfOk result (WalkedBy D.state config.now verity.now index path.new.items backing.old backing.new) }
+    ensures err { IfErr result (λ e. ChainBy D.state config.now verity.now index backing.old backing.new (Err e)) }
+    ensures moved { ReadsWay D.state config.now verity.now index backing.old backing.new }
+    ensures held { All (IsCached config.now (leaves_in D.state backing.new)) path.new.items }
+    ensures cached { StaysSound D.state config.now backing.old backing.new }
+    ensures touches { Asks D.state (leaves_of config.now tree.now.hash) backing.old backing.new result }
 {
     let mut digest = verity.root;
     let mut at = 0usize;
@@ -503,7 +495,7 @@ fn walk_path<D: BlockDev>(
             block: index,
             digest,
         };
-        match path_block(config, reader, verity, tree, path, &wanted) {
+        match path_block(config, backing, verity, tree, path, &wanted) {
             Err(first) => return Err(first),
             Ok(()) => {
                 let block = &path.as_slice()[at];
@@ -519,26 +511,25 @@ fn walk_path<D: BlockDev>(
 #[cycle(read)]
 fn read_checked<D: BlockDev>(
     config: &Config,
-    reader: &mut Reader<D>,
+    backing: &mut Backing<D>,
     extent: Extent,
     salt: &Salt,
     expected: &Digest,
 ) -> Result<Vec<u8>, IoFault>
-    requires stack { IsStack config.now (map D.state reader.old.devices.items) reader.old.cache }
+    requires stack { IsBacking D.state config.now backing.old }
     requires lies { LiesInside config.now extent }
-    ensures reads { Gets (checked_expected (λ block. block.items) (place_of config.now extent.lower) extent.first extent.sectors salt.now expected.now)
-        (map D.state reader.old.devices.items) (map D.state reader.new.devices.items) result }
-    ensures cached { KeepsCache config.now (map D.state reader.new.devices.items) reader.old.cache reader.new.cache }
-    ensures touches { TouchesOnly (leaves_of config.now extent.lower) (map D.state reader.old.devices.items) (map D.state reader.new.devices.items) result }
+    ensures reads { GetsBy D.state (extent_wanted config.now extent salt.now expected.now) backing.old backing.new result }
+    ensures cached { StaysSound D.state config.now backing.old backing.new }
+    ensures touches { Asks D.state (leaves_of config.now extent.lower) backing.old backing.new result }
 {
-    let mut block = match zero_sectors(reader.alloc, extent.sectors) {
+    let mut block = match zero_sectors(backing.alloc, extent.sectors) {
         Ok(block) => block,
         Err(_) => return Err(IoFault::NoMemory),
     };
-    let mut beneath = Vec::new(reader.alloc);
+    let mut beneath = Vec::new(backing.alloc);
     match read_lower(
         config,
-        reader,
+        backing,
         extent.lower,
         extent.first,
         block.as_mut_slice(),
@@ -558,28 +549,28 @@ fn read_checked<D: BlockDev>(
 #[cycle(read)]
 pub(crate) fn read_device<D: BlockDev>(
     config: &Config,
-    reader: &mut Reader<D>,
+    backing: &mut Backing<D>,
     d: DevId,
     first: u64,
     out: &mut [u8],
     found: &mut Vec<Found>,
 ) -> Result<(), IoFault>
-    requires { CanRead config.now (map D.state reader.old.devices.items) reader.old.cache found.old.items (Below (mapped d.0) first) out.old }
+    requires { CanFill D.state config.now backing.old found.old.items (Below (mapped d.0) first) out.old }
     ensures reads { Reads config.now (mapped d.0) first (length out.old / 512)
-        (record { old = map D.state reader.old.devices.items; new = map D.state reader.new.devices.items; before = found.old.items; after = found.new.items })
+        (did D.state backing.old found.old.items backing.new found.new.items)
         (buffer_answer result out.new) }
-    ensures cached { KeepsCache config.now (map D.state reader.new.devices.items) reader.old.cache reader.new.cache }
-    ensures plain { IsPlain (said_at config.now (mapped d.0)) first (length out.old / 512) (map D.state reader.old.devices.items) (map D.state reader.new.devices.items) result }
-    ensures same { (MeetVerity (said_at config.now (mapped d.0)) first (length out.old / 512) → ⊥) → reader.new.cache ≡ reader.old.cache }
-    ensures touches { TouchesOnly (leaves_of config.now (mapped d.0)) (map D.state reader.old.devices.items) (map D.state reader.new.devices.items) result }
-    ensures spent { ReadsAtMost (budget config.now (mapped d.0) first (length out.old / 512)) (map D.state reader.old.devices.items) (map D.state reader.new.devices.items) }
+    ensures cached { StaysSound D.state config.now backing.old backing.new }
+    ensures plain { PlainAt D.state config.now (mapped d.0) first out.old backing.old backing.new result }
+    ensures same { SameAt config.now (mapped d.0) first out.old backing.old backing.new }
+    ensures touches { Asks D.state (leaves_of config.now (mapped d.0)) backing.old backing.new result }
+    ensures spent { SpentAt D.state config.now (mapped d.0) first out.old backing.old backing.new }
 {
     let mut at = 0;
     while at < out.len() {
         let rest = (out.len() - at) as u64 / 512;
         let run = run_to_read(config, d, first + at as u64 / 512, rest, found.as_slice());
         let end = at + run.count as usize * 512;
-        match read_run(config, reader, run.source, &mut out[at..end], found) {
+        match read_run(config, backing, run.source, &mut out[at..end], found) {
             Ok(()) => at = end,
             Err(fault) => return Err(fault),
         }

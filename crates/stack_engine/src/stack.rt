@@ -5,28 +5,22 @@ ghost use Rattle.stack_rules.specs.Names.{mapped, size, may_write};
 ghost use Rattle.stack_rules.specs.Rules.{after_load, IsRefusal, first_refusal};
 ghost use Rattle.stack_rules.specs.Removal.{removal_fault, after_removal};
 ghost use Rattle.stack_rules.specs.declared.refusal.Refusal.{Refusal};
-ghost use Rattle.stack_meaning.specs.Leaves.{ServeLeaves, AreSteady, reads_of, writes_of};
+ghost use Rattle.stack_meaning.specs.Leaves.{ServeLeaves, reads_of, writes_of};
 ghost use Rattle.stack_engine.specs.Bytes.{AnyBytes, SteadyBytes};
-ghost use Rattle.stack_engine.specs.Pieces.{AnyPiece, SteadyPiece, stack_over};
 ghost use Rattle.stack_engine.specs.KeptBlocks.{AreChecked, ReadKeeps};
 ghost use Rattle.stack_engine.specs.Stacks.{StackRecord, IsSound};
-ghost use Rattle.stack_meaning.specs.Changes.{NoneRead};
-ghost use Rattle.stack_meaning.specs.Meaning.{said_at};
-ghost use Rattle.stack_meaning.specs.Reading.{MeetVerity, buffer_answer};
-ghost use Rattle.stack_meaning.specs.Stops.{ReadStops};
+ghost use Rattle.stack_meaning.specs.Reading.{buffer_answer};
 ghost use Rattle.stack_engine.specs.Syncs.{FailsToSync, NeverFail};
-ghost use Rattle.stack_engine.specs.WritePieces.{ArePiece, AnyWrite, SteadyWrite};
-ghost use Rattle.stack_lines.specs.Budgets.{ReadsAtMost, budget};
-ghost use Rattle.stack_lines.specs.Touches.{leaves_of};
-ghost use Rattle.stack_engine.specs.Uncut.{CutsNone};
-ghost use Rattle.stack_lines.specs.Writing.{SomeEncrypt};
+ghost use Rattle.stack_lines.specs.Budgets.{ReadsAtMost};
+ghost use Rattle.stack_engine.specs.Pieces.{AnyPiece, SteadyPiece, stack_over, AreSteadyBeneath, MeetsVerity, piece_budget, PieceStops};
+ghost use Rattle.stack_engine.specs.WritePieces.{ArePiece, AnyWrite, SteadyWrite, MeetsCrypt, UncutPiece};
 
 use crate::answer::Answer;
+use crate::backing::Backing;
 use crate::buffer::{bytes_to_encrypt, zero_sectors};
 use crate::bytes::device_bytes;
 use crate::counters::counted;
 use crate::read::read_device;
-use crate::reader::Reader;
 use crate::sync::sync_leaves;
 use crate::write::write_device;
 use block_device::{BlockDev, SyncDev};
@@ -42,7 +36,7 @@ use std::marker::Model;
 #[derive(Drop)]
 pub struct Stack<D: BlockDev> {
     config: Config,
-    reader: Reader<D>,
+    backing: Backing<D>,
 }
 
 impl<D: BlockDev> Model for Stack<D> {
@@ -51,9 +45,9 @@ impl<D: BlockDev> Model for Stack<D> {
 
     ghost Value = { StackRecord };
 
-    ghost view = { λ s. record { config = s.config; leaves = map D.state s.reader.devices.items; capacity = s.reader.cache.blocks.capacity; kept = s.reader.cache.blocks.blocks } };
+    ghost view = { λ s. record { config = s.config; leaves = map D.state s.backing.devices.items; capacity = s.backing.cache.blocks.capacity; kept = s.backing.cache.blocks.blocks } };
 
-    ghost invariant = { λ s. IsStack s.config (map D.state s.reader.devices.items) s.reader.cache };
+    ghost invariant = { λ s. IsStack s.config (map D.state s.backing.devices.items) s.backing.cache };
 }
 
 impl<D: BlockDev> Stack<D> {
@@ -74,12 +68,12 @@ impl<D: BlockDev> Stack<D> {
         match Cache::new(alloc, &config, capacity) {
             Err(_) => Err((config, devices)),
             Ok(cache) => {
-                let reader = Reader {
+                let backing = Backing {
                     alloc,
                     devices,
                     cache,
                 };
-                Ok(Stack { config, reader })
+                Ok(Stack { config, backing })
             }
         }
     }
@@ -89,12 +83,12 @@ impl<D: BlockDev> Stack<D> {
         ensures config { result.0 ≡ self.config }
         ensures leaves { map D.state result.1.items ≡ self.leaves }
     {
-        let Stack { config, reader } = self;
-        let Reader {
+        let Stack { config, backing } = self;
+        let Backing {
             alloc: _,
             devices,
             cache: _,
-        } = reader;
+        } = backing;
         (config, devices)
     }
 
@@ -107,19 +101,19 @@ impl<D: BlockDev> Stack<D> {
         requires most { n ≤ 128 }
         requires inside { first + n ≤ size self.old.config (mapped d.0) }
         ensures any { AnyPiece self.old d.0 first n result self.new }
-        ensures steady { AreSteady (leaves_of self.old.config (mapped d.0)) self.old.leaves → SteadyPiece self.old d.0 first n result self.new }
-        ensures stops { (MeetVerity (said_at self.old.config (mapped d.0)) first n → ⊥) → ReadStops (said_at self.old.config (mapped d.0)) first n self.old.leaves self.new.leaves result }
-        ensures spent { ReadsAtMost (budget self.old.config (mapped d.0) first n) self.old.leaves self.new.leaves }
+        ensures steady { AreSteadyBeneath self.old d.0 → SteadyPiece self.old d.0 first n result self.new }
+        ensures stops { PieceStops self.old d.0 first n result self.new }
+        ensures spent { ReadsAtMost (piece_budget self.old d.0 first n) self.old.leaves self.new.leaves }
         ensures kept { ReadKeeps self.old d.0 first n self.new }
     {
-        let mut bytes = match zero_sectors(self.reader.alloc, n) {
+        let mut bytes = match zero_sectors(self.backing.alloc, n) {
             Ok(bytes) => bytes,
             Err(_) => return Err(IoFault::NoMemory),
         };
-        let mut chains = Vec::new(self.reader.alloc);
+        let mut chains = Vec::new(self.backing.alloc);
         match read_device(
             &self.config,
-            &mut self.reader,
+            &mut self.backing,
             d,
             first,
             bytes.as_mut_slice(),
@@ -137,13 +131,13 @@ impl<D: BlockDev> Stack<D> {
         requires piece { ArePiece out.old }
         requires inside { first + length out.old / 512 ≤ size self.old.config (mapped d.0) }
         ensures any { AnyBytes self.old d.0 first (length out.old / 512) (buffer_answer result out.new) self.new }
-        ensures steady { AreSteady (leaves_of self.old.config (mapped d.0)) self.old.leaves → SteadyBytes self.old d.0 first (length out.old / 512) (buffer_answer result out.new) self.new }
-        ensures memory { result ≡ Err IoFault.NoMemory → MeetVerity (said_at self.old.config (mapped d.0)) first (length out.old / 512) }
-        ensures stops { (MeetVerity (said_at self.old.config (mapped d.0)) first (length out.old / 512) → ⊥) → ReadStops (said_at self.old.config (mapped d.0)) first (length out.old / 512) self.old.leaves self.new.leaves result }
-        ensures spent { ReadsAtMost (budget self.old.config (mapped d.0) first (length out.old / 512)) self.old.leaves self.new.leaves }
+        ensures steady { AreSteadyBeneath self.old d.0 → SteadyBytes self.old d.0 first (length out.old / 512) (buffer_answer result out.new) self.new }
+        ensures memory { result ≡ Err IoFault.NoMemory → MeetsVerity self.old d.0 first (length out.old / 512) }
+        ensures stops { PieceStops self.old d.0 first (length out.old / 512) result self.new }
+        ensures spent { ReadsAtMost (piece_budget self.old d.0 first (length out.old / 512)) self.old.leaves self.new.leaves }
         ensures kept { ReadKeeps self.old d.0 first (length out.old / 512) self.new }
     {
-        device_bytes(&self.config, &mut self.reader, d, first, out)
+        device_bytes(&self.config, &mut self.backing, d, first, out)
     }
 
     /// Writes whole sectors of a device, 1 to 128, from `first` on, in rising order up to the first fault: `stops` in
@@ -156,18 +150,19 @@ impl<D: BlockDev> Stack<D> {
         requires inside { first + length bytes.now / 512 ≤ size self.old.config (mapped d.0) }
         requires allowed { IsTrue (may_write self.old.config (mapped d.0)) }
         ensures any { AnyWrite self.old d.0 first bytes.now result self.new }
-        ensures steady { AreSteady (leaves_of self.old.config (mapped d.0)) self.old.leaves → SteadyWrite self.old d.0 first bytes.now result self.new }
-        ensures memory { result ≡ Err IoFault.NoMemory → SomeEncrypt (said_at self.old.config (mapped d.0)) first (length bytes.now / 512) }
-        ensures uncut { CutsNone self.old.config (mapped d.0) first (length bytes.now / 512) → NoneRead self.old.leaves self.new.leaves }
+        ensures steady { AreSteadyBeneath self.old d.0 → SteadyWrite self.old d.0 first bytes.now result self.new }
+        ensures memory { result ≡ Err IoFault.NoMemory → MeetsCrypt self.old d.0 first (length bytes.now / 512) }
+        ensures uncut { UncutPiece self.old d.0 first (length bytes.now / 512) self.new }
         ensures checked { AreChecked self.new }
+        ensures piece { ArePiece bytes.now }
     {
-        let mut buffer = match bytes_to_encrypt(self.reader.alloc, &self.config, d, first, bytes) {
+        let mut buffer = match bytes_to_encrypt(self.backing.alloc, &self.config, d, first, bytes) {
             Ok(buffer) => buffer,
             Err(_) => return Err(IoFault::NoMemory),
         };
         let plain = &bytes[buffer.len()..];
         let copy = buffer.as_mut_slice();
-        write_device(&self.config, &mut self.reader, d, first, plain, copy)
+        write_device(&self.config, &mut self.backing, d, first, plain, copy)
     }
 
     /// Puts the devices of a text in, all or none.
@@ -181,7 +176,7 @@ impl<D: BlockDev> Stack<D> {
         // As in `new`.
         let _loaded = self.config.count();
         if outcome.is_ok() {
-            self.reader.cache.start_over(&self.config);
+            self.backing.cache.start_over(&self.config);
         }
         outcome
     }
@@ -197,7 +192,7 @@ impl<D: BlockDev> Stack<D> {
         // As in `new`.
         let _loaded = self.config.count();
         if outcome.is_ok() {
-            self.reader.cache.start_over(&self.config);
+            self.backing.cache.start_over(&self.config);
         }
         outcome
     }
@@ -215,14 +210,14 @@ impl<D: BlockDev> Stack<D> {
         ensures value { result ≡ length self.now.kept }
         ensures checked { AreChecked self.now }
     {
-        self.reader.cache.count()
+        self.backing.cache.count()
     }
 
     /// How many sectors the leaves have read and written, each sum at most the greatest `u64`.
     pub fn moved(&self) -> (u64, u64)
         ensures { result ≡ (capped (reads_of self.now.leaves), capped (writes_of self.now.leaves)) }
     {
-        counted(self.reader.devices.as_slice())
+        counted(self.backing.devices.as_slice())
     }
 }
 
@@ -239,6 +234,6 @@ impl<D: SyncDev> Stack<D> {
     {
         // As in `new`.
         let _loaded = self.config.count();
-        sync_leaves(self.reader.devices.as_mut_slice())
+        sync_leaves(self.backing.devices.as_mut_slice())
     }
 }

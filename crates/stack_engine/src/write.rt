@@ -1,20 +1,18 @@
 //! Writes through the lines of a stack, down to its leaves.
-ghost use Rattle.std.specs.Prelude.{◌≡◌, ◌≤◌, ◌-◌, ◌/◌, ◌⊎◌, ◌++◌, [], IsTrue, length, map, take, drop};
+ghost use Rattle.std.specs.Prelude.{◌≡◌, ◌≤◌, ◌-◌, ◌/◌, ◌⊎◌, ◌++◌, [], IsTrue, map, take, drop};
 ghost use Rattle.stack_rules.specs.Names.{mapped, may_write};
 ghost use Rattle.stack_lines.specs.declared.source.Source.TheVariants.{Below};
-ghost use Rattle.stack_meaning.specs.Changes.{NoneRead};
 ghost use Rattle.stack_meaning.specs.Meaning.{said_at};
 ghost use Rattle.stack_lines.specs.Sources.{source_said};
-ghost use Rattle.stack_lines.specs.Writing.{AreHeld, sectors_in, destination_of, Writes, source_destination};
-ghost use Rattle.stack_lines.specs.Caches.{KeepsCache};
-ghost use Rattle.stack_lines.specs.Forgetting.{Forgets};
+ghost use Rattle.stack_lines.specs.Writing.{AreHeld, sectors_in, destination_of, Writes};
 ghost use Rattle.stack_lines.specs.Touches.{leaves_of, source_leaves};
-ghost use Rattle.stack_engine.specs.Uncut.{CutsNone, SourceCutsNone};
 ghost use Rattle.stack_engine.specs.Stacks.{IsSound};
-ghost use Rattle.stack_engine.specs.Premises.{FitsIn, CanWrite};
+ghost use Rattle.stack_engine.specs.Premises.{FitsIn};
+ghost use Rattle.stack_engine.specs.Backings.{StaysSound, ForgetsOn};
+ghost use Rattle.stack_engine.specs.WriteSteps.{CanPut, PutTo, UncutTo, PutAt, UncutAt};
 
+use crate::backing::Backing;
 use crate::read::read_units;
-use crate::reader::Reader;
 use block_device::BlockDev;
 use stack_config::{Config, DevId, Lower, unit_sectors};
 use stack_lines::units::{MOST, crypt_at, encrypt, put_sectors, unit_at, whole_unit};
@@ -44,20 +42,18 @@ fn write_sectors<D: BlockDev>(
 /// The sectors of a leaf, before which the lines whose hash device stands on it lose their blocks in the cache.
 fn write_leaf<D: BlockDev>(
     config: &Config,
-    reader: &mut Reader<D>,
+    backing: &mut Backing<D>,
     leaf: u32,
     first: u64,
     bytes: &[u8],
 ) -> Result<(), IoFault>
-    requires { CanWrite config.now (map D.state reader.old.devices.items) reader.old.cache (Below (Lower.Leaf leaf) first) bytes.now }
-    ensures writes { Writes (destination_of config.now (Lower.Leaf leaf)) first (sectors_in bytes.now)
-        (map D.state reader.old.devices.items) (map D.state reader.new.devices.items) result }
-    ensures cached { KeepsCache config.now (map D.state reader.new.devices.items) reader.old.cache reader.new.cache }
-    ensures forgets { Forgets config.now (leaves_of config.now (Lower.Leaf leaf)) (map D.state reader.old.devices.items) (map D.state reader.new.devices.items)
-        reader.old.cache.blocks.blocks reader.new.cache.blocks.blocks }
+    requires { CanPut D.state config.now backing.old (Below (Lower.Leaf leaf) first) bytes.now }
+    ensures writes { PutAt D.state config.now (Lower.Leaf leaf) first bytes.now backing.old backing.new result }
+    ensures cached { StaysSound D.state config.now backing.old backing.new }
+    ensures forgets { ForgetsOn D.state config.now (leaves_of config.now (Lower.Leaf leaf)) backing.old backing.new }
 {
-    reader.cache.forget_leaf(config, leaf);
-    write_sectors(config, reader.devices.as_mut_slice(), leaf, first, bytes)
+    backing.cache.forget_leaf(config, leaf);
+    write_sectors(config, backing.devices.as_mut_slice(), leaf, first, bytes)
 }
 
 /// The bytes of a write, which are in one of two places.
@@ -83,24 +79,22 @@ fn between(bytes: &[u8], at: usize, end: usize) -> &[u8]
 #[cycle(write)]
 fn write_lower<D: BlockDev>(
     config: &Config,
-    reader: &mut Reader<D>,
+    backing: &mut Backing<D>,
     lower: Lower,
     first: u64,
     plain: &[u8],
     buffer: &mut [u8],
 ) -> Result<(), IoFault>
-    requires can { CanWrite config.now (map D.state reader.old.devices.items) reader.old.cache (Below lower first) (plain.now ++ buffer.old) }
+    requires can { CanPut D.state config.now backing.old (Below lower first) (plain.now ++ buffer.old) }
     requires bytes { AreHeld (said_at config.now lower) first plain.now buffer.old }
-    ensures writes { Writes (destination_of config.now lower) first (sectors_in (plain.now ++ buffer.old))
-        (map D.state reader.old.devices.items) (map D.state reader.new.devices.items) result }
-    ensures uncut { CutsNone config.now lower first (length (plain.now ++ buffer.old) / 512) → NoneRead (map D.state reader.old.devices.items) (map D.state reader.new.devices.items) }
-    ensures cached { KeepsCache config.now (map D.state reader.new.devices.items) reader.old.cache reader.new.cache }
-    ensures forgets { Forgets config.now (leaves_of config.now lower) (map D.state reader.old.devices.items) (map D.state reader.new.devices.items)
-        reader.old.cache.blocks.blocks reader.new.cache.blocks.blocks }
+    ensures writes { PutAt D.state config.now lower first (plain.now ++ buffer.old) backing.old backing.new result }
+    ensures uncut { UncutAt D.state config.now lower first (plain.now ++ buffer.old) backing.old backing.new }
+    ensures cached { StaysSound D.state config.now backing.old backing.new }
+    ensures forgets { ForgetsOn D.state config.now (leaves_of config.now lower) backing.old backing.new }
 {
     match lower {
-        Lower::Leaf(leaf) => write_leaf(config, reader, leaf, first, held(plain, buffer)),
-        Lower::Device(d) => write_device(config, reader, d, first, plain, buffer),
+        Lower::Leaf(leaf) => write_leaf(config, backing, leaf, first, held(plain, buffer)),
+        Lower::Device(d) => write_device(config, backing, d, first, plain, buffer),
     }
 }
 
@@ -108,24 +102,22 @@ fn write_lower<D: BlockDev>(
 #[cycle(write)]
 fn write_run<D: BlockDev>(
     config: &Config,
-    reader: &mut Reader<D>,
+    backing: &mut Backing<D>,
     source: Source,
     plain: &[u8],
     buffer: &mut [u8],
 ) -> Result<(), IoFault>
-    requires can { CanWrite config.now (map D.state reader.old.devices.items) reader.old.cache source (plain.now ++ buffer.old) }
+    requires can { CanPut D.state config.now backing.old source (plain.now ++ buffer.old) }
     requires bytes { AreHeld (source_said config.now source) 0 plain.now buffer.old }
-    ensures writes { Writes (source_destination config.now source) 0 (sectors_in (plain.now ++ buffer.old))
-        (map D.state reader.old.devices.items) (map D.state reader.new.devices.items) result }
-    ensures uncut { SourceCutsNone config.now source (length (plain.now ++ buffer.old) / 512) → NoneRead (map D.state reader.old.devices.items) (map D.state reader.new.devices.items) }
-    ensures cached { KeepsCache config.now (map D.state reader.new.devices.items) reader.old.cache reader.new.cache }
-    ensures forgets { Forgets config.now (source_leaves config.now source) (map D.state reader.old.devices.items) (map D.state reader.new.devices.items)
-        reader.old.cache.blocks.blocks reader.new.cache.blocks.blocks }
+    ensures writes { PutTo D.state config.now source (plain.now ++ buffer.old) backing.old backing.new result }
+    ensures uncut { UncutTo D.state config.now source (plain.now ++ buffer.old) backing.old backing.new }
+    ensures cached { StaysSound D.state config.now backing.old backing.new }
+    ensures forgets { ForgetsOn D.state config.now (source_leaves config.now source) backing.old backing.new }
 {
     match source {
-        Source::Below { lower, first } => write_lower(config, reader, lower, first, plain, buffer),
-        Source::Units(part) => write_units(config, reader, part, buffer),
-        Source::UnitPart(part) => write_unit_part(config, reader, part, buffer),
+        Source::Below { lower, first } => write_lower(config, backing, lower, first, plain, buffer),
+        Source::Units(part) => write_units(config, backing, part, buffer),
+        Source::UnitPart(part) => write_unit_part(config, backing, part, buffer),
         Source::Zeros => Ok(()),
         Source::Fails => Err(IoFault::Stack(Fault::ErrorTarget)),
         Source::Block(_) | Source::Blocks(_) => unreachable!(),
@@ -137,17 +129,15 @@ fn write_run<D: BlockDev>(
 #[cycle(write)]
 fn write_units<D: BlockDev>(
     config: &Config,
-    reader: &mut Reader<D>,
+    backing: &mut Backing<D>,
     part: BlockPart,
     units: &mut [u8],
 ) -> Result<(), IoFault>
-    requires { CanWrite config.now (map D.state reader.old.devices.items) reader.old.cache (Source.Units part) units.old }
-    ensures writes { Writes (source_destination config.now (Source.Units part)) 0 (sectors_in units.old)
-        (map D.state reader.old.devices.items) (map D.state reader.new.devices.items) result }
-    ensures uncut { SourceCutsNone config.now (Source.Units part) (length units.old / 512) → NoneRead (map D.state reader.old.devices.items) (map D.state reader.new.devices.items) }
-    ensures cached { KeepsCache config.now (map D.state reader.new.devices.items) reader.old.cache reader.new.cache }
-    ensures forgets { Forgets config.now (leaves_of config.now (mapped part.device.0)) (map D.state reader.old.devices.items) (map D.state reader.new.devices.items)
-        reader.old.cache.blocks.blocks reader.new.cache.blocks.blocks }
+    requires { CanPut D.state config.now backing.old (Source.Units part) units.old }
+    ensures writes { PutTo D.state config.now (Source.Units part) units.old backing.old backing.new result }
+    ensures uncut { UncutTo D.state config.now (Source.Units part) units.old backing.old backing.new }
+    ensures cached { StaysSound D.state config.now backing.old backing.new }
+    ensures forgets { ForgetsOn D.state config.now (leaves_of config.now (mapped part.device.0)) backing.old backing.new }
 {
     let crypt = crypt_at(config, part.device, part.line);
     let unit = unit_at(config, part, crypt);
@@ -161,13 +151,20 @@ fn write_units<D: BlockDev>(
         skip: 0,
     };
     if lower_cuts(config, unit.lower, unit.first, len as u64 / 512, steps) {
-        return write_lower(config, reader, unit.lower, unit.first, none, units);
+        return write_lower(config, backing, unit.lower, unit.first, none, units);
     }
     let mut at = 0;
     while at < len {
         let first = unit.first + at as u64 / 512;
         let end = len.min(at + size);
-        match write_lower(config, reader, unit.lower, first, none, &mut units[at..end]) {
+        match write_lower(
+            config,
+            backing,
+            unit.lower,
+            first,
+            none,
+            &mut units[at..end],
+        ) {
             Ok(()) => at = end,
             Err(fault) => return Err(fault),
         }
@@ -179,48 +176,44 @@ fn write_units<D: BlockDev>(
 #[cycle(write)]
 fn write_unit_part<D: BlockDev>(
     config: &Config,
-    reader: &mut Reader<D>,
+    backing: &mut Backing<D>,
     part: BlockPart,
     bytes: &[u8],
 ) -> Result<(), IoFault>
-    requires { CanWrite config.now (map D.state reader.old.devices.items) reader.old.cache (Source.UnitPart part) bytes.now }
-    ensures writes { Writes (source_destination config.now (Source.UnitPart part)) 0 (sectors_in bytes.now)
-        (map D.state reader.old.devices.items) (map D.state reader.new.devices.items) result }
-    ensures cached { KeepsCache config.now (map D.state reader.new.devices.items) reader.old.cache reader.new.cache }
-    ensures forgets { Forgets config.now (leaves_of config.now (mapped part.device.0)) (map D.state reader.old.devices.items) (map D.state reader.new.devices.items)
-        reader.old.cache.blocks.blocks reader.new.cache.blocks.blocks }
+    requires { CanPut D.state config.now backing.old (Source.UnitPart part) bytes.now }
+    ensures writes { PutTo D.state config.now (Source.UnitPart part) bytes.now backing.old backing.new result }
+    ensures cached { StaysSound D.state config.now backing.old backing.new }
+    ensures forgets { ForgetsOn D.state config.now (leaves_of config.now (mapped part.device.0)) backing.old backing.new }
 {
     let whole = whole_unit(config, part);
     let mut room = [0u8; MOST];
     let all = room.as_mut_slice();
     let unit = &mut all[..whole.sectors as usize * 512];
-    let mut found = Vec::new(reader.alloc);
-    match read_units(config, reader, whole.from, unit, &mut found) {
+    let mut found = Vec::new(backing.alloc);
+    match read_units(config, backing, whole.from, unit, &mut found) {
         Ok(()) => {}
         Err(fault) => return Err(fault),
     }
     put_sectors(unit, whole.within, bytes);
-    write_units(config, reader, whole.from, unit)
+    write_units(config, backing, whole.from, unit)
 }
 
 /// The sectors of a mapped device, run by run.
 #[cycle(write)]
 pub(crate) fn write_device<D: BlockDev>(
     config: &Config,
-    reader: &mut Reader<D>,
+    backing: &mut Backing<D>,
     d: DevId,
     first: u64,
     plain: &[u8],
     buffer: &mut [u8],
 ) -> Result<(), IoFault>
-    requires can { CanWrite config.now (map D.state reader.old.devices.items) reader.old.cache (Below (mapped d.0) first) (plain.now ++ buffer.old) }
+    requires can { CanPut D.state config.now backing.old (Below (mapped d.0) first) (plain.now ++ buffer.old) }
     requires bytes { AreHeld (said_at config.now (mapped d.0)) first plain.now buffer.old }
-    ensures writes { Writes (destination_of config.now (mapped d.0)) first (sectors_in (plain.now ++ buffer.old))
-        (map D.state reader.old.devices.items) (map D.state reader.new.devices.items) result }
-    ensures uncut { CutsNone config.now (mapped d.0) first (length (plain.now ++ buffer.old) / 512) → NoneRead (map D.state reader.old.devices.items) (map D.state reader.new.devices.items) }
-    ensures cached { KeepsCache config.now (map D.state reader.new.devices.items) reader.old.cache reader.new.cache }
-    ensures forgets { Forgets config.now (leaves_of config.now (mapped d.0)) (map D.state reader.old.devices.items) (map D.state reader.new.devices.items)
-        reader.old.cache.blocks.blocks reader.new.cache.blocks.blocks }
+    ensures writes { PutAt D.state config.now (mapped d.0) first (plain.now ++ buffer.old) backing.old backing.new result }
+    ensures uncut { UncutAt D.state config.now (mapped d.0) first (plain.now ++ buffer.old) backing.old backing.new }
+    ensures cached { StaysSound D.state config.now backing.old backing.new }
+    ensures forgets { ForgetsOn D.state config.now (leaves_of config.now (mapped d.0)) backing.old backing.new }
 {
     let room = buffer.len();
     let len = held(plain, buffer).len();
@@ -232,7 +225,7 @@ pub(crate) fn write_device<D: BlockDev>(
         let part = between(plain, at, end);
         let from = at.min(room);
         let to = end.min(room);
-        match write_run(config, reader, run.source, part, &mut buffer[from..to]) {
+        match write_run(config, backing, run.source, part, &mut buffer[from..to]) {
             Ok(()) => at = end,
             Err(fault) => return Err(fault),
         }

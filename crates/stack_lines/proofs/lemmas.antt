@@ -1,4 +1,5 @@
 -- What callers may cite.
+pub mod AskLemmas
 pub mod BudgetLemmas
 pub mod EncryptLemmas
 pub mod ForgetLemmas

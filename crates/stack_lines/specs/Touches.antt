@@ -1,7 +1,7 @@
 -- Which leaves a read touches.
-use Rattle.std.specs.Prelude.{◌≡◌, ℕ, ◌-◌, Bool, false, IsTrue, List, Result, IfErr}
+use Rattle.std.specs.Prelude.{◌≡◌, ℕ, ◌+◌, ◌-◌, Bool, false, IsTrue, List, map, set, Result, Ok, Err, IfErr}
 use Rattle.std.specs.List.{slice_index_or}
-use Rattle.block_device.specs.Device.{Device}
+use Rattle.block_device.specs.Device.{Device, capped}
 use Rattle.stack_rules.specs.declared.lower.Lower.{Lower}
 use Rattle.stack_rules.specs.Records.{Configuration}
 use Rattle.stack_rules.specs.Names.{mapped}
@@ -21,6 +21,38 @@ NamesOneOf these io.NoMemory = Unit {0}
 pub record TouchesOnly {A : Type 0} (these : ℕ → Bool) (old new : List Device) (result : Result A IoFault) : Type 0 where
   pub leaf : (i : ℕ) (d : Device) → these i ≡ false → slice_index_or new i d ≡ slice_index_or old i d
   pub fault : IfErr result (NamesOneOf these)
+
+-- ---- where a call ends
+
+-- how often each leaf failed, in order, as its counter says
+abbrev pub failures_of : List Device → List ℕ
+failures_of leaves = map (λ l. l.failures) leaves
+
+-- leaf i failed once more
+abbrev pub failed_once : ℕ → List ℕ → List ℕ
+failed_once i failures = set failures i (capped (slice_index_or failures i 0 + 1))
+
+-- a fault of a leaf is one failure of that leaf, and another fault is none
+abbrev pub failures_by : IoFault → List ℕ → List ℕ
+failures_by (io.Stack fault) failures = failures
+failures_by (io.Device i) failures = failed_once (i - 1) failures
+failures_by io.NoMemory failures = failures
+
+abbrev pub failures_behind : {A : Type 0} → Result A IoFault → List ℕ → List ℕ
+failures_behind (Ok x) failures = failures
+failures_behind (Err fault) failures = failures_by fault failures
+
+-- A call ends at the first device call that fails: no leaf fails but the one that its fault names, and that one once.
+abbrev pub EndsAtFailure : {A : Type 0} → List Device → List Device → Result A IoFault → Type 0
+EndsAtFailure old new result = failures_of new ≡ failures_behind result (failures_of old)
+
+-- It ends there, and asks only these.
+pub record AsksOnly {A : Type 0} (these : ℕ → Bool) (old new : List Device) (result : Result A IoFault) : Type 0 where
+  pub leaf : (i : ℕ) (d : Device) → these i ≡ false → slice_index_or new i d ≡ slice_index_or old i d
+  pub fault : IfErr result (NamesOneOf these)
+  pub ends : EndsAtFailure old new result
+
+-- ---- which leaves there are
 
 -- those on which a leaf or device stands
 abbrev pub leaves_of : Configuration → Lower → ℕ → Bool

@@ -22,7 +22,7 @@ use Rattle.stack_meaning.specs.Puts.{Put, done, stopped, Putting, none_put, runs
 use Rattle.stack_meaning.specs.Leaves.{steady_images, AreSteady, LeafFailed}
 use Rattle.stack_meaning.specs.Changes.{reached, KeepsOthers, AreWritten, NoneRead, DifferWithin}
 use Rattle.stack_lines.specs.Sources.{source_said, cost_beneath}
-use Rattle.stack_lines.specs.Touches.{leaves_of, source_leaves}
+use Rattle.stack_lines.specs.Touches.{EndsAtFailure, leaves_of, source_leaves}
 
 -- the bytes of whole sectors, at least one
 pub record AreSectors (bytes : List ℕ) : Type 0 where
@@ -124,6 +124,7 @@ pub record Writes (to : Destination) (first : ℕ) (sectors : List (List ℕ)) (
   pub stops : StopsAtFault to.said first (length sectors) old new result
   pub behind : AreSteady to.leaves old → StopsBehindPut (with_some to) first sectors old new result
   pub unread : (SomeEncrypt to.said first (length sectors) → ⊥) → NoneRead old new
+  pub fails : EndsAtFailure old new result
 
 -- ---- what the engine writes as one run
 

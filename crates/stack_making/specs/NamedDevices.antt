@@ -7,7 +7,9 @@ use Rattle.stack_rules.specs.Names.{device_named}
 use Rattle.stack_rules.specs.Records.{Configuration}
 use Rattle.stack_engine.specs.Stacks.{StackRecord}
 use Rattle.stack_opening.specs.declared.stack_file.OpenStack.{OpenStack}
-use Rattle.stack_opening.specs.OpenStacks.{FailsToOpenOutput, OpensOutput, OpensStack, StackWords}
+use Rattle.stack_opening.specs.declared.stack_file.StackFile.{StackFile}
+use Rattle.stack_opening.specs.OpenStacks.{FailsToOpenOutput, OpensOutput, StackWords, stack_words}
+use Rattle.stack_making.specs.declared.device.NamedDevice.{NamedDevice}
 use Rattle.stack_making.specs.declared.fault.StackFault.{StackFault}
 use Rattle.stack_making.specs.declared.fault.StackFault.TheVariants.{NoSuchDevice}
 use Rattle.stack_making.specs.Configuration.{configuration_of}
@@ -48,6 +50,10 @@ pub record DeviceWords : Type 0 where
 
 abbrev pub device_words : StackWords → List ℕ → ℕ → DeviceWords
 device_words words name cache = record { words = words; name = name; cache = cache }
+
+-- of a stack file, and a device as it is named
+abbrev pub words_for : StackFile → NamedDevice → DeviceWords
+words_for file device = device_words (stack_words file) device.name.now device.cache
 
 -- the device of that name, of the stack that STACK's text makes of the bindings' leaves
 pub record Finds {S D : Type 0} (w : Calls S D) (words : DeviceWords) (at : Place) : Type 0 where

@@ -2,8 +2,7 @@
 ghost use Rattle.std.specs.Prelude.{◌≡◌, ◌≤◌, ◌<◌, ◌^◌, length, map, true, IfOk, IfErr};
 ghost use Rattle.image_files.specs.Opener.{calls};
 ghost use Rattle.stack_meaning.specs.Leaves.{ServeLeaves};
-ghost use Rattle.stack_opening.specs.OpenStacks.{stack_words};
-ghost use Rattle.stack_making.specs.NamedDevices.{FailsToFind, FailsToFindDevice, FailsToFindOutput, Finds, FindsOutput, HasDevice, device_words, place_of};
+ghost use Rattle.stack_making.specs.NamedDevices.{FailsToFind, FailsToFindDevice, FailsToFindOutput, Finds, FindsOutput, HasDevice, place_of, words_for};
 
 use crate::configuration::configuration_of;
 use crate::fault::StackFault;
@@ -29,9 +28,9 @@ pub fn open_device<'a, I: Images>(
     file: StackFile<'a, '_>,
     device: NamedDevice<'_>,
 ) -> Result<(Stack<I::Dev>, DevId), StackFault<'a>>
-    ensures ok { IfOk result (λ found. Finds (calls I.relations I.Dev.state images.old images.new) (device_words (stack_words file.entry) device.entry.name.now device.entry.cache) (place_of found.0 found.1.0)) }
+    ensures ok { IfOk result (λ found. Finds (calls I.relations I.Dev.state images.old images.new) (words_for file.entry device.entry) (place_of found.0 found.1.0)) }
     ensures there { IfOk result (λ found. found.1.0 < length found.0.config.devices) }
-    ensures err { IfErr result (FailsToFindDevice (calls I.relations I.Dev.state images.old images.new) (device_words (stack_words file.entry) device.entry.name.now device.entry.cache)) }
+    ensures err { IfErr result (FailsToFindDevice (calls I.relations I.Dev.state images.old images.new) (words_for file.entry device.entry)) }
 {
     let over = open_stack(alloc, images, file)?;
     find_device(alloc, over, device)
@@ -45,10 +44,10 @@ pub fn open_device_and_output<'a, I: Images>(
     device: NamedDevice<'_>,
     out: &'a str,
 ) -> Result<(Stack<I::Dev>, DevId, OpenImage<I::Dev>), StackFault<'a>>
-    ensures ok { IfOk result (λ found. FindsOutput (calls I.relations I.Dev.state images.old images.new) (device_words (stack_words file.entry) device.entry.name.now device.entry.cache) out.now (place_of found.0 found.1.0) found.2) }
+    ensures ok { IfOk result (λ found. FindsOutput (calls I.relations I.Dev.state images.old images.new) (words_for file.entry device.entry) out.now (place_of found.0 found.1.0) found.2) }
     ensures there { IfOk result (λ found. found.1.0 < length found.0.config.devices) }
     ensures writable { IfOk result (λ found. (I.Dev.state found.2.device).may_write ≡ true) }
-    ensures err { IfErr result (FailsToFindOutput (calls I.relations I.Dev.state images.old images.new) (device_words (stack_words file.entry) device.entry.name.now device.entry.cache) out.now) }
+    ensures err { IfErr result (FailsToFindOutput (calls I.relations I.Dev.state images.old images.new) (words_for file.entry device.entry) out.now) }
 {
     let (over, image) = open_with_output(alloc, images, file, out)?;
     let (stack, device) = find_device(alloc, over, device)?;

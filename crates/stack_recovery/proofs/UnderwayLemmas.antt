@@ -18,7 +18,7 @@ use Rattle.stack_recovery.specs.declared.tally.Tally.{Tally}
 use Rattle.stack_recovery.specs.Alike.{AreAlike}
 use Rattle.stack_recovery.specs.Copies.{IsCopied}
 use Rattle.stack_recovery.specs.LostRuns.{lost_in, run}
-use Rattle.stack_recovery.specs.Recoveries.{GoesOver, IsBegunOver, IsNoted, IsRecoveryEnd, IsRescueEnd, NotesMore, Recovers, Sides, sides}
+use Rattle.stack_recovery.specs.Recoveries.{EndsEarly, FindsNoMemory, GoesOver, IsBegunOver, IsNoted, IsRecoveryEnd, NotesMore, Recovers, RunsShort, Sides, sides}
 use Rattle.stack_recovery.specs.Surveys.{AreMarked, IsPieceRead, IsSurveyOver, PieceRead, State, again, all_states, had, kept, lost, states_of}
 use Rattle.stack_recovery.specs.Tallies.{closed_by, listed, opened_by}
 use Rattle.stack_recovery.specs.Texts.{runs_text}
@@ -64,6 +64,17 @@ module _ (before : List Bool) (d : ℕ) (old now : Sides) (at : ℕ) (tally : Ta
     survey = u.survey;
     first = tallied-all (all_states u.reads) u.closed tally.last u.tallied;
     printed = u.printed;
+  }
+
+  -- memory ran out
+  pub runs-short : (makes_map : Bool) (stack : StackRecord) → now.out.failures ≡ old.out.failures → (makes_map ≡ false → FindsNoMemory d at now.stack stack)
+      → RunsShort makes_map before d old (sides stack now.out now.printed)
+  unfolding begun
+  runs-short makes_map stack unfailed read = record {
+    begun = begun stack now.out;
+    copied = u.copied;
+    unfailed = unfailed;
+    read = λ none. subst (λ (k : ℕ). FindsNoMemory d k now.stack stack) u.here (read none);
   }
 
   pub few : tally.lost ≤ at
@@ -189,7 +200,16 @@ begun-none n d old new p = record {
   printed = p.printed;
 }
 
-pub ends-none : (n d : ℕ) (old new : Sides) (failed : Bool) (fault : RecoveryFault) → IsRescueEnd (replicate n false) d old new failed fault → IsRecoveryEnd d old new failed fault
-ends-none n d old new failed recovery.NoMemory p = begun-none n d old new p
+short-none : (n d : ℕ) (makes_map : Bool) (old new : Sides) → RunsShort makes_map (replicate n false) d old new → RunsShort makes_map [] d old new
+unfolding begun-none
+short-none n d makes_map old new p = record {
+  begun = begun-none n d old new p.begun;
+  copied = p.copied;
+  unfailed = p.unfailed;
+  read = p.read;
+}
+
+pub ends-none : (n d : ℕ) (old new : Sides) (failed : Bool) (fault : RecoveryFault) → EndsEarly false (replicate n false) d old new failed fault → IsRecoveryEnd d old new failed fault
+ends-none n d old new failed recovery.NoMemory p = short-none n d false old new p
 ends-none n d old new failed recovery.Output p = (begun-none n d old new p.0, p.1)
 ends-none n d old new failed recovery.Write p = p

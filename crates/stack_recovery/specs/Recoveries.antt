@@ -1,8 +1,12 @@
 -- What going over a mapped device does.
-use Rattle.std.specs.Prelude.{◌≡◌, ℕ, ◌-◌, Bool, true, false, IsTrue, List, [], ◌++◌, length, map, Option, Some, None}
+use Rattle.std.specs.Prelude.{◌≡◌, ℕ, ◌-◌, Bool, true, false, IsTrue, List, [], ◌++◌, length, map, Option, Some, None, Err}
 use Rattle.std.specs.Io.KnownBytes.{Appends}
 use Rattle.block_device.specs.Device.{Device, HasFailed}
 use Rattle.stack_rules.specs.Names.{mapped, size}
+use Rattle.stack_meaning.specs.declared.fault.IoFault.TheVariants as io
+use Rattle.stack_meaning.specs.Meaning.{said_at}
+use Rattle.stack_meaning.specs.Reading.{MeetVerity}
+use Rattle.stack_engine.specs.Bytes.{EachBytes}
 use Rattle.stack_engine.specs.Stacks.{StackRecord}
 use Rattle.rescue_map.specs.declared.map.Run.{Run}
 use Rattle.rescue_map.specs.Maps.{marks}
@@ -46,14 +50,52 @@ pub record IsBegunOver (marks : List Bool) (d : ℕ) (old new : Sides) : Type 0 
   pub first : lost_runs 0 (all_states reads) ≡ runs ++ more
   pub printed : Appends old.printed new.printed (runs_text runs)
 
+-- a read of some sectors from that one on found no memory, and a `verity` line is on their way: no other read takes any
+pub record FindsNoMemory (d at : ℕ) (w w' : StackRecord) : Type 0 where
+  pub count : ℕ
+  pub answered : EachBytes w d at count (Err io.NoMemory) w'
+  pub met : MeetVerity (said_at w.config (mapped d)) at count
+
+-- Memory ran out: what was had so far is copied, and the device to which it is copied didn't fail. Where no map is made, a
+-- read found none.
+pub record RunsShort (makes_map : Bool) (marks : List Bool) (d : ℕ) (old new : Sides) : Type 0 where
+  pub begun : IsBegunOver marks d old new
+  pub copied : IsCopied begun.reads old.out new.out
+  pub unfailed : new.out.failures ≡ old.out.failures
+  pub read : makes_map ≡ false → FindsNoMemory d (length (all_states begun.reads)) begun.left new.stack
+
 -- why it ended early, where the last says whether the writer failed
+abbrev pub EndsEarly : Bool → List Bool → ℕ → Sides → Sides → Bool → RecoveryFault → Type 0
+EndsEarly makes_map marks d old new failed NoMemory = RunsShort makes_map marks d old new
+EndsEarly makes_map marks d old new failed Output = IsBegunOver marks d old new × (HasFailed old.out new.out × (IsTrue old.out.never_fails → ⊥))
+EndsEarly makes_map marks d old new failed Write = failed ≡ true
+
 abbrev pub IsRescueEnd : List Bool → ℕ → Sides → Sides → Bool → RecoveryFault → Type 0
-IsRescueEnd marks d old new failed NoMemory = IsBegunOver marks d old new
-IsRescueEnd marks d old new failed Output = IsBegunOver marks d old new × (HasFailed old.out new.out × (IsTrue old.out.never_fails → ⊥))
-IsRescueEnd marks d old new failed Write = failed ≡ true
+IsRescueEnd marks d old new failed fault = EndsEarly true marks d old new failed fault
 
 abbrev pub IsRecoveryEnd : ℕ → Sides → Sides → Bool → RecoveryFault → Type 0
-IsRecoveryEnd d old new failed fault = IsRescueEnd [] d old new failed fault
+IsRecoveryEnd d old new failed fault = EndsEarly false [] d old new failed fault
+
+-- ---- as a call sees them
+
+-- a stack, the device to which is copied, and who is told of lost runs
+pub record Parties (O L : Type 0) : Type 0 where
+  pub stack : StackRecord
+  pub out : O
+  pub listing : L
+
+abbrev pub parties : {O L : Type 0} → StackRecord → O → L → Parties O L
+parties stack out listing = record { stack = stack; out = out; listing = listing }
+
+-- what a proof sees of them
+abbrev pub seen : {O L : Type 0} → (O → Device) → (L → Option (List ℕ)) → Parties O L → Sides
+seen state told p = sides p.stack (state p.out) (told p.listing)
+
+abbrev pub RecoversBy : {O L : Type 0} → (O → Device) → (L → Option (List ℕ)) → ℕ → Parties O L → Parties O L → Counts → Type 0
+RecoversBy state told d old new counts = Recovers d (seen state told old) counts (seen state told new)
+
+abbrev pub EndsRecovery : {O L : Type 0} → (O → Device) → (L → Option (List ℕ)) → (L → Bool) → ℕ → Parties O L → Parties O L → RecoveryFault → Type 0
+EndsRecovery state told failed d old new fault = IsRecoveryEnd d (seen state told old) (seen state told new) (failed new.listing) fault
 
 -- ---- where some sectors were had before
 
@@ -81,6 +123,19 @@ pub record GoesOver (before : List Bool) (d : ℕ) (old : Sides) (counts : Count
 -- it answers that map
 abbrev pub Rescues : List Bool → ℕ → Sides → Rescued → Sides → Type 0
 Rescues before d old rescued new = GoesOver before d old rescued.counts (Some rescued.map) new
+
+-- the same, as a call sees them
+abbrev pub GoesOverBy : {O L : Type 0} → (O → Device) → (L → Option (List ℕ)) → List Bool → ℕ → Parties O L → Option (List Run) → Parties O L → Counts → Type 0
+GoesOverBy state told before d old made new counts = GoesOver before d (seen state told old) counts made (seen state told new)
+
+abbrev pub EndsEarlyBy : {O L : Type 0} → (O → Device) → (L → Option (List ℕ)) → (L → Bool) → Bool → List Bool → ℕ → Parties O L → Parties O L → RecoveryFault → Type 0
+EndsEarlyBy state told failed makes_map before d old new fault = EndsEarly makes_map before d (seen state told old) (seen state told new) (failed new.listing) fault
+
+abbrev pub RescuesBy : {O L : Type 0} → (O → Device) → (L → Option (List ℕ)) → List Bool → ℕ → Parties O L → Parties O L → Rescued → Type 0
+RescuesBy state told before d old new rescued = Rescues before d (seen state told old) rescued (seen state told new)
+
+abbrev pub EndsRescue : {O L : Type 0} → (O → Device) → (L → Option (List ℕ)) → (L → Bool) → List Bool → ℕ → Parties O L → Parties O L → RecoveryFault → Type 0
+EndsRescue state told failed before d old new fault = IsRescueEnd before d (seen state told old) (seen state told new) (failed new.listing) fault
 
 -- these sectors were noted behind those before
 abbrev pub NotesMore : Option (List Run) → Option (List Run) → List Bool → Type 0

@@ -1,6 +1,6 @@
 //! The map that is made while a device is gone over.
-ghost use Rattle.std.specs.Prelude.{◌≡◌, ◌+◌, ◌≤◌, ◌^◌, length, replicate, IfErr, OnOk};
-ghost use Rattle.std.specs.Option.{ForSome};
+ghost use Rattle.std.specs.Prelude.{◌≡◌, ◌+◌, ◌≤◌, ◌^◌, length, replicate, true, IfErr, OnErr, OnOk};
+ghost use Rattle.std.specs.Option.{ForSome, is_some};
 ghost use Rattle.rescue_map.specs.Maps.{marks};
 ghost use Rattle.stack_recovery.specs.Recoveries.{NotesMore};
 ghost use Rattle.stack_recovery.specs.declared.fault.RecoveryFault.TheVariants as recovery_fault;
@@ -14,6 +14,7 @@ pub(crate) fn note(noted: &mut Option<Map>, count: u64, had: bool) -> Result<(),
     requires room { ForSome noted.old (λ map. length (marks map) + count ≤ 2 ^ 54) }
     ensures ok { OnOk result (NotesMore noted.old noted.new (replicate count had)) }
     ensures err { IfErr result (λ fault. fault ≡ recovery_fault.NoMemory) }
+    ensures made { OnErr result (is_some noted.old ≡ true) }
 {
     match noted {
         None => Ok(()),

@@ -3,7 +3,7 @@ ghost use Rattle.std.specs.Prelude.{◌≡◌, ◌≤◌, ◌<◌, [], length, I
 ghost use Rattle.stack_rules.specs.Names.{mapped, size};
 ghost use Rattle.std.specs.Option.{is_some};
 ghost use Rattle.rescue_map.specs.Aheads.{marks_ahead};
-ghost use Rattle.stack_recovery.specs.Recoveries.{GoesOver, IsNoted, IsRecoveryEnd, IsRescueEnd, Recovers, sides};
+ghost use Rattle.stack_recovery.specs.Recoveries.{EndsEarlyBy, EndsRecovery, GoesOverBy, IsNoted, RecoversBy, parties};
 
 use crate::fault::RecoveryFault;
 use crate::listing::Listing;
@@ -40,8 +40,8 @@ pub fn recover<D: BlockDev, O: BlockDev, L: Listing>(
     requires device { d.0 < length stack.old.config.devices }
     requires room { size stack.old.config (mapped d.0) ≤ (O.state out.old).size }
     requires allowed { IsTrue (O.state out.old).may_write }
-    ensures ok { IfOk result (λ counts. Recovers d.0 (sides stack.old (O.state out.old) (L.told listing.old)) counts (sides stack.new (O.state out.new) (L.told listing.new))) }
-    ensures err { IfErr result (IsRecoveryEnd d.0 (sides stack.old (O.state out.old) (L.told listing.old)) (sides stack.new (O.state out.new) (L.told listing.new)) (L.failed listing.new)) }
+    ensures ok { IfOk result (RecoversBy O.state L.told d.0 (parties stack.old out.old listing.old) (parties stack.new out.new listing.new)) }
+    ensures err { IfErr result (EndsRecovery O.state L.told L.failed d.0 (parties stack.old out.old listing.old) (parties stack.new out.new listing.new)) }
 {
     recover_with(stack, d, out, listing, &mut NoProgress)
 }
@@ -57,8 +57,8 @@ pub fn recover_with<D: BlockDev, O: BlockDev, L: Listing, P: Progress>(
     requires device { d.0 < length stack.old.config.devices }
     requires room { size stack.old.config (mapped d.0) ≤ (O.state out.old).size }
     requires allowed { IsTrue (O.state out.old).may_write }
-    ensures ok { IfOk result (λ counts. Recovers d.0 (sides stack.old (O.state out.old) (L.told listing.old)) counts (sides stack.new (O.state out.new) (L.told listing.new))) }
-    ensures err { IfErr result (IsRecoveryEnd d.0 (sides stack.old (O.state out.old) (L.told listing.old)) (sides stack.new (O.state out.new) (L.told listing.new)) (L.failed listing.new)) }
+    ensures ok { IfOk result (RecoversBy O.state L.told d.0 (parties stack.old out.old listing.old) (parties stack.new out.new listing.new)) }
+    ensures err { IfErr result (EndsRecovery O.state L.told L.failed d.0 (parties stack.old out.old listing.old) (parties stack.new out.new listing.new)) }
 {
     let ahead = Ahead::unread(stack.config().sectors(d));
     go_over(stack, d, out, ahead, &mut None, listing, progress)
@@ -79,8 +79,8 @@ pub(crate) fn go_over<D: BlockDev, O: BlockDev, L: Listing, P: Progress>(
     requires room { size stack.old.config (mapped d.0) ≤ (O.state out.old).size }
     requires allowed { IsTrue (O.state out.old).may_write }
     requires begun { IsNoted noted.old [] }
-    ensures ok { IfOk result (λ counts. GoesOver (marks_ahead ahead.entry) d.0 (sides stack.old (O.state out.old) (L.told listing.old)) counts noted.new (sides stack.new (O.state out.new) (L.told listing.new))) }
-    ensures err { IfErr result (IsRescueEnd (marks_ahead ahead.entry) d.0 (sides stack.old (O.state out.old) (L.told listing.old)) (sides stack.new (O.state out.new) (L.told listing.new)) (L.failed listing.new)) }
+    ensures ok { IfOk result (GoesOverBy O.state L.told (marks_ahead ahead.entry) d.0 (parties stack.old out.old listing.old) noted.new (parties stack.new out.new listing.new)) }
+    ensures err { IfErr result (EndsEarlyBy O.state L.told L.failed (is_some noted.old) (marks_ahead ahead.entry) d.0 (parties stack.old out.old listing.old) (parties stack.new out.new listing.new)) }
     ensures noted { OnOk result (is_some noted.new ≡ is_some noted.old) }
 {
     let mut room = [0u8; ROOM];
@@ -113,8 +113,8 @@ fn go_over_by<D: BlockDev, O: BlockDev, L: Listing, P: Progress>(
     requires allowed { IsTrue (O.state out.old).may_write }
     requires begun { IsNoted noted.old [] }
     requires buffer { length room.old ≡ 65536 }
-    ensures ok { IfOk result (λ counts. GoesOver (marks_ahead ahead.entry) d.0 (sides stack.old (O.state out.old) (L.told listing.old)) counts noted.new (sides stack.new (O.state out.new) (L.told listing.new))) }
-    ensures err { IfErr result (IsRescueEnd (marks_ahead ahead.entry) d.0 (sides stack.old (O.state out.old) (L.told listing.old)) (sides stack.new (O.state out.new) (L.told listing.new)) (L.failed listing.new)) }
+    ensures ok { IfOk result (GoesOverBy O.state L.told (marks_ahead ahead.entry) d.0 (parties stack.old out.old listing.old) noted.new (parties stack.new out.new listing.new)) }
+    ensures err { IfErr result (EndsEarlyBy O.state L.told L.failed (is_some noted.old) (marks_ahead ahead.entry) d.0 (parties stack.old out.old listing.old) (parties stack.new out.new listing.new)) }
     ensures noted { OnOk result (is_some noted.new ≡ is_some noted.old) }
 {
     // How many sectors a device can have is learned from a call.

@@ -2,7 +2,7 @@
 ghost use Rattle.std.specs.Prelude.{◌≡◌, ◌≤◌, ◌<◌, length, IsTrue, IfOk, IfErr};
 ghost use Rattle.stack_rules.specs.Names.{mapped, size};
 ghost use Rattle.rescue_map.specs.Maps.{marks};
-ghost use Rattle.stack_recovery.specs.Recoveries.{IsRescueEnd, Rescues, sides};
+ghost use Rattle.stack_recovery.specs.Recoveries.{EndsRescue, RescuesBy, parties};
 
 use crate::fault::RecoveryFault;
 use crate::listing::Listing;
@@ -35,8 +35,8 @@ pub fn rescue<D: BlockDev, O: BlockDev, L: Listing, P: Progress>(
     requires fits { length (marks map.now) ≡ size stack.old.config (mapped d.0) }
     requires room { size stack.old.config (mapped d.0) ≤ (O.state out.old).size }
     requires allowed { IsTrue (O.state out.old).may_write }
-    ensures ok { IfOk result (λ rescued. Rescues (marks map.now) d.0 (sides stack.old (O.state out.old) (L.told listing.old)) rescued (sides stack.new (O.state out.new) (L.told listing.new))) }
-    ensures err { IfErr result (IsRescueEnd (marks map.now) d.0 (sides stack.old (O.state out.old) (L.told listing.old)) (sides stack.new (O.state out.new) (L.told listing.new)) (L.failed listing.new)) }
+    ensures ok { IfOk result (RescuesBy O.state L.told (marks map.now) d.0 (parties stack.old out.old listing.old) (parties stack.new out.new listing.new)) }
+    ensures err { IfErr result (EndsRescue O.state L.told L.failed (marks map.now) d.0 (parties stack.old out.old listing.old) (parties stack.new out.new listing.new)) }
 {
     let mut noted = Some(Map::new(alloc));
     let ahead = Ahead::of_map(map);

@@ -1,21 +1,34 @@
 -- A session whose lines are served by a queue.
-use Rattle.std.specs.Prelude.{Result}
-use Rattle.stack_meaning.specs.Leaves.{AllSteady}
-use Rattle.request_queue.specs.Parts.{AnyPart, SteadyPart, EachPart}
+use Rattle.std.specs.Prelude.{ℕ, List, Option, Result}
+use Rattle.block_device.specs.Device.{Device}
+use Rattle.stack_rules.specs.Names.{mapped}
+use Rattle.stack_meaning.specs.Leaves.{AreSteady}
+use Rattle.stack_lines.specs.Touches.{leaves_of}
+use Rattle.request_queue.specs.Parts.{AnyPart, EachPart, PartRelation, SteadyPart}
 use Rattle.request_queue.specs.Runs.{IsLed}
 use Rattle.request_queue.specs.World.{World, Step}
 use Rattle.stack_session.specs.declared.fault.SessionFault.{SessionFault}
-use Rattle.counted_io.specs.Streams.{Streams}
+use Rattle.counted_io.specs.Counted.{CountedRecord}
+use Rattle.counted_io.specs.Streams.{Streams, streams}
 use Rattle.stack_session.specs.Session.{IsSession}
 use Rattle.stack_session.specs.Replies.{Replies, WholeStep}
+
+-- A part of a request is what the stack means, where those of these leaves are steady that stand beneath the request's device.
+abbrev pub SteadyBeneath : List Device → PartRelation
+SteadyBeneath leaves v d first part answer v' = AreSteady (leaves_of v.config (mapped d)) leaves → SteadyPart v d first part answer v'
 
 -- What a session read and wrote, from the first world of its queue to the last.
 pub record IsQueueSession (first end : World) (old new : Streams) (result : Result Unit SessionFault) : Type 0 where
   -- whatever the leaves answer
   pub any : IsSession (Replies (Step AnyPart)) first end old new result
-  -- over steady leaves
-  pub steady : AllSteady first.stack.leaves → IsSession (Replies (Step SteadyPart)) first end old new result
+  -- of each request over steady leaves, whatever the others are; a leaf stays as steady as it was at first
+  pub steady : IsSession (Replies (Step (SteadyBeneath first.stack.leaves))) first end old new result
   -- each read and each write as a whole, both at once
   pub whole : IsSession (Replies WholeStep) first end old new result
   -- however it ended, the lines that it served are a run of the queue, of which the queue's law speaks
   pub led : IsLed EachPart first end
+
+-- the same of a counted reader and a counted writer, before and after
+abbrev pub IsQueueSessionOf : {R W : Type 0} → World → World → (R → Option (List ℕ)) → (W → Option (List ℕ)) → CountedRecord R → CountedRecord W → CountedRecord R → CountedRecord W → Result Unit SessionFault → Type 0
+IsQueueSessionOf first end remaining contents reader writer reader' writer' result =
+    IsQueueSession first end (streams (remaining reader.inner) (contents writer.inner)) (streams (remaining reader'.inner) (contents writer'.inner)) result

@@ -92,6 +92,7 @@ abbrev pub IsWhole : World → Event → World → Type 0
 IsWhole w (event.submit r result) w' = Unit {0}
 IsWhole w (event.step ticket result) w' = Unit {0}
 IsWhole w (event.read_bytes d first bytes result) w' = Unit {0}
+IsWhole w (event.write_piece d first bytes result) w' = Unit {0}
 IsWhole w (event.load text result) w' = Unit {0}
 IsWhole w (event.remove_device name result) w' = Unit {0}
 IsWhole w (event.run r result) w' = RunAnswers w r result w'
@@ -101,3 +102,7 @@ IsWhole w (event.sync result) w' = Unit {0}
 pub record WholeStep (w : World) (e : Event) (w' : World) : Type 0 where
   pub each : Step EachPart w e w'
   pub whole : IsWhole w e w'
+
+-- of a text that is the reply to a command: all that is known
+abbrev pub IsReplyTo : World → CommandRecord → World → List ℕ → Type 0
+IsReplyTo w command w' reply = RepliesTo WholeStep w command reply w'

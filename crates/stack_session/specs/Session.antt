@@ -8,7 +8,7 @@ use Rattle.stack_session.specs.declared.fault.SessionFault.TheVariants.{TooLong,
 use Rattle.stack_session.specs.declared.lines.TheConstants.{LIMIT}
 use Rattle.counted_io.specs.declared.fault.WriteFault.{WriteFault as WriterFailed}
 use Rattle.counted_io.specs.Counted.{CountedRecord, Grows, Writes}
-use Rattle.counted_io.specs.Streams.{Streams}
+use Rattle.counted_io.specs.Streams.{Streams, streams}
 
 -- a text with its newline
 abbrev pub ended : List ℕ → List ℕ
@@ -62,6 +62,14 @@ pub record ServesFront {S : Type 0} (replies : Replying S) (first : S) (input : 
   pub run : ServesLines replies first lines texts last
   pub joined : output ≡ flat_map (λ text. text) texts
 
+-- a text of which P holds was written
+abbrev pub Adds : {T : Type 0} → (T → Option (List ℕ)) → CountedRecord T → CountedRecord T → (List ℕ → Type 0) → Type 0
+Adds contents old new P = Grows (contents old.inner) (contents new.inner) P
+
+-- and handed on
+abbrev pub HandsOn : {T : Type 0} → (T → Option (List ℕ)) → CountedRecord T → CountedRecord T → (List ℕ → Type 0) → Type 0
+HandsOn contents old new P = (new.pending ≡ false) × Adds contents old new P
+
 -- a reply of which P holds was written, or the writer failed in it
 pub record WritesReply {T : Type 0} (contents : T → Option (List ℕ)) (old new : CountedRecord T) (P : List ℕ → Type 0) (result : Result Unit WriterFailed) : Type 0 where
   pub reply : List ℕ
@@ -89,6 +97,22 @@ pub record IsStopped {T : Type 0} (old new : Option (List ℕ)) (Front : List �
   pub write_fault : IsErrOf result WriteFault → (output : List ℕ) × Front output
   pub no_memory : IsErrOf result NoMemory → Grows old new Front
 
+-- the same of a counted writer
+abbrev pub StopsWriting : {T A : Type 0} → (T → Option (List ℕ)) → CountedRecord T → CountedRecord T → (List ℕ → Type 0) → Result A SessionFault → Type 0
+StopsWriting contents old new Front result = IsStopped (contents old.inner) (contents new.inner) Front result
+
+-- of what was left of the limit a piece was taken, and the rest of a line that is kept stays within it
+abbrev pub IsWithin : ℕ → List ℕ → List ℕ → ℕ → Type 0
+IsWithin left piece rest after = (after + length piece ≡ left) × (length rest + after ≤ LIMIT)
+
+-- no more is kept than there was
+abbrev pub KeepsAtMost : List ℕ → List ℕ → List ℕ → Type 0
+KeepsAtMost rest piece rest' = length rest' ≤ length rest + length piece
+
+-- where the input is too long
+abbrev pub OnTooLong : {A : Type 0} → Result A SessionFault → Type 0 → Type 0
+OnTooLong result P = IsErrOf result TooLong → P
+
 -- What a session read and wrote, from the first state of its server to the last, of some bytes that it took.
 pub record IsSession {S : Type 0} (replies : Replying S) (first last : S) (old new : Streams) (result : Result Unit SessionFault) : Type 0 where
   -- all was read and served, and what is written is the replies
@@ -101,6 +125,11 @@ pub record IsSession {S : Type 0} (replies : Replying S) (first last : S) (old n
   pub write_fault : IsErrOf result WriteFault → Taking old new (λ taken. (output : List ℕ) × ServesFront replies first (take LIMIT taken) last output)
   -- memory ran out behind them, and what is written is their replies
   pub no_memory : IsErrOf result NoMemory → Taking old new (λ taken. Grows old.output new.output (ServesFront replies first (take LIMIT taken) last))
+
+-- the same of a counted reader and a counted writer, before and after
+abbrev pub IsSessionOf : {S R W : Type 0} → Replying S → S → S → (R → Option (List ℕ)) → (W → Option (List ℕ)) → CountedRecord R → CountedRecord W → CountedRecord R → CountedRecord W → Result Unit SessionFault → Type 0
+IsSessionOf replies first last remaining contents reader writer reader' writer' result =
+    IsSession replies first last (streams (remaining reader.inner) (contents writer.inner)) (streams (remaining reader'.inner) (contents writer'.inner)) result
 
 -- How a session ended, where neither its reader nor its writer had failed before.
 pub record IsEnding {R W : Type 0} (reader reader' : CountedRecord R) (writer' : CountedRecord W) (result : Result Unit SessionFault) : Type 0 where

@@ -1,8 +1,6 @@
 //! A session over any server of lines: reads the input, cuts it into lines, and has each line served.
-ghost use Rattle.std.specs.Prelude.{true, false, ◌≡◌, ◌≢◌, ℕ, ◌+◌, ◌≤◌, ◌<◌, List, [], ◌∷◌, ◌++◌, length, take, IfOk, OnOk, OnErr, MatchOption, IsErrOf, ◌⊎◌};
-ghost use Rattle.counted_io.specs.Counted.{Grows};
-ghost use Rattle.stack_session.specs.Session.{IsOneLine, ServesFront, ServesWhole, IsRemembered, IsSession, IsEnding, IsStopped, WritesReply};
-ghost use Rattle.counted_io.specs.Streams.{streams};
+ghost use Rattle.std.specs.Prelude.{false, ◌≡◌, ◌≢◌, ℕ, ◌+◌, ◌≤◌, ◌<◌, List, [], ◌∷◌, ◌++◌, length, take, IfOk, OnOk, OnErr, MatchOption, ◌⊎◌};
+ghost use Rattle.stack_session.specs.Session.{Adds, HandsOn, IsEnding, IsOneLine, IsRemembered, IsSessionOf, KeepsAtMost, OnTooLong, ServesFront, ServesWhole, IsWithin, StopsWriting, WritesReply};
 
 use crate::fault::SessionFault;
 use counted_io::{Counted, WriteFault};
@@ -61,9 +59,9 @@ fn end_line<S: LineServer, W: Write>(
 ) -> Result<(), SessionFault>
     requires line { IsOneLine (rest.old.items ++ end.now) }
     requires room { length rest.old.items + length end.now ≤ LIMIT }
-    ensures ok { OnOk result ((rest.new.items ≡ []) × Grows (W.contents writer.old.inner) (W.contents writer.new.inner)
+    ensures ok { OnOk result ((rest.new.items ≡ []) × Adds W.contents writer.old writer.new
         (λ reply. S.replies server.old (rest.old.items ++ end.now) reply server.new)) }
-    ensures stopped { IsStopped (W.contents writer.old.inner) (W.contents writer.new.inner) (ServesFront S.replies server.old (rest.old.items ++ end.now) server.new) result }
+    ensures stopped { StopsWriting W.contents writer.old writer.new (ServesFront S.replies server.old (rest.old.items ++ end.now) server.new) result }
     ensures writer { IsRemembered writer.old writer.new result }
     ensures kinds { OnErr result ((result ≡ Err SessionFault.WriteFault) ⊎ (result ≡ Err SessionFault.NoMemory)) }
 {
@@ -87,9 +85,9 @@ fn feed<S: LineServer, W: Write>(
 ) -> Result<(), SessionFault>
     requires line { IsOneLine rest.old.items }
     requires room { length rest.old.items + length piece.now ≤ LIMIT }
-    ensures ok { OnOk result ((length rest.new.items ≤ length rest.old.items + length piece.now)
-        × Grows (W.contents writer.old.inner) (W.contents writer.new.inner) (ServesWhole S.replies server.old (rest.old.items ++ piece.now) server.new rest.new.items)) }
-    ensures stopped { IsStopped (W.contents writer.old.inner) (W.contents writer.new.inner) (ServesFront S.replies server.old (rest.old.items ++ piece.now) server.new) result }
+    ensures ok { OnOk result (KeepsAtMost rest.old.items piece.now rest.new.items
+        × Adds W.contents writer.old writer.new (ServesWhole S.replies server.old (rest.old.items ++ piece.now) server.new rest.new.items)) }
+    ensures stopped { StopsWriting W.contents writer.old writer.new (ServesFront S.replies server.old (rest.old.items ++ piece.now) server.new) result }
     ensures writer { IsRemembered writer.old writer.new result }
     ensures kinds { OnErr result ((result ≡ Err SessionFault.WriteFault) ⊎ (result ≡ Err SessionFault.NoMemory)) }
 {
@@ -113,11 +111,11 @@ fn absorb<S: LineServer, W: Write>(
 ) -> Result<usize, SessionFault>
     requires line { IsOneLine rest.old.items }
     requires room { length rest.old.items + left ≤ LIMIT }
-    ensures ok { IfOk result (λ after. (after + length piece.now ≡ left) × (length rest.new.items + after ≤ LIMIT)
-        × Grows (W.contents writer.old.inner) (W.contents writer.new.inner) (ServesWhole S.replies server.old (rest.old.items ++ piece.now) server.new rest.new.items)) }
-    ensures too_long { IsErrOf result SessionFault.TooLong → (left < length piece.now) × (writer.new.pending ≡ false)
-        × Grows (W.contents writer.old.inner) (W.contents writer.new.inner) (ServesWhole S.replies server.old (rest.old.items ++ take left piece.now) server.new rest.new.items) }
-    ensures stopped { IsStopped (W.contents writer.old.inner) (W.contents writer.new.inner) (ServesFront S.replies server.old (rest.old.items ++ take left piece.now) server.new) result }
+    ensures ok { IfOk result (λ after. IsWithin left piece.now rest.new.items after
+        × Adds W.contents writer.old writer.new (ServesWhole S.replies server.old (rest.old.items ++ piece.now) server.new rest.new.items)) }
+    ensures too_long { OnTooLong result ((left < length piece.now)
+        × HandsOn W.contents writer.old writer.new (ServesWhole S.replies server.old (rest.old.items ++ take left piece.now) server.new rest.new.items)) }
+    ensures stopped { StopsWriting W.contents writer.old writer.new (ServesFront S.replies server.old (rest.old.items ++ take left piece.now) server.new) result }
     ensures writer { IsRemembered writer.old writer.new result × (result ≢ Err SessionFault.ReadFault) }
 {
     if piece.len() > left {
@@ -140,8 +138,7 @@ pub fn serve_lines<S: LineServer, R: Read, W: Write>(
 ) -> Result<(), SessionFault>
     requires reader { reader.old.failed ≡ false }
     requires writer { writer.old.failed ≡ false }
-    ensures session { IsSession S.replies server.old server.new
-        (streams (R.remaining reader.old.inner) (W.contents writer.old.inner)) (streams (R.remaining reader.new.inner) (W.contents writer.new.inner)) result }
+    ensures session { IsSessionOf S.replies server.old server.new R.remaining W.contents reader.old writer.old reader.new writer.new result }
     ensures ending { IsEnding reader.old reader.new writer.new result }
 {
     let mut rest = Vec::new(alloc);

@@ -1,11 +1,10 @@
 //! The lines of a session, served by a queue over a stack.
-ghost use Rattle.std.specs.Prelude.{true, false, ◌≡◌, ◌≤◌, ℕ, List, length};
+ghost use Rattle.std.specs.Prelude.{false, ◌≡◌, ◌≤◌, length};
 ghost use Rattle.stack_session.specs.Accesses.{IsSmall, access_record};
 ghost use Rattle.stack_session.specs.Commands.{load, run, submit, step, remove, cost, table, moved};
-ghost use Rattle.stack_session.specs.Replies.{Replies, RepliesTo, WholeStep};
-ghost use Rattle.stack_session.specs.QueueSessions.{IsQueueSession};
+ghost use Rattle.stack_session.specs.Replies.{IsReplyTo, Replies, WholeStep};
+ghost use Rattle.stack_session.specs.QueueSessions.{IsQueueSessionOf};
 ghost use Rattle.stack_session.specs.Session.{IsEnding, WritesReply};
-ghost use Rattle.counted_io.specs.Streams.{streams};
 
 use crate::access::Access;
 use crate::command::{Command, command_of};
@@ -34,7 +33,7 @@ fn reply_to_load<D: BlockDev, W: Write>(
     writer: &mut Counted<W>,
 ) -> Result<(), WriteFault>
     requires { length text.now ≤ LIMIT }
-    ensures { WritesReply W.contents writer.old writer.new (λ reply. RepliesTo WholeStep queue.old (load text.now) reply queue.new) result }
+    ensures { WritesReply W.contents writer.old writer.new (IsReplyTo queue.old (load text.now) queue.new) result }
 {
     let entries = match parse_stack(alloc, text) {
         Ok(entries) => entries,
@@ -57,7 +56,7 @@ fn reply_to_run<D: BlockDev, W: Write>(
     writer: &mut Counted<W>,
 ) -> Result<(), WriteFault>
     requires { IsSmall access }
-    ensures { WritesReply W.contents writer.old writer.new (λ reply. RepliesTo WholeStep queue.old (run (access_record access.entry)) reply queue.new) result }
+    ensures { WritesReply W.contents writer.old writer.new (IsReplyTo queue.old (run (access_record access.entry)) queue.new) result }
 {
     let Ok(request) = access.request(alloc) else {
         return say_no_memory(writer);
@@ -80,7 +79,7 @@ fn reply_to_submit<D: BlockDev, W: Write>(
     writer: &mut Counted<W>,
 ) -> Result<(), WriteFault>
     requires { IsSmall access }
-    ensures { WritesReply W.contents writer.old writer.new (λ reply. RepliesTo WholeStep queue.old (submit (access_record access.entry)) reply queue.new) result }
+    ensures { WritesReply W.contents writer.old writer.new (IsReplyTo queue.old (submit (access_record access.entry)) queue.new) result }
 {
     let Ok(request) = access.request(alloc) else {
         return say_no_memory(writer);
@@ -100,7 +99,7 @@ fn reply_to_step<D: BlockDev, W: Write>(
     ticket: u64,
     writer: &mut Counted<W>,
 ) -> Result<(), WriteFault>
-    ensures { WritesReply W.contents writer.old writer.new (λ reply. RepliesTo WholeStep queue.old (step ticket) reply queue.new) result }
+    ensures { WritesReply W.contents writer.old writer.new (IsReplyTo queue.old (step ticket) queue.new) result }
 {
     let first = queue.first_sector(Ticket(ticket)).unwrap_or(0);
     match queue.step(Ticket(ticket)) {
@@ -117,7 +116,7 @@ fn reply_to_remove<D: BlockDev, W: Write>(
     name: &[u8],
     writer: &mut Counted<W>,
 ) -> Result<(), WriteFault>
-    ensures { WritesReply W.contents writer.old writer.new (λ reply. RepliesTo WholeStep queue.old (remove name.now) reply queue.new) result }
+    ensures { WritesReply W.contents writer.old writer.new (IsReplyTo queue.old (remove name.now) queue.new) result }
 {
     match queue.remove(name) {
         Ok(()) => say_removed(writer),
@@ -132,7 +131,7 @@ fn reply_to_cost<D: BlockDev, W: Write>(
     name: &[u8],
     writer: &mut Counted<W>,
 ) -> Result<(), WriteFault>
-    ensures { WritesReply W.contents writer.old writer.new (λ reply. RepliesTo WholeStep queue.now (cost name.now) reply queue.now) result }
+    ensures { WritesReply W.contents writer.old writer.new (IsReplyTo queue.now (cost name.now) queue.now) result }
 {
     let config = queue.stack().config();
     match config.device(name) {
@@ -148,7 +147,7 @@ fn reply_to_table<D: BlockDev, W: Write>(
     name: &[u8],
     writer: &mut Counted<W>,
 ) -> Result<(), WriteFault>
-    ensures { WritesReply W.contents writer.old writer.new (λ reply. RepliesTo WholeStep queue.now (table name.now) reply queue.now) result }
+    ensures { WritesReply W.contents writer.old writer.new (IsReplyTo queue.now (table name.now) queue.now) result }
 {
     let config = queue.stack().config();
     let Some(d) = config.device(name) else {
@@ -165,7 +164,7 @@ fn reply_to_moved<D: BlockDev, W: Write>(
     queue: &Queue<D>,
     writer: &mut Counted<W>,
 ) -> Result<(), WriteFault>
-    ensures { WritesReply W.contents writer.old writer.new (λ reply. RepliesTo WholeStep queue.now moved reply queue.now) result }
+    ensures { WritesReply W.contents writer.old writer.new (IsReplyTo queue.now moved queue.now) result }
 {
     let (reads, writes) = queue.stack().moved();
     say_moved(writer, reads, writes)
@@ -204,8 +203,7 @@ pub fn session<D: BlockDev, R: Read, W: Write>(
 ) -> Result<(), SessionFault>
     requires reader { reader.old.failed ≡ false }
     requires writer { writer.old.failed ≡ false }
-    ensures session { IsQueueSession queue.old queue.new
-        (streams (R.remaining reader.old.inner) (W.contents writer.old.inner)) (streams (R.remaining reader.new.inner) (W.contents writer.new.inner)) result }
+    ensures session { IsQueueSessionOf queue.old queue.new R.remaining W.contents reader.old writer.old reader.new writer.new result }
     ensures ending { IsEnding reader.old reader.new writer.new result }
 {
     serve_lines(alloc, queue, reader, writer)

@@ -1,6 +1,7 @@
 -- Sectors of a mapped device that are written out.
 use Rattle.std.specs.Prelude.{◌≡◌, ◌≢◌, ℕ, ◌+◌, ◌<◌, ◌≤◌, Bool, true, List, Option, Ok, Err}
 use Rattle.std.specs.Io.KnownBytes.{Appends}
+use Rattle.counted_io.specs.Counted.{CountedRecord}
 use Rattle.stack_rules.specs.Names.{mapped, size}
 use Rattle.stack_meaning.specs.declared.fault.IoFault.{IoFault}
 use Rattle.stack_meaning.specs.declared.fault.IoFault.TheVariants as io
@@ -62,3 +63,13 @@ abbrev pub IsCatEnd : ℕ → SectorRange → CatSide → CatSide → Bool → C
 IsCatEnd d range old new failed Range = (new ≡ old) × (size old.stack.config (mapped d) < range.first + range.count)
 IsCatEnd d range old new failed (Read fault) = IsCatStop d range.first range.count old new fault
 IsCatEnd d range old new failed Write = failed ≡ true
+
+-- ---- as a call sees them: the stack and a counted writer before, and both after
+
+abbrev pub CatsBy : {T : Type 0} → (T → Option (List ℕ)) → ℕ → SectorRange → StackRecord → CountedRecord T → StackRecord → CountedRecord T → Type 0
+CatsBy contents d range stack writer stack' writer' =
+    IsCat d range.first range.count (cat_side stack (contents writer.inner)) (cat_side stack' (contents writer'.inner))
+
+abbrev pub EndsCatBy : {T : Type 0} → (T → Option (List ℕ)) → ℕ → SectorRange → StackRecord → CountedRecord T → StackRecord → CountedRecord T → CatFault → Type 0
+EndsCatBy contents d range stack writer stack' writer' fault =
+    IsCatEnd d range (cat_side stack (contents writer.inner)) (cat_side stack' (contents writer'.inner)) writer'.failed fault

@@ -7,13 +7,15 @@ use Rattle.image_files.specs.declared.images.OpenImage.{OpenImage}
 use Rattle.image_files.specs.Opener.{Calls}
 use Rattle.stack_engine.specs.Stacks.{StackRecord}
 use Rattle.stack_opening.specs.declared.stack_file.OpenStack.{OpenStack}
+use Rattle.stack_opening.specs.declared.stack_file.StackFile.{StackFile}
 use Rattle.stack_opening.specs.OpenStacks.{FailsToOpenBeside, OpensBeside}
+use Rattle.stack_streams.specs.declared.device_in.Target.{Target}
 use Rattle.stack_streams.specs.declared.fault.StoreCause.TheVariants.{Length}
 use Rattle.stack_streams.specs.declared.fault.StoreFault.{StoreFault}
 use Rattle.stack_streams.specs.Images.{IsImageEnd, StoresImage}
 use Rattle.stack_streams.specs.declared.fault.StreamFault.{StreamFault}
 use Rattle.stack_streams.specs.declared.fault.StreamFault.TheVariants.{Store}
-use Rattle.stack_streams.specs.Streaming.{IsStackless, IsUnwritten}
+use Rattle.stack_streams.specs.Streaming.{IsStackless, IsUnwritten, words_to}
 use Rattle.stack_streams.specs.StreamTexts.{stored_text}
 use Rattle.stack_making.specs.declared.fault.StackFault.{StackFault}
 use Rattle.stack_making.specs.declared.fault.StackFault.TheVariants.{Open}
@@ -29,6 +31,9 @@ pub record FileWords : Type 0 where
 
 abbrev pub file_words : DeviceWords → List ℕ → ℕ → FileWords
 file_words words source first = record { words = words; source = source; first = first }
+
+abbrev pub words_to_store : StackFile → Target → List ℕ → FileWords
+words_to_store file target source = file_words (words_to file target) source target.first
 
 -- all was opened, SOURCE to be read alone, and whether it ends inside a sector was told
 pub record OpensFile {S D : Type 0} (w : Calls S D) (words : FileWords) (over : OpenStack D) (image : OpenImage D) (part : Bool) : Type 0 where

@@ -2,6 +2,7 @@
 use Rattle.std.specs.Prelude.{◌≡◌, ◌⊎◌, ◌≢◌, ℕ, ◌+◌, ◌-◌, ◌*◌, ◌/◌, ◌%◌, ◌<◌, ◌==◌, nat_lt, not, List, [], ◌++◌, length, map, take, Option, Some, None, Ok, Err, if◌then◌else◌}
 use Rattle.std.specs.Io.KnownBytes.{Consumes, IsAtEnd}
 use Rattle.block_device.specs.Device.{synced}
+use Rattle.counted_io.specs.Counted.{CountedRecord}
 use Rattle.stack_rules.specs.Names.{mapped, may_write, size}
 use Rattle.stack_rules.specs.Records.{Configuration}
 use Rattle.stack_meaning.specs.declared.fault.IoFault.{IoFault}
@@ -12,6 +13,7 @@ use Rattle.stack_streams.specs.declared.fault.StoreCause.{StoreCause}
 use Rattle.stack_streams.specs.declared.fault.StoreCause.TheVariants as cause
 use Rattle.stack_streams.specs.declared.fault.StoreFault.{StoreFault}
 use Rattle.stack_streams.specs.declared.input.StorePlace.{StorePlace}
+use Rattle.stack_streams.specs.Filling.{IsBroken}
 
 -- ---- what is known before
 
@@ -133,3 +135,22 @@ abbrev pub IsProbeEnd : Option (List ℕ) → Option (List ℕ) → Type 0 → S
 IsProbeEnd old new broken cause.TooLong = (more : List ℕ) × (0 < length more) × Consumes old new more
 IsProbeEnd old new broken cause.Read = (more : List ℕ) × Consumes old new more × broken
 IsProbeEnd old new broken other = ⊥
+
+-- ---- as a call sees them: the stack and a counted reader before, and both after
+
+abbrev pub StoresBy : {T : Type 0} → (T → Option (List ℕ)) → ℕ → StorePlace → StackRecord → CountedRecord T → StackRecord → CountedRecord T → ℕ → Type 0
+StoresBy remaining d place stack reader stack' reader' n =
+    Stores d place.first (store_side stack (remaining reader.inner)) (store_side stack' (remaining reader'.inner)) n
+
+abbrev pub EndsStoreBy : {T : Type 0} → (T → Option (List ℕ)) → ℕ → StorePlace → StackRecord → CountedRecord T → StackRecord → CountedRecord T → StoreFault → Type 0
+EndsStoreBy remaining d place stack reader stack' reader' fault =
+    IsStoreEnd d place (store_side stack (remaining reader.inner)) (store_side stack' (remaining reader'.inner)) (IsBroken reader') fault
+
+-- all bytes of the reader were written, and nothing is synced yet
+abbrev pub HasStoredBy : {T : Type 0} → (T → Option (List ℕ)) → ℕ → StorePlace → StackRecord → CountedRecord T → StackRecord → CountedRecord T → ℕ → Type 0
+HasStoredBy remaining d place stack reader stack' reader' n =
+    HasStored d place.first n (store_side stack (remaining reader.inner)) (store_side stack' (remaining reader'.inner)) × IsAtEnd (remaining reader'.inner)
+
+abbrev pub StopsStoreBy : {T : Type 0} → (T → Option (List ℕ)) → ℕ → StorePlace → StackRecord → CountedRecord T → StackRecord → CountedRecord T → StoreFault → Type 0
+StopsStoreBy remaining d place stack reader stack' reader' fault =
+    IsStoreStop d place.first (store_side stack (remaining reader.inner)) (store_side stack' (remaining reader'.inner)) (IsBroken reader') fault

@@ -1,10 +1,13 @@
 -- What `cat` and `store` do with a device's bytes, and how they end early.
 use Rattle.std.specs.Prelude.{◌≡◌, ◌⊎◌, ℕ, ◌-◌, Bool, true, List, Option, Some, None}
 use Rattle.std.specs.Io.KnownBytes.{Appends}
-use Rattle.counted_io.specs.Streams.{Streams}
+use Rattle.counted_io.specs.Counted.{CountedRecord}
+use Rattle.counted_io.specs.Streams.{Streams, streams}
 use Rattle.image_files.specs.Opener.{Calls}
 use Rattle.stack_rules.specs.Names.{mapped, size}
 use Rattle.stack_engine.specs.Stacks.{StackRecord}
+use Rattle.stack_streams.specs.declared.device_in.Target.{Target}
+use Rattle.stack_streams.specs.declared.device_out.Wanted.{Wanted}
 use Rattle.stack_streams.specs.declared.input.StorePlace.{StorePlace}
 use Rattle.stack_streams.specs.declared.output.SectorRange.{SectorRange}
 use Rattle.stack_streams.specs.Cats.{CatSide, IsCat, IsCatEnd, cat_side}
@@ -14,7 +17,16 @@ use Rattle.stack_streams.specs.declared.fault.StreamFault.TheVariants.{Cat, Stac
 use Rattle.stack_streams.specs.StreamTexts.{stored_text}
 use Rattle.stack_making.specs.declared.fault.StackFault.{StackFault}
 use Rattle.stack_making.specs.Closings.{IsGivenBack}
-use Rattle.stack_making.specs.NamedDevices.{DeviceWords, FailsToFindDevice, Finds, Place}
+use Rattle.stack_making.specs.NamedDevices.{DeviceWords, FailsToFindDevice, Finds, Place, device_words}
+use Rattle.stack_opening.specs.declared.stack_file.StackFile.{StackFile}
+use Rattle.stack_opening.specs.OpenStacks.{stack_words}
+
+-- a relation of what a counted writer held before and what it holds then; and of that, whether it failed, and a fault
+abbrev pub Printing : {T : Type 0} → (T → Option (List ℕ)) → CountedRecord T → CountedRecord T → (Option (List ℕ) → Option (List ℕ) → Type 0) → Type 0
+Printing contents old new Prints = Prints (contents old.inner) (contents new.inner)
+
+abbrev pub EndsPrinting : {T : Type 0} → (T → Option (List ℕ)) → CountedRecord T → CountedRecord T → (Option (List ℕ) → Option (List ℕ) → Bool → StreamFault → Type 0) → StreamFault → Type 0
+EndsPrinting contents old new Ends fault = Ends (contents old.inner) (contents new.inner) new.failed fault
 
 -- there is no such device
 abbrev pub IsStackless : (StackFault → Type 0) → StreamFault → Type 0
@@ -60,6 +72,16 @@ abbrev pub IsBytesEnd : {S D : Type 0} → Calls S D → DeviceWords → ℕ →
 IsBytesEnd w words first count old new failed fault =
     ((new ≡ old) × IsStackless (FailsToFindDevice w words) fault) ⊎ FailsToCat w words first count old new failed fault
 
+-- the sectors that are wanted, as words name them
+abbrev pub words_for : StackFile → Wanted → DeviceWords
+words_for file wanted = device_words (stack_words file) wanted.name.now wanted.cache
+
+abbrev pub PrintsWanted : {S D : Type 0} → Calls S D → StackFile → Wanted → Option (List ℕ) → Option (List ℕ) → Type 0
+PrintsWanted w file wanted old new = PrintsBytes w (words_for file wanted) wanted.first wanted.count old new
+
+abbrev pub IsWantedEnd : {S D : Type 0} → Calls S D → StackFile → Wanted → Option (List ℕ) → Option (List ℕ) → Bool → StreamFault → Type 0
+IsWantedEnd w file wanted old new failed fault = IsBytesEnd w (words_for file wanted) wanted.first wanted.count old new failed fault
+
 -- ---- `store`
 
 -- from that sector on, whatever comes
@@ -101,3 +123,25 @@ abbrev pub IsStoringEnd : {S D : Type 0} → Calls S D → DeviceWords → ℕ �
 IsStoringEnd w words first old new failed fault =
     ((new ≡ old) × IsStackless (FailsToFindDevice w words) fault)
     ⊎ (FailsToStore w words first old new fault ⊎ ((n : ℕ) × StoresInput w words first old new n × IsUnwritten failed fault))
+
+-- a counted reader and a counted writer, and what a proof sees of them
+pub record Ends (R W : Type 0) : Type 0 where
+  pub reader : CountedRecord R
+  pub writer : CountedRecord W
+
+abbrev pub ends : {R W : Type 0} → CountedRecord R → CountedRecord W → Ends R W
+ends reader writer = record { reader = reader; writer = writer }
+
+abbrev pub streams_of : {R W : Type 0} → (R → Option (List ℕ)) → (W → Option (List ℕ)) → Ends R W → Streams
+streams_of remaining contents e = streams (remaining e.reader.inner) (contents e.writer.inner)
+
+-- where bytes go, as words name it
+abbrev pub words_to : StackFile → Target → DeviceWords
+words_to file target = device_words (stack_words file) target.name.now target.cache
+
+abbrev pub StoresTarget : {S D R W : Type 0} → Calls S D → StackFile → Target → (R → Option (List ℕ)) → (W → Option (List ℕ)) → Ends R W → Ends R W → Type 0
+StoresTarget w file target remaining contents old new = PrintsStored w (words_to file target) target.first (streams_of remaining contents old) (streams_of remaining contents new)
+
+abbrev pub IsTargetEnd : {S D R W : Type 0} → Calls S D → StackFile → Target → (R → Option (List ℕ)) → (W → Option (List ℕ)) → Ends R W → Ends R W → StreamFault → Type 0
+IsTargetEnd w file target remaining contents old new fault =
+    IsStoringEnd w (words_to file target) target.first (streams_of remaining contents old) (streams_of remaining contents new) new.writer.failed fault

@@ -1,10 +1,7 @@
 //! The bytes of a reader are written to a stack file's device.
 ghost use Rattle.std.specs.Prelude.{OnOk, IfErr};
-ghost use Rattle.counted_io.specs.Streams.{streams};
 ghost use Rattle.image_files.specs.Opener.{calls};
-ghost use Rattle.stack_opening.specs.OpenStacks.{stack_words};
-ghost use Rattle.stack_making.specs.NamedDevices.{device_words};
-ghost use Rattle.stack_streams.specs.Streaming.{IsStoringEnd, PrintsStored};
+ghost use Rattle.stack_streams.specs.Streaming.{IsTargetEnd, StoresTarget, ends};
 
 use crate::fault::StreamFault;
 use crate::input::{StorePlace, store};
@@ -36,8 +33,8 @@ pub fn store_device<'a, I: Images, S: Read, W: Write, P: Progress>(
     writer: &mut Counted<W>,
     progress: &mut P,
 ) -> Result<(), StreamFault<'a>>
-    ensures ok { OnOk result (PrintsStored (calls I.relations I.Dev.state images.old images.new) (device_words (stack_words file.entry) target.entry.name.now target.entry.cache) target.entry.first (streams (S.remaining reader.old.inner) (W.contents writer.old.inner)) (streams (S.remaining reader.new.inner) (W.contents writer.new.inner))) }
-    ensures err { IfErr result (IsStoringEnd (calls I.relations I.Dev.state images.old images.new) (device_words (stack_words file.entry) target.entry.name.now target.entry.cache) target.entry.first (streams (S.remaining reader.old.inner) (W.contents writer.old.inner)) (streams (S.remaining reader.new.inner) (W.contents writer.new.inner)) writer.new.failed) }
+    ensures ok { OnOk result (StoresTarget (calls I.relations I.Dev.state images.old images.new) file.entry target.entry S.remaining W.contents (ends reader.old writer.old) (ends reader.new writer.new)) }
+    ensures err { IfErr result (IsTargetEnd (calls I.relations I.Dev.state images.old images.new) file.entry target.entry S.remaining W.contents (ends reader.old writer.old) (ends reader.new writer.new)) }
 {
     let Target { name, first, cache } = target;
     let device = NamedDevice { name, cache };

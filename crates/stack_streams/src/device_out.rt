@@ -1,9 +1,7 @@
 //! The bytes of a stack file's device are written out, and nothing else.
 ghost use Rattle.std.specs.Prelude.{◌≡◌, OnOk, IfErr};
 ghost use Rattle.image_files.specs.Opener.{calls};
-ghost use Rattle.stack_opening.specs.OpenStacks.{stack_words};
-ghost use Rattle.stack_making.specs.NamedDevices.{device_words};
-ghost use Rattle.stack_streams.specs.Streaming.{IsBytesEnd, PrintsBytes, count_from};
+ghost use Rattle.stack_streams.specs.Streaming.{EndsPrinting, IsWantedEnd, Printing, PrintsWanted, count_from};
 
 use crate::fault::StreamFault;
 use crate::output::{SectorRange, cat};
@@ -43,8 +41,8 @@ pub fn cat_device<'a, I: Images, W: Write, P: Progress>(
     writer: &mut Counted<W>,
     progress: &mut P,
 ) -> Result<(), StreamFault<'a>>
-    ensures ok { OnOk result (PrintsBytes (calls I.relations I.Dev.state images.old images.new) (device_words (stack_words file.entry) wanted.entry.name.now wanted.entry.cache) wanted.entry.first wanted.entry.count (W.contents writer.old.inner) (W.contents writer.new.inner)) }
-    ensures err { IfErr result (IsBytesEnd (calls I.relations I.Dev.state images.old images.new) (device_words (stack_words file.entry) wanted.entry.name.now wanted.entry.cache) wanted.entry.first wanted.entry.count (W.contents writer.old.inner) (W.contents writer.new.inner) writer.new.failed) }
+    ensures ok { OnOk result (Printing W.contents writer.old writer.new (PrintsWanted (calls I.relations I.Dev.state images.old images.new) file.entry wanted.entry)) }
+    ensures err { IfErr result (EndsPrinting W.contents writer.old writer.new (IsWantedEnd (calls I.relations I.Dev.state images.old images.new) file.entry wanted.entry)) }
 {
     let Wanted {
         name,

@@ -1,10 +1,9 @@
 //! The sectors of a file are written to a stack file's device.
 ghost use Rattle.std.specs.Prelude.{◌≡◌, ◌<◌, false, length, IsOk, OnOk, IfOk, IfErr};
 ghost use Rattle.image_files.specs.Opener.{calls};
-ghost use Rattle.stack_opening.specs.OpenStacks.{stack_words};
 ghost use Rattle.stack_streams.specs.Images.{StoresImage};
-ghost use Rattle.stack_making.specs.NamedDevices.{device_words};
-ghost use Rattle.stack_streams.specs.StoredFiles.{IsFileEnd, IsWholeEnd, PrintsFileStored, file_words};
+ghost use Rattle.stack_streams.specs.StoredFiles.{IsFileEnd, IsWholeEnd, PrintsFileStored, words_to_store};
+ghost use Rattle.stack_streams.specs.Streaming.{EndsPrinting, Printing};
 
 use crate::device_in::Target;
 use crate::fault::{StoreCause, StoreFault, StreamFault};
@@ -32,8 +31,8 @@ pub fn store_file<'a, I: Images, W: Write, P: Progress>(
     writer: &mut Counted<W>,
     progress: &mut P,
 ) -> Result<(), StreamFault<'a>>
-    ensures ok { OnOk result (PrintsFileStored (calls I.relations I.Dev.state images.old images.new) (file_words (device_words (stack_words file.entry) target.entry.name.now target.entry.cache) source.now target.entry.first) (W.contents writer.old.inner) (W.contents writer.new.inner)) }
-    ensures err { IfErr result (IsFileEnd (calls I.relations I.Dev.state images.old images.new) (file_words (device_words (stack_words file.entry) target.entry.name.now target.entry.cache) source.now target.entry.first) (W.contents writer.old.inner) (W.contents writer.new.inner) writer.new.failed) }
+    ensures ok { OnOk result (Printing W.contents writer.old writer.new (PrintsFileStored (calls I.relations I.Dev.state images.old images.new) (words_to_store file.entry target.entry source.now))) }
+    ensures err { IfErr result (EndsPrinting W.contents writer.old writer.new (IsFileEnd (calls I.relations I.Dev.state images.old images.new) (words_to_store file.entry target.entry source.now))) }
 {
     let Target { name, first, cache } = target;
     let (over, image) = open_with_input(alloc, images, file, source)?;

@@ -4,7 +4,7 @@ ghost use Rattle.std.specs.Io.KnownBytes.{Consumes, IsAtEnd};
 ghost use Rattle.stack_rules.specs.Names.{mapped, may_write, size};
 ghost use Rattle.stack_engine.specs.WritePieces.{EachWrite};
 ghost use Rattle.stack_streams.specs.Filling.{IsBroken};
-ghost use Rattle.stack_streams.specs.Stores.{HasStored, IsLastEnd, IsProbeEnd, IsStoreEnd, IsStoreStop, IsSynced, IsUnsynced, Stores, StoresPiece, refusal_of, store_side, whole_of};
+ghost use Rattle.stack_streams.specs.Stores.{EndsStoreBy, HasStoredBy, IsLastEnd, IsProbeEnd, IsSynced, IsUnsynced, StopsStoreBy, StoresBy, StoresPiece, refusal_of, whole_of};
 
 use crate::fault::{StoreCause, StoreFault};
 use crate::filling::fill;
@@ -61,8 +61,8 @@ pub fn store<D: SyncDev, R: Read, P: Progress>(
     progress: &mut P,
 ) -> Result<u64, StoreFault>
     requires { d.0 < length stack.old.config.devices }
-    ensures ok { IfOk result (Stores d.0 place.first (store_side stack.old (R.remaining reader.old.inner)) (store_side stack.new (R.remaining reader.new.inner))) }
-    ensures err { IfErr result (IsStoreEnd d.0 place (store_side stack.old (R.remaining reader.old.inner)) (store_side stack.new (R.remaining reader.new.inner)) (IsBroken reader.new)) }
+    ensures ok { IfOk result (StoresBy R.remaining d.0 place stack.old reader.old stack.new reader.new) }
+    ensures err { IfErr result (EndsStoreBy R.remaining d.0 place stack.old reader.old stack.new reader.new) }
     ensures fits { IsOk result → refusal_of stack.old.config d.0 place ≡ None }
     ensures untouched { refusal_of stack.old.config d.0 place ≢ None → (reader.new ≡ reader.old) × (stack.new ≡ stack.old) }
 {
@@ -105,8 +105,8 @@ fn store_by<D: BlockDev, R: Read, P: Progress>(
     requires inside { place.first ≤ size stack.old.config (mapped d.0) }
     requires allowed { IsTrue (may_write stack.old.config (mapped d.0)) }
     requires buffer { length room.old ≡ 65536 }
-    ensures ok { IfOk result (λ n. HasStored d.0 place.first n (store_side stack.old (R.remaining reader.old.inner)) (store_side stack.new (R.remaining reader.new.inner)) × IsAtEnd (R.remaining reader.new.inner)) }
-    ensures err { IfErr result (IsStoreStop d.0 place.first (store_side stack.old (R.remaining reader.old.inner)) (store_side stack.new (R.remaining reader.new.inner)) (IsBroken reader.new)) }
+    ensures ok { IfOk result (HasStoredBy R.remaining d.0 place stack.old reader.old stack.new reader.new) }
+    ensures err { IfErr result (StopsStoreBy R.remaining d.0 place stack.old reader.old stack.new reader.new) }
 {
     let sectors = stack.config().sectors(d);
     let mut at = place.first;

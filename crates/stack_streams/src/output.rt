@@ -1,7 +1,7 @@
 //! Writes the bytes of a mapped device out.
 ghost use Rattle.std.specs.Prelude.{◌≡◌, ◌≢◌, ◌↔◌, ◌+◌, ◌≤◌, ◌<◌, length, IsTrue, OnOk, IfErr};
 ghost use Rattle.stack_rules.specs.Names.{mapped, size};
-ghost use Rattle.stack_streams.specs.Cats.{IsCat, IsCatEnd, cat_side};
+ghost use Rattle.stack_streams.specs.Cats.{CatsBy, EndsCatBy};
 
 use crate::fault::CatFault;
 use block_device::BlockDev;
@@ -41,8 +41,8 @@ pub fn cat<D: BlockDev, W: Write, P: Progress>(
     progress: &mut P,
 ) -> Result<(), CatFault>
     requires { d.0 < length stack.old.config.devices }
-    ensures ok { OnOk result (IsCat d.0 range.first range.count (cat_side stack.old (W.contents writer.old.inner)) (cat_side stack.new (W.contents writer.new.inner))) }
-    ensures err { IfErr result (IsCatEnd d.0 range (cat_side stack.old (W.contents writer.old.inner)) (cat_side stack.new (W.contents writer.new.inner)) writer.new.failed) }
+    ensures ok { OnOk result (CatsBy W.contents d.0 range stack.old writer.old stack.new writer.new) }
+    ensures err { IfErr result (EndsCatBy W.contents d.0 range stack.old writer.old stack.new writer.new) }
     ensures inside { OnOk result (range.first + range.count ≤ size stack.old.config (mapped d.0)) }
     ensures untouched { result ≡ Err CatFault.Range → writer.new ≡ writer.old }
 {
@@ -65,8 +65,8 @@ fn cat_by<D: BlockDev, W: Write, P: Progress>(
     requires device { d.0 < length stack.old.config.devices }
     requires inside { range.first + range.count ≤ size stack.old.config (mapped d.0) }
     requires buffer { length room.old ≡ 65536 }
-    ensures ok { OnOk result (IsCat d.0 range.first range.count (cat_side stack.old (W.contents writer.old.inner)) (cat_side stack.new (W.contents writer.new.inner))) }
-    ensures err { IfErr result (IsCatEnd d.0 range (cat_side stack.old (W.contents writer.old.inner)) (cat_side stack.new (W.contents writer.new.inner)) writer.new.failed) }
+    ensures ok { OnOk result (CatsBy W.contents d.0 range stack.old writer.old stack.new writer.new) }
+    ensures err { IfErr result (EndsCatBy W.contents d.0 range stack.old writer.old stack.new writer.new) }
     ensures other { result ≢ Err CatFault.Range }
 {
     let sectors = stack.config().sectors(d);

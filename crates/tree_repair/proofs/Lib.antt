@@ -1,10 +1,15 @@
 mod FormedLemmas
+mod GoodLemmas
 mod LawLemmas
+mod LookLemmas
 mod MakeLemmas
 mod ParityLemmas
+mod PassLemmas
+mod PieceLemmas
 mod RepairLemmas
 mod RowLemmas
 mod RunLemmas
 mod SourceLemmas
 mod StayLemmas
+mod TryLemmas
 mod VisitLemmas

@@ -19,6 +19,7 @@ use Rattle.hash_tree.proofs.lemmas.TreeLemmas.{length-digest}
 use Rattle.verity_format.specs.Blocks.{AreOnlyRead}
 use Rattle.tree_path.proofs.lemmas.DeviceLemmas.{only_read-none, only_read-then, steady-then}
 use Rattle.tree_repair.specs.Remaking.{Ground, HaveBlocks, IsOver, IsUnlike, count_at, ground, made, stands}
+use Rattle.tree_repair.specs.Worlds.{AreBothRead, World}
 
 -- ---- how many blocks there are
 
@@ -71,11 +72,21 @@ module _ (g : Ground) (steps first : ℕ) where
 
 -- ---- devices that were read before
 
-pub read-none : (d h : Device) → AreOnlyRead d h d h
+read-none : (d h : Device) → AreOnlyRead d h d h
 read-none d h = record { data_read = only_read-none d; hash_read = only_read-none h }
 
-pub read-then : (d h d1 h1 d2 h2 : Device) → AreOnlyRead d h d1 h1 → AreOnlyRead d1 h1 d2 h2 → AreOnlyRead d h d2 h2
+read-then : (d h d1 h1 d2 h2 : Device) → AreOnlyRead d h d1 h1 → AreOnlyRead d1 h1 d2 h2 → AreOnlyRead d h d2 h2
 read-then d h d1 h1 d2 h2 p q = record { data_read = only_read-then p.data_read q.data_read; hash_read = only_read-then p.hash_read q.hash_read }
+
+pub both-none : (a : World) → AreBothRead a a
+both-none a = record { devices = read-none a.data_dev a.hash_dev; data_copies_are = refl; hash_copies_are = refl }
+
+pub both-then : (a b c : World) → AreBothRead a b → AreBothRead b c → AreBothRead a c
+both-then a b c p q = record {
+  devices = read-then a.data_dev a.hash_dev b.data_dev b.hash_dev c.data_dev c.hash_dev p.devices q.devices;
+  data_copies_are = q.data_copies_are ∙ p.data_copies_are;
+  hash_copies_are = q.hash_copies_are ∙ p.hash_copies_are;
+}
 
 pub have-then : (s : ShapeRecord) (d h d1 h1 : Device) → AreOnlyRead d h d1 h1 → HaveBlocks s d h → HaveBlocks s d1 h1
 have-then s d h d1 h1 read have = record {

@@ -1,9 +1,9 @@
 -- Blocks brought back by parity are visits of the image.
-use Rattle.std.proofs.Common.{◌≡◌, ◌≤◌, ◌<◌, ◌+◌, ◌*◌, ◌/◌, ◌^◌, ℕ, zero, suc, refl, sym, ap, ◌∙◌, subst, arith, true, false, Bool, List, Option, Some, None, Result, Ok, Err, IsTrue}
-use Rattle.std.specs.Prelude.{IfOk, IfSome, IsErrAnd, OnErr}
+use Rattle.std.proofs.Common.{◌≡◌, ◌≤◌, ◌<◌, ◌+◌, ◌*◌, ◌/◌, ◌^◌, ℕ, zero, suc, refl, sym, ap, ◌∙◌, subst, arith, true, false, Bool, List, Option, Some, None, Result, Ok, Err, IsTrue, inr}
+use Rattle.std.specs.Prelude.{IfNone, IfOk, IfSome, IsErrAnd, OnErr}
 use Rattle.block_device.specs.Device.{Device, IsInside}
 use Rattle.fec_area.specs.declared.layout.Layout.{Layout}
-use Rattle.fec_area.specs.Layouts.{IsOfData, IsOfHash}
+use Rattle.fec_area.specs.Layouts.{IsOfData, IsOfHash, IsOffHash}
 use Rattle.tree_shape.specs.Shape.{ShapeRecord, IsShape, ancestor, position, area_end}
 use Rattle.tree_path.specs.Path.{PathRecord, digest_on}
 use Rattle.tree_path.proofs.lemmas.DeviceLemmas.{IsBlock, block-inside, block-size, only_read-none}
@@ -11,9 +11,11 @@ use Rattle.tree_survey.specs.Surveys.{IsWay}
 use Rattle.verity_format.specs.Blocks.{AreOnlyRead}
 use Rattle.tree_repair.specs.declared.mending.Mended.TheVariants as mended
 use Rattle.tree_repair.specs.Mending.{IsReplaced}
-use Rattle.tree_repair.specs.Parity.{FailsToPlace, IsCoveredAt, IsPlace, IsPlaced, IsPutOr, end_at}
-use Rattle.tree_repair.specs.Runs.{IsVisited, Job, sector_at, size_at, visit, world}
-use Rattle.tree_repair.specs.Sources.{wanted}
+use Rattle.tree_repair.specs.Parity.{FailsToPlace, IsGoodNow, IsPlace, IsPlaced, IsPutOr, end_at}
+use Rattle.tree_repair.specs.Runs.{IsVisited, Job, sector_at, size_at, visit}
+use Rattle.tree_repair.specs.Worlds.{world}
+use Rattle.tree_repair.specs.Sources.{IsThere, wanted}
+use Rattle.tree_repair.specs.Tries.{IsCoveredOr}
 use Rattle.tree_repair.proofs.SourceLemmas.{each-none}
 
 pub read-none : (a b : Device) → AreOnlyRead a b a b
@@ -26,14 +28,15 @@ if_ok-from (Err e) P Q is = tt
 
 -- ---- which covered block a block is
 
-pub covered-data : (s : ShapeRecord) (l : Layout) (h i : ℕ) (r : Option ℕ) → IsPlace s h i → l.block ≡ size_at s h → h ≡ 0 → IfSome r (IsOfData l i) → IfSome r (IsCoveredAt s l h i)
-covered-data s l zero i None place size none known = tt
-covered-data s l zero i (Some k) place size none known = record { place = place; size = size; inside = known.is_covered; is = known }
-covered-data s l (suc h) i r place size none known = absurd (omega (arith, none))
+pub covered-data : (s : ShapeRecord) (l : Layout) (h i : ℕ) (r : Option ℕ) → IsPlace s h i → l.block ≡ size_at s h → h ≡ 0 → IfSome r (IsOfData l i) → IfNone r (l.data_blocks ≤ i) → IsCoveredOr s l h i r
+covered-data s l zero i None place size none known off = λ there. inr off
+covered-data s l zero i (Some k) place size none known off = record { place = place; size = size; inside = known.is_covered; is = known }
+covered-data s l (suc h) i r place size none known off = absurd (omega (arith, none))
 
-pub covered-hash : (s : ShapeRecord) (l : Layout) (h i : ℕ) (r : Option ℕ) → IsPlace s (suc h) i → l.block ≡ size_at s (suc h) → IfSome r (IsOfHash l (position s h (ancestor s (h + 1) i))) → IfSome r (IsCoveredAt s l (suc h) i)
-covered-hash s l h i None place size known = tt
-covered-hash s l h i (Some k) place size known = record { place = place; size = size; inside = known.is_covered; is = known }
+pub covered-hash : (s : ShapeRecord) (l : Layout) (h i : ℕ) (r : Option ℕ) → IsPlace s (suc h) i → l.block ≡ size_at s (suc h) → IfSome r (IsOfHash l (position s h (ancestor s (h + 1) i)))
+    → IfNone r (IsOffHash l (position s h (ancestor s (h + 1) i))) → IsCoveredOr s l (suc h) i r
+covered-hash s l h i None place size known off = λ there. inr off
+covered-hash s l h i (Some k) place size known off = record { place = place; size = size; inside = known.is_covered; is = known }
 
 -- ---- where a block lies
 
@@ -104,13 +107,33 @@ module _ (j : Job) (p : PathRecord) (h i : ℕ) (bytes : List ℕ) (d d' e : Dev
         copies_are = refl;
       })
 
+  good-data : h ≡ 0 → (read : List ℕ) × IsThere d (sector_at j.tree.shape h i) (wanted j.tree.salt (digest_on p i h) (size_at j.tree.shape h / 512)) read → IsGoodNow j h i (world d e cs es)
+  good-data none there =
+      subst (λ (n : ℕ). IsGoodNow j n i (world d e cs es)) (sym none)
+      (record {
+        p = p;
+        way = subst (λ (n : ℕ). IsWay j.tree i n p) none way;
+        bytes = there.0;
+        there = subst (λ (n : ℕ). IsThere d (sector_at j.tree.shape n i) (wanted j.tree.salt (digest_on p i n) (size_at j.tree.shape n / 512)) there.0) none there.1;
+      })
+
+  good-hash : (l : ℕ) → h ≡ suc l → (read : List ℕ) × IsThere d (sector_at j.tree.shape h i) (wanted j.tree.salt (digest_on p i h) (size_at j.tree.shape h / 512)) read → IsGoodNow j h i (world e d es cs)
+  good-hash l some there =
+      subst (λ (n : ℕ). IsGoodNow j n i (world e d es cs)) (sym some)
+      (record {
+        p = p;
+        way = subst (λ (n : ℕ). IsWay j.tree i n p) some way;
+        bytes = there.0;
+        there = subst (λ (n : ℕ). IsThere d (sector_at j.tree.shape n i) (wanted j.tree.salt (digest_on p i n) (size_at j.tree.shape n / 512)) there.0) some there.1;
+      })
+
   data-or : (back : Bool) → h ≡ 0 → IsPutOr d (sector_at j.tree.shape h i) (wanted j.tree.salt (digest_on p i h) (size_at j.tree.shape h / 512)) j.write bytes d' back → IsPlaced j h i bytes (world d e cs es) (world d' e cs es) back
   data-or true none put = data-visit true none put
-  data-or false none put = record { data_read = put; hash_read = only_read-none e; data_copies_read = each-none cs; hash_copies_read = each-none es }
+  data-or false none put = (record { data_read = put.0; hash_read = only_read-none e; data_copies_read = each-none cs; hash_copies_read = each-none es }, good-data none put.1)
 
   hash-or : (l : ℕ) (back : Bool) → h ≡ suc l → IsPutOr d (sector_at j.tree.shape h i) (wanted j.tree.salt (digest_on p i h) (size_at j.tree.shape h / 512)) j.write bytes d' back → IsPlaced j h i bytes (world e d es cs) (world e d' es cs) back
   hash-or l true some put = hash-visit l true some put
-  hash-or l false some put = record { data_read = only_read-none e; hash_read = put; data_copies_read = each-none es; hash_copies_read = each-none cs }
+  hash-or l false some put = (record { data_read = only_read-none e; hash_read = put.0; data_copies_read = each-none es; hash_copies_read = each-none cs }, good-hash l some put.1)
 
   pub data-placed : {E : Type 0} (r : Result Bool E) → h ≡ 0 → IfOk r (IsPutOr d (sector_at j.tree.shape h i) (wanted j.tree.salt (digest_on p i h) (size_at j.tree.shape h / 512)) j.write bytes d')
       → IfOk r (IsPlaced j h i bytes (world d e cs es) (world d' e cs es))

@@ -1,44 +1,38 @@
 -- What a repair did, behind the superblock.
 use Rattle.std.proofs.Common.{◌≡◌, ◌≤◌, ◌^◌, ℕ, List, Option, Bool, true, false, IsTrue, Result, Ok, Err, sym, subst, arith, inr}
 use Rattle.std.specs.Prelude.{IfErr, IsErrAnd, OnOk, is_ok}
-use Rattle.block_device.specs.Device.{Device}
 use Rattle.tree_shape.specs.Shape.{IsShape}
-use Rattle.verity_format.specs.Blocks.{IsOnlyRead}
 use Rattle.verity_format.specs.Superblock.{SuperRecord, shape_of}
 use Rattle.tree_survey.specs.Causes.{AreImages}
 use Rattle.tree_repair.specs.declared.fault.RepairFault.{RepairFault}
 use Rattle.tree_repair.specs.declared.repair.Plan.{Plan}
 use Rattle.tree_repair.specs.Repairs.{IsAllowed, IsUnrepairedBy, Repairs, job_of}
-use Rattle.tree_repair.specs.Runs.{CanRun, HasRun, Job, World, world}
-use Rattle.tree_repair.proofs.RunLemmas.{has-read, has-then, tree-read}
+use Rattle.tree_repair.specs.Runs.{CanRun, HasRun, Job}
+use Rattle.tree_repair.specs.Worlds.{IsWorldRead, World}
+use Rattle.tree_repair.proofs.RunLemmas.{has-behind}
 
-module _ (s : SuperRecord) (plan : Plan) (parity : Bool) (j : Job) (w : World) (h : Device) (same : j ≡ job_of s plan parity) (read : IsOnlyRead w.hash_dev h) (images : AreImages w.data_dev w.hash_dev s) where
-  begin-of : IsShape (shape_of s) → IsAllowed plan.write w.data_dev w.hash_dev → plan.copy_first ≤ 2 ^ 55 → CanRun (job_of s plan parity) (world w.data_dev h w.data_copies w.hash_copies)
+module _ (s : SuperRecord) (plan : Plan) (parity : Bool) (j : Job) (w b : World) (same : j ≡ job_of s plan parity) (read : IsWorldRead w b) (images : AreImages w.data_dev w.hash_dev s) where
+  begin-of : IsShape (shape_of s) → IsAllowed plan.write w.data_dev w.hash_dev → plan.copy_first ≤ 2 ^ 55 → CanRun (job_of s plan parity) b
   begin-of valid allowed small = record {
     valid = valid;
-    data_fits = images.data_fits;
-    tree_fits = omega (arith, images.tree_fits, read.same.size);
-    data_writable = allowed.data_writable;
-    hash_writable = λ write. subst IsTrue (sym read.same.may_write) (allowed.hash_writable write);
+    data_fits = omega (arith, images.data_fits, read.data_read.same.size);
+    tree_fits = omega (arith, images.tree_fits, read.hash_read.same.size);
+    data_writable = λ write. subst IsTrue (sym read.data_read.same.may_write) (allowed.data_writable write);
+    hash_writable = λ write. subst IsTrue (sym read.hash_read.same.may_write) (allowed.hash_writable write);
     copy_small = small;
   }
 
-  pub can-begin : IsShape (shape_of s) → IsAllowed plan.write w.data_dev w.hash_dev → plan.copy_first ≤ 2 ^ 55 → CanRun j (world w.data_dev h w.data_copies w.hash_copies)
-  can-begin valid allowed small = subst (λ (x : Job). CanRun x (world w.data_dev h w.data_copies w.hash_copies)) (sym same) (begin-of valid allowed small)
+  pub can-begin : IsShape (shape_of s) → IsAllowed plan.write w.data_dev w.hash_dev → plan.copy_first ≤ 2 ^ 55 → CanRun j b
+  can-begin valid allowed small = subst (λ (x : Job). CanRun x b) (sym same) (begin-of valid allowed small)
 
-  repairs-of : (w' : World) (old new : Option (List ℕ)) (ok : Bool) → HasRun j (world w.data_dev h w.data_copies w.hash_copies) w' old new ok → Repairs plan parity w w' old new ok
-  repairs-of w' old new ok run = record {
-    s = s;
-    images = images;
-    run = subst (λ (x : Job). HasRun x w w' old new ok) same
-        (has-then j w (world w.data_dev h w.data_copies w.hash_copies) w' old old new ok (has-read j w (world w.data_dev h w.data_copies w.hash_copies) old (tree-read w h read)) run);
-  }
+  repairs-of : (w' : World) (old new : Option (List ℕ)) (ok : Bool) → HasRun j b w' old new ok → Repairs plan parity w w' old new ok
+  repairs-of w' old new ok run = record { s = s; images = images; run = subst (λ (x : Job). HasRun x w w' old new ok) same (has-behind read run) }
 
-  pub whole-ok : (w' : World) (old new : Option (List ℕ)) (r : Result (Unit {0}) RepairFault) → HasRun j (world w.data_dev h w.data_copies w.hash_copies) w' old new (is_ok r) → OnOk r (Repairs plan parity w w' old new true)
+  pub whole-ok : (w' : World) (old new : Option (List ℕ)) (r : Result (Unit {0}) RepairFault) → HasRun j b w' old new (is_ok r) → OnOk r (Repairs plan parity w w' old new true)
   whole-ok w' old new (Ok x) run = repairs-of w' old new true run
   whole-ok w' old new (Err e) run = tt
 
-  pub whole-err : (w' : World) (old new : Option (List ℕ)) (r : Result (Unit {0}) RepairFault) → HasRun j (world w.data_dev h w.data_copies w.hash_copies) w' old new (is_ok r) → IfErr r (IsUnrepairedBy plan parity w w' old new)
+  pub whole-err : (w' : World) (old new : Option (List ℕ)) (r : Result (Unit {0}) RepairFault) → HasRun j b w' old new (is_ok r) → IfErr r (IsUnrepairedBy plan parity w w' old new)
   whole-err w' old new (Ok x) run = tt
   whole-err w' old new (Err e) run = inr (repairs-of w' old new false run)
 

@@ -16,7 +16,8 @@ use Rattle.tree_path.proofs.lemmas.DeviceLemmas.{only_read-none, only_read-then,
 use Rattle.tree_repair.specs.declared.mending.Mended.{Mended}
 use Rattle.tree_repair.specs.declared.mending.Mended.TheVariants as mended
 use Rattle.tree_repair.specs.Mending.{IsMended, IsPut, Look}
-use Rattle.tree_repair.specs.Runs.{CanRun, HasRun, IsDone, IsVisited, IsWorldRead, Job, OtherStays, Runs, Visit, World, line_of, look_at, other, own, world}
+use Rattle.tree_repair.specs.Runs.{CanRun, HasRun, IsDone, IsVisited, Job, OtherStays, Runs, Visit, line_of, look_at, other, own}
+use Rattle.tree_repair.specs.Worlds.{IsWorldRead, World, world}
 use Rattle.tree_repair.proofs.SourceLemmas.{each-none, each-then}
 
 pub world-none : (w : World) → IsWorldRead w w
@@ -32,7 +33,7 @@ world-then a b c p q = record {
 
 -- ---- one behind the other
 
-runs-read : (j : Job) (vs : List Visit) (a b c : World) → IsWorldRead a b → Runs j vs b c → Runs j vs a c
+pub runs-read : (j : Job) (vs : List Visit) (a b c : World) → IsWorldRead a b → Runs j vs b c → Runs j vs a c
 runs-read j [] a b c read runs = world-then a b c read runs
 runs-read j (v ∷ more) a b c read (x, (y, (q, (here, rest)))) = (x, (y, (world-then a b x read q, (here, rest))))
 
@@ -40,15 +41,15 @@ pub runs-then : (j : Job) (vs us : List Visit) (a b c : World) → Runs j vs a b
 runs-then j [] us a b c p q = runs-read j us a b c p q
 runs-then j (v ∷ more) us a b c (x, (y, (read, (here, rest)))) q = (x, (y, (read, (here, runs-then j more us y b c rest q))))
 
-pub has-none : (j : Job) (w : World) (old : Option (List ℕ)) → HasRun j w w old old true
-has-none j w old = record { visits = []; runs = world-none w; done = λ ok. All-nil IsDone; printed = λ ok. Appends-nil old }
+abbrev pub has-none : {j : Job} {w : World} {old : Option (List ℕ)} → HasRun j w w old old true
+has-none {j} {w} {old} = record { visits = []; runs = world-none w; done = λ ok. All-nil IsDone; printed = λ ok. Appends-nil old }
 
-pub has-read : (j : Job) (a b : World) (old : Option (List ℕ)) → IsWorldRead a b → HasRun j a b old old true
-has-read j a b old read = record { visits = []; runs = read; done = λ ok. All-nil IsDone; printed = λ ok. Appends-nil old }
+abbrev pub has-read : {j : Job} {a b : World} {old : Option (List ℕ)} → IsWorldRead a b → HasRun j a b old old true
+has-read {j} {a} {b} {old} read = record { visits = []; runs = read; done = λ ok. All-nil IsDone; printed = λ ok. Appends-nil old }
 
 -- a run that came to its end goes on
-pub has-then : (j : Job) (a b c : World) (old now new : Option (List ℕ)) (ok : Bool) → HasRun j a b old now true → HasRun j b c now new ok → HasRun j a c old new ok
-has-then j a b c old now new ok p q = record {
+abbrev pub has-then : {j : Job} {a b c : World} {old now new : Option (List ℕ)} {ok : Bool} → HasRun j a b old now true → HasRun j b c now new ok → HasRun j a c old new ok
+has-then {j} {a} {b} {c} {old} {now} {new} {ok} p q = record {
   visits = p.visits ++ q.visits;
   runs = runs-then j p.visits q.visits a b c p.runs q.runs;
   done = λ end. All-append IsDone p.visits q.visits (p.done refl) (q.done end);
@@ -56,26 +57,34 @@ has-then j a b c old now new ok p q = record {
       (Appends-trans old now new (flat_map (line_of j) p.visits) (flat_map (line_of j) q.visits) (p.printed refl) (q.printed end));
 }
 
--- one that didn't, of which no more is said
-pub has-ended : (j : Job) (a b : World) (old new : Option (List ℕ)) (vs : List Visit) → Runs j vs a b → HasRun j a b old new false
-has-ended j a b old new vs runs = record { visits = vs; runs = runs; done = λ end. absurd (false≢true end); printed = λ end. absurd (false≢true end) }
+-- one behind a reading
+abbrev pub has-behind : {j : Job} {a b c : World} {old new : Option (List ℕ)} {ok : Bool} → IsWorldRead a b → HasRun j b c old new ok → HasRun j a c old new ok
+has-behind {j} {a} {b} {c} read run = record { visits = run.visits; runs = runs-read j run.visits a b c read run.runs; done = run.done; printed = run.printed }
 
 -- what holds of a run that didn't come to its end holds of the result that hands its fault on
-pub ended-from : {T E : Type 0} (r : Result T E) (P : E → Type 0) (j : Job) (a b : World) (old new : Option (List ℕ)) → IsErrAnd r P → HasRun j a b old new false → HasRun j a b old new (is_ok r)
-ended-from (Ok x) P j a b old new is run = absurd is
-ended-from (Err e) P j a b old new is run = run
+pub ended-from : {T E : Type 0} {j : Job} {a b : World} {old new : Option (List ℕ)} (r : Result T E) (P : E → Type 0) → IsErrAnd r P → HasRun j a b old new false → HasRun j a b old new (is_ok r)
+ended-from (Ok x) P is run = absurd is
+ended-from (Err e) P is run = run
+
+-- a reading that didn't come to its end, of which no more is said
+pub ends-read : {j : Job} {a b : World} {old new : Option (List ℕ)} → IsWorldRead a b → HasRun j a b old new false
+ends-read read = record { visits = []; runs = read; done = λ end. absurd (false≢true end); printed = λ end. absurd (false≢true end) }
 
 -- one block
 pub runs-one : (j : Job) (v : Visit) (a b : World) → IsVisited j v a b → Runs j (v ∷ []) a b
 runs-one j v a b here = (a, (b, (world-none a, (here, world-none b))))
 
-pub has-one : (j : Job) (v : Visit) (a b : World) (old new : Option (List ℕ)) → IsVisited j v a b → v.done ≡ true → Appends old new (line_of j v) → HasRun j a b old new true
-has-one j v a b old new here done told = record {
+abbrev pub has-one : {j : Job} {v : Visit} {a b : World} {old new : Option (List ℕ)} → IsVisited j v a b → v.done ≡ true → Appends old new (line_of j v) → HasRun j a b old new true
+has-one {j} {v} {a} {b} {old} {new} here done told = record {
   visits = v ∷ [];
   runs = runs-one j v a b here;
   done = λ ok. All-cons IsDone v [] done (All-nil IsDone);
   printed = λ ok. subst (Appends old new) (sym (append-nil (line_of j v))) told;
 }
+
+-- and one behind which the run didn't come to its end
+pub ends-one : {j : Job} {v : Visit} {a b : World} {old new : Option (List ℕ)} → IsVisited j v a b → HasRun j a b old new false
+ends-one {j} {v} {a} {b} here = record { visits = v ∷ []; runs = runs-one j v a b here; done = λ end. absurd (false≢true end); printed = λ end. absurd (false≢true end) }
 
 -- ---- the devices stay the same ones
 
@@ -145,30 +154,30 @@ can-same j a b same can = record {
   copy_small = can.copy_small;
 }
 
-pub can-later : (j : Job) (a b : World) (old new : Option (List ℕ)) (ok : Bool) → HasRun j a b old new ok → CanRun j a → CanRun j b
-can-later j a b old new ok run = can-same j a b (runs-same j run.visits a b run.runs)
+pub can-later : {j : Job} {a b : World} {old new : Option (List ℕ)} {ok : Bool} → HasRun j a b old new ok → CanRun j a → CanRun j b
+can-later {j} {a} {b} run can = can-same j a b (runs-same j run.visits a b run.runs) can
+
+pub can-read : {j : Job} {a b : World} → IsWorldRead a b → CanRun j a → CanRun j b
+can-read {j} {a} {b} read can = can-same j a b (read-same a b read) can
 
 -- the hash device alone was read
 pub tree-read : (w : World) (d : Device) → IsOnlyRead w.hash_dev d → IsWorldRead w (world w.data_dev d w.data_copies w.hash_copies)
 tree-read w d read = record { data_read = only_read-none w.data_dev; hash_read = read; data_copies_read = each-none w.data_copies; hash_copies_read = each-none w.hash_copies }
 
--- copies aren't asked for
-pub can-any : (j : Job) (d h : Device) (cs es cs' es' : List Device) → CanRun j (world d h cs es) → CanRun j (world d h cs' es')
-can-any j d h cs es cs' es' can = record {
-  valid = can.valid;
-  data_fits = can.data_fits;
-  tree_fits = can.tree_fits;
-  data_writable = can.data_writable;
-  hash_writable = can.hash_writable;
-  copy_small = can.copy_small;
-}
+-- the data device alone was
+pub data-read : (w : World) (d : Device) → IsOnlyRead w.data_dev d → IsWorldRead w (world d w.hash_dev w.data_copies w.hash_copies)
+data-read w d read = record { data_read = read; hash_read = only_read-none w.hash_dev; data_copies_read = each-none w.data_copies; hash_copies_read = each-none w.hash_copies }
 
--- data and hash device were read
+-- both were
 pub both-read : (w : World) (d h : Device) → AreOnlyRead w.data_dev w.hash_dev d h → IsWorldRead w (world d h w.data_copies w.hash_copies)
 both-read w d h read = record { data_read = read.data_read; hash_read = read.hash_read; data_copies_read = each-none w.data_copies; hash_copies_read = each-none w.hash_copies }
 
 -- covered blocks still lie on the devices
-pub laid-later : (l : Layout) (j : Job) (a b : World) (old new : Option (List ℕ)) (ok : Bool) → HasRun j a b old new ok → IsLaidOn l a.data_dev a.hash_dev → IsLaidOn l b.data_dev b.hash_dev
-laid-later l j a b old new ok run laid =
-    let same = runs-same j run.visits a b run.runs in
-    record { layout = laid.layout; data_room = omega (arith, laid.data_room, same.data_same.size); hash_room = omega (arith, laid.hash_room, same.hash_same.size) }
+laid-same : (l : Layout) (a b : World) → AreSame a b → IsLaidOn l a.data_dev a.hash_dev → IsLaidOn l b.data_dev b.hash_dev
+laid-same l a b same laid = record { layout = laid.layout; data_room = omega (arith, laid.data_room, same.data_same.size); hash_room = omega (arith, laid.hash_room, same.hash_same.size) }
+
+pub laid-later : {l : Layout} {j : Job} {a b : World} {old new : Option (List ℕ)} {ok : Bool} → HasRun j a b old new ok → IsLaidOn l a.data_dev a.hash_dev → IsLaidOn l b.data_dev b.hash_dev
+laid-later {l} {j} {a} {b} run laid = laid-same l a b (runs-same j run.visits a b run.runs) laid
+
+pub laid-read : {l : Layout} {a b : World} → IsWorldRead a b → IsLaidOn l a.data_dev a.hash_dev → IsLaidOn l b.data_dev b.hash_dev
+laid-read {l} {a} {b} read laid = laid-same l a b (read-same a b read) laid

@@ -8,7 +8,8 @@ use Rattle.tree_repair.specs.declared.mending.Mended.{Mended}
 use Rattle.tree_repair.specs.declared.mending.Mended.TheVariants as mended
 use Rattle.tree_repair.specs.Laws.{AreOff, IsOffData, IsOffTree, IsOutside, OtherSectorsStay}
 use Rattle.tree_repair.specs.Mending.{IsFound, IsMended, IsPut, Look}
-use Rattle.tree_repair.specs.Runs.{Job, OtherStays, Runs, Visit, World, look_at, other}
+use Rattle.tree_repair.specs.Runs.{Job, OtherStays, Runs, Visit, look_at, other}
+use Rattle.tree_repair.specs.Worlds.{World}
 use Rattle.tree_repair.proofs.RunLemmas.{other-image, visited-same}
 
 module _ (k : ℕ) (d : List ℕ) where

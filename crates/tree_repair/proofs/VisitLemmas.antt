@@ -1,20 +1,22 @@
 -- A look at a block is a visit of the image.
-use Rattle.std.proofs.Common.{◌≡◌, ◌<◌, ◌+◌, ◌*◌, ◌/◌, ℕ, suc, [], ◌-◌, add-one, sym, subst, refl, true, false, Bool, List, Result, Ok, Err}
+use Rattle.std.proofs.Common.{◌≡◌, ◌<◌, ◌+◌, ◌*◌, ◌/◌, ℕ, suc, [], ◌-◌, length, add-one, sym, subst, refl, ◌∙◌, true, false, Bool, List, Result, Ok, Err}
 use Rattle.std.specs.Prelude.{IfOk, OnErr}
-use Rattle.block_device.specs.Device.{Device}
+use Rattle.block_device.specs.Device.{Device, IsSameDevice}
 use Rattle.tree_shape.specs.Digests.{digest}
 use Rattle.tree_shape.specs.Shape.{ancestor, position}
 use Rattle.verity_format.specs.Blocks.{AreOnlyRead, IsOnlyRead}
-use Rattle.tree_path.proofs.lemmas.DeviceLemmas.{only_read-none, only_read-then}
+use Rattle.tree_path.proofs.lemmas.DeviceLemmas.{only_read-none, only_read-then, same-then}
 use Rattle.tree_path.specs.Path.{PathRecord, digest_on}
 use Rattle.tree_survey.specs.Surveys.{IsWay}
 use Rattle.tree_repair.specs.declared.mending.Mended.{Mended}
 use Rattle.tree_repair.specs.declared.mending.Mended.TheVariants as mended
 use Rattle.tree_repair.specs.Mending.{IsBareOf, IsFoundNowhere, IsMended, IsNotRemade, IsPut, IsUnmended}
 use Rattle.tree_repair.specs.Remaking.{IsMadeBeneath, IsNowhereBeneath}
-use Rattle.tree_repair.specs.Runs.{IsVisited, Job, visit, world}
+use Rattle.tree_repair.specs.Runs.{IsVisited, Job, visit}
+use Rattle.tree_repair.specs.Sources.{AreEachRead}
+use Rattle.tree_repair.specs.Worlds.{AreBothRead, World, world}
 use Rattle.tree_repair.proofs.MakeLemmas.{over-before, unlike-before}
-use Rattle.tree_repair.specs.Visits.{FailsToMake, IsHashLooked, IsHashSeen, IsHashUnmended, IsLooked, IsMade, data_look, hash_look}
+use Rattle.tree_repair.specs.Visits.{FailsToMake, IsHashLooked, IsHashSeen, IsHashUnmended, IsLooked, IsMade, IsTreePut, KeepsData, data_look, hash_look}
 
 plain-bare : (parity : Bool) (m : Mended) → IsNotRemade m → IsBareOf parity m
 plain-bare parity mended.Good plain = tt
@@ -38,72 +40,76 @@ module _ (j : Job) (p : PathRecord) (h i : ℕ) (inside : i < j.tree.shape.block
     data-fails (Ok m) looked = tt
     data-fails (Err f) looked = (mended.Copy looked.0, (looked.1.0, (tt, data-visit (mended.Copy looked.0) looked.1.0 false tt looked.1.1)))
 
-  module _ (l : ℕ) (some : h ≡ suc l) (e e' d d' : Device) (es cs cs' : List Device) where
-    hash-visit : (m : Mended) (bytes : List ℕ) (done : Bool) → IsHashSeen j p l i e e' d d' cs cs' bytes done m → IsVisited j (visit h i m bytes done) (world e d es cs) (world e' d' es cs')
+  module _ (l : ℕ) (some : h ≡ suc l) (w w' : World) where
+    hash-visit : (m : Mended) (bytes : List ℕ) (done : Bool) → IsHashSeen j p l i w w' bytes done m → IsVisited j (visit h i m bytes done) w w'
     hash-visit m bytes done seen =
-        subst (λ (n : ℕ). IsVisited j (visit n i m bytes done) (world e d es cs) (world e' d' es cs')) (sym some)
+        subst (λ (n : ℕ). IsVisited j (visit n i m bytes done) w w') (sym some)
         (record {
           inside = inside;
           p = p;
           way = subst (λ (n : ℕ). IsWay j.tree i n p) some way;
-          mended_as = subst (λ (n : ℕ). IsMended (record (hash_look j p l i d d' cs cs') { w = record { salt = j.tree.salt; digest_is = digest_on p i n; sectors = j.tree.shape.hash_block / 512 } }) bytes done m) (add-one l) seen.looked;
+          mended_as = subst (λ (n : ℕ). IsMended (record (hash_look j p l i w.hash_dev w'.hash_dev w.hash_copies w'.hash_copies) { w = record { salt = j.tree.salt; digest_is = digest_on p i n; sectors = j.tree.shape.hash_block / 512 } }) bytes done m) (add-one l) seen.looked;
           made_of = seen.made_of;
           other_stays = seen.data_stays;
-          copies_are = refl;
+          copies_are = seen.copies_are;
         })
 
-    pub hash-made : {E : Type 0} (r : Result Mended E) → IfOk r (IsHashLooked j p l i e e' d d' cs cs') → IfOk r (IsMade j h i (world e d es cs) (world e' d' es cs'))
+    pub hash-made : {E : Type 0} (r : Result Mended E) → IfOk r (IsHashLooked j p l i w w') → IfOk r (IsMade j h i w w')
     hash-made (Ok m) seen = (seen.0, hash-visit m seen.0 true seen.1)
     hash-made (Err f) seen = tt
 
-    pub hash-fails : {E : Type 0} (r : Result Mended E) → OnErr r (IsHashUnmended j p l i e e' d d' cs cs') → OnErr r (FailsToMake j h i (world e d es cs) (world e' d' es cs'))
+    pub hash-fails : {E : Type 0} (r : Result Mended E) → OnErr r (IsHashUnmended j p l i w w') → OnErr r (FailsToMake j h i w w')
     hash-fails (Ok m) seen = tt
     hash-fails (Err f) seen = (seen.0, (seen.1.0, (seen.1.1.0, hash-visit seen.0 seen.1.0 false seen.1.1.1)))
 
 -- ---- a hash block that no copy has
 
-module _ (j : Job) (p : PathRecord) (l i : ℕ) (d d' h mid h1 : Device) (cs cs' : List Device) (found : IsFoundNowhere (hash_look j p l i h mid cs cs')) (beneath : AreOnlyRead d mid d' h1) where
-  own-read : IsOnlyRead h mid
-  own-read = only_read-then found.read found.beneath_read
+-- an image before, once its copies were asked, and once the blocks beneath were read
+module _ (j : Job) (p : PathRecord) (l i : ℕ) (a m b : World) where
+  pub hash-same : IsFoundNowhere (hash_look j p l i a.hash_dev m.hash_dev a.hash_copies m.hash_copies) → AreBothRead m b → IsSameDevice a.hash_dev b.hash_dev
+  hash-same found beneath = same-then found.read.same (same-then found.beneath_read.same beneath.devices.hash_read.same)
 
-  before : AreOnlyRead d h d mid
-  before = record { data_read = only_read-none d; hash_read = own-read }
+  module _ (kept : KeepsData a m) (found : IsFoundNowhere (hash_look j p l i a.hash_dev m.hash_dev a.hash_copies m.hash_copies)) (beneath : AreBothRead m b) where
+    before : AreOnlyRead a.data_dev a.hash_dev m.data_dev m.hash_dev
+    before = record { data_read = subst (IsOnlyRead a.data_dev) (sym kept.device_is) (only_read-none a.data_dev); hash_read = only_read-then found.read found.beneath_read }
 
-  -- it can't be made
-  pub lost-seen : IsNowhereBeneath j.tree.shape j.tree.salt d mid l i (digest_on p i (l + 1)) → IsHashSeen j p l i d d' h h1 cs cs' [] true mended.Lost
-  lost-seen none = record {
-    looked = record {
-      seen = found.seen;
-      read = found.read;
-      bad = found.bad;
-      copies_read = found.copies_read;
-      none = found.none;
-      beneath_read = only_read-then found.beneath_read beneath.hash_read;
-    };
-    made_of = λ from low. unlike-before j.tree.shape j.tree.salt d h d mid before from (l + 1 - from) (ancestor j.tree.shape (l + 1) i) (digest_on p i (l + 1)) (none from low);
-    data_stays = beneath.data_read;
-  }
+    -- it can't be made
+    pub lost-seen : IsNowhereBeneath j.tree.shape j.tree.salt m.data_dev m.hash_dev l i (digest_on p i (l + 1)) → IsHashSeen j p l i a b [] true mended.Lost
+    lost-seen none = record {
+      looked = record {
+        seen = found.seen;
+        read = found.read;
+        bad = found.bad;
+        copies_read = subst (AreEachRead a.hash_copies) (sym beneath.hash_copies_are) found.copies_read;
+        none = found.none;
+        beneath_read = only_read-then found.beneath_read beneath.devices.hash_read;
+      };
+      made_of = λ from low. unlike-before j.tree.shape j.tree.salt a.data_dev a.hash_dev m.data_dev m.hash_dev before from (l + 1 - from) (ancestor j.tree.shape (l + 1) i) (digest_on p i (l + 1)) (none from low);
+      data_stays = only_read-then before.data_read beneath.devices.data_read;
+      copies_are = beneath.data_copies_are ∙ kept.copies_are;
+    }
 
-  -- it was made, and was written, or not
-  pub remade-seen : (bytes : List ℕ) (done : Bool) (h2 : Device) → digest j.tree.salt bytes ≡ digest_on p i (l + 1) → IsMadeBeneath j.tree.shape j.tree.salt d mid l i bytes
-      → IsPut j.write h1 (position j.tree.shape l (ancestor j.tree.shape (l + 1) i) * (j.tree.shape.hash_block / 512)) (j.tree.shape.hash_block / 512) bytes done h2
-      → IsHashSeen j p l i d d' h h2 cs cs' bytes done mended.Remade
-  remade-seen bytes done h2 good made put = record {
-    looked = record {
-      seen = found.seen;
-      read = found.read;
-      bad = found.bad;
-      copies_read = found.copies_read;
-      none = found.none;
-      between = h1;
-      beneath_read = only_read-then found.beneath_read beneath.hash_read;
-      good = good;
-      put = put;
-    };
-    made_of = record {
-      from = made.from;
-      beneath = made.beneath;
-      stand = over-before j.tree.shape j.tree.salt d h d mid before made.from (l + 1 - made.from) (ancestor j.tree.shape (l + 1) i) bytes made.stand;
-    };
-    data_stays = beneath.data_read;
-  }
+    -- it was made, and was written, or not
+    pub remade-seen : (bytes : List ℕ) (done : Bool) (c : World) → digest j.tree.salt bytes ≡ digest_on p i (l + 1) → IsMadeBeneath j.tree.shape j.tree.salt m.data_dev m.hash_dev l i bytes
+        → length bytes ≡ j.tree.shape.hash_block → IsTreePut j.write (position j.tree.shape l (ancestor j.tree.shape (l + 1) i) * (j.tree.shape.hash_block / 512)) bytes done b c
+        → IsHashSeen j p l i a c bytes done mended.Remade
+    remade-seen bytes done c good made long put = record {
+      looked = record {
+        seen = found.seen;
+        read = found.read;
+        bad = found.bad;
+        copies_read = subst (AreEachRead a.hash_copies) (sym (put.hash_copies_are ∙ beneath.hash_copies_are)) found.copies_read;
+        none = found.none;
+        between = b.hash_dev;
+        beneath_read = only_read-then found.beneath_read beneath.devices.hash_read;
+        good = good;
+        put = subst (λ (n : ℕ). IsPut j.write b.hash_dev (position j.tree.shape l (ancestor j.tree.shape (l + 1) i) * (j.tree.shape.hash_block / 512)) (n / 512) bytes done c.hash_dev) long put.put;
+      };
+      made_of = record {
+        from = made.from;
+        beneath = made.beneath;
+        stand = over-before j.tree.shape j.tree.salt a.data_dev a.hash_dev m.data_dev m.hash_dev before made.from (l + 1 - made.from) (ancestor j.tree.shape (l + 1) i) bytes made.stand;
+      };
+      data_stays = subst (IsOnlyRead a.data_dev) (sym put.keeps.device_is) (only_read-then before.data_read beneath.devices.data_read);
+      copies_are = put.keeps.copies_are ∙ beneath.data_copies_are ∙ kept.copies_are;
+    }

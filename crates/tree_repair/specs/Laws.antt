@@ -9,7 +9,8 @@ use Rattle.tree_survey.specs.Surveys.{Tree}
 use Rattle.verity_format.specs.Blocks.{blocks_at}
 use Rattle.tree_repair.specs.declared.mending.Mended.TheVariants as mended
 use Rattle.tree_repair.specs.Mending.{IsFound}
-use Rattle.tree_repair.specs.Runs.{IsVisited, Job, Runs, Visit, World, sector_at, size_at}
+use Rattle.tree_repair.specs.Runs.{IsVisited, Job, Runs, Visit, sector_at, size_at}
+use Rattle.tree_repair.specs.Worlds.{World}
 
 -- ---- blocks that were mended
 

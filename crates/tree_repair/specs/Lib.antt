@@ -1,10 +1,16 @@
 pub mod Sources
+pub mod Worlds
 pub mod Mending
 pub mod Looks
 pub mod Remaking
 pub mod Runs
 pub mod Jobs
+pub mod Grounds
 pub mod Visits
 pub mod Repairs
 pub mod Laws
 pub mod Parity
+pub mod Tries
+pub mod Noting
+pub mod Coverage
+pub mod Passes

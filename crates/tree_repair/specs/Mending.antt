@@ -1,5 +1,5 @@
 -- What comes of a block that is looked at: it is good, or it isn't and was found elsewhere, or it is lost.
-use Rattle.std.specs.Prelude.{◌≡◌, ℕ, Bool, true, false, IsTrue, List, length}
+use Rattle.std.specs.Prelude.{◌≡◌, ℕ, ◌/◌, Bool, true, false, IsTrue, List, length}
 use Rattle.block_device.specs.Device.{Device, IsWritten, sectors_of, spliced}
 use Rattle.tree_shape.specs.Digests.{digest}
 use Rattle.verity_format.specs.Blocks.{IsOnlyRead}
@@ -28,6 +28,10 @@ pub record IsBlockPut (old : Device) (first sectors : ℕ) (bytes : List ℕ) (d
 abbrev pub IsPut : Bool → Device → ℕ → ℕ → List ℕ → Bool → Device → Type 0
 IsPut true old first sectors bytes done new = IsBlockPut old first sectors bytes done new
 IsPut false old first sectors bytes done new = (new ≡ old) × (done ≡ true)
+
+-- the same of all that is at hand
+abbrev pub IsPutAt : Bool → Device → ℕ → List ℕ → Bool → Device → Type 0
+IsPutAt write old first bytes done new = IsPut write old first (length bytes / 512) bytes done new
 
 -- it is good: nothing is written
 pub record IsFoundGood (l : Look) (bytes : List ℕ) : Type 0 where

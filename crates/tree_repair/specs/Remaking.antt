@@ -55,6 +55,10 @@ pub record HaveBlocks (s : ShapeRecord) (data_dev hash_dev : Device) : Type 0 wh
   pub data_fits : data_sectors s ≤ data_dev.size
   pub tree_fits : tree_sectors s ≤ hash_dev.size
 
+-- over a steady device these are the bytes of a block of that size
+abbrev pub IsBlockOf : Device → ℕ → ℕ → List ℕ → Type 0
+IsBlockOf device size n bytes = IsTrue device.steady → bytes ≡ block_at device.image size n
+
 -- over steady devices these are the bytes
 abbrev pub IsOver : Device → Device → List ℕ → List ℕ → Type 0
 IsOver data_dev hash_dev bytes_are bytes = IsTrue data_dev.steady → IsTrue hash_dev.steady → bytes ≡ bytes_are

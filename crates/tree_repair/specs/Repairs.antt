@@ -1,13 +1,15 @@
 -- What a repair of an image did.
 use Rattle.std.specs.Prelude.{◌⊎◌, ℕ, Bool, true, false, IsTrue, List, Option}
 use Rattle.block_device.specs.Device.{Device}
+use Rattle.counted_io.specs.Counted.{CountedRecord}
 use Rattle.verity_format.specs.Superblock.{SuperRecord, shape_of}
 use Rattle.tree_survey.specs.declared.fault.SurveyFault.TheVariants as survey
 use Rattle.tree_survey.specs.Causes.{AreImages, IsImageCause as IsSuperblockCause}
 use Rattle.tree_repair.specs.declared.fault.RepairFault.{RepairFault}
 use Rattle.tree_repair.specs.declared.fault.RepairFault.TheVariants.{Image, Write}
 use Rattle.tree_repair.specs.declared.repair.Plan.{Plan}
-use Rattle.tree_repair.specs.Runs.{HasRun, IsWorldRead, Job, World}
+use Rattle.tree_repair.specs.Runs.{HasRun, Job}
+use Rattle.tree_repair.specs.Worlds.{IsWorldRead, World}
 
 -- that of the tree of a superblock under the plan's root, with parity or without
 abbrev pub job_of : SuperRecord → Plan → Bool → Job
@@ -24,13 +26,13 @@ pub record Repairs (plan : Plan) (parity : Bool) (w w' : World) (old new : Optio
   pub images : AreImages w.data_dev w.hash_dev s
   pub run : HasRun (job_of s plan parity) w w' old new ok
 
--- to the end
-abbrev pub IsRepair : Plan → World → World → Option (List ℕ) → Option (List ℕ) → Type 0
-IsRepair plan w w' old new = Repairs plan false w w' old new true
+-- to the end, by a writer before and behind
+abbrev pub IsRepair : {W : Type 0} → (W → Option (List ℕ)) → Plan → World → World → CountedRecord W → CountedRecord W → Type 0
+IsRepair contents plan w w' old new = Repairs plan false w w' (contents old.inner) (contents new.inner) true
 
 -- the same with parity
-abbrev pub IsParityRepair : Plan → World → World → Option (List ℕ) → Option (List ℕ) → Type 0
-IsParityRepair plan w w' old new = Repairs plan true w w' old new true
+abbrev pub IsParityRepair : {W : Type 0} → (W → Option (List ℕ)) → Plan → World → World → CountedRecord W → CountedRecord W → Type 0
+IsParityRepair contents plan w w' old new = Repairs plan true w w' (contents old.inner) (contents new.inner) true
 
 -- ---- why there was nothing to be gone over
 
@@ -43,8 +45,8 @@ IsImageCause data_dev hash_dev hash_dev' Write = ⊥
 abbrev pub IsUnrepairedBy : Plan → Bool → World → World → Option (List ℕ) → Option (List ℕ) → RepairFault → Type 0
 IsUnrepairedBy plan parity w w' old new fault = (IsWorldRead w w' × IsImageCause w.data_dev w.hash_dev w'.hash_dev fault) ⊎ Repairs plan parity w w' old new false
 
-abbrev pub IsUnrepaired : Plan → World → World → Option (List ℕ) → Option (List ℕ) → RepairFault → Type 0
-IsUnrepaired plan w w' old new fault = IsUnrepairedBy plan false w w' old new fault
+abbrev pub IsUnrepaired : {W : Type 0} → (W → Option (List ℕ)) → Plan → World → World → CountedRecord W → CountedRecord W → RepairFault → Type 0
+IsUnrepaired contents plan w w' old new fault = IsUnrepairedBy plan false w w' (contents old.inner) (contents new.inner) fault
 
-abbrev pub IsParityUnrepaired : Plan → World → World → Option (List ℕ) → Option (List ℕ) → RepairFault → Type 0
-IsParityUnrepaired plan w w' old new fault = IsUnrepairedBy plan true w w' old new fault
+abbrev pub IsParityUnrepaired : {W : Type 0} → (W → Option (List ℕ)) → Plan → World → World → CountedRecord W → CountedRecord W → RepairFault → Type 0
+IsParityUnrepaired contents plan w w' old new fault = IsUnrepairedBy plan true w w' (contents old.inner) (contents new.inner) fault

@@ -1,8 +1,9 @@
 -- A run over the blocks of an image, each with what came of it.
-use Rattle.std.specs.Prelude.{◌≡◌, ℕ, zero, suc, ◌+◌, ◌*◌, ◌/◌, ◌^◌, ◌<◌, ◌≤◌, Bool, true, false, IsTrue, List, [], ◌∷◌, ◌++◌, Option, All, codes, decimal}
+use Rattle.std.specs.Prelude.{◌≡◌, ℕ, zero, suc, ◌+◌, ◌*◌, ◌/◌, ◌^◌, ◌<◌, ◌≤◌, Bool, true, false, IsTrue, List, [], ◌∷◌, ◌++◌, Option, Result, All, codes, decimal, is_ok}
 use Rattle.std.specs.List.{flat_map}
 use Rattle.std.specs.Io.KnownBytes.{Appends}
 use Rattle.block_device.specs.Device.{Device}
+use Rattle.counted_io.specs.Counted.{CountedRecord}
 use Rattle.tree_shape.specs.Shape.{ShapeRecord, IsShape, ancestor, position}
 use Rattle.verity_format.specs.Blocks.{IsOnlyRead}
 use Rattle.verity_format.specs.Image.{data_sectors, tree_sectors}
@@ -12,17 +13,8 @@ use Rattle.tree_repair.specs.declared.mending.Mended.{Mended}
 use Rattle.tree_repair.specs.declared.mending.Mended.TheVariants as mended
 use Rattle.tree_repair.specs.Mending.{Look, IsBareOf, IsMended}
 use Rattle.tree_repair.specs.Remaking.{IsMadeBeneath, IsNowhereBeneath}
-use Rattle.tree_repair.specs.Sources.{AreEachRead, wanted}
-
--- the data device, the hash device and copies of each
-pub record World : Type 0 where
-  pub data_dev : Device
-  pub hash_dev : Device
-  pub data_copies : List Device
-  pub hash_copies : List Device
-
-abbrev pub world : Device → Device → List Device → List Device → World
-world data_dev hash_dev data_copies hash_copies = record { data_dev = data_dev; hash_dev = hash_dev; data_copies = data_copies; hash_copies = hash_copies }
+use Rattle.tree_repair.specs.Sources.{wanted}
+use Rattle.tree_repair.specs.Worlds.{IsWorldRead, World}
 
 -- a tree, the sector at which hash blocks begin on a copy, whether anything may be written, and whether there is parity
 pub record Job : Type 0 where
@@ -120,13 +112,6 @@ pub record IsVisited (j : Job) (v : Visit) (w w' : World) : Type 0 where
   pub other_stays : OtherStays v.height v.mended (other v.height w) (other v.height w')
   pub copies_are : other_copies v.height w' ≡ other_copies v.height w
 
--- all devices were only read
-pub record IsWorldRead (w w' : World) : Type 0 where
-  pub data_read : IsOnlyRead w.data_dev w'.data_dev
-  pub hash_read : IsOnlyRead w.hash_dev w'.hash_dev
-  pub data_copies_read : AreEachRead w.data_copies w'.data_copies
-  pub hash_copies_read : AreEachRead w.hash_copies w'.hash_copies
-
 -- these blocks were visited, and all else was only read
 abbrev pub Runs : Job → List Visit → World → World → Type 0
 Runs j [] w w' = IsWorldRead w w'
@@ -190,6 +175,10 @@ pub record HasRun (j : Job) (w w' : World) (old new : Option (List ℕ)) (ok : B
   pub runs : Runs j visits w w'
   pub done : IsTrue ok → All IsDone visits
   pub printed : IsTrue ok → Appends old new (flat_map (line_of j) visits)
+
+-- the same by a writer before and behind, and by the result of the run
+abbrev pub Ran : {W T E : Type 0} → (W → Option (List ℕ)) → Job → World → World → CountedRecord W → CountedRecord W → Result T E → Type 0
+Ran contents j w w' old new result = HasRun j w w' (contents old.inner) (contents new.inner) (is_ok result)
 
 -- data and tree lie on the devices, which may be written if anything may
 pub record CanRun (j : Job) (w : World) : Type 0 where

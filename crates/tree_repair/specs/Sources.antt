@@ -1,5 +1,5 @@
 -- Where the bytes of a block are sought, and what a read of them tells.
-use Rattle.std.specs.Prelude.{◌≡◌, ◌≢◌, ◌⊎◌, ℕ, ◌+◌, ◌-◌, ◌<◌, ◌≤◌, IsTrue, List, length}
+use Rattle.std.specs.Prelude.{◌≡◌, ◌≢◌, ◌⊎◌, ℕ, ◌+◌, ◌-◌, ◌/◌, ◌<◌, ◌≤◌, IsTrue, List, length}
 use Rattle.std.specs.List.{concat, slice_index_or}
 use Rattle.block_device.specs.Device.{Device, HasFailed, run_of}
 use Rattle.tree_shape.specs.Digests.{digest}
@@ -13,6 +13,10 @@ pub record Wanted : Type 0 where
 
 abbrev pub wanted : List ℕ → List ℕ → ℕ → Wanted
 wanted salt digest_is sectors = record { salt = salt; digest_is = digest_is; sectors = sectors }
+
+-- the bytes that should fill a buffer
+abbrev pub due : List ℕ → List ℕ → List ℕ → Wanted
+due salt digest_is block = wanted salt digest_is (length block / 512)
 
 -- n sectors of a device from the first on, joined
 abbrev pub bytes_at : Device → ℕ → ℕ → List ℕ
@@ -51,3 +55,7 @@ pub record AreIn (copies : List Device) (first : ℕ) (w : Wanted) (n : ℕ) (by
 -- none of the first k has them
 abbrev pub AreNotIn : List Device → ℕ → Wanted → ℕ → Type 0
 AreNotIn copies first w k = (j : ℕ) → j < k → (d : Device) → IsWithout (slice_index_or copies j d) first w
+
+-- none at all has them
+abbrev pub AreInNone : List Device → ℕ → Wanted → Type 0
+AreInNone copies first w = AreNotIn copies first w (length copies)

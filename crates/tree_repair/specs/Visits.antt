@@ -1,13 +1,13 @@
 -- One block of an image that is looked at.
-use Rattle.std.specs.Prelude.{ℕ, suc, ◌+◌, ◌*◌, ◌/◌, ◌^◌, ◌≤◌, Bool, true, false, IsTrue, List}
+use Rattle.std.specs.Prelude.{◌≡◌, ℕ, suc, ◌+◌, ◌*◌, ◌/◌, Bool, true, false, List}
 use Rattle.block_device.specs.Device.{Device}
-use Rattle.tree_shape.specs.Shape.{IsShape, ancestor, position}
-use Rattle.verity_format.specs.Image.{data_sectors, tree_sectors}
+use Rattle.tree_shape.specs.Shape.{ShapeRecord, ancestor, position}
 use Rattle.tree_path.specs.Path.{PathRecord, digest_on}
 use Rattle.tree_repair.specs.declared.mending.Mended.{Mended}
-use Rattle.tree_repair.specs.Mending.{Look, IsFound, IsMended}
-use Rattle.tree_repair.specs.Runs.{IsMadeOf, IsVisited, Job, OtherStays, World, visit}
+use Rattle.tree_repair.specs.Mending.{Look, IsFound, IsMended, IsPutAt}
+use Rattle.tree_repair.specs.Runs.{IsMadeOf, IsVisited, Job, OtherStays, visit}
 use Rattle.tree_repair.specs.Sources.{wanted}
+use Rattle.tree_repair.specs.Worlds.{World}
 
 -- it came to that, and no write failed
 abbrev pub IsLooked : Look → Mended → Type 0
@@ -21,11 +21,6 @@ abbrev pub FailsToMake : Job → ℕ → ℕ → World → World → Type 0
 FailsToMake j h i w w' = (m : Mended) × ((bytes : List ℕ) × (IsFound m × IsVisited j (visit h i m bytes false) w w'))
 
 -- ---- a data block
-
-pub record CanVisitData (j : Job) (device : Device) : Type 0 where
-  pub valid : IsShape j.tree.shape
-  pub fits : data_sectors j.tree.shape ≤ device.size
-  pub writable : IsTrue j.write → IsTrue device.may_write
 
 abbrev pub data_look : Job → PathRecord → ℕ → Device → Device → List Device → List Device → Look
 data_look j p i old new copies copies' = record {
@@ -41,12 +36,9 @@ data_look j p i old new copies copies' = record {
 
 -- ---- a hash block
 
-pub record CanVisitHash (j : Job) (data_dev device : Device) : Type 0 where
-  pub valid : IsShape j.tree.shape
-  pub data_fits : data_sectors j.tree.shape ≤ data_dev.size
-  pub fits : tree_sectors j.tree.shape ≤ device.size
-  pub writable : IsTrue j.write → IsTrue device.may_write
-  pub copy_small : j.copy_first ≤ 2 ^ 55
+-- its first sector
+abbrev pub hash_sector : ShapeRecord → ℕ → ℕ → ℕ
+hash_sector s l i = position s l (ancestor s (l + 1) i) * (s.hash_block / 512)
 
 abbrev pub hash_look : Job → PathRecord → ℕ → ℕ → Device → Device → List Device → List Device → Look
 hash_look j p l i old new copies copies' = record {
@@ -61,14 +53,27 @@ hash_look j p l i old new copies copies' = record {
 }
 
 -- a hash block of level l was looked at
-pub record IsHashSeen (j : Job) (p : PathRecord) (l i : ℕ) (data_dev data_dev' hash_dev hash_dev' : Device) (copies copies' : List Device) (bytes : List ℕ) (done : Bool) (m : Mended) : Type 0 where
-  pub looked : IsMended (hash_look j p l i hash_dev hash_dev' copies copies') bytes done m
-  pub made_of : IsMadeOf j p (suc l) i data_dev hash_dev bytes m
-  pub data_stays : OtherStays (suc l) m data_dev data_dev'
+pub record IsHashSeen (j : Job) (p : PathRecord) (l i : ℕ) (w w' : World) (bytes : List ℕ) (done : Bool) (m : Mended) : Type 0 where
+  pub looked : IsMended (hash_look j p l i w.hash_dev w'.hash_dev w.hash_copies w'.hash_copies) bytes done m
+  pub made_of : IsMadeOf j p (suc l) i w.data_dev w.hash_dev bytes m
+  pub data_stays : OtherStays (suc l) m w.data_dev w'.data_dev
+  pub copies_are : w'.data_copies ≡ w.data_copies
 
-abbrev pub IsHashLooked : Job → PathRecord → ℕ → ℕ → Device → Device → Device → Device → List Device → List Device → Mended → Type 0
-IsHashLooked j p l i data_dev data_dev' hash_dev hash_dev' copies copies' m = (bytes : List ℕ) × IsHashSeen j p l i data_dev data_dev' hash_dev hash_dev' copies copies' bytes true m
+abbrev pub IsHashLooked : Job → PathRecord → ℕ → ℕ → World → World → Mended → Type 0
+IsHashLooked j p l i w w' m = (bytes : List ℕ) × IsHashSeen j p l i w w' bytes true m
 
-abbrev pub IsHashUnmended : Job → PathRecord → ℕ → ℕ → Device → Device → Device → Device → List Device → List Device → Type 0
-IsHashUnmended j p l i data_dev data_dev' hash_dev hash_dev' copies copies' =
-    (m : Mended) × ((bytes : List ℕ) × (IsFound m × IsHashSeen j p l i data_dev data_dev' hash_dev hash_dev' copies copies' bytes false m))
+abbrev pub IsHashUnmended : Job → PathRecord → ℕ → ℕ → World → World → Type 0
+IsHashUnmended j p l i w w' = (m : Mended) × ((bytes : List ℕ) × (IsFound m × IsHashSeen j p l i w w' bytes false m))
+
+-- ---- what stays behind a part of it
+
+-- the data device and its copies weren't asked
+pub record KeepsData (w w' : World) : Type 0 where
+  pub device_is : w'.data_dev ≡ w.data_dev
+  pub copies_are : w'.data_copies ≡ w.data_copies
+
+-- a block was put on the hash device, or the write failed
+pub record IsTreePut (write : Bool) (first : ℕ) (bytes : List ℕ) (done : Bool) (w w' : World) : Type 0 where
+  pub put : IsPutAt write w.hash_dev first bytes done w'.hash_dev
+  pub keeps : KeepsData w w'
+  pub hash_copies_are : w'.hash_copies ≡ w.hash_copies

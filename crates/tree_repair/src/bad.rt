@@ -1,4 +1,7 @@
 //! Blocks that aren't good where they stand.
+ghost use Rattle.std.specs.Prelude.{◌≡◌, [], OnOk};
+ghost use Rattle.tree_repair.specs.Noting.{IsNoted, found_of, unless};
+
 use crate::mending::Mended;
 use crate::place::Place;
 use std::alloc::{AllocError, Global};
@@ -19,7 +22,10 @@ pub(crate) struct BadBlocks {
 
 impl BadBlocks {
     /// None so far.
-    pub(crate) fn new(alloc: Global, asked: bool) -> BadBlocks {
+    pub(crate) fn new(alloc: Global, asked: bool) -> BadBlocks
+        ensures asked { result.asked ≡ asked }
+        ensures none { result.blocks.items ≡ [] }
+    {
         BadBlocks {
             asked,
             blocks: Vec::new(alloc),
@@ -32,24 +38,42 @@ impl BadBlocks {
         place: Place,
         mended: Mended,
         write: bool,
-    ) -> Result<(), AllocError> {
+    ) -> Result<(), AllocError>
+        ensures asked { self.new.asked ≡ self.old.asked }
+        ensures noted { OnOk result (IsNoted self.old self.new place (found_of write mended)) }
+    {
         if !self.asked {
             return Ok(());
         }
-        let found = match mended {
-            Mended::Good => return Ok(()),
-            Mended::Lost => false,
-            _ => true,
-        };
-        if found && write {
-            return Ok(());
+        match found_of(mended, write) {
+            None => Ok(()),
+            Some(found) => Ok(self.blocks.push(BadBlock { place, found })?),
         }
-        self.blocks.push(BadBlock { place, found })?;
-        Ok(())
     }
 
     /// Those that were noted.
-    pub(crate) fn blocks(&self) -> &[BadBlock] {
+    pub(crate) fn noted(&self) -> &[BadBlock]
+        ensures { result.now ≡ self.now.blocks.items }
+    {
         &self.blocks
     }
+}
+
+// Nothing of a block that is good by now; else whether it was found.
+fn found_of(mended: Mended, write: bool) -> Option<bool>
+    ensures { result ≡ found_of write mended }
+{
+    match mended {
+        Mended::Good => None,
+        Mended::Copy(_) => unless(write),
+        Mended::Remade => unless(write),
+        Mended::Parity => unless(write),
+        Mended::Lost => Some(false),
+    }
+}
+
+fn unless(write: bool) -> Option<bool>
+    ensures { result ≡ unless write }
+{
+    if write { None } else { Some(true) }
 }

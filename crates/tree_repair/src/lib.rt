@@ -1,9 +1,12 @@
 //! Damaged images, repaired from the root down: each block that isn't good is sought in copies, a hash block that none has is
-//! made again from the blocks beneath it, and the bytes are written that have its digest.
+//! made again from the blocks beneath it, what none of these gives back is sought by parity, and the bytes are written that have
+//! its digest.
 #![tactic(auto)]
 
 mod bad;
 mod fault;
+mod good_row;
+mod image;
 pub mod laws;
 mod levels;
 mod mending;
@@ -17,6 +20,7 @@ mod seeking;
 mod visiting;
 
 pub use fault::RepairFault;
+pub use image::DamagedImage;
 pub use mending::Mended;
 pub use passes::repair_with_parity;
 pub use repair::{Plan, repair_image};

@@ -1,10 +1,10 @@
 //! A block that is looked at, and written where it isn't good and was found elsewhere.
 ghost use Rattle.std.specs.Prelude.{◌≡◌, ◌/◌, ◌+◌, ◌<◌, ◌^◌, ℕ, List, true, IfOk, IsTrue, OnErr, OnOk, is_ok, length, map};
 ghost use Rattle.block_device.specs.Device.{IsInside};
-ghost use Rattle.tree_repair.specs.Mending.{IsMended, IsNotRemade, IsPut, IsUnmended};
+ghost use Rattle.tree_repair.specs.Mending.{IsMended, IsNotRemade, IsPutAt, IsUnmended};
 ghost use Rattle.tree_repair.specs.Looks.{look};
 
-use crate::seeking::{is_there, seek_copies};
+use crate::seeking::{is_there, seek};
 use block_device::{BlockDev, DeviceFault};
 use tree_shape::{Digest, Salt};
 
@@ -34,7 +34,7 @@ pub(crate) struct Sought {
 /// Reads a block. Where it hasn't its digest it is sought in the copies, and written if it may be.
 pub(crate) fn mend<B: BlockDev, C: BlockDev>(
     device: &mut B,
-    copies: &mut [C],
+    copies: &mut Vec<C>,
     sought: &Sought,
     salt: &Salt,
     block: &mut [u8],
@@ -43,9 +43,9 @@ pub(crate) fn mend<B: BlockDev, C: BlockDev>(
     requires inside { IsInside (B.state device.old) sought.now.first (length block.old) }
     requires small { sought.now.copy_first + length block.old / 512 < 2 ^ 64 }
     requires allowed { IsTrue write → IsTrue (B.state device.old).may_write }
-    ensures ok { IfOk result (λ m. (bytes : List ℕ) × IsMended (look sought.now salt.now (length block.old / 512) write (B.state device.old) (B.state device.new) (map C.state copies.old) (map C.state copies.new)) bytes true m) }
+    ensures ok { IfOk result (λ m. (bytes : List ℕ) × IsMended (look sought.now salt.now (length block.old / 512) write (B.state device.old) (B.state device.new) (map C.state copies.old.items) (map C.state copies.new.items)) bytes true m) }
     ensures plain { IfOk result IsNotRemade }
-    ensures err { OnErr result (IsUnmended (look sought.now salt.now (length block.old / 512) write (B.state device.old) (B.state device.new) (map C.state copies.old) (map C.state copies.new))) }
+    ensures err { OnErr result (IsUnmended (look sought.now salt.now (length block.old / 512) write (B.state device.old) (B.state device.new) (map C.state copies.old.items) (map C.state copies.new.items))) }
 {
     let Sought {
         first,
@@ -55,7 +55,7 @@ pub(crate) fn mend<B: BlockDev, C: BlockDev>(
     if is_there(device, first, salt, &digest, block) {
         return Ok(Mended::Good);
     }
-    match seek_copies(copies, copy_first, salt, &digest, block) {
+    match seek(copies, copy_first, salt, &digest, block) {
         None => Ok(Mended::Lost),
         Some(number) => {
             put(device, first, block, write)?;
@@ -73,7 +73,7 @@ pub(crate) fn put<B: BlockDev>(
 ) -> Result<(), DeviceFault>
     requires inside { IsInside (B.state device.old) first (length block.now) }
     requires allowed { IsTrue write → IsTrue (B.state device.old).may_write }
-    ensures { IsPut write (B.state device.old) first (length block.now / 512) block.now (is_ok result) (B.state device.new) }
+    ensures { IsPutAt write (B.state device.old) first block.now (is_ok result) (B.state device.new) }
 {
     if !write {
         return Ok(());

@@ -1,23 +1,23 @@
 //! Blocks brought back by parity.
-ghost use Rattle.std.specs.Prelude.{◌≡◌, ◌<◌, ◌≤◌, ◌+◌, ◌/◌, List, [], false, IfOk, IfSome, IsTrue, OnErr, is_ok, length};
+ghost use Rattle.std.specs.Prelude.{◌≡◌, ◌<◌, ◌≤◌, ◌+◌, ◌/◌, ◌++◌, false, IfOk, IsTrue, OnErr, OnOk, length};
 ghost use Rattle.std.specs.Str.{bytes_eq};
-ghost use Rattle.block_device.specs.Device.{Device, IsInside};
-ghost use Rattle.fec_area.specs.declared.restoring.RestoreFault.{RestoreFault};
+ghost use Rattle.block_device.specs.Device.{IsInside};
 ghost use Rattle.fec_area.specs.Layouts.{IsLaidOn, IsLayout, covered_blocks};
-ghost use Rattle.fec_area.specs.Restoring.{IsMadeAgain, IsRestoreCause};
 ghost use Rattle.tree_shape.specs.Digests.{digest};
 ghost use Rattle.tree_shape.specs.Shape.{levels};
-ghost use Rattle.tree_path.specs.Path.{digest_on};
 ghost use Rattle.tree_survey.specs.Surveys.{IsWay};
-ghost use Rattle.verity_format.specs.Blocks.{AreOnlyRead, IsOnlyRead};
-ghost use Rattle.tree_repair.specs.Jobs.{job};
+ghost use Rattle.verity_format.specs.Blocks.{IsOnlyRead};
+ghost use Rattle.tree_repair.specs.Jobs.{AreGoodAt, job};
 ghost use Rattle.tree_repair.specs.Mending.{IsReplaced};
-ghost use Rattle.tree_repair.specs.Parity.{FailsToPlace, IsCoveredAt, IsPlace, IsPlaced, IsPutOr, end_at};
-ghost use Rattle.tree_repair.specs.Runs.{CanRun, HasRun, sector_at, size_at, world};
-ghost use Rattle.tree_repair.specs.Sources.{wanted};
+ghost use Rattle.tree_repair.specs.Parity.{FailsToPlace, IsBack, IsNotBack, IsPlace, IsPlaced, IsPutOr, end_at};
+ghost use Rattle.tree_repair.specs.Runs.{CanRun, Ran, sector_at, size_at};
+ghost use Rattle.tree_repair.specs.Sources.{due};
+ghost use Rattle.tree_repair.specs.Tries.{AreCovered, HasSought, IsCoveredOr, IsMadeOrVain, IsSought, IsTried, listed, trial};
+ghost use Rattle.tree_repair.specs.Worlds.{IsWorldRead};
 
 use crate::bad::BadBlock;
 use crate::fault::RepairFault;
+use crate::image::DamagedImage;
 use crate::levels::{way_to, zeros};
 use crate::mending::{Mended, put};
 use crate::place::{Place, Repair, block_size};
@@ -31,30 +31,38 @@ use std::io::Write;
 use tree_path::TreePath;
 use tree_shape::{Digest, Salt};
 
+/// How parity lies across an image, and the covered blocks that count as lost.
+#[derive(Drop)]
+struct Losses {
+    layout: Layout,
+    lost: Vec<u64>,
+}
+
 /// Goes over the blocks that were found nowhere, from the root down, and brings back those that parity has. Tells whether
 /// a hash block is among them.
-pub(crate) fn restore_bad<D: BlockDev, H: BlockDev, P: BlockDev, W: Write>(
-    alloc: Global,
+pub(crate) fn restore_bad<D: BlockDev, H: BlockDev, C: BlockDev, P: BlockDev, W: Write>(
     repair: &Repair,
     layout: &Layout,
     blocks: &[BadBlock],
-    data_dev: &mut D,
-    hash_dev: &mut H,
+    image: &mut DamagedImage<D, H, C>,
     parity_dev: &mut P,
     writer: &mut Counted<W>,
 ) -> Result<bool, RepairFault>
     requires asked { IsTrue repair.now.parity }
-    requires can { CanRun (job repair.now) (world (D.state data_dev.old) (H.state hash_dev.old) [] []) }
-    requires laid { IsLaidOn layout.now (D.state data_dev.old) (H.state hash_dev.old) }
+    requires can { CanRun (job repair.now) image.old }
+    requires laid { IsLaidOn layout.now image.old.data_dev image.old.hash_dev }
     ensures parity { IsOnlyRead (P.state parity_dev.old) (P.state parity_dev.new) }
-    ensures run { (cs es : List Device) → HasRun (job repair.now) (world (D.state data_dev.old) (H.state hash_dev.old) cs es) (world (D.state data_dev.new) (H.state hash_dev.new) cs es) (W.contents writer.old.inner) (W.contents writer.new.inner) (is_ok result) }
+    ensures run { Ran W.contents (job repair.now) image.old image.new writer.old writer.new result }
+    ensures sought { OnOk result (HasSought (job repair.now) layout.now blocks.now image.old image.new (P.state parity_dev.old) (P.state parity_dev.new)) }
 {
-    let lost = covered_of(alloc, repair, layout, blocks)?;
+    let lost = covered_of(repair, layout, blocks)?;
+    let losses = Losses {
+        layout: *layout,
+        lost,
+    };
     let mut tree = false;
     'each: for bad in blocks {
-        let back = restore_block_at(
-            alloc, repair, layout, &lost, bad, data_dev, hash_dev, parity_dev, writer,
-        )?;
+        let back = restore_block_at(repair, &losses, bad, image, parity_dev, writer)?;
         tree = is_in_tree(tree, back, bad);
     }
     Ok(tree)
@@ -65,28 +73,31 @@ fn is_in_tree(tree: bool, back: bool, bad: &BadBlock) -> bool {
 }
 
 // The covered blocks among these.
-fn covered_of(
-    alloc: Global,
-    repair: &Repair,
-    layout: &Layout,
-    blocks: &[BadBlock],
-) -> Result<Vec<u64>, AllocError>
+fn covered_of(repair: &Repair, layout: &Layout, blocks: &[BadBlock]) -> Result<Vec<u64>, AllocError>
     requires { IsLayout layout.now }
+    ensures { IfOk result (λ covered. AreCovered repair.now.shape layout.now blocks.now covered.items) }
 {
-    let mut covered = Vec::new(alloc);
+    let mut covered = Vec::new(repair.alloc);
     'covered: for bad in blocks {
-        match covered_at(repair, layout, bad.place) {
-            Some(index) => covered.push(index)?,
-            None => {}
-        }
+        let index = covered_at(repair, layout, bad.place);
+        push_some(&mut covered, index)?;
     }
     Ok(covered)
+}
+
+fn push_some(covered: &mut Vec<u64>, index: Option<u64>) -> Result<(), AllocError>
+    ensures { OnOk result (covered.new.items ≡ covered.old.items ++ listed index) }
+{
+    match index {
+        None => Ok(()),
+        Some(index) => Ok(covered.push(index)?),
+    }
 }
 
 // The number of a block among those that parity covers.
 fn covered_at(repair: &Repair, layout: &Layout, place: Place) -> Option<u64>
     requires { IsLayout layout.now }
-    ensures { IfSome result (IsCoveredAt repair.now.shape layout.now place.height place.index) }
+    ensures { IsCoveredOr repair.now.shape layout.now place.height place.index result }
 {
     if !is_place(repair, place) {
         return None;
@@ -106,7 +117,8 @@ fn covered_at(repair: &Repair, layout: &Layout, place: Place) -> Option<u64>
 
 // Whether the tree has such a block.
 fn is_place(repair: &Repair, place: Place) -> bool
-    ensures { IsTrue result → IsPlace repair.now.shape place.height place.index }
+    ensures some { IsTrue result → IsPlace repair.now.shape place.height place.index }
+    ensures none { result ≡ false → IsPlace repair.now.shape place.height place.index → ⊥ }
 {
     if place.index >= repair.shape.blocks() {
         return false;
@@ -118,22 +130,20 @@ fn is_place(repair: &Repair, place: Place) -> bool
 }
 
 // Brings a block back that was found nowhere, if all hash blocks above it are good and parity has it.
-fn restore_block_at<D: BlockDev, H: BlockDev, P: BlockDev, W: Write>(
-    alloc: Global,
+fn restore_block_at<D: BlockDev, H: BlockDev, C: BlockDev, P: BlockDev, W: Write>(
     repair: &Repair,
-    layout: &Layout,
-    lost: &[u64],
+    losses: &Losses,
     bad: &BadBlock,
-    data_dev: &mut D,
-    hash_dev: &mut H,
+    image: &mut DamagedImage<D, H, C>,
     parity_dev: &mut P,
     writer: &mut Counted<W>,
 ) -> Result<bool, RepairFault>
     requires asked { IsTrue repair.now.parity }
-    requires can { CanRun (job repair.now) (world (D.state data_dev.old) (H.state hash_dev.old) [] []) }
-    requires laid { IsLaidOn layout.now (D.state data_dev.old) (H.state hash_dev.old) }
+    requires can { CanRun (job repair.now) image.old }
+    requires laid { IsLaidOn losses.now.layout image.old.data_dev image.old.hash_dev }
     ensures parity { IsOnlyRead (P.state parity_dev.old) (P.state parity_dev.new) }
-    ensures run { (cs es : List Device) → HasRun (job repair.now) (world (D.state data_dev.old) (H.state hash_dev.old) cs es) (world (D.state data_dev.new) (H.state hash_dev.new) cs es) (W.contents writer.old.inner) (W.contents writer.new.inner) (is_ok result) }
+    ensures run { Ran W.contents (job repair.now) image.old image.new writer.old writer.new result }
+    ensures sought { IfOk result (IsSought (job repair.now) bad.now (trial losses.now.layout losses.now.lost.items image.old image.new (P.state parity_dev.old) (P.state parity_dev.new))) }
 {
     if bad.found {
         return Ok(false);
@@ -142,111 +152,107 @@ fn restore_block_at<D: BlockDev, H: BlockDev, P: BlockDev, W: Write>(
     if !is_place(repair, place) {
         return Ok(false);
     }
-    let found = way_to(alloc, repair, hash_dev, place.index, place.height)?;
+    let found = way_to(repair, image, place.index, place.height)?;
     match found {
         None => Ok(false),
-        Some(path) => restore_along(
-            alloc, &path, repair, layout, lost, place, data_dev, hash_dev, parity_dev, writer,
-        ),
+        Some(path) => restore_along(&path, repair, losses, place, image, parity_dev, writer),
     }
 }
 
 // Brings a block back to which the path leads.
-fn restore_along<D: BlockDev, H: BlockDev, P: BlockDev, W: Write>(
-    alloc: Global,
+fn restore_along<D: BlockDev, H: BlockDev, C: BlockDev, P: BlockDev, W: Write>(
     path: &TreePath,
     repair: &Repair,
-    layout: &Layout,
-    lost: &[u64],
+    losses: &Losses,
     place: Place,
-    data_dev: &mut D,
-    hash_dev: &mut H,
+    image: &mut DamagedImage<D, H, C>,
     parity_dev: &mut P,
     writer: &mut Counted<W>,
 ) -> Result<bool, RepairFault>
     requires asked { IsTrue repair.now.parity }
-    requires can { CanRun (job repair.now) (world (D.state data_dev.old) (H.state hash_dev.old) [] []) }
-    requires laid { IsLaidOn layout.now (D.state data_dev.old) (H.state hash_dev.old) }
+    requires can { CanRun (job repair.now) image.old }
+    requires laid { IsLaidOn losses.now.layout image.old.data_dev image.old.hash_dev }
     requires place { IsPlace repair.now.shape place.height place.index }
     requires way { IsWay (job repair.now).tree place.index place.height path.now }
     ensures parity { IsOnlyRead (P.state parity_dev.old) (P.state parity_dev.new) }
-    ensures run { (cs es : List Device) → HasRun (job repair.now) (world (D.state data_dev.old) (H.state hash_dev.old) cs es) (world (D.state data_dev.new) (H.state hash_dev.new) cs es) (W.contents writer.old.inner) (W.contents writer.new.inner) (is_ok result) }
+    ensures run { Ran W.contents (job repair.now) image.old image.new writer.old writer.new result }
+    ensures tried { IfOk result (IsTried (job repair.now) place.height place.index (trial losses.now.layout losses.now.lost.items image.old image.new (P.state parity_dev.old) (P.state parity_dev.new))) }
 {
     let size = block_size(&repair.shape, place.height);
-    let mut made = zeros(alloc, size)?;
-    let mut read = zeros(alloc, size)?;
+    let mut made = zeros(repair.alloc, size)?;
+    let mut read = zeros(repair.alloc, size)?;
     let bytes = made.as_mut_slice();
     let block = read.as_mut_slice();
-    let back = make_again(
-        alloc, path, repair, layout, lost, place, data_dev, hash_dev, parity_dev, bytes,
-    )?;
+    let back = make_again(path, repair, losses, place, image, parity_dev, bytes)?;
     if !back {
         return Ok(false);
     }
-    put_restored(
-        path, repair, place, data_dev, hash_dev, bytes, block, writer,
-    )
+    put_restored(path, repair, place, image, bytes, block, writer)
 }
 
 // Makes a block again by parity, and tells whether it has the digest to which the path leads.
-fn make_again<D: BlockDev, H: BlockDev, P: BlockDev>(
-    alloc: Global,
+fn make_again<D: BlockDev, H: BlockDev, C: BlockDev, P: BlockDev>(
     path: &TreePath,
     repair: &Repair,
-    layout: &Layout,
-    lost: &[u64],
+    losses: &Losses,
     place: Place,
-    data_dev: &mut D,
-    hash_dev: &mut H,
+    image: &mut DamagedImage<D, H, C>,
     parity_dev: &mut P,
     bytes: &mut [u8],
 ) -> Result<bool, AllocError>
-    requires laid { IsLaidOn layout.now (D.state data_dev.old) (H.state hash_dev.old) }
+    requires laid { IsLaidOn losses.now.layout image.old.data_dev image.old.hash_dev }
     requires way { IsWay (job repair.now).tree place.index place.height path.now }
     requires size { length bytes.old ≡ size_at repair.now.shape place.height }
-    ensures read { AreOnlyRead (D.state data_dev.old) (H.state hash_dev.old) (D.state data_dev.new) (H.state hash_dev.new) }
+    ensures read { IsWorldRead image.old image.new }
     ensures parity { IsOnlyRead (P.state parity_dev.old) (P.state parity_dev.new) }
-    ensures good { IfOk result (λ made. IsTrue made → digest repair.now.salt bytes.new ≡ digest_on path.now place.index place.height) }
+    ensures good { IfOk result (λ made. IsTrue made → AreGoodAt repair.now path.now place bytes.new) }
+    ensures vain { IfOk result (IsMadeOrVain (job repair.now) path.now place.height place.index (trial losses.now.layout losses.now.lost.items image.old image.new (P.state parity_dev.old) (P.state parity_dev.new))) }
 {
-    match covered_at(repair, layout, place) {
-        None => Ok(false),
-        Some(index) => {
-            if !restore(
-                alloc, layout, lost, index, data_dev, hash_dev, parity_dev, bytes,
-            )? {
-                return Ok(false);
-            }
-            let expected = path.digest_at(place.height, place.index);
-            Ok(is_same(&repair.salt.digest(bytes), &expected))
-        }
+    let index = match covered_at(repair, &losses.layout, place) {
+        None => return Ok(false),
+        Some(index) => index,
+    };
+    let back = restore(repair.alloc, losses, index, image, parity_dev, bytes)?;
+    if !back {
+        return Ok(false);
     }
+    let expected = path.digest_at(place.height, place.index);
+    Ok(is_same(&repair.salt.digest(bytes), &expected))
 }
 
 // Makes a covered block again, and tells whether it could be; memory that was refused is a fault.
-fn restore<D: BlockDev, H: BlockDev, P: BlockDev>(
+fn restore<D: BlockDev, H: BlockDev, C: BlockDev, P: BlockDev>(
     alloc: Global,
-    layout: &Layout,
-    lost: &[u64],
+    losses: &Losses,
     index: u64,
-    data_dev: &mut D,
-    hash_dev: &mut H,
+    image: &mut DamagedImage<D, H, C>,
     parity_dev: &mut P,
     bytes: &mut [u8],
 ) -> Result<bool, AllocError>
-    requires laid { IsLaidOn layout.now (D.state data_dev.old) (H.state hash_dev.old) }
-    requires index { index < covered_blocks layout.now }
-    requires size { length bytes.old ≡ layout.now.block }
-    ensures read { AreOnlyRead (D.state data_dev.old) (H.state hash_dev.old) (D.state data_dev.new) (H.state hash_dev.new) }
+    requires laid { IsLaidOn losses.now.layout image.old.data_dev image.old.hash_dev }
+    requires index { index < covered_blocks losses.now.layout }
+    requires size { length bytes.old ≡ losses.now.layout.block }
+    ensures read { IsWorldRead image.old image.new }
     ensures parity { IsOnlyRead (P.state parity_dev.old) (P.state parity_dev.new) }
-    ensures bytes { IfOk result (λ back. IsTrue back → IsTrue (D.state data_dev.old).steady → IsTrue (H.state hash_dev.old).steady → IsTrue (P.state parity_dev.old).steady → IsMadeAgain layout.now (D.state data_dev.old).image (H.state hash_dev.old).image (P.state parity_dev.old).image lost.now index bytes.new) }
-    ensures none { IfOk result (λ back. back ≡ false → (fault : RestoreFault) × IsRestoreCause layout.now lost.now index (D.state data_dev.old) (H.state hash_dev.old) (P.state parity_dev.old) (D.state data_dev.new) (H.state hash_dev.new) (P.state parity_dev.new) fault) }
+    ensures bytes { IfOk result (IsBack losses.now image.old (P.state parity_dev.old) index bytes.new) }
+    ensures none { IfOk result (IsNotBack losses.now index image.old image.new (P.state parity_dev.old) (P.state parity_dev.new)) }
 {
+    let Losses { layout, lost } = losses;
     match restore_block(
-        alloc, layout, lost, index, data_dev, hash_dev, parity_dev, bytes,
+        alloc,
+        layout,
+        lost,
+        index,
+        &mut image.data,
+        &mut image.hash,
+        parity_dev,
+        bytes,
     ) {
         Ok(()) => Ok(true),
         Err(RestoreFault::NoMemory) => Err(AllocError),
-        Err(_) => Ok(false),
+        Err(RestoreFault::TooManyLost { count: _ }) => Ok(false),
+        Err(RestoreFault::TooSmall { needed: _ }) => Ok(false),
+        Err(RestoreFault::Device) => Ok(false),
     }
 }
 
@@ -257,26 +263,26 @@ fn is_same(a: &Digest, b: &Digest) -> bool
 }
 
 // Puts the bytes of a block where it stands, and prints its line.
-fn put_restored<D: BlockDev, H: BlockDev, W: Write>(
+fn put_restored<D: BlockDev, H: BlockDev, C: BlockDev, W: Write>(
     path: &TreePath,
     repair: &Repair,
     place: Place,
-    data_dev: &mut D,
-    hash_dev: &mut H,
+    image: &mut DamagedImage<D, H, C>,
     bytes: &[u8],
     block: &mut [u8],
     writer: &mut Counted<W>,
 ) -> Result<bool, RepairFault>
     requires asked { IsTrue repair.now.parity }
-    requires can { CanRun (job repair.now) (world (D.state data_dev.old) (H.state hash_dev.old) [] []) }
+    requires can { CanRun (job repair.now) image.old }
     requires place { IsPlace repair.now.shape place.height place.index }
     requires way { IsWay (job repair.now).tree place.index place.height path.now }
-    requires good { digest repair.now.salt bytes.now ≡ digest_on path.now place.index place.height }
+    requires good { AreGoodAt repair.now path.now place bytes.now }
     requires bytes { length bytes.now ≡ size_at repair.now.shape place.height }
     requires size { length block.old ≡ size_at repair.now.shape place.height }
-    ensures { (cs es : List Device) → HasRun (job repair.now) (world (D.state data_dev.old) (H.state hash_dev.old) cs es) (world (D.state data_dev.new) (H.state hash_dev.new) cs es) (W.contents writer.old.inner) (W.contents writer.new.inner) (is_ok result) }
+    ensures run { Ran W.contents (job repair.now) image.old image.new writer.old writer.new result }
+    ensures placed { IfOk result (IsPlaced (job repair.now) place.height place.index bytes.now image.old image.new) }
 {
-    let back = put_block(path, repair, place, data_dev, hash_dev, bytes, block)?;
+    let back = put_block(path, repair, place, image, bytes, block)?;
     if !back {
         return Ok(false);
     }
@@ -285,33 +291,34 @@ fn put_restored<D: BlockDev, H: BlockDev, W: Write>(
 }
 
 // Puts the bytes of a block where it stands, if it isn't good there.
-fn put_block<D: BlockDev, H: BlockDev>(
+fn put_block<D: BlockDev, H: BlockDev, C: BlockDev>(
     path: &TreePath,
     repair: &Repair,
     place: Place,
-    data_dev: &mut D,
-    hash_dev: &mut H,
+    image: &mut DamagedImage<D, H, C>,
     bytes: &[u8],
     block: &mut [u8],
 ) -> Result<bool, DeviceFault>
     requires asked { IsTrue repair.now.parity }
-    requires can { CanRun (job repair.now) (world (D.state data_dev.old) (H.state hash_dev.old) [] []) }
+    requires can { CanRun (job repair.now) image.old }
     requires place { IsPlace repair.now.shape place.height place.index }
     requires way { IsWay (job repair.now).tree place.index place.height path.now }
-    requires good { digest repair.now.salt bytes.now ≡ digest_on path.now place.index place.height }
+    requires good { AreGoodAt repair.now path.now place bytes.now }
     requires bytes { length bytes.now ≡ size_at repair.now.shape place.height }
     requires size { length block.old ≡ size_at repair.now.shape place.height }
-    ensures ok { (cs es : List Device) → IfOk result (IsPlaced (job repair.now) place.height place.index bytes.now (world (D.state data_dev.old) (H.state hash_dev.old) cs es) (world (D.state data_dev.new) (H.state hash_dev.new) cs es)) }
-    ensures err { (cs es : List Device) → OnErr result (FailsToPlace (job repair.now) place.height place.index bytes.now (world (D.state data_dev.old) (H.state hash_dev.old) cs es) (world (D.state data_dev.new) (H.state hash_dev.new) cs es)) }
+    ensures ok { IfOk result (IsPlaced (job repair.now) place.height place.index bytes.now image.old image.new) }
+    ensures err { OnErr result (FailsToPlace (job repair.now) place.height place.index bytes.now image.old image.new) }
 {
     let Place { height, index } = place;
     let first = first_sector(repair, place);
     let digest = path.digest_at(height, index);
     let salt = &repair.salt;
     if height == 0 {
-        return replace(data_dev, first, salt, &digest, bytes, block, repair.write);
+        let device = &mut image.data;
+        return replace(device, first, salt, &digest, bytes, block, repair.write);
     }
-    replace(hash_dev, first, salt, &digest, bytes, block, repair.write)
+    let device = &mut image.hash;
+    replace(device, first, salt, &digest, bytes, block, repair.write)
 }
 
 // The first sector of a block on its device.
@@ -344,8 +351,8 @@ fn replace<B: BlockDev>(
     requires size { length block.old ≡ length bytes.now }
     requires good { digest salt.now bytes.now ≡ expected.now }
     requires allowed { IsTrue write → IsTrue (B.state device.old).may_write }
-    ensures ok { IfOk result (IsPutOr (B.state device.old) first (wanted salt.now expected.now (length bytes.now / 512)) write bytes.now (B.state device.new)) }
-    ensures err { OnErr result (IsReplaced (B.state device.old) first (wanted salt.now expected.now (length bytes.now / 512)) write bytes.now false (B.state device.new)) }
+    ensures ok { IfOk result (IsPutOr (B.state device.old) first (due salt.now expected.now bytes.now) write bytes.now (B.state device.new)) }
+    ensures err { OnErr result (IsReplaced (B.state device.old) first (due salt.now expected.now bytes.now) write bytes.now false (B.state device.new)) }
 {
     if is_there(device, first, salt, expected, block) {
         return Ok(false);

@@ -4,14 +4,16 @@ ghost use Rattle.tree_shape.specs.Shape.{levels};
 ghost use Rattle.tree_repair.specs.Remaking.{count_at};
 ghost use Rattle.tree_repair.specs.Runs.{size_at};
 
+use std::alloc::Global;
 use tree_shape::{Digest, Salt, Shape};
 
-/// The most bytes that a block has.
-pub(crate) const MOST_BYTES: usize = 4096;
+/// How many bytes a visit works in: room for a block and one of each height beneath it.
+pub(crate) const ROOM: usize = 65536;
 
-/// A tree, the sector at which hash blocks begin on a copy, whether anything may be written, and whether there is parity.
+/// Where memory comes from, a tree, the sector at which hash blocks begin on a copy, whether anything may be written, and whether there is parity.
 #[derive(Drop)]
 pub(crate) struct Repair {
+    pub(crate) alloc: Global,
     pub(crate) shape: Shape,
     pub(crate) salt: Salt,
     pub(crate) root: Digest,

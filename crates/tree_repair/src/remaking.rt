@@ -3,14 +3,17 @@ ghost use Rattle.std.specs.Prelude.{◌≡◌, ◌≤◌, ◌<◌, ◌+◌, ◌-
 ghost use Rattle.std.specs.Str.{bytes_eq};
 ghost use Rattle.tree_shape.specs.Digests.{digest};
 ghost use Rattle.tree_shape.specs.Shape.{IsShape, level_blocks, levels, per_block, position};
-ghost use Rattle.verity_format.specs.Blocks.{AreOnlyRead, IsOnlyRead, block_at};
+ghost use Rattle.verity_format.specs.Blocks.{IsOnlyRead};
 ghost use Rattle.verity_format.specs.Image.{data_sectors, tree_sectors};
 ghost use Rattle.tree_path.specs.Path.{digest_on};
 ghost use Rattle.tree_survey.specs.Surveys.{IsWay};
+ghost use Rattle.tree_repair.specs.Grounds.{IsMadeIn, IsNowhereIn, IsOverIn, IsUnlikeIn, made_in, stands_in};
 ghost use Rattle.tree_repair.specs.Jobs.{job};
-ghost use Rattle.tree_repair.specs.Remaking.{HaveBlocks, IsMadeBeneath, IsNowhereBeneath, IsOver, IsSure, IsUnlike, count_at, ground, made, stands};
+ghost use Rattle.tree_repair.specs.Remaking.{HaveBlocks, IsBlockOf, IsSure, count_at};
 ghost use Rattle.tree_repair.specs.Runs.{size_at};
+ghost use Rattle.tree_repair.specs.Worlds.{AreBothRead};
 
+use crate::image::DamagedImage;
 use crate::place::{Repair, block_size, count_at};
 use block_device::BlockDev;
 use tree_path::TreePath;
@@ -20,26 +23,25 @@ use tree_shape::{Digest, Shape};
 /// it, else from those of the next one, down to the data. Tells whether one that was made has the digest to which the path
 /// leads; it is in `block` then. Where a block of a height can't be read, none is made from that height. `memory` has 4,096
 /// bytes for each height beneath.
-pub(crate) fn remake<D: BlockDev, H: BlockDev>(
+pub(crate) fn remake<D: BlockDev, H: BlockDev, C: BlockDev>(
     path: &TreePath,
     repair: &Repair,
     level: u32,
     index: u64,
-    data_dev: &mut D,
-    hash_dev: &mut H,
+    image: &mut DamagedImage<D, H, C>,
     block: &mut [u8],
     memory: &mut [u8],
 ) -> bool
-    requires have { HaveBlocks repair.now.shape (D.state data_dev.old) (H.state hash_dev.old) }
+    requires have { HaveBlocks repair.now.shape image.old.data_dev image.old.hash_dev }
     requires inside { index < repair.now.shape.blocks }
     requires level { level < levels repair.now.shape }
     requires way { IsWay (job repair.now).tree index (level + 1) path.now }
     requires size { length block.old ≡ repair.now.shape.hash_block }
     requires room { 4096 * (level + 1) ≤ length memory.old }
-    ensures read { AreOnlyRead (D.state data_dev.old) (H.state hash_dev.old) (D.state data_dev.new) (H.state hash_dev.new) }
+    ensures read { AreBothRead image.old image.new }
     ensures good { IsTrue result → digest repair.now.salt block.new ≡ digest_on path.now index (level + 1) }
-    ensures made { IsTrue result → IsMadeBeneath repair.now.shape repair.now.salt (D.state data_dev.old) (H.state hash_dev.old) level index block.new }
-    ensures none { result ≡ false → IsNowhereBeneath repair.now.shape repair.now.salt (D.state data_dev.old) (H.state hash_dev.old) level index (digest_on path.now index (level + 1)) }
+    ensures made { IsTrue result → IsMadeIn repair.now image.old level index block.new }
+    ensures none { result ≡ false → IsNowhereIn repair.now image.old level index (digest_on path.now index (level + 1)) }
 {
     let number = repair.shape.block_on_path(level, index);
     let digest = path.digest_at(level + 1, index);
@@ -47,40 +49,46 @@ pub(crate) fn remake<D: BlockDev, H: BlockDev>(
     'heights: while from > 0 {
         from -= 1;
         let steps = level + 1 - from;
-        if is_made(
-            repair, from, steps, number, &digest, data_dev, hash_dev, block, memory,
-        ) {
+        let making = Making {
+            from,
+            steps,
+            number,
+        };
+        if is_made(repair, making, &digest, image, block, memory) {
             return true;
         }
     }
     false
 }
 
-// Makes a block from those of that height, so many steps beneath it, and tells whether it has the digest.
-fn is_made<D: BlockDev, H: BlockDev>(
-    repair: &Repair,
+/// A block that is made: its number, and how many steps it stands above the height of those that it is made of.
+#[derive(Clone, Copy)]
+struct Making {
     from: u32,
     steps: u32,
     number: u64,
+}
+
+// Makes a block, and tells whether it has the digest.
+fn is_made<D: BlockDev, H: BlockDev, C: BlockDev>(
+    repair: &Repair,
+    making: Making,
     expected: &Digest,
-    data_dev: &mut D,
-    hash_dev: &mut H,
+    image: &mut DamagedImage<D, H, C>,
     block: &mut [u8],
     memory: &mut [u8],
 ) -> bool
-    requires have { HaveBlocks repair.now.shape (D.state data_dev.old) (H.state hash_dev.old) }
-    requires high { from + steps ≤ levels repair.now.shape }
-    requires inside { number < count_at repair.now.shape (from + steps) }
-    requires size { length block.old ≡ size_at repair.now.shape (from + steps) }
-    requires room { 4096 * steps ≤ length memory.old }
-    ensures read { AreOnlyRead (D.state data_dev.old) (H.state hash_dev.old) (D.state data_dev.new) (H.state hash_dev.new) }
+    requires have { HaveBlocks repair.now.shape image.old.data_dev image.old.hash_dev }
+    requires high { making.from + making.steps ≤ levels repair.now.shape }
+    requires inside { making.number < count_at repair.now.shape (making.from + making.steps) }
+    requires size { length block.old ≡ size_at repair.now.shape (making.from + making.steps) }
+    requires room { 4096 * making.steps ≤ length memory.old }
+    ensures read { AreBothRead image.old image.new }
     ensures good { IsTrue result → digest repair.now.salt block.new ≡ expected.now }
-    ensures stand { IsTrue result → IsOver (D.state data_dev.old) (H.state hash_dev.old) (made (ground repair.now.shape repair.now.salt (D.state data_dev.old) (H.state hash_dev.old) from) steps number) block.new }
-    ensures none { result ≡ false → IsUnlike repair.now.salt (D.state data_dev.old) (H.state hash_dev.old) expected.now (made (ground repair.now.shape repair.now.salt (D.state data_dev.old) (H.state hash_dev.old) from) steps number) }
+    ensures stand { IsTrue result → IsOverIn image.old (made_in repair.now image.old making) block.new }
+    ensures none { result ≡ false → IsUnlikeIn repair.now image.old expected.now (made_in repair.now image.old making) }
 {
-    if !make(
-        repair, from, steps, number, data_dev, hash_dev, block, memory,
-    ) {
+    if !make(repair, making, image, block, memory) {
         return false;
     }
     is_same(&repair.salt.digest(block), expected)
@@ -92,28 +100,30 @@ fn is_same(a: &Digest, b: &Digest) -> bool
     a == b
 }
 
-// Makes a block from those of that height, so many steps beneath it, and tells whether these could be read.
-fn make<D: BlockDev, H: BlockDev>(
+// Makes a block, and tells whether those that it is made of could be read.
+fn make<D: BlockDev, H: BlockDev, C: BlockDev>(
     repair: &Repair,
-    from: u32,
-    steps: u32,
-    number: u64,
-    data_dev: &mut D,
-    hash_dev: &mut H,
+    making: Making,
+    image: &mut DamagedImage<D, H, C>,
     block: &mut [u8],
     memory: &mut [u8],
 ) -> bool
-    requires have { HaveBlocks repair.now.shape (D.state data_dev.old) (H.state hash_dev.old) }
-    requires high { from + steps ≤ levels repair.now.shape }
-    requires inside { number < count_at repair.now.shape (from + steps) }
-    requires size { length block.old ≡ size_at repair.now.shape (from + steps) }
-    requires room { 4096 * steps ≤ length memory.old }
-    ensures read { AreOnlyRead (D.state data_dev.old) (H.state hash_dev.old) (D.state data_dev.new) (H.state hash_dev.new) }
-    ensures made { IsTrue result → IsOver (D.state data_dev.old) (H.state hash_dev.old) (made (ground repair.now.shape repair.now.salt (D.state data_dev.old) (H.state hash_dev.old) from) steps number) block.new }
-    ensures sure { IsSure (D.state data_dev.old) (H.state hash_dev.old) result }
+    requires have { HaveBlocks repair.now.shape image.old.data_dev image.old.hash_dev }
+    requires high { making.from + making.steps ≤ levels repair.now.shape }
+    requires inside { making.number < count_at repair.now.shape (making.from + making.steps) }
+    requires size { length block.old ≡ size_at repair.now.shape (making.from + making.steps) }
+    requires room { 4096 * making.steps ≤ length memory.old }
+    ensures read { AreBothRead image.old image.new }
+    ensures made { IsTrue result → IsOverIn image.old (made_in repair.now image.old making) block.new }
+    ensures sure { IsSure image.old.data_dev image.old.hash_dev result }
 {
+    let Making {
+        from,
+        steps,
+        number,
+    } = making;
     if steps == 0 {
-        return read_at(&repair.shape, from, number, data_dev, hash_dev, block);
+        return read_at(&repair.shape, from, number, image, block);
     }
     let height = from + (steps - 1);
     let beneath = children_of(&repair.shape, height, number);
@@ -121,16 +131,12 @@ fn make<D: BlockDev, H: BlockDev>(
     block.fill(0);
     'each: for slot in 0..beneath.count {
         let next = beneath.first + slot;
-        if !make(
-            repair,
+        let below = Making {
             from,
-            steps - 1,
-            next,
-            data_dev,
-            hash_dev,
-            child,
-            rest,
-        ) {
+            steps: steps - 1,
+            number: next,
+        };
+        if !make(repair, below, image, child, rest) {
             return false;
         }
         put_digest(&repair.salt.digest(child), slot, block);
@@ -169,26 +175,25 @@ fn put_digest(digest: &Digest, slot: u64, block: &mut [u8])
 }
 
 // Reads a block of a height as it stands, and tells whether it could be read.
-fn read_at<D: BlockDev, H: BlockDev>(
+fn read_at<D: BlockDev, H: BlockDev, C: BlockDev>(
     shape: &Shape,
     height: u32,
     number: u64,
-    data_dev: &mut D,
-    hash_dev: &mut H,
+    image: &mut DamagedImage<D, H, C>,
     block: &mut [u8],
 ) -> bool
-    requires have { HaveBlocks shape.now (D.state data_dev.old) (H.state hash_dev.old) }
+    requires have { HaveBlocks shape.now image.old.data_dev image.old.hash_dev }
     requires high { height ≤ levels shape.now }
     requires inside { number < count_at shape.now height }
     requires size { length block.old ≡ size_at shape.now height }
-    ensures read { AreOnlyRead (D.state data_dev.old) (H.state hash_dev.old) (D.state data_dev.new) (H.state hash_dev.new) }
-    ensures stands { IsTrue result → IsOver (D.state data_dev.old) (H.state hash_dev.old) (stands shape.now (D.state data_dev.old).image (H.state hash_dev.old).image height number) block.new }
-    ensures sure { IsSure (D.state data_dev.old) (H.state hash_dev.old) result }
+    ensures read { AreBothRead image.old image.new }
+    ensures stands { IsTrue result → IsOverIn image.old (stands_in shape.now image.old height number) block.new }
+    ensures sure { IsSure image.old.data_dev image.old.hash_dev result }
 {
     if height == 0 {
-        return read_data(shape, number, data_dev, block);
+        return read_data(shape, number, &mut image.data, block);
     }
-    read_hash(shape, height - 1, number, hash_dev, block)
+    read_hash(shape, height - 1, number, &mut image.hash, block)
 }
 
 #[tactic(auto, unfolding(verity_format::specs::Blocks::block_at))]
@@ -198,7 +203,7 @@ fn read_data<D: BlockDev>(shape: &Shape, number: u64, data_dev: &mut D, block: &
     requires inside { number < shape.now.blocks }
     requires size { length block.old ≡ shape.now.data_block }
     ensures read { IsOnlyRead (D.state data_dev.old) (D.state data_dev.new) }
-    ensures stands { IsTrue result → IsTrue (D.state data_dev.old).steady → block.new ≡ block_at (D.state data_dev.old).image shape.now.data_block number }
+    ensures stands { IsTrue result → IsBlockOf (D.state data_dev.old) shape.now.data_block number block.new }
     ensures sure { IsTrue (D.state data_dev.old).never_fails → IsTrue result }
 {
     let size = block.len();
@@ -220,7 +225,7 @@ fn read_hash<H: BlockDev>(
     requires inside { number < level_blocks shape.now level }
     requires size { length block.old ≡ shape.now.hash_block }
     ensures read { IsOnlyRead (H.state hash_dev.old) (H.state hash_dev.new) }
-    ensures stands { IsTrue result → IsTrue (H.state hash_dev.old).steady → block.new ≡ block_at (H.state hash_dev.old).image shape.now.hash_block (position shape.now level number) }
+    ensures stands { IsTrue result → IsBlockOf (H.state hash_dev.old) shape.now.hash_block (position shape.now level number) block.new }
     ensures sure { IsTrue (H.state hash_dev.old).never_fails → IsTrue result }
 {
     let size = block.len();

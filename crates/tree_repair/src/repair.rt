@@ -1,17 +1,21 @@
 //! An image, repaired from the root down.
-ghost use Rattle.std.specs.Prelude.{◌≡◌, ◌≤◌, ◌^◌, IfErr, IfOk, OnOk, is_ok, map};
+ghost use Rattle.std.specs.Prelude.{◌≡◌, ◌≤◌, ◌^◌, IfErr, IfOk, OnOk};
 ghost use Rattle.tree_shape.specs.Shape.{IsShape};
 ghost use Rattle.verity_format.specs.Blocks.{IsOnlyRead};
 ghost use Rattle.verity_format.specs.Superblock.{shape_of};
 ghost use Rattle.tree_survey.specs.Causes.{AreImages};
+ghost use Rattle.tree_repair.specs.Coverage.{IsFromUp};
 ghost use Rattle.tree_repair.specs.Jobs.{job};
+ghost use Rattle.tree_repair.specs.Passes.{Notes};
 ghost use Rattle.tree_repair.specs.Repairs.{IsAllowed, IsImageCause, IsRepair, IsUnrepaired, job_of};
-ghost use Rattle.tree_repair.specs.Runs.{CanRun, HasRun, world};
+ghost use Rattle.tree_repair.specs.Runs.{CanRun};
+ghost use Rattle.tree_repair.specs.Worlds.{IsWorldRead};
 
 use crate::bad::BadBlocks;
 use crate::fault::RepairFault;
-use crate::levels::repair_height;
-use crate::place::Repair;
+use crate::image::DamagedImage;
+use crate::levels::{repair_height, zeros};
+use crate::place::{ROOM, Repair};
 use block_device::BlockDev;
 use counted_io::Counted;
 use std::alloc::Global;
@@ -32,41 +36,30 @@ pub struct Plan {
 /// if anything may be written. A line is printed for each such block.
 pub fn repair_image<D: BlockDev, H: BlockDev, C: BlockDev, W: Write>(
     alloc: Global,
-    data_dev: &mut D,
-    hash_dev: &mut H,
-    data_copies: &mut [C],
-    hash_copies: &mut [C],
+    image: &mut DamagedImage<D, H, C>,
     plan: Plan,
     writer: &mut Counted<W>,
 ) -> Result<(), RepairFault>
     requires first { plan.copy_first ≤ 2 ^ 55 }
-    requires allowed { IsAllowed plan.write (D.state data_dev.old) (H.state hash_dev.old) }
-    ensures ok { OnOk result (IsRepair plan (world (D.state data_dev.old) (H.state hash_dev.old) (map C.state data_copies.old) (map C.state hash_copies.old)) (world (D.state data_dev.new) (H.state hash_dev.new) (map C.state data_copies.new) (map C.state hash_copies.new)) (W.contents writer.old.inner) (W.contents writer.new.inner)) }
-    ensures err { IfErr result (IsUnrepaired plan (world (D.state data_dev.old) (H.state hash_dev.old) (map C.state data_copies.old) (map C.state hash_copies.old)) (world (D.state data_dev.new) (H.state hash_dev.new) (map C.state data_copies.new) (map C.state hash_copies.new)) (W.contents writer.old.inner) (W.contents writer.new.inner)) }
+    requires allowed { IsAllowed plan.write image.old.data_dev image.old.hash_dev }
+    ensures ok { OnOk result (IsRepair W.contents plan image.old image.new writer.old writer.new) }
+    ensures err { IfErr result (IsUnrepaired W.contents plan image.old image.new writer.old writer.new) }
 {
-    let superblock = superblock_of(data_dev, hash_dev)?;
-    let repair = repair_of(&superblock, &plan, false);
+    let superblock = superblock_of(image)?;
+    let repair = repair_of(alloc, &superblock, &plan, false);
     let mut bad = BadBlocks::new(alloc, false);
-    repair_heights(
-        alloc,
-        &repair,
-        data_dev,
-        hash_dev,
-        data_copies,
-        hash_copies,
-        &mut bad,
-        writer,
-    )
+    repair_heights(&repair, image, &mut bad, writer)
 }
 
 /// What is repaired by a plan, with parity or without.
-pub(crate) fn repair_of(superblock: &Superblock, plan: &Plan, parity: bool) -> Repair
+pub(crate) fn repair_of(alloc: Global, superblock: &Superblock, plan: &Plan, parity: bool) -> Repair
     ensures job { job result ≡ job_of superblock.now plan.now parity }
     ensures valid { IsShape (shape_of superblock.now) }
 {
     let shape = superblock.shape();
     let _blocks = shape.blocks();
     Repair {
+        alloc,
         shape,
         salt: superblock.salt(),
         root: plan.root,
@@ -77,7 +70,18 @@ pub(crate) fn repair_of(superblock: &Superblock, plan: &Plan, parity: bool) -> R
 }
 
 /// The superblock of the hash device, where data and tree lie on the devices.
-pub(crate) fn superblock_of<D: BlockDev, H: BlockDev>(
+pub(crate) fn superblock_of<D: BlockDev, H: BlockDev, C: BlockDev>(
+    image: &mut DamagedImage<D, H, C>,
+) -> Result<Superblock, RepairFault>
+    ensures read { IsWorldRead image.old image.new }
+    ensures ok { IfOk result (AreImages image.old.data_dev image.old.hash_dev) }
+    ensures err { IfErr result (IsImageCause image.old.data_dev image.old.hash_dev image.new.hash_dev) }
+{
+    superblock_on(&image.data, &mut image.hash)
+}
+
+// So on two devices.
+fn superblock_on<D: BlockDev, H: BlockDev>(
     data_dev: &D,
     hash_dev: &mut H,
 ) -> Result<Superblock, RepairFault>
@@ -98,33 +102,21 @@ pub(crate) fn superblock_of<D: BlockDev, H: BlockDev>(
 
 /// Goes over all heights, from the top one down to the data.
 pub(crate) fn repair_heights<D: BlockDev, H: BlockDev, C: BlockDev, W: Write>(
-    alloc: Global,
     repair: &Repair,
-    data_dev: &mut D,
-    hash_dev: &mut H,
-    data_copies: &mut [C],
-    hash_copies: &mut [C],
+    image: &mut DamagedImage<D, H, C>,
     bad: &mut BadBlocks,
     writer: &mut Counted<W>,
 ) -> Result<(), RepairFault>
-    requires { CanRun (job repair.now) (world (D.state data_dev.old) (H.state hash_dev.old) (map C.state data_copies.old) (map C.state hash_copies.old)) }
-    ensures { HasRun (job repair.now) (world (D.state data_dev.old) (H.state hash_dev.old) (map C.state data_copies.old) (map C.state hash_copies.old)) (world (D.state data_dev.new) (H.state hash_dev.new) (map C.state data_copies.new) (map C.state hash_copies.new)) (W.contents writer.old.inner) (W.contents writer.new.inner) (is_ok result) }
+    requires { CanRun (job repair.now) image.old }
+    ensures { Notes W.contents (job repair.now) (IsFromUp repair.now.shape 0) image.old image.new bad.old bad.new writer.old writer.new result }
 {
+    let mut room = zeros(repair.alloc, ROOM)?;
+    let memory = room.as_mut_slice();
     let levels = repair.shape.levels();
     let mut height = levels + 1;
     'heights: while height > 0 {
         height -= 1;
-        repair_height(
-            alloc,
-            repair,
-            height,
-            data_dev,
-            hash_dev,
-            data_copies,
-            hash_copies,
-            bad,
-            writer,
-        )?;
+        repair_height(repair, height, image, memory, bad, writer)?;
     }
     Ok(())
 }

@@ -1,8 +1,8 @@
 //! A line for each block that was mended.
 ghost use Rattle.std.specs.Prelude.{◌≡◌, ◌<◌};
 ghost use Rattle.counted_io.specs.Counted.{Writes};
-ghost use Rattle.tree_repair.specs.Jobs.{job};
-ghost use Rattle.tree_repair.specs.Runs.{copy_line, data_line, data_parity_line, hash_line, hash_parity_line, made_line, mended_line, parity_line, remade_line, verb};
+ghost use Rattle.tree_repair.specs.Jobs.{copy_line_at, job, line_at, parity_line_at};
+ghost use Rattle.tree_repair.specs.Runs.{data_line, data_parity_line, hash_line, hash_parity_line, made_line, remade_line, verb};
 
 use crate::mending::Mended;
 use crate::place::{Place, Repair};
@@ -17,7 +17,7 @@ pub(crate) fn say_mended<W: Write>(
     mended: Mended,
 ) -> Result<(), WriteFault>
     requires { place.index < repair.now.shape.blocks }
-    ensures { Writes W.contents writer.old writer.new (mended_line (job repair.now) place.height place.index mended) result }
+    ensures { Writes W.contents writer.old writer.new (line_at repair.now place mended) result }
 {
     match mended {
         Mended::Good => writer.put(b""),
@@ -35,7 +35,7 @@ fn say_copy<W: Write>(
     number: usize,
 ) -> Result<(), WriteFault>
     requires { place.index < repair.now.shape.blocks }
-    ensures { Writes W.contents writer.old writer.new (copy_line (job repair.now) place.height place.index number) result }
+    ensures { Writes W.contents writer.old writer.new (copy_line_at repair.now place number) result }
 {
     let Place { height, index } = place;
     if height == 0 {
@@ -83,7 +83,7 @@ fn say_parity<W: Write>(
     place: Place,
 ) -> Result<(), WriteFault>
     requires { place.index < repair.now.shape.blocks }
-    ensures { Writes W.contents writer.old writer.new (parity_line (job repair.now) place.height place.index) result }
+    ensures { Writes W.contents writer.old writer.new (parity_line_at repair.now place) result }
 {
     let Place { height, index } = place;
     if height == 0 {

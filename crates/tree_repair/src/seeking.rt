@@ -3,7 +3,7 @@ ghost use Rattle.std.specs.Prelude.{◌≡◌, ◌/◌, ◌%◌, ◌+◌, ◌<�
 ghost use Rattle.std.specs.Str.{bytes_eq};
 ghost use Rattle.block_device.specs.Device.{IsInside};
 ghost use Rattle.verity_format.specs.Blocks.{IsOnlyRead};
-ghost use Rattle.tree_repair.specs.Sources.{AreEachRead, AreIn, AreNotIn, IsBad, IsThere, IsWithout, wanted};
+ghost use Rattle.tree_repair.specs.Sources.{AreEachRead, AreIn, AreInNone, AreNotIn, IsBad, IsThere, IsWithout, due};
 
 use block_device::BlockDev;
 use tree_shape::{Digest, Salt};
@@ -18,9 +18,9 @@ pub(crate) fn is_there<B: BlockDev>(
 ) -> bool
     requires { IsInside (B.state device.old) first (length block.old) }
     ensures read { IsOnlyRead (B.state device.old) (B.state device.new) }
-    ensures good { IsTrue result → IsThere (B.state device.old) first (wanted salt.now digest.now (length block.old / 512)) block.new }
-    ensures bad { result ≡ false → IsBad (B.state device.old) first (wanted salt.now digest.now (length block.old / 512)) (B.state device.new) }
-    ensures sure { result ≡ false → IsWithout (B.state device.old) first (wanted salt.now digest.now (length block.old / 512)) }
+    ensures good { IsTrue result → IsThere (B.state device.old) first (due salt.now digest.now block.old) block.new }
+    ensures bad { result ≡ false → IsBad (B.state device.old) first (due salt.now digest.now block.old) (B.state device.new) }
+    ensures sure { result ≡ false → IsWithout (B.state device.old) first (due salt.now digest.now block.old) }
 {
     match device.read(first, block) {
         Ok(()) => is_same(&salt.digest(block), digest),
@@ -46,8 +46,8 @@ fn has<B: BlockDev>(
     requires whole { length block.old % 512 ≡ 0 }
     requires small { first + length block.old / 512 < 2 ^ 64 }
     ensures read { IsOnlyRead (B.state device.old) (B.state device.new) }
-    ensures good { IsTrue result → IsThere (B.state device.old) first (wanted salt.now digest.now (length block.old / 512)) block.new }
-    ensures sure { result ≡ false → IsWithout (B.state device.old) first (wanted salt.now digest.now (length block.old / 512)) }
+    ensures good { IsTrue result → IsThere (B.state device.old) first (due salt.now digest.now block.old) block.new }
+    ensures sure { result ≡ false → IsWithout (B.state device.old) first (due salt.now digest.now block.old) }
 {
     let sectors = (block.len() / 512) as u64;
     if device.sectors() < first + sectors {
@@ -58,7 +58,25 @@ fn has<B: BlockDev>(
 
 /// The number of the first copy, counted from 1, in which the sectors from that one on have the digest; they are in `block`
 /// then.
-pub(crate) fn seek_copies<C: BlockDev>(
+pub(crate) fn seek<C: BlockDev>(
+    copies: &mut Vec<C>,
+    first: u64,
+    salt: &Salt,
+    digest: &Digest,
+    block: &mut [u8],
+) -> Option<usize>
+    requires some { 0 < length block.old }
+    requires whole { length block.old % 512 ≡ 0 }
+    requires small { first + length block.old / 512 < 2 ^ 64 }
+    ensures read { AreEachRead (map C.state copies.old.items) (map C.state copies.new.items) }
+    ensures found { IfSome result (λ n. AreIn (map C.state copies.old.items) first (due salt.now digest.now block.old) n block.new) }
+    ensures none { IfNone result (AreInNone (map C.state copies.old.items) first (due salt.now digest.now block.old)) }
+{
+    seek_copies(copies.as_mut_slice(), first, salt, digest, block)
+}
+
+// So in a slice of them.
+fn seek_copies<C: BlockDev>(
     copies: &mut [C],
     first: u64,
     salt: &Salt,
@@ -69,8 +87,8 @@ pub(crate) fn seek_copies<C: BlockDev>(
     requires whole { length block.old % 512 ≡ 0 }
     requires small { first + length block.old / 512 < 2 ^ 64 }
     ensures read { AreEachRead (map C.state copies.old) (map C.state copies.new) }
-    ensures found { IfSome result (λ n. AreIn (map C.state copies.old) first (wanted salt.now digest.now (length block.old / 512)) n block.new) }
-    ensures none { IfNone result (AreNotIn (map C.state copies.old) first (wanted salt.now digest.now (length block.old / 512)) (length copies.old)) }
+    ensures found { IfSome result (λ n. AreIn (map C.state copies.old) first (due salt.now digest.now block.old) n block.new) }
+    ensures none { IfNone result (AreNotIn (map C.state copies.old) first (due salt.now digest.now block.old) (length copies.old)) }
 {
     'copies: for k in 0..copies.len() {
         if has(&mut copies[k], first, salt, digest, block) {

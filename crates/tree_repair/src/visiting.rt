@@ -1,73 +1,61 @@
 //! A block of an image, looked at by the digest to which a path leads.
-ghost use Rattle.std.specs.Prelude.{◌≡◌, ◌≤◌, ◌<◌, ◌+◌, ◌*◌, ◌/◌, ◌^◌, IfOk, OnErr, length, map};
-ghost use Rattle.tree_shape.specs.Shape.{IsShape, ancestor, levels, position};
+ghost use Rattle.std.specs.Prelude.{◌≡◌, ◌≤◌, ◌<◌, ◌+◌, ◌*◌, ◌/◌, ◌^◌, IfOk, IsTrue, OnErr, is_ok, length};
+ghost use Rattle.block_device.specs.Device.{IsInside};
+ghost use Rattle.tree_shape.specs.Shape.{IsShape, levels};
 ghost use Rattle.verity_format.specs.Image.{tree_sectors};
 ghost use Rattle.tree_path.specs.Path.{digest_on};
 ghost use Rattle.tree_survey.specs.Surveys.{IsWay};
 ghost use Rattle.tree_repair.specs.Jobs.{job};
+ghost use Rattle.tree_repair.specs.Looks.{tree_look};
 ghost use Rattle.tree_repair.specs.Mending.{IsNotRemade, IsUnmended};
-ghost use Rattle.tree_repair.specs.Runs.{CanRun, size_at, world};
-ghost use Rattle.tree_repair.specs.Visits.{CanVisitData, CanVisitHash, FailsToMake, IsHashLooked, IsHashUnmended, IsLooked, IsMade, data_look};
+ghost use Rattle.tree_repair.specs.Runs.{CanRun, size_at};
+ghost use Rattle.tree_repair.specs.Visits.{FailsToMake, IsHashLooked, IsHashUnmended, IsLooked, IsMade, IsTreePut, KeepsData, hash_sector};
 
+use crate::image::DamagedImage;
 use crate::mending::{Mended, Sought, mend, put};
-use crate::place::{Place, Repair};
+use crate::place::{Place, Repair, block_size};
 use crate::remaking::remake;
 use block_device::{BlockDev, DeviceFault};
 use tree_path::TreePath;
 
-/// Looks at a block, of whose size `block` is; `memory` has 4,096 bytes for each height beneath it.
+/// Looks at a block; `memory` has 64 KiB.
 pub(crate) fn visit<D: BlockDev, H: BlockDev, C: BlockDev>(
     path: &TreePath,
     repair: &Repair,
     place: Place,
-    data_dev: &mut D,
-    hash_dev: &mut H,
-    data_copies: &mut [C],
-    hash_copies: &mut [C],
-    block: &mut [u8],
+    image: &mut DamagedImage<D, H, C>,
     memory: &mut [u8],
 ) -> Result<Mended, DeviceFault>
-    requires can { CanRun (job repair.now) (world (D.state data_dev.old) (H.state hash_dev.old) (map C.state data_copies.old) (map C.state hash_copies.old)) }
+    requires can { CanRun (job repair.now) image.old }
     requires inside { place.index < repair.now.shape.blocks }
     requires way { IsWay (job repair.now).tree place.index place.height path.now }
-    requires size { length block.old ≡ size_at repair.now.shape place.height }
-    requires room { 4096 * place.height ≤ length memory.old }
-    ensures ok { IfOk result (IsMade (job repair.now) place.height place.index (world (D.state data_dev.old) (H.state hash_dev.old) (map C.state data_copies.old) (map C.state hash_copies.old)) (world (D.state data_dev.new) (H.state hash_dev.new) (map C.state data_copies.new) (map C.state hash_copies.new))) }
-    ensures err { OnErr result (FailsToMake (job repair.now) place.height place.index (world (D.state data_dev.old) (H.state hash_dev.old) (map C.state data_copies.old) (map C.state hash_copies.old)) (world (D.state data_dev.new) (H.state hash_dev.new) (map C.state data_copies.new) (map C.state hash_copies.new))) }
+    requires room { 65536 ≤ length memory.old }
+    ensures ok { IfOk result (IsMade (job repair.now) place.height place.index image.old image.new) }
+    ensures err { OnErr result (FailsToMake (job repair.now) place.height place.index image.old image.new) }
 {
     let Place { height, index } = place;
+    let size = block_size(&repair.shape, height);
+    let (block, beneath) = memory.split_at_mut(size);
     if height == 0 {
-        return visit_data(path, repair, index, data_dev, data_copies, block);
+        return visit_data(path, repair, index, image, block);
     }
-    visit_hash(
-        path,
-        repair,
-        height - 1,
-        index,
-        data_dev,
-        hash_dev,
-        hash_copies,
-        block,
-        memory,
-    )
+    visit_hash(path, repair, height - 1, index, image, block, beneath)
 }
 
 // A data block.
-fn visit_data<D: BlockDev, C: BlockDev>(
+fn visit_data<D: BlockDev, H: BlockDev, C: BlockDev>(
     path: &TreePath,
     repair: &Repair,
     index: u64,
-    data_dev: &mut D,
-    copies: &mut [C],
+    image: &mut DamagedImage<D, H, C>,
     block: &mut [u8],
 ) -> Result<Mended, DeviceFault>
-    requires can { CanVisitData (job repair.now) (D.state data_dev.old) }
+    requires can { CanRun (job repair.now) image.old }
     requires inside { index < repair.now.shape.blocks }
     requires way { IsWay (job repair.now).tree index 0 path.now }
-    requires size { length block.old ≡ repair.now.shape.data_block }
-    ensures plain { IfOk result IsNotRemade }
-    ensures ok { IfOk result (IsLooked (data_look (job repair.now) path.now index (D.state data_dev.old) (D.state data_dev.new) (map C.state copies.old) (map C.state copies.new))) }
-    ensures err { OnErr result (IsUnmended (data_look (job repair.now) path.now index (D.state data_dev.old) (D.state data_dev.new) (map C.state copies.old) (map C.state copies.new))) }
+    requires size { length block.old ≡ size_at repair.now.shape 0 }
+    ensures ok { IfOk result (IsMade (job repair.now) 0 index image.old image.new) }
+    ensures err { OnErr result (FailsToMake (job repair.now) 0 index image.old image.new) }
 {
     let size = block.len();
     let first = index * (size / 512) as u64;
@@ -77,48 +65,91 @@ fn visit_data<D: BlockDev, C: BlockDev>(
         copy_first: first,
         digest,
     };
-    mend(data_dev, copies, &sought, &repair.salt, block, repair.write)
+    let copies = &mut image.data_copies;
+    mend(
+        &mut image.data,
+        copies,
+        &sought,
+        &repair.salt,
+        block,
+        repair.write,
+    )
 }
 
-// A hash block of that level.
+// A hash block of that level; `memory` has room for a block of each height beneath it.
 fn visit_hash<D: BlockDev, H: BlockDev, C: BlockDev>(
     path: &TreePath,
     repair: &Repair,
     level: u32,
     index: u64,
-    data_dev: &mut D,
-    hash_dev: &mut H,
-    copies: &mut [C],
+    image: &mut DamagedImage<D, H, C>,
     block: &mut [u8],
     memory: &mut [u8],
 ) -> Result<Mended, DeviceFault>
-    requires can { CanVisitHash (job repair.now) (D.state data_dev.old) (H.state hash_dev.old) }
+    requires can { CanRun (job repair.now) image.old }
     requires inside { index < repair.now.shape.blocks }
     requires level { level < levels repair.now.shape }
-    requires few { level < 14 }
     requires way { IsWay (job repair.now).tree index (level + 1) path.now }
     requires size { length block.old ≡ repair.now.shape.hash_block }
     requires room { 4096 * (level + 1) ≤ length memory.old }
-    ensures ok { IfOk result (IsHashLooked (job repair.now) path.now level index (D.state data_dev.old) (D.state data_dev.new) (H.state hash_dev.old) (H.state hash_dev.new) (map C.state copies.old) (map C.state copies.new)) }
-    ensures err { OnErr result (IsHashUnmended (job repair.now) path.now level index (D.state data_dev.old) (D.state data_dev.new) (H.state hash_dev.old) (H.state hash_dev.new) (map C.state copies.old) (map C.state copies.new)) }
+    ensures ok { IfOk result (IsHashLooked (job repair.now) path.now level index image.old image.new) }
+    ensures err { OnErr result (IsHashUnmended (job repair.now) path.now level index image.old image.new) }
 {
     let size = block.len();
     let sought = hash_sought(path, repair, level, index, size);
-    match mend(hash_dev, copies, &sought, &repair.salt, block, repair.write)? {
+    match mend_hash(repair, &sought, image, block)? {
         Mended::Good => Ok(Mended::Good),
         Mended::Copy(number) => Ok(Mended::Copy(number)),
         Mended::Remade => Ok(Mended::Remade),
         Mended::Parity => Ok(Mended::Parity),
         Mended::Lost => {
-            if !remake(
-                path, repair, level, index, data_dev, hash_dev, block, memory,
-            ) {
+            if !remake(path, repair, level, index, image, block, memory) {
                 return Ok(Mended::Lost);
             }
-            put(hash_dev, sought.first, block, repair.write)?;
+            put_hash(repair, sought.first, image, block)?;
             Ok(Mended::Remade)
         }
     }
+}
+
+// Reads a hash block. Where it hasn't its digest it is sought in the copies, and written if it may be.
+fn mend_hash<D: BlockDev, H: BlockDev, C: BlockDev>(
+    repair: &Repair,
+    sought: &Sought,
+    image: &mut DamagedImage<D, H, C>,
+    block: &mut [u8],
+) -> Result<Mended, DeviceFault>
+    requires inside { IsInside image.old.hash_dev sought.now.first (length block.old) }
+    requires small { sought.now.copy_first + length block.old / 512 < 2 ^ 64 }
+    requires allowed { IsTrue repair.now.write → IsTrue image.old.hash_dev.may_write }
+    ensures ok { IfOk result (IsLooked (tree_look sought.now repair.now block.old image.old image.new)) }
+    ensures plain { IfOk result IsNotRemade }
+    ensures err { OnErr result (IsUnmended (tree_look sought.now repair.now block.old image.old image.new)) }
+    ensures kept { KeepsData image.old image.new }
+{
+    let copies = &mut image.hash_copies;
+    mend(
+        &mut image.hash,
+        copies,
+        sought,
+        &repair.salt,
+        block,
+        repair.write,
+    )
+}
+
+// Writes a hash block, if it may be written.
+fn put_hash<D: BlockDev, H: BlockDev, C: BlockDev>(
+    repair: &Repair,
+    first: u64,
+    image: &mut DamagedImage<D, H, C>,
+    block: &[u8],
+) -> Result<(), DeviceFault>
+    requires inside { IsInside image.old.hash_dev first (length block.now) }
+    requires allowed { IsTrue repair.now.write → IsTrue image.old.hash_dev.may_write }
+    ensures { IsTreePut repair.now.write first block.now (is_ok result) image.old image.new }
+{
+    put(&mut image.hash, first, block, repair.write)
 }
 
 // Where a hash block of that level is sought, and by which digest.
@@ -130,7 +161,7 @@ fn hash_sought(path: &TreePath, repair: &Repair, level: u32, index: u64, size: u
     requires way { IsWay (job repair.now).tree index (level + 1) path.now }
     requires size { size ≡ repair.now.shape.hash_block }
     requires copy { repair.now.copy_first ≤ 2 ^ 55 }
-    ensures first { result.first ≡ position repair.now.shape level (ancestor repair.now.shape (level + 1) index) * (repair.now.shape.hash_block / 512) }
+    ensures first { result.first ≡ hash_sector repair.now.shape level index }
     ensures inside { result.first + repair.now.shape.hash_block / 512 ≤ tree_sectors repair.now.shape }
     ensures copy { result.copy_first ≡ repair.now.copy_first + result.first }
     ensures digest { result.digest ≡ digest_on path.now index (level + 1) }

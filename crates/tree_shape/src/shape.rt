@@ -122,11 +122,11 @@ impl Shape {
         ensures value { result ≡ levels self.now }
         ensures few { result ≤ 14 }
     {
-        let per_block = self.per_block();
+        let bits = self.slot_bits();
         let mut rest = self.blocks() - 1;
         let mut count = 0;
         while rest > 0 {
-            rest /= per_block;
+            rest >>= bits;
             count += 1;
         }
         count
@@ -143,17 +143,37 @@ impl Shape {
         self.ancestor(level + 1, last) + 1
     }
 
-    /// The number of the block that many steps above a data block.
+    /// How many bits the number of a slot has.
+    fn slot_bits(&self) -> u32
+        ensures value { 2 ^ result ≡ per_block self.now }
+        ensures some { 4 ≤ result }
+        ensures few { result ≤ 7 }
+        ensures valid { IsShape self.now }
+    {
+        match self.hash_block() {
+            512 => 4,
+            1024 => 5,
+            2048 => 6,
+            _ => 7,
+        }
+    }
+
+    /// The number of the block that many steps above a data block. It is asked for each block that is read, so it divides by
+    /// a shift.
     fn ancestor(&self, steps: u32, index: u64) -> u64
         ensures value { result ≡ ancestor self.now steps index }
         ensures valid { IsShape self.now }
     {
-        let per_block = self.per_block();
-        let mut number = index;
-        for _ in 0..steps {
-            number /= per_block;
+        let bits = self.slot_bits();
+        if steps >= 16 {
+            return 0;
         }
-        number
+        let distance = bits * steps;
+        if distance < u64::BITS {
+            index >> distance
+        } else {
+            0
+        }
     }
 
     /// The number, within its level, of the hash block on the way to a data block.
@@ -162,7 +182,7 @@ impl Shape {
         ensures value { result ≡ ancestor self.now (level + 1) index }
         ensures inside { result < level_blocks self.now level }
     {
-        self.ancestor(level, index) / self.per_block()
+        self.ancestor(level, index) >> self.slot_bits()
     }
 
     /// The slot, in a level's hash block on the way to a data block, of the next block's digest.
@@ -192,7 +212,7 @@ impl Shape {
         ensures value { result ≡ slot self.now index }
         ensures inside { 32 * result + 32 ≤ self.now.hash_block }
     {
-        index % self.per_block()
+        index % (1 << self.slot_bits())
     }
 
     /// How many hash blocks the whole tree has.

@@ -7,7 +7,7 @@ use Rattle.request_queue.specs.AsSteps.{AreAsSteps, none, as_it_was, in_steps, i
 use Rattle.request_queue.specs.Parts.{EachPart}
 use Rattle.request_queue.specs.Requests.{RequestRecord}
 use Rattle.request_queue.specs.Runs.{Turn, Run, last, is_step}
-use Rattle.request_queue.specs.World.{World, Event, submit, step, read_bytes, load, remove_device, run, sync, Step, RunsOut}
+use Rattle.request_queue.specs.World.{World, Event, submit, step, read_bytes, write_piece, load, remove_device, run, sync, Step, RunsOut}
 use Rattle.request_queue.proofs.lemmas.LedLemmas.{run-append, last-append}
 use Rattle.request_queue.proofs.lemmas.ServedLemmas.{steps-alone}
 
@@ -27,6 +27,7 @@ step-no-run : (t : ℕ) (e : Event) → is_step t e ≡ true → is_run e ≡ fa
 step-no-run t (submit r reply) is = refl
 step-no-run t (step u reply) is = refl
 step-no-run t (read_bytes d first bytes reply) is = refl
+step-no-run t (write_piece d first bytes result) is = refl
 step-no-run t (load text reply) is = refl
 step-no-run t (remove_device name reply) is = refl
 step-no-run t (run r reply) is = let clash : false ≡ true = is in cc
@@ -59,6 +60,7 @@ unroll-turn : (w : World) (e : Event) (w' : World) (more : List Turn) → Step E
 unroll-turn w (submit r reply) w' more s rest = kept w (turn (submit r reply) w') more refl s rest
 unroll-turn w (step t reply) w' more s rest = kept w (turn (step t reply) w') more refl s rest
 unroll-turn w (read_bytes d first bytes reply) w' more s rest = kept w (turn (read_bytes d first bytes reply) w') more refl s rest
+unroll-turn w (write_piece d first bytes result) w' more s rest = kept w (turn (write_piece d first bytes result) w') more refl s rest
 unroll-turn w (load text reply) w' more s rest = kept w (turn (load text reply) w') more refl s rest
 unroll-turn w (remove_device name reply) w' more s rest = kept w (turn (remove_device name reply) w') more refl s rest
 unroll-turn w (run r (Ok answer)) w' more s rest = ran w r answer w' more s rest

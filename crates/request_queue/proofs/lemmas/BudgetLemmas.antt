@@ -19,8 +19,8 @@ use Rattle.request_queue.specs.declared.reply.Reply.{Reply}
 use Rattle.request_queue.specs.Ranges.{piece_len}
 use Rattle.request_queue.specs.Requests.{RequestRecord}
 use Rattle.request_queue.specs.Flights.{FlightRecord, WorkRecord, reads, writes, first_flight, next_flight, next_work, first_work, work_cost, has_ticket}
-use Rattle.request_queue.specs.Parts.{PartRelation, AnyPart, Asks, bytes_part, part_of_work, done_of, without_chains}
-use Rattle.request_queue.specs.World.{World, world, Event, submit, step, read_bytes, load, remove_device, run, sync, Step, IsAt, Rise, Begins, IsRefused, Serves, ReadsBytes, Loads, Removes, Syncs, Ends, at_once, later, Runs, next_count}
+use Rattle.request_queue.specs.Parts.{PartRelation, AnyPart, Asks, bytes_part, write_part, part_of_work, done_of, without_bytes, without_chains}
+use Rattle.request_queue.specs.World.{World, world, Event, submit, step, read_bytes, write_piece, load, remove_device, run, sync, Step, IsAt, Rise, Begins, IsRefused, Serves, ReadsBytes, PieceWritten, Loads, Removes, Syncs, Ends, at_once, later, Runs, next_count}
 use Rattle.request_queue.specs.Runs.{Turn, Run, last, total, is_step, flight_of, moved_of, moved_for, served_for, rest_of, due_of, due, rest}
 use Rattle.request_queue.proofs.lemmas.PartLemmas.{any-keeps, part_cost-work}
 use Rattle.request_queue.proofs.lemmas.TicketLemmas.{test-same, test-other, at-ticket, find-at, find-removed, find-changed, others-set, others-remove, others-push, found-pushed, rise-push, rise-set, rise-remove}
@@ -174,6 +174,11 @@ kept-bytes w w' d first bytes (Ok answer) t order s =
     subst (Kept w t) (sym s.leaves) (record { same = refl; config = inr kept.config; given = omega arith; order = order })
 kept-bytes w w' d first bytes (Err fault) t order s = kept-same w w' t order s.1
 
+kept-written : (w w' : World) (d first : ℕ) (bytes : List ℕ) (result : Result Unit IoFault) (t : ℕ) → InOrder w → PieceWritten AnyPart w d first bytes result w' → Kept w t w'
+kept-written w w' d first bytes result t order s =
+    let kept = any-keeps w.stack d first (write_part bytes) (without_bytes result) s.stack s.asks in
+    subst (Kept w t) (sym s.leaves) (record { same = refl; config = inr kept.config; given = omega arith; order = order })
+
 kept-load : (w w' : World) (text : List Entry) (reply : Result Unit (Held LoadFault)) (t : ℕ) → InOrder w → Loads w text reply w' → Kept w t w'
 kept-load w w' text (Ok done) t order s =
     subst (Kept w t) (sym s.leaves) (record { same = refl; config = inl (ap (λ fs. find (has_ticket t) fs) s.idle); given = omega arith; order = order })
@@ -219,6 +224,7 @@ turned w w' t (submit r (Err fault)) order old s = other_turn refl (kept-refused
 turned w w' t (step u (Ok progress)) order old s = turned-step w w' t u progress (u == t) refl order (has-served w u progress w' order s)
 turned w w' t (step u (Err none)) order old s = other_turn refl (kept-same w w' t order s.1)
 turned w w' t (read_bytes d first bytes reply) order old s = other_turn refl (kept-bytes w w' d first bytes reply t order s)
+turned w w' t (write_piece d first bytes result) order old s = other_turn refl (kept-written w w' d first bytes result t order s)
 turned w w' t (load text reply) order old s = other_turn refl (kept-load w w' text reply t order s)
 turned w w' t (remove_device name reply) order old s = other_turn refl (kept-removal w w' name reply t order s)
 turned w w' t (run r reply) order old s = other_turn refl (kept-run w w' r reply t order old s)

@@ -20,7 +20,7 @@ use Rattle.stack_meaning.specs.Reading.{Gets, MeetVerity}
 use Rattle.stack_meaning.proofs.lemmas.FoundLemmas.{SomeOf-more, used-append, said_at-mono}
 use Rattle.stack_meaning.proofs.lemmas.LeafListLemmas.{AreRead-none}
 use Rattle.stack_meaning.proofs.lemmas.RunLemmas.{fill_ok, fill_err, fill_more}
-use Rattle.stack_lines.specs.Touches.{TouchesOnly, leaves_of}
+use Rattle.stack_lines.specs.Touches.{EndsAtFailure, TouchesOnly, failures_by, leaves_of}
 use Rattle.stack_lines.proofs.lemmas.TouchLemmas.{touches-none, touches-then, touches-as}
 use Rattle.stack_engine.specs.Bytes.{AnyBytes, EachBytes, IsGoodChain, MayBeBytes}
 use Rattle.stack_engine.specs.Laws.{ForgedBytesCollide}
@@ -39,6 +39,7 @@ record Shown (c : Configuration) (d first n : ℕ) (old new : List Device) (byte
   chains : List FoundRecord
   gets : Gets (run_expected (place_of c (mapped d)) chains first n) old new (Ok bytes)
   touches : TouchesOnly (leaves_of c (mapped d)) old new (Ok bytes)
+  fails : EndsAtFailure old new (Ok bytes)
   used : AreUsed (λ s. (said_at c (mapped d) s).entries) first n chains
   good : All (IsGoodChain c) chains
 
@@ -47,13 +48,14 @@ shown d first n bytes p = record {
   chains = p.any.may.chains;
   gets = record { moved = p.any.moved; may = p.any.may.read.run; exact = λ steady. (p.steady steady).exact };
   touches = p.any.touches;
+  fails = p.any.fails;
   used = p.any.may.read.used;
   good = p.any.may.good;
 }
 
 each-shown : {w w' : StackRecord} (d first n : ℕ) (bytes : List ℕ) → w'.config ≡ w.config → w'.capacity ≡ w.capacity → Shown w.config d first n w.leaves w'.leaves bytes → EachBytes w d first n (Ok bytes) w'
 each-shown {w = w} {w' = w'} d first n bytes config capacity p =
-    let any : AnyBytes w d first n (Ok bytes) w' = record { config = config; capacity = capacity; moved = p.gets.moved; may = record { chains = p.chains; read = record { run = p.gets.may; used = p.used }; good = p.good }; touches = p.touches } in
+    let any : AnyBytes w d first n (Ok bytes) w' = record { config = config; capacity = capacity; moved = p.gets.moved; may = record { chains = p.chains; read = record { run = p.gets.may; used = p.used }; good = p.good }; touches = p.touches; fails = p.fails } in
     record { any = any; steady = λ steady. record { any = any; exact = p.gets.exact steady } }
 
 module _ (c : Configuration) (d first a m : ℕ) {old mid new : List Device} {xs ys : List ℕ} where
@@ -66,6 +68,7 @@ module _ (c : Configuration) (d first a m : ℕ) {old mid new : List Device} {xs
             (fill_more (place_of c (mapped d)) first a {u = p.chains} {v = all} (said_at-mono c (mapped d)) (Contains-append_left p.chains q.chains) p.gets)
             (fill_more (place_of c (mapped d)) (first + a) m {u = q.chains} {v = all} (said_at-mono c (mapped d)) (Contains-append_right p.chains q.chains) q.gets);
         touches = touches-as (Ok (xs ++ ys)) tt (touches-then p.touches q.touches);
+        fails = q.fails ∙ p.fails;
         used = used-append (λ s. (said_at c (mapped d) s).entries) first a m p.chains q.chains p.used q.used;
         good = All-append (IsGoodChain c) p.chains q.chains p.good q.good;
       }
@@ -76,6 +79,7 @@ bytes-none w d first = each-shown {w = w} {w' = w} d first 0 [] refl refl (recor
   chains = [];
   gets = record { moved = AreRead-none _ w.leaves; may = record { len = refl; sectors = λ j h. absurd (omega (arith, h)) }; exact = λ steady. refl };
   touches = touches-none (leaves_of w.config (mapped d)) w.leaves (Ok []) tt;
+  fails = refl;
   used = All-nil _;
   good = All-nil _;
 })
@@ -94,15 +98,15 @@ fails-of d first n chains (io.Device i) p = record { moved = p.any.moved; may = 
 fails-of d first n chains io.NoMemory p = record { moved = p.any.moved; may = tt; exact = λ steady. tt }
 
 each-fails : {w w' : StackRecord} (d first n : ℕ) (chains : List FoundRecord) (fault : IoFault) → w'.config ≡ w.config → w'.capacity ≡ w.capacity → Gets (run_expected (place_of w.config (mapped d)) chains first n) w.leaves w'.leaves (Err fault)
-    → TouchesOnly {A = List ℕ} (leaves_of w.config (mapped d)) w.leaves w'.leaves (Err fault) → EachBytes w d first n (Err fault) w'
-each-fails {w = w} {w' = w'} d first n chains (io.Stack fault) config capacity p touches =
-    let any : AnyBytes w d first n (Err (io.Stack fault)) w' = record { config = config; capacity = capacity; moved = p.moved; may = p.may; touches = touches } in
+    → TouchesOnly {A = List ℕ} (leaves_of w.config (mapped d)) w.leaves w'.leaves (Err fault) → EndsAtFailure {A = List ℕ} w.leaves w'.leaves (Err fault) → EachBytes w d first n (Err fault) w'
+each-fails {w = w} {w' = w'} d first n chains (io.Stack fault) config capacity p touches fails =
+    let any : AnyBytes w d first n (Err (io.Stack fault)) w' = record { config = config; capacity = capacity; moved = p.moved; may = p.may; touches = touches; fails = fails } in
     record { any = any; steady = λ steady. record { any = any; exact = p.exact steady } }
-each-fails {w = w} {w' = w'} d first n chains (io.Device i) config capacity p touches =
-    let any : AnyBytes w d first n (Err (io.Device i)) w' = record { config = config; capacity = capacity; moved = p.moved; may = p.may; touches = touches } in
+each-fails {w = w} {w' = w'} d first n chains (io.Device i) config capacity p touches fails =
+    let any : AnyBytes w d first n (Err (io.Device i)) w' = record { config = config; capacity = capacity; moved = p.moved; may = p.may; touches = touches; fails = fails } in
     record { any = any; steady = λ steady. record { any = any; exact = tt } }
-each-fails {w = w} {w' = w'} d first n chains io.NoMemory config capacity p touches =
-    let any : AnyBytes w d first n (Err io.NoMemory) w' = record { config = config; capacity = capacity; moved = p.moved; may = tt; touches = touches } in
+each-fails {w = w} {w' = w'} d first n chains io.NoMemory config capacity p touches fails =
+    let any : AnyBytes w d first n (Err io.NoMemory) w' = record { config = config; capacity = capacity; moved = p.moved; may = tt; touches = touches; fails = fails } in
     record { any = any; steady = λ steady. record { any = any; exact = tt } }
 
 -- a piece that ends all n sectors by its fault
@@ -114,6 +118,7 @@ bytes-end w v w' d first a m n xs fault inside p q =
     each-fails {w = w} {w' = w'} d first n one.chains fault (q.any.config ∙ p.any.config) (q.any.capacity ∙ p.any.capacity)
     (fill_err (place_of w.config (mapped d)) one.chains first a m one.gets n fault inside next)
     (touches-then one.touches (subst (λ (c : Configuration). TouchesOnly {A = List ℕ} (leaves_of c (mapped d)) v.leaves w'.leaves (Err fault)) p.any.config q.any.touches))
+    (q.any.fails ∙ ap (failures_by fault) one.fails)
 
 -- ---- the pieces of a slice
 

@@ -20,9 +20,9 @@ use Rattle.request_queue.specs.declared.reply.Progress.TheVariants.{More, Done}
 use Rattle.request_queue.specs.declared.reply.Reply.{Reply}
 use Rattle.request_queue.specs.Chains.{reply_chains, answer_chains, progress_chains, chains_of, IsVerified}
 use Rattle.request_queue.specs.Flights.{FlightRecord, WorkRecord, reads, writes, first_work, next_work, next_flight, first_flight, reply_to}
-use Rattle.request_queue.specs.Parts.{AnyPart, Asks, bytes_part, part_of_work, done_of, without_chains}
+use Rattle.request_queue.specs.Parts.{AnyPart, Asks, bytes_part, write_part, part_of_work, done_of, without_bytes, without_chains}
 use Rattle.request_queue.specs.Requests.{RequestRecord, a_read, a_write}
-use Rattle.request_queue.specs.World.{World, world, Event, submit, step, read_bytes, load, remove_device, run, sync, Step, IsAt, Begins, Serves, Answers, Ends, at_once, later, next_count}
+use Rattle.request_queue.specs.World.{World, world, Event, submit, step, read_bytes, write_piece, load, remove_device, run, sync, Step, IsAt, Begins, Serves, Answers, Ends, at_once, later, next_count}
 use Rattle.request_queue.specs.Runs.{Turn, Run, last}
 use Rattle.request_queue.proofs.lemmas.PartLemmas.{any-keeps}
 
@@ -165,6 +165,9 @@ module _ (good : AnsweredChainsAreGood) (forged : ForgedAnswersCollide) where
       let kept = any-keeps w.stack s.range.device.0 s.range.first (bytes_part s.range.count) (without_chains answer) s.stack s.asks in
       turn-of w (read_bytes d first bytes (Ok answer)) w' (hands-out w [] s.stack w.in_flight w' s.leaves kept.config honest.loaded honest.flights (All-nil _))
   honest-turn w (read_bytes d first bytes (Err fault)) w' honest s = turn-of w (read_bytes d first bytes (Err fault)) w' (same-world w w' honest s.1)
+  honest-turn w (write_piece d first bytes result) w' honest s =
+      let kept = any-keeps w.stack d first (write_part bytes) (without_bytes result) s.stack s.asks in
+      turn-of w (write_piece d first bytes result) w' (hands-out w [] s.stack w.in_flight w' s.leaves kept.config honest.loaded honest.flights (All-nil _))
   honest-turn w (load text (Ok done)) w' honest s = record { honest = idle-honest w' s.loaded (ap (λ (x : World). x.in_flight) s.leaves ∙ s.idle); chains = All-nil _ }
   honest-turn w (load text (Err Busy)) w' honest s = turn-of w (load text (Err Busy)) w' (same-world w w' honest s.1)
   honest-turn w (load text (Err (Fault fault))) w' honest s = turn-of w (load text (Err (Fault fault))) w' (same-world w w' honest s.2)

@@ -30,12 +30,12 @@ use Rattle.request_queue.specs.declared.reply.Reply.{Reply}
 use Rattle.request_queue.specs.declared.reply.Reply.TheVariants.{Sectors, Written}
 use Rattle.request_queue.specs.Changes.{StaysBut, part_changes, piece_changes, run_changes, changes_of, changes}
 use Rattle.request_queue.specs.Flights.{FlightRecord}
-use Rattle.request_queue.specs.Parts.{Part, read_part, bytes_part, write_part, AnyPart, EachPart, part_of_work, done_of}
+use Rattle.request_queue.specs.Parts.{Part, read_part, bytes_part, write_part, AnyPart, EachPart, part_of_work, done_of, without_bytes}
 use Rattle.request_queue.specs.Requests.{RequestRecord, a_read, a_write}
 use Rattle.request_queue.specs.Runs.{Turn, Run, last, flight_of}
 use Rattle.request_queue.specs.Touching.{Leaves, leaves_beneath, part_touches, piece_touches, run_touches, touches_of, touches}
 use Rattle.request_queue.specs.WholeRuns.{Whole}
-use Rattle.request_queue.specs.World.{World, world, Event, submit, step, read_bytes, load, remove_device, run, sync, Step, Serves, Answers, ReadsBytes, Loads, Removes, Syncs, Runs, admission, next_count}
+use Rattle.request_queue.specs.World.{World, world, Event, submit, step, read_bytes, write_piece, load, remove_device, run, sync, Step, Serves, Answers, ReadsBytes, PieceWritten, Loads, Removes, Syncs, Runs, admission, next_count}
 use Rattle.request_queue.proofs.lemmas.BudgetLemmas.{InOrder, turned, knows-turn}
 use Rattle.request_queue.proofs.lemmas.BytesLemmas.{bytes_range-ok}
 use Rattle.request_queue.proofs.lemmas.ChainLemmas.{IsHonest, honest-turn}
@@ -190,6 +190,12 @@ bytes-stay these w d first size (Ok answer) w' s =
     (subst (λ k. Stays these (leaves_beneath w.stack.config k) w.stack.leaves s.stack.leaves) (ap (λ (x : SectorRange). x.device.0) (sym (bytes_range-ok w.stack.config d first size s.range s.admits)))
     (stays-read these (untouched-beneath w.stack.config s.range.device.0 s.asks.answered.any.touches) s.asks.answered.any.moved))
 
+written-stays : (w : World) (d first : ℕ) (bytes : List ℕ) (result : Result Unit IoFault) (w' : World) → PieceWritten EachPart w d first bytes result w'
+    → Stays (part_changes w.stack.config d first (write_part bytes)) (part_touches w.stack.config d first (write_part bytes)) w.stack.leaves w'.stack.leaves
+written-stays w d first bytes result w' s =
+    leaves-to (part_changes w.stack.config d first (write_part bytes)) (part_touches w.stack.config d first (write_part bytes)) w.stack.leaves s.stack w.given w.in_flight w' s.leaves
+    (part-stays w.stack d first (write_part bytes) (without_bytes result) s.stack (each-any w.stack d first (write_part bytes) (without_bytes result) s.stack s.asks))
+
 -- what an event may leave
 abbrev EventStays : World → Event → World → Type 0
 EventStays w e w' = Stays (changes_of w e) (touches_of w e) w.stack.leaves w'.stack.leaves
@@ -200,6 +206,7 @@ event-stays w (submit r (Err fault)) w' honest order s = world-stays _ _ w w' s.
 event-stays w (step t (Ok progress)) w' honest order s = serves-stay w t progress w' order s
 event-stays w (step t (Err none)) w' honest order s = world-stays _ _ w w' s.1
 event-stays w (read_bytes d first size reply) w' honest order s = bytes-stay _ w d first size reply w' s
+event-stays w (write_piece d first bytes result) w' honest order s = written-stays w d first bytes result w' s
 event-stays w (load text reply) w' honest order s = loads-stay _ _ w text reply w' s
 event-stays w (remove_device name reply) w' honest order s = removes-stay _ _ w name reply w' s
 event-stays w (run r reply) w' honest order s = run-stays w r reply w' honest order s

@@ -29,10 +29,10 @@ use Rattle.request_queue.specs.declared.reply.Progress.TheVariants.{More, Done}
 use Rattle.request_queue.specs.declared.reply.Reply.{Reply}
 use Rattle.request_queue.specs.Flights.{FlightRecord}
 use Rattle.request_queue.specs.Laws.{KeepsChecked}
-use Rattle.request_queue.specs.Parts.{Part, EachPart, bytes_part, part_of_work, done_of, without_chains}
+use Rattle.request_queue.specs.Parts.{Part, EachPart, bytes_part, write_part, part_of_work, done_of, without_bytes, without_chains}
 use Rattle.request_queue.specs.Requests.{RequestRecord}
 use Rattle.request_queue.specs.Runs.{Turn, Run, last}
-use Rattle.request_queue.specs.World.{World, Event, submit, step, read_bytes, load, remove_device, run, sync, Step, Answers, BytesRead, ReadsBytes, Loads, Removes, Syncs, Serves, Ends, at_once, later, Runs, next_count}
+use Rattle.request_queue.specs.World.{World, Event, submit, step, read_bytes, write_piece, load, remove_device, run, sync, Step, Answers, BytesRead, ReadsBytes, Loads, Removes, Syncs, Serves, Ends, at_once, later, Runs, next_count}
 use Rattle.request_queue.proofs.lemmas.BytesLemmas.{bytes_range-ok, meets-later}
 use Rattle.request_queue.proofs.lemmas.PartLemmas.{any-keeps, each-any, part-checked}
 
@@ -150,6 +150,8 @@ event-keeps w (submit r (Err fault)) w' checked s = same-world w w' s.same check
 event-keeps w (step t (Ok progress)) w' checked s = serves-keep w t progress w' s
 event-keeps w (step t (Err none)) w' checked s = same-world w w' s.1 checked
 event-keeps w (read_bytes d first size reply) w' checked s = bytes-keep w d first size reply w' checked s
+event-keeps w (write_piece d first bytes result) w' checked s =
+    subst (λ (x : World). KeepsChecked w.stack x.stack) (sym s.leaves) (part-keeps w.stack d first (write_part bytes) (without_bytes result) s.stack s.asks)
 event-keeps w (load text reply) w' checked s = loads-keep w text reply w' checked s
 event-keeps w (remove_device name reply) w' checked s = removes-keep w name reply w' checked s
 event-keeps w (run r reply) w' checked s = runs-keep w r reply w' checked s

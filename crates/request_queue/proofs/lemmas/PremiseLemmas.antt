@@ -20,8 +20,8 @@ use Rattle.request_queue.specs.declared.reply.Progress.TheVariants.{More, Done}
 use Rattle.request_queue.specs.declared.reply.Reply.{Reply}
 use Rattle.request_queue.specs.Requests.{RequestRecord}
 use Rattle.request_queue.specs.Flights.{FlightRecord}
-use Rattle.request_queue.specs.Parts.{Part, PartRelation, AnyPart, SteadyPart, EachPart, bytes_part, part_of_work, without_chains}
-use Rattle.request_queue.specs.World.{World, Event, submit, step, read_bytes, load, remove_device, run, sync, Step, Begins, Answers, Serves, ReadsBytes, Loads, Removes, Syncs, Ends, at_once, later, Runs}
+use Rattle.request_queue.specs.Parts.{Part, PartRelation, AnyPart, SteadyPart, EachPart, bytes_part, write_part, part_of_work, without_bytes, without_chains}
+use Rattle.request_queue.specs.World.{World, Event, submit, step, read_bytes, write_piece, load, remove_device, run, sync, Step, Begins, Answers, Serves, ReadsBytes, PieceWritten, Loads, Removes, Syncs, Ends, at_once, later, Runs}
 use Rattle.request_queue.specs.Runs.{Turn, Run, last}
 use Rattle.request_queue.proofs.lemmas.PartLemmas.{any-keeps, each-any, each-steady, steady-any-part}
 
@@ -90,6 +90,11 @@ module _ (P Q : PartRelation) (F : List Device → Type 0) (pass : Passes P Q F)
       let p = pass w.stack s.range.device.0 s.range.first (bytes_part s.range.count) (without_chains answer) s.stack h s.asks in
       (record { range = s.range; admits = s.admits; stack = s.stack; asks = p.0; leaves = s.leaves }, subst (λ (x : World). F x.stack.leaves) (sym s.leaves) p.1)
 
+  written-as : (w : World) (d first : ℕ) (bytes : List ℕ) (result : Result Unit IoFault) (w' : World) → F w.stack.leaves → PieceWritten P w d first bytes result w' → PieceWritten Q w d first bytes result w' × F w'.stack.leaves
+  written-as w d first bytes result w' h s =
+      let p = pass w.stack d first (write_part bytes) (without_bytes result) s.stack h s.asks in
+      (record { inside = s.inside; allowed = s.allowed; stack = s.stack; asks = p.0; leaves = s.leaves }, subst (λ (x : World). F x.stack.leaves) (sym s.leaves) p.1)
+
   -- an event, with parts of the other kind
   pub step-as : (w : World) (e : Event) (w' : World) → F w.stack.leaves → Step P w e w' → Step Q w e w' × F w'.stack.leaves
   step-as w (submit r (Ok t)) w' h s = (s, begins-leaves w r t w' s h)
@@ -97,6 +102,7 @@ module _ (P Q : PartRelation) (F : List Device → Type 0) (pass : Passes P Q F)
   step-as w (step t (Ok progress)) w' h s = serves-as w t progress w' h s
   step-as w (step t (Err none)) w' h s = (s, same-leaves w w' s.1 h)
   step-as w (read_bytes d first bytes reply) w' h s = bytes-as w d first bytes reply w' h s
+  step-as w (write_piece d first bytes result) w' h s = written-as w d first bytes result w' h s
   step-as w (load text reply) w' h s = (s, loads-leaves w text reply w' s h)
   step-as w (remove_device name reply) w' h s = (s, removes-leaves w name reply w' s h)
   step-as w (run r reply) w' h s = runs-as w r reply w' h s

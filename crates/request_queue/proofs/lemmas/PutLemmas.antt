@@ -1,5 +1,5 @@
 -- The pieces of writes that steps serve, and what they leave.
-use Rattle.std.proofs.Common.{◌≡◌, ℕ, ◌/◌, false, true, List, [], ◌∷◌, ◌++◌, length, All, ap, sym, ◌∙◌, subst, Option, Some, Result, Ok, Err}
+use Rattle.std.proofs.Common.{◌≡◌, ℕ, ◌/◌, false, true, List, [], ◌∷◌, ◌++◌, length, All, refl, ap, sym, ◌∙◌, subst, Option, Some, Result, Ok, Err}
 use Rattle.std.proofs.lemmas.List.Elements.{All-head, All-tail}
 use Rattle.block_device.specs.Device.{Device}
 use Rattle.dm_table.specs.declared.stack.Entry.{Entry}
@@ -26,10 +26,10 @@ use Rattle.request_queue.specs.declared.reply.Progress.{Progress}
 use Rattle.request_queue.specs.declared.reply.Progress.TheVariants.{More, Done}
 use Rattle.request_queue.specs.AsSteps.{is_run}
 use Rattle.request_queue.specs.Flights.{FlightRecord}
-use Rattle.request_queue.specs.Parts.{Part, read_part, bytes_part, write_part, EachPart, ending, part_of_work, done_of}
+use Rattle.request_queue.specs.Parts.{Part, read_part, bytes_part, write_part, EachPart, ending, part_of_work, done_of, without_bytes}
 use Rattle.request_queue.specs.Puts.{WrittenPiece, part_pieces, next_pieces, piece_ending, pieces_in, pieces_written, IsOverSteady, ArePutOn, all_put, then_put}
 use Rattle.request_queue.specs.Runs.{Turn, Run, last, flight_of}
-use Rattle.request_queue.specs.World.{World, Event, submit, step, read_bytes, load, remove_device, run, sync, Step, Answers, Serves, ReadsBytes, Loads, Removes, Syncs, next_count}
+use Rattle.request_queue.specs.World.{World, Event, submit, step, read_bytes, write_piece, load, remove_device, run, sync, Step, Answers, Serves, ReadsBytes, PieceWritten, Loads, Removes, Syncs, next_count}
 use Rattle.request_queue.proofs.lemmas.BudgetLemmas.{InOrder}
 use Rattle.request_queue.proofs.lemmas.ChainLemmas.{IsHonest}
 use Rattle.request_queue.proofs.lemmas.ChangesLemmas.{event-stays, next-honest}
@@ -106,6 +106,15 @@ bytes-put : (w : World) (d first size : ℕ) (reply : Result (Result (List ℕ) 
 bytes-put w d first size (Err fault) w' s = same-world w w' s.1
 bytes-put w d first size (Ok answer) w' s = none-put (ap (λ (x : World). steady_images x.stack.leaves) s.leaves ∙ images-kept s.asks.answered.any.moved)
 
+pub ending-same : (result : Result Unit IoFault) → ending (without_bytes result) ≡ result
+ending-same (Ok done) = refl
+ending-same (Err fault) = refl
+
+written-put : (w : World) (d first : ℕ) (bytes : List ℕ) (result : Result Unit IoFault) (w' : World) → PieceWritten EachPart w d first bytes result w' → LeaveOf w (write_piece d first bytes result) w'
+written-put w d first bytes result w' s =
+    subst (λ (x : World). Leave (part_pieces w.stack.config d first (write_part bytes) result) w.stack x.stack) (sym s.leaves)
+    (write-puts w.stack d first bytes result s.stack (subst (λ x. EachWrite w.stack d first bytes x s.stack) (ending-same result) s.asks.answered))
+
 loads-put : (w : World) (text : List Entry) (reply : Result Unit (Held LoadFault)) (w' : World) → Loads w text reply w' → Leave [] w.stack w'.stack
 loads-put w text (Ok done) w' s = same-leaves w.stack w'.stack (ap (λ (x : World). x.stack.leaves) s.leaves)
 loads-put w text (Err Busy) w' s = same-world w w' s.1
@@ -126,6 +135,7 @@ event-puts w (submit r (Err fault)) w' unrun order s = same-world w w' s.same
 event-puts w (step t (Ok progress)) w' unrun order s = serves-put w t progress w' order s
 event-puts w (step t (Err none)) w' unrun order s = same-world w w' s.1
 event-puts w (read_bytes d first size reply) w' unrun order s = bytes-put w d first size reply w' s
+event-puts w (write_piece d first bytes result) w' unrun order s = written-put w d first bytes result w' s
 event-puts w (load text reply) w' unrun order s = loads-put w text reply w' s
 event-puts w (remove_device name reply) w' unrun order s = removes-put w name reply w' s
 event-puts w (run r (Ok answer)) w' unrun order s = let clash : true ≡ false = unrun in absurd cc

@@ -17,7 +17,7 @@ use Rattle.request_queue.specs.Ranges.{IsCut, last_piece, next_piece, piece_len,
 use Rattle.request_queue.specs.Requests.{RequestRecord}
 use Rattle.request_queue.specs.Flights.{FlightRecord, first_flight, next_flight}
 use Rattle.request_queue.specs.Parts.{PartRelation, AnyPart, SteadyPart, EachPart, Asks, part_of_work, done_of}
-use Rattle.request_queue.specs.World.{World, world, Event, submit, step, read_bytes, load, remove_device, run, sync, Step, Serves, Begins, Ends, at_once, later, next_count}
+use Rattle.request_queue.specs.World.{World, world, Event, submit, step, read_bytes, write_piece, load, remove_device, run, sync, Step, Serves, Begins, Ends, at_once, later, next_count}
 use Rattle.request_queue.specs.Runs.{Turn, Run, last, total, is_step, flight_of, served_for}
 use Rattle.request_queue.specs.Laws.{Passage, passage, passages, end_of, answer_to, IsServed, waits, goes_on, finishes, fails, IsOver, RequestLaw, RunLaw, is_refusal, TurnLaw}
 use Rattle.request_queue.proofs.lemmas.TicketLemmas.{test-same, at-ticket, find-at, find-changed, find-removed}
@@ -46,6 +46,7 @@ own-step part t v (step u (Ok progress)) w' is s =
     own_step progress (ap (λ n. step n (Ok progress)) same) (subst (λ n. Serves part v n progress w') same s)
 own-step part t v (step u (Err none)) w' is s = let clash : false ≡ true = is in cc
 own-step part t v (read_bytes d first bytes reply) w' is s = let clash : false ≡ true = is in cc
+own-step part t v (write_piece d first bytes result) w' is s = let clash : false ≡ true = is in cc
 own-step part t v (load text reply) w' is s = let clash : false ≡ true = is in cc
 own-step part t v (remove_device name reply) w' is s = let clash : false ≡ true = is in cc
 own-step part t v (run r reply) w' is s = let clash : false ≡ true = is in cc
@@ -274,6 +275,7 @@ refusal-same part w (step t (Ok progress)) w' is s = let clash : false ≡ true 
 refusal-same part w (step t (Err none)) w' is s = s.1
 refusal-same part w (read_bytes d first bytes (Ok answer)) w' is s = let clash : false ≡ true = is in cc
 refusal-same part w (read_bytes d first bytes (Err fault)) w' is s = s.1
+refusal-same part w (write_piece d first bytes result) w' is s = let clash : false ≡ true = is in cc
 refusal-same part w (load text (Ok done)) w' is s = let clash : false ≡ true = is in cc
 refusal-same part w (load text (Err Busy)) w' is s = s.1
 refusal-same part w (load text (Err (Fault fault))) w' is s = s.2

@@ -18,12 +18,12 @@ use Rattle.request_queue.specs.declared.reply.Progress.{Progress}
 use Rattle.request_queue.specs.declared.reply.Progress.TheVariants.{More, Done}
 use Rattle.request_queue.specs.declared.reply.Reply.{Reply}
 use Rattle.request_queue.specs.Flights.{FlightRecord, first_flight, next_flight}
-use Rattle.request_queue.specs.Parts.{AnyPart, Asks, bytes_part, part_of_work, done_of, without_chains}
+use Rattle.request_queue.specs.Parts.{AnyPart, Asks, bytes_part, write_part, part_of_work, done_of, without_bytes, without_chains}
 use Rattle.request_queue.specs.Ranges.{IsCut, last_piece, next_piece, piece_len, range_after}
 use Rattle.request_queue.specs.Requests.{RequestRecord}
 use Rattle.request_queue.specs.Runs.{Turn, Run, last, total}
 use Rattle.request_queue.specs.Waiting.{pieces_within, pieces_of, waiting, pieces_asked, asked_by, asked, served_by, served}
-use Rattle.request_queue.specs.World.{World, world, Event, submit, step, read_bytes, load, remove_device, run, sync, Step, IsAt, Begins, Serves, ReadsBytes, Loads, Removes, Syncs, Ends, at_once, later, Runs, admission, next_count}
+use Rattle.request_queue.specs.World.{World, world, Event, submit, step, read_bytes, write_piece, load, remove_device, run, sync, Step, IsAt, Begins, Serves, ReadsBytes, PieceWritten, Loads, Removes, Syncs, Ends, at_once, later, Runs, admission, next_count}
 use Rattle.request_queue.proofs.lemmas.BudgetLemmas.{piece_len-within}
 use Rattle.request_queue.proofs.lemmas.PartLemmas.{any-keeps}
 
@@ -161,6 +161,11 @@ waits-bytes w d first bytes (Ok answer) w' s =
     let kept = any-keeps w.stack s.range.device.0 s.range.first (bytes_part s.range.count) (without_chains answer) s.stack s.asks in
     subst (λ (x : World). waiting x ≤ waiting w) (sym s.leaves) (subst (λ (c : Configuration). waiting_of c w.in_flight ≤ waiting w) (sym kept.config) (omega arith))
 
+waits-written : (w : World) (d first : ℕ) (bytes : List ℕ) (result : Result Unit IoFault) (w' : World) → PieceWritten AnyPart w d first bytes result w' → waiting w' ≤ waiting w
+waits-written w d first bytes result w' s =
+    let kept = any-keeps w.stack d first (write_part bytes) (without_bytes result) s.stack s.asks in
+    subst (λ (x : World). waiting x ≤ waiting w) (sym s.leaves) (subst (λ (c : Configuration). waiting_of c w.in_flight ≤ waiting w) (sym kept.config) (omega arith))
+
 waits-load : (w : World) (text : List Entry) (reply : Result Unit (Held LoadFault)) (w' : World) → Loads w text reply w' → waiting w' ≤ waiting w
 waits-load w text (Ok done) w' s = omega (arith, waits-idle w _ w' s.idle s.leaves)
 waits-load w text (Err Busy) w' s = waits-same w w' s.1
@@ -182,6 +187,7 @@ waits-event w (submit r (Err fault)) w' s = omega (arith, waits-same w w' s.same
 waits-event w (step t (Ok progress)) w' s = omega (arith, serves-one w t progress w' s)
 waits-event w (step t (Err none)) w' s = omega (arith, waits-same w w' s.1)
 waits-event w (read_bytes d first bytes reply) w' s = omega (arith, waits-bytes w d first bytes reply w' s)
+waits-event w (write_piece d first bytes result) w' s = omega (arith, waits-written w d first bytes result w' s)
 waits-event w (load text reply) w' s = omega (arith, waits-load w text reply w' s)
 waits-event w (remove_device name reply) w' s = omega (arith, waits-removal w name reply w' s)
 waits-event w (run r reply) w' s = omega (arith, waits-run w r reply w' s)

@@ -12,7 +12,7 @@ use Rattle.stack_engine.specs.KeptBlocks.{ReadKeeps}
 use Rattle.stack_engine.specs.Pieces.{EachPiece}
 use Rattle.stack_engine.specs.WritePieces.{EachWrite, WritesInPieces}
 use Rattle.stack_meaning.specs.Reading.{Gets}
-use Rattle.stack_lines.specs.Touches.{TouchesOnly, leaves_of}
+use Rattle.stack_lines.specs.Touches.{EndsAtFailure, TouchesOnly, failures_by, failures_of, leaves_of}
 use Rattle.stack_lines.proofs.lemmas.TouchLemmas.{touches-none, touches-then, touches-as}
 use Rattle.stack_engine.specs.Stacks.{StackRecord, AnswerRecord}
 use Rattle.stack_engine.proofs.lemmas.PieceLemmas.{same-stack, piece_expected, pieces_expected, no-pieces, more-pieces, fault-pieces, piece-got}
@@ -48,6 +48,7 @@ pub record ReadSoFar (base : StackRecord) (range : SectorRange) (t : ℕ) (w : W
   pub work : f.work ≡ reads got
   pub gets : Gets (pieces_expected base.config (mapped range.device.0) range.first done) base.leaves w.stack.leaves (Ok got)
   pub touches : TouchesOnly (leaves_of base.config (mapped range.device.0)) base.leaves w.stack.leaves (Ok got)
+  pub fails : EndsAtFailure base.leaves w.stack.leaves (Ok got)
   pub keeps : KeepsSame base range.device.0 range.first done w.stack
 
 -- what a piece did to the leaves
@@ -98,12 +99,13 @@ further base range t w w' u s =
       work = ap (λ work. next_work work s.answers.got) (ap (λ (x : FlightRecord). x.work) same ∙ u.work);
       gets = more-pieces base.config (mapped range.device.0) range.first u.done n {before = u.got} u.gets {answer = s.answers.got} piece.0;
       touches = touches-as (Ok _) tt (touches-then u.touches piece.1);
+      fails = part.answered.any.fails ∙ u.fails;
       keeps = (keeps-then base w.stack w'.stack range.device.0 range.first u.done n (u.done + n) u.config (omega arith) u.keeps part.kept).same;
     }
 
 whole-of : {v v' : StackRecord} (range : SectorRange) (answer : Result AnswerRecord IoFault) → v'.config ≡ v.config → v'.capacity ≡ v.capacity → Gets (pieces_expected v.config (mapped range.device.0) range.first range.count) v.leaves v'.leaves answer
-    → TouchesOnly (leaves_of v.config (mapped range.device.0)) v.leaves v'.leaves answer → ReadKeeps v range.device.0 range.first range.count v' → ReadsWhole v range answer v'
-whole-of range answer config capacity p touches kept = record { config = config; capacity = capacity; moved = p.moved; may = p.may; touches = touches; kept = kept; exact = p.exact }
+    → TouchesOnly (leaves_of v.config (mapped range.device.0)) v.leaves v'.leaves answer → EndsAtFailure v.leaves v'.leaves answer → ReadKeeps v range.device.0 range.first range.count v' → ReadsWhole v range answer v'
+whole-of range answer config capacity p touches fails kept = record { config = config; capacity = capacity; moved = p.moved; may = p.may; touches = touches; fails = fails; kept = kept; exact = p.exact }
 
 -- its last step
 read-over : (base : StackRecord) (range : SectorRange) (t : ℕ) (name : List ℕ) (first count : ℕ) (answer : Result Reply IoFault) (w w' : World) → ReadSoFar base range t w → Serves EachPart w t (Done answer) w'
@@ -121,7 +123,7 @@ read-over base range t name first count (Ok reply) w w' u s =
     let gets = more-pieces base.config (mapped range.device.0) range.first u.done n {before = u.got} u.gets {answer = s.answers.got} piece.0 in
     let whole : ReadsWhole base range (Ok all) w'.stack =
     whole-of {v = base} {v' = w'.stack} range (Ok all) (own.config ∙ u.config) (part.answered.any.capacity ∙ u.capacity)
-    (subst (λ k. Gets (pieces_expected base.config (mapped range.device.0) range.first k) base.leaves w'.stack.leaves (Ok all)) last gets) (touches-as (Ok all) tt (touches-then u.touches piece.1))
+    (subst (λ k. Gets (pieces_expected base.config (mapped range.device.0) range.first k) base.leaves w'.stack.leaves (Ok all)) last gets) (touches-as (Ok all) tt (touches-then u.touches piece.1)) (part.answered.any.fails ∙ u.fails)
     (keeps-then base w.stack w'.stack range.device.0 range.first u.done n range.count u.config (omega (arith, last)) u.keeps part.kept) in
     subst (λ x. Whole (a_read name first count) base range (Ok x) w'.stack) (sym is) whole
 read-over base range t name first count (Err fault) w w' u s =
@@ -134,7 +136,7 @@ read-over base range t name first count (Err fault) w w' u s =
     let piece = piece-of base range t w w' u n (Err fault) part.answered in
     whole-of {v = base} {v' = w'.stack} range (Err fault) (own.config ∙ u.config) (part.answered.any.capacity ∙ u.capacity)
     (fault-pieces base.config (mapped range.device.0) range.first u.done n {before = u.got} u.gets range.count fault inside piece.0)
-    (touches-then u.touches piece.1)
+    (touches-then u.touches piece.1) (part.answered.any.fails ∙ ap (failures_by fault) u.fails)
     (keeps-then base w.stack w'.stack range.device.0 range.first u.done n range.count u.config inside u.keeps part.kept)
 
 read-ends : (base : StackRecord) (range : SectorRange) (t : ℕ) (name : List ℕ) (first count : ℕ) (answer : Result Reply IoFault) (w w' : World) → ReadSoFar base range t w → Ends EachPart t answer w w'
@@ -163,6 +165,7 @@ read-begun w name first count t v order b =
           (no-pieces w.stack.config (mapped b.range.device.0) b.range.first w.stack.leaves);
       touches = subst (λ (x : StackRecord). TouchesOnly (leaves_of w.stack.config (mapped b.range.device.0)) w.stack.leaves x.leaves (Ok nothing)) (sym new.stack)
           (touches-none (leaves_of w.stack.config (mapped b.range.device.0)) w.stack.leaves (Ok nothing) tt);
+      fails = ap (λ (x : StackRecord). failures_of x.leaves) new.stack;
       keeps = λ none. ap (λ (x : StackRecord). x.kept) new.stack;
     }
 

@@ -14,7 +14,8 @@ use Rattle.stack_meaning.specs.Places.{place_of, Expected, run_expected}
 use Rattle.stack_meaning.specs.Reading.{Gets, Reads}
 use Rattle.stack_engine.specs.Stacks.{StackRecord, AnswerRecord, IsSound}
 use Rattle.verified_cache.specs.Cache.{CachedBlock, CacheRecord}
-use Rattle.stack_lines.specs.Touches.{TouchesOnly, leaves_of}
+use Rattle.stack_lines.specs.Touches.{AsksOnly, leaves_of}
+use Rattle.stack_lines.proofs.lemmas.AskLemmas.{asks-touched}
 use Rattle.stack_engine.specs.Pieces.{AnyPiece, EachPiece, stack_with}
 use Rattle.stack_meaning.proofs.lemmas.LeafListLemmas.{AreRead-none, leaves_kept}
 use Rattle.stack_meaning.proofs.lemmas.FoundLemmas.{HasMore, used-append, said_at-mono}
@@ -108,10 +109,10 @@ no-pieces c lower first leaves = record {
 }
 
 -- a piece as the stack's own record
-pub each-piece : (c : Configuration) (d first n : ℕ) {old new : List Device} (answer : Result AnswerRecord IoFault) → Gets (piece_expected c (mapped d) first n) old new answer → TouchesOnly (leaves_of c (mapped d)) old new answer
+pub each-piece : (c : Configuration) (d first n : ℕ) {old new : List Device} (answer : Result AnswerRecord IoFault) → Gets (piece_expected c (mapped d) first n) old new answer → AsksOnly (leaves_of c (mapped d)) old new answer
     → {before after : CacheRecord} → after.capacity ≡ before.capacity → EachPiece (stack_with c old before) d first n answer (stack_with c new after)
-each-piece c d first n answer p touches {before = before} {after = after} capacity =
-    let any : AnyPiece (stack_with c _ before) d first n answer (stack_with c _ after) = record { config = refl; capacity = capacity; moved = p.moved; may = p.may; touches = touches } in
+each-piece c d first n answer p asks {before = before} {after = after} capacity =
+    let any : AnyPiece (stack_with c _ before) d first n answer (stack_with c _ after) = record { config = refl; capacity = capacity; moved = p.moved; may = p.may; touches = asks-touched asks; fails = asks.ends } in
     record { any = any; steady = λ steady. record { any = any; exact = p.exact steady } }
 
 -- and back

@@ -1,5 +1,5 @@
 -- One piece of a write as callers see it, and pieces one after another.
-use Rattle.std.proofs.Common.{◌≡◌, ℕ, ◌+◌, ◌*◌, ◌/◌, ◌%◌, ◌<◌, ◌≤◌, List, [], ◌++◌, length, Result, Ok, Err, refl, ◌∙◌, subst, append-nil, arith}
+use Rattle.std.proofs.Common.{◌≡◌, ℕ, ◌+◌, ◌*◌, ◌/◌, ◌%◌, ◌<◌, ◌≤◌, List, [], ◌++◌, length, Result, Ok, Err, refl, ap, ◌∙◌, subst, append-nil, arith}
 use Rattle.std.proofs.lemmas.List.{length-append}
 use Rattle.std.proofs.Math.Nat.{add-mul, mul-le-mul_right}
 use Rattle.stack_rules.specs.Records.{Configuration}
@@ -11,13 +11,13 @@ use Rattle.stack_meaning.specs.declared.fault.IoFault.TheVariants as io
 use Rattle.stack_meaning.specs.May.{MayFault}
 use Rattle.stack_meaning.specs.Changes.{reached, AreWritten, NoneRead, AllWhole}
 use Rattle.stack_lines.specs.Forgetting.{Forgets}
-use Rattle.stack_lines.specs.Touches.{leaves_of}
+use Rattle.stack_lines.specs.Touches.{failures_behind, leaves_of}
 use Rattle.stack_lines.specs.Writing.{sectors_in, SomeEncrypt, MayEnd, destination_of, StopsAt, StopsAtFault, StopsBehindPut, with_some, Writes}
 use Rattle.stack_engine.specs.Stacks.{StackRecord, IsSound}
 use Rattle.stack_meaning.specs.declared.fault.Fault.{Fault}
 use Rattle.stack_meaning.specs.Outcomes.{error_target, LeafSector}
 use Rattle.stack_meaning.specs.Meaning.{said_at}
-use Rattle.stack_engine.specs.WritePieces.{piece_reached, AnyWrite, EachWrite, WritesInPieces, nothing, next, ends}
+use Rattle.stack_engine.specs.WritePieces.{piece_reached, ArePiece, AnyWrite, EachWrite, WritesInPieces, nothing, next, ends}
 use Rattle.stack_meaning.proofs.lemmas.LeafListLemmas.{AreRead-none, leaves_kept, failed_later}
 use Rattle.stack_meaning.proofs.lemmas.ChangeLemmas.{KeepsOthers-none, differ-within, reached-first, reached-later, AreWritten-none, AreWritten-then, AreWritten-more}
 use Rattle.stack_meaning.proofs.lemmas.FoundLemmas.{SomeOf-more}
@@ -31,9 +31,9 @@ abbrev pub WritesTo : Configuration → ℕ → ℕ → List ℕ → StackRecord
 WritesTo c d first bytes w w' result = Writes (destination_of c (mapped d)) first (sectors_in bytes) w.leaves w'.leaves result
 
 -- as the stack's own record
-pub each-write : {w w' : StackRecord} (d first : ℕ) (bytes : List ℕ) (result : Result Unit IoFault) → w'.config ≡ w.config → w'.capacity ≡ w.capacity → (AllWhole w.leaves → AllWhole w'.leaves)
+pub each-write : {w w' : StackRecord} (d first : ℕ) (bytes : List ℕ) (result : Result Unit IoFault) → ArePiece bytes → w'.config ≡ w.config → w'.capacity ≡ w.capacity → (AllWhole w.leaves → AllWhole w'.leaves)
     → Forgets w.config (leaves_of w.config (mapped d)) w.leaves w'.leaves w.kept w'.kept → WritesTo w.config d first bytes w w' result → EachWrite w d first bytes result w'
-each-write {w = w} {w' = w'} d first bytes result config capacity whole forgets p =
+each-write {w = w} {w' = w'} d first bytes result piece config capacity whole forgets p =
     let count = length-sectors_in bytes in
     let any : AnyWrite w d first bytes result w' = record {
       config = config;
@@ -44,9 +44,10 @@ each-write {w = w} {w' = w'} d first bytes result config capacity whole forgets 
       stops = subst (λ (n : ℕ). StopsAtFault (said_at w.config (mapped d)) first n w.leaves w'.leaves result) count p.stops;
       unread = subst (λ (n : ℕ). (SomeEncrypt (said_at w.config (mapped d)) first n → ⊥) → NoneRead w.leaves w'.leaves) count p.unread;
       forgets = forgets;
+      fails = p.fails;
       short = λ is. absurd (p.grown is);
     } in
-    record { any = any; steady = λ steady. record { any = any; exact = p.exact steady; others = differ-within w.leaves w'.leaves any.moved.moved.fixed any.moved.others; behind = behind-all result (p.behind steady) } }
+    record { piece = piece; any = any; steady = λ steady. record { any = any; exact = p.exact steady; others = differ-within w.leaves w'.leaves any.moved.moved.fixed any.moved.others; behind = behind-all result (p.behind steady) } }
   where
     behind-all : (result : Result Unit IoFault) → StopsBehindPut (with_some (destination_of w.config (mapped d))) first (sectors_in bytes) w.leaves w'.leaves result
         → StopsBehindPut (destination_of w.config (mapped d)) first (sectors_in bytes) w.leaves w'.leaves result
@@ -61,8 +62,9 @@ none-forgotten w d = forgets-none w.kept (AreRead-none 0 w.leaves)
 abbrev none-stop : (w : StackRecord) (d first n : ℕ) → 0 < n → StopsAt (said_at w.config (mapped d)) first n io.NoMemory w.leaves w.leaves
 none-stop w d first n some = record { before = 0; failed = n; some = some; inside = omega arith; by = tt; others = KeepsOthers-none _ w.leaves }
 
-pub none-written : (w : StackRecord) (d first : ℕ) (bytes : List ℕ) → 0 < length bytes / 512 → EachWrite w d first bytes (Err io.NoMemory) w
-none-written w d first bytes some = record {
+pub none-written : (w : StackRecord) (d first : ℕ) (bytes : List ℕ) → ArePiece bytes → 0 < length bytes / 512 → EachWrite w d first bytes (Err io.NoMemory) w
+none-written w d first bytes piece some = record {
+  piece = piece;
   any = any;
   steady = λ steady. record {
     any = any;
@@ -74,7 +76,7 @@ none-written w d first bytes some = record {
 }
   where
     any : AnyWrite w d first bytes (Err io.NoMemory) w
-    any = record { config = refl; capacity = refl; whole = λ h. h; moved = AreWritten-none _ _ w.leaves; ends = refl; stops = λ counted. none-stop w d first (length bytes / 512) some; unread = λ none. refl; forgets = none-forgotten w d; short = λ is. refl }
+    any = record { config = refl; capacity = refl; whole = λ h. h; moved = AreWritten-none _ _ w.leaves; ends = refl; stops = λ counted. none-stop w d first (length bytes / 512) some; unread = λ none. refl; forgets = none-forgotten w d; fails = refl; short = λ is. refl }
 
 pub write-sound : (c : Configuration) {w w' : StackRecord} {d first : ℕ} {bytes : List ℕ} {result : Result Unit IoFault} → IsSound c w.leaves → EachWrite w d first bytes result w' → IsSound c w'.leaves
 write-sound c {w = w} {w' = w'} s p = record { loaded = s.loaded; serve = leaves_kept c.leaves w.leaves w'.leaves p.any.moved.moved.fixed s.serve }
@@ -90,7 +92,7 @@ fault_of fault e = cc
 -- nothing was written yet
 pub write-none : (w : StackRecord) (d first : ℕ) → WritesInPieces w d first [] (Ok tt) w
 write-none w d first = record {
-  any = record { config = refl; capacity = refl; whole = λ h. h; moved = AreWritten-none _ _ w.leaves; ends = tt; stops = tt; unread = λ none. refl; forgets = none-forgotten w d; short = λ is. refl };
+  any = record { config = refl; capacity = refl; whole = λ h. h; moved = AreWritten-none _ _ w.leaves; ends = tt; stops = tt; unread = λ none. refl; forgets = none-forgotten w d; fails = refl; short = λ is. refl };
   pieces = nothing;
 }
 
@@ -128,6 +130,7 @@ module _ {w w' w'' : StackRecord} (d first : ℕ) (x y z : List ℕ) (even : len
     stops = stops-later result (subst (λ (c : Configuration). StopsAtFault (said_at c (mapped d)) (first + length x / 512) (length y / 512) w'.leaves w''.leaves result) p.config q.stops);
     unread = λ none. after-unread none ∙ p.unread (λ some. none (some.0, omega (arith, some.1, fits x y z even), some.2));
     forgets = forgets-then p.forgets (subst (λ (c : Configuration). Forgets c (leaves_of c (mapped d)) w'.leaves w''.leaves w'.kept w''.kept) p.config q.forgets);
+    fails = q.fails ∙ ap (failures_behind result) p.fails;
     short = λ is. absurd (grown is);
   }
     where

@@ -22,6 +22,7 @@ use Rattle.stack_meaning.proofs.lemmas.CostLemmas.{write_cost-leaf}
 use Rattle.stack_meaning.proofs.lemmas.LeafLemmas.{same_map, each_leaf, counts_one, image_at, steady_at, LeafFailed-device}
 use Rattle.stack_meaning.proofs.lemmas.SectorLemmas.{said_at-leaf}
 use Rattle.stack_meaning.proofs.lemmas.ChangeLemmas.{AreWritten-more}
+use Rattle.stack_lines.proofs.lemmas.AskLemmas.{leaf-ends, leaf-fails}
 use Rattle.stack_lines.proofs.lemmas.StopLemmas.{stop-here}
 
 -- a sector outside the range that was written
@@ -175,6 +176,7 @@ module _ {X : Type 0} (state : X → Device) (whole : (y : X) → IsWhole (state
     stops = tt;
     behind = λ steady. tt;
     unread = λ none. leaf-unread true r;
+    fails = leaf-ends state devices i x there new {A = Unit {0}} tt r.failures;
   }
 
   -- the sectors of a call of the leaf's device that failed
@@ -205,4 +207,5 @@ module _ {X : Type 0} (state : X → Device) (whole : (y : X) → IsWhole (state
         stops = λ counted. leaf-stop grows r;
         behind = λ steady counted. stop-here (destination_of c (Leaf i)) first sectors (leaf-moved false grows r).moved.fixed (leaf-stop grows r) (λ j h. absurd (omega (arith, h)));
         unread = λ none. leaf-unread false r;
+        fails = leaf-fails state devices i x there new (Unit {0}) r.failures;
       }

@@ -15,6 +15,7 @@ use Rattle.stack_meaning.specs.Leaves.{steady_images, Moves}
 use Rattle.stack_meaning.specs.Meaning.{Said}
 use Rattle.stack_meaning.specs.Puts.{Put, done, then_put}
 use Rattle.stack_meaning.specs.Changes.{reached, AreWritten, NoneRead}
+use Rattle.stack_lines.specs.Touches.{failures_by}
 use Rattle.stack_lines.specs.Writing.{sectors_in, SomeEncrypt, MayEnd, IsPut, Destination, StopsAtFault, StopsBehindPut, put_some, with_some, Writes}
 use Rattle.stack_meaning.proofs.lemmas.LeafListLemmas.{AreSteady-kept, AreSteady-within, failed_later}
 use Rattle.stack_meaning.proofs.lemmas.FoundLemmas.{SomeOf-more}
@@ -76,6 +77,7 @@ write_none to first leaves empty = record {
   stops = tt;
   behind = λ steady. tt;
   unread = λ none. refl;
+  fails = refl;
 }
 
 module _ (to : Destination) (first : ℕ) (xs ys : List (List ℕ)) {old mid new : List Device} (p : Writes to first xs old mid (Ok tt)) where
@@ -106,6 +108,7 @@ module _ (to : Destination) (first : ℕ) (xs ys : List (List ℕ)) {old mid new
     stops = tt;
     behind = λ steady. tt;
     unread = both-unread (length (xs ++ ys)) (omega (arith, length-append xs ys)) q;
+    fails = q.fails ∙ p.fails;
   }
 
   -- the next ones, which a fault ends before the last ones
@@ -128,6 +131,7 @@ module _ (to : Destination) (first : ℕ) (xs ys : List (List ℕ)) {old mid new
         behind = λ steady counted.
             behind-later to none first xs ys zs p.moved.moved.fixed p.moved.others (p.exact steady) parts (q.behind (AreSteady-kept old mid p.moved.moved.fixed steady) counted);
         unread = both-unread (length (xs ++ (ys ++ zs))) fits q;
+        fails = q.fails ∙ ap (failures_by fault) p.fails;
       }
 
 -- ---- sectors written to one place are written to another
@@ -150,6 +154,7 @@ write_as {to = to} {to' = to'} {first = first} {first' = first'} {sectors = sect
   stops = stops-as result p.stops;
   behind = λ steady. behind-all result (p.behind (AreSteady-within old alike.leaves steady));
   unread = λ none. p.unread (λ some. none (some.0, some.1, subst (λ (s : Said). s.encrypts) (alike.said some.0 some.1) some.2));
+  fails = p.fails;
 }
   where
     up : (j : ℕ) → j < length sectors → IsUp (to.said (first + j)) (to'.said (first' + j))

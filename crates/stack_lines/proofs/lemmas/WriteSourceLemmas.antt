@@ -158,6 +158,7 @@ zeros-written c sectors leaves = record {
   stops = tt;
   behind = λ steady. tt;
   unread = λ none. refl;
+  fails = refl;
 }
 
 -- sectors of an `error` line: the first one of them fails
@@ -173,6 +174,7 @@ fails-written c sectors leaves some = record {
   stops = λ counted. fails-stop c (length sectors) leaves some;
   behind = λ steady counted. stop-here (source_destination c Fails) 0 sectors refl (fails-stop c (length sectors) leaves some) (λ j h. absurd (no-less j h));
   unread = λ none. refl;
+  fails = refl;
 }
   where
     no-less : (j : ℕ) → j < 0 → ⊥

@@ -17,14 +17,17 @@ loop-round-init g c = record {
   parity = λ one other third r lt. absurd (omega (arith, lt));
 }
 
-pub sum_parity-requires : goal.sum_parity-requires
-sum_parity-requires g c = record {
-  laid = laid-then c.args.layout.now c.loop-round.invariant.read c.requires.laid;
-  products_are = c.requires.products_are;
-  round_is = omega (arith, c.loop-round-test.true, c.rounds-round-end.ensures.value);
-  block_is = c.loop-round.auto.block ∙ c.requires.block_is;
-  parity_is = c.loop-round.auto.parity ∙ c.requires.parity_is;
+pub sum_parity-requires-clause-can : goal.sum_parity-requires-clause-can
+sum_parity-requires-clause-can g c = record {
+  laid = laid-then c.args.code.now.layout.now c.loop-round.invariant.read c.requires.sums.laid;
+  count_is = c.requires.sums.count_is;
+  products_are = c.requires.sums.products_are;
+  block_is = c.loop-round.auto.block ∙ c.requires.sums.block_is;
+  parity_is = c.loop-round.auto.parity ∙ c.requires.sums.parity_is;
 }
+
+pub sum_parity-requires-clause-round : goal.sum_parity-requires-clause-round
+sum_parity-requires-clause-round g c = omega (arith, c.loop-round-test.true, c.rounds-round-end.ensures.value)
 
 pub returns-in_err-sum_parity-clause-read : goal.returns-in_err-sum_parity-clause-read
 returns-in_err-sum_parity-clause-read g c = read-then c.loop-round.invariant.read c.sum_parity.ensures.read
@@ -36,16 +39,16 @@ returns-in_err-sum_parity-clause-err g c =
 
 pub read-requires : goal.read-requires
 read-requires g c =
-    let l = c.args.layout.now in
-    let valid = c.requires.laid.layout in
-    let size = c.loop-round.auto.stored ∙ c.requires.stored_is in
+    let l = c.args.code.now.layout.now in
+    let valid = c.requires.sums.laid.layout in
+    let size = c.loop-round.auto.stored ∙ c.requires.stored in
     write-inside l (g.P.BlockDev.state c.args.parity_dev.now) (g.P.BlockDev.state c.loop-round.parity_dev) c.loop-round.round (length c.loop-round.stored) _ valid c.requires.room c.loop-round.invariant.parity_read.same.size
-    (omega (arith, c.loop-round-test.true, c.rounds-round-end.ensures.value)) size (round-quotient l (length c.args.stored.now) valid c.requires.stored_is)
+    (omega (arith, c.loop-round-test.true, c.rounds-round-end.ensures.value)) size (round-quotient l (length c.args.stored.now) valid c.requires.stored)
 
 pub loop-round-preserved : goal.loop-round-preserved
 loop-round-preserved g c =
-    let l = c.args.layout.now in
-    let valid = c.requires.laid.layout in
+    let l = c.args.code.now.layout.now in
+    let valid = c.requires.sums.laid.layout in
     let here = c.loop-round.invariant in
     let parity = c.sum_parity.new.parity in
     let stored = c.read.new.out in
@@ -53,8 +56,8 @@ loop-round-preserved g c =
     let now = g.P.BlockDev.state c.loop-round.parity_dev in
     let a = g.D.BlockDev.state c.args.data_dev.now in
     let b = g.H.BlockDev.state c.args.hash_dev.now in
-    let first = round-quotient l (length c.args.stored.now) valid c.requires.stored_is in
-    let size = c.loop-round.auto.stored ∙ c.requires.stored_is in
+    let first = round-quotient l (length c.args.stored.now) valid c.requires.stored in
+    let size = c.loop-round.auto.stored ∙ c.requires.stored in
     record {
       read = read-then here.read c.sum_parity.ensures.read;
       unfailed = unfailed-then here.unfailed c.in_ok-sum_parity.ensures.ok;
@@ -70,8 +73,8 @@ loop-round-preserved g c =
 
 pub returns-then-not-is_same-clause-ok : goal.returns-then-not-is_same-clause-ok
 returns-then-not-is_same-clause-ok g c one other third =
-    let l = c.args.layout.now in
-    let valid = c.requires.laid.layout in
+    let l = c.args.code.now.layout.now in
+    let valid = c.requires.sums.laid.layout in
     let here = c.loop-round.invariant in
     let parity = c.sum_parity.new.parity in
     let stored = c.read.new.out in
@@ -79,14 +82,14 @@ returns-then-not-is_same-clause-ok g c one other third =
     let now = g.P.BlockDev.state c.loop-round.parity_dev in
     let a = g.D.BlockDev.state c.args.data_dev.now in
     let b = g.H.BlockDev.state c.args.hash_dev.now in
-    let first = round-quotient l (length c.args.stored.now) valid c.requires.stored_is in
-    let size = c.loop-round.auto.stored ∙ c.requires.stored_is in
+    let first = round-quotient l (length c.args.stored.now) valid c.requires.stored in
+    let size = c.loop-round.auto.stored ∙ c.requires.stored in
     let steady = steady-then here.parity_read.same third in
     let summed = image-then here.read (λ (x y : List (List ℕ)). IsParityOf l x y round parity) c.in_ok-sum_parity.ensures.parity one other in
     let image : now.image ≡ (g.P.BlockDev.state c.args.parity_dev.now).image = here.parity_read.image third in
     let at = round-at l now.image round (length c.args.stored.now / 512) (length c.loop-round.stored) stored valid first size (c.in_ok-read.ensures.bytes steady) ∙ ap (λ xs. block_at xs (round_bytes l) round) image in (
       omega (arith, c.loop-round-test.true, c.rounds-round-end.ensures.value),
       here.parity one other third,
-      round-other l a.image b.image (g.P.BlockDev.state c.args.parity_dev.now).image round parity stored valid (c.sum_parity.auto.parity ∙ c.loop-round.auto.parity ∙ c.requires.parity_is) (c.read.auto.out ∙ size) at
+      round-other l a.image b.image (g.P.BlockDev.state c.args.parity_dev.now).image round parity stored valid (c.sum_parity.auto.parity ∙ c.loop-round.auto.parity ∙ c.requires.sums.parity_is) (c.read.auto.out ∙ size) at
           (sym c.is_same.ensures ∙ other-told c.is_same.result c.if-not-is_same.true) summed,
     )

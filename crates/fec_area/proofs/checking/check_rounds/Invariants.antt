@@ -12,5 +12,5 @@ invariant-loop-round g l = record {
   parity_read : IsOnlyRead (g.P.BlockDev.state l.fn.parity_dev) (g.P.BlockDev.state l.parity_dev);
   parity_unfailed : (g.P.BlockDev.state l.parity_dev).failures ≡ (g.P.BlockDev.state l.fn.parity_dev).failures;
   parity : IsTrue (g.D.BlockDev.state l.fn.data_dev).steady → IsTrue (g.H.BlockDev.state l.fn.hash_dev).steady → IsTrue (g.P.BlockDev.state l.fn.parity_dev).steady
-      → AreWrittenRounds l.layout (g.D.BlockDev.state l.fn.data_dev).image (g.H.BlockDev.state l.fn.hash_dev).image (g.P.BlockDev.state l.fn.parity_dev).image l.round;
+      → AreWrittenRounds l.code.layout.now (g.D.BlockDev.state l.fn.data_dev).image (g.H.BlockDev.state l.fn.hash_dev).image (g.P.BlockDev.state l.fn.parity_dev).image l.round;
 }

@@ -14,6 +14,6 @@ returns-clause-bytes g c one other third =
     let image = (g.P.BlockDev.state c.args.parity_dev.now).image in
     let block = c.restore_first.new.block in
     let round : index % c.rounds.result ≡ round_of l index = ap (λ (n : ℕ). index % n) c.rounds.ensures.value in
-    let first = subst (λ (r : ℕ). IsFirstRestored l a.image b.image r (block_at image (round_bytes l) r) c.deref-2.result.now block) round (c.in_ok-restore_first.ensures.first one other third) in
+    let first = subst (λ (r : ℕ). IsFirstRestored l a.image b.image r (block_at image (round_bytes l) r) c.deref-3.result.now block) round (c.in_ok-restore_first.ensures.first one other third) in
     made-again l a.image b.image image c.args.lost.now c.in_ok-places.places.items index block c.requires.laid.layout c.requires.index (c.restore_first.auto.block ∙ c.requires.size) c.in_ok-places.ensures
-    (subst (λ (ps : List ℕ). IsFirstRestored l a.image b.image (round_of l index) (block_at image (round_bytes l) (round_of l index)) ps block) c.deref-2.ensures.value first)
+    (subst (λ (ps : List ℕ). IsFirstRestored l a.image b.image (round_of l index) (block_at image (round_bytes l) (round_of l index)) ps block) c.deref-3.ensures.value first)

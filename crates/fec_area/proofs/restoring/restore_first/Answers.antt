@@ -9,37 +9,40 @@ use Rattle.fec_area.proofs.RestoringLemmas.{first-restored}
 use Rattle.fec_area.proofs.WritingLemmas.{round-at, round-within, write-inside}
 use Rattle.fec_area.proofs.restoring.restore_first.Goals as goal
 
-pub overflow_mul-round : goal.overflow_mul-round
-overflow_mul-round g c =
-    let l = c.args.layout.now in
-    let valid = c.requires.laid.layout in
+pub overflow_mul-gap : goal.overflow_mul-gap
+overflow_mul-gap g c =
+    let l = c.args.gap.now.code.layout.now in
+    let valid = c.requires.can.laid.layout in
     let s : ℕ = length c.args.parity.now / 512 in
-    let is = round-quotient l (length c.args.parity.now) valid c.requires.parity_is in
-    omega (arith, round-within l c.args.round s s c.requires.round_is is is, parity-small l valid)
+    let is = round-quotient l (length c.args.parity.now) valid c.requires.can.parity_is in
+    omega (arith, round-within l c.args.gap.now.round s s c.requires.can.round_is is is, parity-small l valid)
 
 pub read-requires : goal.read-requires
 read-requires g c =
-    let l = c.args.layout.now in
-    let valid = c.requires.laid.layout in
+    let l = c.args.gap.now.code.layout.now in
+    let valid = c.requires.can.laid.layout in
     let dev = g.P.BlockDev.state c.args.parity_dev.now in
-    write-inside l dev dev c.args.round (length c.args.parity.now) _ valid c.requires.room refl c.requires.round_is c.requires.parity_is (round-quotient l (length c.args.parity.now) valid c.requires.parity_is)
+    write-inside l dev dev c.args.gap.now.round (length c.args.parity.now) _ valid c.requires.room refl c.requires.can.round_is c.requires.can.parity_is (round-quotient l (length c.args.parity.now) valid c.requires.can.parity_is)
 
 pub restore_blocks-requires : goal.restore_blocks-requires
-restore_blocks-requires g c = record {
-  laid = c.requires.laid;
-  lost_are = c.requires.within;
-  enough = c.requires.enough;
-  products_are = c.requires.products_are;
-  round_is = c.requires.round_is;
-  block_is = c.requires.block_is;
-  parity_is = c.read.auto.out ∙ c.requires.parity_is;
-  sums_are = c.requires.sums_are;
-}
+restore_blocks-requires g c =
+    let can = c.requires.can in
+    record {
+      laid = can.laid;
+      lost_are = can.lost_are;
+      enough = can.enough;
+      count_is = can.count_is;
+      products_are = can.products_are;
+      round_is = can.round_is;
+      block_is = can.block_is;
+      parity_is = c.read.auto.out ∙ can.parity_is;
+      sums_are = can.sums_are;
+    }
 
 pub take_column-requires-clause-len : goal.take_column-requires-clause-len
 take_column-requires-clause-len g c =
-    let long : length c.restore_blocks.new.block ≡ c.args.layout.now.block = c.restore_blocks.auto.block ∙ c.requires.block_is in
-    c.restore_blocks.auto.sums ∙ c.requires.sums_are ∙ ap (λ (n : ℕ). n * length c.args.places.now) (sym long)
+    let long : length c.restore_blocks.new.block ≡ c.args.gap.now.code.layout.now.block = c.restore_blocks.auto.block ∙ c.requires.can.block_is in
+    c.restore_blocks.auto.sums ∙ c.requires.can.sums_are ∙ ap (λ (n : ℕ). n * length c.args.gap.now.places.now) (sym long)
 
 pub returns-in_err-read-clause-read : goal.returns-in_err-read-clause-read
 returns-in_err-read-clause-read g c = read-none (g.D.BlockDev.state c.args.data_dev.now) (g.H.BlockDev.state c.args.hash_dev.now)
@@ -65,18 +68,18 @@ returns-clause-parity g c = call-read c.in_ok-read.ensures.moved
 
 pub returns-clause-first : goal.returns-clause-first
 returns-clause-first g c one other third =
-    let l = c.args.layout.now in
-    let valid = c.requires.laid.layout in
+    let l = c.args.gap.now.code.layout.now in
+    let valid = c.requires.can.laid.layout in
     let a = g.D.BlockDev.state c.args.data_dev.now in
     let b = g.H.BlockDev.state c.args.hash_dev.now in
     let image = (g.P.BlockDev.state c.args.parity_dev.now).image in
-    let round = c.args.round in
+    let round = c.args.gap.now.round in
     let stored = c.read.new.out in
-    let places = c.args.places.now in
+    let places = c.args.gap.now.places.now in
     let sums = c.restore_blocks.new.sums in
     let bytes = c.take_column.new.column in
-    let first = round-quotient l (length c.args.parity.now) valid c.requires.parity_is in
-    let at = round-at l image round (length c.args.parity.now / 512) (length c.args.parity.now) stored valid first c.requires.parity_is (c.in_ok-read.ensures.bytes third) in
+    let first = round-quotient l (length c.args.parity.now) valid c.requires.can.parity_is in
+    let at = round-at l image round (length c.args.parity.now / 512) (length c.args.parity.now) stored valid first c.requires.can.parity_is (c.in_ok-read.ensures.bytes third) in
     let restored = subst (λ (xs : List ℕ). AreRestored l a.image b.image round xs places sums) at (c.in_ok-restore_blocks.ensures.restored one other) in
-    first-restored l a.image b.image round (block_at image (round_bytes l) round) places sums bytes c.requires.some (c.take_column.auto.column ∙ c.restore_blocks.auto.block ∙ c.requires.block_is)
+    first-restored l a.image b.image round (block_at image (round_bytes l) round) places sums bytes c.requires.some (c.take_column.auto.column ∙ c.restore_blocks.auto.block ∙ c.requires.can.block_is)
     c.take_column.ensures restored

@@ -7,20 +7,20 @@ use Rattle.fec_area.proofs.round.add_place.Goals as goal
 
 pub returns-then-index-covered_blocks-clause-added : goal.returns-then-index-covered_blocks-clause-added
 returns-then-index-covered_blocks-clause-added g c one other =
-    let l = c.args.layout.now in
+    let l = c.args.code.now.layout.now in
     let a = g.D.BlockDev.state c.args.data_dev.now in
     let b = g.H.BlockDev.state c.args.hash_dev.now in
     let index : c.args.place * c.rounds.result ≡ c.args.place * rounds l = ap (λ n. c.args.place * n) c.rounds.ensures.value in
     let past : covered_blocks l ≤ c.args.place * rounds l + c.args.round = omega (arith, c.if-index-covered_blocks.true, c.covered_blocks.ensures.value, index) in
-    place-past l a.image b.image c.args.count c.args.products.now c.args.round c.args.place c.args.sums.now past
+    place-past l a.image b.image c.args.code.now.count c.args.code.now.products.now c.args.round c.args.place c.args.sums.now past
 
 pub returns-clause-added : goal.returns-clause-added
 returns-clause-added g c one other =
-    let l = c.args.layout.now in
+    let l = c.args.code.now.layout.now in
     let a = g.D.BlockDev.state c.args.data_dev.now in
     let b = g.H.BlockDev.state c.args.hash_dev.now in
-    let products = c.args.products.now in
-    let count = c.args.count in
+    let products = c.args.code.now.products.now in
+    let count = c.args.code.now.count in
     let place = c.args.place in
     let block = c.read_covered.new.block in
     let old = c.args.sums.now in

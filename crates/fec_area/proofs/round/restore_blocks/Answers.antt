@@ -1,4 +1,4 @@
-use Rattle.std.proofs.Common.{◌≡◌, ◌+◌, ◌-◌, ◌*◌, ◌≤◌, ℕ, List, length, replicate, ap, ◌∙◌, arith, subst}
+use Rattle.std.proofs.Common.{◌≡◌, ◌+◌, ◌-◌, ◌*◌, ◌≤◌, ℕ, IsTrue, List, length, replicate, sym, ap, ◌∙◌, arith, subst}
 use Rattle.std.specs.Prelude.{slice_index}
 use Rattle.std.proofs.lemmas.List.{get_or-replicate}
 use Rattle.std.proofs.lemmas.Result.{err_from_is_err_and}
@@ -16,37 +16,39 @@ loop-place-init g c =
     record {
       read = read-none (g.D.BlockDev.state c.args.data_dev.now) (g.H.BlockDev.state c.args.hash_dev.now);
       unfailed = unfailed-none (g.D.BlockDev.state c.args.data_dev.now) (g.H.BlockDev.state c.args.hash_dev.now);
-      sums = λ one other. summed-none (λ c'. slice_index (codeword c.args.layout.now (g.D.BlockDev.state c.args.data_dev.now).image (g.H.BlockDev.state c.args.hash_dev.now).image c.args.round c.args.parity.now c')) (length c.args.lost.now) c.args.products.now sums (λ m lt. ap (λ xs. slice_index xs m) zeros ∙ get_or-replicate {A = ℕ} (length c.args.sums.now) m 0 0 (omega (arith, lt, c.fill.ensures.len)));
+      sums = λ one other. summed-none (λ c'. slice_index (codeword c.args.gap.now.code.layout.now (g.D.BlockDev.state c.args.data_dev.now).image (g.H.BlockDev.state c.args.hash_dev.now).image c.args.gap.now.round c.args.parity.now c')) (length c.args.gap.now.places.now) c.args.gap.now.code.products.now sums (λ m lt. ap (λ xs. slice_index xs m) zeros ∙ get_or-replicate {A = ℕ} (length c.args.sums.now) m 0 0 (omega (arith, lt, c.fill.ensures.len)));
     }
 
 pub add_place-requires-clause-can : goal.add_place-requires-clause-can
 add_place-requires-clause-can g c =
     let valid = c.requires.laid.layout in
     record {
-      laid = laid-then c.args.layout.now c.loop-place.invariant.read c.requires.laid;
-      few = omega (arith, c.requires.enough, valid.few);
-      products_are = c.requires.products_are.len;
+      laid = laid-then c.args.gap.now.code.layout.now c.loop-place.invariant.read c.requires.laid;
+      few = omega (arith, c.requires.enough, valid.few, c.requires.count_is);
+      products_are = c.requires.products_are.len ∙ ap (λ n. 255 * n) (sym c.requires.count_is);
       round_is = c.requires.round_is;
       block_is = c.loop-place.auto.block ∙ c.requires.block_is;
-      sums_are = c.loop-place.auto.sums ∙ c.fill.ensures.len ∙ c.requires.sums_are;
+      sums_are = c.loop-place.auto.sums ∙ c.fill.ensures.len ∙ c.requires.sums_are ∙ ap (λ n. c.args.gap.now.code.layout.now.block * n) (sym c.requires.count_is);
     }
 
 pub loop-place-preserved : goal.loop-place-preserved
 loop-place-preserved g c =
-    let l = c.args.layout.now in
+    let l = c.args.gap.now.code.layout.now in
     let here = c.loop-place.invariant in
     let old = c.loop-place.sums in
     let new = c.add_place.new.sums in
-    let products = c.args.products.now in
-    let n = length c.args.lost.now in
+    let products = c.args.gap.now.code.products.now in
+    let n = length c.args.gap.now.places.now in
     let place = c.loop-place.place in
     let a = g.D.BlockDev.state c.args.data_dev.now in
     let b = g.H.BlockDev.state c.args.hash_dev.now in
-    let added = image-then here.read (λ (x y : List (List ℕ)). IsPlaceAdded l x y n products c.args.round place old new) c.in_ok-add_place.ensures.added in
+    let counted = image-then here.read (λ (x y : List (List ℕ)). IsPlaceAdded l x y c.args.gap.now.code.count products c.args.gap.now.round place old new) c.in_ok-add_place.ensures.added in
+    let added : IsTrue a.steady → IsTrue b.steady → IsPlaceAdded l a.image b.image n products c.args.gap.now.round place old new
+    = λ one other. subst (λ (m : ℕ). IsPlaceAdded l a.image b.image m products c.args.gap.now.round place old new) c.requires.count_is (counted one other) in
     record {
       read = read-then here.read c.add_place.ensures.read;
       unfailed = unfailed-then here.unfailed c.in_ok-add_place.ensures.ok;
-      sums = λ one other. message-more l a.image b.image products c.args.round c.args.parity.now n place old new c.loop-place-test.true c.add_place.auto.sums (added one other) (here.sums one other);
+      sums = λ one other. message-more l a.image b.image products c.args.gap.now.round c.args.parity.now n place old new c.loop-place-test.true c.add_place.auto.sums (added one other) (here.sums one other);
     }
 
 pub returns-in_err-add_place-clause-read : goal.returns-in_err-add_place-clause-read
@@ -59,20 +61,20 @@ returns-in_err-add_place-clause-err g c =
 
 pub loop-k-init : goal.loop-k-init
 loop-k-init g c one other =
-    let l = c.args.layout.now in
+    let l = c.args.gap.now.code.layout.now in
     let a = g.D.BlockDev.state c.args.data_dev.now in
     let b = g.H.BlockDev.state c.args.hash_dev.now in
     let end : c.loop-place.place ≡ 255 - l.roots + 0 = omega (arith, c.loop-place-test.false, c.loop-place.auto.place-end) in
-    subst (λ (j : ℕ). AreSummed (λ c'. slice_index (codeword l a.image b.image c.args.round c.args.parity.now c')) (length c.args.lost.now) c.args.products.now c.loop-place.sums j) end (c.loop-place.invariant.sums one other)
+    subst (λ (j : ℕ). AreSummed (λ c'. slice_index (codeword l a.image b.image c.args.gap.now.round c.args.parity.now c')) (length c.args.gap.now.places.now) c.args.gap.now.code.products.now c.loop-place.sums j) end (c.loop-place.invariant.sums one other)
 
 pub loop-k-preserved : goal.loop-k-preserved
 loop-k-preserved g c one other =
-    let l = c.args.layout.now in
+    let l = c.args.gap.now.code.layout.now in
     let a = g.D.BlockDev.state c.args.data_dev.now in
     let b = g.H.BlockDev.state c.args.hash_dev.now in
     let few = c.requires.laid.layout.few in
-    let products = c.args.products.now in
-    let n = length c.args.lost.now in
+    let products = c.args.gap.now.code.products.now in
+    let n = length c.args.gap.now.places.now in
     let k = c.loop-k.k in
     let block = c.take_column.new.column in
     let old = c.loop-k.sums in
@@ -83,22 +85,22 @@ loop-k-preserved g c one other =
     let first : ℕ = (255 - l.roots + k) * n in
     let last : first + n ≤ 255 * n = place-fits (255 - l.roots + k) n (omega (arith, few, c.loop-k-test.true)) in
     let fits : first + n ≤ length products = omega (arith, last, c.requires.products_are.len) in
-    column-more l a.image b.image products c.args.round c.args.parity.now n k block old new (omega (arith, few)) c.loop-k-test.true size long all c.take_column.ensures
+    column-more l a.image b.image products c.args.gap.now.round c.args.parity.now n k block old new (omega (arith, few)) c.loop-k-test.true size long all c.take_column.ensures
     (products-added products block old new n first l.block fits all c.add_products.ensures)
     (c.loop-k.invariant one other)
 
 pub returns-clause-restored : goal.returns-clause-restored
 returns-clause-restored g c one other =
-    let l = c.args.layout.now in
+    let l = c.args.gap.now.code.layout.now in
     let valid = c.requires.laid.layout in
     let few = valid.few in
     let a = g.D.BlockDev.state c.args.data_dev.now in
     let b = g.H.BlockDev.state c.args.hash_dev.now in
-    summed-restored l a.image b.image c.args.products.now c.args.round c.args.parity.now c.args.lost.now c.loop-k.sums (255 - l.roots + c.loop-k.k) valid c.requires.products_are c.requires.lost_are c.requires.enough
+    summed-restored l a.image b.image c.args.gap.now.code.products.now c.args.gap.now.round c.args.parity.now c.args.gap.now.places.now c.loop-k.sums (255 - l.roots + c.loop-k.k) valid c.requires.products_are c.requires.lost_are c.requires.enough
     (c.loop-k.auto.sums ∙ c.loop-place.auto.sums ∙ c.fill.ensures.len ∙ c.requires.sums_are) (omega (arith, few, c.loop-k-test.false, c.loop-k.auto.k-end)) (c.loop-k.invariant one other)
 
 pub slice_bounds-add_products-end : goal.slice_bounds-add_products-end
 slice_bounds-add_products-end g c =
-    let l = c.args.layout.now in
-    let last = place-fits (255 - l.roots + c.loop-k.k) (length c.args.lost.now) (omega (arith, c.requires.laid.layout.few, c.loop-k-test.true)) in
+    let l = c.args.gap.now.code.layout.now in
+    let last = place-fits (255 - l.roots + c.loop-k.k) (length c.args.gap.now.places.now) (omega (arith, c.requires.laid.layout.few, c.loop-k-test.true)) in
     omega (arith, last, c.requires.products_are.len)

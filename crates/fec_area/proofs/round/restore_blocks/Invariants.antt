@@ -12,11 +12,11 @@ invariant-loop-place g l = record {
   read : AreOnlyRead (g.D.BlockDev.state l.fn.data_dev) (g.H.BlockDev.state l.fn.hash_dev) (g.D.BlockDev.state l.data_dev) (g.H.BlockDev.state l.hash_dev);
   unfailed : AreUnfailed (g.D.BlockDev.state l.fn.data_dev) (g.H.BlockDev.state l.fn.hash_dev) (g.D.BlockDev.state l.data_dev) (g.H.BlockDev.state l.hash_dev);
   sums : IsTrue (g.D.BlockDev.state l.fn.data_dev).steady → IsTrue (g.H.BlockDev.state l.fn.hash_dev).steady
-      → AreSummed (λ c. slice_index (codeword l.layout (g.D.BlockDev.state l.fn.data_dev).image (g.H.BlockDev.state l.fn.hash_dev).image l.round l.parity c)) (length l.lost) l.products l.sums l.place;
+      → AreSummed (λ c. slice_index (codeword l.gap.code.layout.now (g.D.BlockDev.state l.fn.data_dev).image (g.H.BlockDev.state l.fn.hash_dev).image l.gap.round l.parity c)) (length l.gap.places.now) l.gap.code.products.now l.sums l.place;
 }
 
 -- those of the parity so far
 abbrev pub invariant-loop-k : goal.invariant-loop-k
 invariant-loop-k g l =
     IsTrue (g.D.BlockDev.state l.fn.data_dev).steady → IsTrue (g.H.BlockDev.state l.fn.hash_dev).steady
-    → AreSummed (λ c. slice_index (codeword l.layout (g.D.BlockDev.state l.fn.data_dev).image (g.H.BlockDev.state l.fn.hash_dev).image l.round l.parity c)) (length l.lost) l.products l.sums (255 - l.layout.roots + l.k)
+    → AreSummed (λ c. slice_index (codeword l.gap.code.layout.now (g.D.BlockDev.state l.fn.data_dev).image (g.H.BlockDev.state l.fn.hash_dev).image l.gap.round l.parity c)) (length l.gap.places.now) l.gap.code.products.now l.sums (255 - l.gap.code.layout.now.roots + l.k)

@@ -1,4 +1,4 @@
-use Rattle.std.proofs.Common.{◌≡◌, ◌-◌, ◌*◌, ℕ, List, length, replicate, sym, ap, ◌∙◌, arith}
+use Rattle.std.proofs.Common.{◌≡◌, ◌-◌, ◌*◌, ℕ, IsTrue, List, length, replicate, subst, sym, ap, ◌∙◌, arith}
 use Rattle.std.specs.Prelude.{slice_index}
 use Rattle.std.proofs.lemmas.List.{get_or-replicate}
 use Rattle.std.proofs.lemmas.List.FromFn.{length-range_with_len}
@@ -16,34 +16,36 @@ loop-place-init g c =
     record {
       read = read-none (g.D.BlockDev.state c.args.data_dev.now) (g.H.BlockDev.state c.args.hash_dev.now);
       unfailed = unfailed-none (g.D.BlockDev.state c.args.data_dev.now) (g.H.BlockDev.state c.args.hash_dev.now);
-      sums = λ one other. summed-none (message c.args.layout.now (g.D.BlockDev.state c.args.data_dev.now).image (g.H.BlockDev.state c.args.hash_dev.now).image c.args.round) c.args.layout.now.roots c.args.products.now sums (λ m lt. ap (λ xs. slice_index xs m) zeros ∙ get_or-replicate {A = ℕ} (length c.args.parity.now) m 0 0 (omega (arith, lt, c.fill.ensures.len)));
+      sums = λ one other. summed-none (message c.args.code.now.layout.now (g.D.BlockDev.state c.args.data_dev.now).image (g.H.BlockDev.state c.args.hash_dev.now).image c.args.round) c.args.code.now.layout.now.roots c.args.code.now.products.now sums (λ m lt. ap (λ xs. slice_index xs m) zeros ∙ get_or-replicate {A = ℕ} (length c.args.parity.now) m 0 0 (omega (arith, lt, c.fill.ensures.len)));
       bytes = λ one other i k lt. absurd (omega (arith, lt));
     }
 
 pub add_place-requires-clause-can : goal.add_place-requires-clause-can
 add_place-requires-clause-can g c =
-    let l = c.args.layout.now in
-    let valid = c.requires.laid.layout in
+    let l = c.args.code.now.layout.now in
+    let valid = c.requires.can.laid.layout in
     record {
-      laid = laid-then l c.loop-place.invariant.read c.requires.laid;
-      few = omega (arith, valid.few);
-      products_are = c.requires.products_are.len ∙ ap (λ n. 255 * n) (length-range_with_len (255 - l.roots) l.roots);
-      round_is = c.requires.round_is;
-      block_is = c.loop-place.auto.block ∙ c.requires.block_is;
-      sums_are = c.loop-place.auto.parity ∙ c.fill.ensures.len ∙ c.requires.parity_is ∙ sym (round-swap l);
+      laid = laid-then l c.loop-place.invariant.read c.requires.can.laid;
+      few = omega (arith, valid.few, c.requires.can.count_is);
+      products_are = c.requires.can.products_are.len ∙ ap (λ n. 255 * n) (length-range_with_len (255 - l.roots) l.roots ∙ sym c.requires.can.count_is);
+      round_is = c.requires.round;
+      block_is = c.loop-place.auto.block ∙ c.requires.can.block_is;
+      sums_are = c.loop-place.auto.parity ∙ c.fill.ensures.len ∙ c.requires.can.parity_is ∙ sym (round-swap l) ∙ ap (λ n. l.block * n) (sym c.requires.can.count_is);
     }
 
 pub loop-place-preserved : goal.loop-place-preserved
 loop-place-preserved g c =
-    let l = c.args.layout.now in
+    let l = c.args.code.now.layout.now in
     let here = c.loop-place.invariant in
     let old = c.loop-place.parity in
     let new = c.add_place.new.sums in
-    let products = c.args.products.now in
+    let products = c.args.code.now.products.now in
     let place = c.loop-place.place in
     let a = g.D.BlockDev.state c.args.data_dev.now in
     let b = g.H.BlockDev.state c.args.hash_dev.now in
-    let added = image-then here.read (λ (x y : List (List ℕ)). IsPlaceAdded l x y l.roots products c.args.round place old new) c.in_ok-add_place.ensures.added in
+    let counted = image-then here.read (λ (x y : List (List ℕ)). IsPlaceAdded l x y c.args.code.now.count products c.args.round place old new) c.in_ok-add_place.ensures.added in
+    let added : IsTrue a.steady → IsTrue b.steady → IsPlaceAdded l a.image b.image l.roots products c.args.round place old new
+    = λ one other. subst (λ (n : ℕ). IsPlaceAdded l a.image b.image n products c.args.round place old new) c.requires.can.count_is (counted one other) in
     record {
       read = read-then here.read c.add_place.ensures.read;
       unfailed = unfailed-then here.unfailed c.in_ok-add_place.ensures.ok;
@@ -61,9 +63,9 @@ returns-in_err-add_place-clause-err g c =
 
 pub returns-clause-parity : goal.returns-clause-parity
 returns-clause-parity g c one other =
-    let l = c.args.layout.now in
+    let l = c.args.code.now.layout.now in
     let here = c.loop-place.invariant in
     let a = g.D.BlockDev.state c.args.data_dev.now in
     let b = g.H.BlockDev.state c.args.hash_dev.now in
-    summed-parity l a.image b.image c.args.products.now c.args.round c.loop-place.parity c.loop-place.place c.requires.laid.layout c.requires.products_are
-    (c.loop-place.auto.parity ∙ c.fill.ensures.len ∙ c.requires.parity_is) (omega (arith, c.loop-place-test.false, c.loop-place.auto.place-end)) (here.bytes one other) (here.sums one other)
+    summed-parity l a.image b.image c.args.code.now.products.now c.args.round c.loop-place.parity c.loop-place.place c.requires.can.laid.layout c.requires.can.products_are
+    (c.loop-place.auto.parity ∙ c.fill.ensures.len ∙ c.requires.can.parity_is) (omega (arith, c.loop-place-test.false, c.loop-place.auto.place-end)) (here.bytes one other) (here.sums one other)

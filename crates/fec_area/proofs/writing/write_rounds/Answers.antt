@@ -11,19 +11,22 @@ pub loop-round-init : goal.loop-round-init
 loop-round-init g c = record {
   read = read-none (g.D.BlockDev.state c.args.data_dev.now) (g.H.BlockDev.state c.args.hash_dev.now);
   unfailed = unfailed-none (g.D.BlockDev.state c.args.data_dev.now) (g.H.BlockDev.state c.args.hash_dev.now);
-  written = only_written-none (g.P.BlockDev.state c.args.parity_dev.now) (parity_sectors c.args.layout.now);
+  written = only_written-none (g.P.BlockDev.state c.args.parity_dev.now) (parity_sectors c.args.code.now.layout.now);
   parity_unfailed = refl;
   parity = λ one other third r lt. absurd (omega (arith, lt));
 }
 
-pub sum_parity-requires : goal.sum_parity-requires
-sum_parity-requires g c = record {
-  laid = laid-then c.args.layout.now c.loop-round.invariant.read c.requires.laid;
-  products_are = c.requires.products_are;
-  round_is = omega (arith, c.loop-round-test.true, c.rounds-round-end.ensures.value);
-  block_is = c.loop-round.auto.block ∙ c.requires.block_is;
-  parity_is = c.loop-round.auto.parity ∙ c.requires.parity_is;
+pub sum_parity-requires-clause-can : goal.sum_parity-requires-clause-can
+sum_parity-requires-clause-can g c = record {
+  laid = laid-then c.args.code.now.layout.now c.loop-round.invariant.read c.requires.sums.laid;
+  count_is = c.requires.sums.count_is;
+  products_are = c.requires.sums.products_are;
+  block_is = c.loop-round.auto.block ∙ c.requires.sums.block_is;
+  parity_is = c.loop-round.auto.parity ∙ c.requires.sums.parity_is;
 }
+
+pub sum_parity-requires-clause-round : goal.sum_parity-requires-clause-round
+sum_parity-requires-clause-round g c = omega (arith, c.loop-round-test.true, c.rounds-round-end.ensures.value)
 
 pub returns-in_err-sum_parity-clause-read : goal.returns-in_err-sum_parity-clause-read
 returns-in_err-sum_parity-clause-read g c = read-then c.loop-round.invariant.read c.sum_parity.ensures.read
@@ -35,10 +38,10 @@ returns-in_err-sum_parity-clause-err g c =
 
 pub write-requires-clause-range : goal.write-requires-clause-range
 write-requires-clause-range g c =
-    let l = c.args.layout.now in
-    let valid = c.requires.laid.layout in
-    let size = c.sum_parity.auto.parity ∙ c.loop-round.auto.parity ∙ c.requires.parity_is in
-    let here = round-quotient l (length c.args.parity.now) valid c.requires.parity_is in
+    let l = c.args.code.now.layout.now in
+    let valid = c.requires.sums.laid.layout in
+    let size = c.sum_parity.auto.parity ∙ c.loop-round.auto.parity ∙ c.requires.sums.parity_is in
+    let here = round-quotient l (length c.args.parity.now) valid c.requires.sums.parity_is in
     write-inside l (g.P.BlockDev.state c.args.parity_dev.now) (g.P.BlockDev.state c.loop-round.parity_dev) c.loop-round.round (length c.sum_parity.new.parity) _ valid c.requires.room c.loop-round.invariant.written.same.size
     (omega (arith, c.loop-round-test.true, c.rounds-round-end.ensures.value)) size here
 
@@ -47,8 +50,8 @@ write-requires-clause-allowed g c = subst IsTrue (sym c.loop-round.invariant.wri
 
 pub loop-round-preserved : goal.loop-round-preserved
 loop-round-preserved g c =
-    let l = c.args.layout.now in
-    let valid = c.requires.laid.layout in
+    let l = c.args.code.now.layout.now in
+    let valid = c.requires.sums.laid.layout in
     let here = c.loop-round.invariant in
     let parity = c.sum_parity.new.parity in
     let round = c.loop-round.round in
@@ -59,8 +62,8 @@ loop-round-preserved g c =
     let a = g.D.BlockDev.state c.args.data_dev.now in
     let b = g.H.BlockDev.state c.args.hash_dev.now in
     let lt : round < rounds l = omega (arith, c.loop-round-test.true, c.rounds-round-end.ensures.value) in
-    let size = c.sum_parity.auto.parity ∙ c.loop-round.auto.parity ∙ c.requires.parity_is in
-    let first = round-quotient l (length c.args.parity.now) valid c.requires.parity_is in
+    let size = c.sum_parity.auto.parity ∙ c.loop-round.auto.parity ∙ c.requires.sums.parity_is in
+    let first = round-quotient l (length c.args.parity.now) valid c.requires.sums.parity_is in
     let count = round-quotient l (length parity) valid size in
     let within : round * s + k ≤ parity_sectors l = round-within l round s k lt first count in
     let whole = (g.met.P.BlockDev.whole c.loop-round.parity_dev).length in
@@ -83,12 +86,12 @@ returns-in_err-write-clause-read g c = read-then c.loop-round.invariant.read c.s
 
 pub returns-in_err-write-clause-written : goal.returns-in_err-write-clause-written
 returns-in_err-write-clause-written g c =
-    let l = c.args.layout.now in
-    let valid = c.requires.laid.layout in
+    let l = c.args.code.now.layout.now in
+    let valid = c.requires.sums.laid.layout in
     let round = c.loop-round.round in
     let lt : round < rounds l = omega (arith, c.loop-round-test.true, c.rounds-round-end.ensures.value) in
-    let size = c.sum_parity.auto.parity ∙ c.loop-round.auto.parity ∙ c.requires.parity_is in
-    let first = round-quotient l (length c.args.parity.now) valid c.requires.parity_is in
+    let size = c.sum_parity.auto.parity ∙ c.loop-round.auto.parity ∙ c.requires.sums.parity_is in
+    let first = round-quotient l (length c.args.parity.now) valid c.requires.sums.parity_is in
     let count = round-quotient l (length c.sum_parity.new.parity) valid size in
     only_written-then (parity_sectors l) c.loop-round.invariant.written
     (only_written-write (round * (length c.args.parity.now / 512)) (length c.sum_parity.new.parity / 512) (parity_sectors l) c.in_err-write.ensures.moved (round-within l round _ _ lt first count))
@@ -101,7 +104,7 @@ returns-in_err-write-clause-err g c =
 pub returns-clause-ok : goal.returns-clause-ok
 returns-clause-ok g c =
     let here = c.loop-round.invariant in
-    let l = c.args.layout.now in
+    let l = c.args.code.now.layout.now in
     record {
       unfailed = here.unfailed;
       parity_unfailed = here.parity_unfailed;

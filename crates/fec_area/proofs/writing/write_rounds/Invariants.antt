@@ -10,8 +10,8 @@ abbrev pub invariant-loop-round : goal.invariant-loop-round
 invariant-loop-round g l = record {
   read : AreOnlyRead (g.D.BlockDev.state l.fn.data_dev) (g.H.BlockDev.state l.fn.hash_dev) (g.D.BlockDev.state l.data_dev) (g.H.BlockDev.state l.hash_dev);
   unfailed : AreUnfailed (g.D.BlockDev.state l.fn.data_dev) (g.H.BlockDev.state l.fn.hash_dev) (g.D.BlockDev.state l.data_dev) (g.H.BlockDev.state l.hash_dev);
-  written : IsOnlyWritten (g.P.BlockDev.state l.fn.parity_dev) (parity_sectors l.layout) (g.P.BlockDev.state l.parity_dev);
+  written : IsOnlyWritten (g.P.BlockDev.state l.fn.parity_dev) (parity_sectors l.code.layout.now) (g.P.BlockDev.state l.parity_dev);
   parity_unfailed : (g.P.BlockDev.state l.parity_dev).failures ≡ (g.P.BlockDev.state l.fn.parity_dev).failures;
   parity : IsTrue (g.D.BlockDev.state l.fn.data_dev).steady → IsTrue (g.H.BlockDev.state l.fn.hash_dev).steady → IsTrue (g.P.BlockDev.state l.fn.parity_dev).steady
-      → AreWrittenRounds l.layout (g.D.BlockDev.state l.fn.data_dev).image (g.H.BlockDev.state l.fn.hash_dev).image (g.P.BlockDev.state l.parity_dev).image l.round;
+      → AreWrittenRounds l.code.layout.now (g.D.BlockDev.state l.fn.data_dev).image (g.H.BlockDev.state l.fn.hash_dev).image (g.P.BlockDev.state l.parity_dev).image l.round;
 }

@@ -1,4 +1,4 @@
-use Rattle.std.proofs.Common.{◌∙◌, arith, refl}
+use Rattle.std.proofs.Common.{◌∙◌, refl}
 use Rattle.std.proofs.lemmas.Result.{err_from_is_err_and}
 use Rattle.nbd_protocol.specs.Exports.{export_record}
 use Rattle.nbd_server.proofs.DeliveryLemmas.{goes-smaller, underway-all, underway-lost, underway-more, underway-none, underway-stuck}

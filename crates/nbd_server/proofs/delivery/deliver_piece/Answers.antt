@@ -1,11 +1,11 @@
-use Rattle.std.proofs.Common.{◌≡◌, ◌<◌, ◌≤◌, ℕ, ◌+◌, arith, refl, subst, sym}
+use Rattle.std.proofs.Common.{◌<◌, ◌≤◌, ℕ, arith, refl, subst, sym}
 use Rattle.std.proofs.lemmas.Result.{err_from_is_err_and}
 use Rattle.nbd_protocol.specs.Exports.{export_record}
 use Rattle.nbd_chunks.specs.Chunks.{error_at_chunk}
 use Rattle.nbd_server.specs.Delivery.{IsPiece}
 use Rattle.nbd_server.specs.Status.{touched}
 use Rattle.nbd_server.specs.Transmission.{data_of}
-use Rattle.nbd_server.proofs.DeliveryLemmas.{lost-stuck, piece-bytes, piece-lost, piece-put_off, piece-sent, rest-left, sent-stuck}
+use Rattle.nbd_server.proofs.DeliveryLemmas.{lost-stuck, part-size, piece-bytes, piece-lost, piece-put_off, piece-sent, rest-left, sent-stuck}
 use Rattle.nbd_server.proofs.delivery.deliver_piece.Goals as goal
 
 pub piece_len-size-requires-clause-rest : goal.piece_len-size-requires-clause-rest
@@ -37,7 +37,7 @@ returns-in_err-say_piece-in-Ok-clause-err g c =
     let new = g.W.Write.contents c.say_piece.new.writer.inner in
     let p = err_from_is_err_and c.from_residual.result c.from_residual.ensures.1 in
     rw p.1 (sent-stuck (export_record c.args.export.now) c.args.delivery c.args.progress c.args.queue.now c.read_bytes.new.queue c.piece_len-size.result c.at-at.result c.at-at.ensures c.piece_len-size.ensures old new
-    (data_of c.in-Ok.data) c.in-Ok.ensures.value)
+    (data_of c.in-Ok.data) (omega (arith, part-size c.in-Ok.data c.in-Ok.ensures.inside, c.in-Ok.ensures.size, c.piece_len-size.ensures.some)) c.in-Ok.ensures.value)
 
 pub returns-in_err-say_piece-in-Ok-clause-failed : goal.returns-in_err-say_piece-in-Ok-clause-failed
 returns-in_err-say_piece-in-Ok-clause-failed g c =

@@ -10,9 +10,18 @@ runs-init g c = record {
   put = put-none c.args.queue.now c.args.export.now.device.0 c.args.first (zeros_of c.args.zeros.now);
   export = c.requires.export;
   ends = c.requires.ends;
-  whole = c.requires.sectors.whole;
-  small = c.requires.sectors.small;
+  sectors = c.requires.sectors;
 }
+
+pub zero_run-requires-clause-sectors : goal.zero_run-requires-clause-sectors
+zero_run-requires-clause-sectors g c =
+    let before = c.runs.rest.before.now in
+    let size : length (before ++ (replicate (1048576 - length before) 0 ++ [])) ≡ 1048576 = omega (arith, length-zeros before [] (1048576 - length before), c.runs.invariant.ends.before) in
+    record {
+      whole = omega (arith, size);
+      inside = omega (arith, size, c.len.ensures.value, c.runs-test.true, c.runs.invariant.sectors.inside);
+      allowed = c.runs.invariant.sectors.allowed;
+    }
 
 pub returns-in_err-zero_run-clause-err : goal.returns-in_err-zero_run-clause-err
 returns-in_err-zero_run-clause-err g c =
@@ -23,7 +32,7 @@ returns-in_err-zero_run-clause-err g c =
     let behind = c.runs.rest.behind.now in
     let n = c.runs.rest.count in
     let m = 1048576 - length before in
-    let few : m ≤ n = omega (arith, c.len.ensures.value, c.len.ensures.sum, c.runs-test.true, c.runs.invariant.whole, c.runs.invariant.ends.before, c.runs.invariant.ends.behind) in
+    let few : m ≤ n = omega (arith, c.len.ensures.value, c.len.ensures.sum, c.runs-test.true, c.runs.invariant.sectors.whole, c.runs.invariant.ends.before, c.runs.invariant.ends.behind) in
     let run : List ℕ = before ++ (replicate m 0 ++ []) in
     let rest : List ℕ = [] ++ (replicate (n - m) 0 ++ behind) in
     let put : IsPut first d c.args.first c.runs.at all (run ++ rest) c.runs.queue = subst (λ (l : List ℕ). IsPut first d c.args.first c.runs.at all l c.runs.queue) (zeros-split before behind m n few) c.runs.invariant.put in
@@ -40,7 +49,7 @@ runs-preserved g c =
     let behind = c.runs.rest.behind.now in
     let n = c.runs.rest.count in
     let m = 1048576 - length before in
-    let few : m ≤ n = omega (arith, c.len.ensures.value, c.len.ensures.sum, c.runs-test.true, c.runs.invariant.whole, c.runs.invariant.ends.before, c.runs.invariant.ends.behind) in
+    let few : m ≤ n = omega (arith, c.len.ensures.value, c.len.ensures.sum, c.runs-test.true, c.runs.invariant.sectors.whole, c.runs.invariant.ends.before, c.runs.invariant.ends.behind) in
     let run : List ℕ = before ++ (replicate m 0 ++ []) in
     let rest : List ℕ = [] ++ (replicate (n - m) 0 ++ behind) in
     let put : IsPut first d c.args.first c.runs.at all (run ++ rest) c.runs.queue = subst (λ (l : List ℕ). IsPut first d c.args.first c.runs.at all l c.runs.queue) (zeros-split before behind m n few) c.runs.invariant.put in
@@ -52,8 +61,11 @@ runs-preserved g c =
       put = subst (λ (k : ℕ). IsPut first d c.args.first (c.runs.at + k) all rest now) sectors more;
       export = subst (λ x. IsExport x (export_record c.args.export.now)) (sym c.in_ok-zero_run.ensures.ok.put.any.config) c.runs.invariant.export;
       ends = record { before = omega arith; few = omega (arith, c.runs.invariant.ends.few); behind = c.runs.invariant.ends.behind };
-      whole = omega (arith, left, few, c.len.ensures.value, c.len.ensures.sum, c.runs.invariant.whole, c.runs.invariant.ends.before);
-      small = omega (arith, left, few, c.len.ensures.value, c.len.ensures.sum, c.runs.invariant.whole, c.runs.invariant.small, c.runs.invariant.ends.before);
+      sectors = record {
+        whole = omega (arith, left, few, c.len.ensures.value, c.len.ensures.sum, c.runs.invariant.sectors.whole, c.runs.invariant.ends.before);
+        inside = omega (arith, left, few, c.len.ensures.value, c.len.ensures.sum, c.runs.invariant.sectors.inside, c.runs.invariant.ends.before);
+        allowed = c.runs.invariant.sectors.allowed;
+      };
     }
 
 pub returns-clause-ok : goal.returns-clause-ok

@@ -1,6 +1,5 @@
-use Rattle.std.proofs.Common.{◌≡◌, ◌≤◌, ◌+◌, ◌/◌, ◌%◌, ◌^◌, length}
 use Rattle.nbd_protocol.specs.Exports.{IsExport, export_record}
-use Rattle.nbd_server.specs.Premises.{HaveEnds}
+use Rattle.nbd_server.specs.Premises.{AreSectors, HaveEnds}
 use Rattle.nbd_server.specs.Zeros.{zeros_of}
 use Rattle.nbd_server.proofs.StoreLemmas.{IsPut}
 use Rattle.nbd_server.proofs.store.store_zeros.Given as goal
@@ -11,8 +10,7 @@ invariant-runs g l = record {
   put : IsPut l.fn.queue l.export.device.0 l.first l.at (zeros_of l.zeros) (zeros_of l.rest) l.queue;
   export : IsExport l.queue.stack.config (export_record l.export);
   ends : HaveEnds l.rest;
-  whole : length (zeros_of l.rest) % 512 ≡ 0;
-  small : l.at + length (zeros_of l.rest) / 512 ≤ 2 ^ 60;
+  sectors : AreSectors (export_record l.export) l.at (zeros_of l.rest);
 }
 
 abbrev pub decreases-runs : goal.decreases-runs

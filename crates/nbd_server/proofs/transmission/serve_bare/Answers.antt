@@ -18,6 +18,15 @@ pub tell_status-requires-clause-some : goal.tell_status-requires-clause-some
 tell_status-requires-clause-some g c =
     let within = rw c.in-Status.is at c.requires.within in within.1
 
+pub zero-requires-clause-bytes : goal.zero-requires-clause-bytes
+zero-requires-clause-bytes g c =
+    let within = rw c.in-Zero.is at c.requires.within in
+    record { export = c.requires.export; within = within.0 }
+
+pub zero-requires-clause-allowed : goal.zero-requires-clause-allowed
+zero-requires-clause-allowed g c =
+    let within = rw c.in-Zero.is at c.requires.within in within.1
+
 pub unreachable-requires : goal.unreachable-requires
 unreachable-requires g c =
     let clash = rw c.in-Write.is at c.requires.bare in clash

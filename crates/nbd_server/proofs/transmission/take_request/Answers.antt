@@ -1,4 +1,4 @@
-use Rattle.std.proofs.Common.{◌≡◌, ◌≢◌, Ok, Some, None, inl, ap, sym, ◌∙◌, refl, subst, arith, length}
+use Rattle.std.proofs.Common.{◌≡◌, ◌≢◌, Ok, Some, inl, ap, sym, ◌∙◌, refl, subst, arith, length}
 use Rattle.std.proofs.lemmas.Result.{err_from_is_err_and}
 use Rattle.nbd_protocol.specs.declared.fault.ServiceFault.TheVariants as fault
 use Rattle.nbd_protocol.specs.declared.header.Header.{Header}

@@ -12,24 +12,24 @@ pub returns-clause-ok : goal.returns-clause-ok
 returns-clause-ok g c =
     on_ok_weaker c.mend_laid_out-ended.result
     (λ mends. record {
-      data_dev = c.mend_laid_out-ended.new.data_dev;
-      hash_dev = c.mend_laid_out-ended.new.hash_dev;
-      data_copies = c.mend_laid_out-ended.new.data_copies;
-      hash_copies = c.mend_laid_out-ended.new.hash_copies;
+      data_dev = c.image.inside.data;
+      hash_dev = c.image.inside.hash;
+      data_copies = c.image.inside.data_copies.items;
+      hash_copies = c.image.inside.hash_copies.items;
       mends = mends;
       back = c.give_back.ensures;
     })
-    (rw (← c.as_mut_slice.ensures.value, ← c.as_mut_slice-2.ensures.value) c.mend_laid_out-ended.ensures.ok)
+    (rw c.image.view_is c.mend_laid_out-ended.ensures.ok)
 
 pub returns-clause-err : goal.returns-clause-err
 returns-clause-err g c =
     IfErr-weaker c.mend_laid_out-ended.result _ _
     (λ fault half. record {
-      data_dev = c.mend_laid_out-ended.new.data_dev;
-      hash_dev = c.mend_laid_out-ended.new.hash_dev;
-      data_copies = c.mend_laid_out-ended.new.data_copies;
-      hash_copies = c.mend_laid_out-ended.new.hash_copies;
+      data_dev = c.image.inside.data;
+      hash_dev = c.image.inside.hash;
+      data_copies = c.image.inside.data_copies.items;
+      hash_copies = c.image.inside.hash_copies.items;
       half = half;
       back = c.give_back.ensures;
     })
-    (rw (← c.as_mut_slice.ensures.value, ← c.as_mut_slice-2.ensures.value) c.mend_laid_out-ended.ensures.err)
+    (rw c.image.view_is c.mend_laid_out-ended.ensures.err)

@@ -1,4 +1,7 @@
-use Rattle.std.proofs.Common.{IsTrue, subst, sym}
+use Rattle.std.proofs.Common.{IsTrue, false, subst, sym}
+use Rattle.tree_repair.specs.Worlds.{World}
+use Rattle.repair_commands.specs.Commands.{plan_of, world_of}
+use Rattle.repair_commands.specs.Mends.{HalfMends, MendsWhole}
 use Rattle.repair_commands.proofs.repair.mend_opened.Goals as goal
 
 pub mend-ended-requires-clause-allowed : goal.mend-ended-requires-clause-allowed
@@ -9,22 +12,22 @@ mend-ended-requires-clause-allowed g c = record {
 
 pub returns-in-Ok-clause-ok : goal.returns-in-Ok-clause-ok
 returns-in-Ok-clause-ok g c = record {
-  data_dev = c.mend-ended.new.data_dev;
-  hash_dev = c.mend-ended.new.hash_dev;
-  data_copies = c.mend-ended.new.data_copies;
-  hash_copies = c.mend-ended.new.hash_copies;
-  mends = rw (← c.as_mut_slice.ensures.value, ← c.as_mut_slice-2.ensures.value) (rw c.in-Ok.is at c.mend-ended.ensures.ok);
+  data_dev = c.image.inside.data;
+  hash_dev = c.image.inside.hash;
+  data_copies = c.image.inside.data_copies.items;
+  hash_copies = c.image.inside.hash_copies.items;
+  mends = rw c.image.view_is (rw c.in-Ok.is at c.mend-ended.ensures.ok);
   back = c.give_back.ensures;
 }
 
 pub returns-clause-err : goal.returns-clause-err
 returns-clause-err g c = record {
-  data_dev = c.mend-ended.new.data_dev;
-  hash_dev = c.mend-ended.new.hash_dev;
-  data_copies = c.mend-ended.new.data_copies;
-  hash_copies = c.mend-ended.new.hash_copies;
+  data_dev = c.image.inside.data;
+  hash_dev = c.image.inside.hash;
+  data_copies = c.image.inside.data_copies.items;
+  hash_copies = c.image.inside.hash_copies.items;
   cause = c.in-Err.fault;
   is = c.fault_of.ensures;
-  half = rw (← c.as_mut_slice.ensures.value, ← c.as_mut_slice-2.ensures.value) (rw c.in-Err.is at c.mend-ended.ensures.err);
+  half = rw c.image.view_is (rw c.in-Err.is at c.mend-ended.ensures.err);
   back = c.give_back.ensures;
 }

@@ -26,7 +26,7 @@ returns-in_err-wanted-clause-err g c =
     let u = c.turns.invariant in
     err-from c.from_residual.result _ NoMemory c.from_residual.ensures.1
     (ends-as g.I.Images.relations.replaces c.args.file.path.now c.args.d.0 c.sectors-sectors.result _ _ _ c.turns.images
-    (sides c.turns.stack (g.O.BlockDev.state c.turns.out) (g.L.Listing.told c.turns.listing)) (g.L.Listing.failed c.turns.listing) NoMemory u.all u.turns refl)
+    (sides c.turns.stack (g.O.BlockDev.state c.turns.out) (g.L.Listing.told c.turns.listing)) (g.L.Listing.failed c.turns.listing) NoMemory u.all u.turns (refl, refl))
 
 pub returns-in_err-map-clause-err : goal.returns-in_err-map-clause-err
 returns-in_err-map-clause-err g c =

@@ -1,4 +1,4 @@
-use Rattle.std.proofs.Common.{ℕ, Bool, List, Option, Ok, refl, ap, subst}
+use Rattle.std.proofs.Common.{◌∙◌, ℕ, Bool, List, Option, Ok, refl, ap, subst}
 use Rattle.std.proofs.lemmas.Bool.{false≢true}
 use Rattle.block_device.specs.Device.{Device}
 use Rattle.rescue_map.specs.MapText.{map_text}
@@ -22,14 +22,17 @@ returns-in_err-sync-clause-err g c =
     (refl, failed-behind (g.O.BlockDev.state c.args.out.now) (g.O.BlockDev.state c.rescue.new.out) (g.O.BlockDev.state c.sync.new.self) r.unfailed c.in_err-sync.ensures.err.failed, λ h. false≢true (c.in_err-sync.ensures.sure (r.copied.same.never_fails h)))
 
 pub returns-in_err-map-clause-err : goal.returns-in_err-map-clause-err
-returns-in_err-map-clause-err g c = err-from c.from_residual-in_err-map.result _ NoMemory c.from_residual-in_err-map.ensures.1 refl
+returns-in_err-map-clause-err g c =
+    err-from c.from_residual-in_err-map.result _ NoMemory c.from_residual-in_err-map.ensures.1
+    (refl, ap (λ (o : Device). o.failures) c.in_ok-sync.ensures.ok ∙ c.in_ok-rescued.ensures.ok.unfailed)
 
 pub returns-in_err-write_map-clause-err : goal.returns-in_err-write_map-clause-err
 returns-in_err-write_map-clause-err g c =
     let k = kept g.I.Images.relations.replaces c.args.turn.path.now c.args.d.0 c.args.turn.sectors in
     let now = progressed c.args.images.now (sides c.args.stack.now (g.O.BlockDev.state c.args.out.now) (g.L.Listing.told c.args.listing.now)) c.args.turn.map.now c.args.turn.span.first in
     err-from c.from_residual-in_err-write_map.result _ c.in_err-write_map.field-0.0 c.from_residual-in_err-write_map.ensures.1
-    (stops-unwritten k now (map_text c.tried_before-tried.result c.in_ok-map.map) c.write_map.new.images (sides c.rescue.new.stack (g.O.BlockDev.state c.sync.new.self) (g.L.Listing.told c.rescue.new.listing)) (g.L.Listing.failed c.rescue.new.listing) c.in_err-write_map.field-0.0 c.in_err-write_map.ensures.err)
+    (stops-unwritten k now (map_text c.tried_before-tried.result c.in_ok-map.map) c.write_map.new.images (sides c.rescue.new.stack (g.O.BlockDev.state c.sync.new.self) (g.L.Listing.told c.rescue.new.listing)) (g.L.Listing.failed c.rescue.new.listing) c.in_err-write_map.field-0.0
+    (ap (λ (o : Device). o.failures) c.in_ok-sync.ensures.ok ∙ c.in_ok-rescued.ensures.ok.unfailed) c.in_err-write_map.ensures.err)
 
 pub returns-clause-ok : goal.returns-clause-ok
 returns-clause-ok g c =

@@ -24,7 +24,7 @@ use Rattle.stack_engine.proofs.PlainCacheLemmas.{meets-below, meets-device}
 use Rattle.stack_engine.proofs.BytesLemmas.{found-bytes, dropped-bytes, below-bytes, bytes_ok, bytes_err, same_bytes}
 use Rattle.stack_meaning.proofs.lemmas.LoadedLemmas.{size-small}
 use Rattle.stack_lines.proofs.lemmas.SourceLemmas.{served-depth, served-holds, device_plain, below_plain}
-use Rattle.stack_lines.proofs.lemmas.TouchLemmas.{touches-none, device-touched}
+use Rattle.stack_lines.proofs.lemmas.AskLemmas.{asks-none, device-asked}
 use Rattle.stack_lines.specs.Touches.{leaves_of}
 use Rattle.stack_lines.specs.Budgets.{ReadsAtMost, budget, source_budget}
 use Rattle.stack_meaning.proofs.lemmas.LeafListLemmas.{AreRead-none}
@@ -43,7 +43,7 @@ device_bytes-run_bytes-requires g t c κs within =
     let source = c.run_to_read-run.result.source in
     let count = c.run_to_read-run.result.count in
     let served = c.run_to_read-run.ensures.served in
-    let leaves = map g.D.BlockDev.state c.loop-at.reader.devices.items in
+    let leaves = map g.D.BlockDev.state c.loop-at.backing.devices.items in
     let fits : at + count * 512 ≤ length c.loop-at.out = omega (arith, c.run_to_read-run.ensures.most, c.loop-at-test.true) in
     let len = run_length c.loop-at.out at count fits in
     let number : count ≡ length (take (at + count * 512 - at) (drop at c.loop-at.out)) / 512 = omega (arith, len) in
@@ -77,14 +77,14 @@ device_bytes-loop-at-preserved g t c =
     let len = run_length out at count fits in
     let number : length (take (at + count * 512 - at) (drop at out)) / 512 ≡ count = omega (arith, len) in
     let front : take end (put_mid at (end - at) out c.run_bytes.new.out) ≡ take at out ++ c.run_bytes.new.out = take-put_mid at (end - at) out c.run_bytes.new.out end (omega (arith, c.run_bytes.auto.out, len)) c.loop-at.invariant.within in
-    let mid = map state c.loop-at.reader.devices.items in
-    let new = map state c.run_bytes.new.reader.devices.items in
+    let mid = map state c.loop-at.backing.devices.items in
+    let new = map state c.run_bytes.new.backing.devices.items in
     let more = subst (λ (n : ℕ). FindsBytes (source_place config source) config 0 n mid new (Ok c.run_bytes.new.out)) number c.in-Ok.ensures.reads in
     let ends_at : at / 512 + count ≡ end / 512 = omega (arith, c.loop-at.invariant.whole) in
     let all : ℕ = length c.args.out.now / 512 in
-    let before = map state c.args.reader.now.devices.items in
-    let spent_before = map state c.loop-at.reader.devices.items in
-    let spent_now = map state c.run_bytes.new.reader.devices.items in
+    let before = map state c.args.backing.now.devices.items in
+    let spent_before = map state c.loop-at.backing.devices.items in
+    let spent_now = map state c.run_bytes.new.backing.devices.items in
     let spent_more = subst (λ (k : ℕ). ReadsAtMost (source_budget config source k) spent_before spent_now) number c.in-Ok.ensures.spent in
     record {
       whole = omega (arith, c.loop-at.invariant.whole);
@@ -94,10 +94,10 @@ device_bytes-loop-at-preserved g t c =
       cached = record { capacity = c.in-Ok.ensures.cached.capacity ∙ c.loop-at.invariant.cached.capacity; sound = c.in-Ok.ensures.cached.sound };
       same = λ none. c.in-Ok.ensures.same (λ some. none (meets-device config c.args.d.0 c.args.first (at / 512) count all source c.requires.stack.sound.loaded (omega (arith, fits, c.loop-at.auto.out)) c.run_to_read-run.ensures.served
           (subst (λ (k : ℕ). MeetVerity (source_said config source) 0 k) number some))) ∙ c.loop-at.invariant.same none;
-      plain = subst (λ (n : ℕ). IsPlain (said_at config (mapped c.args.d.0)) c.args.first n (map state c.args.reader.now.devices.items) new (Ok tt)) (omega (arith, c.loop-at.invariant.whole))
+      plain = subst (λ (n : ℕ). IsPlain (said_at config (mapped c.args.d.0)) c.args.first n (map state c.args.backing.now.devices.items) new (Ok tt)) (omega (arith, c.loop-at.invariant.whole))
           (device_plain config c.args.d.0 c.args.first (at / 512) count (at / 512 + count) source c.requires.stack.sound.loaded (omega arith) c.run_to_read-run.ensures.served c.loop-at.invariant.plain
           (subst (λ (n : ℕ). IsPlain (source_said config source) 0 n mid new (Ok tt)) number c.in-Ok.ensures.plain));
-      touches = device-touched config c.args.d.0 (c.args.first + at / 512) count source c.requires.stack.sound.loaded c.run_to_read-run.ensures.some c.run_to_read-run.ensures.served c.loop-at.invariant.touches c.in-Ok.ensures.touches;
+      touches = device-asked config c.args.d.0 (c.args.first + at / 512) count source c.requires.stack.sound.loaded c.run_to_read-run.ensures.some c.run_to_read-run.ensures.served c.loop-at.invariant.touches c.in-Ok.ensures.touches;
       spent = subst (λ (k : ℕ). ReadsAtMost (budget config (mapped c.args.d.0) c.args.first k) before spent_now) ends_at
           (spent-run config c.args.d.0 c.args.first (at / 512) all c.requires.stack.sound.loaded c.loop-at.invariant.cut before spent_before c.loop-at.invariant.spent count source spent_now c.run_to_read-run.ensures.some (omega (arith, fits, c.loop-at.auto.out)) c.run_to_read-run.ensures.served spent_more);
       cut = subst (λ (k : ℕ). IsCutBehind config c.args.d.0 c.args.first k all) ends_at
@@ -114,8 +114,8 @@ device_bytes-returns-in-Err-clause-reads g t c =
     let fits : at + count * 512 ≤ length c.loop-at.out = omega (arith, c.run_to_read-run.ensures.most, c.loop-at-test.true) in
     let len = run_length c.loop-at.out at count fits in
     let number : length (take (at + count * 512 - at) (drop at c.loop-at.out)) / 512 ≡ count = omega (arith, len) in
-    let mid = map state c.loop-at.reader.devices.items in
-    let new = map state c.run_bytes.new.reader.devices.items in
+    let mid = map state c.loop-at.backing.devices.items in
+    let new = map state c.run_bytes.new.backing.devices.items in
     let more = subst (λ (n : ℕ). FindsBytes (source_place config source) config 0 n mid new (Err c.in-Err.fault)) number c.in-Err.ensures.reads in
     bytes_err config c.args.d.0 c.args.first (at / 512) count source c.requires.stack.sound.loaded c.run_to_read-run.ensures.some c.run_to_read-run.ensures.served c.loop-at.invariant.so_far _ c.in-Err.fault (omega (arith, fits, c.loop-at.auto.out)) more
 
@@ -130,13 +130,13 @@ device_bytes-returns-in-Err-clause-plain g t c =
     let len = run_length c.loop-at.out at count fits in
     let number : length (take (at + count * 512 - at) (drop at c.loop-at.out)) / 512 ≡ count = omega (arith, len) in
     device_plain config c.args.d.0 c.args.first (at / 512) count (length c.args.out.now / 512) source c.requires.stack.sound.loaded (omega (arith, fits, c.loop-at.auto.out)) c.run_to_read-run.ensures.served c.loop-at.invariant.plain
-    (subst (λ (n : ℕ). IsPlain (source_said config source) 0 n (map state c.loop-at.reader.devices.items) (map state c.run_bytes.new.reader.devices.items) (Err c.in-Err.fault)) number c.in-Err.ensures.plain)
+    (subst (λ (n : ℕ). IsPlain (source_said config source) 0 n (map state c.loop-at.backing.devices.items) (map state c.run_bytes.new.backing.devices.items) (Err c.in-Err.fault)) number c.in-Err.ensures.plain)
 
 pub device_bytes-returns-clause-plain : goal.device_bytes-returns-clause-plain
 device_bytes-returns-clause-plain g t c =
     let state = g.D.BlockDev.state in
     let all : c.loop-at.at / 512 ≡ length c.args.out.now / 512 = omega (arith, c.loop-at.invariant.within, c.loop-at-test.false, c.loop-at.auto.out) in
-    subst (λ (n : ℕ). IsPlain (said_at c.args.config.now (mapped c.args.d.0)) c.args.first n (map state c.args.reader.now.devices.items) (map state c.loop-at.reader.devices.items) (Ok tt)) all c.loop-at.invariant.plain
+    subst (λ (n : ℕ). IsPlain (said_at c.args.config.now (mapped c.args.d.0)) c.args.first n (map state c.args.backing.now.devices.items) (map state c.loop-at.backing.devices.items) (Ok tt)) all c.loop-at.invariant.plain
 
 -- ---- runs
 
@@ -159,7 +159,7 @@ run_bytes-returns-in-Blocks-clause-reads g t c =
     let state = g.D.BlockDev.state in
     let n : ℕ = length c.args.out.now / 512 in
     let answer : Result (List ℕ) IoFault = buffer_answer c.read_blocks.result c.read_blocks.new.out in
-    let got = subst (λ (u : List FoundRecord). ReadsBlocks c.args.config.now c.in-Blocks.part n Dropped (record { old = map state c.args.reader.now.devices.items; new = map state c.read_blocks.new.reader.devices.items; before = u; after = c.read_blocks.new.found.items }) answer) c.new-dropped.ensures.items c.read_blocks.ensures.reads in
+    let got = subst (λ (u : List FoundRecord). ReadsBlocks c.args.config.now c.in-Blocks.part n Dropped (record { old = map state c.args.backing.now.devices.items; new = map state c.read_blocks.new.backing.devices.items; before = u; after = c.read_blocks.new.found.items }) answer) c.new-dropped.ensures.items c.read_blocks.ensures.reads in
     rw c.in-Blocks.is (dropped-bytes c.args.config.now c.in-Blocks.part n answer got)
 
 pub run_bytes-returns-clause-reads : goal.run_bytes-returns-clause-reads
@@ -167,14 +167,14 @@ run_bytes-returns-clause-reads g t c =
     let state = g.D.BlockDev.state in
     let n : ℕ = length c.args.out.now / 512 in
     let answer : Result (List ℕ) IoFault = buffer_answer c.read_run.result c.read_run.new.out in
-    let got = subst (λ (u : List FoundRecord). ReadsSource c.args.config.now c.args.source n (record { old = map state c.args.reader.now.devices.items; new = map state c.read_run.new.reader.devices.items; before = u; after = c.read_run.new.found.items }) answer) c.new-dropped.ensures.items c.read_run.ensures.reads in
+    let got = subst (λ (u : List FoundRecord). ReadsSource c.args.config.now c.args.source n (record { old = map state c.args.backing.now.devices.items; new = map state c.read_run.new.backing.devices.items; before = u; after = c.read_run.new.found.items }) answer) c.new-dropped.ensures.items c.read_run.ensures.reads in
     found-bytes (source_place c.args.config.now c.args.source) c.args.config.now 0 n answer got
 
 -- ---- which leaves are touched
 
 pub device_bytes-returns-in-Err-clause-touches : goal.device_bytes-returns-in-Err-clause-touches
 device_bytes-returns-in-Err-clause-touches g t c =
-    device-touched c.args.config.now c.args.d.0 (c.args.first + c.loop-at.at / 512) c.run_to_read-run.result.count c.run_to_read-run.result.source c.requires.stack.sound.loaded c.run_to_read-run.ensures.some c.run_to_read-run.ensures.served c.loop-at.invariant.touches c.in-Err.ensures.touches
+    device-asked c.args.config.now c.args.d.0 (c.args.first + c.loop-at.at / 512) c.run_to_read-run.result.count c.run_to_read-run.result.source c.requires.stack.sound.loaded c.run_to_read-run.ensures.some c.run_to_read-run.ensures.served c.loop-at.invariant.touches c.in-Err.ensures.touches
 
 pub run_bytes-returns-in-Below-Device-default-clause-touches : goal.run_bytes-returns-in-Below-Device-default-clause-touches
 run_bytes-returns-in-Below-Device-default-clause-touches g t c =
@@ -188,7 +188,7 @@ run_bytes-returns-in-Below-Device-default-clause-touches g t c =
 pub device_bytes-loop-at-init : goal.device_bytes-loop-at-init
 device_bytes-loop-at-init g t c =
     let config = c.args.config.now in
-    let old = map g.D.BlockDev.state c.args.reader.now.devices.items in
+    let old = map g.D.BlockDev.state c.args.backing.now.devices.items in
     record {
       whole = refl;
       within = omega arith;
@@ -201,7 +201,7 @@ device_bytes-loop-at-init g t c =
       cached = record { capacity = refl; sound = c.requires.stack.cached };
       plain = plain-none (said_at config (mapped c.args.d.0)) c.args.first 0 old (Ok tt) (λ e. cc) tt;
       same = λ none. refl;
-      touches = touches-none (leaves_of config (mapped c.args.d.0)) old (Ok tt) tt;
+      touches = asks-none (leaves_of config (mapped c.args.d.0)) old (Ok tt) tt refl;
       spent = omega arith;
       cut = inl refl;
     }
@@ -217,9 +217,9 @@ device_bytes-returns-in-Err-clause-spent g t c =
     let fits : at + count * 512 ≤ length c.loop-at.out = omega (arith, run.ensures.most, c.loop-at-test.true) in
     let len = run_length c.loop-at.out at count fits in
     let number : length (take (at + count * 512 - at) (drop at c.loop-at.out)) / 512 ≡ count = omega (arith, len) in
-    let old = map g.D.BlockDev.state c.args.reader.now.devices.items in
-    let mid = map g.D.BlockDev.state c.loop-at.reader.devices.items in
-    let new = map g.D.BlockDev.state c.run_bytes.new.reader.devices.items in
+    let old = map g.D.BlockDev.state c.args.backing.now.devices.items in
+    let mid = map g.D.BlockDev.state c.loop-at.backing.devices.items in
+    let new = map g.D.BlockDev.state c.run_bytes.new.backing.devices.items in
     let more = subst (λ (k : ℕ). ReadsAtMost (source_budget config source k) mid new) number c.in-Err.ensures.spent in
     let one = spent-run config c.args.d.0 c.args.first (at / 512) all c.requires.stack.sound.loaded c.loop-at.invariant.cut old mid c.loop-at.invariant.spent count source new run.ensures.some (omega (arith, fits, c.loop-at.auto.out)) run.ensures.served more in
     let behind = cut-behind config c.args.d.0 c.args.first (at / 512) count ((length c.loop-at.out - at) / 512) all (omega (arith, c.loop-at.invariant.whole, fits, c.loop-at.auto.out)) run.ensures.some run.ensures.ends in
@@ -229,7 +229,7 @@ pub device_bytes-returns-clause-spent : goal.device_bytes-returns-clause-spent
 device_bytes-returns-clause-spent g t c =
     let config = c.args.config.now in
     let all : ℕ = length c.args.out.now / 512 in
-    spent-all config c.args.d.0 c.args.first (c.loop-at.at / 512) all c.requires.stack.sound.loaded c.loop-at.invariant.cut (map g.D.BlockDev.state c.args.reader.now.devices.items) (map g.D.BlockDev.state c.loop-at.reader.devices.items) c.loop-at.invariant.spent (omega (arith, c.loop-at.invariant.within, c.loop-at.auto.out))
+    spent-all config c.args.d.0 c.args.first (c.loop-at.at / 512) all c.requires.stack.sound.loaded c.loop-at.invariant.cut (map g.D.BlockDev.state c.args.backing.now.devices.items) (map g.D.BlockDev.state c.loop-at.backing.devices.items) c.loop-at.invariant.spent (omega (arith, c.loop-at.invariant.within, c.loop-at.auto.out))
 
 pub run_bytes-returns-in-Below-Device-default-clause-spent : goal.run_bytes-returns-in-Below-Device-default-clause-spent
 run_bytes-returns-in-Below-Device-default-clause-spent g t c =

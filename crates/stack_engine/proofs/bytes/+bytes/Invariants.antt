@@ -6,7 +6,7 @@ use Rattle.stack_meaning.specs.Places.{place_of}
 use Rattle.stack_meaning.specs.Reading.{IsPlain, MeetVerity}
 use Rattle.stack_lines.specs.Sources.{source_depth}
 use Rattle.stack_lines.specs.Caches.{KeepsCache}
-use Rattle.stack_lines.specs.Touches.{TouchesOnly, leaves_of}
+use Rattle.stack_lines.specs.Touches.{AsksOnly, leaves_of}
 use Rattle.stack_lines.specs.Budgets.{ReadsAtMost, budget}
 use Rattle.stack_engine.specs.Bytes.{FindsBytes}
 use Rattle.stack_engine.proofs.SpentLemmas.{IsCutBehind}
@@ -24,12 +24,12 @@ invariant-device_bytes-loop-at g l = record {
   whole : l.at % 512 ≡ 0;
   within : l.at ≤ length l.out;
   so_far : FindsBytes (place_of l.config (mapped l.d.0)) l.config l.first (l.at / 512)
-      (map g.D.BlockDev.state l.fn.reader.devices.items) (map g.D.BlockDev.state l.reader.devices.items) (Ok (take l.at l.out));
-  cached : KeepsCache l.config (map g.D.BlockDev.state l.reader.devices.items) l.fn.reader.cache l.reader.cache;
-  same : (MeetVerity (said_at l.config (mapped l.d.0)) l.first (length l.fn.out / 512) → ⊥) → l.reader.cache ≡ l.fn.reader.cache;
-  plain : IsPlain (said_at l.config (mapped l.d.0)) l.first (l.at / 512) (map g.D.BlockDev.state l.fn.reader.devices.items) (map g.D.BlockDev.state l.reader.devices.items) (Ok tt);
-  touches : TouchesOnly {A = Unit {0}} (leaves_of l.config (mapped l.d.0)) (map g.D.BlockDev.state l.fn.reader.devices.items) (map g.D.BlockDev.state l.reader.devices.items) (Ok tt);
-  spent : ReadsAtMost (budget l.config (mapped l.d.0) l.first (l.at / 512)) (map g.D.BlockDev.state l.fn.reader.devices.items) (map g.D.BlockDev.state l.reader.devices.items);
+      (map g.D.BlockDev.state l.fn.backing.devices.items) (map g.D.BlockDev.state l.backing.devices.items) (Ok (take l.at l.out));
+  cached : KeepsCache l.config (map g.D.BlockDev.state l.backing.devices.items) l.fn.backing.cache l.backing.cache;
+  same : (MeetVerity (said_at l.config (mapped l.d.0)) l.first (length l.fn.out / 512) → ⊥) → l.backing.cache ≡ l.fn.backing.cache;
+  plain : IsPlain (said_at l.config (mapped l.d.0)) l.first (l.at / 512) (map g.D.BlockDev.state l.fn.backing.devices.items) (map g.D.BlockDev.state l.backing.devices.items) (Ok tt);
+  touches : AsksOnly {A = Unit {0}} (leaves_of l.config (mapped l.d.0)) (map g.D.BlockDev.state l.fn.backing.devices.items) (map g.D.BlockDev.state l.backing.devices.items) (Ok tt);
+  spent : ReadsAtMost (budget l.config (mapped l.d.0) l.first (l.at / 512)) (map g.D.BlockDev.state l.fn.backing.devices.items) (map g.D.BlockDev.state l.backing.devices.items);
   cut : IsCutBehind l.config l.d.0 l.first (l.at / 512) (length l.fn.out / 512);
 }
 

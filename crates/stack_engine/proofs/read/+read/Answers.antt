@@ -62,14 +62,15 @@ use Rattle.stack_engine.proofs.BlocksLemmas.{IsRead, blocks-at, blocks_plain, bl
 use Rattle.stack_engine.proofs.NextBlockLemmas.{sub-same, AreReadAhead, way-whole, few-blocks, block-size, digest-count, block-begin, blocks-end, small-index, row-inside, none-had, had-fails, far, row-next, row-fails, row-ahead, ahead-rest, settled, next-had, next-differs, next-full, had-all}
 use Rattle.stack_engine.specs.Keeping.{AreHandedOut}
 use Rattle.stack_engine.proofs.KeepingLemmas.{kept-reads, none-out, one-out, gets-none}
-use Rattle.stack_lines.specs.Touches.{NamesOneOf, TouchesOnly, leaves_of}
+use Rattle.stack_lines.specs.Touches.{NamesOneOf, AsksOnly, failures_behind, leaves_of}
 use Rattle.stack_lines.specs.Budgets.{ReadsAtMost, budget, source_budget}
 use Rattle.stack_meaning.specs.Leaves.{AreRead}
 use Rattle.stack_meaning.proofs.lemmas.FoundLemmas.{Grown-none}
 use Rattle.stack_meaning.proofs.lemmas.LeafListLemmas.{AreRead-none}
 use Rattle.stack_meaning.proofs.lemmas.PlainLemmas.{plain-none}
 use Rattle.stack_engine.proofs.SpentLemmas.{IsCutBehind, spent-all, spent-run, cut-behind, leaf-spent, units-spent, unit-spent, block-spent, had-spent, way-spent, row-spent}
-use Rattle.stack_lines.proofs.lemmas.TouchLemmas.{touches-none, touches-then, touches-as, touches-up, crypt-within, data-within, device-touched}
+use Rattle.stack_lines.proofs.lemmas.TouchLemmas.{crypt-within, data-within}
+use Rattle.stack_lines.proofs.lemmas.AskLemmas.{asks-none, asks-then, asks-as, asks-up, device-asked}
 use Rattle.stack_engine.proofs.TouchedLemmas.{extent-touched, same-within, hash-touched, hash-within-device, data-touched}
 use Rattle.stack_engine.proofs.read.+read.Goals as goal
 
@@ -116,13 +117,13 @@ read_device-loop-at-preserved g t c =
     let len = run_length out at count fits in
     let number : length (take (at + count * 512 - at) (drop at out)) / 512 ≡ count = omega (arith, len) in
     let front : take end (put_mid at (end - at) out c.read_run.new.out) ≡ take at out ++ c.read_run.new.out = take-put_mid at (end - at) out c.read_run.new.out end (omega (arith, c.read_run.auto.out, len)) c.loop-at.invariant.within in
-    let did : Read = record { old = map state c.loop-at.reader.devices.items; new = map state c.read_run.new.reader.devices.items; before = c.loop-at.found.items; after = c.read_run.new.found.items } in
+    let did : Read = record { old = map state c.loop-at.backing.devices.items; new = map state c.read_run.new.backing.devices.items; before = c.loop-at.found.items; after = c.read_run.new.found.items } in
     let more = subst (λ (n : ℕ). ReadsSource config source n did (Ok c.read_run.new.out)) number c.in-Ok.ensures.reads in
     let ends_at : at / 512 + count ≡ end / 512 = omega (arith, c.loop-at.invariant.whole) in
     let all : ℕ = length c.args.out.now / 512 in
-    let before = map state c.args.reader.now.devices.items in
-    let spent_before = map state c.loop-at.reader.devices.items in
-    let spent_now = map state c.read_run.new.reader.devices.items in
+    let before = map state c.args.backing.now.devices.items in
+    let spent_before = map state c.loop-at.backing.devices.items in
+    let spent_now = map state c.read_run.new.backing.devices.items in
     let spent_more = subst (λ (k : ℕ). ReadsAtMost (source_budget config source k) spent_before spent_now) number c.in-Ok.ensures.spent in
     record {
       whole = omega (arith, c.loop-at.invariant.whole);
@@ -132,10 +133,10 @@ read_device-loop-at-preserved g t c =
       cached = record { capacity = c.in-Ok.ensures.cached.capacity ∙ c.loop-at.invariant.cached.capacity; sound = c.in-Ok.ensures.cached.sound };
       same = λ none. c.in-Ok.ensures.same (λ some. none (meets-device config c.args.d.0 c.args.first (at / 512) count all source c.requires.stack.sound.loaded (omega (arith, fits, c.loop-at.auto.out)) c.run_to_read-run.ensures.served
           (subst (λ (k : ℕ). MeetVerity (source_said config source) 0 k) number some))) ∙ c.loop-at.invariant.same none;
-      plain = subst (λ (n : ℕ). IsPlain (said_at config (mapped c.args.d.0)) c.args.first n (map state c.args.reader.now.devices.items) (map state c.read_run.new.reader.devices.items) (Ok tt)) (omega (arith, c.loop-at.invariant.whole))
+      plain = subst (λ (n : ℕ). IsPlain (said_at config (mapped c.args.d.0)) c.args.first n (map state c.args.backing.now.devices.items) (map state c.read_run.new.backing.devices.items) (Ok tt)) (omega (arith, c.loop-at.invariant.whole))
           (device_plain config c.args.d.0 c.args.first (at / 512) count (at / 512 + count) source c.requires.stack.sound.loaded (omega arith) c.run_to_read-run.ensures.served c.loop-at.invariant.plain
-          (subst (λ (n : ℕ). IsPlain (source_said config source) 0 n (map state c.loop-at.reader.devices.items) (map state c.read_run.new.reader.devices.items) (Ok tt)) number c.in-Ok.ensures.plain));
-      touches = device-touched config c.args.d.0 (c.args.first + at / 512) count source c.requires.stack.sound.loaded c.run_to_read-run.ensures.some c.run_to_read-run.ensures.served c.loop-at.invariant.touches c.in-Ok.ensures.touches;
+          (subst (λ (n : ℕ). IsPlain (source_said config source) 0 n (map state c.loop-at.backing.devices.items) (map state c.read_run.new.backing.devices.items) (Ok tt)) number c.in-Ok.ensures.plain));
+      touches = device-asked config c.args.d.0 (c.args.first + at / 512) count source c.requires.stack.sound.loaded c.run_to_read-run.ensures.some c.run_to_read-run.ensures.served c.loop-at.invariant.touches c.in-Ok.ensures.touches;
       spent = subst (λ (k : ℕ). ReadsAtMost (budget config (mapped c.args.d.0) c.args.first k) before spent_now) ends_at
           (spent-run config c.args.d.0 c.args.first (at / 512) all c.requires.stack.sound.loaded c.loop-at.invariant.cut before spent_before c.loop-at.invariant.spent count source spent_now c.run_to_read-run.ensures.some (omega (arith, fits, c.loop-at.auto.out)) c.run_to_read-run.ensures.served spent_more);
       cut = subst (λ (k : ℕ). IsCutBehind config c.args.d.0 c.args.first k all) ends_at
@@ -152,7 +153,7 @@ read_device-returns-in-Err-clause-reads g t c =
     let fits : at + count * 512 ≤ length c.loop-at.out = omega (arith, c.run_to_read-run.ensures.most, c.loop-at-test.true) in
     let len = run_length c.loop-at.out at count fits in
     let number : length (take (at + count * 512 - at) (drop at c.loop-at.out)) / 512 ≡ count = omega (arith, len) in
-    let did : Read = record { old = map state c.loop-at.reader.devices.items; new = map state c.read_run.new.reader.devices.items; before = c.loop-at.found.items; after = c.read_run.new.found.items } in
+    let did : Read = record { old = map state c.loop-at.backing.devices.items; new = map state c.read_run.new.backing.devices.items; before = c.loop-at.found.items; after = c.read_run.new.found.items } in
     let more = subst (λ (n : ℕ). ReadsSource config source n did (Err c.in-Err.fault)) number c.in-Err.ensures.reads in
     device_err config c.args.d.0 c.args.first (at / 512) count source c.requires.stack.sound.loaded c.run_to_read-run.ensures.some c.run_to_read-run.ensures.served c.loop-at.invariant.so_far _ c.in-Err.fault (omega (arith, fits, c.loop-at.auto.out)) more
 
@@ -160,7 +161,7 @@ pub read_device-returns-clause-plain : goal.read_device-returns-clause-plain
 read_device-returns-clause-plain g t c =
     let state = g.D.BlockDev.state in
     let all : c.loop-at.at / 512 ≡ length c.args.out.now / 512 = omega (arith, c.loop-at.invariant.within, c.loop-at-test.false, c.loop-at.auto.out) in
-    subst (λ (n : ℕ). IsPlain (said_at c.args.config.now (mapped c.args.d.0)) c.args.first n (map state c.args.reader.now.devices.items) (map state c.loop-at.reader.devices.items) (Ok tt)) all c.loop-at.invariant.plain
+    subst (λ (n : ℕ). IsPlain (said_at c.args.config.now (mapped c.args.d.0)) c.args.first n (map state c.args.backing.now.devices.items) (map state c.loop-at.backing.devices.items) (Ok tt)) all c.loop-at.invariant.plain
 
 pub read_lower-returns-in-Leaf-clause-reads : goal.read_lower-returns-in-Leaf-clause-reads
 read_lower-returns-in-Leaf-clause-reads g t c =
@@ -168,7 +169,7 @@ read_lower-returns-in-Leaf-clause-reads g t c =
     let state = g.D.BlockDev.state in
     let n : ℕ = length c.args.out.now / 512 in
     let found = c.args.found.now.items in
-    let devices = c.args.reader.now.devices in
+    let devices = c.args.backing.now.devices in
     let answer : Result (List ℕ) IoFault = buffer_answer c.read_leaf.result c.read_leaf.new.out in
     let stands : (with_items devices c.read_leaf.new.devices).items ≡ c.read_leaf.new.devices =
     with_items_is devices c.read_leaf.new.devices (c.read_leaf.auto.devices ∙ ap (λ l. length l) c.as_mut_slice.ensures.value ∙ sym devices.ok.0) in
@@ -183,8 +184,8 @@ read_lower-returns-in-Leaf-clause-cached g t c =
     let state = g.D.BlockDev.state in
     let n : ℕ = length c.args.out.now / 512 in
     let found = c.args.found.now.items in
-    let devices = c.args.reader.now.devices in
-    let cache = c.args.reader.now.cache in
+    let devices = c.args.backing.now.devices in
+    let cache = c.args.backing.now.cache in
     let answer : Result (List ℕ) IoFault = buffer_answer c.read_leaf.result c.read_leaf.new.out in
     let stands : (with_items devices c.read_leaf.new.devices).items ≡ c.read_leaf.new.devices =
     with_items_is devices c.read_leaf.new.devices (c.read_leaf.auto.devices ∙ ap (λ l. length l) c.as_mut_slice.ensures.value ∙ sym devices.ok.0) in
@@ -197,19 +198,19 @@ read_lower-returns-in-Device-clause-reads g t c = rw c.in-Device.is c.read_devic
 pub read_run-returns-in-Below-clause-reads : goal.read_run-returns-in-Below-clause-reads
 read_run-returns-in-Below-clause-reads g t c =
     let state = g.D.BlockDev.state in
-    let did : Read = record { old = map state c.args.reader.now.devices.items; new = map state c.read_lower.new.reader.devices.items; before = c.args.found.now.items; after = c.read_lower.new.found.items } in
+    let did : Read = record { old = map state c.args.backing.now.devices.items; new = map state c.read_lower.new.backing.devices.items; before = c.args.found.now.items; after = c.read_lower.new.found.items } in
     rw c.in-Below.is (below_of c.args.config.now c.in-Below.lower c.in-Below.first (length c.args.out.now / 512) did (buffer_answer c.read_lower.result c.read_lower.new.out) c.read_lower.ensures.reads)
 
 pub read_run-returns-in-Fails-clause-reads : goal.read_run-returns-in-Fails-clause-reads
 read_run-returns-in-Fails-clause-reads g t c =
-    let old = map g.D.BlockDev.state c.args.reader.now.devices.items in
+    let old = map g.D.BlockDev.state c.args.backing.now.devices.items in
     let n : ℕ = length c.args.out.now / 512 in
     subst (λ (s : Source). ReadsSource c.args.config.now s n (empty_read old c.args.found.now.items) (Err (Stack ErrorTarget))) (sym c.in-Fails.is)
     (fails_of c.args.config.now n old c.args.found.now.items c.requires.kept (omega (arith, c.requires.fits.sectors.some, c.requires.fits.sectors.whole)))
 
 pub read_run-returns-in-Zeros-clause-reads : goal.read_run-returns-in-Zeros-clause-reads
 read_run-returns-in-Zeros-clause-reads g t c =
-    let old = map g.D.BlockDev.state c.args.reader.now.devices.items in
+    let old = map g.D.BlockDev.state c.args.backing.now.devices.items in
     let n : ℕ = length c.args.out.now / 512 in
     let whole : length c.args.out.now ≡ 512 * n = omega (arith, c.requires.fits.sectors.whole) in
     subst (λ (s : Source). ReadsSource c.args.config.now s n (empty_read old c.args.found.now.items) (Ok c.fill_zeros.new.out)) (sym c.in-Zeros.is)
@@ -228,7 +229,7 @@ read_run-returns-in-Below-clause-plain g t c =
     let config = c.args.config.now in
     let state = g.D.BlockDev.state in
     let n : ℕ = length c.args.out.now / 512 in
-    subst (λ (s : Source). IsPlain (source_said config s) 0 n (map state c.args.reader.now.devices.items) (map state c.read_lower.new.reader.devices.items) c.read_lower.result) (sym c.in-Below.is)
+    subst (λ (s : Source). IsPlain (source_said config s) 0 n (map state c.args.backing.now.devices.items) (map state c.read_lower.new.backing.devices.items) c.read_lower.result) (sym c.in-Below.is)
     (below_plain config c.in-Below.lower c.in-Below.first n c.read_lower.ensures.plain)
 
 pub read_run-returns-in-Units-clause-plain : goal.read_run-returns-in-Units-clause-plain
@@ -238,10 +239,10 @@ pub read_run-returns-in-UnitPart-clause-plain : goal.read_run-returns-in-UnitPar
 read_run-returns-in-UnitPart-clause-plain g t c = rw c.in-UnitPart.is c.read_unit_part.ensures.plain
 
 pub read_run-returns-in-Zeros-clause-plain : goal.read_run-returns-in-Zeros-clause-plain
-read_run-returns-in-Zeros-clause-plain g t c = rw c.in-Zeros.is (zeros_plain c.args.config.now (length c.args.out.now / 512) (map g.D.BlockDev.state c.args.reader.now.devices.items))
+read_run-returns-in-Zeros-clause-plain g t c = rw c.in-Zeros.is (zeros_plain c.args.config.now (length c.args.out.now / 512) (map g.D.BlockDev.state c.args.backing.now.devices.items))
 
 pub read_run-returns-in-Fails-clause-plain : goal.read_run-returns-in-Fails-clause-plain
-read_run-returns-in-Fails-clause-plain g t c = rw c.in-Fails.is (fails_plain c.args.config.now (length c.args.out.now / 512) (map g.D.BlockDev.state c.args.reader.now.devices.items) (omega (arith, c.requires.fits.sectors.some, c.requires.fits.sectors.whole)))
+read_run-returns-in-Fails-clause-plain g t c = rw c.in-Fails.is (fails_plain c.args.config.now (length c.args.out.now / 512) (map g.D.BlockDev.state c.args.backing.now.devices.items) (omega (arith, c.requires.fits.sectors.some, c.requires.fits.sectors.whole)))
 
 pub read_run-returns-in-Block-clause-plain : goal.read_run-returns-in-Block-clause-plain
 read_run-returns-in-Block-clause-plain g t c = rw c.in-Block.is c.read_block.ensures.plain
@@ -251,7 +252,7 @@ read_lower-returns-in-Leaf-clause-plain g t c =
     let config = c.args.config.now in
     let state = g.D.BlockDev.state in
     let n : ℕ = length c.args.out.now / 512 in
-    let devices = c.args.reader.now.devices in
+    let devices = c.args.backing.now.devices in
     let stands : (with_items devices c.read_leaf.new.devices).items ≡ c.read_leaf.new.devices =
     with_items_is devices c.read_leaf.new.devices (c.read_leaf.auto.devices ∙ ap (λ l. length l) c.as_mut_slice.ensures.value ∙ sym devices.ok.0) in
     let one = subst (λ ds. IsPlain (said_at config (Leaf c.in-Leaf.leaf)) c.args.first n (map state ds) (map state c.read_leaf.new.devices) c.read_leaf.result) c.as_mut_slice.ensures.value c.read_leaf.ensures.plain in
@@ -272,7 +273,7 @@ read_device-returns-in-Err-clause-plain g t c =
     let len = run_length c.loop-at.out at count fits in
     let number : length (take (at + count * 512 - at) (drop at c.loop-at.out)) / 512 ≡ count = omega (arith, len) in
     device_plain config c.args.d.0 c.args.first (at / 512) count (length c.args.out.now / 512) source c.requires.stack.sound.loaded (omega (arith, fits, c.loop-at.auto.out)) c.run_to_read-run.ensures.served c.loop-at.invariant.plain
-    (subst (λ (n : ℕ). IsPlain (source_said config source) 0 n (map state c.loop-at.reader.devices.items) (map state c.read_run.new.reader.devices.items) (Err c.in-Err.fault)) number c.in-Err.ensures.plain)
+    (subst (λ (n : ℕ). IsPlain (source_said config source) 0 n (map state c.loop-at.backing.devices.items) (map state c.read_run.new.backing.devices.items) (Err c.in-Err.fault)) number c.in-Err.ensures.plain)
 
 -- ---- units of crypt lines
 
@@ -310,9 +311,9 @@ read_units-returns-in-Ok-clause-reads g t c =
     let n : ℕ = length c.args.out.now / 512 in
     let crypt = c.crypt_at-crypt.result.now in
     let unit = c.unit_at-unit in
-    let did : Read = record { old = map state c.args.reader.now.devices.items; new = map state c.read_lower.new.reader.devices.items; before = c.args.found.now.items; after = c.read_lower.new.found.items } in
+    let did : Read = record { old = map state c.args.backing.now.devices.items; new = map state c.read_lower.new.backing.devices.items; before = c.args.found.now.items; after = c.read_lower.new.found.items } in
     subst (λ (b : List ℕ). ReadsSource config (Units p) n did (Ok b)) (sym (c.decrypt.ensures ∙ ap (λ (k : ℕ). decrypted_units crypt k c.read_lower.new.out) unit.ensures.index))
-    (units-read config p n crypt c.requires.stack.sound.loaded c.crypt_at-crypt.ensures c.requires.fits.holds unit.result.lower unit.ensures.lower did (all-whole state g.met.D.BlockDev.whole c.args.reader.now.devices.items) c.read_lower.new.out
+    (units-read config p n crypt c.requires.stack.sound.loaded c.crypt_at-crypt.ensures c.requires.fits.holds unit.result.lower unit.ensures.lower did (all-whole state g.met.D.BlockDev.whole c.args.backing.now.devices.items) c.read_lower.new.out
     (subst (λ (k : ℕ). Reads config unit.result.lower k n did (Ok c.read_lower.new.out)) unit.ensures.first c.in-Ok.ensures.reads))
 
 pub read_units-returns-in-Err-clause-reads : goal.read_units-returns-in-Err-clause-reads
@@ -323,8 +324,8 @@ read_units-returns-in-Err-clause-reads g t c =
     let n : ℕ = length c.args.out.now / 512 in
     let crypt = c.crypt_at-crypt.result.now in
     let unit = c.unit_at-unit in
-    let did : Read = record { old = map state c.args.reader.now.devices.items; new = map state c.read_lower.new.reader.devices.items; before = c.args.found.now.items; after = c.read_lower.new.found.items } in
-    units-failed config p n crypt c.requires.stack.sound.loaded c.crypt_at-crypt.ensures c.requires.fits.holds unit.result.lower unit.ensures.lower did (all-whole state g.met.D.BlockDev.whole c.args.reader.now.devices.items) c.in-Err.fault
+    let did : Read = record { old = map state c.args.backing.now.devices.items; new = map state c.read_lower.new.backing.devices.items; before = c.args.found.now.items; after = c.read_lower.new.found.items } in
+    units-failed config p n crypt c.requires.stack.sound.loaded c.crypt_at-crypt.ensures c.requires.fits.holds unit.result.lower unit.ensures.lower did (all-whole state g.met.D.BlockDev.whole c.args.backing.now.devices.items) c.in-Err.fault
     (subst (λ (k : ℕ). Reads config unit.result.lower k n did (Err c.in-Err.fault)) unit.ensures.first c.in-Err.ensures.reads)
 
 pub read_units-returns-in-Ok-clause-plain : goal.read_units-returns-in-Ok-clause-plain
@@ -333,7 +334,7 @@ read_units-returns-in-Ok-clause-plain g t c =
     let n : ℕ = length c.args.out.now / 512 in
     let state = g.D.BlockDev.state in
     units-plain c.args.config.now c.args.part n c.crypt_at-crypt.result.now c.requires.stack.sound.loaded c.crypt_at-crypt.ensures c.requires.fits.holds unit.result.lower unit.ensures.lower
-    (subst (λ (k : ℕ). IsPlain (said_at c.args.config.now unit.result.lower) k n (map state c.args.reader.now.devices.items) (map state c.read_lower.new.reader.devices.items) (Ok tt)) unit.ensures.first c.in-Ok.ensures.plain)
+    (subst (λ (k : ℕ). IsPlain (said_at c.args.config.now unit.result.lower) k n (map state c.args.backing.now.devices.items) (map state c.read_lower.new.backing.devices.items) (Ok tt)) unit.ensures.first c.in-Ok.ensures.plain)
 
 pub read_units-returns-in-Err-clause-plain : goal.read_units-returns-in-Err-clause-plain
 read_units-returns-in-Err-clause-plain g t c =
@@ -341,7 +342,7 @@ read_units-returns-in-Err-clause-plain g t c =
     let n : ℕ = length c.args.out.now / 512 in
     let state = g.D.BlockDev.state in
     units-plain c.args.config.now c.args.part n c.crypt_at-crypt.result.now c.requires.stack.sound.loaded c.crypt_at-crypt.ensures c.requires.fits.holds unit.result.lower unit.ensures.lower
-    (subst (λ (k : ℕ). IsPlain (said_at c.args.config.now unit.result.lower) k n (map state c.args.reader.now.devices.items) (map state c.read_lower.new.reader.devices.items) (Err c.in-Err.fault)) unit.ensures.first c.in-Err.ensures.plain)
+    (subst (λ (k : ℕ). IsPlain (said_at c.args.config.now unit.result.lower) k n (map state c.args.backing.now.devices.items) (map state c.read_lower.new.backing.devices.items) (Err c.in-Err.fault)) unit.ensures.first c.in-Err.ensures.plain)
 
 -- ---- part of a unit
 
@@ -392,13 +393,13 @@ read_unit_part-returns-in-Ok-clause-reads g t c =
     let whole = c.whole_unit-whole in
     let of = whole.ensures.whole in
     let count = room_sectors c.as_mut_slice-all.result.now whole.result.sectors (ap (λ (l : List ℕ). length l) c.as_mut_slice-all.ensures.value) whole.ensures.few in
-    let did : Read = record { old = map state c.args.reader.now.devices.items; new = map state c.read_units.new.reader.devices.items; before = c.args.found.now.items; after = c.read_units.new.found.items } in
+    let did : Read = record { old = map state c.args.backing.now.devices.items; new = map state c.read_units.new.backing.devices.items; before = c.args.found.now.items; after = c.read_units.new.found.items } in
     let one = subst (λ (k : ℕ). ReadsSource config (Units whole.result.from) k did (Ok c.read_units.new.out)) count c.in-Ok.ensures.reads in
     let len : length c.args.out.now ≡ 512 * n = omega (arith, c.requires.fits.sectors.whole) in
     let is : c.take_sectors.new.out ≡ take (512 * n) (drop (512 * (p.first % unit_sectors of.crypt)) c.read_units.new.out) =
     c.take_sectors.ensures ∙ ap (λ (k : ℕ). take k (drop (512 * whole.result.within) c.read_units.new.out)) len ∙ ap (λ (k : ℕ). take (512 * n) (drop (512 * k) c.read_units.new.out)) of.within in
     subst (λ (b : List ℕ). ReadsSource config (UnitPart p) n did (Ok b)) (sym is)
-    (part-read config p whole.result n c.requires.stack.sound.loaded of c.requires.fits.holds some did (all-whole state g.met.D.BlockDev.whole c.args.reader.now.devices.items) c.read_units.new.out one)
+    (part-read config p whole.result n c.requires.stack.sound.loaded of c.requires.fits.holds some did (all-whole state g.met.D.BlockDev.whole c.args.backing.now.devices.items) c.read_units.new.out one)
 
 pub read_unit_part-returns-in-Err-clause-reads : goal.read_unit_part-returns-in-Err-clause-reads
 read_unit_part-returns-in-Err-clause-reads g t c =
@@ -409,8 +410,8 @@ read_unit_part-returns-in-Err-clause-reads g t c =
     let some : 0 < n = omega (arith, c.requires.fits.sectors.some, c.requires.fits.sectors.whole) in
     let whole = c.whole_unit-whole in
     let count = room_sectors c.as_mut_slice-all.result.now whole.result.sectors (ap (λ (l : List ℕ). length l) c.as_mut_slice-all.ensures.value) whole.ensures.few in
-    let did : Read = record { old = map state c.args.reader.now.devices.items; new = map state c.read_units.new.reader.devices.items; before = c.args.found.now.items; after = c.read_units.new.found.items } in
-    part-failed config p whole.result n c.requires.stack.sound.loaded whole.ensures.whole c.requires.fits.holds some did (all-whole state g.met.D.BlockDev.whole c.args.reader.now.devices.items) c.in-Err.fault
+    let did : Read = record { old = map state c.args.backing.now.devices.items; new = map state c.read_units.new.backing.devices.items; before = c.args.found.now.items; after = c.read_units.new.found.items } in
+    part-failed config p whole.result n c.requires.stack.sound.loaded whole.ensures.whole c.requires.fits.holds some did (all-whole state g.met.D.BlockDev.whole c.args.backing.now.devices.items) c.in-Err.fault
     (subst (λ (k : ℕ). ReadsSource config (Units whole.result.from) k did (Err c.in-Err.fault)) count c.in-Err.ensures.reads)
 
 pub read_unit_part-returns-in-Ok-clause-plain : goal.read_unit_part-returns-in-Ok-clause-plain
@@ -421,7 +422,7 @@ read_unit_part-returns-in-Ok-clause-plain g t c =
     let whole = c.whole_unit-whole in
     let count = room_sectors c.as_mut_slice-all.result.now whole.result.sectors (ap (λ (l : List ℕ). length l) c.as_mut_slice-all.ensures.value) whole.ensures.few in
     part-plain config c.args.part whole.result n c.requires.stack.sound.loaded whole.ensures.whole c.requires.fits.holds (omega (arith, c.requires.fits.sectors.some, c.requires.fits.sectors.whole))
-    (subst (λ (k : ℕ). IsPlain (source_said config (Units whole.result.from)) 0 k (map state c.args.reader.now.devices.items) (map state c.read_units.new.reader.devices.items) (Ok tt)) count c.in-Ok.ensures.plain)
+    (subst (λ (k : ℕ). IsPlain (source_said config (Units whole.result.from)) 0 k (map state c.args.backing.now.devices.items) (map state c.read_units.new.backing.devices.items) (Ok tt)) count c.in-Ok.ensures.plain)
 
 pub read_unit_part-returns-in-Err-clause-plain : goal.read_unit_part-returns-in-Err-clause-plain
 read_unit_part-returns-in-Err-clause-plain g t c =
@@ -431,7 +432,7 @@ read_unit_part-returns-in-Err-clause-plain g t c =
     let whole = c.whole_unit-whole in
     let count = room_sectors c.as_mut_slice-all.result.now whole.result.sectors (ap (λ (l : List ℕ). length l) c.as_mut_slice-all.ensures.value) whole.ensures.few in
     part-plain config c.args.part whole.result n c.requires.stack.sound.loaded whole.ensures.whole c.requires.fits.holds (omega (arith, c.requires.fits.sectors.some, c.requires.fits.sectors.whole))
-    (subst (λ (k : ℕ). IsPlain (source_said config (Units whole.result.from)) 0 k (map state c.args.reader.now.devices.items) (map state c.read_units.new.reader.devices.items) (Err c.in-Err.fault)) count c.in-Err.ensures.plain)
+    (subst (λ (k : ℕ). IsPlain (source_said config (Units whole.result.from)) 0 k (map state c.args.backing.now.devices.items) (map state c.read_units.new.backing.devices.items) (Err c.in-Err.fault)) count c.in-Err.ensures.plain)
 
 -- ---- data blocks of verity lines
 
@@ -453,7 +454,7 @@ read_block-copy_part-requires-clause-inside g t c =
     let there : c.in-Some.at < length found = omega (arith, c.in-Some.ensures.some.0, ap (λ (l : List FoundRecord). length l) c.as_slice.ensures.value) in
     let at : entry_of (get_or found c.in-Some.at x) ≡ (p.device.0, p.line, p.first / block_sectors v) =
     ap (λ (l : List FoundRecord). entry_of (get_or l c.in-Some.at x)) (sym c.as_slice.ensures.value) ∙ c.in-Some.ensures.some.1 x ∙ ap (λ (k : ℕ). (p.device.0, p.line, p.first / k)) sectors in
-    let len = kept_length c.args.config.now (map g.D.BlockDev.state c.args.reader.now.devices.items) p.device.0 p.line (p.first / block_sectors v) v found c.in-Some.at x c.verity_at-verity.ensures c.requires.kept there at in
+    let len = kept_length c.args.config.now (map g.D.BlockDev.state c.args.backing.now.devices.items) p.device.0 p.line (p.first / block_sectors v) v found c.in-Some.at x c.verity_at-verity.ensures c.requires.kept there at in
     let same : length ((get_or c.as_slice-in-Some.result.now c.in-Some.at x).chain.content) ≡ v.data_block = ap (λ (l : List FoundRecord). length ((get_or l c.in-Some.at x).chain.content)) c.as_slice-in-Some.ensures.value ∙ len in
     let room = part-room v p.first c.from-sectors.result (length c.args.out.now) sectors whole.whole within c.requires.fits.sectors.whole in
     omega (arith, same, room)
@@ -516,7 +517,7 @@ read_block-returns-in-Err-clause-reads g t c =
     let sectors : c.from-sectors.result ≡ block_sectors v = c.from-sectors.ensures in
     let whole = data-whole c.args.config.now p.device.0 p.line p.first n v c.requires.stack.sound.loaded c.verity_at-verity.ensures in
     let within = part-within c.args.config.now p.device.0 p.line p.first n v c.requires.stack.sound.loaded c.verity_at-verity.ensures c.requires.fits.holds in
-    let q = subst (λ (k : ℕ). GetsChain (block_in c.args.config.now v (p.first / k)) (map g.D.BlockDev.state c.args.reader.now.devices.items) (map g.D.BlockDev.state c.walk.new.reader.devices.items) (Err c.in-Err.fault)) sectors c.in-Err.ensures.reads in
+    let q = subst (λ (k : ℕ). GetsChain (block_in c.args.config.now v (p.first / k)) (map g.D.BlockDev.state c.args.backing.now.devices.items) (map g.D.BlockDev.state c.walk.new.backing.devices.items) (Err c.in-Err.fault)) sectors c.in-Err.ensures.reads in
     part_err c.args.config.now v p n c.requires.stack.sound.loaded c.verity_at-verity.ensures (omega (arith, c.requires.fits.sectors.some, c.requires.fits.sectors.whole)) within whole.whole c.args.found.now.items c.in-Err.fault c.requires.kept q
 
 pub read_block-returns-after-push-clause-reads : goal.read_block-returns-after-push-clause-reads
@@ -525,8 +526,8 @@ read_block-returns-after-push-clause-reads g t c =
     let p = c.args.part in
     let n : ℕ = length c.args.out.now / 512 in
     let config = c.args.config.now in
-    let old = map g.D.BlockDev.state c.args.reader.now.devices.items in
-    let new = map g.D.BlockDev.state c.walk.new.reader.devices.items in
+    let old = map g.D.BlockDev.state c.args.backing.now.devices.items in
+    let new = map g.D.BlockDev.state c.walk.new.backing.devices.items in
     let found = c.args.found.now.items in
     let some : 0 < n = omega (arith, c.requires.fits.sectors.some, c.requires.fits.sectors.whole) in
     let sectors : c.from-sectors.result ≡ block_sectors v = c.from-sectors.ensures in
@@ -578,7 +579,7 @@ read_checked-returns-in-Err-read_lower-clause-reads g t c =
     let held : length out ≡ block.len = c.read_lower.auto.out ∙ ap (λ (l : List ℕ). length l) c.as_mut_slice.ensures.value ∙ sym block.ok.0 in
     let size : block.len ≡ e.sectors * 512 = c.in-Ok.ensures in
     let count : length c.as_mut_slice.result.now / 512 ≡ e.sectors = omega (arith, held, size, c.read_lower.auto.out) in
-    let got = subst (λ (k : ℕ). Reads c.args.config.now e.lower e.first k (record { old = map state c.args.reader.now.devices.items; new = map state c.read_lower.new.reader.devices.items; before = c.new-beneath.result.items; after = c.read_lower.new.found.items }) (Err fault)) count c.in-Err-read_lower.ensures.reads in
+    let got = subst (λ (k : ℕ). Reads c.args.config.now e.lower e.first k (record { old = map state c.args.backing.now.devices.items; new = map state c.read_lower.new.backing.devices.items; before = c.new-beneath.result.items; after = c.read_lower.new.found.items }) (Err fault)) count c.in-Err-read_lower.ensures.reads in
     checked_err bytes (place_of c.args.config.now e.lower) e.first e.sectors c.args.salt.now c.args.expected.now c.read_lower.new.found.items fault got.got
 
 pub read_checked-returns-then-eq-clause-reads : goal.read_checked-returns-then-eq-clause-reads
@@ -593,7 +594,7 @@ read_checked-returns-then-eq-clause-reads g t c =
     let value : c.as_slice.result.now ≡ out = c.as_slice.ensures.value ∙ items in
     let good : c.digest.result ≡ c.args.expected.now = (bytes_eq-Decides c.digest.result c.args.expected.now).0 (sym c.eq.ensures ∙ c.if-eq.true) in
     let count : length c.as_mut_slice.result.now / 512 ≡ e.sectors = omega (arith, held, size, c.read_lower.auto.out) in
-    let got = subst (λ (k : ℕ). Reads c.args.config.now e.lower e.first k (record { old = map state c.args.reader.now.devices.items; new = map state c.read_lower.new.reader.devices.items; before = c.new-beneath.result.items; after = c.read_lower.new.found.items }) (Ok out)) count c.in-Ok-read_lower.ensures.reads in
+    let got = subst (λ (k : ℕ). Reads c.args.config.now e.lower e.first k (record { old = map state c.args.backing.now.devices.items; new = map state c.read_lower.new.backing.devices.items; before = c.new-beneath.result.items; after = c.read_lower.new.found.items }) (Ok out)) count c.in-Ok-read_lower.ensures.reads in
     checked_ok bytes (place_of c.args.config.now e.lower) e.first e.sectors c.args.salt.now c.args.expected.now c.read_lower.new.found.items (with_items block out) items
     (ap (digest c.args.salt.now) (sym value) ∙ sym c.digest.ensures ∙ good) got.got
 
@@ -640,8 +641,8 @@ walk-loop-level-preserved g t c =
     let b = block_in c.args.config.now v index in
     let level : ℕ = c.loop-level.level - 1 in
     let path = map bytes c.loop-level.path.items in
-    let old = map state c.args.reader.now.devices.items in
-    let new = map state c.hash_block.new.reader.devices.items in
+    let old = map state c.args.backing.now.devices.items in
+    let new = map state c.hash_block.new.backing.devices.items in
     let block = c.in-Ok.block in
     let down = hash_read c.args.config.now c.args.verity.now c.args.tree.now c.args.index c.requires.stack.sound.loaded c.requires.block.lies c.loop-level.level (c.loop-level.level - 1) (omega (arith, c.loop-level-test.true)) c.loop-level.invariant.walked c.hash_extent-extent.result c.hash_extent-extent.ensures block c.in-Ok.ensures.reads in
     let expected : c.digest_in-expected.result ≡ next_digest v level index block.items =
@@ -652,7 +653,7 @@ walk-loop-level-preserved g t c =
       walked = subst (λ (p : List (List ℕ)). IsWalked b level c.digest_in-expected.result p old new) (sym longer)
           (subst (λ (e : List ℕ). IsWalked b level e (path ++ (block.items ∷ [])) old new) (sym expected) down);
       cached = record { capacity = c.in-Ok.ensures.cached.capacity ∙ c.loop-level.invariant.cached.capacity; sound = c.in-Ok.ensures.cached.sound };
-      touches = touches-then c.loop-level.invariant.touches (touches-as (Ok tt) tt (hash-touched c.args.config.now v tree c.requires.stack.sound.loaded c.requires.block.lies c.hash_extent-extent.result c.hash_extent-extent.ensures c.in-Ok.ensures.touches));
+      touches = asks-then c.loop-level.invariant.touches (asks-as (Ok tt) tt (λ failures. refl) (hash-touched c.args.config.now v tree c.requires.stack.sound.loaded c.requires.block.lies c.hash_extent-extent.result c.hash_extent-extent.ensures c.in-Ok.ensures.touches));
     }
 
 pub walk-read_data-requires : goal.walk-read_data-requires
@@ -681,7 +682,7 @@ read_data-returns-in-Ok-clause-reads g t c =
     let config = c.args.config.now in
     let tree = c.args.tree.now in
     let size = data-whole config tree.device.0 tree.line 0 0 v c.requires.stack.sound.loaded c.requires.block.lies.is in
-    data_zeros bytes (block_in config v c.args.index) c.args.expected.now (map g.D.BlockDev.state c.args.reader.now.devices.items) c.in-Ok.block size.whole (sym c.is_ignored.ensures ∙ c.if-is_ignored.true) c.in-Ok.ensures
+    data_zeros bytes (block_in config v c.args.index) c.args.expected.now (map g.D.BlockDev.state c.args.backing.now.devices.items) c.in-Ok.block size.whole (sym c.is_ignored.ensures ∙ c.if-is_ignored.true) c.in-Ok.ensures
 
 pub read_data-read_checked-requires : goal.read_data-read_checked-requires
 read_data-read_checked-requires g t c κs within =
@@ -704,16 +705,16 @@ read_data-returns-clause-reads g t c =
 
 pub hash_block-returns-in-Err-clause-cached : goal.hash_block-returns-in-Err-clause-cached
 hash_block-returns-in-Err-clause-cached g t c =
-    keeps-found c.args.config.now (map g.D.BlockDev.state c.args.reader.now.devices.items) c.args.key c.args.expected.now c.args.reader.now.cache _ c.copy_of.ensures.leaves c.requires.stack.cached
+    keeps-found c.args.config.now (map g.D.BlockDev.state c.args.backing.now.devices.items) c.args.key c.args.expected.now c.args.backing.now.cache _ c.copy_of.ensures.leaves c.requires.stack.cached
 
 pub hash_block-returns-in-Ok-Some-clause-reads : goal.hash_block-returns-in-Ok-Some-clause-reads
 hash_block-returns-in-Ok-Some-clause-reads g t c =
-    cached-hit c.args.config.now c.requires.key bytes c.in-Ok-Some.block c.args.expected.now (map g.D.BlockDev.state c.args.reader.now.devices.items) c.args.reader.now.cache c.requires.stack.cached
+    cached-hit c.args.config.now c.requires.key bytes c.in-Ok-Some.block c.args.expected.now (map g.D.BlockDev.state c.args.backing.now.devices.items) c.args.backing.now.cache c.requires.stack.cached
     (sym (ap (λ (o : Option (Vec ℕ Global)). option_map bytes o) c.in-Ok-Some.field-0-is) ∙ c.in-Ok-Some.ensures.answer)
 
 pub hash_block-returns-in-Ok-Some-clause-cached : goal.hash_block-returns-in-Ok-Some-clause-cached
 hash_block-returns-in-Ok-Some-clause-cached g t c =
-    keeps-found c.args.config.now (map g.D.BlockDev.state c.args.reader.now.devices.items) c.args.key c.args.expected.now c.args.reader.now.cache _ c.copy_of.ensures.leaves c.requires.stack.cached
+    keeps-found c.args.config.now (map g.D.BlockDev.state c.args.backing.now.devices.items) c.args.key c.args.expected.now c.args.backing.now.cache _ c.copy_of.ensures.leaves c.requires.stack.cached
 
 pub hash_block-cover-requires : goal.hash_block-cover-requires
 hash_block-cover-requires g t c = named-inside c.args.config.now c.requires.stack.sound.loaded c.requires.key.verity.hash c.args.extent.lower c.requires.key.hash
@@ -722,13 +723,13 @@ pub hash_block-returns-in-Ok-clause-cached : goal.hash_block-returns-in-Ok-claus
 hash_block-returns-in-Ok-clause-cached g t c =
     let config = c.args.config.now in
     let at = c.requires.key in
-    let found = keeps-found config (map g.D.BlockDev.state c.args.reader.now.devices.items) c.args.key c.args.expected.now c.args.reader.now.cache _ c.copy_of.ensures.leaves c.requires.stack.cached in
+    let found = keeps-found config (map g.D.BlockDev.state c.args.backing.now.devices.items) c.args.key c.args.expected.now c.args.backing.now.cache _ c.copy_of.ensures.leaves c.requires.stack.cached in
     let read = c.in-Ok.ensures.cached in
-    let mid = c.read_checked.new.reader.cache in
+    let mid = c.read_checked.new.backing.cache in
     let noted = c.cover.new.self in
     let is = c.cover.ensures.covered config c.requires.stack.sound.loaded (knows-all config c.requires.stack.sound.loaded mid.beneath read.sound.sets at.verity.hash c.args.extent.lower at.hash) in
-    let kept = keeps-noted config at (map g.D.BlockDev.state c.read_checked.new.reader.devices.items) c.args.reader.now.cache mid noted c.cover.ensures.rest is (record { capacity = read.capacity ∙ found.capacity; sound = read.sound }) in
-    keeps-kept config at bytes c.in-Ok.block c.args.expected.now c.args.reader.now.cache noted _ c.in-Ok.ensures.reads (noted_key config at mid noted is) kept
+    let kept = keeps-noted config at (map g.D.BlockDev.state c.read_checked.new.backing.devices.items) c.args.backing.now.cache mid noted c.cover.ensures.rest is (record { capacity = read.capacity ∙ found.capacity; sound = read.sound }) in
+    keeps-kept config at bytes c.in-Ok.block c.args.expected.now c.args.backing.now.cache noted _ c.in-Ok.ensures.reads (noted_key config at mid noted is) kept
     c.keep_copy-kept.result c.as_slice.result.now c.as_slice.ensures.value c.keep_copy-kept.ensures.ok c.keep_copy-kept.ensures.err
 
 -- ---- the way to a block, beside that to the block before
@@ -775,8 +776,8 @@ path_block-returns-in-Ok-put-clause-reads g t c x =
     let config = c.args.config.now in
     let v = c.args.verity.now in
     let w = c.args.wanted.now in
-    let old = map state c.args.reader.now.devices.items in
-    let new = map state c.hash_block.new.reader.devices.items in
+    let old = map state c.args.backing.now.devices.items in
+    let new = map state c.hash_block.new.backing.devices.items in
     let got = block_there config v c.args.tree.now w.level w.block c.hash_extent-extent.result c.hash_extent-extent.ensures (Ok c.in-Ok.bytes) c.in-Ok.ensures.reads in
     let path = c.args.path.now.items in
     let one : CachedBlock = record { key = c.hash_key-key.result; digest = w.digest; bytes = bytes c.in-Ok.bytes } in
@@ -816,8 +817,8 @@ walk_path-returns-clause-moved g t c = path-ended (block_in c.args.config.now c.
 
 pub walk_path-returns-clause-ok : goal.walk_path-returns-clause-ok
 walk_path-returns-clause-ok g t c =
-    let old = map g.D.BlockDev.state c.args.reader.now.devices.items in
-    let new = map g.D.BlockDev.state c.loop-left.reader.devices.items in
+    let old = map g.D.BlockDev.state c.args.backing.now.devices.items in
+    let new = map g.D.BlockDev.state c.loop-left.backing.devices.items in
     let b = block_in c.args.config.now c.args.verity.now c.args.index in
     path-whole b c.loop-left.left (omega (arith, c.loop-left-test.false)) c.loop-left.at c.loop-left.path.items c.loop-left.invariant.within c.loop-left.invariant.walked
 
@@ -850,8 +851,8 @@ walk_path-loop-left-preserved g t c =
     let b = block_in c.args.config.now v index in
     let level : ℕ = c.loop-left.left - 1 in
     let at : ℕ = c.loop-left.at in
-    let old = map state c.args.reader.now.devices.items in
-    let new = map state c.path_block.new.reader.devices.items in
+    let old = map state c.args.backing.now.devices.items in
+    let new = map state c.path_block.new.backing.devices.items in
     let before = c.loop-left.path.items in
     let after = c.path_block.new.path.items in
     let bytes_of : CachedBlock → List ℕ = λ b. b.bytes in
@@ -874,7 +875,7 @@ walk_path-loop-left-preserved g t c =
           (subst (λ (e : List ℕ). IsWalked b level e (map bytes_of (take at before) ++ (block ∷ [])) old new) (sym expected) down);
       held = c.in-Ok.ensures.held;
       cached = record { capacity = c.in-Ok.ensures.cached.capacity ∙ c.loop-left.invariant.cached.capacity; sound = c.in-Ok.ensures.cached.sound };
-      touches = touches-then c.loop-left.invariant.touches c.in-Ok.ensures.touches;
+      touches = asks-then c.loop-left.invariant.touches c.in-Ok.ensures.touches;
     }
 
 -- ---- whole data blocks
@@ -898,7 +899,7 @@ read_blocks-checks-init g t c =
     let v = c.verity_at-verity.result.now in
     let tree = c.tree_at-tree.result in
     let state = g.D.BlockDev.state in
-    let old = map state c.args.reader.now.devices.items in
+    let old = map state c.args.backing.now.devices.items in
     let found = c.args.found.now.items in
     let loaded = c.requires.stack.sound.loaded in
     let line = c.verity_at-verity.ensures in
@@ -919,7 +920,7 @@ read_blocks-checks-init g t c =
       had = none-had config v p n tree.data found loaded line is at c.args.out.now c.requires.kept;
       ahead = λ k low below. absurd (omega (arith, below));
       cached = record { capacity = refl; sound = c.requires.stack.cached };
-      touches = touches-none (leaves_of config (mapped p.device.0)) old (Ok tt) tt;
+      touches = asks-none (leaves_of config (mapped p.device.0)) old (Ok tt) tt refl;
     }
 
 pub read_blocks-walk_path-requires : goal.read_blocks-walk_path-requires
@@ -930,7 +931,7 @@ read_blocks-walk_path-requires g t c κs within =
     let v = c.verity_at-verity.result.now in
     let tree = c.tree_at-tree.result in
     let state = g.D.BlockDev.state in
-    let old = map state c.args.reader.now.devices.items in
+    let old = map state c.args.backing.now.devices.items in
     let found = c.args.found.now.items in
     let loaded = c.requires.stack.sound.loaded in
     let line = c.verity_at-verity.ensures in
@@ -948,7 +949,7 @@ read_blocks-walk_path-requires g t c κs within =
     let read : r ≤ n / block_sectors v = omega (arith, inv.most, many_are) in
     let index : p.first / c.from.result + j ≡ p.first / block_sectors v + j = ap (λ (k : ℕ). p.first / k + j) sectors in
     let there : p.first / c.from.result + j < v.blocks = omega (arith, index, at.there j inside) in
-    let did : Read = record { old = old; new = map state c.checks.reader.devices.items; before = found; after = inv.after } in
+    let did : Read = record { old = old; new = map state c.checks.backing.devices.items; before = found; after = inv.after } in
     let end_j = blocks-end config v p n tree.data found loaded line is at c.checks.out (j + 1) len (omega (arith, inside)) in
     let size = block-size config v p n tree.data found loaded line is at in
     let depths : depth config (mapped tree.device.0) ≡ depth config (mapped p.device.0) = ap (λ (x : DevId). depth config (mapped x.0)) c.tree_at-tree.ensures.at in
@@ -963,7 +964,7 @@ read_blocks-returns-in-Err-clause-reads g t c =
     let v = c.verity_at-verity.result.now in
     let tree = c.tree_at-tree.result in
     let state = g.D.BlockDev.state in
-    let old = map state c.args.reader.now.devices.items in
+    let old = map state c.args.backing.now.devices.items in
     let found = c.args.found.now.items in
     let loaded = c.requires.stack.sound.loaded in
     let line = c.verity_at-verity.ensures in
@@ -981,10 +982,10 @@ read_blocks-returns-in-Err-clause-reads g t c =
     let read : r ≤ n / block_sectors v = omega (arith, inv.most, many_are) in
     let index : p.first / c.from.result + j ≡ p.first / block_sectors v + j = ap (λ (k : ℕ). p.first / k + j) sectors in
     let there : p.first / c.from.result + j < v.blocks = omega (arith, index, at.there j inside) in
-    let did : Read = record { old = old; new = map state c.checks.reader.devices.items; before = found; after = inv.after } in
+    let did : Read = record { old = old; new = map state c.checks.backing.devices.items; before = found; after = inv.after } in
     let end_j = blocks-end config v p n tree.data found loaded line is at c.checks.out (j + 1) len (omega (arith, inside)) in
     let size = block-size config v p n tree.data found loaded line is at in
-    let got = subst (λ (k : ℕ). GetsChain (block_in config v k) did.new (map state c.walk_path.new.reader.devices.items) (Err c.in-Err.first)) index c.in-Err.ensures.err in
+    let got = subst (λ (k : ℕ). GetsChain (block_in config v k) did.new (map state c.walk_path.new.backing.devices.items) (Err c.in-Err.first)) index c.in-Err.ensures.err in
     record { after = inv.after; out = inv.out; reads = had-fails config v p n tree.data found loaded line is at r j c.checks.out did c.in-Err.first read inside inv.had c.in-Err.ensures.moved got }
 
 pub read_blocks-overflow_add-index : goal.read_blocks-overflow_add-index
@@ -995,7 +996,7 @@ read_blocks-overflow_add-index g t c =
     let v = c.verity_at-verity.result.now in
     let tree = c.tree_at-tree.result in
     let state = g.D.BlockDev.state in
-    let old = map state c.args.reader.now.devices.items in
+    let old = map state c.args.backing.now.devices.items in
     let found = c.args.found.now.items in
     let loaded = c.requires.stack.sound.loaded in
     let line = c.verity_at-verity.ensures in
@@ -1013,7 +1014,7 @@ read_blocks-overflow_add-index g t c =
     let read : r ≤ n / block_sectors v = omega (arith, inv.most, many_are) in
     let index : p.first / c.from.result + j ≡ p.first / block_sectors v + j = ap (λ (k : ℕ). p.first / k + j) sectors in
     let there : p.first / c.from.result + j < v.blocks = omega (arith, index, at.there j inside) in
-    let did : Read = record { old = old; new = map state c.checks.reader.devices.items; before = found; after = inv.after } in
+    let did : Read = record { old = old; new = map state c.checks.backing.devices.items; before = found; after = inv.after } in
     let end_j = blocks-end config v p n tree.data found loaded line is at c.checks.out (j + 1) len (omega (arith, inside)) in
     let size = block-size config v p n tree.data found loaded line is at in
     let small = size-small config tree.data loaded in
@@ -1028,7 +1029,7 @@ read_blocks-overflow_mul-from g t c =
     let v = c.verity_at-verity.result.now in
     let tree = c.tree_at-tree.result in
     let state = g.D.BlockDev.state in
-    let old = map state c.args.reader.now.devices.items in
+    let old = map state c.args.backing.now.devices.items in
     let found = c.args.found.now.items in
     let loaded = c.requires.stack.sound.loaded in
     let line = c.verity_at-verity.ensures in
@@ -1046,7 +1047,7 @@ read_blocks-overflow_mul-from g t c =
     let read : r ≤ n / block_sectors v = omega (arith, inv.most, many_are) in
     let index : p.first / c.from.result + j ≡ p.first / block_sectors v + j = ap (λ (k : ℕ). p.first / k + j) sectors in
     let there : p.first / c.from.result + j < v.blocks = omega (arith, index, at.there j inside) in
-    let did : Read = record { old = old; new = map state c.checks.reader.devices.items; before = found; after = inv.after } in
+    let did : Read = record { old = old; new = map state c.checks.backing.devices.items; before = found; after = inv.after } in
     let end_j = blocks-end config v p n tree.data found loaded line is at c.checks.out (j + 1) len (omega (arith, inside)) in
     let size = block-size config v p n tree.data found loaded line is at in
     omega (arith, end_j, add-mul j 1 v.data_block)
@@ -1059,7 +1060,7 @@ read_blocks-read_beneath-requires g t c κs within =
     let v = c.verity_at-verity.result.now in
     let tree = c.tree_at-tree.result in
     let state = g.D.BlockDev.state in
-    let old = map state c.args.reader.now.devices.items in
+    let old = map state c.args.backing.now.devices.items in
     let found = c.args.found.now.items in
     let loaded = c.requires.stack.sound.loaded in
     let line = c.verity_at-verity.ensures in
@@ -1077,10 +1078,10 @@ read_blocks-read_beneath-requires g t c κs within =
     let read : r ≤ n / block_sectors v = omega (arith, inv.most, many_are) in
     let index : p.first / c.from.result + j ≡ p.first / block_sectors v + j = ap (λ (k : ℕ). p.first / k + j) sectors in
     let there : p.first / c.from.result + j < v.blocks = omega (arith, index, at.there j inside) in
-    let did : Read = record { old = old; new = map state c.checks.reader.devices.items; before = found; after = inv.after } in
+    let did : Read = record { old = old; new = map state c.checks.backing.devices.items; before = found; after = inv.after } in
     let end_j = blocks-end config v p n tree.data found loaded line is at c.checks.out (j + 1) len (omega (arith, inside)) in
     let size = block-size config v p n tree.data found loaded line is at in
-    let walk = map state c.walk_path.new.reader.devices.items in
+    let walk = map state c.walk_path.new.backing.devices.items in
     let way = map block_bytes (take (levels (tree_of v)) c.walk_path.new.path.items) in
     let expected = c.in-Ok.expected in
     let walked = subst (λ (k : ℕ). IsWalked (block_in config v k) 0 expected way did.new walk) index c.in-Ok.ensures.ok in
@@ -1107,7 +1108,7 @@ read_blocks-returns-in-Err-read_beneath-clause-reads g t c =
     let v = c.verity_at-verity.result.now in
     let tree = c.tree_at-tree.result in
     let state = g.D.BlockDev.state in
-    let old = map state c.args.reader.now.devices.items in
+    let old = map state c.args.backing.now.devices.items in
     let found = c.args.found.now.items in
     let loaded = c.requires.stack.sound.loaded in
     let line = c.verity_at-verity.ensures in
@@ -1125,10 +1126,10 @@ read_blocks-returns-in-Err-read_beneath-clause-reads g t c =
     let read : r ≤ n / block_sectors v = omega (arith, inv.most, many_are) in
     let index : p.first / c.from.result + j ≡ p.first / block_sectors v + j = ap (λ (k : ℕ). p.first / k + j) sectors in
     let there : p.first / c.from.result + j < v.blocks = omega (arith, index, at.there j inside) in
-    let did : Read = record { old = old; new = map state c.checks.reader.devices.items; before = found; after = inv.after } in
+    let did : Read = record { old = old; new = map state c.checks.backing.devices.items; before = found; after = inv.after } in
     let end_j = blocks-end config v p n tree.data found loaded line is at c.checks.out (j + 1) len (omega (arith, inside)) in
     let size = block-size config v p n tree.data found loaded line is at in
-    let walk = map state c.walk_path.new.reader.devices.items in
+    let walk = map state c.walk_path.new.backing.devices.items in
     let way = map block_bytes (take (levels (tree_of v)) c.walk_path.new.path.items) in
     let expected = c.in-Ok.expected in
     let walked = subst (λ (k : ℕ). IsWalked (block_in config v k) 0 expected way did.new walk) index c.in-Ok.ensures.ok in
@@ -1141,7 +1142,7 @@ read_blocks-returns-in-Err-read_beneath-clause-reads g t c =
     let part_len = length-take-le (j * v.data_block + many * v.data_block - j * v.data_block) (drop (j * v.data_block) c.checks.out) (omega (arith, row_end, length-drop (j * v.data_block) c.checks.out)) in
     let row_sectors : length (take (j * v.data_block + many * v.data_block - j * v.data_block) (drop (j * v.data_block) c.checks.out)) / 512 ≡ many * block_sectors v = omega (arith, part_len, wide) in
     let gets = c.in-Err-read_beneath.ensures.reads in
-    let new = map state c.read_beneath.new.reader.devices.items in
+    let new = map state c.read_beneath.new.backing.devices.items in
     let fault = c.in-Err-read_beneath.met in
     let got = subst (λ (k : ℕ). Gets (run_expected (place_of config tree.data) gets.chains (block_sectors v * (p.first / block_sectors v + j)) k) walk new (Err fault)) row_sectors
     (subst (λ (k : ℕ). Gets (run_expected (place_of config tree.data) gets.chains k (length (take (j * v.data_block + many * v.data_block - j * v.data_block) (drop (j * v.data_block) c.checks.out)) / 512)) walk new (Err fault)) extent gets.got) in
@@ -1163,7 +1164,7 @@ read_blocks-slice_bounds-way-end g t c =
     let v = c.verity_at-verity.result.now in
     let tree = c.tree_at-tree.result in
     let state = g.D.BlockDev.state in
-    let old = map state c.args.reader.now.devices.items in
+    let old = map state c.args.backing.now.devices.items in
     let found = c.args.found.now.items in
     let loaded = c.requires.stack.sound.loaded in
     let line = c.verity_at-verity.ensures in
@@ -1181,7 +1182,7 @@ read_blocks-slice_bounds-way-end g t c =
     let read : r ≤ n / block_sectors v = omega (arith, inv.most, many_are) in
     let index : p.first / c.from.result + j ≡ p.first / block_sectors v + j = ap (λ (k : ℕ). p.first / k + j) sectors in
     let there : p.first / c.from.result + j < v.blocks = omega (arith, index, at.there j inside) in
-    let did : Read = record { old = old; new = map state c.checks.reader.devices.items; before = found; after = inv.after } in
+    let did : Read = record { old = old; new = map state c.checks.backing.devices.items; before = found; after = inv.after } in
     let end_j = blocks-end config v p n tree.data found loaded line is at c.checks.out (j + 1) len (omega (arith, inside)) in
     let size = block-size config v p n tree.data found loaded line is at in
     let levels_are : c.levels-levels.result ≡ levels (tree_of v) = c.levels-levels.ensures.value ∙ ap levels c.tree_at-tree.ensures.tree.shape_is in
@@ -1213,7 +1214,7 @@ read_blocks-data_extent-extent-requires-clause-block g t c =
     let v = c.verity_at-verity.result.now in
     let tree = c.tree_at-tree.result in
     let state = g.D.BlockDev.state in
-    let old = map state c.args.reader.now.devices.items in
+    let old = map state c.args.backing.now.devices.items in
     let found = c.args.found.now.items in
     let loaded = c.requires.stack.sound.loaded in
     let line = c.verity_at-verity.ensures in
@@ -1231,7 +1232,7 @@ read_blocks-data_extent-extent-requires-clause-block g t c =
     let read : r ≤ n / block_sectors v = omega (arith, inv.most, many_are) in
     let index : p.first / c.from.result + j ≡ p.first / block_sectors v + j = ap (λ (k : ℕ). p.first / k + j) sectors in
     let there : p.first / c.from.result + j < v.blocks = omega (arith, index, at.there j inside) in
-    let did : Read = record { old = old; new = map state c.checks.reader.devices.items; before = found; after = inv.after } in
+    let did : Read = record { old = old; new = map state c.checks.backing.devices.items; before = found; after = inv.after } in
     let end_j = blocks-end config v p n tree.data found loaded line is at c.checks.out (j + 1) len (omega (arith, inside)) in
     let size = block-size config v p n tree.data found loaded line is at in
     record { lies = c.tree_at-tree.ensures.tree; there = there }
@@ -1244,7 +1245,7 @@ read_blocks-slice_bounds-row-end g t c =
     let v = c.verity_at-verity.result.now in
     let tree = c.tree_at-tree.result in
     let state = g.D.BlockDev.state in
-    let old = map state c.args.reader.now.devices.items in
+    let old = map state c.args.backing.now.devices.items in
     let found = c.args.found.now.items in
     let loaded = c.requires.stack.sound.loaded in
     let line = c.verity_at-verity.ensures in
@@ -1262,10 +1263,10 @@ read_blocks-slice_bounds-row-end g t c =
     let read : r ≤ n / block_sectors v = omega (arith, inv.most, many_are) in
     let index : p.first / c.from.result + j ≡ p.first / block_sectors v + j = ap (λ (k : ℕ). p.first / k + j) sectors in
     let there : p.first / c.from.result + j < v.blocks = omega (arith, index, at.there j inside) in
-    let did : Read = record { old = old; new = map state c.checks.reader.devices.items; before = found; after = inv.after } in
+    let did : Read = record { old = old; new = map state c.checks.backing.devices.items; before = found; after = inv.after } in
     let end_j = blocks-end config v p n tree.data found loaded line is at c.checks.out (j + 1) len (omega (arith, inside)) in
     let size = block-size config v p n tree.data found loaded line is at in
-    let walk = map state c.walk_path.new.reader.devices.items in
+    let walk = map state c.walk_path.new.backing.devices.items in
     let way = map block_bytes (take (levels (tree_of v)) c.walk_path.new.path.items) in
     let expected = c.in-Ok.expected in
     let walked = subst (λ (k : ℕ). IsWalked (block_in config v k) 0 expected way did.new walk) index c.in-Ok.ensures.ok in
@@ -1287,7 +1288,7 @@ read_blocks-overflow_add-row-in-checks g t c =
     let v = c.verity_at-verity.result.now in
     let tree = c.tree_at-tree.result in
     let state = g.D.BlockDev.state in
-    let old = map state c.args.reader.now.devices.items in
+    let old = map state c.args.backing.now.devices.items in
     let found = c.args.found.now.items in
     let loaded = c.requires.stack.sound.loaded in
     let line = c.verity_at-verity.ensures in
@@ -1305,10 +1306,10 @@ read_blocks-overflow_add-row-in-checks g t c =
     let read : r ≤ n / block_sectors v = omega (arith, inv.most, many_are) in
     let index : p.first / c.from.result + j ≡ p.first / block_sectors v + j = ap (λ (k : ℕ). p.first / k + j) sectors in
     let there : p.first / c.from.result + j < v.blocks = omega (arith, index, at.there j inside) in
-    let did : Read = record { old = old; new = map state c.checks.reader.devices.items; before = found; after = inv.after } in
+    let did : Read = record { old = old; new = map state c.checks.backing.devices.items; before = found; after = inv.after } in
     let end_j = blocks-end config v p n tree.data found loaded line is at c.checks.out (j + 1) len (omega (arith, inside)) in
     let size = block-size config v p n tree.data found loaded line is at in
-    let walk = map state c.walk_path.new.reader.devices.items in
+    let walk = map state c.walk_path.new.backing.devices.items in
     let way = map block_bytes (take (levels (tree_of v)) c.walk_path.new.path.items) in
     let expected = c.in-Ok.expected in
     let walked = subst (λ (k : ℕ). IsWalked (block_in config v k) 0 expected way did.new walk) index c.in-Ok.ensures.ok in
@@ -1330,7 +1331,7 @@ read_blocks-slice_bounds-digest_blocks-end g t c =
     let v = c.verity_at-verity.result.now in
     let tree = c.tree_at-tree.result in
     let state = g.D.BlockDev.state in
-    let old = map state c.args.reader.now.devices.items in
+    let old = map state c.args.backing.now.devices.items in
     let found = c.args.found.now.items in
     let loaded = c.requires.stack.sound.loaded in
     let line = c.verity_at-verity.ensures in
@@ -1348,10 +1349,10 @@ read_blocks-slice_bounds-digest_blocks-end g t c =
     let read : r ≤ n / block_sectors v = omega (arith, inv.most, many_are) in
     let index : p.first / c.from.result + j ≡ p.first / block_sectors v + j = ap (λ (k : ℕ). p.first / k + j) sectors in
     let there : p.first / c.from.result + j < v.blocks = omega (arith, index, at.there j inside) in
-    let did : Read = record { old = old; new = map state c.checks.reader.devices.items; before = found; after = inv.after } in
+    let did : Read = record { old = old; new = map state c.checks.backing.devices.items; before = found; after = inv.after } in
     let end_j = blocks-end config v p n tree.data found loaded line is at c.checks.out (j + 1) len (omega (arith, inside)) in
     let size = block-size config v p n tree.data found loaded line is at in
-    let walk = map state c.walk_path.new.reader.devices.items in
+    let walk = map state c.walk_path.new.backing.devices.items in
     let way = map block_bytes (take (levels (tree_of v)) c.walk_path.new.path.items) in
     let expected = c.in-Ok.expected in
     let walked = subst (λ (k : ℕ). IsWalked (block_in config v k) 0 expected way did.new walk) index c.in-Ok.ensures.ok in
@@ -1373,7 +1374,7 @@ read_blocks-digest_blocks-requires-clause-whole g t c =
     let v = c.verity_at-verity.result.now in
     let tree = c.tree_at-tree.result in
     let state = g.D.BlockDev.state in
-    let old = map state c.args.reader.now.devices.items in
+    let old = map state c.args.backing.now.devices.items in
     let found = c.args.found.now.items in
     let loaded = c.requires.stack.sound.loaded in
     let line = c.verity_at-verity.ensures in
@@ -1391,10 +1392,10 @@ read_blocks-digest_blocks-requires-clause-whole g t c =
     let read : r ≤ n / block_sectors v = omega (arith, inv.most, many_are) in
     let index : p.first / c.from.result + j ≡ p.first / block_sectors v + j = ap (λ (k : ℕ). p.first / k + j) sectors in
     let there : p.first / c.from.result + j < v.blocks = omega (arith, index, at.there j inside) in
-    let did : Read = record { old = old; new = map state c.checks.reader.devices.items; before = found; after = inv.after } in
+    let did : Read = record { old = old; new = map state c.checks.backing.devices.items; before = found; after = inv.after } in
     let end_j = blocks-end config v p n tree.data found loaded line is at c.checks.out (j + 1) len (omega (arith, inside)) in
     let size = block-size config v p n tree.data found loaded line is at in
-    let walk = map state c.walk_path.new.reader.devices.items in
+    let walk = map state c.walk_path.new.backing.devices.items in
     let way = map block_bytes (take (levels (tree_of v)) c.walk_path.new.path.items) in
     let expected = c.in-Ok.expected in
     let walked = subst (λ (k : ℕ). IsWalked (block_in config v k) 0 expected way did.new walk) index c.in-Ok.ensures.ok in
@@ -1428,7 +1429,7 @@ read_blocks-digest_blocks-requires-clause-count g t c =
     let v = c.verity_at-verity.result.now in
     let tree = c.tree_at-tree.result in
     let state = g.D.BlockDev.state in
-    let old = map state c.args.reader.now.devices.items in
+    let old = map state c.args.backing.now.devices.items in
     let found = c.args.found.now.items in
     let loaded = c.requires.stack.sound.loaded in
     let line = c.verity_at-verity.ensures in
@@ -1446,10 +1447,10 @@ read_blocks-digest_blocks-requires-clause-count g t c =
     let read : r ≤ n / block_sectors v = omega (arith, inv.most, many_are) in
     let index : p.first / c.from.result + j ≡ p.first / block_sectors v + j = ap (λ (k : ℕ). p.first / k + j) sectors in
     let there : p.first / c.from.result + j < v.blocks = omega (arith, index, at.there j inside) in
-    let did : Read = record { old = old; new = map state c.checks.reader.devices.items; before = found; after = inv.after } in
+    let did : Read = record { old = old; new = map state c.checks.backing.devices.items; before = found; after = inv.after } in
     let end_j = blocks-end config v p n tree.data found loaded line is at c.checks.out (j + 1) len (omega (arith, inside)) in
     let size = block-size config v p n tree.data found loaded line is at in
-    let walk = map state c.walk_path.new.reader.devices.items in
+    let walk = map state c.walk_path.new.backing.devices.items in
     let way = map block_bytes (take (levels (tree_of v)) c.walk_path.new.path.items) in
     let expected = c.in-Ok.expected in
     let walked = subst (λ (k : ℕ). IsWalked (block_in config v k) 0 expected way did.new walk) index c.in-Ok.ensures.ok in
@@ -1484,7 +1485,7 @@ read_blocks-bounds-made-at g t c =
     let v = c.verity_at-verity.result.now in
     let tree = c.tree_at-tree.result in
     let state = g.D.BlockDev.state in
-    let old = map state c.args.reader.now.devices.items in
+    let old = map state c.args.backing.now.devices.items in
     let found = c.args.found.now.items in
     let loaded = c.requires.stack.sound.loaded in
     let line = c.verity_at-verity.ensures in
@@ -1502,7 +1503,7 @@ read_blocks-bounds-made-at g t c =
     let read : r ≤ n / block_sectors v = omega (arith, inv.most, many_are) in
     let index : p.first / c.from.result + j ≡ p.first / block_sectors v + j = ap (λ (k : ℕ). p.first / k + j) sectors in
     let there : p.first / c.from.result + j < v.blocks = omega (arith, index, at.there j inside) in
-    let did : Read = record { old = old; new = map state c.checks.reader.devices.items; before = found; after = inv.after } in
+    let did : Read = record { old = old; new = map state c.checks.backing.devices.items; before = found; after = inv.after } in
     let end_j = blocks-end config v p n tree.data found loaded line is at c.checks.out (j + 1) len (omega (arith, inside)) in
     let size = block-size config v p n tree.data found loaded line is at in
     omega (arith, same_len_mid j (j + c.row_len-many.result - j) c.checks.made c.digest_blocks.new.out c.digest_blocks.auto.out, inv.room, inside, blocks_few, at.few)
@@ -1515,7 +1516,7 @@ read_blocks-slice_bounds-settle-end g t c =
     let v = c.verity_at-verity.result.now in
     let tree = c.tree_at-tree.result in
     let state = g.D.BlockDev.state in
-    let old = map state c.args.reader.now.devices.items in
+    let old = map state c.args.backing.now.devices.items in
     let found = c.args.found.now.items in
     let loaded = c.requires.stack.sound.loaded in
     let line = c.verity_at-verity.ensures in
@@ -1533,10 +1534,10 @@ read_blocks-slice_bounds-settle-end g t c =
     let read : r ≤ n / block_sectors v = omega (arith, inv.most, many_are) in
     let index : p.first / c.from.result + j ≡ p.first / block_sectors v + j = ap (λ (k : ℕ). p.first / k + j) sectors in
     let there : p.first / c.from.result + j < v.blocks = omega (arith, index, at.there j inside) in
-    let did : Read = record { old = old; new = map state c.checks.reader.devices.items; before = found; after = inv.after } in
+    let did : Read = record { old = old; new = map state c.checks.backing.devices.items; before = found; after = inv.after } in
     let end_j = blocks-end config v p n tree.data found loaded line is at c.checks.out (j + 1) len (omega (arith, inside)) in
     let size = block-size config v p n tree.data found loaded line is at in
-    let walk = map state c.walk_path.new.reader.devices.items in
+    let walk = map state c.walk_path.new.backing.devices.items in
     let way = map block_bytes (take (levels (tree_of v)) c.walk_path.new.path.items) in
     let expected = c.in-Ok.expected in
     let walked = subst (λ (k : ℕ). IsWalked (block_in config v k) 0 expected way did.new walk) index c.in-Ok.ensures.ok in
@@ -1570,7 +1571,7 @@ read_blocks-returns-then-not-settle-clause-reads g t c =
     let v = c.verity_at-verity.result.now in
     let tree = c.tree_at-tree.result in
     let state = g.D.BlockDev.state in
-    let old = map state c.args.reader.now.devices.items in
+    let old = map state c.args.backing.now.devices.items in
     let found = c.args.found.now.items in
     let loaded = c.requires.stack.sound.loaded in
     let line = c.verity_at-verity.ensures in
@@ -1588,10 +1589,10 @@ read_blocks-returns-then-not-settle-clause-reads g t c =
     let read : r ≤ n / block_sectors v = omega (arith, inv.most, many_are) in
     let index : p.first / c.from.result + j ≡ p.first / block_sectors v + j = ap (λ (k : ℕ). p.first / k + j) sectors in
     let there : p.first / c.from.result + j < v.blocks = omega (arith, index, at.there j inside) in
-    let did : Read = record { old = old; new = map state c.checks.reader.devices.items; before = found; after = inv.after } in
+    let did : Read = record { old = old; new = map state c.checks.backing.devices.items; before = found; after = inv.after } in
     let end_j = blocks-end config v p n tree.data found loaded line is at c.checks.out (j + 1) len (omega (arith, inside)) in
     let size = block-size config v p n tree.data found loaded line is at in
-    let walk = map state c.walk_path.new.reader.devices.items in
+    let walk = map state c.walk_path.new.backing.devices.items in
     let way = map block_bytes (take (levels (tree_of v)) c.walk_path.new.path.items) in
     let expected = c.in-Ok.expected in
     let walked = subst (λ (k : ℕ). IsWalked (block_in config v k) 0 expected way did.new walk) index c.in-Ok.ensures.ok in
@@ -1605,7 +1606,7 @@ read_blocks-returns-then-not-settle-clause-reads g t c =
     let row_sectors : length (take (j * v.data_block + many * v.data_block - j * v.data_block) (drop (j * v.data_block) c.checks.out)) / 512 ≡ many * block_sectors v = omega (arith, part_len, wide) in
     let row : List ℕ = c.read_beneath.new.out in
     let gets = c.in-Ok-read_beneath.ensures.reads in
-    let new = map state c.read_beneath.new.reader.devices.items in
+    let new = map state c.read_beneath.new.backing.devices.items in
     let got = subst (λ (k : ℕ). Gets (run_expected (place_of config tree.data) gets.chains (block_sectors v * (p.first / block_sectors v + j)) k) walk new (Ok row)) row_sectors
     (subst (λ (k : ℕ). Gets (run_expected (place_of config tree.data) gets.chains k (length (take (j * v.data_block + many * v.data_block - j * v.data_block) (drop (j * v.data_block) c.checks.out)) / 512)) walk new (Ok row)) extent gets.got) in
     let to : ℕ = c.read_as_far-read.result in
@@ -1628,7 +1629,7 @@ read_blocks-returns-then-not-settle-clause-reads g t c =
     ∙ ap (λ (l : List (List ℕ)). put_mid j many c.checks.made l) (c.digest_blocks.ensures ∙ ap (λ (l : List ℕ). map (digest v.salt) (cut v.data_block l)) row2_is) in
     let made1_len : length made1 ≡ 128 = same_len_mid j made_w c.checks.made c.digest_blocks.new.out c.digest_blocks.auto.out ∙ inv.room in
     let ahead = row-ahead config v p n tree.data found loaded line is at r j many c.checks.out expected way did walk inside read most c.row_len-many.ensures.fresh inv.had c.in-Ok.ensures.moved to c.read_as_far-read.ensures walked new row c.checks.made made1 gets.chains
-    (all-whole state g.met.D.BlockDev.whole c.walk_path.new.reader.devices.items) len inv.room made_few inv.ahead got made1_is in
+    (all-whole state g.met.D.BlockDev.whole c.walk_path.new.backing.devices.items) len inv.room made_few inv.ahead got made1_is in
     let ahead1 : AreReadAhead config v p tree.data j to out1 made1 old = subst (λ (k : ℕ). AreReadAhead config v p tree.data j to (put_mid a k c.checks.out row) made1 old) (sym w_is) ahead in
     let far_to = far config v p n tree.data found loaded line is at r j many c.checks.out expected way did walk inside read most c.row_len-many.ensures.fresh inv.had c.in-Ok.ensures.moved to c.read_as_far-read.ensures walked in
     let did1 : Read = record { old = old; new = new; before = found; after = inv.after } in
@@ -1645,7 +1646,7 @@ read_blocks-returns-then-not-settle-clause-reads g t c =
       | inr high ↦ omega (arith, c.row_len-many.ensures.some taken high, c.read_as_far-read.ensures)
     ] in
     let was : c.is_ignored-ignored.result ≡ false → IsRead config v p tree.data old j stood made_j = λ taken. subst (λ (l : List ℕ). IsRead config v p tree.data old j l made_j) (sym stood_is) (ahead1 j (omega arith) (within_to taken) c.index-made-at.result) in
-    let cached_now : KeepsCache config new c.args.reader.now.cache c.read_beneath.new.reader.cache = record { capacity = c.in-Ok-read_beneath.ensures.cached.capacity ∙ c.in-Ok.ensures.cached.capacity ∙ inv.cached.capacity; sound = c.in-Ok-read_beneath.ensures.cached.sound } in
+    let cached_now : KeepsCache config new c.args.backing.now.cache c.read_beneath.new.backing.cache = record { capacity = c.in-Ok-read_beneath.ensures.cached.capacity ∙ c.in-Ok.ensures.cached.capacity ∙ inv.cached.capacity; sound = c.in-Ok-read_beneath.ensures.cached.sound } in
     let other = c.if-not-settle.ensures.other refl in
     let got_other = block-other config v p n (n / block_sectors v) loaded line at.aligned at.size at.count tree.data is j next.later next.walked stood made_j (sym c.is_ignored-ignored.ensures ∙ other.0) (was other.0) other.1 in
     record { after = inv.after; out = inv.out; reads = next-differs config v p n tree.data found loaded line is at to j c.checks.out expected way did1 inside far_to next got_other }
@@ -1666,7 +1667,7 @@ read_blocks-returns-in-Err-keep-clause-reads g t c =
     let v = c.verity_at-verity.result.now in
     let tree = c.tree_at-tree.result in
     let state = g.D.BlockDev.state in
-    let old = map state c.args.reader.now.devices.items in
+    let old = map state c.args.backing.now.devices.items in
     let found = c.args.found.now.items in
     let loaded = c.requires.stack.sound.loaded in
     let line = c.verity_at-verity.ensures in
@@ -1684,10 +1685,10 @@ read_blocks-returns-in-Err-keep-clause-reads g t c =
     let read : r ≤ n / block_sectors v = omega (arith, inv.most, many_are) in
     let index : p.first / c.from.result + j ≡ p.first / block_sectors v + j = ap (λ (k : ℕ). p.first / k + j) sectors in
     let there : p.first / c.from.result + j < v.blocks = omega (arith, index, at.there j inside) in
-    let did : Read = record { old = old; new = map state c.checks.reader.devices.items; before = found; after = inv.after } in
+    let did : Read = record { old = old; new = map state c.checks.backing.devices.items; before = found; after = inv.after } in
     let end_j = blocks-end config v p n tree.data found loaded line is at c.checks.out (j + 1) len (omega (arith, inside)) in
     let size = block-size config v p n tree.data found loaded line is at in
-    let walk = map state c.walk_path.new.reader.devices.items in
+    let walk = map state c.walk_path.new.backing.devices.items in
     let way = map block_bytes (take (levels (tree_of v)) c.walk_path.new.path.items) in
     let expected = c.in-Ok.expected in
     let walked = subst (λ (k : ℕ). IsWalked (block_in config v k) 0 expected way did.new walk) index c.in-Ok.ensures.ok in
@@ -1701,7 +1702,7 @@ read_blocks-returns-in-Err-keep-clause-reads g t c =
     let row_sectors : length (take (j * v.data_block + many * v.data_block - j * v.data_block) (drop (j * v.data_block) c.checks.out)) / 512 ≡ many * block_sectors v = omega (arith, part_len, wide) in
     let row : List ℕ = c.read_beneath.new.out in
     let gets = c.in-Ok-read_beneath.ensures.reads in
-    let new = map state c.read_beneath.new.reader.devices.items in
+    let new = map state c.read_beneath.new.backing.devices.items in
     let got = subst (λ (k : ℕ). Gets (run_expected (place_of config tree.data) gets.chains (block_sectors v * (p.first / block_sectors v + j)) k) walk new (Ok row)) row_sectors
     (subst (λ (k : ℕ). Gets (run_expected (place_of config tree.data) gets.chains k (length (take (j * v.data_block + many * v.data_block - j * v.data_block) (drop (j * v.data_block) c.checks.out)) / 512)) walk new (Ok row)) extent gets.got) in
     let to : ℕ = c.read_as_far-read.result in
@@ -1724,7 +1725,7 @@ read_blocks-returns-in-Err-keep-clause-reads g t c =
     ∙ ap (λ (l : List (List ℕ)). put_mid j many c.checks.made l) (c.digest_blocks.ensures ∙ ap (λ (l : List ℕ). map (digest v.salt) (cut v.data_block l)) row2_is) in
     let made1_len : length made1 ≡ 128 = same_len_mid j made_w c.checks.made c.digest_blocks.new.out c.digest_blocks.auto.out ∙ inv.room in
     let ahead = row-ahead config v p n tree.data found loaded line is at r j many c.checks.out expected way did walk inside read most c.row_len-many.ensures.fresh inv.had c.in-Ok.ensures.moved to c.read_as_far-read.ensures walked new row c.checks.made made1 gets.chains
-    (all-whole state g.met.D.BlockDev.whole c.walk_path.new.reader.devices.items) len inv.room made_few inv.ahead got made1_is in
+    (all-whole state g.met.D.BlockDev.whole c.walk_path.new.backing.devices.items) len inv.room made_few inv.ahead got made1_is in
     let ahead1 : AreReadAhead config v p tree.data j to out1 made1 old = subst (λ (k : ℕ). AreReadAhead config v p tree.data j to (put_mid a k c.checks.out row) made1 old) (sym w_is) ahead in
     let far_to = far config v p n tree.data found loaded line is at r j many c.checks.out expected way did walk inside read most c.row_len-many.ensures.fresh inv.had c.in-Ok.ensures.moved to c.read_as_far-read.ensures walked in
     let did1 : Read = record { old = old; new = new; before = found; after = inv.after } in
@@ -1741,7 +1742,7 @@ read_blocks-returns-in-Err-keep-clause-reads g t c =
       | inr high ↦ omega (arith, c.row_len-many.ensures.some taken high, c.read_as_far-read.ensures)
     ] in
     let was : c.is_ignored-ignored.result ≡ false → IsRead config v p tree.data old j stood made_j = λ taken. subst (λ (l : List ℕ). IsRead config v p tree.data old j l made_j) (sym stood_is) (ahead1 j (omega arith) (within_to taken) c.index-made-at.result) in
-    let cached_now : KeepsCache config new c.args.reader.now.cache c.read_beneath.new.reader.cache = record { capacity = c.in-Ok-read_beneath.ensures.cached.capacity ∙ c.in-Ok.ensures.cached.capacity ∙ inv.cached.capacity; sound = c.in-Ok-read_beneath.ensures.cached.sound } in
+    let cached_now : KeepsCache config new c.args.backing.now.cache c.read_beneath.new.backing.cache = record { capacity = c.in-Ok-read_beneath.ensures.cached.capacity ∙ c.in-Ok.ensures.cached.capacity ∙ inv.cached.capacity; sound = c.in-Ok-read_beneath.ensures.cached.sound } in
     record {
       after = inv.after;
       out = subst (AreHandedOut c.args.chains found inv.after) (sym c.in-Err-keep.ensures.err) inv.out;
@@ -1756,7 +1757,7 @@ read_blocks-checks-preserved g t c =
     let v = c.verity_at-verity.result.now in
     let tree = c.tree_at-tree.result in
     let state = g.D.BlockDev.state in
-    let old = map state c.args.reader.now.devices.items in
+    let old = map state c.args.backing.now.devices.items in
     let found = c.args.found.now.items in
     let loaded = c.requires.stack.sound.loaded in
     let line = c.verity_at-verity.ensures in
@@ -1773,10 +1774,10 @@ read_blocks-checks-preserved g t c =
     let inside : j < n / block_sectors v = omega (arith, c.checks-test.true, many_are) in
     let read : r ≤ n / block_sectors v = omega (arith, inv.most, many_are) in
     let index : p.first / c.from.result + j ≡ p.first / block_sectors v + j = ap (λ (k : ℕ). p.first / k + j) sectors in
-    let did : Read = record { old = old; new = map state c.checks.reader.devices.items; before = found; after = inv.after } in
+    let did : Read = record { old = old; new = map state c.checks.backing.devices.items; before = found; after = inv.after } in
     let end_j = blocks-end config v p n tree.data found loaded line is at c.checks.out (j + 1) len (omega (arith, inside)) in
     let size = block-size config v p n tree.data found loaded line is at in
-    let walk = map state c.walk_path.new.reader.devices.items in
+    let walk = map state c.walk_path.new.backing.devices.items in
     let way = map block_bytes (take (levels (tree_of v)) c.walk_path.new.path.items) in
     let expected = c.in-Ok.expected in
     let walked = subst (λ (k : ℕ). IsWalked (block_in config v k) 0 expected way did.new walk) index c.in-Ok.ensures.ok in
@@ -1790,7 +1791,7 @@ read_blocks-checks-preserved g t c =
     let row_sectors : length (take (j * v.data_block + many * v.data_block - j * v.data_block) (drop (j * v.data_block) c.checks.out)) / 512 ≡ many * block_sectors v = omega (arith, part_len, wide) in
     let row : List ℕ = c.read_beneath.new.out in
     let gets = c.in-Ok-read_beneath.ensures.reads in
-    let new = map state c.read_beneath.new.reader.devices.items in
+    let new = map state c.read_beneath.new.backing.devices.items in
     let got = subst (λ (k : ℕ). Gets (run_expected (place_of config tree.data) gets.chains (block_sectors v * (p.first / block_sectors v + j)) k) walk new (Ok row)) row_sectors
     (subst (λ (k : ℕ). Gets (run_expected (place_of config tree.data) gets.chains k (length (take (j * v.data_block + many * v.data_block - j * v.data_block) (drop (j * v.data_block) c.checks.out)) / 512)) walk new (Ok row)) extent gets.got) in
     let to : ℕ = c.read_as_far-read.result in
@@ -1812,7 +1813,7 @@ read_blocks-checks-preserved g t c =
     ∙ ap (λ (l : List (List ℕ)). put_mid j many c.checks.made l) (c.digest_blocks.ensures ∙ ap (λ (l : List ℕ). map (digest v.salt) (cut v.data_block l)) row2_is) in
     let made1_len : length made1 ≡ 128 = same_len_mid j made_w c.checks.made c.digest_blocks.new.out c.digest_blocks.auto.out ∙ inv.room in
     let ahead = row-ahead config v p n tree.data found loaded line is at r j many c.checks.out expected way did walk inside read most c.row_len-many.ensures.fresh inv.had c.in-Ok.ensures.moved to c.read_as_far-read.ensures walked new row c.checks.made made1 gets.chains
-    (all-whole state g.met.D.BlockDev.whole c.walk_path.new.reader.devices.items) len inv.room made_few inv.ahead got made1_is in
+    (all-whole state g.met.D.BlockDev.whole c.walk_path.new.backing.devices.items) len inv.room made_few inv.ahead got made1_is in
     let ahead1 : AreReadAhead config v p tree.data j to out1 made1 old = subst (λ (k : ℕ). AreReadAhead config v p tree.data j to (put_mid a k c.checks.out row) made1 old) (sym w_is) ahead in
     let far_to = far config v p n tree.data found loaded line is at r j many c.checks.out expected way did walk inside read most c.row_len-many.ensures.fresh inv.had c.in-Ok.ensures.moved to c.read_as_far-read.ensures walked in
     let did1 : Read = record { old = old; new = new; before = found; after = inv.after } in
@@ -1829,7 +1830,7 @@ read_blocks-checks-preserved g t c =
       | inr high ↦ omega (arith, c.row_len-many.ensures.some taken high, c.read_as_far-read.ensures)
     ] in
     let was : c.is_ignored-ignored.result ≡ false → IsRead config v p tree.data old j stood made_j = λ taken. subst (λ (l : List ℕ). IsRead config v p tree.data old j l made_j) (sym stood_is) (ahead1 j (omega arith) (within_to taken) c.index-made-at.result) in
-    let cached_now : KeepsCache config new c.args.reader.now.cache c.read_beneath.new.reader.cache = record { capacity = c.in-Ok-read_beneath.ensures.cached.capacity ∙ c.in-Ok.ensures.cached.capacity ∙ inv.cached.capacity; sound = c.in-Ok-read_beneath.ensures.cached.sound } in
+    let cached_now : KeepsCache config new c.args.backing.now.cache c.read_beneath.new.backing.cache = record { capacity = c.in-Ok-read_beneath.ensures.cached.capacity ∙ c.in-Ok.ensures.cached.capacity ∙ inv.cached.capacity; sound = c.in-Ok-read_beneath.ensures.cached.sound } in
     let block : List ℕ = c.settle.new.block in
     let block_len : length block ≡ ws = c.settle.auto.block ∙ stood_len in
     let out2 : List ℕ = put_mid a ws out1 block in
@@ -1871,7 +1872,7 @@ read_blocks-returns-clause-reads g t c =
     let v = c.verity_at-verity.result.now in
     let tree = c.tree_at-tree.result in
     let state = g.D.BlockDev.state in
-    let old = map state c.args.reader.now.devices.items in
+    let old = map state c.args.backing.now.devices.items in
     let found = c.args.found.now.items in
     let loaded = c.requires.stack.sound.loaded in
     let line = c.verity_at-verity.ensures in
@@ -1883,12 +1884,12 @@ read_blocks-returns-clause-reads g t c =
     let blocks_few = few-blocks config v p n tree.data found loaded line is at in
     let inv = c.checks.invariant in
     let len : length c.checks.out ≡ 512 * n = omega (arith, inv.size, whole_out) in
-    let did : Read = record { old = old; new = map state c.checks.reader.devices.items; before = found; after = inv.after } in
+    let did : Read = record { old = old; new = map state c.checks.backing.devices.items; before = found; after = inv.after } in
     record { after = inv.after; out = inv.out; reads = had-all config v p n tree.data found loaded line is at c.checks.read c.checks.at c.checks.out did (omega (arith, inv.most, many_are)) (omega (arith, inv.within, c.checks-test.false, many_are)) len inv.had }
 
 pub read_beneath-returns-then-is_empty-clause-reads : goal.read_beneath-returns-then-is_empty-clause-reads
 read_beneath-returns-then-is_empty-clause-reads g t c =
-    gets-none c.args.config.now c.args.lower c.args.first (map g.D.BlockDev.state c.args.reader.now.devices.items) c.args.out.now (eqb-true (length c.args.out.now) 0 (sym c.if-is_empty.ensures))
+    gets-none c.args.config.now c.args.lower c.args.first (map g.D.BlockDev.state c.args.backing.now.devices.items) c.args.out.now (eqb-true (length c.args.out.now) 0 (sym c.if-is_empty.ensures))
 
 pub read_blocks-returns-in-Err-clause-plain : goal.read_blocks-returns-in-Err-clause-plain
 read_blocks-returns-in-Err-clause-plain g t c = blocks_plain c.args.config.now c.args.part (length c.args.out.now / 512) (omega (arith, c.requires.fits.sectors.some, c.requires.fits.sectors.whole)) c.requires.fits.holds
@@ -1912,18 +1913,18 @@ read_device-returns-clause-touches g t c = c.loop-at.invariant.touches
 
 pub read_device-returns-in-Err-clause-touches : goal.read_device-returns-in-Err-clause-touches
 read_device-returns-in-Err-clause-touches g t c =
-    device-touched c.args.config.now c.args.d.0 (c.args.first + c.loop-at.at / 512) c.run_to_read-run.result.count c.run_to_read-run.result.source c.requires.stack.sound.loaded c.run_to_read-run.ensures.some c.run_to_read-run.ensures.served c.loop-at.invariant.touches c.in-Err.ensures.touches
+    device-asked c.args.config.now c.args.d.0 (c.args.first + c.loop-at.at / 512) c.run_to_read-run.result.count c.run_to_read-run.result.source c.requires.stack.sound.loaded c.run_to_read-run.ensures.some c.run_to_read-run.ensures.served c.loop-at.invariant.touches c.in-Err.ensures.touches
 
 pub read_lower-returns-in-Leaf-clause-touches : goal.read_lower-returns-in-Leaf-clause-touches
 read_lower-returns-in-Leaf-clause-touches g t c =
     let config = c.args.config.now in
     let state = g.D.BlockDev.state in
-    let devices = c.args.reader.now.devices in
+    let devices = c.args.backing.now.devices in
     let stands : (with_items devices c.read_leaf.new.devices).items ≡ c.read_leaf.new.devices =
     with_items_is devices c.read_leaf.new.devices (c.read_leaf.auto.devices ∙ ap (λ l. length l) c.as_mut_slice.ensures.value ∙ sym devices.ok.0) in
-    let one = subst (λ ds. TouchesOnly (leaves_of config (Leaf c.in-Leaf.leaf)) (map state ds) (map state c.read_leaf.new.devices) c.read_leaf.result) c.as_mut_slice.ensures.value c.read_leaf.ensures.touches in
-    subst (λ ds. TouchesOnly (leaves_of config c.args.lower) (map state devices.items) (map state ds) c.read_leaf.result) (sym stands)
-    (subst (λ (x : Lower). TouchesOnly (leaves_of config x) (map state devices.items) (map state c.read_leaf.new.devices) c.read_leaf.result) (sym c.in-Leaf.is) one)
+    let one = subst (λ ds. AsksOnly (leaves_of config (Leaf c.in-Leaf.leaf)) (map state ds) (map state c.read_leaf.new.devices) c.read_leaf.result) c.as_mut_slice.ensures.value c.read_leaf.ensures.touches in
+    subst (λ ds. AsksOnly (leaves_of config c.args.lower) (map state devices.items) (map state ds) c.read_leaf.result) (sym stands)
+    (subst (λ (x : Lower). AsksOnly (leaves_of config x) (map state devices.items) (map state c.read_leaf.new.devices) c.read_leaf.result) (sym c.in-Leaf.is) one)
 
 pub read_lower-returns-in-Device-clause-touches : goal.read_lower-returns-in-Device-clause-touches
 read_lower-returns-in-Device-clause-touches g t c = rw c.in-Device.is c.read_device.ensures.touches
@@ -1946,27 +1947,27 @@ read_run-returns-in-Blocks-clause-touches g t c = rw c.in-Blocks.is c.read_block
 pub read_units-returns-in-Ok-clause-touches : goal.read_units-returns-in-Ok-clause-touches
 read_units-returns-in-Ok-clause-touches g t c =
     let unit = c.unit_at-unit in
-    touches-up (crypt-within c.args.config.now c.args.part.device.0 c.args.part.line 0 c.crypt_at-crypt.result.now unit.result.lower c.requires.stack.sound.loaded c.crypt_at-crypt.ensures unit.ensures.lower) c.in-Ok.ensures.touches
+    asks-up (crypt-within c.args.config.now c.args.part.device.0 c.args.part.line 0 c.crypt_at-crypt.result.now unit.result.lower c.requires.stack.sound.loaded c.crypt_at-crypt.ensures unit.ensures.lower) c.in-Ok.ensures.touches
 
 pub read_units-returns-in-Err-clause-touches : goal.read_units-returns-in-Err-clause-touches
 read_units-returns-in-Err-clause-touches g t c =
     let unit = c.unit_at-unit in
-    touches-up (crypt-within c.args.config.now c.args.part.device.0 c.args.part.line 0 c.crypt_at-crypt.result.now unit.result.lower c.requires.stack.sound.loaded c.crypt_at-crypt.ensures unit.ensures.lower) c.in-Err.ensures.touches
+    asks-up (crypt-within c.args.config.now c.args.part.device.0 c.args.part.line 0 c.crypt_at-crypt.result.now unit.result.lower c.requires.stack.sound.loaded c.crypt_at-crypt.ensures unit.ensures.lower) c.in-Err.ensures.touches
 
 pub read_unit_part-returns-in-Ok-clause-touches : goal.read_unit_part-returns-in-Ok-clause-touches
 read_unit_part-returns-in-Ok-clause-touches g t c =
     let state = g.D.BlockDev.state in
-    subst (λ (b : BlockPart). TouchesOnly {A = Unit {0}} (leaves_of c.args.config.now (mapped b.device.0)) (map state c.args.reader.now.devices.items) (map state c.read_units.new.reader.devices.items) (Ok tt)) c.whole_unit-whole.ensures.whole.from c.in-Ok.ensures.touches
+    subst (λ (b : BlockPart). AsksOnly {A = Unit {0}} (leaves_of c.args.config.now (mapped b.device.0)) (map state c.args.backing.now.devices.items) (map state c.read_units.new.backing.devices.items) (Ok tt)) c.whole_unit-whole.ensures.whole.from c.in-Ok.ensures.touches
 
 pub read_unit_part-returns-in-Err-clause-touches : goal.read_unit_part-returns-in-Err-clause-touches
 read_unit_part-returns-in-Err-clause-touches g t c =
     let state = g.D.BlockDev.state in
-    subst (λ (b : BlockPart). TouchesOnly {A = Unit {0}} (leaves_of c.args.config.now (mapped b.device.0)) (map state c.args.reader.now.devices.items) (map state c.read_units.new.reader.devices.items) (Err c.in-Err.fault)) c.whole_unit-whole.ensures.whole.from c.in-Err.ensures.touches
+    subst (λ (b : BlockPart). AsksOnly {A = Unit {0}} (leaves_of c.args.config.now (mapped b.device.0)) (map state c.args.backing.now.devices.items) (map state c.read_units.new.backing.devices.items) (Err c.in-Err.fault)) c.whole_unit-whole.ensures.whole.from c.in-Err.ensures.touches
 
 pub read_block-returns-in-Err-clause-touches : goal.read_block-returns-in-Err-clause-touches
 read_block-returns-in-Err-clause-touches g t c =
-    let walked = touches-up (same-within c.args.config.now c.tree_at-tree.ensures.at) c.in-Err.ensures.touches in
-    touches-as (Err c.in-Err.fault) walked.fault walked
+    let walked = asks-up (same-within c.args.config.now c.tree_at-tree.ensures.at) c.in-Err.ensures.touches in
+    asks-as (Err c.in-Err.fault) walked.fault (λ failures. refl) walked
 
 pub read_block-returns-after-push-clause-touches : goal.read_block-returns-after-push-clause-touches
 read_block-returns-after-push-clause-touches g t c =
@@ -1976,58 +1977,63 @@ read_block-returns-after-push-clause-touches g t c =
       | read_block-in-Err-push w ↦ subst Names (sym w.result-is) tt
       | read_block-in-Ok-push w ↦ subst Names (sym w.result-is) tt
     ] in
-    touches-as c.match-push.result fault (touches-up (same-within c.args.config.now c.tree_at-tree.ensures.at) c.in-Ok.ensures.touches)
+    let Alike : Result Unit IoFault → Type 0 = λ r. (failures : List ℕ) → failures_behind r failures ≡ failures in
+    let alike : Alike c.match-push.result = elim c.match-push.branch [
+      | read_block-in-Err-push w ↦ subst Alike (sym w.result-is) (λ failures. refl)
+      | read_block-in-Ok-push w ↦ subst Alike (sym w.result-is) (λ failures. refl)
+    ] in
+    asks-as c.match-push.result fault alike (asks-up (same-within c.args.config.now c.tree_at-tree.ensures.at) c.in-Ok.ensures.touches)
 
 pub read_checked-returns-then-eq-clause-touches : goal.read_checked-returns-then-eq-clause-touches
-read_checked-returns-then-eq-clause-touches g t c = touches-as (Ok (with_items c.in-Ok.block c.read_lower.new.out)) tt c.in-Ok-read_lower.ensures.touches
+read_checked-returns-then-eq-clause-touches g t c = asks-as (Ok (with_items c.in-Ok.block c.read_lower.new.out)) tt (λ failures. refl) c.in-Ok-read_lower.ensures.touches
 
 pub walk-returns-in-Err-clause-touches : goal.walk-returns-in-Err-clause-touches
 walk-returns-in-Err-clause-touches g t c =
     let read = hash-touched c.args.config.now c.args.verity.now c.args.tree.now c.requires.stack.sound.loaded c.requires.block.lies c.hash_extent-extent.result c.hash_extent-extent.ensures c.in-Err.ensures.touches in
-    touches-then c.loop-level.invariant.touches (touches-as (Err c.in-Err.first) read.fault read)
+    asks-then c.loop-level.invariant.touches (asks-as (Err c.in-Err.first) read.fault (λ failures. refl) read)
 
 pub walk-returns-in-Err-push-clause-touches : goal.walk-returns-in-Err-push-clause-touches
 walk-returns-in-Err-push-clause-touches g t c =
     let read = hash-touched c.args.config.now c.args.verity.now c.args.tree.now c.requires.stack.sound.loaded c.requires.block.lies c.hash_extent-extent.result c.hash_extent-extent.ensures c.in-Ok.ensures.touches in
-    touches-then c.loop-level.invariant.touches (touches-as (Err NoMemory) tt read)
+    asks-then c.loop-level.invariant.touches (asks-as (Err NoMemory) tt (λ failures. refl) read)
 
 pub walk-returns-in-Err-read_data-clause-touches : goal.walk-returns-in-Err-read_data-clause-touches
 walk-returns-in-Err-read_data-clause-touches g t c =
-    touches-then c.loop-level.invariant.touches (touches-as (Err c.in-Err-read_data.fault) c.in-Err-read_data.ensures.touches.fault c.in-Err-read_data.ensures.touches)
+    asks-then c.loop-level.invariant.touches (asks-as (Err c.in-Err-read_data.fault) c.in-Err-read_data.ensures.touches.fault (λ failures. refl) c.in-Err-read_data.ensures.touches)
 
 pub walk-returns-in-Ok-read_data-clause-touches : goal.walk-returns-in-Ok-read_data-clause-touches
 walk-returns-in-Ok-read_data-clause-touches g t c =
-    touches-then c.loop-level.invariant.touches (touches-as (Ok _) tt c.in-Ok-read_data.ensures.touches)
+    asks-then c.loop-level.invariant.touches (asks-as (Ok _) tt (λ failures. refl) c.in-Ok-read_data.ensures.touches)
 
 pub read_data-returns-clause-touches : goal.read_data-returns-clause-touches
 read_data-returns-clause-touches g t c =
-    touches-up (data-within c.args.config.now c.args.verity.now c.args.tree.now c.requires.stack.sound.loaded c.requires.block.lies) (extent-touched c.args.config.now c.data_extent-extent.result c.data_extent-extent.ensures c.read_checked.ensures.touches)
+    asks-up (data-within c.args.config.now c.args.verity.now c.args.tree.now c.requires.stack.sound.loaded c.requires.block.lies) (extent-touched c.args.config.now c.data_extent-extent.result c.data_extent-extent.ensures c.read_checked.ensures.touches)
 
 pub path_block-returns-in-Err-clause-touches : goal.path_block-returns-in-Err-clause-touches
 path_block-returns-in-Err-clause-touches g t c =
     let read = extent-touched c.args.config.now c.hash_extent-extent.result c.hash_extent-extent.ensures c.in-Err.ensures.touches in
-    touches-as (Err c.in-Err.fault) read.fault read
+    asks-as (Err c.in-Err.fault) read.fault (λ failures. refl) read
 
 pub path_block-returns-in-Err-put-clause-touches : goal.path_block-returns-in-Err-put-clause-touches
 path_block-returns-in-Err-put-clause-touches g t c =
-    touches-as (Err NoMemory) tt (extent-touched c.args.config.now c.hash_extent-extent.result c.hash_extent-extent.ensures c.in-Ok.ensures.touches)
+    asks-as (Err NoMemory) tt (λ failures. refl) (extent-touched c.args.config.now c.hash_extent-extent.result c.hash_extent-extent.ensures c.in-Ok.ensures.touches)
 
 pub path_block-returns-in-Ok-put-clause-touches : goal.path_block-returns-in-Ok-put-clause-touches
 path_block-returns-in-Ok-put-clause-touches g t c =
-    touches-as (Ok tt) tt (extent-touched c.args.config.now c.hash_extent-extent.result c.hash_extent-extent.ensures c.in-Ok.ensures.touches)
+    asks-as (Ok tt) tt (λ failures. refl) (extent-touched c.args.config.now c.hash_extent-extent.result c.hash_extent-extent.ensures c.in-Ok.ensures.touches)
 
 pub walk_path-returns-in-Err-clause-touches : goal.walk_path-returns-in-Err-clause-touches
 walk_path-returns-in-Err-clause-touches g t c =
-    touches-then c.loop-left.invariant.touches (touches-as (Err c.in-Err.first) c.in-Err.ensures.touches.fault c.in-Err.ensures.touches)
+    asks-then c.loop-left.invariant.touches (asks-as (Err c.in-Err.first) c.in-Err.ensures.touches.fault (λ failures. refl) c.in-Err.ensures.touches)
 
 pub walk_path-returns-clause-touches : goal.walk_path-returns-clause-touches
-walk_path-returns-clause-touches g t c = touches-as (Ok c.loop-left.digest) tt c.loop-left.invariant.touches
+walk_path-returns-clause-touches g t c = asks-as (Ok c.loop-left.digest) tt (λ failures. refl) c.loop-left.invariant.touches
 
 pub read_blocks-returns-in-Err-clause-touches : goal.read_blocks-returns-in-Err-clause-touches
 read_blocks-returns-in-Err-clause-touches g t c =
     let tree = c.tree_at-tree in
-    let walked = touches-up (hash-within-device c.args.config.now c.verity_at-verity.result.now tree.result c.requires.stack.sound.loaded tree.ensures.tree c.args.part.device tree.ensures.at) c.in-Err.ensures.touches in
-    touches-then c.checks.invariant.touches (touches-as (Err c.in-Err.first) walked.fault walked)
+    let walked = asks-up (hash-within-device c.args.config.now c.verity_at-verity.result.now tree.result c.requires.stack.sound.loaded tree.ensures.tree c.args.part.device tree.ensures.at) c.in-Err.ensures.touches in
+    asks-then c.checks.invariant.touches (asks-as (Err c.in-Err.first) walked.fault (λ failures. refl) walked)
 
 pub read_blocks-returns-in-Err-read_beneath-clause-touches : goal.read_blocks-returns-in-Err-read_beneath-clause-touches
 read_blocks-returns-in-Err-read_beneath-clause-touches g t c =
@@ -2037,12 +2043,12 @@ read_blocks-returns-in-Err-read_beneath-clause-touches g t c =
 pub read_blocks-returns-then-not-settle-clause-touches : goal.read_blocks-returns-then-not-settle-clause-touches
 read_blocks-returns-then-not-settle-clause-touches g t c =
     let tree = c.tree_at-tree in
-    touches-as (Err (Stack Mismatch)) tt (data-touched c.args.config.now c.verity_at-verity.result.now tree.result c.requires.stack.sound.loaded tree.ensures.tree c.args.part.device tree.ensures.at c.checks.invariant.touches c.in-Ok.ensures.touches c.in-Ok-read_beneath.ensures.touches)
+    asks-as (Err (Stack Mismatch)) tt (λ failures. refl) (data-touched c.args.config.now c.verity_at-verity.result.now tree.result c.requires.stack.sound.loaded tree.ensures.tree c.args.part.device tree.ensures.at c.checks.invariant.touches c.in-Ok.ensures.touches c.in-Ok-read_beneath.ensures.touches)
 
 pub read_blocks-returns-in-Err-keep-clause-touches : goal.read_blocks-returns-in-Err-keep-clause-touches
 read_blocks-returns-in-Err-keep-clause-touches g t c =
     let tree = c.tree_at-tree in
-    touches-as (Err NoMemory) tt (data-touched c.args.config.now c.verity_at-verity.result.now tree.result c.requires.stack.sound.loaded tree.ensures.tree c.args.part.device tree.ensures.at c.checks.invariant.touches c.in-Ok.ensures.touches c.in-Ok-read_beneath.ensures.touches)
+    asks-as (Err NoMemory) tt (λ failures. refl) (data-touched c.args.config.now c.verity_at-verity.result.now tree.result c.requires.stack.sound.loaded tree.ensures.tree c.args.part.device tree.ensures.at c.checks.invariant.touches c.in-Ok.ensures.touches c.in-Ok-read_beneath.ensures.touches)
 
 pub read_blocks-returns-clause-touches : goal.read_blocks-returns-clause-touches
 read_blocks-returns-clause-touches g t c = c.checks.invariant.touches
@@ -2053,7 +2059,7 @@ pub read_device-loop-at-init : goal.read_device-loop-at-init
 read_device-loop-at-init g t c =
     let config = c.args.config.now in
     let place = place_of config (mapped c.args.d.0) in
-    let old = map g.D.BlockDev.state c.args.reader.now.devices.items in
+    let old = map g.D.BlockDev.state c.args.backing.now.devices.items in
     let found = c.args.found.now.items in
     record {
       whole = refl;
@@ -2066,7 +2072,7 @@ read_device-loop-at-init g t c =
       cached = record { capacity = refl; sound = c.requires.stack.cached };
       plain = plain-none (said_at config (mapped c.args.d.0)) c.args.first 0 old (Ok tt) (λ e. cc) tt;
       same = λ none. refl;
-      touches = touches-none (leaves_of config (mapped c.args.d.0)) old (Ok tt) tt;
+      touches = asks-none (leaves_of config (mapped c.args.d.0)) old (Ok tt) tt refl;
       spent = omega arith;
       cut = inl refl;
     }
@@ -2082,9 +2088,9 @@ read_device-returns-in-Err-clause-spent g t c =
     let fits : at + count * 512 ≤ length c.loop-at.out = omega (arith, run.ensures.most, c.loop-at-test.true) in
     let len = run_length c.loop-at.out at count fits in
     let number : length (take (at + count * 512 - at) (drop at c.loop-at.out)) / 512 ≡ count = omega (arith, len) in
-    let old = map g.D.BlockDev.state c.args.reader.now.devices.items in
-    let mid = map g.D.BlockDev.state c.loop-at.reader.devices.items in
-    let new = map g.D.BlockDev.state c.read_run.new.reader.devices.items in
+    let old = map g.D.BlockDev.state c.args.backing.now.devices.items in
+    let mid = map g.D.BlockDev.state c.loop-at.backing.devices.items in
+    let new = map g.D.BlockDev.state c.read_run.new.backing.devices.items in
     let more = subst (λ (k : ℕ). ReadsAtMost (source_budget config source k) mid new) number c.in-Err.ensures.spent in
     let one = spent-run config c.args.d.0 c.args.first (at / 512) all c.requires.stack.sound.loaded c.loop-at.invariant.cut old mid c.loop-at.invariant.spent count source new run.ensures.some (omega (arith, fits, c.loop-at.auto.out)) run.ensures.served more in
     let behind = cut-behind config c.args.d.0 c.args.first (at / 512) count ((length c.loop-at.out - at) / 512) all (omega (arith, c.loop-at.invariant.whole, fits, c.loop-at.auto.out)) run.ensures.some run.ensures.ends in
@@ -2094,14 +2100,14 @@ pub read_device-returns-clause-spent : goal.read_device-returns-clause-spent
 read_device-returns-clause-spent g t c =
     let config = c.args.config.now in
     let all : ℕ = length c.args.out.now / 512 in
-    spent-all config c.args.d.0 c.args.first (c.loop-at.at / 512) all c.requires.stack.sound.loaded c.loop-at.invariant.cut (map g.D.BlockDev.state c.args.reader.now.devices.items) (map g.D.BlockDev.state c.loop-at.reader.devices.items) c.loop-at.invariant.spent (omega (arith, c.loop-at.invariant.within, c.loop-at.auto.out))
+    spent-all config c.args.d.0 c.args.first (c.loop-at.at / 512) all c.requires.stack.sound.loaded c.loop-at.invariant.cut (map g.D.BlockDev.state c.args.backing.now.devices.items) (map g.D.BlockDev.state c.loop-at.backing.devices.items) c.loop-at.invariant.spent (omega (arith, c.loop-at.invariant.within, c.loop-at.auto.out))
 
 pub read_lower-returns-in-Leaf-clause-spent : goal.read_lower-returns-in-Leaf-clause-spent
 read_lower-returns-in-Leaf-clause-spent g t c =
     let config = c.args.config.now in
     let state = g.D.BlockDev.state in
     let n : ℕ = length c.args.out.now / 512 in
-    let devices = c.args.reader.now.devices in
+    let devices = c.args.backing.now.devices in
     let answer : Result (List ℕ) IoFault = buffer_answer c.read_leaf.result c.read_leaf.new.out in
     let stands : (with_items devices c.read_leaf.new.devices).items ≡ c.read_leaf.new.devices =
     with_items_is devices c.read_leaf.new.devices (c.read_leaf.auto.devices ∙ ap (λ l. length l) c.as_mut_slice.ensures.value ∙ sym devices.ok.0) in
@@ -2150,8 +2156,8 @@ read_unit_part-returns-in-Ok-clause-spent g t c =
     let n : ℕ = length c.args.out.now / 512 in
     let whole = c.whole_unit-whole in
     let count = room_sectors c.as_mut_slice-all.result.now whole.result.sectors (ap (λ (l : List ℕ). length l) c.as_mut_slice-all.ensures.value) whole.ensures.few in
-    unit-spent config c.args.part whole.result n c.requires.stack.sound.loaded whole.ensures.whole c.requires.fits.holds (omega (arith, c.requires.fits.sectors.some, c.requires.fits.sectors.whole)) (map state c.args.reader.now.devices.items) (map state c.read_units.new.reader.devices.items)
-    (subst (λ (k : ℕ). ReadsAtMost (source_budget config (Units whole.result.from) k) (map state c.args.reader.now.devices.items) (map state c.read_units.new.reader.devices.items)) count c.in-Ok.ensures.spent)
+    unit-spent config c.args.part whole.result n c.requires.stack.sound.loaded whole.ensures.whole c.requires.fits.holds (omega (arith, c.requires.fits.sectors.some, c.requires.fits.sectors.whole)) (map state c.args.backing.now.devices.items) (map state c.read_units.new.backing.devices.items)
+    (subst (λ (k : ℕ). ReadsAtMost (source_budget config (Units whole.result.from) k) (map state c.args.backing.now.devices.items) (map state c.read_units.new.backing.devices.items)) count c.in-Ok.ensures.spent)
 
 pub read_unit_part-returns-in-Err-clause-spent : goal.read_unit_part-returns-in-Err-clause-spent
 read_unit_part-returns-in-Err-clause-spent g t c =
@@ -2160,8 +2166,8 @@ read_unit_part-returns-in-Err-clause-spent g t c =
     let n : ℕ = length c.args.out.now / 512 in
     let whole = c.whole_unit-whole in
     let count = room_sectors c.as_mut_slice-all.result.now whole.result.sectors (ap (λ (l : List ℕ). length l) c.as_mut_slice-all.ensures.value) whole.ensures.few in
-    unit-spent config c.args.part whole.result n c.requires.stack.sound.loaded whole.ensures.whole c.requires.fits.holds (omega (arith, c.requires.fits.sectors.some, c.requires.fits.sectors.whole)) (map state c.args.reader.now.devices.items) (map state c.read_units.new.reader.devices.items)
-    (subst (λ (k : ℕ). ReadsAtMost (source_budget config (Units whole.result.from) k) (map state c.args.reader.now.devices.items) (map state c.read_units.new.reader.devices.items)) count c.in-Err.ensures.spent)
+    unit-spent config c.args.part whole.result n c.requires.stack.sound.loaded whole.ensures.whole c.requires.fits.holds (omega (arith, c.requires.fits.sectors.some, c.requires.fits.sectors.whole)) (map state c.args.backing.now.devices.items) (map state c.read_units.new.backing.devices.items)
+    (subst (λ (k : ℕ). ReadsAtMost (source_budget config (Units whole.result.from) k) (map state c.args.backing.now.devices.items) (map state c.read_units.new.backing.devices.items)) count c.in-Err.ensures.spent)
 
 pub read_block-returns-in-Some-clause-spent : goal.read_block-returns-in-Some-clause-spent
 read_block-returns-in-Some-clause-spent g t c = omega arith
@@ -2230,8 +2236,8 @@ read_blocks-returns-in-Err-read_beneath-clause-spent g t c =
     let wide = block-begin config v p n tree.data found loaded line is at many in
     let part_len = length-take-le (j * v.data_block + many * v.data_block - j * v.data_block) (drop (j * v.data_block) c.checks.out) (omega (arith, row_end, length-drop (j * v.data_block) c.checks.out)) in
     let row_sectors : length (take (j * v.data_block + many * v.data_block - j * v.data_block) (drop (j * v.data_block) c.checks.out)) / 512 ≡ many * block_sectors v = omega (arith, part_len, wide) in
-    let walk = map g.D.BlockDev.state c.walk_path.new.reader.devices.items in
-    let new = map g.D.BlockDev.state c.read_beneath.new.reader.devices.items in
+    let walk = map g.D.BlockDev.state c.walk_path.new.backing.devices.items in
+    let new = map g.D.BlockDev.state c.read_beneath.new.backing.devices.items in
     let got = subst (λ (k : ℕ). AreRead walk (k * read_cost config tree.data) new) row_sectors c.in-Err-read_beneath.ensures.reads.got.moved in
     row-spent config v p n m line at.aligned at.size.some at.count r j many tree.data is read (omega (arith, c.checks-test.true, many_are)) most c.row_len-many.ensures.fresh inv.had.moved c.in-Ok.ensures.moved got
 
@@ -2262,8 +2268,8 @@ read_blocks-returns-then-not-settle-clause-spent g t c =
     let wide = block-begin config v p n tree.data found loaded line is at many in
     let part_len = length-take-le (j * v.data_block + many * v.data_block - j * v.data_block) (drop (j * v.data_block) c.checks.out) (omega (arith, row_end, length-drop (j * v.data_block) c.checks.out)) in
     let row_sectors : length (take (j * v.data_block + many * v.data_block - j * v.data_block) (drop (j * v.data_block) c.checks.out)) / 512 ≡ many * block_sectors v = omega (arith, part_len, wide) in
-    let walk = map g.D.BlockDev.state c.walk_path.new.reader.devices.items in
-    let new = map g.D.BlockDev.state c.read_beneath.new.reader.devices.items in
+    let walk = map g.D.BlockDev.state c.walk_path.new.backing.devices.items in
+    let new = map g.D.BlockDev.state c.read_beneath.new.backing.devices.items in
     let got = subst (λ (k : ℕ). AreRead walk (k * read_cost config tree.data) new) row_sectors c.in-Ok-read_beneath.ensures.reads.got.moved in
     row-spent config v p n m line at.aligned at.size.some at.count r j many tree.data is read (omega (arith, c.checks-test.true, many_are)) most c.row_len-many.ensures.fresh inv.had.moved c.in-Ok.ensures.moved got
 
@@ -2294,8 +2300,8 @@ read_blocks-returns-in-Err-keep-clause-spent g t c =
     let wide = block-begin config v p n tree.data found loaded line is at many in
     let part_len = length-take-le (j * v.data_block + many * v.data_block - j * v.data_block) (drop (j * v.data_block) c.checks.out) (omega (arith, row_end, length-drop (j * v.data_block) c.checks.out)) in
     let row_sectors : length (take (j * v.data_block + many * v.data_block - j * v.data_block) (drop (j * v.data_block) c.checks.out)) / 512 ≡ many * block_sectors v = omega (arith, part_len, wide) in
-    let walk = map g.D.BlockDev.state c.walk_path.new.reader.devices.items in
-    let new = map g.D.BlockDev.state c.read_beneath.new.reader.devices.items in
+    let walk = map g.D.BlockDev.state c.walk_path.new.backing.devices.items in
+    let new = map g.D.BlockDev.state c.read_beneath.new.backing.devices.items in
     let got = subst (λ (k : ℕ). AreRead walk (k * read_cost config tree.data) new) row_sectors c.in-Ok-read_beneath.ensures.reads.got.moved in
     row-spent config v p n m line at.aligned at.size.some at.count r j many tree.data is read (omega (arith, c.checks-test.true, many_are)) most c.row_len-many.ensures.fresh inv.had.moved c.in-Ok.ensures.moved got
 

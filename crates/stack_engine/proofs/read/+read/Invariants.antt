@@ -6,7 +6,7 @@ use Rattle.stack_meaning.specs.Reading.{Reads, IsPlain, MeetVerity}
 use Rattle.stack_lines.specs.Sources.{source_depth}
 use Rattle.stack_lines.specs.Walks.{block_in, IsWalked}
 use Rattle.stack_lines.specs.Caches.{IsCached, KeepsCache}
-use Rattle.stack_lines.specs.Touches.{TouchesOnly, leaves_of}
+use Rattle.stack_lines.specs.Touches.{AsksOnly, leaves_of}
 use Rattle.stack_lines.specs.Budgets.{ReadsAtMost, budget}
 use Rattle.stack_engine.proofs.SpentLemmas.{IsCutBehind}
 use Rattle.stack_meaning.specs.Found.{FoundRecord}
@@ -33,12 +33,12 @@ invariant-read_device-loop-at g l = record {
   whole : l.at % 512 ≡ 0;
   within : l.at ≤ length l.out;
   so_far : Reads l.config (mapped l.d.0) l.first (l.at / 512)
-      (record { old = map g.D.BlockDev.state l.fn.reader.devices.items; new = map g.D.BlockDev.state l.reader.devices.items; before = l.fn.found.items; after = l.found.items }) (Ok (take l.at l.out));
-  cached : KeepsCache l.config (map g.D.BlockDev.state l.reader.devices.items) l.fn.reader.cache l.reader.cache;
-  same : (MeetVerity (said_at l.config (mapped l.d.0)) l.first (length l.fn.out / 512) → ⊥) → l.reader.cache ≡ l.fn.reader.cache;
-  plain : IsPlain (said_at l.config (mapped l.d.0)) l.first (l.at / 512) (map g.D.BlockDev.state l.fn.reader.devices.items) (map g.D.BlockDev.state l.reader.devices.items) (Ok tt);
-  touches : TouchesOnly {A = Unit {0}} (leaves_of l.config (mapped l.d.0)) (map g.D.BlockDev.state l.fn.reader.devices.items) (map g.D.BlockDev.state l.reader.devices.items) (Ok tt);
-  spent : ReadsAtMost (budget l.config (mapped l.d.0) l.first (l.at / 512)) (map g.D.BlockDev.state l.fn.reader.devices.items) (map g.D.BlockDev.state l.reader.devices.items);
+      (record { old = map g.D.BlockDev.state l.fn.backing.devices.items; new = map g.D.BlockDev.state l.backing.devices.items; before = l.fn.found.items; after = l.found.items }) (Ok (take l.at l.out));
+  cached : KeepsCache l.config (map g.D.BlockDev.state l.backing.devices.items) l.fn.backing.cache l.backing.cache;
+  same : (MeetVerity (said_at l.config (mapped l.d.0)) l.first (length l.fn.out / 512) → ⊥) → l.backing.cache ≡ l.fn.backing.cache;
+  plain : IsPlain (said_at l.config (mapped l.d.0)) l.first (l.at / 512) (map g.D.BlockDev.state l.fn.backing.devices.items) (map g.D.BlockDev.state l.backing.devices.items) (Ok tt);
+  touches : AsksOnly {A = Unit {0}} (leaves_of l.config (mapped l.d.0)) (map g.D.BlockDev.state l.fn.backing.devices.items) (map g.D.BlockDev.state l.backing.devices.items) (Ok tt);
+  spent : ReadsAtMost (budget l.config (mapped l.d.0) l.first (l.at / 512)) (map g.D.BlockDev.state l.fn.backing.devices.items) (map g.D.BlockDev.state l.backing.devices.items);
   cut : IsCutBehind l.config l.d.0 l.first (l.at / 512) (length l.fn.out / 512);
 }
 
@@ -70,9 +70,9 @@ decreases-read_checked g l = 8 * depth l.config.now l.extent.lower + 8
 abbrev pub invariant-walk-loop-level : goal.invariant-walk-loop-level
 invariant-walk-loop-level g l = record {
   walked : IsWalked (block_in l.config l.verity l.index) l.level l.expected (map (λ b. b.items) l.path.items)
-      (map g.D.BlockDev.state l.fn.reader.devices.items) (map g.D.BlockDev.state l.reader.devices.items);
-  cached : KeepsCache l.config (map g.D.BlockDev.state l.reader.devices.items) l.fn.reader.cache l.reader.cache;
-  touches : TouchesOnly {A = Unit {0}} (leaves_of l.config (mapped l.tree.device.0)) (map g.D.BlockDev.state l.fn.reader.devices.items) (map g.D.BlockDev.state l.reader.devices.items) (Ok tt);
+      (map g.D.BlockDev.state l.fn.backing.devices.items) (map g.D.BlockDev.state l.backing.devices.items);
+  cached : KeepsCache l.config (map g.D.BlockDev.state l.backing.devices.items) l.fn.backing.cache l.backing.cache;
+  touches : AsksOnly {A = Unit {0}} (leaves_of l.config (mapped l.tree.device.0)) (map g.D.BlockDev.state l.fn.backing.devices.items) (map g.D.BlockDev.state l.backing.devices.items) (Ok tt);
 }
 
 abbrev pub decreases-walk-loop-level : goal.decreases-walk-loop-level
@@ -92,10 +92,10 @@ abbrev pub invariant-walk_path-loop-left : goal.invariant-walk_path-loop-left
 invariant-walk_path-loop-left g l = record {
   within : l.at ≤ length l.path.items;
   walked : IsWalked (block_in l.config l.verity l.index) l.left l.digest (map (λ b. b.bytes) (take l.at l.path.items))
-      (map g.D.BlockDev.state l.fn.reader.devices.items) (map g.D.BlockDev.state l.reader.devices.items);
-  held : All (IsCached l.config (map g.D.BlockDev.state l.reader.devices.items)) l.path.items;
-  cached : KeepsCache l.config (map g.D.BlockDev.state l.reader.devices.items) l.fn.reader.cache l.reader.cache;
-  touches : TouchesOnly {A = Unit {0}} (leaves_of l.config l.tree.hash) (map g.D.BlockDev.state l.fn.reader.devices.items) (map g.D.BlockDev.state l.reader.devices.items) (Ok tt);
+      (map g.D.BlockDev.state l.fn.backing.devices.items) (map g.D.BlockDev.state l.backing.devices.items);
+  held : All (IsCached l.config (map g.D.BlockDev.state l.backing.devices.items)) l.path.items;
+  cached : KeepsCache l.config (map g.D.BlockDev.state l.backing.devices.items) l.fn.backing.cache l.backing.cache;
+  touches : AsksOnly {A = Unit {0}} (leaves_of l.config l.tree.hash) (map g.D.BlockDev.state l.fn.backing.devices.items) (map g.D.BlockDev.state l.backing.devices.items) (Ok tt);
 }
 
 abbrev pub decreases-walk_path-loop-left : goal.decreases-walk_path-loop-left
@@ -113,12 +113,12 @@ invariant-read_blocks-checks g l = record {
   most : l.read ≤ l.count;
   after : List FoundRecord;
   out : AreHandedOut l.fn.chains l.fn.found.items after l.found.items;
-  held : All (IsCached l.config (map g.D.BlockDev.state l.reader.devices.items)) l.path.items;
+  held : All (IsCached l.config (map g.D.BlockDev.state l.backing.devices.items)) l.path.items;
   had : WereHad l.config l.verity l.fn.part (length l.fn.out / 512) l.read l.at l.out
-      (record { old = map g.D.BlockDev.state l.fn.reader.devices.items; new = map g.D.BlockDev.state l.reader.devices.items; before = l.fn.found.items; after = after });
-  ahead : AreReadAhead l.config l.verity l.fn.part l.tree.data l.at l.read l.out l.made (map g.D.BlockDev.state l.fn.reader.devices.items);
-  cached : KeepsCache l.config (map g.D.BlockDev.state l.reader.devices.items) l.fn.reader.cache l.reader.cache;
-  touches : TouchesOnly {A = Unit {0}} (leaves_of l.config (mapped l.fn.part.device.0)) (map g.D.BlockDev.state l.fn.reader.devices.items) (map g.D.BlockDev.state l.reader.devices.items) (Ok tt);
+      (record { old = map g.D.BlockDev.state l.fn.backing.devices.items; new = map g.D.BlockDev.state l.backing.devices.items; before = l.fn.found.items; after = after });
+  ahead : AreReadAhead l.config l.verity l.fn.part l.tree.data l.at l.read l.out l.made (map g.D.BlockDev.state l.fn.backing.devices.items);
+  cached : KeepsCache l.config (map g.D.BlockDev.state l.backing.devices.items) l.fn.backing.cache l.backing.cache;
+  touches : AsksOnly {A = Unit {0}} (leaves_of l.config (mapped l.fn.part.device.0)) (map g.D.BlockDev.state l.fn.backing.devices.items) (map g.D.BlockDev.state l.backing.devices.items) (Ok tt);
 }
 
 abbrev pub decreases-read_blocks-checks : goal.decreases-read_blocks-checks

@@ -7,7 +7,8 @@ use Rattle.stack_meaning.specs.Outcomes.{zero_sector}
 use Rattle.stack_meaning.specs.Meaning.{Said, said_at}
 use Rattle.stack_meaning.specs.Leaves.{steady_images, LeafFailed}
 use Rattle.stack_lines.proofs.lemmas.WriteLeafLemmas.{leaf-plain, leaf-stops}
-use Rattle.stack_lines.proofs.lemmas.TouchLemmas.{leaf-touched, leaf-named}
+use Rattle.stack_lines.proofs.lemmas.TouchLemmas.{leaf-named}
+use Rattle.stack_lines.proofs.lemmas.AskLemmas.{leaf-asked, leaf-ends, leaf-fails}
 use Rattle.stack_lines.proofs.lemmas.StandingLemmas.{leaf-stands}
 use Rattle.stack_meaning.proofs.lemmas.LeafLemmas.{leaf-size, leaves-few, AreRead-device, image_at, steady_at, LeafFailed-device}
 use Rattle.stack_engine.proofs.StackLemmas.{leaf-there}
@@ -90,7 +91,13 @@ returns-in-Err-clause-plain g c =
 
 -- nor was another one touched
 pub returns-in-Ok-clause-touches : goal.returns-in-Ok-clause-touches
-returns-in-Ok-clause-touches g c = leaf-touched g.D.BlockDev.state c.args.devices.now c.args.leaf c.args.config.now c.read.new.self _ tt
+returns-in-Ok-clause-touches g c =
+    let there = leaf-there g.D.BlockDev.state c.args.devices.now c.args.config.now c.args.leaf c.args.first c.args.out.now c.requires.sound c.requires.fits in
+    leaf-asked g.D.BlockDev.state c.args.devices.now c.args.leaf c.args.config.now c.read.new.self _ tt
+    (leaf-ends g.D.BlockDev.state c.args.devices.now c.args.leaf c.index-devices-leaf.result there c.read.new.self {A = Unit {0}} tt c.in-Ok.ensures.moved.failures)
 
 pub returns-in-Err-clause-touches : goal.returns-in-Err-clause-touches
-returns-in-Err-clause-touches g c = leaf-touched g.D.BlockDev.state c.args.devices.now c.args.leaf c.args.config.now c.read.new.self _ (leaf-named c.args.config.now c.args.leaf)
+returns-in-Err-clause-touches g c =
+    let there = leaf-there g.D.BlockDev.state c.args.devices.now c.args.config.now c.args.leaf c.args.first c.args.out.now c.requires.sound c.requires.fits in
+    leaf-asked g.D.BlockDev.state c.args.devices.now c.args.leaf c.args.config.now c.read.new.self _ (leaf-named c.args.config.now c.args.leaf)
+    (leaf-fails g.D.BlockDev.state c.args.devices.now c.args.leaf c.index-devices-leaf.result there c.read.new.self (Unit {0}) c.in-Err.ensures.moved.failures)

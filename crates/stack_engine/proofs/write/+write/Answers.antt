@@ -56,7 +56,7 @@ use Rattle.stack_engine.proofs.write.+write.Goals as goal
 pub write_device-loop-at-init : goal.write_device-loop-at-init
 write_device-loop-at-init g t c =
     let to = destination_of c.args.config.now (mapped c.args.d.0) in
-    let leaves = map g.D.BlockDev.state c.args.reader.now.devices.items in
+    let leaves = map g.D.BlockDev.state c.args.backing.now.devices.items in
     record {
       whole = refl;
       within = omega arith;
@@ -64,7 +64,7 @@ write_device-loop-at-init g t c =
       so_far = subst (λ (l : List (List ℕ)). Writes to c.args.first l leaves leaves (Ok tt)) (sym sectors_in-none) (write_none to c.args.first leaves (put-none c.args.config.now (mapped c.args.d.0) c.args.first));
       ends = inl (inl refl);
       uncut = λ cuts. refl;
-      forgets = forgets-none c.args.reader.now.cache.blocks.blocks (AreRead-none 0 leaves);
+      forgets = forgets-none c.args.backing.now.cache.blocks.blocks (AreRead-none 0 leaves);
       cut = inl refl;
       cached = record { capacity = refl; sound = c.requires.can.stack.cached };
     }
@@ -130,19 +130,19 @@ write_device-loop-at-preserved g t c =
     (front_whole bytes at count fits c.loop-at.invariant.whole) (omega (arith, len)) (omega (arith, len, c.run_at-run.ensures.some)) may
     (ends_before bytes at count fits config c.args.d.0 c.args.first c.run_at-run.ensures.some c.loop-at.invariant.ends)
     (run_served bytes at count fits config c.args.d.0 c.args.first source c.run_at-run.ensures.served) c.loop-at.invariant.so_far
-    (subst (λ (b : List ℕ). Writes (source_destination config source) 0 (sectors_in b) (map state c.loop-at.reader.devices.items) (map state c.write_run.new.reader.devices.items) (Ok tt)) same c.in-Ok.ensures.writes) in
+    (subst (λ (b : List ℕ). Writes (source_destination config source) 0 (sectors_in b) (map state c.loop-at.backing.devices.items) (map state c.write_run.new.backing.devices.items) (Ok tt)) same c.in-Ok.ensures.writes) in
     let ends_at : at / 512 + count ≡ (at + count * 512) / 512 = omega (arith, c.loop-at.invariant.whole) in
     let number : count ≡ length (part ++ room) / 512 = omega (arith, len, ap (λ (l : List ℕ). length l) same) in
     record {
       whole = omega (arith, c.loop-at.invariant.whole);
       forgets = forgets-then c.loop-at.invariant.forgets (forgets-up (served-within config c.args.d.0 (c.args.first + at / 512) count source c.requires.can.stack.sound.loaded c.run_at-run.ensures.some c.run_at-run.ensures.served) c.in-Ok.ensures.forgets);
-      uncut = λ cuts. unread-then (map g.D.BlockDev.state c.args.reader.now.devices.items) (map g.D.BlockDev.state c.loop-at.reader.devices.items) (map g.D.BlockDev.state c.write_run.new.reader.devices.items) (c.loop-at.invariant.uncut cuts) (c.in-Ok.ensures.uncut (subst (SourceCutsNone config source) number
+      uncut = λ cuts. unread-then (map g.D.BlockDev.state c.args.backing.now.devices.items) (map g.D.BlockDev.state c.loop-at.backing.devices.items) (map g.D.BlockDev.state c.write_run.new.backing.devices.items) (c.loop-at.invariant.uncut cuts) (c.in-Ok.ensures.uncut (subst (SourceCutsNone config source) number
           (device-uncut config c.args.d.0 c.args.first (at / 512) count ((length c.held-len.result.now - at) / 512) (length bytes / 512) source c.requires.can.stack.sound.loaded c.run_at-run.ensures.some (omega (arith, fits)) (omega (arith, c.loop-at.invariant.whole, fits, ap (λ (l : List ℕ). length l) c.held-len.ensures)) c.loop-at.invariant.cut c.run_at-run.ensures.longest c.run_at-run.ensures.served cuts)));
       cut = subst (λ (k : ℕ). IsCutBehind config c.args.d.0 c.args.first k (length bytes / 512)) ends_at
           (cut-behind config c.args.d.0 c.args.first (at / 512) count ((length c.held-len.result.now - at) / 512) (length bytes / 512) (omega (arith, c.loop-at.invariant.whole, fits, ap (λ (l : List ℕ). length l) c.held-len.ensures)) c.run_at-run.ensures.some c.run_at-run.ensures.longest);
       within = fits;
       rest = cut-rest cut c.write_run.new.buffer c.write_run.auto.buffer;
-      so_far = subst (λ (b : List ℕ). Writes (destination_of config (mapped c.args.d.0)) c.args.first (sectors_in b) (map state c.args.reader.now.devices.items) (map state c.write_run.new.reader.devices.items) (Ok tt)) (with_run bytes at count fits) all;
+      so_far = subst (λ (b : List ℕ). Writes (destination_of config (mapped c.args.d.0)) c.args.first (sectors_in b) (map state c.args.backing.now.devices.items) (map state c.write_run.new.backing.devices.items) (Ok tt)) (with_run bytes at count fits) all;
       ends = ends_after bytes at count fits config c.args.d.0 c.args.first ((length c.held-len.result.now - at) / 512) c.loop-at.invariant.whole c.run_at-run.ensures.some (omega (arith, c.requires.can.fits.sectors.whole, ap (λ (l : List ℕ). length l) c.held-len.ensures)) c.run_at-run.ensures.longest;
       cached = record { capacity = c.in-Ok.ensures.cached.capacity ∙ c.loop-at.invariant.cached.capacity; sound = c.in-Ok.ensures.cached.sound };
     }
@@ -170,8 +170,8 @@ write_device-returns-in-Err-clause-writes g t c =
     (ends_before bytes at count fits config c.args.d.0 c.args.first c.run_at-run.ensures.some c.loop-at.invariant.ends)
     (run_served bytes at count fits config c.args.d.0 c.args.first source c.run_at-run.ensures.served) c.loop-at.invariant.so_far (drop (at + count * 512 - at) (drop at bytes)) c.in-Err.fault
     (ends_behind bytes at count fits config c.args.d.0 c.args.first ((length c.held-len.result.now - at) / 512) c.loop-at.invariant.whole (omega (arith, c.requires.can.fits.sectors.whole, ap (λ (l : List ℕ). length l) c.held-len.ensures)) c.run_at-run.ensures.longest)
-    (subst (λ (b : List ℕ). Writes (source_destination config source) 0 (sectors_in b) (map state c.loop-at.reader.devices.items) (map state c.write_run.new.reader.devices.items) (Err c.in-Err.fault)) same c.in-Err.ensures.writes) in
-    subst (λ (b : List ℕ). Writes (destination_of config (mapped c.args.d.0)) c.args.first (sectors_in b) (map state c.args.reader.now.devices.items) (map state c.write_run.new.reader.devices.items) (Err c.in-Err.fault)) (with_rest bytes at count fits) all
+    (subst (λ (b : List ℕ). Writes (source_destination config source) 0 (sectors_in b) (map state c.loop-at.backing.devices.items) (map state c.write_run.new.backing.devices.items) (Err c.in-Err.fault)) same c.in-Err.ensures.writes) in
+    subst (λ (b : List ℕ). Writes (destination_of config (mapped c.args.d.0)) c.args.first (sectors_in b) (map state c.args.backing.now.devices.items) (map state c.write_run.new.backing.devices.items) (Err c.in-Err.fault)) (with_rest bytes at count fits) all
 
 pub write_device-returns-clause-writes : goal.write_device-returns-clause-writes
 write_device-returns-clause-writes g t c =
@@ -179,14 +179,14 @@ write_device-returns-clause-writes g t c =
     let state = g.D.BlockDev.state in
     let bytes = c.args.plain.now ++ c.args.buffer.now in
     let whole : take c.loop-at.at bytes ≡ bytes = take_all c.loop-at.at bytes (omega (arith, c.loop-at-test.false, ap (λ (l : List ℕ). length l) c.held-len.ensures)) in
-    subst (λ (b : List ℕ). Writes (destination_of config (mapped c.args.d.0)) c.args.first (sectors_in b) (map state c.args.reader.now.devices.items) (map state c.loop-at.reader.devices.items) (Ok tt)) whole c.loop-at.invariant.so_far
+    subst (λ (b : List ℕ). Writes (destination_of config (mapped c.args.d.0)) c.args.first (sectors_in b) (map state c.args.backing.now.devices.items) (map state c.loop-at.backing.devices.items) (Ok tt)) whole c.loop-at.invariant.so_far
 
 -- ---- lower devices and runs
 
 pub write_lower-write_device-requires : goal.write_lower-write_device-requires
 write_lower-write_device-requires g t c κs within =
     let config = c.args.config.now in
-    let reader = c.args.reader.now in
+    let backing = c.args.backing.now in
     let plain = c.args.plain.now in
     let buffer = c.args.buffer.now in
     let deep : depth config c.args.lower ≡ depth config (mapped c.in-Device.d.0) = ap (depth config) c.in-Device.is in (
@@ -194,7 +194,7 @@ write_lower-write_device-requires g t c κs within =
       (
         within,
         (
-          subst (λ (x : Lower). CanWrite config (map g.D.BlockDev.state reader.devices.items) reader.cache (Below x c.args.first) (plain ++ buffer)) c.in-Device.is c.requires.can,
+          subst (λ (x : Lower). CanWrite config (map g.D.BlockDev.state backing.devices.items) backing.cache (Below x c.args.first) (plain ++ buffer)) c.in-Device.is c.requires.can,
           subst (λ (x : Lower). AreHeld (said_at config x) c.args.first plain buffer) c.in-Device.is c.requires.bytes,
         ),
       ),
@@ -203,8 +203,8 @@ write_lower-write_device-requires g t c κs within =
 pub write_lower-returns-in-Leaf-clause-writes : goal.write_lower-returns-in-Leaf-clause-writes
 write_lower-returns-in-Leaf-clause-writes g t c =
     let config = c.args.config.now in
-    let old = map g.D.BlockDev.state c.args.reader.now.devices.items in
-    let new = map g.D.BlockDev.state c.write_leaf.new.reader.devices.items in
+    let old = map g.D.BlockDev.state c.args.backing.now.devices.items in
+    let new = map g.D.BlockDev.state c.write_leaf.new.backing.devices.items in
     subst (λ (x : Lower). Writes (destination_of config x) c.args.first (sectors_in (c.args.plain.now ++ c.args.buffer.now)) old new c.write_leaf.result) (sym c.in-Leaf.is)
     (subst (λ (b : List ℕ). Writes (destination_of config (Leaf c.in-Leaf.leaf)) c.args.first (sectors_in b) old new c.write_leaf.result) c.held.ensures c.write_leaf.ensures.writes)
 
@@ -223,8 +223,8 @@ write_run-write_units-requires g t c κs within =
     let buffer = c.args.buffer.now in
     let none = none-of_units c.args.config.now run.part c.args.source plain buffer c.requires.can.fits c.requires.bytes run.is in
     let config = c.args.config.now in
-    let reader = c.args.reader.now in
-    let Can : Source → List ℕ → Type 0 = λ from bytes. CanWrite config (map g.D.BlockDev.state reader.devices.items) reader.cache from bytes in
+    let backing = c.args.backing.now in
+    let Can : Source → List ℕ → Type 0 = λ from bytes. CanWrite config (map g.D.BlockDev.state backing.devices.items) backing.cache from bytes in
     let deep : source_depth config c.args.source ≡ depth config (mapped run.part.device.0) = ap (source_depth config) run.is in
     (omega (arith, deep), (within, subst (λ (p : List ℕ). Can (Units run.part) (p ++ buffer)) none (subst (λ (from : Source). Can from (plain ++ buffer)) run.is c.requires.can)))
 
@@ -235,8 +235,8 @@ write_run-write_unit_part-requires g t c κs within =
     let buffer = c.args.buffer.now in
     let none = none-of_part c.args.config.now run.part c.args.source plain buffer c.requires.can.fits c.requires.bytes run.is in
     let config = c.args.config.now in
-    let reader = c.args.reader.now in
-    let Can : Source → List ℕ → Type 0 = λ from bytes. CanWrite config (map g.D.BlockDev.state reader.devices.items) reader.cache from bytes in
+    let backing = c.args.backing.now in
+    let Can : Source → List ℕ → Type 0 = λ from bytes. CanWrite config (map g.D.BlockDev.state backing.devices.items) backing.cache from bytes in
     let deep : source_depth config c.args.source ≡ depth config (mapped run.part.device.0) = ap (source_depth config) run.is in
     (omega (arith, deep), (within, subst (λ (p : List ℕ). Can (UnitPart run.part) (p ++ buffer)) none (subst (λ (from : Source). Can from (plain ++ buffer)) run.is c.requires.can)))
 
@@ -258,11 +258,11 @@ write_run-returns-in-UnitPart-clause-writes g t c =
 
 pub write_run-returns-in-Zeros-clause-writes : goal.write_run-returns-in-Zeros-clause-writes
 write_run-returns-in-Zeros-clause-writes g t c =
-    rw c.in-Zeros.is (zeros-written c.args.config.now (sectors_in (c.args.plain.now ++ c.args.buffer.now)) (map g.D.BlockDev.state c.args.reader.now.devices.items))
+    rw c.in-Zeros.is (zeros-written c.args.config.now (sectors_in (c.args.plain.now ++ c.args.buffer.now)) (map g.D.BlockDev.state c.args.backing.now.devices.items))
 
 pub write_run-returns-in-Fails-clause-writes : goal.write_run-returns-in-Fails-clause-writes
 write_run-returns-in-Fails-clause-writes g t c =
-    let leaves = map g.D.BlockDev.state c.args.reader.now.devices.items in
+    let leaves = map g.D.BlockDev.state c.args.backing.now.devices.items in
     let bytes = c.args.plain.now ++ c.args.buffer.now in
     rw c.in-Fails.is (fails-written c.args.config.now (sectors_in bytes) leaves (omega (arith, c.requires.can.fits.sectors.some, c.requires.can.fits.sectors.whole, length-sectors_in bytes)))
 
@@ -336,8 +336,8 @@ write_units-returns-then-lower_cuts-clause-writes g t c =
     let unit = c.unit_at-unit in
     let lower = unit.result.lower in
     let enc = encrypted-is crypt unit.result.index (p.first / unit_sectors crypt) bytes c.encrypt.new.units c.encrypt.ensures unit.ensures.index in
-    let old = map state c.args.reader.now.devices.items in
-    let new = map state c.write_lower.new.reader.devices.items in
+    let old = map state c.args.backing.now.devices.items in
+    let new = map state c.write_lower.new.backing.devices.items in
     let count : length c.encrypt.new.units / 512 ≡ n = omega (arith, c.encrypt.auto.units) in
     let cut : PutsInSteps (put_on config lower) (unit_first crypt p.first) n (record { size = unit_sectors crypt; skip = 0 }) =
     subst (λ (k : ℕ). PutsInSteps (put_on config lower) (unit_first crypt p.first) n (record { size = k; skip = 0 })) (c.from.ensures ∙ c.unit_sectors-sectors.ensures.value)
@@ -384,11 +384,11 @@ write_units-write_lower-requires-in-loop-at g t c κs within =
 pub write_units-loop-at-init : goal.write_units-loop-at-init
 write_units-loop-at-init g t c =
     let to = source_destination c.args.config.now (Units c.args.part) in
-    let leaves = map g.D.BlockDev.state c.args.reader.now.devices.items in
+    let leaves = map g.D.BlockDev.state c.args.backing.now.devices.items in
     record {
       even = omega arith;
       uncut = λ cuts. refl;
-      forgets = forgets-none c.args.reader.now.cache.blocks.blocks (AreRead-none 0 leaves);
+      forgets = forgets-none c.args.backing.now.cache.blocks.blocks (AreRead-none 0 leaves);
       within = omega arith;
       rest = refl;
       so_far = subst (λ (l : List (List ℕ)). Writes to 0 l leaves leaves (Ok tt)) (sym sectors_in-none) (write_none to 0 leaves (λ images. units-none c.args.config.now c.args.part images));
@@ -413,20 +413,20 @@ write_units-loop-at-preserved g t c =
     let lower = unit.result.lower in
     let now = c.loop-at.units in
     let enc = encrypted-is crypt unit.result.index (p.first / unit_sectors crypt) bytes c.encrypt.new.units c.encrypt.ensures unit.ensures.index in
-    let old = map state c.args.reader.now.devices.items in
+    let old = map state c.args.backing.now.devices.items in
     let wrote = step-written step config lower unit.result.first (unit_first crypt p.first) now c.encrypt.new.units (encrypted_units crypt (p.first / unit_sectors crypt) bytes) unit.ensures.first c.loop-at.invariant.rest enc c.in-Ok.ensures.writes in
-    let so_far = subst (λ (k : ℕ). Writes (source_destination config (Units p)) 0 (sectors_in (take k bytes)) old (map state c.loop-at.reader.devices.items) (Ok tt)) step.place c.loop-at.invariant.so_far in
+    let so_far = subst (λ (k : ℕ). Writes (source_destination config (Units p)) 0 (sectors_in (take k bytes)) old (map state c.loop-at.backing.devices.items) (Ok tt)) step.place c.loop-at.invariant.so_far in
     let all = units-more config p bytes n crypt c.requires.stack.sound.loaded has c.requires.fits.holds lower unit.ensures.lower long (at / size) step.fits so_far wrote in
     record {
       even = ap (λ (k : ℕ). k % size) step.end_is ∙ step.even;
       forgets = forgets-then c.loop-at.invariant.forgets (forgets-up (crypt-within config p.device.0 p.line 0 crypt lower c.requires.stack.sound.loaded has unit.ensures.lower) c.in-Ok.ensures.forgets);
-      uncut = λ cuts. unread-then (map g.D.BlockDev.state c.args.reader.now.devices.items) (map g.D.BlockDev.state c.loop-at.reader.devices.items) (map g.D.BlockDev.state c.write_lower-in-loop-at.new.reader.devices.items) (c.loop-at.invariant.uncut cuts) (c.in-Ok.ensures.writes.unread (units-plain-below config p n crypt lower (unit.result.first + at / 512) has unit.ensures.lower cuts (at / 512) (length (sectors_in (take (c.min-end.result - at) (drop at now)))) (omega (arith, unit.ensures.first))
+      uncut = λ cuts. unread-then (map g.D.BlockDev.state c.args.backing.now.devices.items) (map g.D.BlockDev.state c.loop-at.backing.devices.items) (map g.D.BlockDev.state c.write_lower-in-loop-at.new.backing.devices.items) (c.loop-at.invariant.uncut cuts) (c.in-Ok.ensures.writes.unread (units-plain-below config p n crypt lower (unit.result.first + at / 512) has unit.ensures.lower cuts (at / 512) (length (sectors_in (take (c.min-end.result - at) (drop at now)))) (omega (arith, unit.ensures.first))
           (omega (arith, long, c.min-end.ensures, c.loop-at.auto.units, c.encrypt.auto.units, length-sectors_in (take (c.min-end.result - at) (drop at now)), length-take (c.min-end.result - at) (drop at now), length-drop at now))));
       within = omega (arith, c.min-end.ensures, c.encrypt.auto.units);
       rest = drop-put_mid at (c.min-end.result - at) now c.write_lower-in-loop-at.new.buffer c.min-end.result (omega (arith, step.end_is)) (omega (arith, c.loop-at-test.true, c.loop-at.auto.units))
           (c.write_lower-in-loop-at.auto.buffer ∙ step-width step now (omega (arith, long, c.loop-at.auto.units, c.encrypt.auto.units)) ∙ (omega (arith, step.end_is)))
           ∙ ap (λ (k : ℕ). drop k now) step.end_is ∙ rest-later now c.encrypt.new.units at size c.loop-at.invariant.rest ∙ ap (λ (k : ℕ). drop k c.encrypt.new.units) (sym step.end_is);
-      so_far = subst (λ (k : ℕ). Writes (source_destination config (Units p)) 0 (sectors_in (take k bytes)) old (map state c.write_lower-in-loop-at.new.reader.devices.items) (Ok tt)) (sym (step.end_is ∙ step.next)) all;
+      so_far = subst (λ (k : ℕ). Writes (source_destination config (Units p)) 0 (sectors_in (take k bytes)) old (map state c.write_lower-in-loop-at.new.backing.devices.items) (Ok tt)) (sym (step.end_is ∙ step.next)) all;
       cached = record { capacity = c.in-Ok.ensures.cached.capacity ∙ c.loop-at.invariant.cached.capacity; sound = c.in-Ok.ensures.cached.sound };
     }
 
@@ -448,9 +448,9 @@ write_units-returns-in-Err-clause-writes g t c =
     let lower = unit.result.lower in
     let now = c.loop-at.units in
     let enc = encrypted-is crypt unit.result.index (p.first / unit_sectors crypt) bytes c.encrypt.new.units c.encrypt.ensures unit.ensures.index in
-    let old = map state c.args.reader.now.devices.items in
+    let old = map state c.args.backing.now.devices.items in
     let wrote = step-written step config lower unit.result.first (unit_first crypt p.first) now c.encrypt.new.units (encrypted_units crypt (p.first / unit_sectors crypt) bytes) unit.ensures.first c.loop-at.invariant.rest enc c.in-Err.ensures.writes in
-    let so_far = subst (λ (k : ℕ). Writes (source_destination config (Units p)) 0 (sectors_in (take k bytes)) old (map state c.loop-at.reader.devices.items) (Ok tt)) step.place c.loop-at.invariant.so_far in
+    let so_far = subst (λ (k : ℕ). Writes (source_destination config (Units p)) 0 (sectors_in (take k bytes)) old (map state c.loop-at.backing.devices.items) (Ok tt)) step.place c.loop-at.invariant.so_far in
     units-ended config p bytes n crypt c.requires.stack.sound.loaded has c.requires.fits.holds lower unit.ensures.lower long (at / size) step.fits so_far c.in-Err.fault wrote
 
 pub write_units-overflow_add-first : goal.write_units-overflow_add-first
@@ -469,7 +469,7 @@ write_units-returns-clause-writes g t c =
     let state = g.D.BlockDev.state in
     let bytes = c.args.units.now in
     let whole : take c.loop-at.at bytes ≡ bytes = take_all c.loop-at.at bytes (omega (arith, c.loop-at-test.false, c.encrypt.auto.units)) in
-    subst (λ (b : List ℕ). Writes (source_destination config (Units c.args.part)) 0 (sectors_in b) (map state c.args.reader.now.devices.items) (map state c.loop-at.reader.devices.items) (Ok tt)) whole c.loop-at.invariant.so_far
+    subst (λ (b : List ℕ). Writes (source_destination config (Units c.args.part)) 0 (sectors_in b) (map state c.args.backing.now.devices.items) (map state c.loop-at.backing.devices.items) (Ok tt)) whole c.loop-at.invariant.so_far
 
 -- ---- part of a unit
 
@@ -501,13 +501,14 @@ write_unit_part-returns-in-Err-clause-writes g t c =
     let n : ℕ = length bytes / 512 in
     let whole = c.whole_unit-whole in
     let count = room_sectors c.as_mut_slice-all.result.now whole.result.sectors (ap (λ (l : List ℕ). length l) c.as_mut_slice-all.ensures.value) whole.ensures.few in
-    let old = map state c.args.reader.now.devices.items in
-    let new = map state c.read_units.new.reader.devices.items in
+    let old = map state c.args.backing.now.devices.items in
+    let new = map state c.read_units.new.backing.devices.items in
     let did : Read = record { old = old; new = new; before = c.new-found.result.items; after = c.read_units.new.found.items } in
     part-ended config p whole.result bytes n c.requires.stack.sound.loaded whole.ensures.whole c.requires.fits.holds (omega (arith, c.requires.fits.sectors.some, c.requires.fits.sectors.whole)) (omega (arith, c.requires.fits.sectors.whole)) c.requires.allowed c.in-Err.fault
-    (all-whole state g.met.D.BlockDev.whole c.args.reader.now.devices.items)
+    (all-whole state g.met.D.BlockDev.whole c.args.backing.now.devices.items)
     (subst (λ (k : ℕ). ReadsSource config (Units whole.result.from) k did (Err c.in-Err.fault)) count c.in-Err.ensures.reads)
     (subst (λ (k : ℕ). IsPlain (source_said config (Units whole.result.from)) 0 k old new (Err c.in-Err.fault)) count c.in-Err.ensures.plain)
+    c.in-Err.ensures.touches.ends
 
 pub write_unit_part-put_sectors-requires : goal.write_unit_part-put_sectors-requires
 write_unit_part-put_sectors-requires g t c =
@@ -555,14 +556,15 @@ write_unit_part-returns-clause-writes g t c =
     let whole = c.whole_unit-whole in
     let of = whole.ensures.whole in
     let count = room_sectors c.as_mut_slice-all.result.now whole.result.sectors (ap (λ (l : List ℕ). length l) c.as_mut_slice-all.ensures.value) whole.ensures.few in
-    let old = map state c.args.reader.now.devices.items in
-    let mid = map state c.read_units.new.reader.devices.items in
+    let old = map state c.args.backing.now.devices.items in
+    let mid = map state c.read_units.new.backing.devices.items in
     let did : Read = record { old = old; new = mid; before = c.new-found.result.items; after = c.read_units.new.found.items } in
     let plain = c.read_units.new.out in
     part-written config p whole.result bytes n c.requires.stack.sound.loaded of c.requires.fits.holds (omega (arith, c.requires.fits.sectors.some, c.requires.fits.sectors.whole)) (omega (arith, c.requires.fits.sectors.whole)) c.requires.allowed
-    (all-whole state g.met.D.BlockDev.whole c.args.reader.now.devices.items)
+    (all-whole state g.met.D.BlockDev.whole c.args.backing.now.devices.items)
     (subst (λ (k : ℕ). ReadsSource config (Units whole.result.from) k did (Ok plain)) count c.in-Ok.ensures.reads)
     (subst (λ (k : ℕ). IsPlain (source_said config (Units whole.result.from)) 0 k old mid (Ok tt)) count c.in-Ok.ensures.plain)
+    c.in-Ok.ensures.touches.ends
     (c.put_sectors.ensures ∙ ap (λ (k : ℕ). take (512 * k) plain ++ bytes ++ drop (512 * k + length bytes) plain) of.within)
     c.write_units.ensures.writes
 
@@ -616,7 +618,7 @@ write_units-returns-in-Err-clause-uncut g t c =
     let at = c.loop-at.at in
     let now = c.loop-at.units in
     let long : length bytes ≡ 512 * n = omega (arith, c.requires.fits.sectors.whole) in
-    λ cuts. unread-then (map g.D.BlockDev.state c.args.reader.now.devices.items) (map g.D.BlockDev.state c.loop-at.reader.devices.items) (map g.D.BlockDev.state c.write_lower-in-loop-at.new.reader.devices.items) (c.loop-at.invariant.uncut cuts) (c.in-Err.ensures.writes.unread (units-plain-below config p n crypt lower (unit.result.first + at / 512) has unit.ensures.lower cuts (at / 512) (length (sectors_in (take (c.min-end.result - at) (drop at now)))) (omega (arith, unit.ensures.first))
+    λ cuts. unread-then (map g.D.BlockDev.state c.args.backing.now.devices.items) (map g.D.BlockDev.state c.loop-at.backing.devices.items) (map g.D.BlockDev.state c.write_lower-in-loop-at.new.backing.devices.items) (c.loop-at.invariant.uncut cuts) (c.in-Err.ensures.writes.unread (units-plain-below config p n crypt lower (unit.result.first + at / 512) has unit.ensures.lower cuts (at / 512) (length (sectors_in (take (c.min-end.result - at) (drop at now)))) (omega (arith, unit.ensures.first))
     (omega (arith, long, c.min-end.ensures, c.loop-at.auto.units, c.encrypt.auto.units, length-sectors_in (take (c.min-end.result - at) (drop at now)), length-take (c.min-end.result - at) (drop at now), length-drop at now))))
 
 pub write_units-returns-clause-uncut : goal.write_units-returns-clause-uncut
@@ -639,7 +641,7 @@ write_device-returns-in-Err-clause-uncut g t c =
     record { part_is = c.between-part.ensures; from_is = c.min-from.ensures; to_is = c.min-to.ensures; same_len = c.loop-at.auto.buffer; same_rest = c.loop-at.invariant.rest; order = omega arith } in
     let same : part ++ room ≡ take (at + count * 512 - at) (drop at bytes) = cut-bytes cut (one-none (said_at config (mapped c.args.d.0)) c.args.first plain buffer c.requires.bytes) in
     let number : count ≡ length (part ++ room) / 512 = omega (arith, len, ap (λ (l : List ℕ). length l) same) in
-    λ cuts. unread-then (map g.D.BlockDev.state c.args.reader.now.devices.items) (map g.D.BlockDev.state c.loop-at.reader.devices.items) (map g.D.BlockDev.state c.write_run.new.reader.devices.items) (c.loop-at.invariant.uncut cuts) (c.in-Err.ensures.uncut (subst (SourceCutsNone config source) number (device-uncut config c.args.d.0 c.args.first (at / 512) count ((length c.held-len.result.now - at) / 512) (length bytes / 512) source c.requires.can.stack.sound.loaded c.run_at-run.ensures.some (omega (arith, fits)) (omega (arith, c.loop-at.invariant.whole, fits, ap (λ (l : List ℕ). length l) c.held-len.ensures)) c.loop-at.invariant.cut c.run_at-run.ensures.longest c.run_at-run.ensures.served cuts)))
+    λ cuts. unread-then (map g.D.BlockDev.state c.args.backing.now.devices.items) (map g.D.BlockDev.state c.loop-at.backing.devices.items) (map g.D.BlockDev.state c.write_run.new.backing.devices.items) (c.loop-at.invariant.uncut cuts) (c.in-Err.ensures.uncut (subst (SourceCutsNone config source) number (device-uncut config c.args.d.0 c.args.first (at / 512) count ((length c.held-len.result.now - at) / 512) (length bytes / 512) source c.requires.can.stack.sound.loaded c.run_at-run.ensures.some (omega (arith, fits)) (omega (arith, c.loop-at.invariant.whole, fits, ap (λ (l : List ℕ). length l) c.held-len.ensures)) c.loop-at.invariant.cut c.run_at-run.ensures.longest c.run_at-run.ensures.served cuts)))
 
 pub write_device-returns-clause-uncut : goal.write_device-returns-clause-uncut
 write_device-returns-clause-uncut g t c = c.loop-at.invariant.uncut
@@ -662,10 +664,10 @@ pub write_run-returns-in-UnitPart-clause-forgets : goal.write_run-returns-in-Uni
 write_run-returns-in-UnitPart-clause-forgets g t c = rw c.in-UnitPart.is c.write_unit_part.ensures.forgets
 
 pub write_run-returns-in-Zeros-clause-forgets : goal.write_run-returns-in-Zeros-clause-forgets
-write_run-returns-in-Zeros-clause-forgets g t c = forgets-none c.args.reader.now.cache.blocks.blocks (AreRead-none 0 (map g.D.BlockDev.state c.args.reader.now.devices.items))
+write_run-returns-in-Zeros-clause-forgets g t c = forgets-none c.args.backing.now.cache.blocks.blocks (AreRead-none 0 (map g.D.BlockDev.state c.args.backing.now.devices.items))
 
 pub write_run-returns-in-Fails-clause-forgets : goal.write_run-returns-in-Fails-clause-forgets
-write_run-returns-in-Fails-clause-forgets g t c = forgets-none c.args.reader.now.cache.blocks.blocks (AreRead-none 0 (map g.D.BlockDev.state c.args.reader.now.devices.items))
+write_run-returns-in-Fails-clause-forgets g t c = forgets-none c.args.backing.now.cache.blocks.blocks (AreRead-none 0 (map g.D.BlockDev.state c.args.backing.now.devices.items))
 
 pub write_units-returns-then-lower_cuts-clause-forgets : goal.write_units-returns-then-lower_cuts-clause-forgets
 write_units-returns-then-lower_cuts-clause-forgets g t c =
@@ -690,11 +692,11 @@ write_unit_part-returns-in-Err-clause-forgets g t c =
     let whole = c.whole_unit-whole in
     let count = room_sectors c.as_mut_slice-all.result.now whole.result.sectors (ap (λ (l : List ℕ). length l) c.as_mut_slice-all.ensures.value) whole.ensures.few in
     let none = none-meets config p whole.result c.args.bytes.now n c.requires.stack.sound.loaded whole.ensures.whole c.requires.fits.holds (omega (arith, c.requires.fits.sectors.some, c.requires.fits.sectors.whole)) (omega (arith, c.requires.fits.sectors.whole)) c.requires.allowed in
-    let before = c.args.reader.now.cache.blocks.blocks in
-    let same : c.read_units.new.reader.cache ≡ c.args.reader.now.cache =
+    let before = c.args.backing.now.cache.blocks.blocks in
+    let same : c.read_units.new.backing.cache ≡ c.args.backing.now.cache =
     c.in-Err.ensures.same (λ x. none (subst (λ (k : ℕ). MeetVerity (source_said config (Units whole.result.from)) 0 k) count x)) in
-    let read : Forgets config (leaves_of config (mapped p.device.0)) (map state c.args.reader.now.devices.items) (map state c.read_units.new.reader.devices.items) before c.read_units.new.reader.cache.blocks.blocks =
-    subst (λ (k : StackCache). Forgets config (leaves_of config (mapped p.device.0)) (map state c.args.reader.now.devices.items) (map state c.read_units.new.reader.devices.items) before k.blocks.blocks) (sym same)
+    let read : Forgets config (leaves_of config (mapped p.device.0)) (map state c.args.backing.now.devices.items) (map state c.read_units.new.backing.devices.items) before c.read_units.new.backing.cache.blocks.blocks =
+    subst (λ (k : StackCache). Forgets config (leaves_of config (mapped p.device.0)) (map state c.args.backing.now.devices.items) (map state c.read_units.new.backing.devices.items) before k.blocks.blocks) (sym same)
     (forgets-none before c.in-Err.ensures.reads.got.moved) in
     read
 
@@ -707,14 +709,14 @@ write_unit_part-returns-clause-forgets g t c =
     let whole = c.whole_unit-whole in
     let count = room_sectors c.as_mut_slice-all.result.now whole.result.sectors (ap (λ (l : List ℕ). length l) c.as_mut_slice-all.ensures.value) whole.ensures.few in
     let none = none-meets config p whole.result c.args.bytes.now n c.requires.stack.sound.loaded whole.ensures.whole c.requires.fits.holds (omega (arith, c.requires.fits.sectors.some, c.requires.fits.sectors.whole)) (omega (arith, c.requires.fits.sectors.whole)) c.requires.allowed in
-    let before = c.args.reader.now.cache.blocks.blocks in
-    let same : c.read_units.new.reader.cache ≡ c.args.reader.now.cache =
+    let before = c.args.backing.now.cache.blocks.blocks in
+    let same : c.read_units.new.backing.cache ≡ c.args.backing.now.cache =
     c.in-Ok.ensures.same (λ x. none (subst (λ (k : ℕ). MeetVerity (source_said config (Units whole.result.from)) 0 k) count x)) in
-    let read : Forgets config (leaves_of config (mapped p.device.0)) (map state c.args.reader.now.devices.items) (map state c.read_units.new.reader.devices.items) before c.read_units.new.reader.cache.blocks.blocks =
-    subst (λ (k : StackCache). Forgets config (leaves_of config (mapped p.device.0)) (map state c.args.reader.now.devices.items) (map state c.read_units.new.reader.devices.items) before k.blocks.blocks) (sym same)
+    let read : Forgets config (leaves_of config (mapped p.device.0)) (map state c.args.backing.now.devices.items) (map state c.read_units.new.backing.devices.items) before c.read_units.new.backing.cache.blocks.blocks =
+    subst (λ (k : StackCache). Forgets config (leaves_of config (mapped p.device.0)) (map state c.args.backing.now.devices.items) (map state c.read_units.new.backing.devices.items) before k.blocks.blocks) (sym same)
     (forgets-none before c.in-Ok.ensures.reads.got.moved) in
-    forgets-then read (subst (λ (b : BlockPart). Forgets config (leaves_of config (mapped b.device.0)) (map state c.read_units.new.reader.devices.items) (map state c.write_units.new.reader.devices.items)
-    c.read_units.new.reader.cache.blocks.blocks c.write_units.new.reader.cache.blocks.blocks) whole.ensures.whole.from c.write_units.ensures.forgets)
+    forgets-then read (subst (λ (b : BlockPart). Forgets config (leaves_of config (mapped b.device.0)) (map state c.read_units.new.backing.devices.items) (map state c.write_units.new.backing.devices.items)
+    c.read_units.new.backing.cache.blocks.blocks c.write_units.new.backing.cache.blocks.blocks) whole.ensures.whole.from c.write_units.ensures.forgets)
 
 pub write_device-returns-in-Err-clause-forgets : goal.write_device-returns-in-Err-clause-forgets
 write_device-returns-in-Err-clause-forgets g t c =

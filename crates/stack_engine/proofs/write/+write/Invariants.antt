@@ -30,12 +30,12 @@ invariant-write_device-loop-at g l = record {
   whole : l.at % 512 ≡ 0;
   within : l.at ≤ length (l.plain ++ l.fn.buffer);
   rest : drop l.at l.buffer ≡ drop l.at l.fn.buffer;
-  so_far : Writes (destination_of l.config (mapped l.d.0)) l.first (sectors_in (take l.at (l.plain ++ l.fn.buffer))) (map g.D.BlockDev.state l.fn.reader.devices.items) (map g.D.BlockDev.state l.reader.devices.items) (Ok tt);
-  uncut : CutsNone l.config (mapped l.d.0) l.first (length (l.plain ++ l.fn.buffer) / 512) → NoneRead (map g.D.BlockDev.state l.fn.reader.devices.items) (map g.D.BlockDev.state l.reader.devices.items);
+  so_far : Writes (destination_of l.config (mapped l.d.0)) l.first (sectors_in (take l.at (l.plain ++ l.fn.buffer))) (map g.D.BlockDev.state l.fn.backing.devices.items) (map g.D.BlockDev.state l.backing.devices.items) (Ok tt);
+  uncut : CutsNone l.config (mapped l.d.0) l.first (length (l.plain ++ l.fn.buffer) / 512) → NoneRead (map g.D.BlockDev.state l.fn.backing.devices.items) (map g.D.BlockDev.state l.backing.devices.items);
   cut : IsCutBehind l.config l.d.0 l.first (l.at / 512) (length (l.plain ++ l.fn.buffer) / 512);
   ends : EndsBefore l.config l.d.0 (l.first + l.at / 512) (take l.at (l.plain ++ l.fn.buffer)) ⊎ (l.at ≡ length (l.plain ++ l.fn.buffer));
-  forgets : Forgets l.config (leaves_of l.config (mapped l.d.0)) (map g.D.BlockDev.state l.fn.reader.devices.items) (map g.D.BlockDev.state l.reader.devices.items) l.fn.reader.cache.blocks.blocks l.reader.cache.blocks.blocks;
-  cached : KeepsCache l.config (map g.D.BlockDev.state l.reader.devices.items) l.fn.reader.cache l.reader.cache;
+  forgets : Forgets l.config (leaves_of l.config (mapped l.d.0)) (map g.D.BlockDev.state l.fn.backing.devices.items) (map g.D.BlockDev.state l.backing.devices.items) l.fn.backing.cache.blocks.blocks l.backing.cache.blocks.blocks;
+  cached : KeepsCache l.config (map g.D.BlockDev.state l.backing.devices.items) l.fn.backing.cache l.backing.cache;
 }
 
 abbrev pub decreases-write_device-loop-at : goal.decreases-write_device-loop-at
@@ -53,10 +53,10 @@ invariant-write_units-loop-at g l = record {
   even : l.at % l.size ≡ 0;
   within : l.at ≤ length l.fn.units;
   rest : drop l.at l.units ≡ drop l.at l.initial.units;
-  uncut : SourceCutsNone l.config (Units l.fn.part) (length l.fn.units / 512) → NoneRead (map g.D.BlockDev.state l.fn.reader.devices.items) (map g.D.BlockDev.state l.reader.devices.items);
-  forgets : Forgets l.config (leaves_of l.config (mapped l.fn.part.device.0)) (map g.D.BlockDev.state l.fn.reader.devices.items) (map g.D.BlockDev.state l.reader.devices.items) l.fn.reader.cache.blocks.blocks l.reader.cache.blocks.blocks;
-  so_far : Writes (source_destination l.config (Units l.fn.part)) 0 (sectors_in (take l.at l.fn.units)) (map g.D.BlockDev.state l.fn.reader.devices.items) (map g.D.BlockDev.state l.reader.devices.items) (Ok tt);
-  cached : KeepsCache l.config (map g.D.BlockDev.state l.reader.devices.items) l.fn.reader.cache l.reader.cache;
+  uncut : SourceCutsNone l.config (Units l.fn.part) (length l.fn.units / 512) → NoneRead (map g.D.BlockDev.state l.fn.backing.devices.items) (map g.D.BlockDev.state l.backing.devices.items);
+  forgets : Forgets l.config (leaves_of l.config (mapped l.fn.part.device.0)) (map g.D.BlockDev.state l.fn.backing.devices.items) (map g.D.BlockDev.state l.backing.devices.items) l.fn.backing.cache.blocks.blocks l.backing.cache.blocks.blocks;
+  so_far : Writes (source_destination l.config (Units l.fn.part)) 0 (sectors_in (take l.at l.fn.units)) (map g.D.BlockDev.state l.fn.backing.devices.items) (map g.D.BlockDev.state l.backing.devices.items) (Ok tt);
+  cached : KeepsCache l.config (map g.D.BlockDev.state l.backing.devices.items) l.fn.backing.cache l.backing.cache;
 }
 
 abbrev pub decreases-write_units-loop-at : goal.decreases-write_units-loop-at

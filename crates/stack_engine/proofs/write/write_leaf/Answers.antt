@@ -15,9 +15,9 @@ pub returns-clause-cached : goal.returns-clause-cached
 returns-clause-cached g c =
     let config = c.args.config.now in
     let state = g.D.BlockDev.state in
-    let devices = c.args.reader.now.devices in
+    let devices = c.args.backing.now.devices in
     let new = c.write_sectors.new.devices in
-    let cache = c.args.reader.now.cache in
+    let cache = c.args.backing.now.cache in
     let stands : (with_items devices new).items ≡ new = with_items_is devices new (c.write_sectors.auto.devices ∙ ap (λ l. length l) c.as_mut_slice.ensures.value ∙ sym devices.ok.0) in
     let wrote = subst (λ ds. Writes (destination_of config (Leaf c.args.leaf)) c.args.first (sectors_in c.args.bytes.now) (map state ds) (map state new) c.write_sectors.result) c.as_mut_slice.ensures.value c.write_sectors.ensures in
     subst (λ ds. KeepsCache config (map state ds) cache c.forget_leaf.new.self) (sym stands)
@@ -27,9 +27,9 @@ pub returns-clause-forgets : goal.returns-clause-forgets
 returns-clause-forgets g c =
     let config = c.args.config.now in
     let state = g.D.BlockDev.state in
-    let devices = c.args.reader.now.devices in
+    let devices = c.args.backing.now.devices in
     let new = c.write_sectors.new.devices in
-    let before = c.args.reader.now.cache.blocks.blocks in
+    let before = c.args.backing.now.cache.blocks.blocks in
     let after = c.forget_leaf.new.self.blocks.blocks in
     let stands : (with_items devices new).items ≡ new = with_items_is devices new (c.write_sectors.auto.devices ∙ ap (λ l. length l) c.as_mut_slice.ensures.value ∙ sym devices.ok.0) in
     let wrote = subst (λ ds. Writes (destination_of config (Leaf c.args.leaf)) c.args.first (sectors_in c.args.bytes.now) (map state ds) (map state new) c.write_sectors.result) c.as_mut_slice.ensures.value c.write_sectors.ensures in

@@ -1,4 +1,4 @@
-use Rattle.std.proofs.Common.{◌≡◌, ◌⊎◌, ◌+◌, ◌-◌, ◌≤◌, ◌<◌, ◌*◌, ◌/◌, ◌^◌, ℕ, Bool, true, false, List, Ok, Err, arith, refl, sym, ◌∙◌, ap, ap₂, subst, length, take, Option, Some, None}
+use Rattle.std.proofs.Common.{◌≡◌, ◌⊎◌, ◌+◌, ◌-◌, ◌≤◌, ◌<◌, ◌*◌, ◌/◌, ◌^◌, ℕ, Bool, true, false, List, Ok, Err, arith, refl, sym, ◌∙◌, ap, ap₂, subst, length, take, Option, Some, None, is_some}
 use Rattle.std.proofs.lemmas.Bool.{false≢true}
 use Rattle.std.proofs.lemmas.List.{length-take-le}
 use Rattle.stack_rules.specs.Names.{mapped, size}
@@ -13,11 +13,12 @@ use Rattle.stack_recovery.specs.declared.lost_run.LostRun.{LostRun}
 use Rattle.stack_recovery.specs.declared.tally.Tally.{Tally}
 use Rattle.stack_recovery.specs.Alike.{AreAlike}
 use Rattle.stack_recovery.specs.LostRuns.{is_same, run}
-use Rattle.stack_recovery.specs.Recoveries.{IsRescueEnd, Sides, sides}
+use Rattle.stack_recovery.specs.Recoveries.{EndsEarly, FindsNoMemory, Sides, sides}
 use Rattle.stack_recovery.specs.Surveys.{AreMarked}
 use Rattle.stack_recovery.specs.Tallies.{EndsAt, opened_by}
 use Rattle.stack_recovery.proofs.AheadLemmas.{ahead-inside, ahead-next, first-run, marked-next, notes-some}
-use Rattle.stack_recovery.proofs.UnderwayLemmas.{IsUnderway, begun, few, note-room, underway-again, underway-all, underway-had, underway-kept, underway-lost, underway-none}
+use Rattle.stack_recovery.proofs.LostRunLemmas.{is_same-true}
+use Rattle.stack_recovery.proofs.UnderwayLemmas.{IsUnderway, begun, few, note-room, runs-short, underway-again, underway-all, underway-had, underway-kept, underway-lost, underway-none}
 use Rattle.stack_recovery.proofs.WritingLemmas.{err-from}
 use Rattle.stack_recovery.proofs.recovery.go_over_by.Goals as goal
 
@@ -48,9 +49,13 @@ note-requires-clause-room g c =
 
 pub returns-in_err-note-clause-err : goal.returns-in_err-note-clause-err
 returns-in_err-note-clause-err g c =
+    let u = c.pieces.invariant in
     let old : Sides = sides c.args.stack.now (g.O.BlockDev.state c.args.out.now) (g.L.Listing.told c.args.listing.now) in
     let new : Sides = sides c.pieces.stack (g.O.BlockDev.state c.pieces.out) (g.L.Listing.told c.pieces.listing) in
-    err-from c.from_residual.result _ _ c.from_residual.ensures.1 (subst (IsRescueEnd (marks_ahead c.args.ahead) c.args.d.0 old new (g.L.Listing.failed c.pieces.listing)) (sym c.in_err-note.ensures.err) (begun _ _ _ _ _ _ _ c.pieces.invariant.so_far c.pieces.stack _))
+    let makes_map : Bool = is_some c.args.noted.now in
+    err-from c.from_residual.result _ _ c.from_residual.ensures.1
+    (subst (EndsEarly makes_map (marks_ahead c.args.ahead) c.args.d.0 old new (g.L.Listing.failed c.pieces.listing)) (sym c.in_err-note.ensures.err)
+    (runs-short _ _ _ _ _ _ _ u.so_far makes_map c.pieces.stack u.unfailed (λ none. absurd (false≢true (sym none ∙ sym u.noted ∙ c.in_err-note.ensures.made)))))
 
 pub overflow_add-at : goal.overflow_add-at
 overflow_add-at g c =
@@ -116,9 +121,13 @@ note-requires-in-Ok-clause-room g c =
 
 pub returns-in_err-note-in-Ok-clause-err : goal.returns-in_err-note-in-Ok-clause-err
 returns-in_err-note-in-Ok-clause-err g c =
+    let u = c.pieces.invariant in
     let old : Sides = sides c.args.stack.now (g.O.BlockDev.state c.args.out.now) (g.L.Listing.told c.args.listing.now) in
     let new : Sides = sides c.read_bytes.new.self (g.O.BlockDev.state c.pieces.out) (g.L.Listing.told c.pieces.listing) in
-    err-from c.from_residual-in_err-note-in-Ok.result _ _ c.from_residual-in_err-note-in-Ok.ensures.1 (subst (IsRescueEnd (marks_ahead c.args.ahead) c.args.d.0 old new (g.L.Listing.failed c.pieces.listing)) (sym c.in_err-note-in-Ok.ensures.err) (begun _ _ _ _ _ _ _ c.pieces.invariant.so_far c.read_bytes.new.self _))
+    let makes_map : Bool = is_some c.args.noted.now in
+    err-from c.from_residual-in_err-note-in-Ok.result _ _ c.from_residual-in_err-note-in-Ok.ensures.1
+    (subst (EndsEarly makes_map (marks_ahead c.args.ahead) c.args.d.0 old new (g.L.Listing.failed c.pieces.listing)) (sym c.in_err-note-in-Ok.ensures.err)
+    (runs-short _ _ _ _ _ _ _ u.so_far makes_map c.read_bytes.new.self u.unfailed (λ none. absurd (false≢true (sym none ∙ sym u.noted ∙ c.in_err-note-in-Ok.ensures.made)))))
 
 pub write-requires-clause-range : goal.write-requires-clause-range
 write-requires-clause-range g c =
@@ -181,7 +190,16 @@ pieces-preserved-in-Ok g c =
     }
 
 pub returns-then-is_same-clause-err : goal.returns-then-is_same-clause-err
-returns-then-is_same-clause-err g c = begun _ _ _ _ _ _ _ c.pieces.invariant.so_far c.read_bytes.new.self _
+returns-then-is_same-clause-err g c =
+    let u = c.pieces.invariant in
+    let is : c.in-Err.fault ≡ NoMemory = is_same-true c.in-Err.fault NoMemory (sym c.is_same.ensures ∙ c.if-is_same.true) in
+    let count : ℕ = length (take (c.piece_at-piece.result.count * 512) c.pieces.room) / 512 in
+    let read : FindsNoMemory c.args.d.0 c.pieces.at c.pieces.stack c.read_bytes.new.self = record {
+      count = count;
+      answered = subst (λ (f : IoFault). EachBytes c.pieces.stack c.args.d.0 c.pieces.at count (Err f) c.read_bytes.new.self) is (record { any = c.in-Err.ensures.any; steady = c.in-Err.ensures.steady });
+      met = c.in-Err.ensures.memory (ap Err is);
+    } in
+    runs-short _ _ _ _ _ _ _ u.so_far (is_some c.args.noted.now) c.read_bytes.new.self u.unfailed (λ none. read)
 
 pub note-requires-then-piece-clause-room : goal.note-requires-then-piece-clause-room
 note-requires-then-piece-clause-room g c =
@@ -192,9 +210,13 @@ note-requires-then-piece-clause-room g c =
 
 pub returns-in_err-note-in-Err-clause-err : goal.returns-in_err-note-in-Err-clause-err
 returns-in_err-note-in-Err-clause-err g c =
+    let u = c.pieces.invariant in
     let old : Sides = sides c.args.stack.now (g.O.BlockDev.state c.args.out.now) (g.L.Listing.told c.args.listing.now) in
     let new : Sides = sides c.read_bytes.new.self (g.O.BlockDev.state c.pieces.out) (g.L.Listing.told c.pieces.listing) in
-    err-from c.from_residual-in_err-note-in-Err.result _ _ c.from_residual-in_err-note-in-Err.ensures.1 (subst (IsRescueEnd (marks_ahead c.args.ahead) c.args.d.0 old new (g.L.Listing.failed c.pieces.listing)) (sym c.in_err-note-in-Err.ensures.err) (begun _ _ _ _ _ _ _ c.pieces.invariant.so_far c.read_bytes.new.self _))
+    let makes_map : Bool = is_some c.args.noted.now in
+    err-from c.from_residual-in_err-note-in-Err.result _ _ c.from_residual-in_err-note-in-Err.ensures.1
+    (subst (EndsEarly makes_map (marks_ahead c.args.ahead) c.args.d.0 old new (g.L.Listing.failed c.pieces.listing)) (sym c.in_err-note-in-Err.ensures.err)
+    (runs-short _ _ _ _ _ _ _ u.so_far makes_map c.read_bytes.new.self u.unfailed (λ none. absurd (false≢true (sym none ∙ sym u.noted ∙ c.in_err-note-in-Err.ensures.made)))))
 
 pub lose-requires : goal.lose-requires
 lose-requires g c =

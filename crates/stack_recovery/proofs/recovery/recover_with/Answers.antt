@@ -1,8 +1,8 @@
-use Rattle.std.proofs.Common.{ℕ, Bool, List, Option, subst}
+use Rattle.std.proofs.Common.{ℕ, Bool, false, List, Option, subst}
 use Rattle.rescue_map.specs.Aheads.{marks_ahead}
 use Rattle.rescue_map.specs.declared.map.Run.{Run}
 use Rattle.stack_recovery.specs.declared.recovery.Counts.{Counts}
-use Rattle.stack_recovery.specs.Recoveries.{GoesOver, IsRecoveryEnd, IsRescueEnd, Recovers, Sides, sides}
+use Rattle.stack_recovery.specs.Recoveries.{EndsEarly, GoesOver, IsRecoveryEnd, Recovers, Sides, sides}
 use Rattle.stack_recovery.proofs.UnderwayLemmas.{ends-none, recovers-none}
 use Rattle.stack_recovery.proofs.WritingLemmas.{err-as, ok-as}
 use Rattle.stack_recovery.proofs.recovery.recover_with.Goals as goal
@@ -23,6 +23,6 @@ returns-clause-err g c =
     let old : Sides = sides c.args.stack.now (g.O.BlockDev.state c.args.out.now) (g.L.Listing.told c.args.listing.now) in
     let new : Sides = sides c.go_over.new.stack (g.O.BlockDev.state c.go_over.new.out) (g.L.Listing.told c.go_over.new.listing) in
     let failed : Bool = g.L.Listing.failed c.go_over.new.listing in
-    err-as c.go_over.result (IsRescueEnd (marks_ahead c.unread-ahead.result) d old new failed) (IsRecoveryEnd d old new failed)
-    (λ fault p. ends-none c.sectors.result d old new failed fault (subst (λ (m : List Bool). IsRescueEnd m d old new failed fault) c.unread-ahead.ensures p))
+    err-as c.go_over.result (EndsEarly false (marks_ahead c.unread-ahead.result) d old new failed) (IsRecoveryEnd d old new failed)
+    (λ fault p. ends-none c.sectors.result d old new failed fault (subst (λ (m : List Bool). EndsEarly false m d old new failed fault) c.unread-ahead.ensures p))
     c.go_over.ensures.err

@@ -50,7 +50,7 @@ returns-in-Err-absorb-clause-session g c =
       too_long = λ is.
           let seen = c.in-Err-absorb.ensures.too_long (same_error c.in-Err-absorb.fault TooLong is) in
           intake_too_long new c.absorb.new.server c.absorb.new.rest.items (take c.in-Ok.n c.read.new.buffer)
-          flushed c.in-Ok.ensures.bytes.0 seen.0 seen.2;
+          flushed c.in-Ok.ensures.bytes.0 seen.0 seen.1.1;
       read_fault = λ is. absurd (c.in-Err-absorb.ensures.writer.1 (same_error c.in-Err-absorb.fault ReadFault is));
       write_fault = λ is.
           intake_write_fault new c.absorb.new.server (take c.in-Ok.n c.read.new.buffer) flushed c.in-Ok.ensures.bytes.0 c.in-Err-absorb.ensures.stopped (same_error c.in-Err-absorb.fault WriteFault is);
@@ -98,8 +98,8 @@ loop-turn-preserved g c =
       | in-Ok+in-Ok-absorb w ↦ (let seen = w.in-Ok-absorb.ensures in let e = w.in-Ok.ensures in
           record {
             intake = rw (w.writer-is, w.server-is, w.rest-is, w.left-is) (intake_more (streams (g.R.Read.remaining c.read.new.self.inner) (g.W.Write.contents w.absorb.new.writer.inner)) w.in-Ok-absorb.after w.absorb.new.server w.absorb.new.rest.items (take w.in-Ok.n c.read.new.buffer)
-                flushed e.bytes.0 seen.ok.0 seen.ok.2);
-            small = rw (w.rest-is, w.left-is) seen.ok.1;
+                flushed e.bytes.0 seen.ok.0.0 seen.ok.1);
+            small = rw (w.rest-is, w.left-is) seen.ok.0.1;
             calls = omega (arith, c.loop-turn.invariant.calls, c.read.ensures.calls);
             turns = omega (arith, c.loop-turn.invariant.turns, c.read.ensures.calls);
             reader = e.failed.ok ∙ c.loop-turn.invariant.reader;

@@ -17,7 +17,7 @@ pieces-init g c = record {
 }
 
 pub returns-in-Err-clause-err : goal.returns-in-Err-clause-err
-returns-in-Err-clause-err g c = (c.pieces.stack, c.pieces.invariant.stored, c.read.new.out, record { any = c.in-Err.ensures.any; steady = c.in-Err.ensures.steady })
+returns-in-Err-clause-err g c = (c.pieces.stack, c.pieces.invariant.stored, c.read.new.out, record { piece = c.in-Err.ensures.piece; any = c.in-Err.ensures.any; steady = c.in-Err.ensures.steady })
 
 pub pieces-preserved : goal.pieces-preserved
 pieces-preserved g c =
@@ -36,7 +36,7 @@ pieces-preserved g c =
     let ok : is_ok c.read.result ≡ true = c.is_err.ensures.negation ∙ ap not c.if-is_err.false in
     let moved : IsRead now most true new = subst (λ (b : Bool). IsRead now most b new) ok (subst (λ (m : ℕ). IsRead now m (is_ok c.read.result) new) number c.read.ensures.moved) in
     let bytes = of_ok c.read.result _ ok c.read.ensures.bytes in
-    let wrote : EachWrite c.pieces.stack d (first + done) piece (Ok tt) c.write_piece.new.self = record { any = c.in_default.ensures.any; steady = c.in_default.ensures.steady } in
+    let wrote : EachWrite c.pieces.stack d (first + done) piece (Ok tt) c.write_piece.new.self = record { piece = c.in_default.ensures.piece; any = c.in_default.ensures.any; steady = c.in_default.ensures.steady } in
     record {
       stored = image-piece d first done most c.args.stack.now c.pieces.stack c.write_piece.new.self old now u.source u.stored piece long (λ steady. bytes steady ∙ ap (λ (k : ℕ). concat (run_of now.image done k)) number) wrote;
       source = unchanged-more old now new u.source most moved;

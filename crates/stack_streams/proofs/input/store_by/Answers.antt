@@ -91,7 +91,7 @@ returns-in-Err-clause-err g c =
       more = [];
       stored = before.stored;
       taken = subst (λ (l : List ℕ). Consumes (g.R.Read.remaining c.pieces.reader.inner) input l) all filled.taken;
-      failed = subst (λ (s : ℕ). EachWrite c.pieces.stack d s piece (Err c.in-Err.fault) c.write_piece.new.self) here (record { any = c.in-Err.ensures.any; steady = c.in-Err.ensures.steady });
+      failed = subst (λ (s : ℕ). EachWrite c.pieces.stack d s piece (Err c.in-Err.fault) c.write_piece.new.self) here (record { piece = c.in-Err.ensures.piece; any = c.in-Err.ensures.any; steady = c.in-Err.ensures.steady });
     }
 
 pub pieces-preserved : goal.pieces-preserved
@@ -111,7 +111,7 @@ pieces-preserved g c =
     let wide : length (take (most * 512) c.pieces.room) ≡ most * 512 = length-take-le (most * 512) c.pieces.room (omega (arith, before.room, c.min-most.ensures)) in
     let long : length piece ≡ 512 * most = omega (arith, c.fill.auto.buffer, wide) in
     let all : take c.in-Ok.count piece ≡ piece = take_all c.in-Ok.count piece (omega (arith, long, c.if-count-size.false)) in
-    let wrote = subst (λ (s : ℕ). EachWrite c.pieces.stack d s piece (Ok tt) c.write_piece.new.self) here (record { any = c.in_default-write_piece.ensures.any; steady = c.in_default-write_piece.ensures.steady }) in
+    let wrote = subst (λ (s : ℕ). EachWrite c.pieces.stack d s piece (Ok tt) c.write_piece.new.self) here (record { piece = c.in_default-write_piece.ensures.piece; any = c.in_default-write_piece.ensures.any; steady = c.in_default-write_piece.ensures.steady }) in
     let stored : HasStored d first (k + most) old new = store-piece d first k old mid before.stored most piece c.write_piece.new.self input long wrote (subst (λ (l : List ℕ). Consumes (g.R.Read.remaining c.pieces.reader.inner) input l) all filled.taken) in
     let sum : k + most ≡ c.pieces.at + most - first = omega (arith, before.from) in
     record {

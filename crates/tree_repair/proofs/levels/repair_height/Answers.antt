@@ -1,12 +1,12 @@
-use Rattle.std.proofs.Common.{◌+◌, ◌^◌, true, false, map, arith}
+use Rattle.std.proofs.Common.{◌+◌, ◌^◌, ◌∙◌, ap, arith, inl, inr, min}
 use Rattle.std.proofs.Math.Nat.{zero-mod}
+use Rattle.std.proofs.lemmas.Bool.{cases_lt}
 use Rattle.tree_shape.specs.Shape.{per_block}
 use Rattle.tree_shape.proofs.lemmas.ShapeFaultLemmas.{blocks-le}
 use Rattle.tree_shape.proofs.lemmas.ShapeLemmas.{pow_pos}
-use Rattle.tree_repair.specs.Jobs.{job}
-use Rattle.tree_repair.specs.Runs.{world}
 use Rattle.tree_repair.proofs.RowLemmas.{per_block-some, row-next}
-use Rattle.tree_repair.proofs.RunLemmas.{can-later, has-none, has-then, ended-from}
+use Rattle.tree_repair.proofs.PassLemmas.{noted-ends, noted-fewer, noted-from, noted-none, noted-then}
+use Rattle.tree_repair.proofs.RunLemmas.{can-later}
 use Rattle.tree_repair.proofs.levels.repair_height.Goals as goal
 
 pub span-width-requires : goal.span-width-requires
@@ -16,16 +16,10 @@ pub span-step-requires : goal.span-step-requires
 span-step-requires g c = omega (arith, c.blocks-blocks.ensures.value, (blocks-le c.args.repair.now.shape c.requires.can.valid).0)
 
 pub rows-init : goal.rows-init
-rows-init g c = record {
-  begins = λ some. zero-mod (per_block c.args.repair.now.shape ^ (c.args.height + 1));
-  run = has-none (job c.args.repair.now) (world (g.D.BlockDev.state c.args.data_dev.now) (g.H.BlockDev.state c.args.hash_dev.now) (map g.C.BlockDev.state c.args.data_copies.now) (map g.C.BlockDev.state c.args.hash_copies.now)) (g.W.Write.contents c.args.writer.now.inner);
-}
+rows-init g c = record { begins = λ some. zero-mod (per_block c.args.repair.now.shape ^ (c.args.height + 1)); run = noted-none (λ h i due. omega (arith, due.1.1)) }
 
 pub repair_row-requires-clause-can : goal.repair_row-requires-clause-can
-repair_row-requires-clause-can g c =
-    let a = world (g.D.BlockDev.state c.args.data_dev.now) (g.H.BlockDev.state c.args.hash_dev.now) (map g.C.BlockDev.state c.args.data_copies.now) (map g.C.BlockDev.state c.args.hash_copies.now) in
-    let b = world (g.D.BlockDev.state c.rows.data_dev) (g.H.BlockDev.state c.rows.hash_dev) (map g.C.BlockDev.state c.rows.data_copies) (map g.C.BlockDev.state c.rows.hash_copies) in
-    can-later (job c.args.repair.now) a b (g.W.Write.contents c.args.writer.now.inner) (g.W.Write.contents c.rows.writer.inner) true c.rows.invariant.run c.requires.can
+repair_row-requires-clause-can g c = can-later c.rows.invariant.run.run c.requires.can
 
 pub repair_row-requires-clause-row : goal.repair_row-requires-clause-row
 repair_row-requires-clause-row g c =
@@ -41,6 +35,7 @@ repair_row-requires-clause-row g c =
       few = omega (arith, c.span-width.ensures, c.min-end.ensures);
       inside = omega (arith, c.min-end.ensures, c.blocks-blocks.ensures.value);
       steps = omega (arith, c.span-step.ensures, low, c.blocks-blocks.ensures.value, c.requires.can.valid.some);
+      step_is = c.span-step.ensures ∙ ap (min (p ^ c.args.height)) c.blocks-blocks.ensures.value;
       small = omega (arith, c.span-step.ensures, few, c.blocks-blocks.ensures.value);
     }
 
@@ -48,17 +43,16 @@ pub repair_row-requires-clause-some : goal.repair_row-requires-clause-some
 repair_row-requires-clause-some g c = omega (arith, c.rows-test.true, c.blocks-blocks.ensures.value)
 
 pub rows-preserved : goal.rows-preserved
-rows-preserved g c =
-    let s = c.args.repair.now.shape in
-    let a = world (g.D.BlockDev.state c.args.data_dev.now) (g.H.BlockDev.state c.args.hash_dev.now) (map g.C.BlockDev.state c.args.data_copies.now) (map g.C.BlockDev.state c.args.hash_copies.now) in
-    let b = world (g.D.BlockDev.state c.rows.data_dev) (g.H.BlockDev.state c.rows.hash_dev) (map g.C.BlockDev.state c.rows.data_copies) (map g.C.BlockDev.state c.rows.hash_copies) in
-    let e = world (g.D.BlockDev.state c.repair_row.new.data_dev) (g.H.BlockDev.state c.repair_row.new.hash_dev) (map g.C.BlockDev.state c.repair_row.new.data_copies) (map g.C.BlockDev.state c.repair_row.new.hash_copies) in
-    record {
-      begins = λ less. row-next (per_block s) c.args.height c.rows.first c.span-width.result c.blocks-blocks.result c.min-end.result
-          (c.rows.invariant.begins (omega (arith, c.rows-test.true, c.blocks-blocks.ensures.value))) c.span-width.ensures c.min-end.ensures (omega (arith, less, c.blocks-blocks.ensures.value));
-      run = has-then (job c.args.repair.now) a b e (g.W.Write.contents c.args.writer.now.inner) (g.W.Write.contents c.rows.writer.inner) (g.W.Write.contents c.repair_row.new.writer.inner) true
-          c.rows.invariant.run c.in_ok-repair_row.ensures;
-    }
+rows-preserved g c = record {
+  begins = λ less. row-next (per_block c.args.repair.now.shape) c.args.height c.rows.first c.span-width.result c.blocks-blocks.result c.min-end.result
+      (c.rows.invariant.begins (omega (arith, c.rows-test.true, c.blocks-blocks.ensures.value))) c.span-width.ensures c.min-end.ensures (omega (arith, less, c.blocks-blocks.ensures.value));
+  run = noted-then c.rows.invariant.run c.in_ok-repair_row.ensures
+      (λ h i due.
+      elim (cases_lt i c.rows.first) [
+        | inl before ↦ inl (due.0, (due.1.0, before))
+        | inr behind ↦ inr (due.0, (behind, due.1.1))
+      ]);
+}
 
 pub rows-smaller : goal.rows-smaller
 rows-smaller g c =
@@ -67,13 +61,7 @@ rows-smaller g c =
     omega (arith, c.rows-test.true, c.blocks-blocks.ensures.value, c.span-width.ensures, c.min-end.ensures, high, c.requires.can.valid.some)
 
 pub returns-in_err-repair_row : goal.returns-in_err-repair_row
-returns-in_err-repair_row g c =
-    let a = world (g.D.BlockDev.state c.args.data_dev.now) (g.H.BlockDev.state c.args.hash_dev.now) (map g.C.BlockDev.state c.args.data_copies.now) (map g.C.BlockDev.state c.args.hash_copies.now) in
-    let b = world (g.D.BlockDev.state c.rows.data_dev) (g.H.BlockDev.state c.rows.hash_dev) (map g.C.BlockDev.state c.rows.data_copies) (map g.C.BlockDev.state c.rows.hash_copies) in
-    let e = world (g.D.BlockDev.state c.repair_row.new.data_dev) (g.H.BlockDev.state c.repair_row.new.hash_dev) (map g.C.BlockDev.state c.repair_row.new.data_copies) (map g.C.BlockDev.state c.repair_row.new.hash_copies) in
-    ended-from c.from_residual.result _ (job c.args.repair.now) a e (g.W.Write.contents c.args.writer.now.inner) (g.W.Write.contents c.repair_row.new.writer.inner) c.from_residual.ensures.1
-    (has-then (job c.args.repair.now) a b e (g.W.Write.contents c.args.writer.now.inner) (g.W.Write.contents c.rows.writer.inner) (g.W.Write.contents c.repair_row.new.writer.inner) false
-    c.rows.invariant.run c.in_err-repair_row.ensures)
+returns-in_err-repair_row g c = noted-from c.from_residual.result _ c.from_residual.ensures.1 (noted-ends c.rows.invariant.run c.in_err-repair_row.ensures)
 
 pub returns : goal.returns
-returns g c = c.rows.invariant.run
+returns g c = noted-fewer c.rows.invariant.run (λ h i due. (due.0, (due.1.0, omega (arith, due.1.1, c.rows-test.false, c.blocks-blocks.ensures.value))))

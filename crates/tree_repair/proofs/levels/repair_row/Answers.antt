@@ -1,37 +1,28 @@
-use Rattle.std.proofs.Common.{[], true, map}
-use Rattle.std.specs.Prelude.{is_ok}
+use Rattle.std.proofs.Common.{ℕ, [], refl, subst}
+use Rattle.tree_repair.specs.Coverage.{IsLookedAt}
 use Rattle.tree_repair.specs.Jobs.{job}
-use Rattle.tree_repair.specs.Runs.{world}
-use Rattle.tree_repair.proofs.RunLemmas.{can-later, has-ended, has-read, has-then, tree-read, ended-from}
+use Rattle.tree_repair.proofs.LookLemmas.{looked-cut, row-above}
+use Rattle.tree_repair.proofs.PassLemmas.{noted-behind, noted-from, noted-not, noted-read}
+use Rattle.tree_repair.proofs.RunLemmas.{can-read, ends-read}
 use Rattle.tree_repair.proofs.levels.repair_row.Goals as goal
 
 pub returns-in_err-found : goal.returns-in_err-found
-returns-in_err-found g c =
-    let a = world (g.D.BlockDev.state c.args.data_dev.now) (g.H.BlockDev.state c.args.hash_dev.now) (map g.C.BlockDev.state c.args.data_copies.now) (map g.C.BlockDev.state c.args.hash_copies.now) in
-    let b = world (g.D.BlockDev.state c.args.data_dev.now) (g.H.BlockDev.state c.way_to.new.hash_dev) (map g.C.BlockDev.state c.args.data_copies.now) (map g.C.BlockDev.state c.args.hash_copies.now) in
-    ended-from c.from_residual.result _ (job c.args.repair.now) a b (g.W.Write.contents c.args.writer.now.inner) (g.W.Write.contents c.args.writer.now.inner) c.from_residual.ensures.1
-    (has-ended (job c.args.repair.now) a b (g.W.Write.contents c.args.writer.now.inner) (g.W.Write.contents c.args.writer.now.inner) [] (tree-read a (g.H.BlockDev.state c.way_to.new.hash_dev) c.way_to.ensures.read))
+returns-in_err-found g c = noted-from c.from_residual.result _ c.from_residual.ensures.1 (noted-not (ends-read c.way_to.ensures.read) refl)
 
 pub returns-in-None : goal.returns-in-None
 returns-in-None g c =
-    let a = world (g.D.BlockDev.state c.args.data_dev.now) (g.H.BlockDev.state c.args.hash_dev.now) (map g.C.BlockDev.state c.args.data_copies.now) (map g.C.BlockDev.state c.args.hash_copies.now) in
-    let b = world (g.D.BlockDev.state c.args.data_dev.now) (g.H.BlockDev.state c.way_to.new.hash_dev) (map g.C.BlockDev.state c.args.data_copies.now) (map g.C.BlockDev.state c.args.hash_copies.now) in
-    has-read (job c.args.repair.now) a b (g.W.Write.contents c.args.writer.now.inner) (tree-read a (g.H.BlockDev.state c.way_to.new.hash_dev) c.way_to.ensures.read)
+    let j = job c.args.repair.now in
+    noted-read c.way_to.ensures.read
+    (λ h i due.
+    subst (λ (n : ℕ). IsLookedAt j n i [] c.args.image.now c.way_to.new.image) due.0
+    (looked-cut j c.args.row.height i c.args.row.first c.args.image.now c.way_to.new.image c.way_to.ensures.read (row-above c.args.repair.now.shape c.args.row i c.requires.can.valid c.requires.row due.1.0 due.1.1)
+    (rw c.in-None.is at c.in_ok-found.ensures.way)))
 
-pub repair_along-requires-clause-can : goal.repair_along-requires-clause-can
-repair_along-requires-clause-can g c =
-    let a = world (g.D.BlockDev.state c.args.data_dev.now) (g.H.BlockDev.state c.args.hash_dev.now) (map g.C.BlockDev.state c.args.data_copies.now) (map g.C.BlockDev.state c.args.hash_copies.now) in
-    let b = world (g.D.BlockDev.state c.args.data_dev.now) (g.H.BlockDev.state c.way_to.new.hash_dev) (map g.C.BlockDev.state c.args.data_copies.now) (map g.C.BlockDev.state c.args.hash_copies.now) in
-    can-later (job c.args.repair.now) a b (g.W.Write.contents c.args.writer.now.inner) (g.W.Write.contents c.args.writer.now.inner) true
-    (has-read (job c.args.repair.now) a b (g.W.Write.contents c.args.writer.now.inner) (tree-read a (g.H.BlockDev.state c.way_to.new.hash_dev) c.way_to.ensures.read)) c.requires.can
+pub repair_unless_good-requires-clause-can : goal.repair_unless_good-requires-clause-can
+repair_unless_good-requires-clause-can g c = can-read c.way_to.ensures.read c.requires.can
 
-pub repair_along-requires-clause-way : goal.repair_along-requires-clause-way
-repair_along-requires-clause-way g c = rw c.in-Some.is at c.in_ok-found.ensures.way
+pub repair_unless_good-requires-clause-way : goal.repair_unless_good-requires-clause-way
+repair_unless_good-requires-clause-way g c = rw c.in-Some.is at c.in_ok-found.ensures.way
 
 pub returns-in-Some : goal.returns-in-Some
-returns-in-Some g c =
-    let a = world (g.D.BlockDev.state c.args.data_dev.now) (g.H.BlockDev.state c.args.hash_dev.now) (map g.C.BlockDev.state c.args.data_copies.now) (map g.C.BlockDev.state c.args.hash_copies.now) in
-    let b = world (g.D.BlockDev.state c.args.data_dev.now) (g.H.BlockDev.state c.way_to.new.hash_dev) (map g.C.BlockDev.state c.args.data_copies.now) (map g.C.BlockDev.state c.args.hash_copies.now) in
-    let e = world (g.D.BlockDev.state c.repair_along.new.data_dev) (g.H.BlockDev.state c.repair_along.new.hash_dev) (map g.C.BlockDev.state c.repair_along.new.data_copies) (map g.C.BlockDev.state c.repair_along.new.hash_copies) in
-    has-then (job c.args.repair.now) a b e (g.W.Write.contents c.args.writer.now.inner) (g.W.Write.contents c.args.writer.now.inner) (g.W.Write.contents c.repair_along.new.writer.inner) (is_ok c.repair_along.result)
-    (has-read (job c.args.repair.now) a b (g.W.Write.contents c.args.writer.now.inner) (tree-read a (g.H.BlockDev.state c.way_to.new.hash_dev) c.way_to.ensures.read)) c.repair_along.ensures
+returns-in-Some g c = noted-behind c.way_to.ensures.read c.repair_unless_good.ensures

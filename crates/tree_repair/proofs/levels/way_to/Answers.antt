@@ -1,21 +1,22 @@
-use Rattle.std.proofs.Common.{arith, ap}
-use Rattle.tree_shape.specs.Shape.{ShapeRecord, levels}
+use Rattle.std.proofs.Common.{◌≤◌, map, subst, sym}
+use Rattle.std.specs.Prelude.{IfOk}
 use Rattle.verity_format.specs.Image.{tree_sectors}
 use Rattle.tree_repair.specs.Jobs.{job}
-use Rattle.tree_repair.proofs.RowLemmas.{way-down}
+use Rattle.tree_repair.specs.Tries.{IsWayOr}
+use Rattle.tree_repair.specs.Worlds.{IsWorldRead, World, world}
+use Rattle.tree_repair.proofs.RunLemmas.{tree-read}
 use Rattle.tree_repair.proofs.levels.way_to.Goals as goal
 
-pub descend-requires : goal.descend-requires
-descend-requires g c =
-    let same = c.in_ok-path.ensures.shape_is in
-    record {
-      index = omega (arith, c.requires.inside, ap (λ (s : ShapeRecord). s.blocks) same);
-      order = omega (arith, c.levels-top.ensures, c.requires.height, ap levels same);
-      few = omega (arith, c.levels-top.ensures);
-      fits = omega (arith, c.requires.fits, ap tree_sectors same);
-    }
+pub way_on-requires-clause-fits : goal.way_on-requires-clause-fits
+way_on-requires-clause-fits g c = subst (λ (w : World). tree_sectors c.args.repair.now.shape ≤ w.hash_dev.size) (sym c.image.view_is) c.requires.fits
 
-pub returns-in-Ok-None-clause-way : goal.returns-in-Ok-None-clause-way
-returns-in-Ok-None-clause-way g c =
-    way-down (job c.args.repair.now).tree c.in_ok-path.path c.descend.new.self (g.H.BlockDev.state c.args.hash_dev.now) (g.H.BlockDev.state c.descend.new.device) c.args.index c.args.height c.levels-top.result
-    c.requires.height c.in_ok-path.ensures c.levels-top.ensures (rw c.in-Ok-None.field-0-is at c.in-Ok-None.ensures.ok)
+pub returns-clause-read : goal.returns-clause-read
+returns-clause-read g c =
+    let i = c.image.inside in
+    let a = world (g.D.BlockDev.state i.data) (g.H.BlockDev.state i.hash) (map g.C.BlockDev.state i.data_copies.items) (map g.C.BlockDev.state i.hash_copies.items) in
+    let h' = g.H.BlockDev.state c.way_on.new.device in
+    subst (λ (w : World). IsWorldRead w (world a.data_dev h' a.data_copies a.hash_copies)) c.image.view_is (tree-read a h' c.way_on.ensures.read)
+
+pub returns-clause-way : goal.returns-clause-way
+returns-clause-way g c =
+    subst (λ (w : World). IfOk c.way_on.result (IsWayOr (job c.args.repair.now).tree c.args.index c.args.height w.hash_dev (g.H.BlockDev.state c.way_on.new.device))) c.image.view_is c.way_on.ensures.way

@@ -1,14 +1,13 @@
-use Rattle.std.proofs.Common.{◌≡◌, ◌/◌, ℕ, [], true, false, length, map, arith, ap, sym, ◌∙◌, subst}
-use Rattle.std.proofs.lemmas.List.{length-map}
+use Rattle.std.proofs.Common.{◌≡◌, ◌/◌, ℕ, [], true, false, length, map, arith, ap, ◌∙◌, subst}
 use Rattle.tree_path.proofs.lemmas.DeviceLemmas.{only_read-none}
 use Rattle.tree_repair.specs.Mending.{IsPut}
-use Rattle.tree_repair.specs.Sources.{AreIn, AreNotIn, wanted}
+use Rattle.tree_repair.specs.Sources.{AreIn, AreInNone, wanted}
 use Rattle.tree_repair.proofs.SourceLemmas.{each-none, on_err-from}
 use Rattle.tree_repair.proofs.mending.mend.Goals as goal
 
 pub put-requires-clause-inside : goal.put-requires-clause-inside
 put-requires-clause-inside g c =
-    let long : length c.seek_copies.new.block ≡ length c.args.block.now = c.seek_copies.auto.block ∙ c.is_there.auto.block in
+    let long : length c.seek.new.block ≡ length c.args.block.now = c.seek.auto.block ∙ c.is_there.auto.block in
     rw long (record {
       some = c.requires.inside.some;
       whole = c.requires.inside.whole;
@@ -17,11 +16,11 @@ put-requires-clause-inside g c =
 
 pub returns-then-is_there-clause-ok : goal.returns-then-is_there-clause-ok
 returns-then-is_there-clause-ok g c =
-    (c.is_there.new.block, record { read = c.is_there.ensures.read; copies_read = each-none (map g.C.BlockDev.state c.args.copies.now); there = c.is_there.ensures.good c.if-is_there.true })
+    (c.is_there.new.block, record { read = c.is_there.ensures.read; copies_read = each-none (map g.C.BlockDev.state c.args.copies.now.items); there = c.is_there.ensures.good c.if-is_there.true })
 
 pub returns-in-None-clause-ok : goal.returns-in-None-clause-ok
 returns-in-None-clause-ok g c =
-    let cs = map g.C.BlockDev.state c.args.copies.now in
+    let cs = map g.C.BlockDev.state c.args.copies.now.items in
     let s = c.args.sought.now in
     let long : length c.is_there.new.block / 512 ≡ length c.args.block.now / 512 = ap (λ (n : ℕ). n / 512) c.is_there.auto.block in (
       [],
@@ -29,27 +28,26 @@ returns-in-None-clause-ok g c =
         seen = g.B.BlockDev.state c.is_there.new.device;
         read = c.is_there.ensures.read;
         bad = c.is_there.ensures.bad c.if-is_there.false;
-        copies_read = c.seek_copies.ensures.read;
+        copies_read = c.seek.ensures.read;
         beneath_read = only_read-none (g.B.BlockDev.state c.is_there.new.device);
-        none = subst (λ (n : ℕ). AreNotIn cs s.copy_first (wanted c.args.salt.now s.digest n) (length cs)) long
-            (subst (λ (n : ℕ). AreNotIn cs s.copy_first (wanted c.args.salt.now s.digest (length c.is_there.new.block / 512)) n) (sym (length-map c.args.copies.now g.C.BlockDev.state)) c.in-None.ensures.none);
+        none = subst (λ (n : ℕ). AreInNone cs s.copy_first (wanted c.args.salt.now s.digest n)) long c.in-None.ensures.none;
       },
     )
 
 pub returns-in_ok-put-in-Some-clause-ok : goal.returns-in_ok-put-in-Some-clause-ok
 returns-in_ok-put-in-Some-clause-ok g c =
-    let cs = map g.C.BlockDev.state c.args.copies.now in
+    let cs = map g.C.BlockDev.state c.args.copies.now.items in
     let s = c.args.sought.now in
-    let bytes = c.seek_copies.new.block in
+    let bytes = c.seek.new.block in
     let between = g.B.BlockDev.state c.is_there.new.device in
     let long : length c.is_there.new.block / 512 ≡ length c.args.block.now / 512 = ap (λ (n : ℕ). n / 512) c.is_there.auto.block in
-    let same : length c.seek_copies.new.block / 512 ≡ length c.args.block.now / 512 = ap (λ (n : ℕ). n / 512) (c.seek_copies.auto.block ∙ c.is_there.auto.block) in (
+    let same : length c.seek.new.block / 512 ≡ length c.args.block.now / 512 = ap (λ (n : ℕ). n / 512) (c.seek.auto.block ∙ c.is_there.auto.block) in (
       bytes,
       record {
         between = between;
         read = c.is_there.ensures.read;
         bad = c.is_there.ensures.bad c.if-is_there.false;
-        copies_read = c.seek_copies.ensures.read;
+        copies_read = c.seek.ensures.read;
         copy = subst (λ (n : ℕ). AreIn cs s.copy_first (wanted c.args.salt.now s.digest n) c.in-Some.number bytes) long c.in-Some.ensures.found;
         good = (c.in-Some.ensures.found.there between).good;
         put = subst (λ (n : ℕ). IsPut c.args.write between s.first n bytes true (g.B.BlockDev.state c.put.new.device)) same c.in_ok-put-in-Some.ensures;
@@ -58,12 +56,12 @@ returns-in_ok-put-in-Some-clause-ok g c =
 
 pub returns-in_err-put-in-Some-clause-err : goal.returns-in_err-put-in-Some-clause-err
 returns-in_err-put-in-Some-clause-err g c =
-    let cs = map g.C.BlockDev.state c.args.copies.now in
+    let cs = map g.C.BlockDev.state c.args.copies.now.items in
     let s = c.args.sought.now in
-    let bytes = c.seek_copies.new.block in
+    let bytes = c.seek.new.block in
     let between = g.B.BlockDev.state c.is_there.new.device in
     let long : length c.is_there.new.block / 512 ≡ length c.args.block.now / 512 = ap (λ (n : ℕ). n / 512) c.is_there.auto.block in
-    let same : length c.seek_copies.new.block / 512 ≡ length c.args.block.now / 512 = ap (λ (n : ℕ). n / 512) (c.seek_copies.auto.block ∙ c.is_there.auto.block) in
+    let same : length c.seek.new.block / 512 ≡ length c.args.block.now / 512 = ap (λ (n : ℕ). n / 512) (c.seek.auto.block ∙ c.is_there.auto.block) in
     on_err-from c.from_residual.result _ _ c.from_residual.ensures.1 (
       c.in-Some.number,
       (
@@ -72,7 +70,7 @@ returns-in_err-put-in-Some-clause-err g c =
           between = between;
           read = c.is_there.ensures.read;
           bad = c.is_there.ensures.bad c.if-is_there.false;
-          copies_read = c.seek_copies.ensures.read;
+          copies_read = c.seek.ensures.read;
           copy = subst (λ (n : ℕ). AreIn cs s.copy_first (wanted c.args.salt.now s.digest n) c.in-Some.number bytes) long c.in-Some.ensures.found;
           good = (c.in-Some.ensures.found.there between).good;
           put = subst (λ (n : ℕ). IsPut c.args.write between s.first n bytes false (g.B.BlockDev.state c.put.new.device)) same c.in_err-put-in-Some.ensures;

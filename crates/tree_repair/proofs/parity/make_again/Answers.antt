@@ -1,10 +1,15 @@
-use Rattle.std.proofs.Common.{sym, ◌∙◌}
+use Rattle.std.proofs.Common.{List, ℕ, sym, ap, ◌∙◌, inl, inr}
+use Rattle.std.specs.Str.{bytes_eq}
+use Rattle.tree_shape.specs.Digests.{digest}
 use Rattle.tree_path.proofs.lemmas.DeviceLemmas.{only_read-none}
-use Rattle.tree_repair.proofs.ParityLemmas.{read-none}
+use Rattle.tree_repair.specs.Jobs.{job}
+use Rattle.tree_repair.specs.Tries.{trial}
+use Rattle.tree_repair.proofs.TryLemmas.{made-or}
+use Rattle.tree_repair.proofs.RunLemmas.{world-none}
 use Rattle.tree_repair.proofs.parity.make_again.Goals as goal
 
 pub returns-in-None-clause-read : goal.returns-in-None-clause-read
-returns-in-None-clause-read g c = read-none (g.D.BlockDev.state c.args.data_dev.now) (g.H.BlockDev.state c.args.hash_dev.now)
+returns-in-None-clause-read g c = world-none c.args.image.now
 
 pub returns-in-None-clause-parity : goal.returns-in-None-clause-parity
 returns-in-None-clause-parity g c = only_read-none (g.P.BlockDev.state c.args.parity_dev.now)
@@ -14,3 +19,15 @@ restore-requires-clause-index g c = c.in-Some.ensures.inside
 
 pub restore-requires-clause-size : goal.restore-requires-clause-size
 restore-requires-clause-size g c = c.requires.size ∙ sym c.in-Some.ensures.size
+
+pub returns-in-None-clause-vain : goal.returns-in-None-clause-vain
+returns-in-None-clause-vain g c = λ place. inl (c.in-None.ensures place)
+
+pub returns-then-not-back-clause-vain : goal.returns-then-not-back-clause-vain
+returns-then-not-back-clause-vain g c = λ place. inr (c.in-Some.index, (c.in-Some.ensures, inl (c.in_ok-back.ensures.none c.if-not-back.true)))
+
+pub returns-clause-vain : goal.returns-clause-vain
+returns-clause-vain g c =
+    made-or (job c.args.repair.now) c.args.path.now c.args.place.height c.args.place.index
+    (trial c.args.losses.now.layout c.args.losses.now.lost.items c.args.image.now c.restore.new.image (g.P.BlockDev.state c.args.parity_dev.now) (g.P.BlockDev.state c.restore.new.parity_dev))
+    c.in-Some.index c.restore.new.bytes c.is_same.result c.in-Some.ensures (c.in_ok-back.ensures.bytes c.if-not-back.false) (c.is_same.ensures ∙ ap (λ (x : List ℕ). bytes_eq x c.digest_at-expected.result) c.digest.ensures ∙ ap (bytes_eq (digest c.args.repair.now.salt c.restore.new.bytes)) c.digest_at-expected.ensures)

@@ -14,7 +14,7 @@ put-requires-clause-inside g c = record {
 }
 
 pub returns-then-is_there-clause-ok : goal.returns-then-is_there-clause-ok
-returns-then-is_there-clause-ok g c = c.is_there.ensures.read
+returns-then-is_there-clause-ok g c = (c.is_there.ensures.read, (c.is_there.new.block, rw c.requires.size at (c.is_there.ensures.good c.if-is_there.true)))
 
 pub returns-clause-ok : goal.returns-clause-ok
 returns-clause-ok g c = record {

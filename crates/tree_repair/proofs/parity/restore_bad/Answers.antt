@@ -1,58 +1,51 @@
-use Rattle.std.proofs.Common.{[], true, false}
+use Rattle.std.proofs.Common.{refl, subst}
+use Rattle.std.proofs.lemmas.List.{take_all}
 use Rattle.tree_path.proofs.lemmas.DeviceLemmas.{only_read-none, only_read-then}
 use Rattle.tree_repair.specs.Jobs.{job}
-use Rattle.tree_repair.specs.Runs.{world}
-use Rattle.tree_repair.proofs.RunLemmas.{can-later, ended-from, has-ended, has-none, has-then, laid-later, world-none}
+use Rattle.tree_repair.specs.Tries.{AreSought}
+use Rattle.tree_repair.proofs.TryLemmas.{sought-next}
+use Rattle.tree_repair.proofs.RunLemmas.{can-later, ended-from, ends-read, has-none, has-then, laid-later, world-none}
 use Rattle.tree_repair.proofs.parity.restore_bad.Goals as goal
 
 pub returns-in_err-lost-clause-parity : goal.returns-in_err-lost-clause-parity
 returns-in_err-lost-clause-parity g c = only_read-none (g.P.BlockDev.state c.args.parity_dev.now)
 
 pub returns-in_err-lost-clause-run : goal.returns-in_err-lost-clause-run
-returns-in_err-lost-clause-run g c =
-    let old = g.W.Write.contents c.args.writer.now.inner in
-    λ cs es. (let a = world (g.D.BlockDev.state c.args.data_dev.now) (g.H.BlockDev.state c.args.hash_dev.now) cs es in
-    ended-from c.from_residual.result _ (job c.args.repair.now) a a old old c.from_residual.ensures.1 (has-ended (job c.args.repair.now) a a old old [] (world-none a)))
+returns-in_err-lost-clause-run g c = ended-from c.from_residual.result _ c.from_residual.ensures.1 (ends-read (world-none c.args.image.now))
 
 pub each-init : goal.each-init
-each-init g c = record {
-  parity = only_read-none (g.P.BlockDev.state c.args.parity_dev.now);
-  run = λ cs es. has-none (job c.args.repair.now) (world (g.D.BlockDev.state c.args.data_dev.now) (g.H.BlockDev.state c.args.hash_dev.now) cs es) (g.W.Write.contents c.args.writer.now.inner);
-}
+each-init g c = record { sought = (refl, refl); parity = only_read-none (g.P.BlockDev.state c.args.parity_dev.now); run = has-none }
 
 pub restore_block_at-requires-clause-can : goal.restore_block_at-requires-clause-can
-restore_block_at-requires-clause-can g c =
-    can-later (job c.args.repair.now) (world (g.D.BlockDev.state c.args.data_dev.now) (g.H.BlockDev.state c.args.hash_dev.now) [] []) (world (g.D.BlockDev.state c.each.data_dev) (g.H.BlockDev.state c.each.hash_dev) [] [])
-    (g.W.Write.contents c.args.writer.now.inner) (g.W.Write.contents c.each.writer.inner) true (c.each.invariant.run [] []) c.requires.can
+restore_block_at-requires-clause-can g c = can-later c.each.invariant.run c.requires.can
 
 pub restore_block_at-requires-clause-laid : goal.restore_block_at-requires-clause-laid
-restore_block_at-requires-clause-laid g c =
-    laid-later c.args.layout.now (job c.args.repair.now) (world (g.D.BlockDev.state c.args.data_dev.now) (g.H.BlockDev.state c.args.hash_dev.now) [] []) (world (g.D.BlockDev.state c.each.data_dev) (g.H.BlockDev.state c.each.hash_dev) [] [])
-    (g.W.Write.contents c.args.writer.now.inner) (g.W.Write.contents c.each.writer.inner) true (c.each.invariant.run [] []) c.requires.laid
+restore_block_at-requires-clause-laid g c = laid-later c.each.invariant.run c.requires.laid
 
 pub each-preserved : goal.each-preserved
 each-preserved g c = record {
+  sought = sought-next (job c.args.repair.now) c.args.layout.now c.in_ok-lost.lost.items c.args.blocks.now c.each.bad-index _ c.args.image.now c.each.image c.restore_block_at.new.image
+      (g.P.BlockDev.state c.args.parity_dev.now) (g.P.BlockDev.state c.each.parity_dev) (g.P.BlockDev.state c.restore_block_at.new.parity_dev) c.in_ok-back.back c.each-test.true c.each.invariant.sought c.in_ok-back.ensures.sought;
   parity = only_read-then c.each.invariant.parity c.restore_block_at.ensures.parity;
-  run = λ cs es. has-then (job c.args.repair.now) (world (g.D.BlockDev.state c.args.data_dev.now) (g.H.BlockDev.state c.args.hash_dev.now) cs es)
-      (world (g.D.BlockDev.state c.each.data_dev) (g.H.BlockDev.state c.each.hash_dev) cs es) (world (g.D.BlockDev.state c.restore_block_at.new.data_dev) (g.H.BlockDev.state c.restore_block_at.new.hash_dev) cs es)
-      (g.W.Write.contents c.args.writer.now.inner) (g.W.Write.contents c.each.writer.inner) (g.W.Write.contents c.restore_block_at.new.writer.inner) true
-      (c.each.invariant.run cs es) (c.in_ok-back.ensures.run cs es);
+  run = has-then c.each.invariant.run c.in_ok-back.ensures.run;
 }
 
 pub returns-in_err-back-clause-parity : goal.returns-in_err-back-clause-parity
 returns-in_err-back-clause-parity g c = only_read-then c.each.invariant.parity c.restore_block_at.ensures.parity
 
 pub returns-in_err-back-clause-run : goal.returns-in_err-back-clause-run
-returns-in_err-back-clause-run g c =
-    λ cs es. (let a = world (g.D.BlockDev.state c.args.data_dev.now) (g.H.BlockDev.state c.args.hash_dev.now) cs es in
-    let b = world (g.D.BlockDev.state c.each.data_dev) (g.H.BlockDev.state c.each.hash_dev) cs es in
-    let e = world (g.D.BlockDev.state c.restore_block_at.new.data_dev) (g.H.BlockDev.state c.restore_block_at.new.hash_dev) cs es in
-    ended-from c.from_residual-in_err-back.result _ (job c.args.repair.now) a e (g.W.Write.contents c.args.writer.now.inner) (g.W.Write.contents c.restore_block_at.new.writer.inner) c.from_residual-in_err-back.ensures.1
-    (has-then (job c.args.repair.now) a b e (g.W.Write.contents c.args.writer.now.inner) (g.W.Write.contents c.each.writer.inner) (g.W.Write.contents c.restore_block_at.new.writer.inner) false
-    (c.each.invariant.run cs es) (c.in_err-back.ensures.run cs es)))
+returns-in_err-back-clause-run g c = ended-from c.from_residual-in_err-back.result _ c.from_residual-in_err-back.ensures.1 (has-then c.each.invariant.run c.in_err-back.ensures.run)
 
 pub returns-clause-parity : goal.returns-clause-parity
 returns-clause-parity g c = c.each.invariant.parity
 
 pub returns-clause-run : goal.returns-clause-run
-returns-clause-run g c = λ cs es. c.each.invariant.run cs es
+returns-clause-run g c = c.each.invariant.run
+
+pub returns-clause-sought : goal.returns-clause-sought
+returns-clause-sought g c = record {
+  lost = c.in_ok-lost.lost.items;
+  are = c.in_ok-lost.ensures;
+  sought = subst (λ xs. AreSought (job c.args.repair.now) c.args.layout.now c.in_ok-lost.lost.items xs c.args.image.now c.each.image (g.P.BlockDev.state c.args.parity_dev.now) (g.P.BlockDev.state c.each.parity_dev))
+      (take_all c.each.bad-index c.args.blocks.now c.each-test.false) c.each.invariant.sought;
+}

@@ -1,15 +1,17 @@
-use Rattle.std.proofs.Common.{true, map}
+use Rattle.std.proofs.Common.{true}
 use Rattle.verity_format.specs.Blocks.{IsOnlyRead}
 use Rattle.tree_repair.specs.Jobs.{job}
-use Rattle.tree_repair.specs.Runs.{HasRun, world}
+use Rattle.tree_repair.specs.Passes.{EndsInPass}
+use Rattle.tree_repair.specs.Runs.{HasRun}
 use Rattle.tree_repair.proofs.passes.run_passes.Given as goal
 
 -- the passes so far
 abbrev pub invariant-passes : goal.invariant-passes
 invariant-passes g l = record {
   parity : IsOnlyRead (g.P.BlockDev.state l.fn.parity_dev) (g.P.BlockDev.state l.parity_dev);
-  run : HasRun (job l.fn.repair)
-      (world (g.D.BlockDev.state l.fn.data_dev) (g.H.BlockDev.state l.fn.hash_dev) (map g.C.BlockDev.state l.fn.data_copies) (map g.C.BlockDev.state l.fn.hash_copies))
-      (world (g.D.BlockDev.state l.data_dev) (g.H.BlockDev.state l.hash_dev) (map g.C.BlockDev.state l.data_copies) (map g.C.BlockDev.state l.hash_copies))
-      (g.W.Write.contents l.fn.writer.inner) (g.W.Write.contents l.writer.inner) true;
+  run : HasRun (job l.fn.repair) l.fn.image l.image (g.W.Write.contents l.fn.writer.inner) (g.W.Write.contents l.writer.inner) true;
+  asks : EndsInPass (job l.fn.repair) l.fn.layout l.fn.image l.image (g.P.BlockDev.state l.fn.parity_dev) (g.P.BlockDev.state l.parity_dev);
 }
+
+abbrev pub decreases-passes : goal.decreases-passes
+decreases-passes g l = l.left

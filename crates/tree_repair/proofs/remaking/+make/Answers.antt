@@ -4,13 +4,13 @@ use Rattle.tree_shape.proofs.lemmas.ShapeFactLemmas.{levels-few}
 use Rattle.hash_tree.specs.Tree.{filled}
 use Rattle.tree_repair.specs.Remaking.{ground}
 use Rattle.tree_repair.specs.Runs.{size_at}
-use Rattle.tree_repair.proofs.MakeLemmas.{above, block-next, digests, made-all, made-none, none-yet, over-before, read-none, read-then}
+use Rattle.tree_repair.proofs.MakeLemmas.{above, block-next, both-none, both-then, digests, made-all, made-none, none-yet, over-before}
 use Rattle.tree_repair.proofs.remaking.+make.Goals as goal
 
 pub returns-then-steps-eq0-clause-made : goal.returns-then-steps-eq0-clause-made
 returns-then-steps-eq0-clause-made g t c = λ ok steady steadily.
-    let here = ground c.args.repair.now.shape c.args.repair.now.salt (g.D.BlockDev.state c.args.data_dev.now) (g.H.BlockDev.state c.args.hash_dev.now) c.args.from in
-    c.read_at.ensures.stands ok steady steadily ∙ sym (made-none here c.args.steps c.args.number c.if-steps-eq0.true)
+    let here = ground c.args.repair.now.shape c.args.repair.now.salt (c.args.image.now.data_dev) (c.args.image.now.hash_dev) c.args.making.from in
+    c.read_at.ensures.stands ok steady steadily ∙ sym (made-none here c.args.making.steps c.args.making.number c.if-steps-eq0.true)
 
 pub overflow_add-height : goal.overflow_add-height
 overflow_add-height g t c = omega (arith, c.requires.high, levels-few c.args.repair.now.shape c.requires.have.valid, c.if-steps-eq0.false)
@@ -18,50 +18,48 @@ overflow_add-height g t c = omega (arith, c.requires.high, levels-few c.args.rep
 pub each-init : goal.each-init
 each-init g t c =
     let s = c.args.repair.now.shape in
-    let d = g.D.BlockDev.state c.args.data_dev.now in
-    let h = g.H.BlockDev.state c.args.hash_dev.now in
-    let here = ground s c.args.repair.now.salt d h c.args.from in
-    let some : 0 < c.args.steps = omega (arith, c.if-steps-eq0.false) in
-    let long : length c.args.block.now ≡ s.hash_block = c.requires.size ∙ ap (size_at s) (above c.args.from c.args.steps some) in
+    let d = c.args.image.now.data_dev in
+    let h = c.args.image.now.hash_dev in
+    let here = ground s c.args.repair.now.salt d h c.args.making.from in
+    let some : 0 < c.args.making.steps = omega (arith, c.if-steps-eq0.false) in
+    let long : length c.args.block.now ≡ s.hash_block = c.requires.size ∙ ap (size_at s) (above c.args.making.from c.args.making.steps some) in
     record {
-      read = read-none d h;
-      written = λ steady steadily. c.fill.ensures.after (λ y h. h) ∙ ap (λ (n : ℕ). replicate n 0) long ∙ sym (none-yet here (c.args.steps - 1) c.children_of-beneath.result.first s.hash_block);
+      read = both-none c.args.image.now;
+      written = λ steady steadily. c.fill.ensures.after (λ y h. h) ∙ ap (λ (n : ℕ). replicate n 0) long ∙ sym (none-yet here (c.args.making.steps - 1) c.children_of-beneath.result.first s.hash_block);
     }
 
 pub returns-then-not-make-clause-read : goal.returns-then-not-make-clause-read
-returns-then-not-make-clause-read g t c =
-    read-then (g.D.BlockDev.state c.args.data_dev.now) (g.H.BlockDev.state c.args.hash_dev.now) (g.D.BlockDev.state c.each.data_dev) (g.H.BlockDev.state c.each.hash_dev)
-    (g.D.BlockDev.state c.make.new.data_dev) (g.H.BlockDev.state c.make.new.hash_dev) c.each.invariant.read c.make.ensures.read
+returns-then-not-make-clause-read g t c = both-then c.args.image.now c.each.image c.make.new.image c.each.invariant.read c.make.ensures.read
 
 pub each-preserved : goal.each-preserved
 each-preserved g t c =
     let s = c.args.repair.now.shape in
     let salt = c.args.repair.now.salt in
-    let d = g.D.BlockDev.state c.args.data_dev.now in
-    let h = g.H.BlockDev.state c.args.hash_dev.now in
-    let d1 = g.D.BlockDev.state c.each.data_dev in
-    let h1 = g.H.BlockDev.state c.each.hash_dev in
-    let here = ground s salt d h c.args.from in
+    let d = c.args.image.now.data_dev in
+    let h = c.args.image.now.hash_dev in
+    let d1 = c.each.image.data_dev in
+    let h1 = c.each.image.hash_dev in
+    let here = ground s salt d h c.args.making.from in
     let first = c.children_of-beneath.result.first in
     let slot = c.each.slot in
-    let so_far : List ℕ = filled s.hash_block (digests here (c.args.steps - 1) first slot) in
+    let so_far : List ℕ = filled s.hash_block (digests here (c.args.making.steps - 1) first slot) in
     record {
-      read = read-then d h d1 h1 (g.D.BlockDev.state c.make.new.data_dev) (g.H.BlockDev.state c.make.new.hash_dev) c.each.invariant.read c.make.ensures.read;
+      read = both-then c.args.image.now c.each.image c.make.new.image c.each.invariant.read c.make.ensures.read;
       written = λ steady steadily.
-          let child = over-before s salt d h d1 h1 c.each.invariant.read c.args.from (c.args.steps - 1) (first + slot) c.make.new.block (c.make.ensures.made c.if-not-make.false) steady steadily in
+          let child = over-before s salt d h d1 h1 c.each.invariant.read.devices c.args.making.from (c.args.making.steps - 1) (first + slot) c.make.new.block (c.make.ensures.made c.if-not-make.false) steady steadily in
           c.put_digest.ensures
           ∙ ap (λ (b : List ℕ). take (32 * slot) b ++ c.digest.result ++ drop (32 * slot + 32) b) (c.each.invariant.written steady steadily)
           ∙ ap (λ (x : List ℕ). take (32 * slot) so_far ++ x ++ drop (32 * slot + 32) so_far) (c.digest.ensures ∙ ap (digest salt) child)
-          ∙ block-next here (c.args.steps - 1) first s.hash_block slot (first + slot) refl;
+          ∙ block-next here (c.args.making.steps - 1) first s.hash_block slot (first + slot) refl;
     }
 
 pub returns-clause-made : goal.returns-clause-made
 returns-clause-made g t c = λ ok steady steadily.
     let s = c.args.repair.now.shape in
-    let here = ground s c.args.repair.now.salt (g.D.BlockDev.state c.args.data_dev.now) (g.H.BlockDev.state c.args.hash_dev.now) c.args.from in
+    let here = ground s c.args.repair.now.salt (c.args.image.now.data_dev) (c.args.image.now.hash_dev) c.args.making.from in
     let first = c.children_of-beneath.result.first in
-    let some : 0 < c.args.steps = omega (arith, c.if-steps-eq0.false) in
+    let some : 0 < c.args.making.steps = omega (arith, c.if-steps-eq0.false) in
     let all : c.each.slot ≡ c.children_of-beneath.result.count = omega (arith, c.each-test.false, c.each.auto.slot-end) in
     c.each.invariant.written steady steadily
-    ∙ ap (λ (k : ℕ). filled s.hash_block (digests here (c.args.steps - 1) first k)) all
-    ∙ sym (made-all here c.args.steps c.args.number first c.children_of-beneath.result.count some c.children_of-beneath.ensures.first c.children_of-beneath.ensures.count)
+    ∙ ap (λ (k : ℕ). filled s.hash_block (digests here (c.args.making.steps - 1) first k)) all
+    ∙ sym (made-all here c.args.making.steps c.args.making.number first c.children_of-beneath.result.count some c.children_of-beneath.ensures.first c.children_of-beneath.ensures.count)

@@ -1,14 +1,23 @@
-use Rattle.std.proofs.Common.{◌≡◌, ◌-◌, suc, ap, ◌∙◌, arith}
+use Rattle.std.proofs.Common.{◌≡◌, ◌≤◌, ◌-◌, IsTrue, map, suc, ap, refl, subst, sym, ◌∙◌, arith}
+use Rattle.verity_format.specs.Image.{data_sectors, tree_sectors}
 use Rattle.tree_path.proofs.lemmas.DeviceLemmas.{only_read-none}
-use Rattle.tree_repair.specs.Remaking.{count_at}
+use Rattle.tree_repair.specs.Grounds.{IsOverIn, stands_in}
+use Rattle.tree_repair.specs.Remaking.{IsSure, count_at}
 use Rattle.tree_repair.specs.Runs.{size_at}
+use Rattle.tree_repair.specs.Worlds.{AreBothRead, World, world}
 use Rattle.tree_repair.proofs.remaking.read_at.Goals as goal
+
+pub read_data-requires-clause-fits : goal.read_data-requires-clause-fits
+read_data-requires-clause-fits g c = subst (λ (w : World). data_sectors c.args.shape.now ≤ w.data_dev.size) (sym c.image.view_is) c.requires.have.data_fits
 
 pub read_data-requires-clause-inside : goal.read_data-requires-clause-inside
 read_data-requires-clause-inside g c = omega (arith, c.requires.inside, ap (count_at c.args.shape.now) c.if-height-eq0.true)
 
 pub read_data-requires-clause-size : goal.read_data-requires-clause-size
 read_data-requires-clause-size g c = c.requires.size ∙ ap (size_at c.args.shape.now) c.if-height-eq0.true
+
+pub read_hash-requires-clause-fits : goal.read_hash-requires-clause-fits
+read_hash-requires-clause-fits g c = subst (λ (w : World). tree_sectors c.args.shape.now ≤ w.hash_dev.size) (sym c.image.view_is) c.requires.have.tree_fits
 
 pub read_hash-requires-clause-inside : goal.read_hash-requires-clause-inside
 read_hash-requires-clause-inside g c =
@@ -21,21 +30,36 @@ read_hash-requires-clause-size g c =
     c.requires.size ∙ ap (size_at c.args.shape.now) some
 
 pub returns-then-height-eq0-clause-read : goal.returns-then-height-eq0-clause-read
-returns-then-height-eq0-clause-read g c = record { data_read = c.read_data.ensures.read; hash_read = only_read-none (g.H.BlockDev.state c.args.hash_dev.now) }
+returns-then-height-eq0-clause-read g c =
+    let i = c.image.inside in
+    let a = world (g.D.BlockDev.state i.data) (g.H.BlockDev.state i.hash) (map g.C.BlockDev.state i.data_copies.items) (map g.C.BlockDev.state i.hash_copies.items) in
+    let b = world (g.D.BlockDev.state c.read_data.new.data_dev) a.hash_dev a.data_copies a.hash_copies in
+    subst (λ (w : World). AreBothRead w b) c.image.view_is
+    (record { devices = record { data_read = c.read_data.ensures.read; hash_read = only_read-none a.hash_dev }; data_copies_are = refl; hash_copies_are = refl })
 
 pub returns-then-height-eq0-clause-stands : goal.returns-then-height-eq0-clause-stands
-returns-then-height-eq0-clause-stands g c = rw c.if-height-eq0.true (λ ok steady steadily. c.read_data.ensures.stands ok steady)
+returns-then-height-eq0-clause-stands g c =
+    subst (λ (w : World). IsTrue c.read_data.result → IsOverIn w (stands_in c.args.shape.now w c.args.height c.args.number) c.read_data.new.block) c.image.view_is
+    (rw c.if-height-eq0.true (λ ok steady steadily. c.read_data.ensures.stands ok steady))
 
 pub returns-then-height-eq0-clause-sure : goal.returns-then-height-eq0-clause-sure
-returns-then-height-eq0-clause-sure g c = λ never none. c.read_data.ensures.sure never
+returns-then-height-eq0-clause-sure g c =
+    subst (λ (w : World). IsSure w.data_dev w.hash_dev c.read_data.result) c.image.view_is (λ never none. c.read_data.ensures.sure never)
 
 pub returns-clause-read : goal.returns-clause-read
-returns-clause-read g c = record { data_read = only_read-none (g.D.BlockDev.state c.args.data_dev.now); hash_read = c.read_hash.ensures.read }
+returns-clause-read g c =
+    let i = c.image.inside in
+    let a = world (g.D.BlockDev.state i.data) (g.H.BlockDev.state i.hash) (map g.C.BlockDev.state i.data_copies.items) (map g.C.BlockDev.state i.hash_copies.items) in
+    let b = world a.data_dev (g.H.BlockDev.state c.read_hash.new.hash_dev) a.data_copies a.hash_copies in
+    subst (λ (w : World). AreBothRead w b) c.image.view_is
+    (record { devices = record { data_read = only_read-none a.data_dev; hash_read = c.read_hash.ensures.read }; data_copies_are = refl; hash_copies_are = refl })
 
 pub returns-clause-stands : goal.returns-clause-stands
 returns-clause-stands g c =
     let some : c.args.height ≡ suc (c.args.height - 1) = omega (arith, c.if-height-eq0.false) in
-    rw some (λ ok steady steadily. c.read_hash.ensures.stands ok steadily)
+    subst (λ (w : World). IsTrue c.read_hash.result → IsOverIn w (stands_in c.args.shape.now w c.args.height c.args.number) c.read_hash.new.block) c.image.view_is
+    (rw some (λ ok steady steadily. c.read_hash.ensures.stands ok steadily))
 
 pub returns-clause-sure : goal.returns-clause-sure
-returns-clause-sure g c = λ never none. c.read_hash.ensures.sure none
+returns-clause-sure g c =
+    subst (λ (w : World). IsSure w.data_dev w.hash_dev c.read_hash.result) c.image.view_is (λ never none. c.read_hash.ensures.sure none)

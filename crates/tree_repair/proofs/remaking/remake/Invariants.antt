@@ -1,17 +1,17 @@
 use Rattle.std.proofs.Common.{◌≤◌, ◌+◌, ℕ}
 use Rattle.tree_path.specs.Path.{digest_on}
-use Rattle.verity_format.specs.Blocks.{AreOnlyRead}
 use Rattle.tree_repair.specs.Remaking.{IsUnlike, ground, made_on}
+use Rattle.tree_repair.specs.Worlds.{AreBothRead}
 use Rattle.tree_repair.proofs.remaking.remake.Given as goal
 
 -- it can't be made from the heights so far
 abbrev pub invariant-heights : goal.invariant-heights
 invariant-heights g l = record {
   high : l.from ≤ l.fn.level + 1;
-  read : AreOnlyRead (g.D.BlockDev.state l.fn.data_dev) (g.H.BlockDev.state l.fn.hash_dev) (g.D.BlockDev.state l.data_dev) (g.H.BlockDev.state l.hash_dev);
+  read : AreBothRead l.fn.image l.image;
   none : (k : ℕ) → l.from ≤ k → k ≤ l.fn.level
-      → IsUnlike l.fn.repair.salt (g.D.BlockDev.state l.fn.data_dev) (g.H.BlockDev.state l.fn.hash_dev) (digest_on l.fn.path l.fn.index (l.fn.level + 1))
-      (made_on (ground l.fn.repair.shape l.fn.repair.salt (g.D.BlockDev.state l.fn.data_dev) (g.H.BlockDev.state l.fn.hash_dev) k) l.fn.level l.fn.index);
+      → IsUnlike l.fn.repair.salt l.fn.image.data_dev l.fn.image.hash_dev (digest_on l.fn.path l.fn.index (l.fn.level + 1))
+      (made_on (ground l.fn.repair.shape l.fn.repair.salt l.fn.image.data_dev l.fn.image.hash_dev k) l.fn.level l.fn.index);
 }
 
 abbrev pub decreases-heights : goal.decreases-heights

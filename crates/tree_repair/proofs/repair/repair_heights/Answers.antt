@@ -1,21 +1,19 @@
-use Rattle.std.proofs.Common.{true, false, map, arith}
+use Rattle.std.proofs.Common.{ℕ, List, length, ap, refl, ◌∙◌, arith, inl, inr}
+use Rattle.std.proofs.lemmas.Bool.{cases_lt}
+use Rattle.std.proofs.lemmas.List.{length-replicate}
 use Rattle.tree_shape.proofs.lemmas.ShapeFactLemmas.{levels-few}
-use Rattle.tree_repair.specs.Jobs.{job}
-use Rattle.tree_repair.specs.Runs.{world}
-use Rattle.tree_repair.proofs.RunLemmas.{can-later, has-none, has-then, ended-from}
+use Rattle.tree_repair.proofs.PassLemmas.{noted-ends, noted-fewer, noted-from, noted-none, noted-not, noted-then}
+use Rattle.tree_repair.proofs.RunLemmas.{can-later, ends-read, world-none}
 use Rattle.tree_repair.proofs.repair.repair_heights.Goals as goal
 
+pub returns-in_err-room : goal.returns-in_err-room
+returns-in_err-room g c = noted-from c.from_residual.result _ c.from_residual.ensures.1 (noted-not (ends-read (world-none c.args.image.now)) refl)
+
 pub heights-init : goal.heights-init
-heights-init g c = record {
-  low = omega (arith, c.levels-levels.ensures.value);
-  run = has-none (job c.args.repair.now) (world (g.D.BlockDev.state c.args.data_dev.now) (g.H.BlockDev.state c.args.hash_dev.now) (map g.C.BlockDev.state c.args.data_copies.now) (map g.C.BlockDev.state c.args.hash_copies.now)) (g.W.Write.contents c.args.writer.now.inner);
-}
+heights-init g c = record { low = omega (arith, c.levels-levels.ensures.value); run = noted-none (λ h i due. omega (arith, due.0, due.1.0, c.levels-levels.ensures.value)) }
 
 pub repair_height-requires-clause-can : goal.repair_height-requires-clause-can
-repair_height-requires-clause-can g c =
-    let a = world (g.D.BlockDev.state c.args.data_dev.now) (g.H.BlockDev.state c.args.hash_dev.now) (map g.C.BlockDev.state c.args.data_copies.now) (map g.C.BlockDev.state c.args.hash_copies.now) in
-    let b = world (g.D.BlockDev.state c.heights.data_dev) (g.H.BlockDev.state c.heights.hash_dev) (map g.C.BlockDev.state c.heights.data_copies) (map g.C.BlockDev.state c.heights.hash_copies) in
-    can-later (job c.args.repair.now) a b (g.W.Write.contents c.args.writer.now.inner) (g.W.Write.contents c.heights.writer.inner) true c.heights.invariant.run c.requires
+repair_height-requires-clause-can g c = can-later c.heights.invariant.run.run c.requires
 
 pub repair_height-requires-clause-height : goal.repair_height-requires-clause-height
 repair_height-requires-clause-height g c = omega (arith, c.heights.invariant.low, c.heights-test.true)
@@ -23,25 +21,24 @@ repair_height-requires-clause-height g c = omega (arith, c.heights.invariant.low
 pub repair_height-requires-clause-few : goal.repair_height-requires-clause-few
 repair_height-requires-clause-few g c = omega (arith, c.heights.invariant.low, c.heights-test.true, levels-few c.args.repair.now.shape c.requires.valid)
 
+pub repair_height-requires-clause-room : goal.repair_height-requires-clause-room
+repair_height-requires-clause-room g c =
+    omega (arith, c.heights.auto.memory, ap (λ (l : List ℕ). length l) (c.as_mut_slice-memory.ensures.value ∙ c.in_ok-room.ensures) ∙ length-replicate {A = ℕ} 65536 0)
+
 pub heights-preserved : goal.heights-preserved
-heights-preserved g c =
-    let a = world (g.D.BlockDev.state c.args.data_dev.now) (g.H.BlockDev.state c.args.hash_dev.now) (map g.C.BlockDev.state c.args.data_copies.now) (map g.C.BlockDev.state c.args.hash_copies.now) in
-    let b = world (g.D.BlockDev.state c.heights.data_dev) (g.H.BlockDev.state c.heights.hash_dev) (map g.C.BlockDev.state c.heights.data_copies) (map g.C.BlockDev.state c.heights.hash_copies) in
-    let e = world (g.D.BlockDev.state c.repair_height.new.data_dev) (g.H.BlockDev.state c.repair_height.new.hash_dev) (map g.C.BlockDev.state c.repair_height.new.data_copies) (map g.C.BlockDev.state c.repair_height.new.hash_copies) in
-    record {
-      low = omega (arith, c.heights.invariant.low);
-      run = has-then (job c.args.repair.now) a b e (g.W.Write.contents c.args.writer.now.inner) (g.W.Write.contents c.heights.writer.inner) (g.W.Write.contents c.repair_height.new.writer.inner) true
-          c.heights.invariant.run c.in_ok-repair_height.ensures;
-    }
+heights-preserved g c = record {
+  low = omega (arith, c.heights.invariant.low);
+  run = noted-then c.heights.invariant.run c.in_ok-repair_height.ensures
+      (λ h i due.
+      elim (cases_lt h c.heights.height) [
+        | inl below ↦ inr (omega (arith, below, due.0, c.heights-test.true), (omega arith, due.1.1))
+        | inr above ↦ inl (above, due.1)
+      ]);
+}
 
 pub returns-in_err-repair_height : goal.returns-in_err-repair_height
 returns-in_err-repair_height g c =
-    let a = world (g.D.BlockDev.state c.args.data_dev.now) (g.H.BlockDev.state c.args.hash_dev.now) (map g.C.BlockDev.state c.args.data_copies.now) (map g.C.BlockDev.state c.args.hash_copies.now) in
-    let b = world (g.D.BlockDev.state c.heights.data_dev) (g.H.BlockDev.state c.heights.hash_dev) (map g.C.BlockDev.state c.heights.data_copies) (map g.C.BlockDev.state c.heights.hash_copies) in
-    let e = world (g.D.BlockDev.state c.repair_height.new.data_dev) (g.H.BlockDev.state c.repair_height.new.hash_dev) (map g.C.BlockDev.state c.repair_height.new.data_copies) (map g.C.BlockDev.state c.repair_height.new.hash_copies) in
-    ended-from c.from_residual.result _ (job c.args.repair.now) a e (g.W.Write.contents c.args.writer.now.inner) (g.W.Write.contents c.repair_height.new.writer.inner) c.from_residual.ensures.1
-    (has-then (job c.args.repair.now) a b e (g.W.Write.contents c.args.writer.now.inner) (g.W.Write.contents c.heights.writer.inner) (g.W.Write.contents c.repair_height.new.writer.inner) false
-    c.heights.invariant.run c.in_err-repair_height.ensures)
+    noted-from c.from_residual-in_err-repair_height.result _ c.from_residual-in_err-repair_height.ensures.1 (noted-ends c.heights.invariant.run c.in_err-repair_height.ensures)
 
 pub returns : goal.returns
-returns g c = c.heights.invariant.run
+returns g c = noted-fewer c.heights.invariant.run (λ h i due. (omega (arith, c.heights-test.false), due.1))

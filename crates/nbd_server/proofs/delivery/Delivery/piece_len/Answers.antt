@@ -1,4 +1,4 @@
-use Rattle.std.proofs.Common.{◌≡◌, ◌<◌, ◌≤◌, ◌+◌, arith}
+use Rattle.std.proofs.Common.{◌<◌, ◌≤◌, ◌+◌, arith}
 use Rattle.nbd_server.proofs.DeliveryLemmas.{single-touched}
 use Rattle.nbd_server.proofs.delivery.Delivery.piece_len.Goals as goal
 

@@ -7,9 +7,9 @@ use Rattle.stack_meaning.specs.Found.{FoundRecord}
 use Rattle.stack_meaning.specs.Meaning.{Said, said_at}
 use Rattle.stack_meaning.specs.Reading.{Gets, Reads, MeetVerity, IsPlain, buffer_answer}
 use Rattle.stack_meaning.specs.Stops.{ReadStops}
-use Rattle.stack_lines.specs.Touches.{NamesOneOf, leaves_of}
+use Rattle.stack_lines.specs.Touches.{NamesOneOf, failures_behind, leaves_of}
 use Rattle.stack_lines.specs.Budgets.{ReadsAtMost, budget}
-use Rattle.stack_lines.proofs.lemmas.TouchLemmas.{touches-as}
+use Rattle.stack_lines.proofs.lemmas.AskLemmas.{EndAlike, asks-as}
 use Rattle.stack_engine.specs.Stacks.{StackRecord, AnswerRecord}
 use Rattle.stack_engine.specs.Pieces.{EachPiece, stack_with}
 use Rattle.stack_engine.proofs.CachedLemmas.{cached-checked}
@@ -31,23 +31,23 @@ count g c =
 -- what the read did, of the stack's own devices
 reads : (g : given.Over) (c : goal.Joined-read_device g)
     → Reads c.self.inside.config (mapped c.args.d.0) c.args.first c.args.n
-    (record { old = map g.D.BlockDev.state c.self.inside.reader.devices.items; new = map g.D.BlockDev.state c.read_device.new.reader.devices.items; before = []; after = c.read_device.new.found.items })
+    (record { old = map g.D.BlockDev.state c.self.inside.backing.devices.items; new = map g.D.BlockDev.state c.read_device.new.backing.devices.items; before = []; after = c.read_device.new.found.items })
     (buffer_answer c.read_device.result c.read_device.new.out)
 reads g c =
     let state = g.D.BlockDev.state in
     let R : ℕ → List FoundRecord → Type 0 = λ k u.
     Reads c.self.inside.config (mapped c.args.d.0) c.args.first k
-    (record { old = map state c.self.inside.reader.devices.items; new = map state c.read_device.new.reader.devices.items; before = u; after = c.read_device.new.found.items })
+    (record { old = map state c.self.inside.backing.devices.items; new = map state c.read_device.new.backing.devices.items; before = u; after = c.read_device.new.found.items })
     (buffer_answer c.read_device.result c.read_device.new.out) in
     subst (λ k. R k []) (count g c) (subst (R (length c.as_mut_slice.result.now / 512)) c.new-chains.ensures.items c.read_device.ensures.reads)
 
 piece : (g : given.Over) (c : goal.Joined-read_device g)
-    → EachPiece c.args.self.now c.args.d.0 c.args.first c.args.n c.match-read_device.result (stack_with c.self.inside.config (map g.D.BlockDev.state c.read_device.new.reader.devices.items) c.read_device.new.reader.cache.blocks)
+    → EachPiece c.args.self.now c.args.d.0 c.args.first c.args.n c.match-read_device.result (stack_with c.self.inside.config (map g.D.BlockDev.state c.read_device.new.backing.devices.items) c.read_device.new.backing.cache.blocks)
 piece g c =
     let state = g.D.BlockDev.state in
     let config = c.self.inside.config in
-    let old = map state c.self.inside.reader.devices.items in
-    let new = map state c.read_device.new.reader.devices.items in
+    let old = map state c.self.inside.backing.devices.items in
+    let new = map state c.read_device.new.backing.devices.items in
     let wanted = piece_expected config (mapped c.args.d.0) c.args.first c.args.n in
     let held : length c.read_device.new.out ≡ c.in-Ok.bytes.len = c.read_device.auto.out ∙ ap (λ (l : List ℕ). length l) c.as_mut_slice.ensures.value ∙ sym c.in-Ok.bytes.ok.0 in
     let Is : Result Unit IoFault → Type 0 = λ r.
@@ -65,8 +65,13 @@ piece g c =
       | in-Err-read_device w ↦ subst Names (sym w.result-is) (subst (λ (r : Result Unit IoFault). IfErr r (NamesOneOf these)) w.in-Err-read_device.is c.read_device.ensures.touches.fault)
       | in-Ok-read_device w ↦ subst Names (sym w.result-is) tt
     ] in
-    subst (λ (w : StackRecord). EachPiece w c.args.d.0 c.args.first c.args.n c.match-read_device.result (stack_with config new c.read_device.new.reader.cache.blocks)) c.self.view_is
-    (each-piece config c.args.d.0 c.args.first c.args.n c.match-read_device.result got (touches-as c.match-read_device.result fault c.read_device.ensures.touches) {before = c.self.inside.reader.cache.blocks} {after = c.read_device.new.reader.cache.blocks} c.read_device.ensures.cached.capacity)
+    let Alike : Result AnswerRecord IoFault → Type 0 = λ r. EndAlike r c.read_device.result in
+    let alike : Alike c.match-read_device.result = elim c.match-read_device.branch [
+      | in-Err-read_device w ↦ subst Alike (sym w.result-is) (λ failures. sym (ap (λ (r : Result Unit IoFault). failures_behind r failures) w.in-Err-read_device.is))
+      | in-Ok-read_device w ↦ subst Alike (sym w.result-is) (λ failures. sym (ap (λ (r : Result Unit IoFault). failures_behind r failures) w.in-Ok-read_device.is))
+    ] in
+    subst (λ (w : StackRecord). EachPiece w c.args.d.0 c.args.first c.args.n c.match-read_device.result (stack_with config new c.read_device.new.backing.cache.blocks)) c.self.view_is
+    (each-piece config c.args.d.0 c.args.first c.args.n c.match-read_device.result got (asks-as c.match-read_device.result fault alike c.read_device.ensures.touches) {before = c.self.inside.backing.cache.blocks} {after = c.read_device.new.backing.cache.blocks} c.read_device.ensures.cached.capacity)
 
 pub invariant_of-self : goal.invariant_of-self
 invariant_of-self g c = record { sound = piece-sound c.self.inside.config c.self.invariant.sound (reads g c).got.moved; cached = c.read_device.ensures.cached.sound }
@@ -81,8 +86,8 @@ pub returns-clause-stops : goal.returns-clause-stops
 returns-clause-stops g c =
     let state = g.D.BlockDev.state in
     let config = c.self.inside.config in
-    let old = map state c.self.inside.reader.devices.items in
-    let new = map state c.read_device.new.reader.devices.items in
+    let old = map state c.self.inside.backing.devices.items in
+    let new = map state c.read_device.new.backing.devices.items in
     let said : ℕ → Said = said_at config (mapped c.args.d.0) in
     let plain = subst (λ (n : ℕ). IsPlain said c.args.first n old new c.read_device.result) (count g c) c.read_device.ensures.plain in
     let Stops : Result AnswerRecord IoFault → Type 0 = λ r. ReadStops said c.args.first c.args.n old new r in
@@ -97,8 +102,8 @@ returns-in-Err-clause-stops g c = λ none counted. record { before = 0; failed =
 
 pub returns-clause-spent : goal.returns-clause-spent
 returns-clause-spent g c =
-    let new = map g.D.BlockDev.state c.read_device.new.reader.devices.items in
-    let spent = subst (λ (n : ℕ). ReadsAtMost (budget c.self.inside.config (mapped c.args.d.0) c.args.first n) (map g.D.BlockDev.state c.self.inside.reader.devices.items) new) (count g c) c.read_device.ensures.spent in
+    let new = map g.D.BlockDev.state c.read_device.new.backing.devices.items in
+    let spent = subst (λ (n : ℕ). ReadsAtMost (budget c.self.inside.config (mapped c.args.d.0) c.args.first n) (map g.D.BlockDev.state c.self.inside.backing.devices.items) new) (count g c) c.read_device.ensures.spent in
     subst (λ (w : StackRecord). ReadsAtMost (budget w.config (mapped c.args.d.0) c.args.first c.args.n) w.leaves new) c.self.view_is spent
 
 pub returns-in-Err-clause-spent : goal.returns-in-Err-clause-spent
@@ -109,8 +114,8 @@ returns-in-Err-clause-spent g c = omega arith
 pub returns-clause-kept : goal.returns-clause-kept
 returns-clause-kept g c =
     let config = c.self.inside.config in
-    let after : StackRecord = stack_with config (map g.D.BlockDev.state c.read_device.new.reader.devices.items) c.read_device.new.reader.cache.blocks in
-    let none_met = subst (λ (n : ℕ). (MeetVerity (said_at config (mapped c.args.d.0)) c.args.first n → ⊥) → c.read_device.new.reader.cache ≡ c.self.inside.reader.cache) (count g c) c.read_device.ensures.same in
+    let after : StackRecord = stack_with config (map g.D.BlockDev.state c.read_device.new.backing.devices.items) c.read_device.new.backing.cache.blocks in
+    let none_met = subst (λ (n : ℕ). (MeetVerity (said_at config (mapped c.args.d.0)) c.args.first n → ⊥) → c.read_device.new.backing.cache ≡ c.self.inside.backing.cache) (count g c) c.read_device.ensures.same in
     subst (λ (w : StackRecord). ReadKeeps w c.args.d.0 c.args.first c.args.n after) c.self.view_is
     (record { same = λ none. ap (λ (k : StackCache). k.blocks.blocks) (none_met none); checked = cached-checked config c.read_device.ensures.cached.sound })
 

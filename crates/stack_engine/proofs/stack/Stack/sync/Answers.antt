@@ -12,17 +12,17 @@ pub invariant_of-self : goal.invariant_of-self
 invariant_of-self g c =
     let state = g.D.BlockDev.state in
     let config = c.self.inside.config in
-    let devices = c.self.inside.reader.devices in
+    let devices = c.self.inside.backing.devices in
     let old = map state devices.items in
     let new = map state c.sync_leaves.new.devices in
     let held : length c.sync_leaves.new.devices ≡ devices.len = c.sync_leaves.auto.devices ∙ ap (λ l. length l) c.as_mut_slice.ensures.value ∙ sym devices.ok.0 in
     let read : AreRead old 0 new = sync-read old new c.sync_leaves.result (rw c.as_mut_slice.ensures.value at c.sync_leaves.ensures.ok) (rw c.as_mut_slice.ensures.value at c.sync_leaves.ensures.err) in
-    subst (λ l. IsStack config (map state l) c.self.inside.reader.cache) (sym (with_items_is devices c.sync_leaves.new.devices held))
-    (record { sound = piece-sound config c.self.invariant.sound read; cached = cached-read config c.self.inside.reader.cache read c.self.invariant.cached })
+    subst (λ l. IsStack config (map state l) c.self.inside.backing.cache) (sym (with_items_is devices c.sync_leaves.new.devices held))
+    (record { sound = piece-sound config c.self.invariant.sound read; cached = cached-read config c.self.inside.backing.cache read c.self.invariant.cached })
 
 pub returns-clause-sure : goal.returns-clause-sure
 returns-clause-sure g c = λ never.
     let state = g.D.BlockDev.state in
-    let old = map state c.self.inside.reader.devices.items in
+    let old = map state c.self.inside.backing.devices.items in
     sync-sure old (map state c.sync_leaves.new.devices) c.sync_leaves.result (rw c.as_mut_slice.ensures.value at c.sync_leaves.ensures.err)
     (subst (λ (v : StackRecord). NeverFail v.leaves) (sym c.self.view_is) never)

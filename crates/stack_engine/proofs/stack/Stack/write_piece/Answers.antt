@@ -26,19 +26,19 @@ bytes_of g c =
 
 -- what the write did, of the stack's own devices
 piece : (g : given.Over) (c : goal.After-drop-buffer g)
-    → EachWrite (stack_with c.self.inside.config (map g.D.BlockDev.state c.self.inside.reader.devices.items) c.self.inside.reader.cache.blocks) c.args.d.0 c.args.first c.args.bytes.now c.write_device.result
-    (stack_with c.self.inside.config (map g.D.BlockDev.state c.write_device.new.reader.devices.items) c.write_device.new.reader.cache.blocks)
+    → EachWrite (stack_with c.self.inside.config (map g.D.BlockDev.state c.self.inside.backing.devices.items) c.self.inside.backing.cache.blocks) c.args.d.0 c.args.first c.args.bytes.now c.write_device.result
+    (stack_with c.self.inside.config (map g.D.BlockDev.state c.write_device.new.backing.devices.items) c.write_device.new.backing.cache.blocks)
 piece g c =
     let state = g.D.BlockDev.state in
     let Is : List ℕ → Type 0 = λ b.
-    Writes (destination_of c.self.inside.config (mapped c.args.d.0)) c.args.first (sectors_in b) (map state c.self.inside.reader.devices.items) (map state c.write_device.new.reader.devices.items) c.write_device.result in
-    each-write c.args.d.0 c.args.first c.args.bytes.now c.write_device.result refl c.write_device.ensures.cached.capacity (λ was. all-whole state g.met.D.BlockDev.whole c.write_device.new.reader.devices.items) c.write_device.ensures.forgets (subst Is (bytes_of g c) c.write_device.ensures.writes)
+    Writes (destination_of c.self.inside.config (mapped c.args.d.0)) c.args.first (sectors_in b) (map state c.self.inside.backing.devices.items) (map state c.write_device.new.backing.devices.items) c.write_device.result in
+    each-write c.args.d.0 c.args.first c.args.bytes.now c.write_device.result c.requires.piece refl c.write_device.ensures.cached.capacity (λ was. all-whole state g.met.D.BlockDev.whole c.write_device.new.backing.devices.items) c.write_device.ensures.forgets (subst Is (bytes_of g c) c.write_device.ensures.writes)
 
 -- of the stack as it was
 whole : (g : given.Over) (c : goal.After-drop-buffer g)
-    → EachWrite c.args.self.now c.args.d.0 c.args.first c.args.bytes.now c.write_device.result (stack_with c.self.inside.config (map g.D.BlockDev.state c.write_device.new.reader.devices.items) c.write_device.new.reader.cache.blocks)
+    → EachWrite c.args.self.now c.args.d.0 c.args.first c.args.bytes.now c.write_device.result (stack_with c.self.inside.config (map g.D.BlockDev.state c.write_device.new.backing.devices.items) c.write_device.new.backing.cache.blocks)
 whole g c =
-    subst (λ (w : StackRecord). EachWrite w c.args.d.0 c.args.first c.args.bytes.now c.write_device.result (stack_with c.self.inside.config (map g.D.BlockDev.state c.write_device.new.reader.devices.items) c.write_device.new.reader.cache.blocks)) c.self.view_is (piece g c)
+    subst (λ (w : StackRecord). EachWrite w c.args.d.0 c.args.first c.args.bytes.now c.write_device.result (stack_with c.self.inside.config (map g.D.BlockDev.state c.write_device.new.backing.devices.items) c.write_device.new.backing.cache.blocks)) c.self.view_is (piece g c)
 
 pub invariant_of-self : goal.invariant_of-self
 invariant_of-self g c = record { sound = write-sound c.self.inside.config c.self.invariant.sound (piece g c); cached = c.write_device.ensures.cached.sound }
@@ -52,18 +52,18 @@ returns-clause-steady g c = (whole g c).steady
 -- nothing was written, for want of memory
 
 pub returns-in-Err-clause-any : goal.returns-in-Err-clause-any
-returns-in-Err-clause-any g c = (none-written c.args.self.now c.args.d.0 c.args.first c.args.bytes.now (omega (arith, c.requires.piece.sectors.some, c.requires.piece.sectors.whole))).any
+returns-in-Err-clause-any g c = (none-written c.args.self.now c.args.d.0 c.args.first c.args.bytes.now c.requires.piece (omega (arith, c.requires.piece.sectors.some, c.requires.piece.sectors.whole))).any
 
 pub returns-in-Err-clause-steady : goal.returns-in-Err-clause-steady
-returns-in-Err-clause-steady g c = (none-written c.args.self.now c.args.d.0 c.args.first c.args.bytes.now (omega (arith, c.requires.piece.sectors.some, c.requires.piece.sectors.whole))).steady
+returns-in-Err-clause-steady g c = (none-written c.args.self.now c.args.d.0 c.args.first c.args.bytes.now c.requires.piece (omega (arith, c.requires.piece.sectors.some, c.requires.piece.sectors.whole))).steady
 
 -- where no unit is cut
 
 pub returns-clause-uncut : goal.returns-clause-uncut
 returns-clause-uncut g c =
     let state = g.D.BlockDev.state in
-    let new = map state c.write_device.new.reader.devices.items in
-    let own = subst (λ (b : List ℕ). CutsNone c.self.inside.config (mapped c.args.d.0) c.args.first (length b / 512) → NoneRead (map state c.self.inside.reader.devices.items) new) (bytes_of g c) c.write_device.ensures.uncut in
+    let new = map state c.write_device.new.backing.devices.items in
+    let own = subst (λ (b : List ℕ). CutsNone c.self.inside.config (mapped c.args.d.0) c.args.first (length b / 512) → NoneRead (map state c.self.inside.backing.devices.items) new) (bytes_of g c) c.write_device.ensures.uncut in
     subst (λ (w : StackRecord). CutsNone w.config (mapped c.args.d.0) c.args.first (length c.args.bytes.now / 512) → NoneRead w.leaves new) c.self.view_is own
 
 pub returns-in-Err-clause-uncut : goal.returns-in-Err-clause-uncut

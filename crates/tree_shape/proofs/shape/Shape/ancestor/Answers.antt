@@ -1,20 +1,15 @@
-use Rattle.std.proofs.Common.{sym}
-use Rattle.tree_shape.proofs.lemmas.ShapeFactLemmas.{ancestor-none, ancestor-more}
+use Rattle.std.proofs.Common.{sym, arith, ◌≤◌, ◌*◌}
+use Rattle.std.proofs.Math.Nat.{mul-le-mul}
+use Rattle.tree_shape.proofs.ShiftLemmas.{ancestor-shift, ancestor-top}
 use Rattle.tree_shape.proofs.shape.Shape.ancestor.Goals as goal
 
-pub loop-init : goal.loop-init
-loop-init c =
-    let s = c.args.self.now in
-    record {
-      digests = c.per_block-per_block.ensures.value;
-      number = sym (ancestor-none s c.per_block-per_block.ensures.valid c.args.index);
-    }
+pub returns-then-distance-lt-BITS-clause-value : goal.returns-then-distance-lt-BITS-clause-value
+returns-then-distance-lt-BITS-clause-value c = sym (ancestor-shift c.args.self.now c.slot_bits-bits.result c.slot_bits-bits.ensures.value c.args.steps c.args.index)
 
-pub loop-preserved : goal.loop-preserved
-loop-preserved c =
-    let s = c.args.self.now in
-    let here = c.loop.invariant in
-    record {
-      digests = here.digests;
-      number = rw (here.number, here.digests) (sym (ancestor-more s c.per_block-per_block.ensures.valid c.loop.counter c.args.index));
-    }
+pub returns-else-distance-lt-BITS-clause-value : goal.returns-else-distance-lt-BITS-clause-value
+returns-else-distance-lt-BITS-clause-value c = sym (ancestor-top c.args.self.now c.slot_bits-bits.result c.slot_bits-bits.ensures.value c.args.steps c.args.index 64 (omega (arith, c.ranges.index.fits)) (omega (arith, c.if-distance-lt-BITS.false)))
+
+pub returns-then-steps-ge16-clause-value : goal.returns-then-steps-ge16-clause-value
+returns-then-steps-ge16-clause-value c =
+    let far : 4 * 16 ≤ c.slot_bits-bits.result * c.args.steps = mul-le-mul c.slot_bits-bits.ensures.some c.if-steps-ge16.true in
+    sym (ancestor-top c.args.self.now c.slot_bits-bits.result c.slot_bits-bits.ensures.value c.args.steps c.args.index 64 (omega (arith, c.ranges.index.fits)) (omega (arith, far)))

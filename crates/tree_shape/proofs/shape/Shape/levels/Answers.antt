@@ -9,7 +9,7 @@ loop-rest-init c =
     let s = c.args.self.now in
     let valid = c.blocks-rest.ensures.valid in
     record {
-      digests = c.per_block-per_block.ensures.value;
+      digests = c.slot_bits-bits.ensures.value;
       left = λ steps room.
           let enough : s.blocks - 1 ≤ steps = omega (arith, room, c.blocks-rest.ensures.value) in
           rw (zero-add, c.blocks-rest.ensures.value)

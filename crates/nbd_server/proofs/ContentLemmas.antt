@@ -1,0 +1,140 @@
+-- Zeros at the ends of bytes, and what is told of them.
+use Rattle.std.proofs.Common.{◌≡◌, ◌<◌, ◌≤◌, ℕ, ◌+◌, ◌-◌, Bool, true, false, List, ◌++◌, length, take, drop, replicate, refl, ap, sym, ◌∙◌, subst, arith, Option, Result, Ok, Err}
+use Rattle.std.specs.Str.{bytes_eq}
+use Rattle.std.specs.Io.KnownBytes.{Appends}
+use Rattle.std.proofs.KnownBytes.{Appends-trans}
+use Rattle.std.proofs.lemmas.List.{drop-drop, length-drop, length-take-le, replicate-append-replicate, take-append-drop, take-replicate}
+use Rattle.std.proofs.lemmas.Slice.Eq.{bytes_eq-Decides}
+use Rattle.std.proofs.Math.Seq.{take-add, take-length}
+use Rattle.counted_io.specs.Counted.{CountedRecord, Writes, WritesSome}
+use Rattle.counted_io.specs.declared.fault.WriteFault.{WriteFault}
+use Rattle.nbd_chunks.specs.Chunks.{data_chunk, hole_chunk}
+use Rattle.nbd_server.specs.Content.{HaveData, Tells, as_data, as_hole, in_turn}
+
+-- ---- zeros
+
+abbrev pub zeros : ℕ → List ℕ
+zeros n = replicate n 0
+
+pub zeros-sum : (a b n : ℕ) → a + b ≡ n → zeros a ++ zeros b ≡ zeros n
+zeros-sum a b n e = replicate-append-replicate a b 0 ∙ ap zeros e
+
+-- a block of bytes that were compared
+pub compared : (block : List ℕ) (same : Bool) → same ≡ bytes_eq block (zeros (length block)) → same ≡ true → block ≡ zeros (length block)
+compared block same is e = (bytes_eq-Decides block (zeros (length block))).0 (sym is ∙ e)
+
+differs : (block : List ℕ) (same : Bool) → same ≡ bytes_eq block (zeros (length block)) → same ≡ false → HaveData block
+differs block same is e = λ all. let other : bytes_eq block (zeros (length block)) ≡ true = (bytes_eq-Decides block (zeros (length block))).1 all in let clash : true ≡ false = sym other ∙ sym is ∙ e in cc
+
+-- bytes of which a beginning has data have some
+front-data : (bytes : List ℕ) (n : ℕ) → n ≤ length bytes → HaveData (take n bytes) → HaveData bytes
+front-data bytes n within some = λ all.
+    let size : length (take n bytes) ≡ n = length-take-le n bytes within in
+    some (ap (take n) all ∙ take-replicate n (length bytes) 0 within ∙ ap zeros (sym size))
+
+module _ (bytes : List ℕ) (done end : ℕ) (above : done ≤ end) (inside : end ≤ length bytes) where
+  part-size : length (take (end - done) (drop done bytes)) ≡ end - done
+  part-size = length-take-le (end - done) (drop done bytes) (omega (arith, length-drop done bytes, inside))
+
+  -- one block of zeros more at the front
+  pub front-more : take done bytes ≡ zeros done → take (end - done) (drop done bytes) ≡ zeros (length (take (end - done) (drop done bytes))) → take end bytes ≡ zeros end
+  front-more before block =
+      let all : done + (end - done) ≡ end = omega (arith, above) in
+      ap (λ k. take k bytes) (sym all) ∙ take-add done (end - done) bytes
+      ∙ ap (λ l. l ++ take (end - done) (drop done bytes)) before
+      ∙ ap (λ l. zeros done ++ l) (block ∙ ap zeros part-size)
+      ∙ zeros-sum done (end - done) end all
+
+  -- a block that isn't zeros
+  pub rest-data : HaveData (take (end - done) (drop done bytes)) → HaveData (drop done bytes)
+  rest-data some = front-data (drop done bytes) (end - done) (omega (arith, length-drop done bytes, inside)) some
+
+  -- one block of zeros more at the end
+  pub behind-more : drop end bytes ≡ zeros (length bytes - end) → take (end - done) (drop done bytes) ≡ zeros (length (take (end - done) (drop done bytes))) → drop done bytes ≡ zeros (length bytes - done)
+  behind-more after block =
+      let all : done + (end - done) ≡ end = omega (arith, above) in
+      let sum : end - done + (length bytes - end) ≡ length bytes - done = omega (arith, above, inside) in
+      sym (take-append-drop (end - done) (drop done bytes))
+      ∙ ap (λ l. l ++ drop (end - done) (drop done bytes)) (block ∙ ap zeros part-size)
+      ∙ ap (λ l. zeros (end - done) ++ l) (drop-drop (end - done) done bytes ∙ ap (λ k. drop k bytes) all ∙ after)
+      ∙ zeros-sum (end - done) (length bytes - end) (length bytes - done) sum
+
+pub differs-front : (bytes : List ℕ) (done end : ℕ) (same : Bool) → done ≤ end → end ≤ length bytes → same ≡ bytes_eq (take (end - done) (drop done bytes)) (zeros (length (take (end - done) (drop done bytes)))) → same ≡ false
+    → HaveData (drop done bytes)
+differs-front bytes done end same above inside is e = rest-data bytes done end above inside (differs (take (end - done) (drop done bytes)) same is e)
+
+-- bytes before zeros have data where all have
+pub before-data : (bytes : List ℕ) (size : ℕ) → size ≤ length bytes → drop size bytes ≡ zeros (length bytes - size) → HaveData bytes → HaveData (take size bytes)
+before-data bytes size within behind some = λ all.
+    let front : length (take size bytes) ≡ size = length-take-le size bytes within in
+    let sum : size + (length bytes - size) ≡ length bytes = omega (arith, within) in
+    some (sym (take-append-drop size bytes) ∙ ap (λ l. l ++ drop size bytes) (all ∙ ap zeros front) ∙ ap (λ l. zeros size ++ l) behind ∙ zeros-sum size (length bytes - size) (length bytes) sum)
+
+-- what stands behind so many of them, as the code cuts it out
+pub rest-is : (bytes : List ℕ) (n : ℕ) → take (length bytes - n) (drop n bytes) ≡ drop n bytes
+rest-is bytes n = ap (λ k. take k (drop n bytes)) (sym (length-drop n bytes)) ∙ take-length (drop n bytes)
+
+-- ---- what is told
+
+-- all are zeros
+pub told-hole : (cookie : ℕ) (last : Bool) (at n : ℕ) (bytes : List ℕ) → 0 < length bytes → take n bytes ≡ zeros n → n ≡ length bytes → Tells cookie last at bytes (hole_chunk last cookie at n)
+told-hole cookie last at n bytes some is all =
+    let whole : take n bytes ≡ bytes = ap (λ k. take k bytes) all ∙ take-length bytes in
+    subst (λ l. Tells cookie last at l (hole_chunk last cookie at n)) (sym is ∙ whole) (as_hole (omega (arith, some, all)))
+
+module _ (cookie : ℕ) (last : Bool) (at n : ℕ) (bytes : List ℕ) (within : n ≤ length bytes) where
+  part-place : at + n ≡ at + length (take n bytes)
+  part-place = let size : length (take n bytes) ≡ n = length-take-le n bytes within in omega (arith, size)
+
+  -- zeros, and what stands behind them
+  pub told-behind : (more : List ℕ) → 0 < n → take n bytes ≡ zeros n → Tells cookie last (at + n) (drop n bytes) more → Tells cookie last at bytes (hole_chunk false cookie at n ++ more)
+  told-behind more some is rest =
+      subst (λ l. Tells cookie last at l (hole_chunk false cookie at n ++ more)) (take-append-drop n bytes)
+      (in_turn (subst (λ l. Tells cookie false at l (hole_chunk false cookie at n)) (sym is) (as_hole some))
+      (subst (λ k. Tells cookie last k (drop n bytes) more) part-place rest))
+
+  -- data, and zeros behind it
+  pub told-before : (behind : ℕ) → 0 < behind → drop n bytes ≡ zeros behind → HaveData (take n bytes) → Tells cookie last at bytes (data_chunk false cookie at (take n bytes) ++ hole_chunk last cookie (at + n) behind)
+  told-before behind some is front =
+      subst (λ l. Tells cookie last at l (data_chunk false cookie at (take n bytes) ++ hole_chunk last cookie (at + n) behind)) (take-append-drop n bytes)
+      (in_turn (as_data front)
+      (subst (λ k. Tells cookie last k (drop n bytes) (hole_chunk last cookie (at + n) behind)) part-place (subst (λ l. Tells cookie last (at + n) l (hole_chunk last cookie (at + n) behind)) (sym is) (as_hole some))))
+
+-- some chunks tell them
+pub record IsTold (cookie : ℕ) (last : Bool) (at : ℕ) (bytes : List ℕ) : Type 0 where
+  pub text : List ℕ
+  pub tells : Tells cookie last at bytes text
+
+pub some-told : (cookie : ℕ) (last : Bool) (at : ℕ) (bytes : List ℕ) → 0 < length bytes → IsTold cookie last at bytes
+some-told cookie last at bytes some = by (bytes_eq bytes (zeros (length bytes))) refl
+  where
+    by : (same : Bool) → same ≡ bytes_eq bytes (zeros (length bytes)) → IsTold cookie last at bytes
+    by true is = record { text = hole_chunk last cookie at (length bytes); tells = subst (λ l. Tells cookie last at l (hole_chunk last cookie at (length bytes))) (sym (compared bytes true is refl)) (as_hole some) }
+    by false is = record { text = data_chunk last cookie at bytes; tells = as_data (differs bytes false is refl) }
+
+-- ---- what is written
+
+module _ {T : Type 0} (contents : T → Option (List ℕ)) (P : List ℕ → Type 0) where
+  -- one text
+  pub writes-one : (old new : CountedRecord T) (text : List ℕ) (result : Result Unit WriteFault) → P text → Writes contents old new text result → WritesSome contents old new P result
+  writes-one old new text (Ok done) holds p = record { ok = record { text = text; holds = holds; written = p.ok }; kept = p.kept; failed = tt }
+  writes-one old new text (Err fault) holds p = record { ok = tt; kept = tt; failed = p.failed }
+
+  module _ (old mid new : CountedRecord T) (text : List ℕ) (first : Appends (contents old.inner) (contents mid.inner) text) (kept : mid.failed ≡ old.failed) where
+    -- another text behind it
+    pub writes-two : (more : List ℕ) (result : Result Unit WriteFault) → P (text ++ more) → Writes contents mid new more result → WritesSome contents old new P result
+    writes-two more (Ok done) holds p = record {
+      ok = record { text = text ++ more; holds = holds; written = Appends-trans (contents old.inner) (contents mid.inner) (contents new.inner) text more first p.ok };
+      kept = p.kept ∙ kept;
+      failed = tt;
+    }
+    writes-two more (Err fault) holds p = record { ok = tt; kept = tt; failed = p.failed }
+
+    -- some text behind it
+    pub writes-some : (Q : List ℕ → Type 0) (result : Result Unit WriteFault) → ((more : List ℕ) → Q more → P (text ++ more)) → WritesSome contents mid new Q result → WritesSome contents old new P result
+    writes-some Q (Ok done) holds p = record {
+      ok = record { text = text ++ p.ok.text; holds = holds p.ok.text p.ok.holds; written = Appends-trans (contents old.inner) (contents mid.inner) (contents new.inner) text p.ok.text first p.ok.written };
+      kept = p.kept ∙ kept;
+      failed = tt;
+    }
+    writes-some Q (Err fault) holds p = record { ok = tt; kept = tt; failed = p.failed }

@@ -1,0 +1,9 @@
+use Rattle.std.proofs.Common.{◌≡◌, ◌≤◌, ◌-◌, length, replicate, take}
+use Rattle.nbd_server.proofs.content.zeros_before.Given as goal
+
+-- the first bytes are zeros
+abbrev pub invariant-zeros : goal.invariant-zeros
+invariant-zeros l = record { zeros : take l.done l.bytes ≡ replicate l.done 0; within : l.done ≤ length l.bytes }
+
+abbrev pub decreases-zeros : goal.decreases-zeros
+decreases-zeros l = length l.bytes - l.done

@@ -1,0 +1,9 @@
+use Rattle.std.proofs.Common.{◌≡◌, ◌≤◌, ◌-◌, drop, length, replicate}
+use Rattle.nbd_server.proofs.content.zeros_behind.Given as goal
+
+-- the bytes behind the rest are zeros
+abbrev pub invariant-zeros : goal.invariant-zeros
+invariant-zeros l = record { zeros : drop l.rest l.bytes ≡ replicate (length l.bytes - l.rest) 0; within : l.rest ≤ length l.bytes }
+
+abbrev pub decreases-zeros : goal.decreases-zeros
+decreases-zeros l = l.rest

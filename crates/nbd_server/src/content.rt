@@ -1,0 +1,101 @@
+//! Bytes that were read, told as data and as holes.
+ghost use Rattle.std.specs.Prelude.{◌≡◌, ◌≤◌, ◌<◌, ◌+◌, ◌-◌, ◌^◌, drop, length, replicate, take};
+ghost use Rattle.std.specs.Str.{bytes_eq};
+ghost use Rattle.counted_io.specs.Counted.{WritesSome};
+ghost use Rattle.nbd_server.specs.Content.{HaveData, Tells};
+
+use counted_io::{Counted, WriteFault};
+use nbd_chunks::{say_data, say_hole};
+use std::io::Write;
+
+// Zeros are looked for by blocks of so many bytes.
+const BLOCK: usize = 4096;
+
+static ZEROS: [u8; 4096] = [0; 4096];
+
+// Whether the bytes of a block are zeros.
+fn are_zeros(block: &[u8]) -> bool
+    requires { length block.now ≤ 4096 }
+    ensures { result ≡ bytes_eq block.now (replicate (length block.now) 0) }
+{
+    block == &ZEROS[..block.len()]
+}
+
+// With how many zeros the bytes begin, by whole blocks but where all are zeros.
+fn zeros_before(bytes: &[u8]) -> usize
+    ensures inside { result ≤ length bytes.now }
+    ensures zeros { take result bytes.now ≡ replicate result 0 }
+    ensures rest { result < length bytes.now → HaveData (drop result bytes.now) }
+{
+    let mut done = 0;
+    'zeros: while done < bytes.len() {
+        let end = bytes.len().min(done + BLOCK);
+        if !are_zeros(&bytes[done..end]) {
+            return done;
+        }
+        done = end;
+    }
+    done
+}
+
+// With how many zeros they end, by whole blocks.
+fn zeros_behind(bytes: &[u8]) -> usize
+    ensures inside { result ≤ length bytes.now }
+    ensures zeros { drop (length bytes.now - result) bytes.now ≡ replicate result 0 }
+{
+    let mut rest = bytes.len();
+    'zeros: while rest >= BLOCK {
+        if !are_zeros(&bytes[rest - BLOCK..rest]) {
+            return bytes.len() - rest;
+        }
+        rest -= BLOCK;
+    }
+    bytes.len() - rest
+}
+
+// Tells bytes that begin with data.
+fn say_from_data<W: Write>(
+    writer: &mut Counted<W>,
+    last: bool,
+    cookie: u64,
+    at: u64,
+    bytes: &[u8],
+) -> Result<(), WriteFault>
+    requires some { HaveData bytes.now }
+    requires few { 8 + length bytes.now < 2 ^ 32 }
+    requires place { at + length bytes.now < 2 ^ 64 }
+    ensures { WritesSome W.contents writer.old writer.new (Tells cookie last at bytes.now) result }
+{
+    let behind = zeros_behind(bytes);
+    if behind == 0 {
+        return say_data(writer, last, cookie, at, bytes);
+    }
+    let size = bytes.len() - behind;
+    say_data(writer, false, cookie, at, &bytes[..size])?;
+    say_hole(writer, last, cookie, at + size as u64, behind as u32)
+}
+
+/// Tells some bytes from a place on. What they begin and end with is a hole, as far as whole blocks of 4,096 bytes or all
+/// of them are zeros.
+pub(crate) fn say_content<W: Write>(
+    writer: &mut Counted<W>,
+    last: bool,
+    cookie: u64,
+    at: u64,
+    bytes: &[u8],
+) -> Result<(), WriteFault>
+    requires some { 0 < length bytes.now }
+    requires few { 8 + length bytes.now < 2 ^ 32 }
+    requires place { at + length bytes.now < 2 ^ 64 }
+    ensures { WritesSome W.contents writer.old writer.new (Tells cookie last at bytes.now) result }
+{
+    let front = zeros_before(bytes);
+    if front == bytes.len() {
+        return say_hole(writer, last, cookie, at, front as u32);
+    }
+    if front == 0 {
+        return say_from_data(writer, last, cookie, at, bytes);
+    }
+    say_hole(writer, false, cookie, at, front as u32)?;
+    say_from_data(writer, last, cookie, at + front as u64, &bytes[front..])
+}

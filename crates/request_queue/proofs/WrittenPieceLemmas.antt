@@ -1,0 +1,119 @@
+-- One piece of a write at once behind those before it.
+use Rattle.std.proofs.Common.{◌≡◌, ◌≤◌, ℕ, ◌+◌, ◌-◌, ◌*◌, ◌/◌, ◌%◌, List, ◌++◌, length, take, drop, refl, ap, sym, ◌∙◌, subst, arith, Result, Ok, Err}
+use Rattle.std.proofs.lemmas.List.{length-drop, length-take-le, take-append-drop}
+use Rattle.std.proofs.Math.Seq.{take-length, take-add}
+use Rattle.stack_rules.specs.Names.{mapped}
+use Rattle.stack_rules.specs.Records.{Configuration}
+use Rattle.stack_meaning.specs.declared.fault.IoFault.{IoFault}
+use Rattle.stack_meaning.specs.declared.fault.IoFault.TheVariants as io
+use Rattle.stack_meaning.specs.Meaning.{said_at}
+use Rattle.stack_meaning.proofs.lemmas.FoundLemmas.{SomeOf-more}
+use Rattle.stack_lines.specs.Writing.{SomeEncrypt}
+use Rattle.stack_engine.specs.KeptBlocks.{AreChecked}
+use Rattle.stack_engine.specs.Stacks.{StackRecord}
+use Rattle.stack_engine.specs.WritePieces.{EachWrite, WritesInPieces}
+use Rattle.stack_engine.proofs.lemmas.PieceLemmas.{same-stack}
+use Rattle.stack_engine.proofs.lemmas.WritePieceLemmas.{write-then, write-ends}
+use Rattle.request_queue.specs.AtOnce.{BytesWritten, CanBeWritten, WritesBeside, WritesInSteps, a_step, last_step, write_range}
+use Rattle.request_queue.specs.Flights.{FlightRecord}
+use Rattle.request_queue.specs.Parts.{EachPart}
+use Rattle.request_queue.specs.Ranges.{bytes_range, range_at}
+use Rattle.request_queue.specs.declared.range.SectorRange.{SectorRange}
+use Rattle.request_queue.specs.WholeRuns.{WritesWhole}
+use Rattle.request_queue.specs.World.{PieceWritten, world}
+use Rattle.request_queue.proofs.lemmas.AdmissionLemmas.{writable-ok}
+use Rattle.request_queue.proofs.lemmas.BytesLemmas.{bytes_range-ok}
+use Rattle.request_queue.proofs.lemmas.PutLemmas.{ending-same}
+
+-- the bytes of the next piece
+abbrev pub next_part : List ℕ → ℕ → ℕ → List ℕ
+next_part bytes done end = take (end - done) (drop done bytes)
+
+-- how a piece ended, and what is kept then
+pub record IsWritten (v : StackRecord) (d first : ℕ) (bytes : List ℕ) (result : Result Unit IoFault) (v' : StackRecord) : Type 0 where
+  pub each : EachWrite v d first bytes result v'
+  pub checked : AreChecked v'
+
+module _ (base v v' : StackRecord) (d first : ℕ) (bytes : List ℕ) (done end : ℕ) (even : done % 512 ≡ 0) (more : done + 512 ≤ end) (within : end ≤ length bytes) where
+  front-length : length (take done bytes) ≡ done
+  front-length = length-take-le done bytes (omega (arith, more, within))
+
+  part-length : length (next_part bytes done end) ≡ end - done
+  part-length = length-take-le (end - done) (drop done bytes) (omega (arith, length-drop done bytes, within))
+
+  front-even : length (take done bytes) % 512 ≡ 0
+  front-even = omega (arith, front-length, even)
+
+  start : first + done / 512 ≡ first + length (take done bytes) / 512
+  start = omega (arith, front-length)
+
+  seam : take done bytes ++ next_part bytes done end ≡ take end bytes
+  seam = let all : done + (end - done) ≡ end = omega (arith, more) in sym (take-add done (end - done) bytes) ∙ ap (λ k. take k bytes) all
+
+  all-is : take done bytes ++ (next_part bytes done end ++ drop (end - done) (drop done bytes)) ≡ bytes
+  all-is = ap (λ l. take done bytes ++ l) (take-append-drop (end - done) (drop done bytes)) ∙ take-append-drop done bytes
+
+  from-start : (result : Result Unit IoFault) → EachWrite v d (first + done / 512) (next_part bytes done end) result v' → EachWrite v d (first + length (take done bytes) / 512) (next_part bytes done end) result v'
+  from-start result q = subst (λ k. EachWrite v d k (next_part bytes done end) result v') start q
+
+  module _ (p : WritesInPieces base d first (take done bytes) (Ok tt) v) where
+    pub put-more : EachWrite v d (first + done / 512) (next_part bytes done end) (Ok tt) v' → WritesInPieces base d first (take end bytes) (Ok tt) v'
+    put-more q = subst (λ l. WritesInPieces base d first l (Ok tt) v') seam (write-then d first (take done bytes) (next_part bytes done end) front-even p (from-start (Ok tt) q))
+
+    put-ends : (fault : IoFault) → (fault ≡ io.NoMemory → ⊥) → EachWrite v d (first + done / 512) (next_part bytes done end) (Err fault) v' → WritesInPieces base d first bytes (Err fault) v'
+    put-ends fault kind q =
+        subst (λ l. WritesInPieces base d first l (Err fault) v') all-is (write-ends d first (take done bytes) (next_part bytes done end) front-even p (drop (end - done) (drop done bytes)) fault kind (from-start (Err fault) q))
+
+    -- where memory ran out nothing more was written
+    put-nothing : EachWrite v d (first + done / 512) (next_part bytes done end) (Err io.NoMemory) v' → WritesInPieces base d first (take (512 * (done / 512)) bytes) (Ok tt) v'
+    put-nothing q =
+        let same : v ≡ v' = same-stack v v' (sym q.any.config) (sym q.any.ends) (sym q.any.capacity) (sym (q.any.short refl)) in
+        let sectors : done ≡ 512 * (done / 512) = omega (arith, even) in
+        subst (λ x. WritesInPieces base d first (take (512 * (done / 512)) bytes) (Ok tt) x) same (subst (λ k. WritesInPieces base d first (take k bytes) (Ok tt) v) sectors p)
+
+    pub put-fails : (fault : IoFault) → EachWrite v d (first + done / 512) (next_part bytes done end) (Err fault) v' → WritesWhole base (range_at d first (length bytes / 512)) bytes (Err fault) v'
+    put-fails (io.Stack why) q = put-ends (io.Stack why) (λ e. cc) q
+    put-fails (io.Device i) q = put-ends (io.Device i) (λ e. cc) q
+    put-fails io.NoMemory q = (done / 512, omega (arith, more, within), put-nothing q)
+
+    -- memory runs out where some sector is encrypted
+    pub some-encrypt : SomeEncrypt (said_at v.config (mapped d)) (first + done / 512) (length (next_part bytes done end) / 512) → SomeEncrypt (said_at base.config (mapped d)) first (length bytes / 512)
+    some-encrypt some =
+        let inside : done / 512 + length (next_part bytes done end) / 512 ≤ length bytes / 512 = omega (arith, part-length, even, more, within) in
+        SomeOf-more (λ s. (said_at base.config (mapped d) s).encrypts) first (done / 512) (length (next_part bytes done end) / 512) (length bytes / 512) inside
+        (subst (λ (c : Configuration). SomeEncrypt (said_at c (mapped d)) (first + done / 512) (length (next_part bytes done end) / 512)) p.any.config some)
+
+  module _ (can : CanBeWritten v.config d first bytes) where
+    one-step : (result : Result Unit IoFault) → IsWritten v d (first + done / 512) (next_part bytes done end) result v' → (given : ℕ) (fs : List FlightRecord)
+        → PieceWritten EachPart (world v given fs) d (first + length (take done bytes) / 512) (next_part bytes done end) result (world v' given fs)
+    one-step result q given fs = record {
+      inside = omega (arith, part-length, front-length, even, more, within, can.sectors.inside);
+      allowed = can.allowed;
+      stack = v';
+      asks = record { answered = subst (λ r. EachWrite v d (first + length (take done bytes) / 512) (next_part bytes done end) r v') (sym (ending-same result)) (from-start result q.each); kept = q.checked };
+      leaves = refl;
+    }
+
+    pub steps-more : WritesBeside d first base (take done bytes) (Ok tt) v → IsWritten v d (first + done / 512) (next_part bytes done end) (Ok tt) v' → WritesBeside d first base (take end bytes) (Ok tt) v'
+    steps-more p q = λ given fs. subst (λ l. WritesInSteps d first (world base given fs) l (Ok tt) (world v' given fs)) seam (a_step (p given fs) (one-step (Ok tt) q given fs))
+
+    pub steps-end : (fault : IoFault) → WritesBeside d first base (take done bytes) (Ok tt) v → IsWritten v d (first + done / 512) (next_part bytes done end) (Err fault) v' → WritesBeside d first base bytes (Err fault) v'
+    steps-end fault p q = λ given fs. subst (λ l. WritesInSteps d first (world base given fs) l (Err fault) (world v' given fs)) all-is (last_step (drop (end - done) (drop done bytes)) (p given fs) (one-step (Err fault) q given fs))
+
+-- all of them are the first so many
+pub take-all : (bytes : List ℕ) (done : ℕ) → done ≤ length bytes → length bytes ≤ done → take done bytes ≡ bytes
+take-all bytes done within all = let n : done ≡ length bytes = omega (arith, within, all) in ap (λ k. take k bytes) n ∙ take-length bytes
+
+-- ---- a write at once
+
+pub written-bytes : (v v' : StackRecord) (given : ℕ) (fs : List FlightRecord) (d first : ℕ) (bytes : List ℕ) (range : SectorRange) (result : Result Unit IoFault) → Ok range ≡ write_range v.config d first bytes
+    → WritesWhole v (range_at d first (length bytes / 512)) bytes result v' → WritesBeside d first v bytes result v' → BytesWritten (world v given fs) d first bytes result (world v' given fs)
+written-bytes v v' given fs d first bytes range result found whole steps =
+    let range_is = writable-ok v.config bytes (bytes_range v.config d first (length bytes)) range (sym found) in
+    let same : range_at d first (length bytes / 512) ≡ range = bytes_range-ok v.config d first (length bytes) range range_is.0 in
+    record {
+      range = range_at d first (length bytes / 512);
+      admits = sym found ∙ ap Ok (sym same);
+      whole = whole;
+      steps = steps given fs;
+    }

@@ -1,0 +1,38 @@
+-- What the lines of a configuration stand on, as the clauses of reads and writes see it.
+use Rattle.std.specs.Prelude.{ℕ, Bool, List, Result, map}
+use Rattle.block_device.specs.Device.{Device}
+use Rattle.stack_rules.specs.Records.{Configuration}
+use Rattle.stack_meaning.specs.declared.fault.IoFault.{IoFault}
+use Rattle.stack_meaning.specs.Found.{FoundRecord}
+use Rattle.stack_meaning.specs.Places.{Read}
+use Rattle.stack_lines.specs.Caches.{KeepsCache}
+use Rattle.stack_lines.specs.Forgetting.{Forgets}
+use Rattle.stack_lines.specs.Touches.{AsksOnly}
+use Rattle.stack_engine.specs.Stacks.{IsStack}
+use Rattle.stack_engine.specs.declared.backing.Backing.{Backing}
+
+-- the leaves, where a device's state is what a proof sees of it
+abbrev pub leaves_in : {D : Type 0} → (D → Device) → Backing D → List Device
+leaves_in state backing = map state backing.devices.items
+
+-- it serves the configuration, and what is kept of hash blocks is sound
+abbrev pub IsBacking : {D : Type 0} → (D → Device) → Configuration → Backing D → Type 0
+IsBacking state c backing = IsStack c (leaves_in state backing) backing.cache
+
+-- ---- what any step leaves of it
+
+-- the kept hash blocks are sound over the leaves that it leaves
+abbrev pub StaysSound : {D : Type 0} → (D → Device) → Configuration → Backing D → Backing D → Type 0
+StaysSound state c old new = KeepsCache c (leaves_in state new) old.cache new.cache
+
+-- it ends at the first device call that fails, and asks only these leaves
+abbrev pub Asks : {D A : Type 0} → (D → Device) → (ℕ → Bool) → Backing D → Backing D → Result A IoFault → Type 0
+Asks state these old new result = AsksOnly these (leaves_in state old) (leaves_in state new) result
+
+-- kept hash blocks are forgotten only of lines whose hash device is one of these leaves or stands on one
+abbrev pub ForgetsOn : {D : Type 0} → (D → Device) → Configuration → (ℕ → Bool) → Backing D → Backing D → Type 0
+ForgetsOn state c these old new = Forgets c these (leaves_in state old) (leaves_in state new) old.cache.blocks.blocks new.cache.blocks.blocks
+
+-- a read: the leaves and the chains that were found, before and behind it
+abbrev pub did : {D : Type 0} → (D → Device) → Backing D → List FoundRecord → Backing D → List FoundRecord → Read
+did state old before new after = record { old = leaves_in state old; new = leaves_in state new; before = before; after = after }

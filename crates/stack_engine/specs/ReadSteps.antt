@@ -1,0 +1,104 @@
+-- What the steps of a read say: of a source, from its first sector on; of a leaf or a device, from sector `first` on; and of blocks.
+-- They fill the buffer `out`, as it was before.
+use Rattle.std.specs.Prelude.{◌≡◌, ℕ, ◌*◌, ◌/◌, List, Vec, Result, length, map, take}
+use Rattle.std.specs.Global.{Global}
+use Rattle.block_device.specs.Device.{Device}
+use Rattle.dm_table.specs.declared.verity.Verity.{Verity}
+use Rattle.tree_shape.specs.Shape.{levels}
+use Rattle.stack_rules.specs.declared.lower.Lower.{Lower}
+use Rattle.stack_rules.specs.declared.lower.Lower.TheVariants.{Leaf}
+use Rattle.stack_rules.specs.Records.{Configuration}
+use Rattle.stack_rules.specs.Trees.{tree_of}
+use Rattle.stack_meaning.specs.declared.fault.IoFault.{IoFault}
+use Rattle.stack_meaning.specs.Blocks.{hash_sectors, hash_start}
+use Rattle.stack_meaning.specs.Found.{FoundRecord}
+use Rattle.stack_meaning.specs.Leaves.{AreRead}
+use Rattle.stack_meaning.specs.Meaning.{said_at}
+use Rattle.stack_meaning.specs.Places.{Expected, place_of, run_expected}
+use Rattle.stack_meaning.specs.Reading.{Gets, IsPlain, MeetVerity, buffer_answer}
+use Rattle.stack_lines.specs.declared.source.Source.{Source}
+use Rattle.stack_lines.specs.declared.tree.Extent.{Extent}
+use Rattle.stack_lines.specs.declared.tree.Tree.{Tree}
+use Rattle.stack_lines.specs.Budgets.{ReadsAtMost, budget, source_budget}
+use Rattle.stack_lines.specs.Sources.{source_place, source_said}
+use Rattle.stack_lines.specs.Walks.{block_in, checked_expected, data_expected, GetsChain, IsWalked}
+use Rattle.hash_tree.specs.Chain.{ChainRecord}
+use Rattle.verified_cache.specs.Cache.{CachedBlock}
+use Rattle.stack_engine.specs.declared.backing.Backing.{Backing}
+use Rattle.stack_engine.specs.declared.path.WantedBlock.{WantedBlock}
+use Rattle.stack_engine.specs.Backings.{leaves_in}
+use Rattle.stack_engine.specs.Bytes.{FindsBytes, GetsBytes}
+use Rattle.stack_engine.specs.Premises.{CanRead}
+
+-- the buffer can be filled from the source, where those chains were found before
+abbrev pub CanFill : {D : Type 0} → (D → Device) → Configuration → Backing D → List FoundRecord → Source → List ℕ → Type 0
+CanFill state c backing found source out = CanRead c (leaves_in state backing) backing.cache found source out
+
+-- ---- of a source
+
+abbrev pub PlainFrom : {D : Type 0} → (D → Device) → Configuration → Source → List ℕ → Backing D → Backing D → Result Unit IoFault → Type 0
+PlainFrom state c source out old new result = IsPlain (source_said c source) 0 (length out / 512) (leaves_in state old) (leaves_in state new) result
+
+-- where no `verity` line is on the way the kept hash blocks stay
+abbrev pub SameFrom : {D : Type 0} → Configuration → Source → List ℕ → Backing D → Backing D → Type 0
+SameFrom c source out old new = (MeetVerity (source_said c source) 0 (length out / 512) → ⊥) → new.cache ≡ old.cache
+
+-- no more is read than what it costs
+abbrev pub SpentFrom : {D : Type 0} → (D → Device) → Configuration → Source → List ℕ → Backing D → Backing D → Type 0
+SpentFrom state c source out old new = ReadsAtMost (source_budget c source (length out / 512)) (leaves_in state old) (leaves_in state new)
+
+-- its bytes, or a fault; the chains that show them aren't handed out
+abbrev pub BytesFrom : {D : Type 0} → (D → Device) → Configuration → Source → List ℕ → Backing D → Backing D → Result (List ℕ) IoFault → Type 0
+BytesFrom state c source out old new answer = FindsBytes (source_place c source) c 0 (length out / 512) (leaves_in state old) (leaves_in state new) answer
+
+-- ---- of a leaf or a device
+
+abbrev pub PlainAt : {D : Type 0} → (D → Device) → Configuration → Lower → ℕ → List ℕ → Backing D → Backing D → Result Unit IoFault → Type 0
+PlainAt state c lower first out old new result = IsPlain (said_at c lower) first (length out / 512) (leaves_in state old) (leaves_in state new) result
+
+abbrev pub SameAt : {D : Type 0} → Configuration → Lower → ℕ → List ℕ → Backing D → Backing D → Type 0
+SameAt c lower first out old new = (MeetVerity (said_at c lower) first (length out / 512) → ⊥) → new.cache ≡ old.cache
+
+abbrev pub SpentAt : {D : Type 0} → (D → Device) → Configuration → Lower → ℕ → List ℕ → Backing D → Backing D → Type 0
+SpentAt state c lower first out old new = ReadsAtMost (budget c lower first (length out / 512)) (leaves_in state old) (leaves_in state new)
+
+abbrev pub BytesAt : {D : Type 0} → (D → Device) → Configuration → Lower → ℕ → List ℕ → Backing D → Backing D → Result (List ℕ) IoFault → Type 0
+BytesAt state c lower first out old new answer = FindsBytes (place_of c lower) c first (length out / 512) (leaves_in state old) (leaves_in state new) answer
+
+-- the same of a read whose chains were dropped
+abbrev pub GotAt : {D : Type 0} → (D → Device) → Configuration → Lower → ℕ → List ℕ → Backing D → Backing D → Result (List ℕ) IoFault → Type 0
+GotAt state c lower first out old new answer = GetsBytes c lower first (length out / 512) (leaves_in state old) (leaves_in state new) answer
+
+-- the sectors of a leaf that fill a buffer, with whatever chains
+abbrev pub leaf_sectors : Configuration → ℕ → ℕ → List ℕ → List FoundRecord → Expected (List ℕ)
+leaf_sectors c leaf first out chains = run_expected (place_of c (Leaf leaf)) chains first (length out / 512)
+
+-- ---- of blocks
+
+-- what is wanted, or a fault
+abbrev pub GetsBy : {D A : Type 0} → (D → Device) → Expected A → Backing D → Backing D → Result A IoFault → Type 0
+GetsBy state wanted old new result = Gets wanted (leaves_in state old) (leaves_in state new) result
+
+-- the sectors of an extent as one block that has the digest
+abbrev pub extent_wanted : Configuration → Extent → List ℕ → List ℕ → Expected (Vec ℕ Global)
+extent_wanted c extent salt digest = checked_expected (λ block. block.items) (place_of c extent.lower) extent.first extent.sectors salt digest
+
+-- a data block of a line of which that digest is expected
+abbrev pub data_wanted : Configuration → Verity → ℕ → List ℕ → Expected (Vec ℕ Global)
+data_wanted c v index digest = data_expected (λ block. block.items) (block_in c v index) digest
+
+-- a hash block on the way to a data block
+abbrev pub way_wanted : Configuration → Verity → Tree → WantedBlock → Expected (List ℕ)
+way_wanted c v tree wanted = checked_expected (λ block. block) (place_of c tree.hash) (hash_start v wanted.level wanted.block) (hash_sectors v) v.salt wanted.digest
+
+-- the chain of a data block, or a fault
+abbrev pub ChainBy : {D : Type 0} → (D → Device) → Configuration → Verity → ℕ → Backing D → Backing D → Result ChainRecord IoFault → Type 0
+ChainBy state c v index old new result = GetsChain (block_in c v index) (leaves_in state old) (leaves_in state new) result
+
+-- the path shows the digest that is expected of a data block
+abbrev pub WalkedBy : {D : Type 0} → (D → Device) → Configuration → Verity → ℕ → List CachedBlock → Backing D → Backing D → List ℕ → Type 0
+WalkedBy state c v index path old new expected = IsWalked (block_in c v index) 0 expected (map (λ b. b.bytes) (take (levels (tree_of v)) path)) (leaves_in state old) (leaves_in state new)
+
+-- at most all hash blocks on the way were read
+abbrev pub ReadsWay : {D : Type 0} → (D → Device) → Configuration → Verity → ℕ → Backing D → Backing D → Type 0
+ReadsWay state c v index old new = AreRead (leaves_in state old) (levels (tree_of v) * (hash_sectors v * (block_in c v index).on_hash.cost)) (leaves_in state new)

@@ -1,0 +1,12 @@
+//! What the lines of a configuration stand on.
+use block_device::BlockDev;
+use stack_lines::Cache;
+use std::alloc::Global;
+
+/// The devices of the leaves in order, the hash blocks that are kept, and the allocator: reads and writes go over it.
+#[derive(Drop)]
+pub(crate) struct Backing<D: BlockDev> {
+    pub(crate) alloc: Global,
+    pub(crate) devices: Vec<D>,
+    pub(crate) cache: Cache,
+}

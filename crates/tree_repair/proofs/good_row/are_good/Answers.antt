@@ -1,0 +1,41 @@
+use Rattle.std.proofs.Common.{◌≡◌, ◌+◌, ◌-◌, ℕ, arith, subst}
+use Rattle.tree_path.proofs.lemmas.DeviceLemmas.{only_read-none, only_read-then}
+use Rattle.tree_repair.specs.Coverage.{AreGoodFrom}
+use Rattle.tree_repair.specs.Jobs.{job}
+use Rattle.tree_repair.proofs.GoodLemmas.{good-more, good-none}
+use Rattle.tree_repair.proofs.good_row.are_good.Goals as goal
+
+pub pieces-init : goal.pieces-init
+pieces-init g c = record {
+  read = only_read-none (g.D.BlockDev.state c.args.data_dev.now);
+  low = omega arith;
+  most = omega arith;
+  good = good-none (job c.args.repair.now) c.args.path.now (g.D.BlockDev.state c.args.data_dev.now) c.args.row.first _ (omega arith);
+}
+
+pub good_piece-requires-clause-fits : goal.good_piece-requires-clause-fits
+good_piece-requires-clause-fits g c = omega (arith, c.requires.fits, c.pieces.invariant.read.same.size)
+
+pub pieces-preserved : goal.pieces-preserved
+pieces-preserved g c =
+    let first = c.args.row.first in
+    let at = c.pieces.index in
+    let count = c.in-Some.count in
+    let here : at ≡ first + (at - first) = omega (arith, c.pieces.invariant.low) in
+    record {
+      read = only_read-then c.pieces.invariant.read c.good_piece.ensures.read;
+      low = omega (arith, c.pieces.invariant.low);
+      most = omega (arith, c.pieces.invariant.low, c.in-Some.ensures.few);
+      good = good-more (job c.args.repair.now) c.args.path.now (g.D.BlockDev.state c.args.data_dev.now) (g.D.BlockDev.state c.pieces.data_dev) first (at - first) count (at + count - first)
+          c.pieces.invariant.read c.pieces.invariant.good
+          (subst (λ (n : ℕ). AreGoodFrom (job c.args.repair.now) c.args.path.now (g.D.BlockDev.state c.pieces.data_dev) n count) here c.in-Some.ensures.good)
+          (omega (arith, c.pieces.invariant.low));
+    }
+
+pub returns-clause-read : goal.returns-clause-read
+returns-clause-read g c = c.pieces.invariant.read
+
+pub returns-clause-good : goal.returns-clause-good
+returns-clause-good g c = λ ok.
+    let all : c.pieces.index - c.args.row.first ≡ c.args.row.end - c.args.row.first = omega (arith, c.pieces.invariant.low, c.pieces.invariant.most, c.pieces-test.false) in
+    subst (AreGoodFrom (job c.args.repair.now) c.args.path.now (g.D.BlockDev.state c.args.data_dev.now) c.args.row.first) all c.pieces.invariant.good

@@ -1,0 +1,17 @@
+use Rattle.std.proofs.Common.{◌≤◌, ◌-◌}
+use Rattle.verity_format.specs.Blocks.{IsOnlyRead}
+use Rattle.tree_repair.specs.Coverage.{AreGoodFrom}
+use Rattle.tree_repair.specs.Jobs.{job}
+use Rattle.tree_repair.proofs.good_row.are_good.Given as goal
+
+-- the pieces so far
+abbrev pub invariant-pieces : goal.invariant-pieces
+invariant-pieces g l = record {
+  read : IsOnlyRead (g.D.BlockDev.state l.fn.data_dev) (g.D.BlockDev.state l.data_dev);
+  low : l.fn.row.first ≤ l.index;
+  most : l.index - l.fn.row.first ≤ l.fn.row.end - l.fn.row.first;
+  good : AreGoodFrom (job l.fn.repair) l.fn.path (g.D.BlockDev.state l.fn.data_dev) l.fn.row.first (l.index - l.fn.row.first);
+}
+
+abbrev pub decreases-pieces : goal.decreases-pieces
+decreases-pieces g l = l.row.end - l.index

@@ -1,0 +1,24 @@
+use Rattle.std.proofs.Common.{◌*◌, ◌/◌, ◌∙◌, ap, sym, arith, refl, length, rules}
+use Rattle.hash_tree.specs.Tree.{cut}
+use Rattle.verity_format.specs.Blocks.{blocks_at}
+use Rattle.tree_repair.proofs.PieceLemmas.{run-cut, run-sectors}
+use Rattle.tree_repair.proofs.good_row.read_run.Goals as goal
+
+pub returns-in-Ok-clause-good : goal.returns-in-Ok-clause-good
+returns-in-Ok-clause-good g c = λ ok.
+    let old = g.D.BlockDev.state c.args.device.now in
+    let whole = g.met.D.BlockDev.whole c.args.device.now in
+    let size = c.args.size in
+    let n = length c.args.digests.now in
+    record {
+      contents = cut size c.read.new.out;
+      are = c.digest_blocks.ensures;
+      over = λ steady.
+          run-cut old.image size c.requires.size whole.sectors c.read.new.out c.args.first n (c.args.first * (size / 512)) (length c.args.run.now / 512)
+          (omega (arith, whole.length, c.requires.inside))
+          refl
+          (ap (λ k. k / 512) c.requires.run ∙ run-sectors size n c.requires.size)
+          (c.in-Ok.ensures.bytes steady)
+          ∙ ap (λ k. blocks_at old.image size c.args.first k) (sym c.digest_blocks.auto.out);
+      full = search rules;
+    }

@@ -1,0 +1,21 @@
+use Rattle.std.proofs.Common.{arith}
+use Rattle.tree_repair.specs.Jobs.{job}
+use Rattle.tree_repair.proofs.GoodLemmas.{noted-good}
+use Rattle.tree_repair.proofs.PassLemmas.{noted-behind}
+use Rattle.tree_repair.proofs.RowLemmas.{way-along}
+use Rattle.tree_repair.proofs.RunLemmas.{can-read}
+use Rattle.tree_repair.proofs.levels.repair_unless_good.Goals as goal
+
+pub returns-then-is_good_row : goal.returns-then-is_good_row
+returns-then-is_good_row g c =
+    noted-good c.args.path.now c.args.row c.is_good_row.ensures.read (c.is_good_row.ensures.good c.if-is_good_row.true)
+    (λ k from below. (
+      omega (arith, below, c.requires.row.inside),
+      way-along (job c.args.repair.now).tree c.requires.can.valid c.args.row.first k c.args.row.height c.args.path.now c.requires.row.begins from (omega (arith, below, c.requires.row.few)) c.requires.way,
+    ))
+
+pub repair_blocks-requires-clause-can : goal.repair_blocks-requires-clause-can
+repair_blocks-requires-clause-can g c = can-read c.is_good_row.ensures.read c.requires.can
+
+pub returns : goal.returns
+returns g c = noted-behind c.is_good_row.ensures.read c.repair_blocks.ensures

@@ -1,0 +1,85 @@
+-- Which blocks of an image a run looks at.
+use Rattle.std.specs.Prelude.{◌≡◌, ◌⊎◌, ℕ, ◌+◌, ◌-◌, ◌*◌, ◌/◌, ◌<◌, ◌≤◌, List, [], ◌∷◌, ◌++◌, length}
+use Rattle.std.specs.List.{slice_index_or}
+use Rattle.block_device.specs.Device.{Device, HasFailed}
+use Rattle.tree_shape.specs.Shape.{ShapeRecord, ancestor, levels}
+use Rattle.tree_path.specs.Path.{PathRecord, digest_on}
+use Rattle.tree_repair.specs.declared.place.Place.{Place}
+use Rattle.tree_repair.specs.declared.place.Row.{Row}
+use Rattle.tree_repair.specs.Runs.{Job, Runs, Visit}
+use Rattle.tree_repair.specs.Sources.{IsThere, wanted}
+use Rattle.tree_repair.specs.Tries.{IsCutOff}
+use Rattle.tree_repair.specs.Worlds.{IsWorldRead, World}
+
+-- ---- data blocks that are good
+
+-- Data blocks from one on were read with the digests to which a path leads; over a steady device they stand there.
+abbrev pub AreThere : Job → PathRecord → Device → ℕ → List (List ℕ) → Type 0
+AreThere j p d i [] = Unit {0}
+AreThere j p d i (b ∷ more) =
+    IsThere d (i * (j.tree.shape.data_block / 512)) (wanted j.tree.salt (digest_on p i 0) (j.tree.shape.data_block / 512)) b × AreThere j p d (i + 1) more
+
+-- n of them
+pub record AreGoodFrom (j : Job) (p : PathRecord) (d : Device) (i n : ℕ) : Type 0 where
+  pub contents : List (List ℕ)
+  pub count : length contents ≡ n
+  pub are : AreThere j p d i contents
+
+-- all of a row
+pub record IsGoodRow (j : Job) (p : PathRecord) (row : Row) (d : Device) : Type 0 where
+  pub height_is : row.height ≡ 0
+  pub good : AreGoodFrom j p d row.first (row.end - row.first)
+
+-- these digests stand in a path for the data blocks from one on
+abbrev pub AreDigestsOn : PathRecord → ℕ → List (List ℕ) → Type 0
+AreDigestsOn p i digests = (k : ℕ) → k < length digests → (d : List ℕ) → slice_index_or digests k d ≡ digest_on p (i + k) 0
+
+-- ---- blocks that are looked at
+
+-- a visit of the block of that height above data block i
+pub record IsVisitAt (s : ShapeRecord) (h i : ℕ) (v : Visit) : Type 0 where
+  pub height_is : v.height ≡ h
+  pub same : ancestor s h v.index ≡ ancestor s h i
+
+-- one of these is
+abbrev pub IsVisitedIn : ShapeRecord → ℕ → ℕ → List Visit → Type 0
+IsVisitedIn s h i [] = ⊥
+IsVisitedIn s h i (v ∷ more) = IsVisitAt s h i v ⊎ IsVisitedIn s h i more
+
+-- When its turn came, behind some of the visits, a hash block above it wasn't good, or the hash device failed. It was tried
+-- with a block beside it, which has the same hash blocks above.
+pub record IsPassedBy (j : Job) (h i : ℕ) (visits : List Visit) (w w' : World) : Type 0 where
+  pub earlier : List Visit
+  pub later : List Visit
+  pub are : visits ≡ earlier ++ later
+  pub a : World
+  pub b : World
+  pub before : Runs j earlier w a
+  pub read : IsWorldRead a b
+  pub behind : Runs j later b w'
+  pub beside : ℕ
+  pub same : ancestor j.tree.shape (h + 1) beside ≡ ancestor j.tree.shape (h + 1) i
+  pub cut : HasFailed a.hash_dev b.hash_dev ⊎ IsCutOff j.tree beside h a.hash_dev
+
+-- it was looked at, if good hash blocks led to it
+abbrev pub IsLookedAt : Job → ℕ → ℕ → List Visit → World → World → Type 0
+IsLookedAt j h i visits w w' = IsVisitedIn j.tree.shape h i visits ⊎ IsPassedBy j h i visits w w'
+
+-- ---- the blocks that are due
+
+abbrev pub IsBlockAt : ShapeRecord → Place → ℕ → ℕ → Type 0
+IsBlockAt s place h i = (place.height ≡ h) × (ancestor s h place.index ≡ ancestor s h i)
+
+abbrev pub IsFromTo : ℕ → ℕ → ℕ → ℕ → ℕ → Type 0
+IsFromTo height first end h i = (height ≡ h) × ((first ≤ i) × (i < end))
+
+abbrev pub IsOfRow : Row → ℕ → ℕ → Type 0
+IsOfRow row h i = IsFromTo row.height row.first row.end h i
+
+-- those of a row before some data block
+abbrev pub IsOfRowBefore : Row → ℕ → ℕ → ℕ → Type 0
+IsOfRowBefore row end h i = IsOfRow row h i × (i < end)
+
+-- those from some height up
+abbrev pub IsFromUp : ShapeRecord → ℕ → ℕ → ℕ → Type 0
+IsFromUp s low h i = (low ≤ h) × ((h ≤ levels s) × (i < s.blocks))

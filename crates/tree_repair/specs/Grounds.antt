@@ -1,0 +1,27 @@
+-- Hash blocks made again of what stands on the devices of an image.
+use Rattle.std.specs.Prelude.{ℕ, List}
+use Rattle.tree_shape.specs.Shape.{ShapeRecord}
+use Rattle.tree_repair.specs.declared.place.Repair.{Repair}
+use Rattle.tree_repair.specs.declared.remaking.Making.{Making}
+use Rattle.tree_repair.specs.Remaking.{IsMadeBeneath, IsNowhereBeneath, IsOver, IsUnlike, ground, made, stands}
+use Rattle.tree_repair.specs.Worlds.{World}
+
+-- the block that is made
+abbrev pub made_in : Repair → World → Making → List ℕ
+made_in r w m = made (ground r.shape r.salt w.data_dev w.hash_dev m.from) m.steps m.number
+
+-- block n of a height as it stands
+abbrev pub stands_in : ShapeRecord → World → ℕ → ℕ → List ℕ
+stands_in s w h n = stands s w.data_dev.image w.hash_dev.image h n
+
+abbrev pub IsOverIn : World → List ℕ → List ℕ → Type 0
+IsOverIn w bytes_are bytes = IsOver w.data_dev w.hash_dev bytes_are bytes
+
+abbrev pub IsUnlikeIn : Repair → World → List ℕ → List ℕ → Type 0
+IsUnlikeIn r w digest_is bytes = IsUnlike r.salt w.data_dev w.hash_dev digest_is bytes
+
+abbrev pub IsMadeIn : Repair → World → ℕ → ℕ → List ℕ → Type 0
+IsMadeIn r w l i bytes = IsMadeBeneath r.shape r.salt w.data_dev w.hash_dev l i bytes
+
+abbrev pub IsNowhereIn : Repair → World → ℕ → ℕ → List ℕ → Type 0
+IsNowhereIn r w l i digest_is = IsNowhereBeneath r.shape r.salt w.data_dev w.hash_dev l i digest_is

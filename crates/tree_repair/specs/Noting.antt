@@ -1,0 +1,28 @@
+-- What is noted of a block behind a visit.
+use Rattle.std.specs.Prelude.{◌≡◌, ◌++◌, IsTrue, Bool, true, false, List, [], ◌∷◌, Option, None, Some}
+use Rattle.tree_repair.specs.declared.bad.BadBlock.{BadBlock}
+use Rattle.tree_repair.specs.declared.bad.BadBlocks.{BadBlocks}
+use Rattle.tree_repair.specs.declared.mending.Mended.{Mended}
+use Rattle.tree_repair.specs.declared.mending.Mended.TheVariants as mended
+use Rattle.tree_repair.specs.declared.place.Place.{Place}
+
+-- one that was found is good, if it was written
+abbrev pub unless : Bool → Option Bool
+unless true = None
+unless false = Some true
+
+-- nothing of a block that is good by now; else whether it was found
+abbrev pub found_of : Bool → Mended → Option Bool
+found_of write mended.Good = None
+found_of write (mended.Copy k) = unless write
+found_of write mended.Remade = unless write
+found_of write mended.Parity = unless write
+found_of write mended.Lost = Some false
+
+-- what is noted of it
+abbrev pub bad_blocks : Place → Option Bool → List BadBlock
+bad_blocks place None = []
+bad_blocks place (Some found) = record { place = place; found = found } ∷ []
+
+abbrev pub IsNoted : BadBlocks → BadBlocks → Place → Option Bool → Type 0
+IsNoted old new place found = IsTrue old.asked → new.blocks.items ≡ old.blocks.items ++ bad_blocks place found
